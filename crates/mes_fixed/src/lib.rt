@@ -1,13 +1,20 @@
-// A library with one function.
+//! Numbers of JSON texts (RFC 8259 section 6) read exactly: as decimal numbers of a fixed count of
+//! places, and as whole numbers. Nothing here takes memory.
 #![tactic(auto)]
 
-ghost use Rattle.std.specs.Prelude.{◌≡◌};
-ghost use Rattle.mes_fixed.specs.Echo.{echo_of};
+pub mod automaton;
+mod decimal;
+mod digits;
+mod fault;
+mod fixed_point;
+mod limits;
+mod whole;
 
-// The `ensures` clause is the contract: what `echo` returns is `echo_of` of its argument, a definition
-// in `specs/Echo.antt`, which a caller's clause can cite too.
-pub fn echo(x: usize) -> usize
-    ensures { result ≡ echo_of x }
-{
-    x
-}
+pub use automaton::is_number;
+pub use fault::NumFault;
+pub use fixed_point::{Fixed, Micros, Thousandths};
+pub use limits::{TEXT_LIMIT, UNITS_LIMIT};
+pub use whole::{read_i32, read_u64};
+
+#[cfg(test)]
+mod tests;

@@ -1,13 +1,23 @@
-// A library with one function.
 #![tactic(auto)]
+//! JSON texts (RFC 8259) read exactly: the tree that the bytes spell, or the place and the reason of the first fault.
 
-ghost use Rattle.std.specs.Prelude.{◌≡◌};
-ghost use Rattle.mes_json.specs.Echo.{echo_of};
+mod build;
+mod fault;
+mod kind;
+mod limits;
+mod memory;
+mod read;
+mod reader;
+mod tape;
+#[cfg(test)]
+mod tests;
+mod text;
+mod utf8;
+mod value;
 
-// The `ensures` clause is the contract: what `echo` returns is `echo_of` of its argument, a definition
-// in `specs/Echo.antt`, which a caller's clause can cite too.
-pub fn echo(x: usize) -> usize
-    ensures { result ≡ echo_of x }
-{
-    x
-}
+pub use fault::{ReadFault, TextFault, Why};
+pub use limits::NESTING_LIMIT;
+pub use memory::NoMemory;
+pub use read::read_text;
+pub use text::Text;
+pub use value::Json;

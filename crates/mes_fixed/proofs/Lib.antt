@@ -1,0 +1,10 @@
+pub mod Letters
+pub mod Reading
+pub mod Grammar
+pub mod DigitValues
+pub mod Scales
+pub mod Gathers
+pub mod Scaling
+pub mod Readings
+pub mod Options
+pub mod Texts

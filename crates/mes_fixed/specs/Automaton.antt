@@ -1,0 +1,68 @@
+-- The automaton that reads a number (RFC 8259 section 6) byte by byte: a table over letters, the
+-- classes of bytes that the productions tell apart.
+use Rattle.std.specs.Prelude.{◌≡◌, ℕ, Bool, true, false, List, [], ◌∷◌, Option, Some, None, if◌then◌else◌, ◌==◌, nat_le, ◌&&◌, ◌||◌}
+use Rattle.mes_fixed.specs.declared.automaton.Part.{Part}
+use Rattle.mes_fixed.specs.declared.automaton.Part.TheVariants.{AtStart, AfterMinus, AfterZero, InWhole, AfterPoint, InFraction, AfterExponent, AfterSign, InExponent}
+
+-- a class of bytes: zero, digit1-9, decimal-point, e, plus, minus, and any other byte
+pub data Letter : Type 0 where
+  nought digit point exponent plus dash neither : Letter
+
+abbrev pub letter_of : ℕ → Letter
+letter_of c =
+    if c == 48 then nought
+    else (if nat_le 49 c && nat_le c 57 then digit
+    else (if c == 46 then point
+    else (if c == 101 || c == 69 then exponent
+    else (if c == 43 then plus
+    else (if c == 45 then dash
+    else neither)))))
+
+-- the part that is reached from a part by a letter, where a number can go on so
+abbrev pub number_next : Part → Letter → Option Part
+number_next AtStart nought = Some AfterZero
+number_next AtStart digit = Some InWhole
+number_next AtStart dash = Some AfterMinus
+number_next AtStart _ = None
+number_next AfterMinus nought = Some AfterZero
+number_next AfterMinus digit = Some InWhole
+number_next AfterMinus _ = None
+number_next AfterZero point = Some AfterPoint
+number_next AfterZero exponent = Some AfterExponent
+number_next AfterZero _ = None
+number_next InWhole nought = Some InWhole
+number_next InWhole digit = Some InWhole
+number_next InWhole point = Some AfterPoint
+number_next InWhole exponent = Some AfterExponent
+number_next InWhole _ = None
+number_next AfterPoint nought = Some InFraction
+number_next AfterPoint digit = Some InFraction
+number_next AfterPoint _ = None
+number_next InFraction nought = Some InFraction
+number_next InFraction digit = Some InFraction
+number_next InFraction exponent = Some AfterExponent
+number_next InFraction _ = None
+number_next AfterExponent nought = Some InExponent
+number_next AfterExponent digit = Some InExponent
+number_next AfterExponent plus = Some AfterSign
+number_next AfterExponent dash = Some AfterSign
+number_next AfterExponent _ = None
+number_next AfterSign nought = Some InExponent
+number_next AfterSign digit = Some InExponent
+number_next AfterSign _ = None
+number_next InExponent nought = Some InExponent
+number_next InExponent digit = Some InExponent
+number_next InExponent _ = None
+
+-- a number may end behind this part
+abbrev pub is_final : Part → Bool
+is_final AfterZero = true
+is_final InWhole = true
+is_final InFraction = true
+is_final InExponent = true
+is_final _ = false
+
+-- the automaton goes from this part over the bytes, and may end there
+abbrev pub Ends : Part → List ℕ → Type 0
+Ends part [] = is_final part ≡ true
+Ends part (c ∷ rest) = (next : Part) × (number_next part (letter_of c) ≡ Some next) × Ends next rest

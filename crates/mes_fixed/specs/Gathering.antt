@@ -1,0 +1,42 @@
+-- The parts of a number as they are gathered byte by byte along the automaton.
+use Rattle.std.specs.Prelude.{◌≡◌, ℕ, ◌≤◌, Bool, true, false, List, [], ◌∷◌, ◌++◌, ◌==◌}
+use Rattle.mes_fixed.specs.declared.automaton.Part.{Part}
+use Rattle.mes_fixed.specs.declared.automaton.Part.TheVariants.{AtStart, AfterMinus, AfterZero, InWhole, InFraction, AfterSign, InExponent}
+use Rattle.mes_fixed.specs.Number.{Numeral}
+
+-- a numeral of these parts
+abbrev pub made : Bool → List ℕ → List ℕ → Bool → List ℕ → Numeral
+made negative whole fraction lowers power = record {
+  negative = negative;
+  whole = whole;
+  fraction = fraction;
+  lowers = lowers;
+  power = power;
+}
+
+-- before the first byte
+abbrev pub blank : Numeral
+blank = made false [] [] false []
+
+-- the parts with one more byte, which led to this part
+abbrev pub gathered : Part → ℕ → Numeral → Numeral
+gathered AfterMinus c n = record n { negative = true }
+gathered AfterZero c n = record n { whole = n.whole ++ c ∷ [] }
+gathered InWhole c n = record n { whole = n.whole ++ c ∷ [] }
+gathered InFraction c n = record n { fraction = n.fraction ++ c ∷ [] }
+gathered AfterSign c n = record n { lowers = c == 45 }
+gathered InExponent c n = record n { power = n.power ++ c ∷ [] }
+gathered _ c n = n
+
+-- a digit of the exponent is a digit
+abbrev pub IsExponentDigit : Part → ℕ → Type 0
+IsExponentDigit InExponent c = (48 ≤ c) × (c ≤ 57)
+IsExponentDigit _ c = Unit {0}
+
+-- digits of int come before any of frac
+abbrev pub IsBeforePoint : Part → Numeral → Type 0
+IsBeforePoint AtStart n = n.fraction ≡ []
+IsBeforePoint AfterMinus n = n.fraction ≡ []
+IsBeforePoint AfterZero n = n.fraction ≡ []
+IsBeforePoint InWhole n = n.fraction ≡ []
+IsBeforePoint _ n = Unit {0}

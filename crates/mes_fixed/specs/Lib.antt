@@ -1,0 +1,7 @@
+pub mod Number
+pub mod Automaton
+pub mod Value
+pub mod Gathering
+pub mod Decimal
+pub mod Cut
+pub mod Text

@@ -1,0 +1,191 @@
+//! A number's text taken apart into its digits, and its digits scaled to a whole number.
+ghost use Rattle.std.specs.Prelude.{◌≡◌, ℕ, ◌+◌, ◌*◌, ◌^◌, ◌<◌, ◌≤◌, ◌≢◌, ◌↔◌, true, length, IsTrue, IfSome, IfNone, IfOk, IfErr};
+ghost use Rattle.std.specs.Str.Parse.{AllDigits};
+ghost use Rattle.mes_fixed.specs.declared.limits.TheConstants.{TEXT_LIMIT, EXPONENT_CAP};
+
+use crate::automaton::{Part, may_end, next_part};
+use crate::digits::{Cut, are_zeros, cut_of, value_of, with_zeros};
+use crate::fault::NumFault;
+use crate::limits::{EXPONENT_CAP, TEXT_LIMIT};
+use arrayvec::ArrayVec;
+
+/// The parts of a number's text.
+#[derive(Drop)]
+pub struct Decimal {
+    /// Whether a minus sign stands first.
+    pub negative: bool,
+    /// The digits before and behind the point, joined.
+    pub digits: ArrayVec<u8, { TEXT_LIMIT }>,
+    /// How many of them stand behind the point.
+    pub fraction_digits: usize,
+    /// Whether the exponent has a minus sign.
+    pub lowers: bool,
+    /// The size of the exponent, at most `EXPONENT_CAP`.
+    pub exponent: usize,
+    ghost room: { length digits.items ≤ TEXT_LIMIT },
+    ghost within: { fraction_digits ≤ length digits.items },
+    ghost capped: { exponent ≤ EXPONENT_CAP },
+}
+
+/// A whole number, and what was cut off below it.
+#[derive(Clone, Copy)]
+pub struct Scaled {
+    pub whole: u64,
+    pub cut: Cut,
+}
+
+impl Decimal {
+    ghost use Rattle.mes_fixed.specs.Number.{Numeral};
+    ghost use Rattle.mes_fixed.specs.Gathering.{blank, gathered, IsExponentDigit, IsBeforePoint};
+    ghost use Rattle.mes_fixed.specs.Value.{HalfUp, Reads, Refuses};
+    ghost use Rattle.mes_fixed.specs.Decimal.{IsDecimal, value, raised, lowered, multiplied, divisor, IsCut, IsHuge};
+
+    fn new() -> Self
+        ensures { IsDecimal blank result }
+    {
+        Decimal {
+            negative: false,
+            digits: ArrayVec::new(),
+            fraction_digits: 0,
+            lowers: false,
+            exponent: 0,
+        }
+    }
+
+    /// Takes a text of at most `TEXT_LIMIT` bytes apart.
+    pub fn read(text: &[u8]) -> Result<Self, NumFault>
+        ensures ok { IfOk result (Reads IsDecimal text.now) }
+        ensures err { IfErr result (Refuses (λ _. ⊥) text.now) }
+    {
+        if text.len() > TEXT_LIMIT {
+            return Err(NumFault::TooLong);
+        }
+        let mut decimal = Self::new();
+        let mut part = Part::AtStart;
+        for byte in text {
+            let Some(next) = next_part(part, *byte) else {
+                return Err(NumFault::Shape);
+            };
+            decimal.gather(next, *byte);
+            part = next;
+        }
+        if may_end(part) {
+            Ok(decimal)
+        } else {
+            Err(NumFault::Shape)
+        }
+    }
+
+    /// Takes one more byte, which led to `part`.
+    fn gather(&mut self, part: Part, byte: u8)
+        requires room { length self.old.digits.items < TEXT_LIMIT }
+        requires digit { IsExponentDigit part byte }
+        ensures gathers { (n : Numeral) → IsDecimal n self.old → IsBeforePoint part n
+            → IsDecimal (gathered part byte n) self.new }
+        ensures room { length self.new.digits.items ≤ length self.old.digits.items + 1 }
+    {
+        match part {
+            Part::AfterMinus => self.negative = true,
+            Part::AfterZero | Part::InWhole => self.digits.push(byte),
+            Part::InFraction => {
+                self.digits.push(byte);
+                self.fraction_digits += 1;
+            }
+            Part::AfterSign => self.lowers = byte == b'-',
+            Part::InExponent => {
+                let exponent = self.exponent * 10 + usize::from(byte - b'0');
+                self.exponent = exponent.min(EXPONENT_CAP);
+            }
+            Part::AtStart | Part::AfterPoint | Part::AfterExponent => {}
+        }
+    }
+
+    /// Whether a minus sign stands before a digit other than zero.
+    pub fn is_below_zero(&self) -> bool
+        requires { AllDigits 10 self.now.digits.items }
+        ensures { IsTrue result ↔ (self.now.negative ≡ true) × (value self.now ≢ 0) }
+    {
+        self.negative && !are_zeros(&self.digits)
+    }
+
+    /// How many powers of ten the digits are multiplied by.
+    fn raised(&self, places: usize) -> usize
+        requires { places ≤ 6 }
+        ensures { result ≡ raised self.now places }
+    {
+        if self.lowers {
+            places
+        } else {
+            self.exponent + places
+        }
+    }
+
+    /// How many powers of ten the digits are divided by.
+    fn lowered(&self) -> usize
+        ensures { result ≡ lowered self.now }
+    {
+        if self.lowers {
+            self.fraction_digits + self.exponent
+        } else {
+            self.fraction_digits
+        }
+    }
+
+    /// The digits times 10^`places` and the exponent's power, cut to a whole number, or `None` from
+    /// 2^64 on.
+    fn scaled(&self, places: usize) -> Option<Scaled>
+        requires digits { AllDigits 10 self.now.digits.items }
+        requires places { places ≤ 6 }
+        ensures some { IfSome result (IsCut (multiplied self.now places) (divisor self.now places)) }
+        ensures none { IfNone result (IsHuge (multiplied self.now places) (divisor self.now places)) }
+    {
+        let raised = self.raised(places);
+        let lowered = self.lowered();
+        if lowered <= raised {
+            let whole = with_zeros(value_of(&self.digits)?, raised - lowered)?;
+            return Some(Scaled {
+                whole,
+                cut: Cut::Nothing,
+            });
+        }
+        let cut_digits = lowered - raised;
+        let (kept, dropped) = self
+            .digits
+            .split_at(self.digits.len().saturating_sub(cut_digits));
+        Some(Scaled {
+            whole: value_of(kept)?,
+            cut: cut_of(dropped, cut_digits),
+        })
+    }
+
+    /// The whole number nearest to the digits times 10^`places` and the exponent's power, a half
+    /// upwards, or `None` from 2^64 on.
+    pub fn rounded(&self, places: usize) -> Option<u64>
+        requires digits { AllDigits 10 self.now.digits.items }
+        requires places { places ≤ 6 }
+        ensures some { IfSome result (HalfUp (multiplied self.now places) (divisor self.now places)) }
+        ensures none { IfNone result
+            ((n : ℕ) × HalfUp (multiplied self.now places) (divisor self.now places) n × (2 ^ 64 ≤ n)) }
+    {
+        let scaled = self.scaled(places)?;
+        match scaled.cut {
+            Cut::HalfOrMore => scaled.whole.checked_add(1),
+            Cut::Nothing | Cut::BelowHalf => Some(scaled.whole),
+        }
+    }
+
+    /// The digits times the exponent's power, where that is a whole number below 2^64.
+    pub fn whole(&self) -> Option<u64>
+        requires { AllDigits 10 self.now.digits.items }
+        ensures some { IfSome result (λ v. multiplied self.now 0 ≡ v * divisor self.now 0) }
+        ensures bound { IfSome result (λ v. v < 2 ^ 64) }
+        ensures none { IfNone result
+            ((v : ℕ) → multiplied self.now 0 ≡ v * divisor self.now 0 → 2 ^ 64 ≤ v) }
+    {
+        let scaled = self.scaled(0)?;
+        match scaled.cut {
+            Cut::Nothing => Some(scaled.whole),
+            Cut::BelowHalf | Cut::HalfOrMore => None,
+        }
+    }
+}

@@ -1,0 +1,154 @@
+//! Decimal numbers of a fixed count of places.
+ghost use Rattle.std.specs.Prelude.{◌≡◌, ℕ, ◌+◌, ◌-◌, ◌^◌, ◌<◌, ◌≤◌, ◌++◌, SomeIff, Some, Ok, IfOk, IfErr};
+ghost use Rattle.arrayvec.specs.ArrayString.{array_string_len};
+ghost use Rattle.mes_fixed.specs.Text.{fraction_text, text_of};
+ghost use Rattle.mes_fixed.specs.Value.{GivesUnits, LacksUnits, Reads, Refuses};
+
+use crate::decimal::Decimal;
+use crate::fault::NumFault;
+use crate::limits::UNITS_LIMIT;
+use arrayvec::ArrayString;
+use itoa::Buffer;
+use std::fmt;
+use std::marker::Model;
+
+/// A count of units of 10^-`P`, at most `UNITS_LIMIT`. `P` is from 1 to 6. It is ordered by its
+/// units, and printed as it is written.
+#[derive(Clone, Copy, Debug, PartialEq, Eq, PartialOrd, Ord)]
+pub struct Fixed<const P: u32> {
+    units: u64,
+}
+
+impl<const P: u32> Model for Fixed<P> {
+    ghost use Rattle.std.specs.Prelude.{ℕ, ◌≤◌};
+    ghost use Rattle.mes_fixed.specs.declared.limits.TheConstants.{UNITS_LIMIT};
+
+    ghost Value = { ℕ };
+
+    ghost view = { λ f. f.units };
+
+    ghost invariant = { λ f. (f.units ≤ UNITS_LIMIT) × (1 ≤ P) × (P ≤ 6) };
+
+    ghost inverse = { λ n. record { units = n } };
+}
+
+/// A number of three places.
+pub type Thousandths = Fixed<3>;
+
+/// A number of six places.
+pub type Micros = Fixed<6>;
+
+impl<const P: u32> Fixed<P> {
+    /// This many units, or `None` above `UNITS_LIMIT`.
+    pub fn of_units(units: u64) -> Option<Self>
+        requires places { (1 ≤ P) × (P ≤ 6) }
+        ensures { SomeIff result (units ≤ UNITS_LIMIT) units }
+    {
+        if units <= UNITS_LIMIT {
+            Some(Fixed { units })
+        } else {
+            None
+        }
+    }
+
+    /// The count of units.
+    pub fn units(&self) -> u64
+        ensures value { result ≡ self.now }
+        ensures bound { result ≤ UNITS_LIMIT }
+    {
+        self.units
+    }
+
+    /// The sum, or `None` above `UNITS_LIMIT`.
+    pub fn checked_add(self, other: Self) -> Option<Self>
+        ensures { SomeIff result (self.entry + other.entry ≤ UNITS_LIMIT) (self.entry + other.entry) }
+    {
+        Self::of_units(self.units + other.units)
+    }
+
+    /// The difference, or `None` below zero.
+    pub fn checked_sub(self, other: Self) -> Option<Self>
+        ensures { SomeIff result (other.entry ≤ self.entry) (self.entry - other.entry) }
+    {
+        let units = self.units.checked_sub(other.units)?;
+        Some(Fixed { units })
+    }
+
+    /// The number that `text` writes (RFC 8259 section 6), rounded to the nearest unit, a half
+    /// upwards.
+    pub fn read(text: &[u8]) -> Result<Self, NumFault>
+        requires places { (1 ≤ P) × (P ≤ 6) }
+        // `Ok`: the text gives these units, and where it gives some, they are the answer.
+        ensures ok { IfOk result (Reads (GivesUnits P) text.now) }
+        ensures only { (units : ℕ) → Reads (GivesUnits P) text.now units → result ≡ Ok units }
+        // `TooLong`: more than TEXT_LIMIT bytes; else `Shape`: no number; else `Range`.
+        ensures fault { IfErr result (Refuses (LacksUnits P) text.now) }
+    {
+        let decimal = Decimal::read(text)?;
+        if decimal.is_below_zero() {
+            return Err(NumFault::Range);
+        }
+        let Some(units) = decimal.rounded(P as usize) else {
+            return Err(NumFault::Range);
+        };
+        Self::of_units(units).ok_or(NumFault::Range)
+    }
+
+    /// Replaces `text` by the number: the whole part, a point, and 1 to `P` digits without needless
+    /// zeros.
+    pub fn write(&self, text: &mut ArrayString<24>)
+        ensures text { text.new.bytes ≡ text_of P self.now }
+        // `read` gives the number back.
+        ensures back { Reads (GivesUnits P) text.new.bytes self.now }
+    {
+        let units = self.units;
+        let scale = 10u64.pow(P);
+        text.clear();
+        text.push_str(Buffer::new().format(units / scale));
+        text.push('.');
+        push_fraction(text, P, units % scale);
+    }
+}
+
+/// Appends the digits behind the point of `rest` units of 10^-`places`, without needless zeros.
+fn push_fraction(text: &mut ArrayString<24>, places: u32, mut rest: u64)
+    requires places { (1 ≤ places) × (places ≤ 6) }
+    requires rest { rest < 10 ^ places }
+    requires room { array_string_len text.old + places ≤ 24 }
+    ensures { text.new.bytes ≡ text.old.bytes ++ fraction_text places rest }
+{
+    for place in (0..places).rev() {
+        let scale = 10u64.pow(place);
+        text.push(char::from(b'0' + (rest / scale) as u8));
+        rest %= scale;
+        if rest == 0 {
+            return;
+        }
+    }
+}
+
+impl<const P: u32> fmt::Display for Fixed<P> {
+    ghost output = { λ f. Some (text_of P f) };
+
+    fn fmt<W: fmt::Write>(&self, f: &mut fmt::Formatter<W>) -> fmt::Result {
+        let mut text = ArrayString::new();
+        self.write(&mut text);
+        f.write_str(text.as_str())
+    }
+}
+
+impl Default for Thousandths {
+    ghost is_default = { λ f. f ≡ 0 };
+
+    fn default() -> Self {
+        Fixed { units: 0 }
+    }
+}
+
+impl Default for Micros {
+    ghost is_default = { λ f. f ≡ 0 };
+
+    fn default() -> Self {
+        Fixed { units: 0 }
+    }
+}

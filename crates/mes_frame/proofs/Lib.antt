@@ -1,0 +1,4 @@
+pub mod Records
+pub mod Writes
+pub mod OneReading
+pub mod OneState

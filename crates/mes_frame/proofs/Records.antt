@@ -1,0 +1,89 @@
+-- How the bytes of a record grow, and what a state of their reader stands for.
+use Rattle.std.proofs.Common.{◌≡◌, ℕ, None, ◌+◌, ◌-◌, ◌*◌, ◌^◌, ◌<◌, ◌≤◌, min, List, [], ◌∷◌, ◌++◌, length, take, refl, ap, sym, ◌∙◌, inl, inr, append_assoc, arith, length-append}
+use Rattle.std.proofs.lemmas.Bool.Decides.{nat_tests}
+use Rattle.std.proofs.lemmas.Grind.{common_steps}
+use Rattle.std.proofs.lemmas.Int.Digits.{digits_push, digits_value_push}
+use Rattle.std.specs.Char.{digit_value}
+use Rattle.mes_frame.specs.Record.{DataBegun, Begun}
+use Rattle.mes_frame.specs.RecordState.{SizeKept, PlaceStands, RecordStands, limit_of, fault_at, fault_of, room_at, room_of}
+use Rattle.mes_frame.specs.declared.record.Place.{Place}
+use Rattle.mes_frame.specs.declared.record.Place.TheVariants.{Size, Data, Failed}
+use Rattle.mes_frame.specs.declared.record.RecordState.{RecordState}
+
+-- the bytes '0' to '9' are the decimal digits
+pub digit_in_range : (b : ℕ) → 48 ≤ b → b ≤ 57 → digit_value b < 10
+digit_in_range b low high = grind (arith, nat_tests)
+
+pub digit_value_is : (b : ℕ) → digit_value b < 10 → digit_value b ≡ b - 48
+digit_value_is b digit = grind (arith, nat_tests)
+
+pub digit_kept : (digits value times digit new b : ℕ) (x r : List ℕ) → SizeKept digits value x r → digits < 20 → digit_value b < 10 → times ≡ min (value * 10) (2 ^ 32 - 1) → digit ≡ b - 48 → new ≡ min (times + digit) (2 ^ 32 - 1) → SizeKept (digits + 1) new (x ++ b ∷ []) r
+digit_kept digits value times digit new b x r kept room decimal times-is digit-is new-is =
+    let len = length-append x (b ∷ []) in
+    let sum = digits_value_push 10 x b in
+    let is = digit_value_is b decimal in
+    record {
+      begun = record { digits = digits_push 10 x b kept.begun.digits decimal; few = omega arith };
+      count = omega arith;
+      capped = omega arith;
+      empty = kept.empty;
+    }
+
+-- a run of data that does not reach the record's end
+pub data_goes_on : (x r p : List ℕ) (left limit : ℕ) → DataBegun x r left limit → length p < left → DataBegun (x ++ p) (r ++ p) (left - length p) limit
+data_goes_on x r p left limit begun short =
+    let len = length-append r p in
+    record {
+      size = begun.size;
+      is_size = begun.is_size;
+      spelt = ap (λ (y : List ℕ). y ++ p) begun.spelt ∙ append_assoc begun.size (10 ∷ r) p;
+      value = let value = begun.value in omega arith;
+      within = begun.within;
+      some = omega arith;
+    }
+
+data_some : (x r : List ℕ) (left limit : ℕ) → DataBegun x r left limit → x ≡ [] → ⊥
+data_some x r left limit begun empty =
+    let len = length-append begun.size (10 ∷ r) in
+    let same : length {A = ℕ} [] ≡ length (begun.size ++ 10 ∷ r) = ap length (sym empty ∙ begun.spelt) in
+    omega arith
+
+-- within the data something has begun
+pub begun_in_data : (s : RecordState) (x r : List ℕ) (left : ℕ) → s.place ≡ Data left → RecordStands s x r → x ≡ [] → ⊥
+unfolding RecordStands
+begun_in_data s x r left at stands = data_some x r left s.limit (rw at at stands)
+
+data_front : (x r p : List ℕ) (k left limit : ℕ) → DataBegun x r left limit → length p ≤ left → k < length p → Begun (x ++ take k p) (r ++ take k p) limit
+data_front x r p k left limit begun within front =
+    let len : length (take k p) ≡ k = grind (arith, common_steps) in
+    inr (left - length (take k p), data_goes_on x r (take k p) left limit begun (omega arith))
+
+front_at : (place : Place) (limit : ℕ) (x r p : List ℕ) (k : ℕ) → PlaceStands place limit x r → length p ≤ room_at place → k < length p → Begun (x ++ take k p) (r ++ take k p) limit
+front_at (Size digits value) limit x r p k stands within front = absurd (omega arith)
+front_at (Data left) limit x r p k stands within front = data_front x r p k left limit stands within front
+front_at (Failed fault) limit x r p k stands within front = absurd stands
+
+-- each front of a run of data has begun
+pub front_of : (s : RecordState) (x r p : List ℕ) (k count : ℕ) → count ≤ room_of s → length p ≡ count → k < count → RecordStands s x r → Begun (x ++ take k p) (r ++ take k p) (limit_of s)
+unfolding RecordStands
+front_of s x r p k count within len front stands = front_at s.place s.limit x r p k stands (omega arith) (omega arith)
+
+begun_at : (p : Place) (limit : ℕ) (x r : List ℕ) → PlaceStands p limit x r → Begun x r limit
+begun_at (Size digits value) limit x r stands = inl (stands.begun, stands.empty)
+begun_at (Data left) limit x r stands = inr (left, stands)
+begun_at (Failed fault) limit x r stands = absurd stands
+
+-- what a state stands for has begun
+pub begun_of : (s : RecordState) (x r : List ℕ) → RecordStands s x r → Begun x r (limit_of s)
+unfolding RecordStands
+begun_of s x r stands = begun_at s.place s.limit x r stands
+
+no_fault_at : (p : Place) (limit : ℕ) (x r : List ℕ) → PlaceStands p limit x r → fault_at p ≡ None
+no_fault_at (Size digits value) limit x r stands = refl
+no_fault_at (Data left) limit x r stands = refl
+no_fault_at (Failed fault) limit x r stands = absurd stands
+
+-- a state that stands for some bytes has shown no fault
+pub no_fault_of : (s : RecordState) (x r : List ℕ) → RecordStands s x r → fault_of s ≡ None
+unfolding RecordStands
+no_fault_of s x r stands = no_fault_at s.place s.limit x r stands

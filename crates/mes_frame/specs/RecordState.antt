@@ -1,0 +1,75 @@
+-- What a state of the reader of records stands for.
+use Rattle.std.specs.Prelude.{◌≡◌, ℕ, ◌-◌, ◌^◌, ◌<◌, min, Bool, true, false, List, [], ◌∷◌, ◌++◌, length, Option, None, Some}
+use Rattle.std.specs.Str.Parse.{digits_value}
+use Rattle.mes_frame.specs.Record.{SizeBegun, DataBegun, IsRecord, SizeShows}
+use Rattle.mes_frame.specs.declared.fault.FrameFault.{FrameFault}
+use Rattle.mes_frame.specs.declared.record.Place.{Place}
+use Rattle.mes_frame.specs.declared.record.Place.TheVariants.{Size, Data, Failed}
+use Rattle.mes_frame.specs.declared.record.RecordOut.{RecordOut}
+use Rattle.mes_frame.specs.declared.record.RecordOut.TheVariants.{Quiet, Empty, Byte, Fault}
+use Rattle.mes_frame.specs.declared.record.RecordState.{RecordState}
+
+-- the most bytes that it lets a record have
+abbrev pub limit_of : RecordState → ℕ
+limit_of s = s.limit
+
+-- the fault, at a place that is behind one
+abbrev pub fault_at : Place → Option FrameFault
+fault_at (Size digits value) = None
+fault_at (Data left) = None
+fault_at (Failed fault) = Some fault
+
+-- the fault that the state answers from now on
+abbrev pub fault_of : RecordState → Option FrameFault
+fault_of s = fault_at s.place
+
+-- the bytes of data that are expected next
+abbrev pub room_at : Place → ℕ
+room_at (Size digits value) = 0
+room_at (Data left) = left
+room_at (Failed fault) = 0
+
+-- how many of the next bytes are data of the record
+abbrev pub room_of : RecordState → ℕ
+room_of s = room_at s.place
+
+-- what is kept of the digits x: their number, and their value up to 2^32 - 1
+pub record SizeKept (digits value : ℕ) (x r : List ℕ) : Type 0 where
+  pub begun : SizeBegun x
+  pub count : digits ≡ length x
+  pub capped : value ≡ min (digits_value 10 x) (2 ^ 32 - 1)
+  pub empty : r ≡ []
+
+-- what the place says of the front x of a record with the data r
+abbrev pub PlaceStands : Place → ℕ → List ℕ → List ℕ → Type 0
+PlaceStands (Size digits value) limit x r = SizeKept digits value x r
+PlaceStands (Data left) limit x r = DataBegun x r left limit
+PlaceStands (Failed fault) limit x r = ⊥
+
+-- since the last record's end the state has taken x, the front of a record, with the data r
+unfoldable pub RecordStands : RecordState → List ℕ → List ℕ → Type 0
+RecordStands s x r = PlaceStands s.place s.limit x r
+
+-- the state at a place, with a limit
+abbrev pub state_at : ℕ → Place → RecordState
+state_at limit place = record { limit = limit; place = place }
+
+-- what an answer to the byte b says of a state that stood for x with the data r, and of the new state
+abbrev pub RecordSteps : RecordState → List ℕ → List ℕ → ℕ → RecordOut → Type 0
+RecordSteps new x r b Quiet = RecordStands new (x ++ b ∷ []) r × (r ≡ [])
+RecordSteps new x r b Empty = IsRecord (x ++ b ∷ []) r (limit_of new) × (r ≡ []) × RecordStands new [] []
+RecordSteps new x r b (Byte false) = RecordStands new (x ++ b ∷ []) (r ++ b ∷ [])
+RecordSteps new x r b (Byte true) = IsRecord (x ++ b ∷ []) (r ++ b ∷ []) (limit_of new) × RecordStands new [] []
+RecordSteps new x r b (Fault fault) = SizeShows x b (limit_of new) fault × (fault_of new ≡ Some fault)
+
+-- a byte is data exactly where there is room for it
+abbrev pub OutWith : ℕ → RecordOut → Type 0
+OutWith room Quiet = room ≡ 0
+OutWith room Empty = room ≡ 0
+OutWith room (Byte last) = 0 < room
+OutWith room (Fault fault) = room ≡ 0
+
+-- the same of a run p of data, and of the answer whether the record ended with it
+abbrev pub RecordPasses : RecordState → List ℕ → List ℕ → List ℕ → Bool → Type 0
+RecordPasses new x r p false = RecordStands new (x ++ p) (r ++ p)
+RecordPasses new x r p true = IsRecord (x ++ p) (r ++ p) (limit_of new) × RecordStands new [] []

@@ -1,0 +1,19 @@
+-- How a write ends, by the counts of its device.
+use Rattle.std.specs.Prelude.{◌≡◌, ℕ, ◌≤◌, min}
+use Rattle.mes_frame.specs.Counts.{up}
+use Rattle.mes_frame.specs.declared.counts.Counts.{Counts}
+use Rattle.mes_frame.specs.declared.write.WriteWhy.{WriteWhy}
+use Rattle.mes_frame.specs.declared.write.WriteWhy.TheVariants.{Device, Zero}
+
+-- no call failed, and none took no byte of a buffer that wasn't empty
+abbrev pub NoneFails : Counts → Counts → Type 0
+NoneFails old new = (new.failures ≡ old.failures) × (new.idle ≡ old.idle)
+
+-- the last call failed, or took no byte, and no call before it did
+abbrev pub StopsWrite : WriteWhy → Counts → Counts → Type 0
+StopsWrite Device old new = (new.failures ≡ up old.failures 1) × (new.idle ≡ old.idle)
+StopsWrite Zero old new = (new.failures ≡ old.failures) × (new.idle ≡ up old.idle 1)
+
+-- for n bytes there was a call, and there were n calls at most
+abbrev pub CallsFor : ℕ → Counts → Counts → Type 0
+CallsFor n old new = (up old.calls (min n 1) ≤ new.calls) × (new.calls ≤ up old.calls n)

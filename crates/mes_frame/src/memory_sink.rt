@@ -1,0 +1,100 @@
+//! A writer into memory, which can be slow, can stop and can fail: what a test of a writer's caller needs.
+ghost use Rattle.std.specs.Prelude.{◌≡◌, ◌≤◌, length, Some, IfOk};
+ghost use Rattle.std.specs.Io.KnownBytes.{WriteAppends};
+ghost use Rattle.mes_frame.specs.Counts.{CountsCall};
+ghost use Rattle.mes_frame.specs.Memory.{written_of, writes_of, SinkIs, SinkTakes};
+
+use crate::counts::Counts;
+use crate::device::Sink;
+use std::alloc::Global;
+use std::io;
+
+/// What a writer into memory does once it has taken its good bytes.
+#[derive(Clone, Copy, Debug, PartialEq, Eq)]
+pub enum MemoryStop {
+    /// Each call fails.
+    Fails,
+    /// Each call takes no byte.
+    TakesNone,
+}
+
+/// A writer into memory. Where memory runs out, the call fails.
+#[derive(Drop)]
+pub struct MemorySink {
+    bytes: Vec<u8>,
+    most: usize,
+    good: usize,
+    stop: MemoryStop,
+    counts: Counts,
+}
+
+impl MemorySink {
+    /// A writer that takes at most `most` bytes by one call.
+    pub fn new(alloc: Global, most: usize) -> Self
+        ensures { SinkIs most usize.MAX MemoryStop.TakesNone result }
+    {
+        MemorySink::stopping_after(alloc, most, usize::MAX, MemoryStop::TakesNone)
+    }
+
+    /// The same, but once it has taken `good` bytes it does what `stop` says.
+    pub fn stopping_after(alloc: Global, most: usize, good: usize, stop: MemoryStop) -> Self
+        ensures { SinkIs most good stop result }
+    {
+        MemorySink {
+            bytes: Vec::new(alloc),
+            most,
+            good,
+            stop,
+            counts: Counts::default(),
+        }
+    }
+
+    /// How often the device was called so far, and how often to no effect.
+    pub fn counts(&self) -> Counts
+        ensures { result ≡ writes_of self.now }
+    {
+        self.counts
+    }
+
+    /// The bytes that were written.
+    pub fn bytes(&self) -> &[u8]
+        ensures { written_of self.now ≡ Some result.now }
+    {
+        self.bytes.as_slice()
+    }
+
+    fn take(&mut self, bytes: &[u8]) -> io::Result<usize>
+        ensures within { IfOk result (λ n. n ≤ length bytes.now) }
+        ensures bytes { WriteAppends (written_of self.old) (written_of self.new) result bytes.now }
+        ensures takes { SinkTakes self.old self.new (length bytes.now) result }
+        ensures counts { self.new.counts ≡ self.old.counts }
+    {
+        if self.good == 0 {
+            match self.stop {
+                MemoryStop::Fails => return Err(io::Error::other("the memory sink fails here")),
+                MemoryStop::TakesNone => return Ok(0),
+            }
+        }
+        let count = self.most.min(self.good).min(bytes.len());
+        self.bytes.extend_from_slice(&bytes[..count])?;
+        self.good -= count;
+        Ok(count)
+    }
+}
+
+impl Sink for MemorySink {
+    ghost written = { written_of };
+
+    ghost counts = { writes_of };
+
+    fn put(&mut self, bytes: &[u8]) -> io::Result<usize>
+        ensures within { IfOk result (λ n. n ≤ length bytes.now) }
+        ensures bytes { WriteAppends (written_of self.old) (written_of self.new) result bytes.now }
+        ensures counted { CountsCall (writes_of self.old) (writes_of self.new) (length bytes.now) result }
+        ensures takes { SinkTakes self.old self.new (length bytes.now) result }
+    {
+        let answer = self.take(bytes);
+        self.counts.count(bytes.len(), &answer);
+        answer
+    }
+}

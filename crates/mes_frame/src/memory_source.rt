@@ -1,0 +1,80 @@
+//! A reader of bytes in memory, which can be slow and can fail: what a test of a reader's caller needs.
+ghost use Rattle.std.specs.Prelude.{◌≡◌, ◌≤◌, length, IfOk};
+ghost use Rattle.std.specs.Io.KnownBytes.{ReadConsumes};
+ghost use Rattle.mes_frame.specs.Counts.{CountsCall};
+ghost use Rattle.mes_frame.specs.Memory.{left_of, reads_of, SourceIs, SourceGives};
+
+use crate::counts::Counts;
+use crate::device::Source;
+use std::io;
+
+/// A reader of bytes in memory.
+#[derive(Drop)]
+pub struct MemorySource<'a> {
+    bytes: &'a [u8],
+    most: usize,
+    good: usize,
+    counts: Counts,
+}
+
+impl<'a> MemorySource<'a> {
+    /// A reader that gives `bytes`, at most `most` of them by one call, but one at least, and then its end.
+    pub fn new(bytes: &'a [u8], most: usize) -> Self
+        ensures { SourceIs bytes.now most usize.MAX result }
+    {
+        MemorySource::failing_after(bytes, most, usize::MAX)
+    }
+
+    /// The same, but once it has given `good` bytes, each call fails.
+    pub fn failing_after(bytes: &'a [u8], most: usize, good: usize) -> Self
+        ensures { SourceIs bytes.now most good result }
+    {
+        MemorySource {
+            bytes,
+            most,
+            good,
+            counts: Counts::default(),
+        }
+    }
+
+    /// How often the device was called so far, and how often to no effect.
+    pub fn counts(&self) -> Counts
+        ensures { result ≡ reads_of self.now }
+    {
+        self.counts
+    }
+
+    fn give(&mut self, buffer: &mut [u8]) -> io::Result<usize>
+        ensures within { IfOk result (λ n. n ≤ length buffer.new) }
+        ensures bytes { ReadConsumes (left_of self.old) (left_of self.new) result buffer.new }
+        ensures gives { SourceGives self.old self.new (length buffer.old) result }
+        ensures counts { self.new.counts ≡ self.old.counts }
+    {
+        if self.good == 0 {
+            return Err(io::Error::other("the memory source fails here"));
+        }
+        let most = self.most.max(1).min(self.good);
+        let count = most.min(buffer.len()).min(self.bytes.len());
+        buffer[..count].copy_from_slice(&self.bytes[..count]);
+        self.bytes = &self.bytes[count..];
+        self.good -= count;
+        Ok(count)
+    }
+}
+
+impl Source for MemorySource<'_> {
+    ghost left = { left_of };
+
+    ghost counts = { reads_of };
+
+    fn fetch(&mut self, buffer: &mut [u8]) -> io::Result<usize>
+        ensures within { IfOk result (λ n. n ≤ length buffer.new) }
+        ensures bytes { ReadConsumes (left_of self.old) (left_of self.new) result buffer.new }
+        ensures counted { CountsCall (reads_of self.old) (reads_of self.new) (length buffer.old) result }
+        ensures gives { SourceGives self.old self.new (length buffer.old) result }
+    {
+        let answer = self.give(buffer);
+        self.counts.count(buffer.len(), &answer);
+        answer
+    }
+}

@@ -1,0 +1,64 @@
+-- Where the machine stops, no text goes on: the place of a fault, and its reason.
+use Rattle.std.proofs.Common.{◌≡◌, ℕ, ◌+◌, ◌<◌, ◌≤◌, List, [], ◌++◌, length, get_or, take, drop, Some, None, option_and_then, refl, ap, sym, ◌∙◌, subst, arith, take-take, take-append-drop}
+use Rattle.std.proofs.Math.Seq.{take-length}
+use Rattle.mes_json.specs.Tree.{Tree}
+use Rattle.mes_json.specs.Grammar.{IsText}
+use Rattle.mes_json.specs.Place.{Begins, IsReason, IsFault}
+use Rattle.mes_json.specs.Refusal.{IsRefusal, Refuses}
+use Rattle.mes_json.specs.Machine.{State, start, step, run, finish}
+use Rattle.mes_json.specs.declared.fault.Why.{Why}
+use Rattle.mes_json.specs.declared.fault.Why.TheVariants.{End, Depth, Byte}
+use Rattle.mes_json.proofs.RunLemmas.{run_none, run_take}
+use Rattle.mes_json.proofs.SoundLemmas.{none_some}
+use Rattle.mes_json.proofs.CompleteLemmas.{complete_text}
+use Rattle.mes_json.proofs.ViableLemmas.{begins_from_run, none_begins, run_deeper}
+pub use Rattle.mes_json.proofs.StepLemmas.{finished}
+
+-- ---- a byte that no state takes
+further_in : (b : List ℕ) (n m : ℕ) → n < m → take (n + 1) b ++ drop (n + 1) (take m b) ≡ take m b
+further_in b n m l =
+    let k : n + 1 ≤ m = omega arith in
+    ap (λ (x : List ℕ). x ++ drop (n + 1) (take m b)) (sym (take-take (n + 1) m b k)) ∙ take-append-drop (n + 1) (take m b)
+
+stuck_after : (d : ℕ) (b : List ℕ) (n m : ℕ) (s : State) → n < length b → run d start (take n b) ≡ Some s → step d s (get_or b n 0) ≡ None → n < m → run d start (take m b) ≡ None
+stuck_after d b n m s l e f k =
+    ap (run d start) (sym (further_in b n m k)) ∙ run_none d start (take (n + 1) b) (drop (n + 1) (take m b)) (run_take d start s b n l e ∙ f)
+
+reason : (d : ℕ) (b : List ℕ) (n : ℕ) (s : State) (why : Why) → n < length b → run d start (take n b) ≡ Some s → IsRefusal d why s (get_or b n 0) → IsReason d b n why
+reason d b n s End l e h = absurd h
+reason d b n s Depth l e h = (l, begins_from_run (d + 1) h.0 (take (n + 1) b) (run_take (d + 1) start s b n l (run_deeper d start s (take n b) e) ∙ h.1))
+reason d b n s Byte l e h = (l, none_begins (d + 1) (take (n + 1) b) (run_take (d + 1) start s b n l (run_deeper d start s (take n b) e) ∙ h))
+
+pub refused : (d : ℕ) (b : List ℕ) (n : ℕ) (s : State) (why : Why) → n < length b → run d start (take n b) ≡ Some s → Refuses d why s (get_or b n 0) → IsFault d b (record { byte = n; why = why })
+refused d b n s why l e h = record {
+  begins = begins_from_run d s (take n b) e;
+  longest = λ m k _. none_begins d (take m b) (stuck_after d b n m s l e h.stuck k);
+  reason = reason d b n s why l e h.reason;
+}
+
+-- ---- the bytes end in a state that is no end
+pub ended : (d : ℕ) (b : List ℕ) (s : State) → run d start b ≡ Some s → finish s ≡ None → IsFault d b (record { byte = length b; why = End })
+ended d b s e f = record {
+  begins = subst (Begins d) (sym (take-length b)) (begins_from_run d s b e);
+  longest = λ m k l _. omega arith;
+  reason = refl;
+}
+
+-- ---- and so the bytes are no text
+pub finished_only : (d : ℕ) (b : List ℕ) (s : State) (t : Tree) → run d start b ≡ Some s → IsText d b t → finish s ≡ Some t
+finished_only d b s t e h = sym (ap (option_and_then finish) e) ∙ complete_text d b t h
+
+pub no_text : (d : ℕ) (b : List ℕ) (n : ℕ) (s : State) → n < length b → run d start (take n b) ≡ Some s → step d s (get_or b n 0) ≡ None → (t : Tree) → IsText d b t → ⊥
+no_text d b n s l e stuck t h =
+    let f : run d start (take (length b) b) ≡ None = stuck_after d b n (length b) s l e stuck l in
+    let g : run d start b ≡ None = ap (run d start) (sym (take-length b)) ∙ f in
+    none_some (sym (ap (option_and_then finish) g) ∙ complete_text d b t h)
+
+pub no_text_ended : (d : ℕ) (b : List ℕ) (s : State) → run d start b ≡ Some s → finish s ≡ None → (t : Tree) → IsText d b t → ⊥
+no_text_ended d b s e f t h = none_some (sym f ∙ finished_only d b s t e h)
+
+-- ---- no byte at all
+-- the empty list ends before any text does
+pub empty_fault : (d : ℕ) → IsFault d [] (record { byte = 0; why = End })
+unfolding run
+empty_fault d = ended d [] start refl refl

@@ -1,0 +1,10 @@
+pub mod Tree
+pub mod Grammar
+pub mod Place
+pub mod Machine
+pub mod Refusal
+pub mod View
+pub mod Tape
+pub mod Reader
+pub mod Build
+pub mod Read

@@ -1,0 +1,30 @@
+-- Where bytes that are no JSON text go wrong, and why.
+use Rattle.std.specs.Prelude.{◌≡◌, ℕ, ◌+◌, ◌<◌, ◌≤◌, List, ◌++◌, length, take}
+use Rattle.mes_json.specs.Tree.{Tree}
+use Rattle.mes_json.specs.Grammar.{IsText}
+use Rattle.mes_json.specs.declared.fault.Why.{Why}
+use Rattle.mes_json.specs.declared.fault.Why.TheVariants.{End, Depth, Byte}
+use Rattle.mes_json.specs.declared.fault.TextFault.{TextFault}
+use Rattle.mes_json.specs.declared.fault.ReadFault.{ReadFault}
+use Rattle.mes_json.specs.declared.fault.ReadFault.TheVariants.{Text, NoMemory}
+
+-- some text that nests at most the number goes on from these bytes
+abbrev pub Begins : ℕ → List ℕ → Type 0
+Begins d p = (q : List ℕ) × (t : Tree) × IsText d (p ++ q) t
+
+-- after the first n bytes: the bytes end there, or the next one nests too deep, or no text has it there
+abbrev pub IsReason : ℕ → List ℕ → ℕ → Why → Type 0
+IsReason d b n End = n ≡ length b
+IsReason d b n Depth = (n < length b) × Begins (d + 1) (take (n + 1) b)
+IsReason d b n Byte = (n < length b) × (Begins (d + 1) (take (n + 1) b) → ⊥)
+
+-- the place is the length of the longest front that some text goes on from
+pub record IsFault (d : ℕ) (b : List ℕ) (f : TextFault) : Type 0 where
+  pub begins : Begins d (take f.byte b)
+  pub longest : (n : ℕ) → f.byte < n → n ≤ length b → Begins d (take n b) → ⊥
+  pub reason : IsReason d b f.byte f.why
+
+-- what a refusal says of the bytes
+abbrev pub IsReadFault : ℕ → List ℕ → ReadFault → Type 0
+IsReadFault d b (Text f) = IsFault d b f
+IsReadFault d b NoMemory = Unit {0}

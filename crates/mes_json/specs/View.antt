@@ -1,0 +1,23 @@
+-- The tree that a JSON value stands for.
+use Rattle.std.specs.Prelude.{ℕ, List, [], ◌∷◌, map}
+use Rattle.mes_json.specs.Tree.{Tree, Members}
+use Rattle.mes_json.specs.Tree.Tree.{string, object}
+use Rattle.mes_json.specs.Tree.Members.{no_members, member}
+use Rattle.mes_json.specs.declared.value.Json.{Json, fold-Json}
+use Rattle.mes_json.specs.declared.value.Json.TheOpen.{Json-F}
+
+-- members in order
+abbrev pub members_of : List (List ℕ × Tree) → Members
+members_of [] = no_members
+members_of (m ∷ ms) = member m.0 m.1 (members_of ms)
+
+-- one level, with each value inside already seen as its tree
+abbrev pub view_step : Json-F Tree → Tree
+view_step (Json-F.Text s) = string s
+view_step (Json-F.Map v) = object (members_of v.items)
+
+abbrev pub view : Json → Tree
+view = fold-Json Tree view_step
+
+abbrev pub members_view : List (List ℕ × Json) → Members
+members_view ms = members_of (map (λ m. (m.0, view m.1)) ms)

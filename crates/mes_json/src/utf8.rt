@@ -1,0 +1,48 @@
+//! Where a reader of UTF-8 stands between and within characters (RFC 3629, section 4).
+ghost use Rattle.std.specs.Prelude.{◌≡◌, ◌≤◌, option_map};
+ghost use Rattle.mes_json.specs.Machine.{lead, after_byte};
+ghost use Rattle.mes_json.specs.Reader.{mid_view};
+
+/// What of a character is read.
+#[derive(Clone, Copy)]
+pub(crate) enum Mid {
+    /// Nothing: a character may begin.
+    Between,
+    /// Some of it: `more` bytes are due, the next one from `least` to `most`.
+    Within { more: u8, least: u8, most: u8 },
+}
+
+impl Mid {
+    /// Where the first byte of a character leads.
+    pub(crate) fn lead(byte: u8) -> Option<Mid>
+        ensures { option_map mid_view result ≡ lead byte }
+    {
+        let (more, least, most) = match byte {
+            0x00..=0x7F => return Some(Mid::Between),
+            0xC2..=0xDF => (1, 0x80, 0xBF),
+            0xE0 => (2, 0xA0, 0xBF),
+            0xED => (2, 0x80, 0x9F),
+            0xE1..=0xEF => (2, 0x80, 0xBF),
+            0xF0 => (3, 0x90, 0xBF),
+            0xF1..=0xF3 => (3, 0x80, 0xBF),
+            0xF4 => (3, 0x80, 0x8F),
+            _ => return None,
+        };
+        Some(Mid::Within { more, least, most })
+    }
+
+    /// Where a byte leads in a character that `more` bytes were due of.
+    pub(crate) fn after(more: u8) -> Mid
+        ensures { mid_view result ≡ after_byte more }
+    {
+        if more < 2 {
+            Mid::Between
+        } else {
+            Mid::Within {
+                more: more - 1,
+                least: 0x80,
+                most: 0xBF,
+            }
+        }
+    }
+}

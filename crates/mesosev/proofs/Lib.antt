@@ -1,0 +1,7 @@
+mod DecoderLemmas
+mod EventLemmas
+mod FieldLemmas
+mod LimitLemmas
+mod PathLemmas
+mod PlainLemmas
+mod PlainWords

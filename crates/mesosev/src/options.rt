@@ -1,0 +1,51 @@
+//! Reads the words of the command.
+ghost use Rattle.std.specs.Prelude.{◌≡◌, [], map, ℕ, IfOk, IfErr, IfSome, IfNone, MatchResult};
+ghost use Rattle.clap.specs.Words.{fault_of, found_of, rows_of};
+ghost use Rattle.mesosev.specs.CommandLine.{command_app};
+ghost use Rattle.mesosev.specs.NamedOptions.{HasLimit, IsInRange, IsLimit, NameOptions};
+ghost use Rattle.mesosev.specs.NamedOptions.{RefusesWords, SayPlainly};
+ghost use Rattle.mesosev.specs.declared.words.Options.{Options};
+
+use crate::command::matches_of;
+use crate::words::{Options, WordsFault};
+use clap::ArgMatches;
+use mes_frame::Limit;
+use std::alloc::Global;
+use std::convert::AsStr;
+
+/// The options that the words name. The first word is the program's name.
+///
+/// Errors: `Clap` for a mistake in the words and for a request for help, `BadValue` where a value is
+/// out of its range, `NoMemory`.
+pub fn options<S: AsStr>(alloc: Global, words: &[S]) -> Result<Options, WordsFault>
+    // Ok: clap takes the words, and they name this subcommand with these values, each in range.
+    ensures ok { IfOk result (λ _. fault_of command_app (map S.text words.now) ≡ []) }
+    ensures named { IfOk result (NameOptions (map S.text words.now)) }
+    ensures ranged { IfOk result IsInRange }
+    // Err: clap refuses the words by an error of this kind, or they name no options in range, or
+    // memory ran out.
+    ensures err { IfErr result (RefusesWords (map S.text words.now)) }
+    // Words that say options in range plainly are answered by them, unless memory runs out.
+    ensures plain { (said : Options) → SayPlainly (map S.text words.now) said → IsInRange said
+        → MatchResult result (λ o. o ≡ said) (λ fault. fault ≡ WordsFault.NoMemory) }
+{
+    let matches = matches_of(alloc, words)?;
+    match matches.subcommand() {
+        Some(("check", check)) => {
+            let limit = limit_of(check).ok_or(WordsFault::BadValue("limit"))?;
+            Ok(Options::Check { limit })
+        }
+        _ => Err(WordsFault::BadValue("COMMAND")),
+    }
+}
+
+/// The value of `--limit`, where it lies in its range.
+fn limit_of(matches: &ArgMatches<'_>) -> Option<Limit>
+    ensures some { IfSome result (HasLimit (rows_of (found_of matches.now))) }
+    ensures ranged { IfSome result IsLimit }
+    ensures none { IfNone result
+        (¬ ((limit : ℕ) × HasLimit (rows_of (found_of matches.now)) limit × IsLimit limit)) }
+{
+    let limit = matches.get_one::<u32>("limit")?;
+    Limit::new(limit)
+}
