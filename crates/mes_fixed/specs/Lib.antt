@@ -5,3 +5,4 @@ pub mod Gathering
 pub mod Decimal
 pub mod Cut
 pub mod Text
+pub mod Fault

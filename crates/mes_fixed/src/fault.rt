@@ -1,4 +1,7 @@
 //! Why a text is refused.
+ghost use Rattle.std.specs.Prelude.{Some};
+ghost use Rattle.mes_fixed.specs.Fault.{message};
+
 use std::fmt;
 
 /// Why a text is refused as a number of some type. The first that holds is the one that comes.
@@ -13,9 +16,11 @@ pub enum NumFault {
 }
 
 impl fmt::Display for NumFault {
+    ghost output = { λ fault. Some (message fault) };
+
     fn fmt<W: fmt::Write>(&self, f: &mut fmt::Formatter<W>) -> fmt::Result {
         f.write_str(match self {
-            NumFault::TooLong => "a number's text is too long",
+            NumFault::TooLong => "the number's text is too long",
             NumFault::Shape => "the text is no JSON number",
             NumFault::Range => "the number is out of range",
         })

@@ -1,5 +1,8 @@
 //! The words of the command, as a user writes them.
 
+mod plain;
+mod run;
+
 use crate::options::options;
 use crate::words::{Options, WordsFault};
 use std::test::Fail;

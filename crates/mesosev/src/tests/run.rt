@@ -1,0 +1,214 @@
+//! The command over devices in memory: the line that it prints, and its status.
+
+use crate::run::run;
+use mes_frame::{MemorySink, MemorySource, MemoryStop};
+use std::alloc::AllocGlobal;
+use std::process::Abort;
+use std::test::Fail;
+
+// A record of 20 bytes, 23 with its size line.
+const HEARTBEAT: &str = "20\n{\"type\":\"HEARTBEAT\"}";
+
+// What `check` prints of it, in 18 bytes.
+const HEARTBEAT_LINE: &str = "events 1 bytes 23\n";
+
+// How many bytes the reader gives by one call, and the writer takes.
+const READ_SIZES: [usize; 3] = [1, 7, 4096];
+
+const WRITE_SIZE: usize = 5;
+
+// Runs `check` with the words behind it over the input, by pieces of each size, and asserts what it prints and answers.
+fn expect_check<R: Abort + AllocGlobal>(
+    rt: &R,
+    more: &[&str],
+    input: &str,
+    line: &str,
+    status: u8,
+) -> Result<(), Fail> {
+    let mut words = Vec::new(rt.alloc());
+    words.extend_from_slice(&["mesosev", "check"])?;
+    words.extend_from_slice(more)?;
+    let line = format!(in rt.alloc(); "{line}\n")?;
+    for most in READ_SIZES {
+        let mut source = MemorySource::new(input.as_bytes(), most);
+        let mut out = MemorySink::new(rt.alloc(), WRITE_SIZE);
+        let mut err = MemorySink::new(rt.alloc(), WRITE_SIZE);
+        let answer = run(rt, words.as_slice(), &mut source, &mut out, &mut err);
+        assert_eq!(rt; out.bytes(), line.as_bytes(), "{input:?} by {most}");
+        assert_eq!(rt; answer, status, "{input:?} by {most}");
+        assert!(rt; err.bytes().is_empty(), "{input:?} by {most}");
+    }
+    Ok(())
+}
+
+#[test]
+fn events_are_counted(rt: HostRuntime) -> Result<(), Fail> {
+    let streams = [
+        ("", "events 0 bytes 0"),
+        (HEARTBEAT, "events 1 bytes 23"),
+        (
+            "20\n{\"type\":\"HEARTBEAT\"}20\n{\"type\":\"HEARTBEAT\"}",
+            "events 2 bytes 46",
+        ),
+        (
+            "00000000000000000020\n{\"type\":\"HEARTBEAT\"}",
+            "events 1 bytes 41",
+        ),
+        (
+            "40\n{\"type\":\"ERROR\",\"error\":{\"message\":\"m\"}}",
+            "events 1 bytes 43",
+        ),
+        // Members of other names are ignored, also where they stand twice.
+        (
+            "35\n{\"x\":\"a\",\"type\":\"HEARTBEAT\",\"x\":{}}",
+            "events 1 bytes 38",
+        ),
+    ];
+    for (input, line) in streams {
+        expect_check(&rt, &[], input, line, 0)?;
+    }
+    expect_check(&rt, &["--limit", "20"], HEARTBEAT, "events 1 bytes 23", 0)
+}
+
+#[test]
+fn faults_are_told(rt: HostRuntime) -> Result<(), Fail> {
+    let streams = [
+        // Size lines.
+        ("x", "fault F7 BadSizeLine after 1"),
+        (
+            "000000000000000000020\n",
+            "fault F8 SizeLineTooLong after 21",
+        ),
+        ("18446744073709551636\n", "fault F9 RecordTooLarge after 21"),
+        // Records that are no JSON text.
+        ("0\n", "fault F11 Text record 1 byte 0 End after 2"),
+        (
+            "26\n{\"type\":\"HEARTBEAT\",\"x\":1}",
+            "fault F11 Text record 1 byte 24 Byte after 29",
+        ),
+        // JSON texts of no event.
+        (
+            "7\n\"abcde\"",
+            "fault F12 Field record 1 . WrongKind after 9",
+        ),
+        ("2\n{}", "fault F12 Field record 1 type Missing after 4"),
+        (
+            "11\n{\"type\":{}}",
+            "fault F12 Field record 1 type WrongKind after 14",
+        ),
+        (
+            "18\n{\"type\":\"RESCIND\"}",
+            "fault F12 Field record 1 type LeftOut after 21",
+        ),
+        (
+            "39\n{\"type\":\"HEARTBEAT\",\"type\":\"HEARTBEAT\"}",
+            "fault F12 Field record 1 type Twice after 42",
+        ),
+        (
+            "16\n{\"type\":\"ERROR\"}",
+            "fault F12 Field record 1 error Missing after 19",
+        ),
+        (
+            "28\n{\"type\":\"ERROR\",\"error\":\"m\"}",
+            "fault F12 Field record 1 error WrongKind after 31",
+        ),
+        (
+            "64\n{\"type\":\"ERROR\",\"error\":{\"message\":\"m\"},\"error\":{\"message\":\"m\"}}",
+            "fault F12 Field record 1 error Twice after 67",
+        ),
+        (
+            "27\n{\"type\":\"ERROR\",\"error\":{}}",
+            "fault F12 Field record 1 error.message Missing after 30",
+        ),
+        (
+            "39\n{\"type\":\"ERROR\",\"error\":{\"message\":{}}}",
+            "fault F12 Field record 1 error.message WrongKind after 42",
+        ),
+        (
+            "54\n{\"type\":\"ERROR\",\"error\":{\"message\":\"m\",\"message\":\"n\"}}",
+            "fault F12 Field record 1 error.message Twice after 57",
+        ),
+        // The record behind an event, before a good one.
+        (
+            "20\n{\"type\":\"HEARTBEAT\"}2\n{}20\n{\"type\":\"HEARTBEAT\"}",
+            "fault F12 Field record 2 type Missing after 27",
+        ),
+    ];
+    for (input, line) in streams {
+        expect_check(&rt, &[], input, line, 1)?;
+    }
+    expect_check(
+        &rt,
+        &["--limit", "19"],
+        HEARTBEAT,
+        "fault F9 RecordTooLarge after 3",
+        1,
+    )
+}
+
+// The `{` past the nesting limit stands behind 64 openings of 5 bytes each.
+#[test]
+fn objects_nest_64_deep(rt: HostRuntime) -> Result<(), Fail> {
+    let opening = "{\"a\":".repeat(rt.alloc(), 63)?;
+    let closing = "}".repeat(rt.alloc(), 63)?;
+    let deepest = format!(in rt.alloc(); "380\n{opening}{{}}{closing}")?;
+    let line = "fault F12 Field record 1 type Missing after 384";
+    expect_check(&rt, &[], deepest.as_str(), line, 1)?;
+    let too_deep = format!(in rt.alloc(); "386\n{opening}{{\"a\":{{}}}}{closing}")?;
+    let line = "fault F11 Text record 1 byte 320 Depth after 390";
+    expect_check(&rt, &[], too_deep.as_str(), line, 1)
+}
+
+// The stream ends inside its record, or the reader fails, behind each front of it.
+#[test]
+fn ends_and_failures_are_told(rt: HostRuntime) -> Result<(), Fail> {
+    for taken in 1..HEARTBEAT.len() {
+        let line = format!(in rt.alloc(); "fault F10 EndsInsideRecord after {taken}")?;
+        expect_check(&rt, &[], &HEARTBEAT[..taken], line.as_str(), 1)?;
+    }
+    for taken in 0..=HEARTBEAT.len() {
+        let line = format!(in rt.alloc(); "fault F14 Read after {taken}\n")?;
+        let mut source = MemorySource::failing_after(HEARTBEAT.as_bytes(), 1, taken);
+        let mut out = MemorySink::new(rt.alloc(), WRITE_SIZE);
+        let mut err = MemorySink::new(rt.alloc(), WRITE_SIZE);
+        let status = run(&rt, &["mesosev", "check"], &mut source, &mut out, &mut err);
+        assert_eq!(rt; out.bytes(), line.as_bytes());
+        assert_eq!(rt; status, 1);
+    }
+    Ok(())
+}
+
+// The writer fails, or takes no more, behind each front of the line.
+#[test]
+fn a_line_is_cut_where_the_writer_stops(rt: HostRuntime) {
+    for stop in [MemoryStop::Fails, MemoryStop::TakesNone] {
+        for good in 0..HEARTBEAT_LINE.len() {
+            let mut source = MemorySource::new(HEARTBEAT.as_bytes(), 7);
+            let mut out = MemorySink::stopping_after(rt.alloc(), WRITE_SIZE, good, stop);
+            let mut err = MemorySink::new(rt.alloc(), WRITE_SIZE);
+            let status = run(&rt, &["mesosev", "check"], &mut source, &mut out, &mut err);
+            assert_eq!(rt; out.bytes(), &HEARTBEAT_LINE.as_bytes()[..good]);
+            assert_eq!(rt; status, 1, "{stop:?} after {good}");
+        }
+    }
+}
+
+#[test]
+fn words_are_answered(rt: HostRuntime) {
+    let cases: [(&[&str], u8); 4] = [
+        (&["mesosev", "--help"], 0),
+        (&["mesosev", "check", "--help"], 0),
+        (&["mesosev"], 2),
+        (&["mesosev", "check", "--limit", "0"], 2),
+    ];
+    for (words, expected) in cases {
+        let mut source = MemorySource::new(HEARTBEAT.as_bytes(), 7);
+        let mut out = MemorySink::new(rt.alloc(), WRITE_SIZE);
+        let mut err = MemorySink::new(rt.alloc(), WRITE_SIZE);
+        let status = run(&rt, words, &mut source, &mut out, &mut err);
+        assert_eq!(rt; status, expected, "{words:?}");
+        assert_eq!(rt; out.bytes().is_empty(), expected == 2, "{words:?}");
+        assert_eq!(rt; err.bytes().is_empty(), expected == 0, "{words:?}");
+        assert_eq!(rt; source.counts().calls, 0, "{words:?}");
+    }
+}
