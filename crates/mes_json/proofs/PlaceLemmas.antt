@@ -6,6 +6,9 @@ use Rattle.mes_json.specs.Grammar.{IsText}
 use Rattle.mes_json.specs.Place.{Begins, IsReason, IsFault}
 use Rattle.mes_json.specs.Refusal.{IsRefusal, Refuses}
 use Rattle.mes_json.specs.Machine.{State, start, step, run, finish}
+use Rattle.std.proofs.lemmas.Bool.{cases_lt}
+use Rattle.std.proofs.Common.{inl, inr}
+use Rattle.mes_json.specs.declared.fault.TextFault.{TextFault}
 use Rattle.mes_json.specs.declared.fault.Why.{Why}
 use Rattle.mes_json.specs.declared.fault.Why.TheVariants.{End, Depth, Byte}
 use Rattle.mes_json.proofs.RunLemmas.{run_none, run_take}
@@ -29,22 +32,7 @@ reason d b n s End l e h = absurd h
 reason d b n s Depth l e h = (l, begins_from_run (d + 1) h.0 (take (n + 1) b) (run_take (d + 1) start s b n l (run_deeper d start s (take n b) e) ∙ h.1))
 reason d b n s Byte l e h = (l, none_begins (d + 1) (take (n + 1) b) (run_take (d + 1) start s b n l (run_deeper d start s (take n b) e) ∙ h))
 
-pub refused : (d : ℕ) (b : List ℕ) (n : ℕ) (s : State) (why : Why) → n < length b → run d start (take n b) ≡ Some s → Refuses d why s (get_or b n 0) → IsFault d b (record { byte = n; why = why })
-refused d b n s why l e h = record {
-  begins = begins_from_run d s (take n b) e;
-  longest = λ m k _. none_begins d (take m b) (stuck_after d b n m s l e h.stuck k);
-  reason = reason d b n s why l e h.reason;
-}
-
--- ---- the bytes end in a state that is no end
-pub ended : (d : ℕ) (b : List ℕ) (s : State) → run d start b ≡ Some s → finish s ≡ None → IsFault d b (record { byte = length b; why = End })
-ended d b s e f = record {
-  begins = subst (Begins d) (sym (take-length b)) (begins_from_run d s b e);
-  longest = λ m k l _. omega arith;
-  reason = refl;
-}
-
--- ---- and so the bytes are no text
+-- ---- bytes that are no text
 pub finished_only : (d : ℕ) (b : List ℕ) (s : State) (t : Tree) → run d start b ≡ Some s → IsText d b t → finish s ≡ Some t
 finished_only d b s t e h = sym (ap (option_and_then finish) e) ∙ complete_text d b t h
 
@@ -57,8 +45,57 @@ no_text d b n s l e stuck t h =
 pub no_text_ended : (d : ℕ) (b : List ℕ) (s : State) → run d start b ≡ Some s → finish s ≡ None → (t : Tree) → IsText d b t → ⊥
 no_text_ended d b s e f t h = none_some (sym f ∙ finished_only d b s t e h)
 
+pub refused : (d : ℕ) (b : List ℕ) (n : ℕ) (s : State) (why : Why) → n < length b → run d start (take n b) ≡ Some s → Refuses d why s (get_or b n 0) → IsFault d b (record { byte = n; why = why })
+refused d b n s why l e h = record {
+  no_text = no_text d b n s l e h.stuck;
+  begins = begins_from_run d s (take n b) e;
+  longest = λ m k _. none_begins d (take m b) (stuck_after d b n m s l e h.stuck k);
+  reason = reason d b n s why l e h.reason;
+}
+
+-- ---- the bytes end in a state that is no end
+pub ended : (d : ℕ) (b : List ℕ) (s : State) → run d start b ≡ Some s → finish s ≡ None → IsFault d b (record { byte = length b; why = End })
+ended d b s e f = record {
+  no_text = no_text_ended d b s e f;
+  begins = subst (Begins d) (sym (take-length b)) (begins_from_run d s b e);
+  longest = λ m k l _. omega arith;
+  reason = refl;
+}
+
 -- ---- no byte at all
 -- the empty list ends before any text does
 pub empty_fault : (d : ℕ) → IsFault d [] (record { byte = 0; why = End })
 unfolding run
 empty_fault d = ended d [] start refl refl
+
+-- ---- one reading
+-- the place stands within the bytes
+pub place_within : (d : ℕ) (b : List ℕ) (n : ℕ) (why : Why) → IsReason d b n why → n ≤ length b
+place_within d b n End reason = omega (arith, reason)
+place_within d b n Depth reason = omega (arith, reason.0)
+place_within d b n Byte reason = omega (arith, reason.0)
+
+same_place : (d : ℕ) (b : List ℕ) (f g : TextFault) → IsFault d b f → IsFault d b g → f.byte ≡ g.byte
+same_place d b f g is other = elim (cases_lt f.byte g.byte) [
+  inl less ↦ absurd (is.longest g.byte less (place_within d b g.byte g.why other.reason) other.begins)
+  | inr more ↦ elim (cases_lt g.byte f.byte) [
+    inl less ↦ absurd (other.longest f.byte less (place_within d b f.byte f.why is.reason) is.begins)
+    | inr least ↦ omega (arith, more, least) ] ]
+
+same_reason : (d : ℕ) (b : List ℕ) (n : ℕ) (why other : Why) → IsReason d b n why → IsReason d b n other → why ≡ other
+same_reason d b n End End is at = refl
+same_reason d b n End Depth is at = absurd (omega (arith, is, at.0))
+same_reason d b n End Byte is at = absurd (omega (arith, is, at.0))
+same_reason d b n Depth End is at = absurd (omega (arith, is.0, at))
+same_reason d b n Depth Depth is at = refl
+same_reason d b n Depth Byte is at = absurd (at.1 is.1)
+same_reason d b n Byte End is at = absurd (omega (arith, is.0, at))
+same_reason d b n Byte Depth is at = absurd (is.1 at.1)
+same_reason d b n Byte Byte is at = refl
+
+-- bytes have one fault
+pub one_fault : (d : ℕ) (b : List ℕ) (f g : TextFault) → IsFault d b f → IsFault d b g → f ≡ g
+one_fault d b f g is other =
+    let place = same_place d b f g is other in
+    let why = same_reason d b f.byte f.why g.why is.reason (subst (λ (n : ℕ). IsReason d b n g.why) (sym place) other.reason) in
+    rw (place, why) refl

@@ -18,8 +18,9 @@ IsReason d b n End = n ≡ length b
 IsReason d b n Depth = (n < length b) × Begins (d + 1) (take (n + 1) b)
 IsReason d b n Byte = (n < length b) × (Begins (d + 1) (take (n + 1) b) → ⊥)
 
--- the place is the length of the longest front that some text goes on from
+-- The bytes are no text, and the place is the length of the longest front that some text goes on from.
 pub record IsFault (d : ℕ) (b : List ℕ) (f : TextFault) : Type 0 where
+  pub no_text : (t : Tree) → IsText d b t → ⊥
   pub begins : Begins d (take f.byte b)
   pub longest : (n : ℕ) → f.byte < n → n ≤ length b → Begins d (take n b) → ⊥
   pub reason : IsReason d b f.byte f.why

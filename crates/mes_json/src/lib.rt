@@ -4,6 +4,7 @@
 mod build;
 mod fault;
 mod kind;
+mod laws;
 mod limits;
 mod memory;
 mod read;
@@ -16,6 +17,7 @@ mod utf8;
 mod value;
 
 pub use fault::{ReadFault, TextFault, Why};
+pub use laws::one_text_reading;
 pub use limits::NESTING_LIMIT;
 pub use memory::NoMemory;
 pub use read::read_text;

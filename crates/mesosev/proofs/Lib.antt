@@ -5,3 +5,4 @@ mod LimitLemmas
 mod PathLemmas
 mod PlainLemmas
 mod PlainWords
+mod CommandLemmas

@@ -156,5 +156,5 @@ plain_answer words (Ok o) named refused said plainly range =
 plain_answer words (Err (Clap error)) named refused said plainly range =
     absurd (subst (IsAmong (kind_of error)) (plain_taken words said plainly range) refused)
 plain_answer words (Err (BadValue option)) named refused said plainly range =
-    absurd (refused (said, plain_named words said plainly, range))
+    absurd (refused.1 (said, plain_named words said plainly, range))
 plain_answer words (Err NoMemory) named refused said plainly range = refl

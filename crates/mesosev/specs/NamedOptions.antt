@@ -40,11 +40,11 @@ IsInRange (Check limit) = IsLimit limit
 abbrev pub NameNoOptions : List Text → Type 0
 NameNoOptions words = ¬ ((o : Options) × NameOptions words o × IsInRange o)
 
--- clap refuses the words by an error of this kind, or they name no options in range; want of memory
--- says nothing of the words
+-- Clap refuses the words by an error of this kind, or takes them and they name no options in range. Want of memory says
+-- nothing of the words.
 abbrev pub RefusesWords : List Text → WordsFault → Type 0
 RefusesWords words (Clap error) = IsAmong (kind_of error) (fault_of command_app words)
-RefusesWords words (BadValue option) = NameNoOptions words
+RefusesWords words (BadValue option) = (fault_of command_app words ≡ []) × NameNoOptions words
 RefusesWords words NoMemory = Unit {0}
 
 -- the fault is clap's error, but for want of memory, which has a variant of its own

@@ -68,7 +68,7 @@ impl Decoder {
     pub fn feed(&mut self, piece: &[u8], events: &mut Vec<Event>) -> Result<(), Halt>
         ensures feeds { (b : List ℕ) (evs : List EventValue) → Stands self.old b evs → Feeds self.new b evs piece.now events.old.items events.new.items result }
         ensures limit { limit_of self.new.state ≡ limit_of self.old.state }
-        ensures used { IfErr result (λ halt. halt.used ≤ length piece.now) }
+        ensures used { IfErr result (λ halt. (0 < halt.used) × (halt.used ≤ length piece.now)) }
     {
         let mut at = 0;
         while at < piece.len() {
@@ -89,7 +89,7 @@ impl Decoder {
         ensures turns { (b : List ℕ) (evs : List EventValue) → Stands self.old b evs → Turns self.new b evs rest.now events.old.items events.new.items result }
         ensures limit { limit_of self.new.state ≡ limit_of self.old.state }
         ensures some { IfOk result (λ used. (0 < used) × (used ≤ length rest.now)) }
-        ensures used { IfErr result (λ halt. halt.used ≤ length rest.now) }
+        ensures used { IfErr result (λ halt. (0 < halt.used) × (halt.used ≤ length rest.now)) }
     {
         match self.front(rest) {
             Front::Size => Ok(1),

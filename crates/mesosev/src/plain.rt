@@ -30,7 +30,7 @@ pub fn read_plain<S: Source>(
     ensures { (w : List ℕ) × (more : List EventValue)
         × Consumes (S.left reader.old) (S.left reader.new) w
         × (events.new.items ≡ events.old.items ++ more)
-        × EndsPlain limit max_reads (S.counts reader.old) (S.counts reader.new) w more result }
+        × EndsPlain limit max_reads (S.counts reader.old) (S.counts reader.new) (S.left reader.new) w more result }
 {
     let mut decoder = Decoder::new(alloc, limit);
     let mut buffer = [0; READ_MOST];

@@ -1,7 +1,8 @@
 //! The command: its words, its input, and what it prints.
 
-ghost use Rattle.std.specs.Prelude.{◌≡◌, ◌≤◌, ℕ, [], ◌∷◌, ◌++◌, length};
-ghost use Rattle.mesosev.specs.Printing.{Prints, Checks};
+ghost use Rattle.std.specs.Prelude.{◌≡◌, ℕ, ◌≤◌, ◌⊎◌, map, [], ◌∷◌, ◌++◌, length};
+ghost use Rattle.mesosev.specs.NamedOptions.{SayPlainly, IsLimit, IsInRange, RefusesWords};
+ghost use Rattle.mesosev.specs.Printing.{Prints, Checks, LacksMemory, Tells, TellsError, Runs};
 ghost use Rattle.mesosev.specs.declared.words.Options.TheVariants.{Check};
 
 use crate::fault::Fault;
@@ -23,6 +24,9 @@ const FAULT: u8 = 1;
 /// The status of bad words.
 const BAD_WORDS: u8 = 2;
 
+/// The room for a line and its LF, in bytes.
+const LINE_MOST: usize = 641;
+
 /// The most reads of standard input.
 pub const READS_MOST: u64 = 4_294_967_296;
 
@@ -35,18 +39,33 @@ pub fn run<R: AllocGlobal, W: AsStr, I: Source, O: Sink, E: Sink>(
     out: &mut O,
     err: &mut E,
 ) -> u8
-    ensures { result ≤ 2 }
+    ensures runs { Runs (map W.text words.now)
+        (record { bytes = I.left input.old; counts = I.counts input.old }) (record { bytes = I.left input.new; counts = I.counts input.new })
+        (record { bytes = O.written out.old; counts = O.counts out.old }) (record { bytes = O.written out.new; counts = O.counts out.new })
+        (record { bytes = E.written err.old; counts = E.counts err.old }) (record { bytes = E.written err.new; counts = E.counts err.new })
+        result }
+
+    // Words that name `check` with a limit plainly: the input is checked under that limit, unless memory was refused.
+    ensures plain { (limit : ℕ) → SayPlainly (map W.text words.now) (Check limit) → IsLimit limit
+        → Checks limit
+        (record { bytes = I.left input.old; counts = I.counts input.old }) (record { bytes = I.left input.new; counts = I.counts input.new })
+        (record { bytes = O.written out.old; counts = O.counts out.old }) (record { bytes = O.written out.new; counts = O.counts out.new })
+        result
+        ⊎ LacksMemory (record { bytes = O.written out.old; counts = O.counts out.old }) (record { bytes = O.written out.new; counts = O.counts out.new }) result }
 {
     let alloc = rt.alloc();
     match options(alloc, words) {
         Ok(options) => perform(alloc, &options, input, out),
-        Err(fault) => tell(alloc, fault, out, err),
+        Err(fault) => tell(alloc, &fault, out, err),
     }
 }
 
 // Does what the words name.
 fn perform<I: Source, O: Sink>(alloc: Global, options: &Options, input: &mut I, out: &mut O) -> u8
-    ensures { (limit : ℕ) → options.now ≡ Check limit → Checks limit (I.left input.old) (I.left input.new) (I.counts input.old) (I.counts input.new) (O.written out.old) (O.written out.new) result }
+    ensures { (limit : ℕ) → options.now ≡ Check limit → Checks limit
+        (record { bytes = I.left input.old; counts = I.counts input.old }) (record { bytes = I.left input.new; counts = I.counts input.new })
+        (record { bytes = O.written out.old; counts = O.counts out.old }) (record { bytes = O.written out.new; counts = O.counts out.new })
+        result }
 {
     match options {
         Options::Check { limit } => check(alloc, *limit, input, out),
@@ -55,7 +74,10 @@ fn perform<I: Source, O: Sink>(alloc: Global, options: &Options, input: &mut I, 
 
 /// Reads plain RecordIO and prints how many events it has, or the first fault.
 fn check<I: Source, O: Sink>(alloc: Global, limit: Limit, input: &mut I, out: &mut O) -> u8
-    ensures { Checks limit (I.left input.old) (I.left input.new) (I.counts input.old) (I.counts input.new) (O.written out.old) (O.written out.new) result }
+    ensures { Checks limit
+        (record { bytes = I.left input.old; counts = I.counts input.old }) (record { bytes = I.left input.new; counts = I.counts input.new })
+        (record { bytes = O.written out.old; counts = O.counts out.old }) (record { bytes = O.written out.new; counts = O.counts out.new })
+        result }
 {
     let mut events = Vec::new(alloc);
     match read_plain(alloc, input, limit, READS_MOST, &mut events) {
@@ -75,7 +97,8 @@ fn check<I: Source, O: Sink>(alloc: Global, limit: Limit, input: &mut I, out: &m
 /// Prints a line, and answers the status, or 1 where the writer failed.
 fn print<O: Sink>(out: &mut O, line: &str, status: u8) -> u8
     requires { length line.now ≤ FAULT_LINE_MOST }
-    ensures { Prints (O.written out.old) (O.written out.new) (line.now ++ 10 ∷ []) status result }
+    ensures { Prints (record { bytes = O.written out.old; counts = O.counts out.old }) (record { bytes = O.written out.new; counts = O.counts out.new })
+        (line.now ++ 10 ∷ []) status result }
 {
     let mut text = ArrayString::<LINE_MOST>::new();
     text.push_str(line);
@@ -83,12 +106,10 @@ fn print<O: Sink>(out: &mut O, line: &str, status: u8) -> u8
     put(out, text.as_str(), status)
 }
 
-/// The room for a line and its LF.
-const LINE_MOST: usize = 641;
-
 /// Writes a text, and answers the status, or 1 where the writer failed.
 fn put<O: Sink>(out: &mut O, text: &str, status: u8) -> u8
-    ensures { Prints (O.written out.old) (O.written out.new) text.now status result }
+    ensures { Prints (record { bytes = O.written out.old; counts = O.counts out.old }) (record { bytes = O.written out.new; counts = O.counts out.new })
+        text.now status result }
 {
     match write_all(out, text.as_bytes()) {
         Ok(()) => status,
@@ -96,32 +117,45 @@ fn put<O: Sink>(out: &mut O, text: &str, status: u8) -> u8
     }
 }
 
-/// Tells why the words name no options: help on standard output, mistakes on standard error.
-fn tell<O: Sink, E: Sink>(alloc: Global, fault: WordsFault, out: &mut O, err: &mut E) -> u8
-    ensures { result ≤ 2 }
+/// Tells why the words name no options.
+fn tell<O: Sink, E: Sink>(alloc: Global, fault: &WordsFault, out: &mut O, err: &mut E) -> u8
+    ensures { Tells fault.now
+        (record { bytes = O.written out.old; counts = O.counts out.old }) (record { bytes = O.written out.new; counts = O.counts out.new })
+        (record { bytes = E.written err.old; counts = E.counts err.old }) (record { bytes = E.written err.new; counts = E.counts err.new })
+        result }
 {
-    let Ok(text) = format!(in alloc; "{fault}") else {
+    match fault {
+        WordsFault::Clap(error) => tell_error(alloc, error, out, err),
+        WordsFault::BadValue(name) => match format!(in alloc; "bad value --{name}\n") {
+            Ok(text) => put(err, text.as_str(), BAD_WORDS),
+            Err(_) => out_of_memory(out),
+        },
+        WordsFault::NoMemory => out_of_memory(out),
+    }
+}
+
+/// Tells an error of clap: help on standard output, a mistake on standard error.
+fn tell_error<O: Sink, E: Sink>(alloc: Global, error: &clap::Error, out: &mut O, err: &mut E) -> u8
+    ensures { TellsError error.now
+        (record { bytes = O.written out.old; counts = O.counts out.old }) (record { bytes = O.written out.new; counts = O.counts out.new })
+        (record { bytes = E.written err.old; counts = E.counts err.old }) (record { bytes = E.written err.new; counts = E.counts err.new })
+        result
+        ⊎ (LacksMemory (record { bytes = O.written out.old; counts = O.counts out.old }) (record { bytes = O.written out.new; counts = O.counts out.new }) result
+        × (err.new ≡ err.old)) }
+{
+    let Ok(text) = format!(in alloc; "{error}") else {
         return out_of_memory(out);
     };
-    match fault {
-        WordsFault::Clap(error) => {
-            if error.use_stderr() {
-                put(err, text.as_str(), BAD_WORDS)
-            } else {
-                put(out, text.as_str(), GOOD)
-            }
-        }
-        WordsFault::BadValue(_) => {
-            let status = put(err, text.as_str(), BAD_WORDS);
-            put(err, "\n", status)
-        }
-        WordsFault::NoMemory => out_of_memory(out),
+    if error.use_stderr() {
+        put(err, text.as_str(), BAD_WORDS)
+    } else {
+        put(out, text.as_str(), GOOD)
     }
 }
 
 /// Tells that memory was refused before any byte was read.
 fn out_of_memory<O: Sink>(out: &mut O) -> u8
-    ensures { result ≡ 1 }
+    ensures { LacksMemory (record { bytes = O.written out.old; counts = O.counts out.old }) (record { bytes = O.written out.new; counts = O.counts out.new }) result }
 {
     let mut line = ArrayString::new();
     fault_line(&Fault::NoMemory, 0, &mut line);

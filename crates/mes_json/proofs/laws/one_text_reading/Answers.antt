@@ -1,0 +1,9 @@
+use Rattle.mes_json.proofs.CompleteLemmas.{one_text}
+use Rattle.mes_json.proofs.PlaceLemmas.{one_fault}
+use Rattle.mes_json.proofs.laws.one_text_reading.Goals as goal
+
+pub returns-clause-tree : goal.returns-clause-tree
+returns-clause-tree c = one_text
+
+pub returns-clause-fault : goal.returns-clause-fault
+returns-clause-fault c = one_fault

@@ -1,0 +1,16 @@
+-- What became of words that name no options.
+use Rattle.std.proofs.Common.{◌≡◌, ℕ, List, inl, inr, refl}
+use Rattle.clap.specs.Words.{Text}
+use Rattle.mesosev.specs.NamedOptions.{RefusesWords}
+use Rattle.mesosev.specs.Printing.{Device, Tells, Runs}
+use Rattle.mesosev.specs.declared.words.WordsFault.{WordsFault}
+use Rattle.mesosev.specs.declared.words.WordsFault.TheVariants.{Clap, BadValue, NoMemory}
+
+pub told_words : (words : List Text) (fault : WordsFault) (input out printed err told : Device) (status : ℕ) → RefusesWords words fault
+    → Tells fault out printed err told status → Runs words input input out printed err told status
+told_words words (Clap error) input out printed err told status refused (inl tells) = inr (inl (error, refused, tells, refl))
+told_words words (Clap error) input out printed err told status refused (inr lacks) = inr (inr (inr (lacks.0, lacks.1, refl)))
+told_words words (BadValue option) input out printed err told status refused (inl (text, prints, same)) =
+    inr (inr (inl (text, refused.1, prints, same, refl)))
+told_words words (BadValue option) input out printed err told status refused (inr lacks) = inr (inr (inr (lacks.0, lacks.1, refl)))
+told_words words NoMemory input out printed err told status refused lacks = inr (inr (inr (lacks.0, lacks.1, refl)))
