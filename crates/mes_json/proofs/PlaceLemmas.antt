@@ -77,10 +77,12 @@ place_within d b n Byte reason = omega (arith, reason.0)
 
 same_place : (d : ℕ) (b : List ℕ) (f g : TextFault) → IsFault d b f → IsFault d b g → f.byte ≡ g.byte
 same_place d b f g is other = elim (cases_lt f.byte g.byte) [
-  inl less ↦ absurd (is.longest g.byte less (place_within d b g.byte g.why other.reason) other.begins)
+  | inl less ↦ absurd (is.longest g.byte less (place_within d b g.byte g.why other.reason) other.begins)
   | inr more ↦ elim (cases_lt g.byte f.byte) [
-    inl less ↦ absurd (other.longest f.byte less (place_within d b f.byte f.why is.reason) is.begins)
-    | inr least ↦ omega (arith, more, least) ] ]
+    | inl less ↦ absurd (other.longest f.byte less (place_within d b f.byte f.why is.reason) is.begins)
+    | inr least ↦ omega (arith, more, least)
+  ]
+]
 
 same_reason : (d : ℕ) (b : List ℕ) (n : ℕ) (why other : Why) → IsReason d b n why → IsReason d b n other → why ≡ other
 same_reason d b n End End is at = refl

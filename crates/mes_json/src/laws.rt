@@ -9,5 +9,4 @@ ghost use Rattle.mes_json.specs.declared.fault.TextFault.{TextFault as Fault};
 pub fn one_text_reading()
     ensures tree { (d : ℕ) (b : List ℕ) (t u : Tree) → IsText d b t → IsText d b u → t ≡ u }
     ensures fault { (d : ℕ) (b : List ℕ) (f g : Fault) → IsFault d b f → IsFault d b g → f ≡ g }
-{
-}
+{}
