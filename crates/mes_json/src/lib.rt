@@ -17,7 +17,7 @@ mod utf8;
 mod value;
 
 pub use fault::{ReadFault, TextFault, Why};
-pub use laws::one_text_reading;
+pub use laws::{nesting_limit, one_text_reading};
 pub use limits::NESTING_LIMIT;
 pub use memory::NoMemory;
 pub use read::read_text;

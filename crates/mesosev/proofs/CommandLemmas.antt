@@ -11,6 +11,6 @@ pub told_words : (words : List Text) (fault : WordsFault) (input out printed err
 told_words words (Clap error) input out printed err told status refused (inl tells) = inr (inl (error, refused, tells, refl))
 told_words words (Clap error) input out printed err told status refused (inr lacks) = inr (inr (inr (lacks.0, lacks.1, refl)))
 told_words words (BadValue option) input out printed err told status refused (inl (text, prints, same)) =
-    inr (inr (inl (text, refused.1, prints, same, refl)))
+    inr (inr (inl (text, refused.0, refused.1, prints, same, refl)))
 told_words words (BadValue option) input out printed err told status refused (inr lacks) = inr (inr (inr (lacks.0, lacks.1, refl)))
 told_words words NoMemory input out printed err told status refused lacks = inr (inr (inr (lacks.0, lacks.1, refl)))

@@ -74,7 +74,7 @@ Runs words input rest out printed err told status =
     × Checks limit input rest out printed status × (told ≡ err))
     ⊎ ((error : Error) × IsAmong (kind_of error) (fault_of command_app words)
     × TellsError error out printed err told status × (rest ≡ input))
-    ⊎ ((text : List ℕ) × NameNoOptions words × Prints err told text 2 status × (printed ≡ out) × (rest ≡ input))
+    ⊎ ((text : List ℕ) × (fault_of command_app words ≡ []) × NameNoOptions words × Prints err told text 2 status × (printed ≡ out) × (rest ≡ input))
     ⊎ (LacksMemory out printed status × (told ≡ err) × (rest ≡ input))
 
 -- why the words name no options, told

@@ -1,6 +1,6 @@
 //! The command: its words, its input, and what it prints.
 
-ghost use Rattle.std.specs.Prelude.{◌≡◌, ℕ, ◌≤◌, ◌⊎◌, map, [], ◌∷◌, ◌++◌, length};
+ghost use Rattle.std.specs.Prelude.{◌≡◌, codes, ℕ, ◌≤◌, ◌⊎◌, map, [], ◌∷◌, ◌++◌, length};
 ghost use Rattle.mesosev.specs.NamedOptions.{SayPlainly, IsLimit, IsInRange, RefusesWords};
 ghost use Rattle.mesosev.specs.Printing.{Prints, Checks, LacksMemory, Tells, TellsError, Runs};
 ghost use Rattle.mesosev.specs.declared.words.Options.TheVariants.{Check};
@@ -8,8 +8,8 @@ ghost use Rattle.mesosev.specs.declared.words.Options.TheVariants.{Check};
 use crate::fault::Fault;
 use crate::line::{FAULT_LINE_MOST, count_line, fault_line};
 use crate::options::options;
-use crate::plain::read_plain;
-use crate::words::{Options, WordsFault};
+use crate::plain::{READ_MOST, read_plain};
+use crate::words::{LIMIT_DEFAULT, LIMIT_LEAST, LIMIT_MOST, Options, WordsFault};
 use arrayvec::ArrayString;
 use mes_frame::{Limit, Sink, Source, write_all};
 use std::alloc::{AllocGlobal, Global};
@@ -52,6 +52,10 @@ pub fn run<R: AllocGlobal, W: AsStr, I: Source, O: Sink, E: Sink>(
         (record { bytes = O.written out.old; counts = O.counts out.old }) (record { bytes = O.written out.new; counts = O.counts out.new })
         result
         ⊎ LacksMemory (record { bytes = O.written out.old; counts = O.counts out.old }) (record { bytes = O.written out.new; counts = O.counts out.new }) result }
+
+    // The limits that the clauses name.
+    ensures limits { (LIMIT_LEAST ≡ 1) × (LIMIT_MOST ≡ 16777216) × (LIMIT_DEFAULT.now ≡ codes "4194304")
+        × (READ_MOST ≡ 512) × (READS_MOST ≡ 4294967296) }
 {
     let alloc = rt.alloc();
     match options(alloc, words) {
