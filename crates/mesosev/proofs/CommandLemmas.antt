@@ -1,5 +1,5 @@
 -- What became of words that name no options.
-use Rattle.std.proofs.Common.{◌≡◌, ℕ, List, inl, inr, refl}
+use Rattle.std.proofs.Common.{ℕ, List, inl, inr, refl}
 use Rattle.clap.specs.Words.{Text}
 use Rattle.mesosev.specs.NamedOptions.{RefusesWords}
 use Rattle.mesosev.specs.Printing.{Device, Tells, Runs}

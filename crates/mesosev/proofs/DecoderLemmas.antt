@@ -1,15 +1,15 @@
 -- What a decoder of plain RecordIO stands for, over the fronts of a piece.
-use Rattle.std.proofs.Common.{◌≡◌, ℕ, zero, suc, ◌+◌, ◌-◌, ◌<◌, ◌≤◌, min, Bool, true, false, List, [], ◌∷◌, ◌++◌, length, take, drop, get_or, sym, ◌∙◌, ap, append_assoc, append-nil, arith, refl, subst, inl, inr, ◌⊎◌, length-append, length-take-le, take-append-drop, take-add, Result, Ok, Err}
+use Rattle.std.proofs.Common.{◌≡◌, ℕ, ◌+◌, ◌-◌, ◌<◌, ◌≤◌, Bool, false, List, [], ◌∷◌, ◌++◌, length, take, drop, get_or, sym, ◌∙◌, ap, append_assoc, append-nil, arith, refl, subst, inl, inr, ◌⊎◌, length-append, length-take-le, take-append-drop, take-add}
 use Rattle.std.specs.Prelude.{slice_index, not, if◌then◌else◌}
 use Rattle.std.proofs.lemmas.List.{take_more}
 use Rattle.mes_json.proofs.PlaceLemmas.{empty_fault}
 use Rattle.mes_json.specs.Place.{IsFault}
 use Rattle.mes_json.specs.declared.limits.TheConstants.{NESTING_LIMIT}
 use Rattle.mes_frame.proofs.Records.{begun_of, data_goes_on}
-use Rattle.mes_frame.specs.Record.{IsRecord, Begun, DataBegun, SizeShows}
-use Rattle.mes_frame.specs.RecordState.{RecordStands, RecordPasses, limit_of}
+use Rattle.mes_frame.specs.Record.{IsRecord, Begun, DataBegun}
+use Rattle.mes_frame.specs.RecordState.{RecordStands, limit_of}
 use Rattle.mesosev.specs.Events.{Spells, SpellsNone, IsRecordFault}
-use Rattle.mesosev.specs.Stream.{saturated, Records, Behind, Live, number_after, EndsRecord, Shows, ShowsAt}
+use Rattle.mesosev.specs.Stream.{saturated, Records, Behind, Live, number_after, Shows, ShowsAt}
 use Rattle.mesosev.specs.Decoding.{Stands, BadFront, fault_of_record}
 use Rattle.mesosev.specs.declared.event.Event.{Event}
 use Rattle.mesosev.specs.declared.event.RecordFault.{RecordFault}

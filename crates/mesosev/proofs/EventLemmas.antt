@@ -1,9 +1,8 @@
 -- A tree is of one event at most, or has one fault.
-use Rattle.std.proofs.Common.{◌⊎◌, ◌≡◌, ◌≢◌, ℕ, ◌≤◌, List, [], ◌∷◌, length, sym, ◌∙◌, ap, arith, codes, inl, inr, refl, subst}
+use Rattle.std.proofs.Common.{◌⊎◌, ◌≡◌, ℕ, List, [], ◌∷◌, length, sym, ◌∙◌, ap, arith, codes, inl, inr, refl, subst}
 use Rattle.mes_json.specs.Tree.{Tree, Members}
 use Rattle.mes_json.specs.Tree.Tree.{string, object}
 use Rattle.mesosev.specs.Fields.{values_named, Has, IsString, IsObject, BreaksRequired}
-use Rattle.mesosev.specs.FieldFaults.{BreaksMember}
 use Rattle.mesosev.specs.Events.{IsTyped, ReadsEvent, BreaksType, BreaksError, BreaksEvent}
 use Rattle.mesosev.specs.declared.field.FieldWhy.{FieldWhy}
 use Rattle.mesosev.specs.declared.field.FieldWhy.TheVariants.{Missing, Twice, WrongKind, UnknownName, BadBase64, NumberRange, LeftOut}

@@ -1,11 +1,10 @@
 -- The members of a name, in the front of a list of members and behind it.
-use Rattle.std.proofs.Common.{◌≡◌, ℕ, ◌+◌, ◌<◌, ◌≤◌, List, [], ◌∷◌, ◌++◌, length, map, get_or, take, drop, Bool, true, false, bytes_eq, refl, sym, ◌∙◌, ap, cond, arith, rules, length-append, append-nil, is_some, take-append-drop}
+use Rattle.std.proofs.Common.{◌≡◌, ℕ, ◌+◌, ◌<◌, ◌≤◌, List, [], ◌∷◌, ◌++◌, length, get_or, take, drop, true, false, bytes_eq, refl, sym, ◌∙◌, ap, cond, arith, append-nil, is_some, take-append-drop}
 use Rattle.std.proofs.lemmas.List.{take_more}
 use Rattle.std.specs.Prelude.{Option, Some, None}
 use Rattle.std.specs.Borrow.{Bor}
-use Rattle.mes_json.specs.Tree.{Tree, Members}
-use Rattle.mes_json.specs.Tree.Members.{no_members, member}
-use Rattle.mes_json.specs.View.{view, members_of, members_view}
+use Rattle.mes_json.specs.Tree.{Tree}
+use Rattle.mes_json.specs.View.{view, members_view}
 use Rattle.mes_json.specs.declared.value.Json.{Json}
 use Rattle.mesosev.specs.Fields.{values_named}
 

@@ -1,16 +1,16 @@
 -- The reading of plain RecordIO, read by read.
-use Rattle.std.proofs.Common.{◌≡◌, ℕ, ◌+◌, ◌*◌, ◌<◌, ◌≤◌, Option, List, [], ◌∷◌, ◌++◌, length, take, sym, ◌∙◌, ap, append_assoc, append-nil, arith, refl, subst, length-append, length-take-le, Result, Ok, Err}
+use Rattle.std.proofs.Common.{◌≡◌, ℕ, ◌+◌, ◌<◌, ◌≤◌, Option, List, [], ◌++◌, length, take, sym, ◌∙◌, ap, append_assoc, append-nil, arith, refl, subst, length-append, length-take-le, Result, Ok, Err}
 use Rattle.std.specs.Io.KnownBytes.{Consumes, Keeps, IsAtEnd}
 use Rattle.std.proofs.KnownBytes.{Consumes-nil, Consumes-trans, Consumes-kept}
 use Rattle.std.specs.Prelude.{nat_lt, ◌==◌, ◌&&◌}
-use Rattle.std.proofs.Common.{Bool, true, false}
+use Rattle.std.proofs.Common.{true, false}
 use Rattle.std.proofs.lemmas.Bool.Decides.{nat_tests}
 use Rattle.mes_frame.specs.Counts.{up, up_if}
 use Rattle.mes_frame.specs.RecordState.{limit_of}
 use Rattle.mes_frame.specs.declared.counts.Counts.{Counts}
-use Rattle.mesosev.specs.Stream.{saturated, Records, Behind, Live, ShowsAt}
+use Rattle.mesosev.specs.Stream.{saturated}
 use Rattle.mesosev.specs.Decoding.{Stands, Feeds}
-use Rattle.mesosev.specs.Reading.{EndsInside, Asked, StopsAt, Stops, EndsPlain, AtEnd}
+use Rattle.mesosev.specs.Reading.{Asked, StopsAt, Stops, EndsPlain, AtEnd}
 use Rattle.mesosev.specs.declared.event.Event.{Event}
 use Rattle.mesosev.specs.declared.fault.Fault.{Fault}
 use Rattle.mesosev.specs.declared.fault.Fault.TheVariants.{Frame, EndsInsideRecord, Text, Field, NoMemory, Read, ReadsSpent}

@@ -5,7 +5,6 @@ use Rattle.mes_json.specs.Tree.Tree.{string, object}
 use Rattle.mes_json.specs.Grammar.{IsText}
 use Rattle.mes_json.specs.Place.{IsFault}
 use Rattle.mes_json.specs.declared.limits.TheConstants.{NESTING_LIMIT}
-use Rattle.mesosev.specs.Paths.{Place}
 use Rattle.mesosev.specs.Paths.Place.{name}
 use Rattle.mesosev.specs.Fields.{Has, IsString, IsObject}
 use Rattle.mesosev.specs.FieldFaults.{BreaksMember}

@@ -1,5 +1,5 @@
 -- A stream of events as plain RecordIO: records one behind the other, each the JSON text of an event.
-use Rattle.std.specs.Prelude.{◌≡◌, ◌≢◌, ℕ, ◌+◌, ◌-◌, ◌^◌, ◌⊎◌, min, List, [], ◌∷◌, ◌++◌, length, codes}
+use Rattle.std.specs.Prelude.{◌≡◌, ℕ, ◌+◌, ◌-◌, ◌^◌, ◌⊎◌, min, List, [], ◌∷◌, ◌++◌, length}
 use Rattle.mes_json.specs.Place.{IsFault}
 use Rattle.mes_json.specs.declared.limits.TheConstants.{NESTING_LIMIT}
 use Rattle.mes_frame.specs.Record.{IsRecord, Begun, DataBegun, SizeShows}

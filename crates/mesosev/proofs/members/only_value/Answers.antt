@@ -1,4 +1,4 @@
-use Rattle.std.proofs.Common.{◌≡◌, Bool, true, false, bytes_eq, ap, sym, ◌∙◌, List, ℕ}
+use Rattle.std.proofs.Common.{sym, ◌∙◌}
 use Rattle.mesosev.proofs.FieldLemmas.{repeats, found_first, found_same}
 use Rattle.mesosev.proofs.members.only_value.Goals as goal
 use Rattle.mesosev.proofs.members.only_value.Goals.{then-eq+else-is_some, else-eq}

@@ -1,4 +1,4 @@
-use Rattle.std.proofs.Common.{◌≡◌, ◌<◌, ◌^◌, ℕ, arith}
+use Rattle.std.proofs.Common.{◌<◌, ◌^◌, ℕ, arith}
 use Rattle.clap.specs.Words.{found_of, rows_of}
 use Rattle.mesosev.proofs.LimitLemmas.{HasLimit-of_none, HasLimit-of_some, HasLimit-once, limit_none, limit_some}
 use Rattle.mesosev.specs.NamedOptions.{HasLimit}

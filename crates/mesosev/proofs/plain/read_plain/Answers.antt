@@ -1,4 +1,4 @@
-use Rattle.std.proofs.Common.{◌≡◌, ◌∙◌, length, arith}
+use Rattle.std.proofs.Common.{◌∙◌, length, arith}
 use Rattle.mesosev.proofs.PlainLemmas.{reads_more, reads_fail, reads_end, reads_spent, reads_halt}
 use Rattle.mesosev.proofs.plain.read_plain.Goals as goal
 

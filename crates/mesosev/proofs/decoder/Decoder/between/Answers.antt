@@ -1,4 +1,4 @@
-use Rattle.std.proofs.Common.{◌≡◌, true, false, sym, ◌∙◌}
+use Rattle.std.proofs.Common.{◌≡◌, true}
 use Rattle.mes_frame.proofs.Records.{begun_of}
 use Rattle.mesosev.proofs.decoder.Decoder.between.Goals as goal
 

@@ -1,8 +1,6 @@
-use Rattle.std.proofs.Common.{◌≡◌, ℕ, ◌+◌, ◌-◌, ◌<◌, ◌≤◌, List, [], ◌∷◌, ◌++◌, length, take, drop, sym, ◌∙◌, ap, append-nil, append_assoc, arith, refl, subst, length-drop, take_all}
+use Rattle.std.proofs.Common.{List, [], ◌++◌, length, take, sym, ◌∙◌, ap, append-nil, append_assoc, arith, refl, length-drop, take_all}
 use Rattle.std.proofs.lemmas.List.{take_rest}
 use Rattle.mes_frame.specs.RecordState.{limit_of}
-use Rattle.mesosev.specs.Decoding.{Stands}
-use Rattle.mesosev.specs.Stream.{ShowsAt}
 use Rattle.mesosev.specs.declared.event.Event.{Event}
 use Rattle.mesosev.proofs.DecoderLemmas.{stands_on, shows_on}
 use Rattle.mesosev.proofs.decoder.Decoder.feed.Goals as goal

@@ -1,12 +1,9 @@
-use Rattle.std.proofs.Common.{◌≡◌, ℕ, ◌+◌, ◌-◌, ◌<◌, ◌≤◌, List, [], ◌∷◌, ◌++◌, length, take, sym, ◌∙◌, ap, append-nil, arith, refl, rules}
-use Rattle.std.proofs.lemmas.Grind.{common_steps}
+use Rattle.std.proofs.Common.{ℕ, ◌+◌, List, [], ◌∷◌, ◌++◌, take, sym, ◌∙◌, ap, append-nil}
 use Rattle.std.proofs.Common.{subst}
 use Rattle.mes_frame.specs.RecordState.{limit_of}
 use Rattle.mes_frame.specs.declared.record.RecordState.{RecordState}
 use Rattle.mesosev.specs.Events.{Spells}
 use Rattle.mesosev.specs.Stream.{saturated}
-use Rattle.mesosev.specs.Decoding.{Stands}
-use Rattle.mesosev.specs.declared.event.Event.{Event}
 use Rattle.mesosev.specs.declared.decoder.Decoder.{Decoder}
 use Rattle.mesosev.proofs.DecoderLemmas.{stands_size, stands_data, stands_event, bad_front, lacks_room, refused_at, refused_as, run_kept}
 use Rattle.mesosev.proofs.decoder.Decoder.turn.Goals as goal

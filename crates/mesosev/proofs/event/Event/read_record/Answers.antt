@@ -1,10 +1,5 @@
-use Rattle.std.proofs.Common.{◌≡◌, sym, ◌∙◌, ap, subst}
 use Rattle.std.proofs.lemmas.Result.{err_from_is_err_and}
-use Rattle.mes_json.specs.Tree.{Tree}
 use Rattle.mes_json.specs.View.{view}
-use Rattle.mes_json.specs.declared.fault.ReadFault.{ReadFault}
-use Rattle.mesosev.specs.Events.{ReadsEvent}
-use Rattle.mesosev.specs.RecordFaults.{of_read, of_part}
 use Rattle.mesosev.proofs.EventLemmas.{one_event, read_only}
 use Rattle.mesosev.proofs.event.Event.read_record.Goals as goal
 
