@@ -12,8 +12,8 @@ use Rattle.mes_fixed.specs.declared.automaton.Part.TheVariants.{AtStart, AfterMi
 use Rattle.mes_fixed.specs.Number.{Numeral, Spells, IsMinus, IsInt, IsFrac, IsSign, IsExp, IsNumber}
 use Rattle.mes_fixed.specs.Automaton.{Letter, nought, digit, point, exponent, plus, dash, letter_of, number_next, is_final, Ends}
 use Rattle.mes_fixed.proofs.Letters.{LetterIs, letter_is, digit_is_value}
-use Rattle.mes_fixed.specs.Gathering.{gathered, blank}
-use Rattle.mes_fixed.proofs.Reading.{run, run_step, spelt_run, final_run}
+use Rattle.mes_fixed.specs.Gathering.{gathered, blank, run}
+use Rattle.mes_fixed.proofs.Reading.{run_step, spelt_run, final_run}
 
 -- P, and then Q
 pub record Then (P Q : List ℕ → Type 0) (text : List ℕ) : Type 0 where

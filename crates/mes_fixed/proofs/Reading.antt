@@ -1,5 +1,5 @@
 -- A number's text gathered into its parts along the automaton.
-use Rattle.std.proofs.Common.{◌≡◌, ℕ, Bool, true, false, List, [], ◌∷◌, ◌++◌, Option, Some, None, refl, sym, ◌∙◌, ap, if◌then◌else◌, append_assoc, inl, inr, arith}
+use Rattle.std.proofs.Common.{◌≡◌, ℕ, Bool, true, false, List, [], ◌∷◌, ◌++◌, Some, refl, sym, ◌∙◌, ap, append_assoc, inl, inr, arith}
 use Rattle.std.specs.Option.{option_and_then}
 use Rattle.std.specs.Str.Parse.{AllDigits, IsNumeral}
 use Rattle.std.proofs.lemmas.List.{append-nil}
@@ -7,13 +7,8 @@ use Rattle.mes_fixed.specs.declared.automaton.Part.{Part}
 use Rattle.mes_fixed.specs.declared.automaton.Part.TheVariants.{AtStart, AfterMinus, AfterZero, InWhole, AfterPoint, InFraction, AfterExponent, AfterSign, InExponent}
 use Rattle.mes_fixed.specs.Number.{Numeral, Spells, IsMinus, IsInt, IsFrac, IsSign, IsExp}
 use Rattle.mes_fixed.specs.Automaton.{nought, digit, point, exponent, letter_of, number_next, is_final}
-use Rattle.mes_fixed.specs.Gathering.{made, blank, gathered}
+use Rattle.mes_fixed.specs.Gathering.{made, blank, gathered, run}
 use Rattle.mes_fixed.proofs.Letters.{digit_step, letter_of_digit}
-
--- the parts behind the bytes, where a number ends there
-abbrev pub run : Part → Numeral → List ℕ → Option Numeral
-run part n [] = if is_final part then Some n else None
-run part n (c ∷ rest) = option_and_then (λ next. run next (gathered next c n) rest) (number_next part (letter_of c))
 
 pub run_step : (part next : Part) (n : Numeral) (c : ℕ) (rest : List ℕ) → number_next part (letter_of c) ≡ Some next → run part n (c ∷ rest) ≡ run next (gathered next c n) rest
 run_step part next n c rest e = ap (option_and_then (λ (p : Part). run p (gathered p c n) rest)) e

@@ -1,8 +1,10 @@
 -- The parts of a number as they are gathered byte by byte along the automaton.
-use Rattle.std.specs.Prelude.{◌≡◌, ℕ, ◌≤◌, Bool, true, false, List, [], ◌∷◌, ◌++◌, ◌==◌}
+use Rattle.std.specs.Prelude.{◌≡◌, ℕ, ◌≤◌, Bool, true, false, List, [], ◌∷◌, ◌++◌, ◌==◌, if◌then◌else◌, Option, Some, None}
+use Rattle.std.specs.Option.{option_and_then}
 use Rattle.mes_fixed.specs.declared.automaton.Part.{Part}
 use Rattle.mes_fixed.specs.declared.automaton.Part.TheVariants.{AtStart, AfterMinus, AfterZero, InWhole, InFraction, AfterSign, InExponent}
 use Rattle.mes_fixed.specs.Number.{Numeral}
+use Rattle.mes_fixed.specs.Automaton.{letter_of, number_next, is_final}
 
 -- a numeral of these parts
 abbrev pub made : Bool → List ℕ → List ℕ → Bool → List ℕ → Numeral
@@ -27,6 +29,11 @@ gathered InFraction c n = record n { fraction = n.fraction ++ c ∷ [] }
 gathered AfterSign c n = record n { lowers = c == 45 }
 gathered InExponent c n = record n { power = n.power ++ c ∷ [] }
 gathered _ c n = n
+
+-- the parts behind the bytes, where a number ends there
+abbrev pub run : Part → Numeral → List ℕ → Option Numeral
+run part n [] = if is_final part then Some n else None
+run part n (c ∷ rest) = option_and_then (λ next. run next (gathered next c n) rest) (number_next part (letter_of c))
 
 -- a digit of the exponent is a digit
 abbrev pub IsExponentDigit : Part → ℕ → Type 0

@@ -8,7 +8,7 @@ use Rattle.std.specs.Str.Parse.{AllDigits, digits_value}
 use Rattle.mes_frame.specs.Record.{SizeBegun, IsSize, IsRecord, DataBegun, SizeShows}
 use Rattle.mes_frame.specs.RecordReading.{RecordReading, ReadsRecord, Begins, Whole, Broken}
 use Rattle.mes_frame.specs.declared.fault.FrameFault.{FrameFault}
-use Rattle.mes_frame.specs.declared.fault.FrameFault.TheVariants.{BadSizeLine, SizeLineTooLong, RecordTooLarge}
+use Rattle.mes_frame.specs.declared.fault.FrameFault.TheVariants.{BadChunkLine, ChunkLineTooLong, ChunkTooLarge, BadChunkEnd, TrailersTooLong, BadSizeLine, SizeLineTooLong, RecordTooLarge}
 
 -- the digits x stop before `rest`: at the end, at a byte that is no digit, or because there are n of them
 abbrev pub Stops : ℕ → List ℕ → List ℕ → Type 0
@@ -126,6 +126,11 @@ found_fault : (limit b : ℕ) (x rest : List ℕ) (fault : FrameFault) → SizeS
 found_fault limit b x rest BadSizeLine (begun, other, bare) = found_bad limit b x rest begun other bare
 found_fault limit b x rest SizeLineTooLong (begun, full, digit) = found_long limit b x rest begun full digit
 found_fault limit b x rest RecordTooLarge (size, line, above) = found_large limit b x rest size line above
+found_fault limit b x rest BadChunkLine h = absurd h
+found_fault limit b x rest ChunkLineTooLong h = absurd h
+found_fault limit b x rest ChunkTooLarge h = absurd h
+found_fault limit b x rest BadChunkEnd h = absurd h
+found_fault limit b x rest TrailersTooLong h = absurd h
 
 found : (limit : ℕ) (w : List ℕ) (reading : RecordReading) → ReadsRecord limit w reading → Found limit w reading
 found limit w (Begins r) reads = elim reads [

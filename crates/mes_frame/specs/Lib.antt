@@ -5,3 +5,10 @@ pub mod Write
 pub mod Memory
 pub mod RecordReading
 pub mod StdDevice
+pub mod Chunk
+pub mod ChunkFront
+pub mod ChunkFaults
+pub mod ChunkReading
+pub mod ChunkState
+pub mod Frames
+pub mod Written

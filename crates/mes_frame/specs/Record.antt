@@ -6,7 +6,7 @@ use Rattle.std.specs.Prelude.{◌≡◌, ℕ, ◌+◌, ◌<◌, ◌≤◌, ◌�
 use Rattle.std.specs.Char.{digit_value}
 use Rattle.std.specs.Str.Parse.{AllDigits, digits_value}
 use Rattle.mes_frame.specs.declared.fault.FrameFault.{FrameFault}
-use Rattle.mes_frame.specs.declared.fault.FrameFault.TheVariants.{BadSizeLine, SizeLineTooLong, RecordTooLarge}
+use Rattle.mes_frame.specs.declared.fault.FrameFault.TheVariants.{BadChunkLine, ChunkLineTooLong, ChunkTooLarge, BadChunkEnd, TrailersTooLong, BadSizeLine, SizeLineTooLong, RecordTooLarge}
 
 -- 0 to 20 digits: a front of a record-size
 pub record SizeBegun (x : List ℕ) : Type 0 where
@@ -47,3 +47,9 @@ SizeShows x b limit BadSizeLine = SizeBegun x × (10 ≤ digit_value b) × (b �
 SizeShows x b limit SizeLineTooLong = SizeBegun x × (length x ≡ 20) × (digit_value b < 10)
 -- F9: the LF of a size line whose value is above the limit
 SizeShows x b limit RecordTooLarge = IsSize x × (b ≡ 10) × (limit < digits_value 10 x)
+-- F1 to F5 are faults of chunked bodies
+SizeShows x b limit BadChunkLine = ⊥
+SizeShows x b limit ChunkLineTooLong = ⊥
+SizeShows x b limit ChunkTooLarge = ⊥
+SizeShows x b limit BadChunkEnd = ⊥
+SizeShows x b limit TrailersTooLong = ⊥

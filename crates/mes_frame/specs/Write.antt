@@ -9,11 +9,11 @@ use Rattle.mes_frame.specs.declared.write.WriteWhy.TheVariants.{Device, Zero}
 abbrev pub NoneFails : Counts → Counts → Type 0
 NoneFails old new = (new.failures ≡ old.failures) × (new.idle ≡ old.idle)
 
--- the last call failed, or took no byte, and no call before it did
+-- one call failed, or took no byte of some: it was the last
 abbrev pub StopsWrite : WriteWhy → Counts → Counts → Type 0
 StopsWrite Device old new = (new.failures ≡ up old.failures 1) × (new.idle ≡ old.idle)
 StopsWrite Zero old new = (new.failures ≡ old.failures) × (new.idle ≡ up old.idle 1)
 
--- for n bytes there was a call, and there were n calls at most
+-- for n bytes there was a call with bytes to take, and there were n such calls at most
 abbrev pub CallsFor : ℕ → Counts → Counts → Type 0
 CallsFor n old new = (up old.calls (min n 1) ≤ new.calls) × (new.calls ≤ up old.calls n)

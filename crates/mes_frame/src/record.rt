@@ -103,9 +103,8 @@ impl RecordState {
     }
 
     /// Takes the next `count` bytes at once, all of them data of the record, and answers whether the record
-    /// ended with them. They do what as many steps do.
+    /// ended with them. They do what as many steps do; none change nothing.
     pub fn pass(&mut self, count: usize) -> bool
-        requires some { 0 < count }
         requires room { count ≤ room_of self.old }
         // What the answer means, behind x with the data r, for a run p of so many bytes.
         ensures passes { (x r p : List ℕ) → length p ≡ count → RecordStands self.old x r
@@ -115,10 +114,14 @@ impl RecordState {
         ensures fronts { (x r p : List ℕ) (k : ℕ) → length p ≡ count → k < count
             → RecordStands self.old x r → Begun (x ++ take k p) (r ++ take k p) (limit_of self.old) }
         ensures room { room_of self.new + count ≡ room_of self.old }
+        ensures none { count ≡ 0 → (result ≡ false) × (self.new ≡ self.old) }
 
         // What stays the same.
         ensures limit { limit_of self.new ≡ limit_of self.old }
     {
+        if count == 0 {
+            return false;
+        }
         let left = match self.place {
             Place::Data { left } => left,
             Place::Size { .. } => unreachable!(),

@@ -2,6 +2,9 @@
 use super::*;
 use std::test::Fail;
 
+mod chunks;
+mod writers;
+
 // The first answer that ends a record or the stream, and how many bytes had been taken then.
 fn first_end(limit: Limit, text: &[u8]) -> Option<(usize, RecordOut)> {
     let mut state = RecordState::new(limit);

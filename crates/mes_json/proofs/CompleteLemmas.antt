@@ -1,61 +1,36 @@
 -- Complete: the machine reads each text by the grammar to its tree.
-use Rattle.std.proofs.Common.{◌≡◌, ℕ, zero, suc, ◌+◌, ◌<◌, inl, inr, List, [], ◌∷◌, ◌++◌, length, Some, None, if◌then◌else◌, refl, ap, sym, ◌∙◌, subst, arith, append_assoc, append-nil, lt-ltb, encode_utf8}
-use Rattle.mes_json.specs.Tree.{Tree, Members}
-use Rattle.mes_json.specs.Tree.Tree.{string, object}
+--     complete_text      it does
+--     one_text           so bytes spell one tree at most
+use Rattle.std.proofs.Common.{◌≡◌, ℕ, zero, suc, ◌+◌, ◌<◌, inl, inr, List, [], ◌∷◌, ◌++◌, length, Some, None, if◌then◌else◌, refl, ap, sym, ◌∙◌, subst, arith, append_assoc, append-nil, lt-ltb}
+use Rattle.mes_json.specs.Tree.{Tree, Items, Members}
+use Rattle.mes_json.specs.Tree.Tree.{null, boolean, number, string, array, object}
+use Rattle.mes_json.specs.Tree.Items.{no_items, item}
 use Rattle.mes_json.specs.Tree.Members.{no_members, member}
-use Rattle.mes_json.specs.Grammar.{IsSpaces, IsChars, IsString, Spaced, IsMember, IsValue, AreMembers, MoreMembers, IsText}
-use Rattle.mes_json.specs.Grammar.IsChars.{none, some}
-use Rattle.mes_json.specs.Machine.{Frame, Purpose, start, step, run, ends, with_member, end_string, on_value, on_name, on_named, on_after}
+use Rattle.mes_json.specs.Grammar.{IsSpaces, IsString, Spaced, IsMember, IsValue, AreItems, MoreItems, AreMembers, MoreMembers, IsText}
+use Rattle.mes_json.specs.Machine.{State, Frame, start, step, run, ends, with_item, with_member, kind_of, on_value, on_first_item, on_name, on_after}
 use Rattle.mes_json.specs.Machine.State.{state}
-use Rattle.mes_json.specs.Machine.Frame.{frame}
-use Rattle.mes_json.specs.Machine.At.{value, name, quoted, named, after}
-use Rattle.mes_json.specs.Machine.Mid.{between}
-use Rattle.mes_json.specs.Machine.Purpose.{for_name, for_value}
+use Rattle.mes_json.specs.Machine.Frame.{frame, array_frame}
+use Rattle.mes_json.specs.Machine.Kind.{blank}
+use Rattle.mes_json.specs.Machine.At.{value, first_item, name, after}
 use Rattle.mes_json.proofs.Reach.{Follows, Reaches, Leads, leads, by_byte, then_to, reach_then, lead_then, over_spaces, follows_spaces}
-use Rattle.mes_json.proofs.Utf8Lemmas.{over_char}
+use Rattle.mes_json.proofs.StringReads.{over_string, over_spaced_name}
+use Rattle.mes_json.proofs.TokenReads.{over_null, over_boolean, over_number}
+use Rattle.mes_json.proofs.ArrayReads.{over_first, joined_items, joined_items_next, follows_more_items, opens_array, close_empty_array, close_last_item}
 
--- ---- strings
-over_chars : (d : ℕ) (fs : List Frame) (p : Purpose) (w b s : List ℕ) → IsChars b s → Reaches d (state fs (quoted p between w)) b (state fs (quoted p between (w ++ s)))
-over_chars d fs p w b s (none e f) = λ q. ap (λ (x : List ℕ). run d (state fs (quoted p between w)) (x ++ q)) e ∙ ap (λ (x : List ℕ). run d (state fs (quoted p between x)) q) (sym (append-nil w) ∙ ap (λ (x : List ℕ). w ++ x) (sym f))
-over_chars d fs p w b s (some first rest c others is is_rest e f) = λ q.
-    ap (λ (x : List ℕ). run d (state fs (quoted p between w)) (x ++ q)) e
-    ∙ then_to d _ _ _ first rest (over_char d fs p w first c is) (over_chars d fs p (w ++ encode_utf8 c) rest others is_rest) q
-    ∙ ap (λ (x : List ℕ). run d (state fs (quoted p between x)) q) (append_assoc w (encode_utf8 c) others ∙ ap (λ (x : List ℕ). w ++ x) (sym f))
-
-over_inside : (d : ℕ) (fs : List Frame) (p : Purpose) (s b : List ℕ) → IsString s b → (rest : List ℕ) → b ≡ 34 ∷ rest → Reaches d (state fs (quoted p between [])) rest (end_string fs p s)
-over_inside d fs p s b h rest e =
-    subst (λ (x : List ℕ). Reaches d (state fs (quoted p between [])) x (end_string fs p s)) same
-    (then_to d _ _ _ h.inside (34 ∷ []) (over_chars d fs p [] h.inside s h.chars) (by_byte d _ _ 34 refl))
-  where
-    same : h.inside ++ 34 ∷ [] ≡ rest
-    same = let f : 34 ∷ (h.inside ++ 34 ∷ []) ≡ 34 ∷ rest = sym h.is ∙ e in cc
-
-over_name : (d : ℕ) (fs : List Frame) (ms : Members) (k b : List ℕ) → IsString k b → Reaches d (state fs (name ms)) b (state fs (named ms k))
-over_name d fs ms k b h =
-    subst (λ (x : List ℕ). Reaches d (state fs (name ms)) x (state fs (named ms k))) (sym h.is)
-    (then_to d _ _ _ (34 ∷ []) (h.inside ++ 34 ∷ []) (by_byte d _ _ 34 refl) (over_inside d fs (for_name ms) k b h (h.inside ++ 34 ∷ []) h.is))
-
-over_string : (d : ℕ) (fs : List Frame) (s b : List ℕ) → IsString s b → Reaches d (state fs value) b (state fs (after (string s)))
-over_string d fs s b h =
-    subst (λ (x : List ℕ). Reaches d (state fs value) x (state fs (after (string s)))) (sym h.is)
-    (then_to d _ _ _ (34 ∷ []) (h.inside ++ 34 ∷ []) (by_byte d _ _ 34 refl) (over_inside d fs for_value s b h (h.inside ++ 34 ∷ []) h.is))
-
--- ---- blanks round them
-over_spaced_name : (d : ℕ) (fs : List Frame) (ms : Members) (k b : List ℕ) → Spaced (IsString k) b → Reaches d (state fs (name ms)) b (state fs (named ms k))
-over_spaced_name d fs ms k b h =
-    subst (λ (x : List ℕ). Reaches d (state fs (name ms)) x (state fs (named ms k))) (sym h.is)
-    (then_to d _ _ _ h.before (h.inside ++ h.after) (over_spaces d _ (λ c e. ap (on_name fs ms) e) h.before h.spaces_before)
-    (then_to d _ _ _ h.inside h.after (over_name d fs ms k h.inside h.has) (over_spaces d _ (λ c e. ap (on_named fs ms k) e) h.after h.spaces_after)))
-
+-- ---- blanks round a value
 after_spaces : (d : ℕ) (fs : List Frame) (t : Tree) (b : List ℕ) → IsSpaces b → Reaches d (state fs (after t)) b (state fs (after t))
 after_spaces d fs t b h = over_spaces d _ (λ c e. ap (on_after fs t) e) b h
 
-over_spaced : (d : ℕ) (fs : List Frame) (t : Tree) (It : List ℕ → Type 0) (b : List ℕ) → ((x : List ℕ) → It x → Leads d (state fs value) x (state fs (after t)))
-    → Spaced It b → Leads d (state fs value) b (state fs (after t))
-over_spaced d fs t It b over h =
-    subst (λ (x : List ℕ). Leads d (state fs value) x (state fs (after t))) (sym h.is)
-    (reach_then d _ _ _ h.before (h.inside ++ h.after) (over_spaces d _ (λ c e. ap (on_value d fs) e) h.before h.spaces_before)
+over_spaced : (d : ℕ) (s : State) (fs : List Frame) (t : Tree) (It : List ℕ → Type 0) (b : List ℕ) → ((c : ℕ) → kind_of c ≡ blank → step d s c ≡ Some s)
+    → ((x : List ℕ) → It x → Leads d s x (state fs (after t))) → Spaced It b → Leads d s b (state fs (after t))
+over_spaced d s fs t It b same over h =
+    subst (λ (x : List ℕ). Leads d s x (state fs (after t))) (sym h.is)
+    (reach_then d _ _ _ h.before (h.inside ++ h.after) (over_spaces d s same h.before h.spaces_before)
     (lead_then d _ _ _ h.inside h.after (follows_spaces h.after h.spaces_after) (over h.inside h.has) (leads d _ _ h.after (after_spaces d fs t h.after h.spaces_after))))
+
+over_spaced_value : (d : ℕ) (fs : List Frame) (t : Tree) (It : List ℕ → Type 0) (b : List ℕ) → ((x : List ℕ) → It x → Leads d (state fs value) x (state fs (after t)))
+    → Spaced It b → Leads d (state fs value) b (state fs (after t))
+over_spaced_value d fs t It b over h = over_spaced d (state fs value) fs t It b (λ c e. ap (on_value d fs) e) over h
 
 -- ---- members
 over_member : (d : ℕ) (fs : List Frame) (ms : Members) (k : List ℕ) (t : Tree) (It : List ℕ → Type 0) (b : List ℕ)
@@ -64,18 +39,18 @@ over_member : (d : ℕ) (fs : List Frame) (ms : Members) (k : List ℕ) (t : Tre
 over_member d fs ms k t It b over h =
     subst (λ (x : List ℕ). Leads d (state fs (name ms)) x (state (frame ms k ∷ fs) (after t))) (sym h.is)
     (reach_then d _ _ _ h.name (58 ∷ h.value) (over_spaced_name d fs ms k h.name h.is_name)
-    (reach_then d _ _ _ (58 ∷ []) h.value (by_byte d _ _ 58 refl) (over_spaced d (frame ms k ∷ fs) t It h.value over h.is_value)))
+    (reach_then d _ _ _ (58 ∷ []) h.value (by_byte d _ _ 58 refl) (over_spaced_value d (frame ms k ∷ fs) t It h.value over h.is_value)))
 
 -- the members ms and then others
-abbrev joined : Members → Members → Members
+abbrev pub joined : Members → Members → Members
 joined no_members others = others
 joined (member k t ms) others = member k t (joined ms others)
 
-joined_none : (ms : Members) → joined ms no_members ≡ ms
+pub joined_none : (ms : Members) → joined ms no_members ≡ ms
 joined_none no_members = refl
 joined_none (member k t ms) = ap (member k t) (joined_none ms)
 
-joined_next : (ms : Members) (k : List ℕ) (t : Tree) (others : Members) → joined (with_member ms k t) others ≡ joined ms (member k t others)
+pub joined_next : (ms : Members) (k : List ℕ) (t : Tree) (others : Members) → joined (with_member ms k t) others ≡ joined ms (member k t others)
 joined_next no_members k t others = refl
 joined_next (member j u ms) k t others = ap (member j u) (joined_next ms k t others)
 
@@ -83,7 +58,7 @@ follows_more : (ms : Members) (room : ℕ) (b : List ℕ) → MoreMembers ms roo
 follows_more no_members room b e q = subst (λ (x : List ℕ). Follows ((x ++ 125 ∷ []) ++ q)) (sym e) (inr (inr (inr refl)))
 follows_more (member k t ms) room b (rest, e, h) q = subst (λ (x : List ℕ). Follows ((x ++ 125 ∷ []) ++ q)) (sym e) (inr (inl refl))
 
--- ---- values, under the limit d with so much room
+-- ---- an object's two ends
 opens : (d : ℕ) (fs : List Frame) (room : ℕ) → length fs + suc room ≡ d → step d (state fs value) 123 ≡ Some (state fs (name no_members))
 opens d fs room e =
     let l : length fs < d = omega arith in
@@ -99,13 +74,43 @@ close_last d fs so k t b e =
     (subst (λ (ms : Members). Leads d (state (frame so k ∷ fs) (after t)) (125 ∷ []) (state fs (after (object ms)))) (sym (joined_none (with_member so k t)))
     (leads d _ _ (125 ∷ []) (by_byte d _ _ 125 refl)))
 
+-- ---- values, under the limit d with so much room
 mutual
   over_tree : (t : Tree) (d : ℕ) (fs : List Frame) (room : ℕ) (b : List ℕ) → length fs + room ≡ d → IsValue t room b → Leads d (state fs value) b (state fs (after t))
+  over_tree null d fs room b l h = leads d _ _ b (subst (λ (x : List ℕ). Reaches d (state fs value) x (state fs (after null))) (sym h) (over_null d fs))
+  over_tree (boolean y) d fs room b l h = leads d _ _ b (subst (λ (x : List ℕ). Reaches d (state fs value) x (state fs (after (boolean y)))) (sym h) (over_boolean d fs y))
+  over_tree (number n) d fs room b l h = subst (λ (x : List ℕ). Leads d (state fs value) x (state fs (after (number n)))) (sym h.0) (over_number d fs n h.1)
   over_tree (string s) d fs room b l h = leads d _ _ b (over_string d fs s b h)
+  over_tree (array ts) d fs zero b l h = absurd h
+  over_tree (array ts) d fs (suc room) b l h =
+      subst (λ (x : List ℕ). Leads d (state fs value) x (state fs (after (array ts)))) (sym h.1)
+      (reach_then d _ _ _ (91 ∷ []) (h.0 ++ 93 ∷ []) (by_byte d _ _ 91 (opens_array d fs room l)) (over_items ts d fs room h.0 l h.2))
   over_tree (object ms) d fs zero b l h = absurd h
   over_tree (object ms) d fs (suc room) b l h =
       subst (λ (x : List ℕ). Leads d (state fs value) x (state fs (after (object ms)))) (sym h.1)
       (reach_then d _ _ _ (123 ∷ []) (h.0 ++ 125 ∷ []) (by_byte d _ _ 123 (opens d fs room l)) (over_members ms d fs room h.0 l h.2))
+
+  over_items : (ts : Items) (d : ℕ) (fs : List Frame) (room : ℕ) (b : List ℕ) → length fs + suc room ≡ d → AreItems ts room b
+      → Leads d (state fs first_item) (b ++ 93 ∷ []) (state fs (after (array ts)))
+  over_items no_items d fs room b l h = leads d _ _ (b ++ 93 ∷ []) (close_empty_array d fs b h)
+  over_items (item t ts) d fs room b l h =
+      subst (λ (x : List ℕ). Leads d (state fs first_item) x (state fs (after (array (item t ts))))) (sym (ap (λ (x : List ℕ). x ++ 93 ∷ []) h.is ∙ append_assoc h.first h.rest (93 ∷ [])))
+      (lead_then d _ _ _ h.first (h.rest ++ 93 ∷ []) (λ q _. follows_more_items ts room h.rest h.is_rest q)
+      (over_spaced d (state fs first_item) (array_frame no_items ∷ fs) t (IsValue t room) h.first (λ c e. ap (on_first_item d fs) e)
+      (λ x g. over_first t d fs room x _ g (over_tree t d (array_frame no_items ∷ fs) room x (omega arith) g)) h.is_first)
+      (over_more_items ts d fs no_items t room h.rest l h.is_rest))
+
+  over_more_items : (ts : Items) (d : ℕ) (fs : List Frame) (so : Items) (t : Tree) (room : ℕ) (b : List ℕ) → length fs + suc room ≡ d → MoreItems ts room b
+      → Leads d (state (array_frame so ∷ fs) (after t)) (b ++ 93 ∷ []) (state fs (after (array (joined_items (with_item so t) ts))))
+  over_more_items no_items d fs so t room b l h = close_last_item d fs so t b h
+  over_more_items (item u ts) d fs so t room b l h =
+      subst (λ (x : List ℕ). Leads d (state (array_frame so ∷ fs) (after t)) x (state fs (after (array (joined_items (with_item so t) (item u ts))))))
+      (sym (ap (λ (x : List ℕ). x ++ 93 ∷ []) h.1 ∙ ap (λ (x : List ℕ). 44 ∷ (x ++ 93 ∷ [])) h.2.is ∙ ap (λ (x : List ℕ). 44 ∷ x) (append_assoc h.2.first h.2.rest (93 ∷ []))))
+      (subst (λ (x : Items). Leads d (state (array_frame so ∷ fs) (after t)) (44 ∷ (h.2.first ++ (h.2.rest ++ 93 ∷ []))) (state fs (after (array x)))) (joined_items_next (with_item so t) u ts)
+      (reach_then d _ _ _ (44 ∷ []) (h.2.first ++ (h.2.rest ++ 93 ∷ [])) (by_byte d _ (state (array_frame (with_item so t) ∷ fs) value) 44 refl)
+      (lead_then d _ _ _ h.2.first (h.2.rest ++ 93 ∷ []) (λ q _. follows_more_items ts room h.2.rest h.2.is_rest q)
+      (over_spaced_value d (array_frame (with_item so t) ∷ fs) u (IsValue u room) h.2.first (λ x g. over_tree u d (array_frame (with_item so t) ∷ fs) room x (omega arith) g) h.2.is_first)
+      (over_more_items ts d fs (with_item so t) u room h.2.rest l h.2.is_rest))))
 
   over_members : (ms : Members) (d : ℕ) (fs : List Frame) (room : ℕ) (b : List ℕ) → length fs + suc room ≡ d → AreMembers ms room b
       → Leads d (state fs (name no_members)) (b ++ 125 ∷ []) (state fs (after (object ms)))
@@ -131,7 +136,7 @@ mutual
 -- ---- texts
 pub complete_text : (d : ℕ) (b : List ℕ) (t : Tree) → IsText d b t → ends d start b ≡ Some t
 unfolding run
-complete_text d b t h = ap (ends d start) (sym (append-nil b)) ∙ over_spaced d [] t (IsValue t d) b (λ x g. over_tree t d [] d x (omega arith) g) h [] tt ∙ ended
+complete_text d b t h = ap (ends d start) (sym (append-nil b)) ∙ over_spaced_value d [] t (IsValue t d) b (λ x g. over_tree t d [] d x (omega arith) g) h [] tt ∙ ended
   where
     ended : ends d (state [] (after t)) [] ≡ Some t
     ended = refl

@@ -1,14 +1,19 @@
 -- By the grammar, what the bytes are that a state of the machine has read.
 use Rattle.std.proofs.Common.{◌≡◌, ℕ, zero, suc, ◌≤◌, List, [], ◌∷◌, ◌++◌, encode_utf8}
-use Rattle.mes_json.specs.Tree.{Tree, Members}
+use Rattle.mes_fixed.specs.Automaton.{Ends}
+use Rattle.mes_fixed.specs.declared.automaton.Part.TheVariants.{AtStart}
+use Rattle.mes_json.specs.Tree.{Tree, Items, Members}
+use Rattle.mes_json.specs.Tree.Items.{no_items, item}
 use Rattle.mes_json.specs.Tree.Members.{no_members, member}
-use Rattle.mes_json.specs.Grammar.{IsSpaces, IsChar, IsChars, IsString, IsValue, AreMembers}
-use Rattle.mes_json.specs.Machine.{State, Frame, Purpose, Mid}
+use Rattle.mes_json.specs.Grammar.{IsSpaces, IsChar, IsChars, IsString, IsValue, AreItems, AreMembers}
+use Rattle.mes_json.specs.Machine.{State, Frame, Purpose, Mid, Token}
 use Rattle.mes_json.specs.Machine.State.{state}
-use Rattle.mes_json.specs.Machine.Frame.{frame}
+use Rattle.mes_json.specs.Machine.Frame.{frame, array_frame}
 use Rattle.mes_json.specs.Machine.Purpose.{for_name, for_value}
-use Rattle.mes_json.specs.Machine.At.{value, name, quoted, named, after}
-use Rattle.mes_json.specs.Machine.Mid.{between, within}
+use Rattle.mes_json.specs.Machine.Token.{literal, digits}
+use Rattle.mes_json.specs.Machine.At.{value, first_item, name, quoted, named, token, after}
+use Rattle.mes_json.specs.Machine.Mid.{between, within, escape}
+use Rattle.mes_json.proofs.HeldEscape.{InEscape}
 
 -- ---- strings
 -- so many bytes, the first from least to most and each other one from 80 to BF
@@ -26,6 +31,13 @@ abbrev pub PartOf : Mid → List ℕ → Type 0
 PartOf between part = part ≡ []
 PartOf (within zero least most) part = ⊥
 PartOf (within (suc n) least most) part = IsPart (suc n) least most part
+PartOf (escape e) part = InEscape e part
+
+-- the bytes of the part that stand in the text as they are
+abbrev pub kept : Mid → List ℕ → List ℕ
+kept between part = part
+kept (within n least most) part = part
+kept (escape e) part = []
 
 pub record InString (m : Mid) (s : List ℕ) (b : List ℕ) : Type 0 where
   pub whole : List ℕ
@@ -33,7 +45,7 @@ pub record InString (m : Mid) (s : List ℕ) (b : List ℕ) : Type 0 where
   pub words : List ℕ
   pub is : b ≡ whole ++ part
   pub chars : IsChars whole words
-  pub text : s ≡ words ++ part
+  pub text : s ≡ words ++ kept m part
   pub part_of : PartOf m part
 
 pub record InQuotes (Outside : List ℕ → Type 0) (m : Mid) (s : List ℕ) (b : List ℕ) : Type 0 where
@@ -76,10 +88,26 @@ pub record Called (Outside : ℕ → List ℕ → Type 0) (ms : Members) (k : Li
   pub name : Named Outside ms k room front
   pub are_spaces : IsSpaces spaces
 
--- what stands before a value in these open objects, where the value may nest as deep as the room
+-- ---- arrays
+-- what stands in an array before an item
+abbrev pub BeforeItem : Items → ℕ → List ℕ → Type 0
+BeforeItem no_items room b = b ≡ []
+BeforeItem (item t ts) room b = (front : List ℕ) × (b ≡ front ++ 44 ∷ []) × AreItems (item t ts) room front
+
+pub record InArray (Outside : ℕ → List ℕ → Type 0) (ts : Items) (room : ℕ) (b : List ℕ) : Type 0 where
+  pub outer : List ℕ
+  pub led : List ℕ
+  pub spaces : List ℕ
+  pub is : b ≡ outer ++ 91 ∷ (led ++ spaces)
+  pub outside : Outside (suc room) outer
+  pub before : BeforeItem ts room led
+  pub are_spaces : IsSpaces spaces
+
+-- what stands before a value in these open objects and arrays, where the value may nest as deep as the room
 abbrev pub HeldStack : ℕ → List Frame → ℕ → List ℕ → Type 0
 HeldStack d [] room b = (room ≡ d) × IsSpaces b
 HeldStack d (frame ms k ∷ fs) room b = Called (HeldStack d fs) ms k room b
+HeldStack d (array_frame ts ∷ fs) room b = InArray (HeldStack d fs) ts room b
 
 pub record Valued (Outside : List ℕ → Type 0) (t : Tree) (room : ℕ) (b : List ℕ) : Type 0 where
   pub front : List ℕ
@@ -90,6 +118,19 @@ pub record Valued (Outside : List ℕ → Type 0) (t : Tree) (room : ℕ) (b : L
   pub is_value : IsValue t room inside
   pub are_spaces : IsSpaces spaces
 
+-- ---- literals and numbers
+-- what the bytes of one are, by what completes it
+abbrev pub HeldToken : Token → List ℕ → Type 0
+HeldToken (literal e rest t) b = (room : ℕ) → IsValue t room (b ++ e ∷ rest)
+HeldToken (digits part n) b = (b ≡ n) × ((q : List ℕ) → Ends part q → Ends AtStart (n ++ q))
+
+pub record InToken (Outside : List ℕ → Type 0) (x : Token) (b : List ℕ) : Type 0 where
+  pub front : List ℕ
+  pub inside : List ℕ
+  pub is : b ≡ front ++ inside
+  pub outside : Outside front
+  pub held : HeldToken x inside
+
 -- what stands before a string
 abbrev pub HeldFor : ℕ → List Frame → Purpose → ℕ → List ℕ → Type 0
 HeldFor d fs (for_name ms) room b = InObject (HeldStack d fs) ms room b
@@ -97,7 +138,9 @@ HeldFor d fs for_value room b = HeldStack d fs room b
 
 abbrev pub Held : ℕ → State → List ℕ → Type 0
 Held d (state fs value) b = (room : ℕ) × HeldStack d fs room b
+Held d (state fs first_item) b = (room : ℕ) × InArray (HeldStack d fs) no_items room b
 Held d (state fs (name ms)) b = (room : ℕ) × InObject (HeldStack d fs) ms room b
 Held d (state fs (quoted p m s)) b = (room : ℕ) × InQuotes (HeldFor d fs p room) m s b
 Held d (state fs (named ms k)) b = (room : ℕ) × Named (HeldStack d fs) ms k room b
+Held d (state fs (token x)) b = (room : ℕ) × InToken (HeldStack d fs room) x b
 Held d (state fs (after t)) b = (room : ℕ) × Valued (HeldStack d fs room) t room b

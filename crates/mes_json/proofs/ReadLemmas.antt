@@ -1,51 +1,76 @@
 -- What a reading that stops or comes to the end says of the bytes.
-use Rattle.std.proofs.Common.{◌≡◌, ℕ, ◌<◌, ◌≤◌, List, length, get_or, take, Option, Some, None, option_map, ap, sym, ◌∙◌, subst, take_all}
+--     stops_at                       the reader stops at a byte
+--     stopped_only, stopped_fault    so the bytes are no text, and this is their fault (stuck_no_text, stuck_fault: not for want of memory)
+--     tape_read, tape_only           the bytes end, and a tape is found
+--     ended_no_text, ended_fault     the bytes end, and none is
+use Rattle.std.proofs.Common.{◌≡◌, ℕ, ◌<◌, List, length, get_or, take, Option, Some, None, option_map, refl, ap, sym, ◌∙◌, subst}
 use Rattle.mes_json.specs.Tree.{Tree}
 use Rattle.mes_json.specs.Grammar.{IsText}
 use Rattle.mes_json.specs.Machine.{State, start, run, finish}
-use Rattle.mes_json.specs.Place.{IsReadFault}
+use Rattle.mes_json.specs.Place.{IsFault, IsReadFault}
 use Rattle.mes_json.specs.Reader.{Stops}
-use Rattle.mes_json.specs.Read.{fault_at}
-use Rattle.mes_json.specs.View.{view}
+use Rattle.mes_json.specs.Read.{fault_at, Stuck, StopsIn}
+use Rattle.mes_json.specs.Tokens.{Token, tokens}
 use Rattle.mes_json.specs.declared.limits.TheConstants.{NESTING_LIMIT}
+use Rattle.mes_json.specs.declared.fault.TextFault.{TextFault}
 use Rattle.mes_json.specs.declared.fault.Why.TheVariants.{End}
 use Rattle.mes_json.specs.declared.fault.ReadFault as fault
-use Rattle.mes_json.specs.declared.reader.Stop.{Stop}
-use Rattle.mes_json.specs.declared.reader.Stop.TheVariants.{Refused, NoMemory}
-use Rattle.mes_json.specs.declared.value.Json.{Json}
+use Rattle.mes_json.specs.declared.stop.Stop.{Stop}
+use Rattle.mes_json.specs.declared.stop.Stop.TheVariants.{Refused, NoMemory}
 use Rattle.mes_json.proofs.PlaceLemmas.{refused, ended, finished, finished_only, no_text, no_text_ended}
 
-pub stopped_only : (b : List ℕ) (n : ℕ) (s : State) (stop : Stop) (e : fault.ReadFault) → e ≡ fault_at n stop → n < length b → run NESTING_LIMIT start (take n b) ≡ Some s
-    → Stops stop s (get_or b n 0) → (t : Tree) → IsText NESTING_LIMIT b t → e ≡ fault.TheVariants.NoMemory
-stopped_only b n s (Refused why) e is inside reached stops t h = absurd (no_text NESTING_LIMIT b n s inside reached stops.stuck t h)
-stopped_only b n s NoMemory e is inside reached stops t h = is
+pub stops_at : (s next : State) (b : List ℕ) (n : ℕ) (stop : Stop) (e : fault.ReadFault) → e ≡ fault_at n stop → n < length b → run NESTING_LIMIT s (take n b) ≡ Some next
+    → Stops stop next (get_or b n 0) → StopsIn s b e
+stops_at s next b n (Refused why) e is inside reached stops =
+    subst (λ (x : fault.ReadFault). StopsIn s b x) (sym is) (record { inside = inside; before = next; reached = reached; refuses = stops })
+stops_at s next b n NoMemory e is inside reached stops = subst (λ (x : fault.ReadFault). StopsIn s b x) (sym is) tt
 
-pub stopped_fault : (b : List ℕ) (n : ℕ) (s : State) (stop : Stop) (e : fault.ReadFault) → e ≡ fault_at n stop → n < length b → run NESTING_LIMIT start (take n b) ≡ Some s
-    → Stops stop s (get_or b n 0) → IsReadFault NESTING_LIMIT b e
-stopped_fault b n s (Refused why) e is inside reached stops = subst (λ (x : fault.ReadFault). IsReadFault NESTING_LIMIT b x) (sym is) (refused NESTING_LIMIT b n s why inside reached stops)
-stopped_fault b n s NoMemory e is inside reached stops = subst (λ (x : fault.ReadFault). IsReadFault NESTING_LIMIT b x) (sym is) tt
+pub stuck_fault : (b : List ℕ) (f : TextFault) → Stuck start b f → IsFault NESTING_LIMIT b f
+stuck_fault b f stuck = refused NESTING_LIMIT b f.byte stuck.before f.why stuck.inside stuck.reached stuck.refuses
 
--- a run over as many bytes as there are is a run over them all
-pub whole_run : (b : List ℕ) (n : ℕ) (s : State) → length b ≤ n → run NESTING_LIMIT start (take n b) ≡ Some s → run NESTING_LIMIT start b ≡ Some s
-whole_run b n s all reached = ap (run NESTING_LIMIT start) (sym (take_all n b all)) ∙ reached
+pub stuck_no_text : (b : List ℕ) (f : TextFault) → Stuck start b f → (t : Tree) → IsText NESTING_LIMIT b t → ⊥
+stuck_no_text b f stuck t h = no_text NESTING_LIMIT b f.byte stuck.before stuck.inside stuck.reached stuck.refuses.stuck t h
 
-pub whole_read : (b : List ℕ) (s : State) (found : Option Json) (json : Json) → run NESTING_LIMIT start b ≡ Some s → option_map view found ≡ finish s → found ≡ Some json
-    → IsText NESTING_LIMIT b (view json)
-whole_read b s found json reached is some = finished NESTING_LIMIT b s (view json) reached (sym is ∙ ap (option_map view) some)
+pub stopped_fault : (b : List ℕ) (e : fault.ReadFault) → StopsIn start b e → IsReadFault NESTING_LIMIT b e
+stopped_fault b (fault.TheVariants.Text f) stops = stuck_fault b f stops
+stopped_fault b fault.TheVariants.NoMemory stops = tt
 
-pub whole_only : (b : List ℕ) (s : State) (found : Option Json) (json : Json) → run NESTING_LIMIT start b ≡ Some s → option_map view found ≡ finish s → found ≡ Some json
-    → (t : Tree) → IsText NESTING_LIMIT b t → view json ≡ t
-whole_only b s found json reached is some t h =
-    let both : Some (view json) ≡ Some t = ap (option_map view) (sym some) ∙ is ∙ finished_only NESTING_LIMIT b s t reached h in cc
+pub stopped_only : (b : List ℕ) (e : fault.ReadFault) → StopsIn start b e → (t : Tree) → IsText NESTING_LIMIT b t → e ≡ fault.TheVariants.NoMemory
+stopped_only b (fault.TheVariants.Text f) stops t h = absurd (stuck_no_text b f stops t h)
+stopped_only b fault.TheVariants.NoMemory stops t h = refl
 
-nothing_finished : (s : State) (found : Option Json) → option_map view found ≡ finish s → (let none : Option Json = None in found ≡ none) → (let none : Option Tree = None in finish s ≡ none)
-nothing_finished s found is none = sym is ∙ ap (option_map view) none
+pub tape_read : (b : List ℕ) (s : State) (found : Option (List Token)) (tape : List Token) → run NESTING_LIMIT start b ≡ Some s → found ≡ option_map tokens (finish s)
+    → found ≡ Some tape → (t : Tree) × IsText NESTING_LIMIT b t × (tape ≡ tokens t)
+tape_read b s found tape reached is some = by (finish s) refl is
+  where
+    by : (o : Option Tree) → finish s ≡ o → found ≡ option_map tokens o → (t : Tree) × IsText NESTING_LIMIT b t × (tape ≡ tokens t)
+    by None finds e = cc
+    by (Some t) finds e = (t, finished NESTING_LIMIT b s t reached finds, cc)
 
-pub ended_only : (b : List ℕ) (s : State) (found : Option Json) (e : fault.ReadFault) → run NESTING_LIMIT start b ≡ Some s → option_map view found ≡ finish s
-    → (let none : Option Json = None in found ≡ none) → (t : Tree) → IsText NESTING_LIMIT b t → e ≡ fault.TheVariants.NoMemory
-ended_only b s found e reached is none t h = absurd (no_text_ended NESTING_LIMIT b s reached (nothing_finished s found is none) t h)
+pub tape_only : (b : List ℕ) (s : State) (found : Option (List Token)) (tape : List Token) → run NESTING_LIMIT start b ≡ Some s → found ≡ option_map tokens (finish s)
+    → found ≡ Some tape → (t : Tree) → IsText NESTING_LIMIT b t → tape ≡ tokens t
+tape_only b s found tape reached is some t h =
+    let both : Some tape ≡ Some (tokens t) = sym some ∙ is ∙ ap (option_map tokens) (finished_only NESTING_LIMIT b s t reached h) in cc
 
-pub ended_fault : (b : List ℕ) (s : State) (found : Option Json) (e : fault.ReadFault) → run NESTING_LIMIT start b ≡ Some s → option_map view found ≡ finish s
-    → (let none : Option Json = None in found ≡ none) → e ≡ fault_at (length b) (Refused End) → IsReadFault NESTING_LIMIT b e
-ended_fault b s found e reached is none at_end =
-    subst (λ (x : fault.ReadFault). IsReadFault NESTING_LIMIT b x) (sym at_end) (ended NESTING_LIMIT b s reached (nothing_finished s found is none))
+nothing_finished : (s : State) (found : Option (List Token)) → found ≡ option_map tokens (finish s) → (let none : Option (List Token) = None in found ≡ none)
+    → (let none : Option Tree = None in finish s ≡ none)
+nothing_finished s found is none = by (finish s) is
+  where
+    by : (o : Option Tree) → found ≡ option_map tokens o → (let none : Option Tree = None in o ≡ none)
+    by None e = refl
+    by (Some t) e = cc
+
+pub ended_no_text : (b : List ℕ) (s : State) (found : Option (List Token)) → run NESTING_LIMIT start b ≡ Some s → found ≡ option_map tokens (finish s)
+    → (let none : Option (List Token) = None in found ≡ none) → (t : Tree) → IsText NESTING_LIMIT b t → ⊥
+ended_no_text b s found reached is none t h = no_text_ended NESTING_LIMIT b s reached (nothing_finished s found is none) t h
+
+pub ended_fault : (b : List ℕ) (s : State) (found : Option (List Token)) → run NESTING_LIMIT start b ≡ Some s → found ≡ option_map tokens (finish s)
+    → (let none : Option (List Token) = None in found ≡ none) → IsFault NESTING_LIMIT b (record { byte = length b; why = End })
+ended_fault b s found reached is none = ended NESTING_LIMIT b s reached (nothing_finished s found is none)
+
+-- a reader that begins is at the start
+pub stopped_at_start : (s : State) (b : List ℕ) (e : fault.ReadFault) → s ≡ start → StopsIn s b e → StopsIn start b e
+stopped_at_start s b e is stops = subst (λ (x : State). StopsIn x b e) is stops
+
+pub ran_from_start : (s : State) (b : List ℕ) (next : State) → s ≡ start → run NESTING_LIMIT s b ≡ Some next → run NESTING_LIMIT start b ≡ Some next
+ran_from_start s b next is runs = subst (λ (x : State). run NESTING_LIMIT x b ≡ Some next) is runs

@@ -1,54 +1,83 @@
 -- How a change of the reader moves the state that it stands for.
 --     view_at, form_at      the state, and its form, at a known place
+--     covered_at            what the spans have, there
 --     Owes, by_result       what a method owes of a result, by its cases
 --     Moves, moved          one more node on the tape
-use Rattle.std.proofs.Common.{◌≡◌, ℕ, ◌≤◌, List, length, drop, Some, Result, Ok, Err, OnOk, IfErr, ap, sym, ◌∙◌, subst}
+--     begun_.., kept_..     a text begins, or grows
+--     gives_as              two states from which a byte leads to the same one
+use Rattle.std.proofs.Common.{◌≡◌, ℕ, ◌+◌, ◌≤◌, List, ◌++◌, length, drop, Some, Result, Ok, Err, OnOk, IfErr, ap, sym, ◌∙◌, subst, arith, length-append}
+use Rattle.std.proofs.lemmas.Grind.{common_steps}
+use Rattle.std.proofs.lemmas.List.{drop-append-le}
 use Rattle.mes_json.specs.Machine.{State, step, start}
-use Rattle.mes_json.specs.Tape.{spelled, apply, HasSpan, Takes, IsTape}
-use Rattle.mes_json.specs.Reader.{due_at, with_string, state_view, IsAt, Fits, Stops, Gives, Puts}
+use Rattle.mes_json.specs.Refusal.{IsRefusal}
+use Rattle.mes_json.specs.Tape.{spelled, apply, span_length, spanned, HasSpan, Takes, IsTape}
+use Rattle.mes_json.specs.Reader.{due_at, with_read, read_from, state_view, IsAt, Fits, Stops, Gives, Puts, Keeps, Begins}
 use Rattle.mes_json.specs.declared.limits.TheConstants.{NESTING_LIMIT}
-use Rattle.mes_json.specs.declared.reader.At as at
-use Rattle.mes_json.specs.declared.reader.Stop.{Stop}
-use Rattle.mes_json.specs.declared.reader.Stop.TheVariants.{NoMemory}
+use Rattle.mes_json.specs.declared.fault.Why.{Why}
+use Rattle.mes_json.specs.declared.fault.Why.TheVariants.{End, Depth, Byte}
+use Rattle.mes_json.specs.declared.nesting.Open.{Open}
+use Rattle.mes_json.specs.declared.at.At as at
+use Rattle.mes_json.specs.declared.stop.Stop.{Stop}
+use Rattle.mes_json.specs.declared.stop.Stop.TheVariants.{Refused, NoMemory}
 use Rattle.mes_json.specs.declared.reader.Reader.{Reader}
 use Rattle.mes_json.specs.declared.tape.Node.{Node}
-use Rattle.mes_json.proofs.TapeLemmas.{spelled_last, tape_last}
+use Rattle.mes_json.proofs.TapeLemmas.{spelled_last, spanned_last, spelled_grows, tape_last, tape_grows}
 
--- the state of the tape of a reader at that place
+-- the state of the tape of a reader, and the same at that place
+abbrev pub tape_of : Reader → State
+tape_of r = spelled r.text.items r.nodes.items
+
 abbrev pub due : at.At → Reader → State
-due a r = due_at a (spelled r.text.items r.nodes.items)
+due a r = due_at a (tape_of r)
 
-pub view_at : (r : Reader) (a : at.At) → r.at ≡ a → state_view r ≡ with_string a (drop r.start r.text.items) (due a r)
-view_at r a e = ap (λ (x : at.At). with_string x (drop r.start r.text.items) (due x r)) e
+-- the bytes of the text that is read
+abbrev pub part : Reader → List ℕ
+part r = drop r.start r.text.items
 
-pub form_at : (r : Reader) (a : at.At) → r.at ≡ a → Fits r → IsAt a r.depth (due a r)
-form_at r a e h = subst (λ (x : at.At). IsAt x r.depth (due x r)) e h.at
+pub view_at : (r : Reader) (a : at.At) → r.at ≡ a → state_view r ≡ with_read a (part r) (due a r)
+view_at r a e = ap (λ (x : at.At). with_read x (part r) (due x r)) e
+
+pub form_at : (r : Reader) (a : at.At) → r.at ≡ a → Fits r → IsAt a r.nesting.items (due a r)
+form_at r a e h = subst (λ (x : at.At). IsAt x r.nesting.items (due x r)) e h.at
+
+pub covered_at : (r : Reader) (a : at.At) → r.at ≡ a → Fits r → read_from a r.start (length r.text.items) ≤ spanned r.nodes.items
+covered_at r a e h = subst (λ (x : at.At). read_from x r.start (length r.text.items) ≤ spanned r.nodes.items) e h.covered
 
 -- ---- one more node
-put_fits : (old new : Reader) (x : Node) (a : at.At) → IsTape old.text.items old.nodes.items → old.start ≤ length old.text.items
-    → HasSpan old.text.items x → Takes (spelled old.text.items old.nodes.items) x
-    → IsAt a old.depth (due_at a (apply old.text.items x (spelled old.text.items old.nodes.items))) → Puts old x a new → Fits new
-put_fits old new x a tape inside has takes form puts =
-    let pushed : spelled new.text.items new.nodes.items ≡ apply old.text.items x (spelled old.text.items old.nodes.items) =
+put_covered : (old new : Reader) (n : List Open) (x : Node) (a : at.At) → read_from a old.start (length old.text.items) ≤ spanned old.nodes.items + span_length x
+    → Puts old n x a new → read_from new.at new.start (length new.text.items) ≤ spanned new.nodes.items
+put_covered old new n x a covers puts =
+    subst (λ (p : at.At). read_from p new.start (length new.text.items) ≤ spanned new.nodes.items) (sym puts.at)
+    (subst (λ (k : ℕ). read_from a k (length new.text.items) ≤ spanned new.nodes.items) (sym puts.start)
+    (subst (λ (b : List ℕ). read_from a old.start (length b) ≤ spanned new.nodes.items) (sym puts.text)
+    (subst (λ (xs : List Node). read_from a old.start (length old.text.items) ≤ spanned xs) (sym puts.nodes)
+    (subst (λ (k : ℕ). read_from a old.start (length old.text.items) ≤ k) (sym (spanned_last old.nodes.items x)) covers))))
+
+pub put_fits : (old new : Reader) (n : List Open) (x : Node) (a : at.At) → IsTape old.text.items old.nodes.items → old.start ≤ length old.text.items
+    → read_from a old.start (length old.text.items) ≤ spanned old.nodes.items + span_length x
+    → HasSpan old.text.items x → Takes (tape_of old) x → IsAt a n (due_at a (apply old.text.items x (tape_of old))) → Puts old n x a new → Fits new
+put_fits old new n x a tape inside covers has takes form puts =
+    let pushed : tape_of new ≡ apply old.text.items x (tape_of old) =
     ap (λ (b : List ℕ). spelled b new.nodes.items) puts.text ∙ ap (λ (xs : List Node). spelled old.text.items xs) puts.nodes
     ∙ spelled_last old.text.items start old.nodes.items x in
     record {
-      at = subst (λ (p : at.At). IsAt p new.depth (due p new)) (sym puts.at)
-          (subst (λ (n : ℕ). IsAt a n (due a new)) (sym puts.depth)
-          (subst (λ (s : State). IsAt a old.depth (due_at a s)) (sym pushed) form));
+      at = subst (λ (p : at.At). IsAt p new.nesting.items (due p new)) (sym puts.at)
+          (subst (λ (k : List Open). IsAt a k (due a new)) (sym puts.nesting_is)
+          (subst (λ (s : State). IsAt a n (due_at a s)) (sym pushed) form));
       tape = subst (λ (b : List ℕ). IsTape b new.nodes.items) (sym puts.text)
           (subst (λ (xs : List Node). IsTape old.text.items xs) (sym puts.nodes) (tape_last old.text.items old.nodes.items x tape has takes));
-      start = subst (λ (n : ℕ). n ≤ length new.text.items) (sym puts.start) (subst (λ (b : List ℕ). old.start ≤ length b) (sym puts.text) inside);
+      start = subst (λ (k : ℕ). k ≤ length new.text.items) (sym puts.start) (subst (λ (b : List ℕ). old.start ≤ length b) (sym puts.text) inside);
+      covered = put_covered old new n x a covers puts;
     }
 
-put_view : (old new : Reader) (x : Node) (a : at.At) → Puts old x a new
-    → state_view new ≡ with_string a (drop old.start old.text.items) (due_at a (apply old.text.items x (spelled old.text.items old.nodes.items)))
-put_view old new x a puts =
+pub put_view : (old new : Reader) (n : List Open) (x : Node) (a : at.At) → Puts old n x a new
+    → state_view new ≡ with_read a (part old) (due_at a (apply old.text.items x (tape_of old)))
+put_view old new n x a puts =
     view_at new a puts.at
-    ∙ ap (λ (n : ℕ). with_string a (drop n new.text.items) (due a new)) puts.start
-    ∙ ap (λ (b : List ℕ). with_string a (drop old.start b) (due_at a (spelled b new.nodes.items))) puts.text
-    ∙ ap (λ (xs : List Node). with_string a (drop old.start old.text.items) (due_at a (spelled old.text.items xs))) puts.nodes
-    ∙ ap (λ (s : State). with_string a (drop old.start old.text.items) (due_at a s)) (spelled_last old.text.items start old.nodes.items x)
+    ∙ ap (λ (k : ℕ). with_read a (drop k new.text.items) (due a new)) puts.start
+    ∙ ap (λ (b : List ℕ). with_read a (drop old.start b) (due_at a (spelled b new.nodes.items))) puts.text
+    ∙ ap (λ (xs : List Node). with_read a (part old) (due_at a (spelled old.text.items xs))) puts.nodes
+    ∙ ap (λ (s : State). with_read a (part old) (due_at a s)) (spelled_last old.text.items start old.nodes.items x)
 
 -- what a method owes of a result
 abbrev pub Owes : {A : Type 0} → Result A Stop → State → ℕ → Reader → Type 0
@@ -61,18 +90,110 @@ by_result (Ok u) s c new Done gives fits ok err = (gives ok, fits ok)
 by_result (Err e) s c new Done gives fits ok err = (subst (λ (stop : Stop). Stops stop s c) (sym err) tt, tt)
 
 -- the byte c leads from the state that is shown to the place a, and the tape gets the node x
-pub record Moves (texts b : List ℕ) (s shown : State) (c : ℕ) (x : Node) (a : at.At) (depth : ℕ) : Type 0 where
+pub record Moves (texts b : List ℕ) (s shown : State) (c : ℕ) (x : Node) (a : at.At) (n : List Open) : Type 0 where
   pub takes : Takes s x
-  pub gives : step NESTING_LIMIT shown c ≡ Some (with_string a b (due_at a (apply texts x s)))
-  pub form : IsAt a depth (due_at a (apply texts x s))
+  pub gives : step NESTING_LIMIT shown c ≡ Some (with_read a b (due_at a (apply texts x s)))
+  pub form : IsAt a n (due_at a (apply texts x s))
 
-pub moved : {A : Type 0} (old new : Reader) (result : Result A Stop) (c : ℕ) (from to : at.At) (x : Node) (depth : ℕ) → Fits old → old.at ≡ from
-    → HasSpan old.text.items x
-    → Moves old.text.items (drop old.start old.text.items) (spelled old.text.items old.nodes.items) (with_string from (drop old.start old.text.items) (due from old)) c x to depth
-    → OnOk result (Puts (record old { depth = depth }) x to new) → IfErr result (λ e. e ≡ NoMemory) → Owes result (state_view old) c new
-moved old new result c from to x depth fits is_at has moves ok err =
+pub moved : {A : Type 0} (old new : Reader) (result : Result A Stop) (c : ℕ) (from to : at.At) (x : Node) (n : List Open) → Fits old → old.at ≡ from
+    → (read_from from old.start (length old.text.items) ≤ spanned old.nodes.items → read_from to old.start (length old.text.items) ≤ spanned old.nodes.items + span_length x)
+    → HasSpan old.text.items x → Moves old.text.items (part old) (tape_of old) (with_read from (part old) (due from old)) c x to n
+    → OnOk result (Puts old n x to new) → IfErr result (λ e. e ≡ NoMemory) → Owes result (state_view old) c new
+moved old new result c from to x n fits is_at covers has moves ok err =
     by_result result (state_view old) c new _
-    (λ (puts : Puts (record old { depth = depth }) x to new).
-    ap (λ (s : State). step NESTING_LIMIT s c) (view_at old from is_at) ∙ moves.gives ∙ ap (λ (s : State). Some s) (sym (put_view _ new x to puts)))
-    (λ (puts : Puts (record old { depth = depth }) x to new). put_fits _ new x to fits.tape fits.start has moves.takes moves.form puts)
+    (λ (puts : Puts old n x to new).
+    ap (λ (s : State). step NESTING_LIMIT s c) (view_at old from is_at) ∙ moves.gives ∙ ap (λ (s : State). Some s) (sym (put_view old new n x to puts)))
+    (λ (puts : Puts old n x to new). put_fits old new n x to fits.tape fits.start (covers (covered_at old from is_at fits)) has moves.takes moves.form puts)
     ok err
+
+-- ---- more bytes of text
+-- they leave the state of the tape as it is
+grown : (old new : Reader) (b : List ℕ) → Fits old → new.text.items ≡ old.text.items ++ b → new.nodes.items ≡ old.nodes.items → tape_of new ≡ tape_of old
+grown old new b fits text nodes =
+    ap (λ (t : List ℕ). spelled t new.nodes.items) text ∙ ap (λ (xs : List Node). spelled (old.text.items ++ b) xs) nodes
+    ∙ spelled_grows old.text.items b start old.nodes.items fits.tape.spans
+
+grown_fits : (old new : Reader) (b : List ℕ) (to : at.At) (k : ℕ) → Fits old → new.at ≡ to → new.text.items ≡ old.text.items ++ b → new.nodes.items ≡ old.nodes.items
+    → new.nesting.items ≡ old.nesting.items → new.start ≡ k → k ≤ length old.text.items → read_from to k (length new.text.items) ≤ spanned old.nodes.items
+    → IsAt to old.nesting.items (due to old) → Fits new
+grown_fits old new b to k fits is_at text nodes nesting starts inside covers form = record {
+  at = subst (λ (a : at.At). IsAt a new.nesting.items (due a new)) (sym is_at)
+      (subst (λ (n : List Open). IsAt to n (due to new)) (sym nesting)
+      (subst (λ (s : State). IsAt to old.nesting.items (due_at to s)) (sym (grown old new b fits text nodes)) form));
+  tape = subst (λ (t : List ℕ). IsTape t new.nodes.items) (sym text)
+      (subst (λ (xs : List Node). IsTape (old.text.items ++ b) xs) (sym nodes) (tape_grows old.text.items b old.nodes.items fits.tape));
+  start = subst (λ (n : ℕ). n ≤ length new.text.items) (sym starts)
+      (subst (λ (t : List ℕ). k ≤ length t) (sym text) (simp length-append (let l : k ≤ length old.text.items = inside in omega arith)));
+  covered = subst (λ (a : at.At). read_from a new.start (length new.text.items) ≤ spanned new.nodes.items) (sym is_at)
+      (subst (λ (n : ℕ). read_from to n (length new.text.items) ≤ spanned new.nodes.items) (sym starts)
+      (subst (λ (xs : List Node). read_from to k (length new.text.items) ≤ spanned xs) (sym nodes) covers));
+}
+
+-- a text begins
+pub begun_fits : (old new : Reader) (b : List ℕ) (to : at.At) → Fits old → Begins old b to new
+    → read_from to (length old.text.items) (length new.text.items) ≤ spanned old.nodes.items → IsAt to old.nesting.items (due to old) → Fits new
+begun_fits old new b to fits begins covers form =
+    grown_fits old new b to (length old.text.items) fits begins.at begins.text begins.nodes begins.nesting begins.start (omega arith) covers form
+
+behind_all : (a b : List ℕ) → drop (length a) (a ++ b) ≡ b
+behind_all a b = grind (arith, common_steps)
+
+pub begun_view : (old new : Reader) (b : List ℕ) (to : at.At) → Fits old → Begins old b to new → state_view new ≡ with_read to b (due to old)
+begun_view old new b to fits begins =
+    view_at new to begins.at
+    ∙ ap (λ (x : List ℕ). with_read to x (due to new))
+    (ap (λ (n : ℕ). drop n new.text.items) begins.start ∙ ap (λ (t : List ℕ). drop (length old.text.items) t) begins.text ∙ behind_all old.text.items b)
+    ∙ ap (λ (s : State). with_read to b (due_at to s)) (grown old new b fits begins.text begins.nodes)
+
+-- the text that is read grows; another place within it changes neither what is due nor its form
+abbrev pub SameForm : at.At → at.At → Type 0
+SameForm from to = (n : List Open) (s : State) → IsAt from n (due_at from s) → IsAt to n (due_at to s)
+
+-- and the text that is read still begins where it did
+abbrev pub SameText : at.At → at.At → Type 0
+SameText from to = (start end last : ℕ) → read_from to start last ≡ read_from from start end
+
+pub kept_fits : (old new : Reader) (b : List ℕ) (from to : at.At) → Fits old → old.at ≡ from → SameForm from to → SameText from to → Keeps old b to new → Fits new
+kept_fits old new b from to fits is_at same_form same_text keeps =
+    grown_fits old new b to old.start fits keeps.at keeps.text keeps.nodes keeps.nesting keeps.start fits.start
+    (subst (λ (k : ℕ). k ≤ spanned old.nodes.items) (sym (same_text old.start (length old.text.items) (length new.text.items))) (covered_at old from is_at fits))
+    (same_form old.nesting.items (tape_of old) (form_at old from is_at fits))
+
+pub kept_view : (old new : Reader) (b : List ℕ) (from to : at.At) → Fits old → ((s : State) → due_at to s ≡ due_at from s) → Keeps old b to new
+    → state_view new ≡ with_read to (part old ++ b) (due from old)
+kept_view old new b from to fits same_due keeps =
+    let longer : part new ≡ part old ++ b =
+    ap (λ (n : ℕ). drop n new.text.items) keeps.start ∙ ap (λ (t : List ℕ). drop old.start t) keeps.text ∙ drop-append-le old.start old.text.items b fits.start in
+    view_at new to keeps.at
+    ∙ ap (λ (x : List ℕ). with_read to x (due to new)) longer
+    ∙ ap (λ (s : State). with_read to (part old ++ b) (due_at to s)) (grown old new b fits keeps.text keeps.nodes)
+    ∙ ap (λ (s : State). with_read to (part old ++ b) s) (same_due (tape_of old))
+
+pub kept : {A : Type 0} (old new : Reader) (result : Result A Stop) (c : ℕ) (b : List ℕ) (from to : at.At) → Fits old → old.at ≡ from
+    → ((s : State) → due_at to s ≡ due_at from s) → SameForm from to → SameText from to
+    → (IsAt from old.nesting.items (due from old) → step NESTING_LIMIT (with_read from (part old) (due from old)) c ≡ Some (with_read to (part old ++ b) (due from old)))
+    → OnOk result (Keeps old b to new) → IfErr result (λ e. e ≡ NoMemory) → Owes result (state_view old) c new
+kept old new result c b from to fits is_at same_due same_form same_text leads ok err =
+    by_result result (state_view old) c new _
+    (λ (keeps : Keeps old b to new).
+    ap (λ (s : State). step NESTING_LIMIT s c) (view_at old from is_at) ∙ leads (form_at old from is_at fits)
+    ∙ ap (λ (s : State). Some s) (sym (kept_view old new b from to fits same_due keeps)))
+    (λ (keeps : Keeps old b to new). kept_fits old new b from to fits is_at same_form same_text keeps)
+    ok err
+
+-- ---- two states from which the byte leads to the same one
+is_refusal_as : (why : Why) (d : ℕ) (s t : State) (c : ℕ) → step (d + 1) s c ≡ step (d + 1) t c → IsRefusal d why t c → IsRefusal d why s c
+is_refusal_as End d s t c same h = h
+is_refusal_as Depth d s t c same h = (h.0, same ∙ h.1)
+is_refusal_as Byte d s t c same h = same ∙ h
+
+stops_as : (stop : Stop) (s t : State) (c : ℕ) → ((d : ℕ) → step d s c ≡ step d t c) → Stops stop t c → Stops stop s c
+stops_as (Refused why) s t c same h = record {
+  stuck = same NESTING_LIMIT ∙ h.stuck;
+  reason = is_refusal_as why NESTING_LIMIT s t c (same (NESTING_LIMIT + 1)) h.reason;
+}
+stops_as NoMemory s t c same h = tt
+
+pub gives_as : {A : Type 0} (result : Result A Stop) (s t : State) (c : ℕ) (next : State) → ((d : ℕ) → step d s c ≡ step d t c) → Gives result t c next → Gives result s c next
+gives_as (Ok u) s t c next same h = same NESTING_LIMIT ∙ h
+gives_as (Err stop) s t c next same h = stops_as stop s t c same h

@@ -1,14 +1,12 @@
--- The machine on some texts, computed.
-use Rattle.std.proofs.Common.{◌≡◌, [], ◌∷◌, Some, None, refl}
-use Rattle.std.specs.Char.{encode_utf8}
-use Rattle.mes_json.specs.Tree.Tree.{string, object}
+-- The machine on some texts of objects and arrays, computed.
+use Rattle.std.proofs.Common.{◌≡◌, ℕ, zero, suc, List, [], ◌∷◌, Some, None, refl}
+use Rattle.mes_json.specs.Tree.Tree.{null, number, string, array, object}
+use Rattle.mes_json.specs.Tree.Items.{no_items, item}
 use Rattle.mes_json.specs.Tree.Members.{no_members, member}
-use Rattle.mes_json.specs.Machine.{start, run, ends}
+use Rattle.mes_json.specs.Machine.{Frame, start, run, ends}
 use Rattle.mes_json.specs.Machine.State.{state}
-use Rattle.mes_json.specs.Machine.Frame.{frame}
-use Rattle.mes_json.specs.Machine.At.{value, name, quoted}
-use Rattle.mes_json.specs.Machine.Mid.{within}
-use Rattle.mes_json.specs.Machine.Purpose.{for_value}
+use Rattle.mes_json.specs.Machine.Frame.{frame, array_frame}
+use Rattle.mes_json.specs.Machine.At.{value, first_item, name}
 
 -- {"type":"HEARTBEAT"}
 heartbeat : ends 1 start (123 ∷ 34 ∷ 116 ∷ 121 ∷ 112 ∷ 101 ∷ 34 ∷ 58 ∷ 34 ∷ 72 ∷ 69 ∷ 65 ∷ 82 ∷ 84 ∷ 66 ∷ 69 ∷ 65 ∷ 84 ∷ 34 ∷ 125 ∷ [])
@@ -22,14 +20,10 @@ repeated : ends 2 start (32 ∷ 123 ∷ 34 ∷ 97 ∷ 34 ∷ 58 ∷ 34 ∷ 98 �
 unfolding run
 repeated = refl
 
--- {"a":1 stops at the 1
-no_number : run 64 start (123 ∷ 34 ∷ 97 ∷ 34 ∷ 58 ∷ 49 ∷ []) ≡ None
+-- behind {"a": a value is due, within the object
+value_is_due : run 64 start (123 ∷ 34 ∷ 97 ∷ 34 ∷ 58 ∷ []) ≡ Some (state (frame no_members (97 ∷ []) ∷ []) value)
 unfolding run
-no_number = refl
-
-before_number : run 64 start (123 ∷ 34 ∷ 97 ∷ 34 ∷ 58 ∷ []) ≡ Some (state (frame no_members (97 ∷ []) ∷ []) value)
-unfolding run
-before_number = refl
+value_is_due = refl
 
 -- {"a":"b",} stops at the brace
 comma_then_end : run 64 start (123 ∷ 34 ∷ 97 ∷ 34 ∷ 58 ∷ 34 ∷ 98 ∷ 34 ∷ 44 ∷ 125 ∷ []) ≡ None
@@ -71,49 +65,72 @@ two_levels : run 2 start (123 ∷ 34 ∷ 34 ∷ 58 ∷ 123 ∷ []) ≡ Some (sta
 unfolding run
 two_levels = refl
 
--- in a string: a control byte and a backslash stop, 7F does not
-control : run 64 start (34 ∷ 31 ∷ []) ≡ None
+-- ---- arrays
+-- [null,-0.5e+1]
+null_and_number : ends 64 start (91 ∷ 110 ∷ 117 ∷ 108 ∷ 108 ∷ 44 ∷ 45 ∷ 48 ∷ 46 ∷ 53 ∷ 101 ∷ 43 ∷ 49 ∷ 93 ∷ []) ≡ Some (array (item null (item (number (45 ∷ 48 ∷ 46 ∷ 53 ∷ 101 ∷ 43 ∷ 49 ∷ [])) no_items)))
 unfolding run
-control = refl
+null_and_number = refl
 
-backslash : run 64 start (34 ∷ 92 ∷ []) ≡ None
+-- [ ] is empty; [1,] stops at its end, [,] at the comma, [} and {] at the second byte
+empty_array : ends 1 start (91 ∷ 32 ∷ 93 ∷ []) ≡ Some (array no_items)
 unfolding run
-backslash = refl
+empty_array = refl
 
-delete : ends 64 start (34 ∷ 127 ∷ 34 ∷ []) ≡ Some (string (127 ∷ []))
+comma_then_end_of_array : run 64 start (91 ∷ 49 ∷ 44 ∷ 93 ∷ []) ≡ None
 unfolding run
-delete = refl
+comma_then_end_of_array = refl
 
--- C0 stops at once, ED A0 (a surrogate) and F4 90 (past 10FFFF), E0 9F and F0 8F (too long a form) at their second byte, and a part of a character at the quotation mark
-overlong_two : run 64 start (34 ∷ 0xC0 ∷ []) ≡ None
+before_end_of_array : run 64 start (91 ∷ 49 ∷ 44 ∷ []) ≡ Some (state (array_frame (item (number (49 ∷ [])) no_items) ∷ []) value)
 unfolding run
-overlong_two = refl
+before_end_of_array = refl
 
-overlong_three : run 64 start (34 ∷ 0xE0 ∷ 0x9F ∷ []) ≡ None
+comma_first : run 64 start (91 ∷ 44 ∷ []) ≡ None
 unfolding run
-overlong_three = refl
+comma_first = refl
 
-overlong_four : run 64 start (34 ∷ 0xF0 ∷ 0x8F ∷ []) ≡ None
+array_then_brace : run 64 start (91 ∷ 125 ∷ []) ≡ None
 unfolding run
-overlong_four = refl
+array_then_brace = refl
 
-surrogate_begins : run 64 start (34 ∷ 0xED ∷ []) ≡ Some (state [] (quoted for_value (within 2 0x80 0x9F) (0xED ∷ [])))
+object_then_bracket : run 64 start (123 ∷ 93 ∷ []) ≡ None
 unfolding run
-surrogate_begins = refl
+object_then_bracket = refl
 
-surrogate : run 64 start (34 ∷ 0xED ∷ 0xA0 ∷ []) ≡ None
+item_then_brace : run 64 start (91 ∷ 49 ∷ 125 ∷ []) ≡ None
 unfolding run
-surrogate = refl
+item_then_brace = refl
 
-too_large : run 64 start (34 ∷ 0xF4 ∷ 0x90 ∷ []) ≡ None
+member_then_bracket : run 64 start (123 ∷ 34 ∷ 34 ∷ 58 ∷ 49 ∷ 93 ∷ []) ≡ None
 unfolding run
-too_large = refl
+member_then_bracket = refl
 
-cut_short : run 64 start (34 ∷ 0xC3 ∷ 34 ∷ []) ≡ None
+-- the items stay in order
+order_of_items : ends 64 start (91 ∷ 49 ∷ 44 ∷ 32 ∷ 50 ∷ 32 ∷ 44 ∷ 51 ∷ 93 ∷ []) ≡ Some (array (item (number (49 ∷ [])) (item (number (50 ∷ [])) (item (number (51 ∷ [])) no_items))))
 unfolding run
-cut_short = refl
+order_of_items = refl
 
--- U+10FFFF
-largest : ends 64 start (34 ∷ 0xF4 ∷ 0x8F ∷ 0xBF ∷ 0xBF ∷ 34 ∷ []) ≡ Some (string (encode_utf8 0x10_FFFF))
-unfolding run encode_utf8
-largest = refl
+-- {"a":[{}]} wants three levels
+mixed : ends 3 start (123 ∷ 34 ∷ 97 ∷ 34 ∷ 58 ∷ 91 ∷ 123 ∷ 125 ∷ 93 ∷ 125 ∷ []) ≡ Some (object (member (97 ∷ []) (array (item (object no_members) no_items)) no_members))
+unfolding run
+mixed = refl
+
+mixed_too_deep : run 2 start (123 ∷ 34 ∷ 97 ∷ 34 ∷ 58 ∷ 91 ∷ 123 ∷ []) ≡ None
+unfolding run
+mixed_too_deep = refl
+
+-- as many open arrays as the limit, and one more
+opened : ℕ → List ℕ
+opened zero = []
+opened (suc n) = 91 ∷ opened n
+
+frames : ℕ → List Frame
+frames zero = []
+frames (suc n) = array_frame no_items ∷ frames n
+
+deepest : run 64 start (opened 64) ≡ Some (state (frames 63) first_item)
+unfolding run opened frames
+deepest = refl
+
+too_deep : run 64 start (opened 65) ≡ None
+unfolding run opened
+too_deep = refl

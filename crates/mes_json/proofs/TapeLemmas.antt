@@ -1,16 +1,17 @@
 -- A tape with one more node, and over a buffer with more bytes.
---     spelled_last, placed_last, spans_last     one more node
---     span_grows, .._grows                      more bytes behind the texts
-use Rattle.std.proofs.Common.{◌≡◌, ℕ, ◌-◌, ◌≤◌, List, [], ◌∷◌, ◌++◌, length, take, drop, refl, ap, sym, ◌∙◌, subst, arith, length-drop, length-append}
+--     spelled_last, placed_last, spans_last, spanned_last     one more node
+--     span_grows, .._grows                                    more bytes behind the texts
+use Rattle.std.proofs.Common.{◌≡◌, ℕ, ◌+◌, ◌-◌, ◌≤◌, List, [], ◌∷◌, ◌++◌, length, take, drop, refl, ap, sym, ◌∙◌, subst, arith, length-drop, length-append}
 use Rattle.std.proofs.lemmas.List.{take-append-le, drop-append-le}
 use Rattle.std.specs.List.{AllByRecursion}
 use Rattle.std.specs.Str.{IsUtf8}
+use Rattle.mes_fixed.specs.Number.{IsNumber}
 use Rattle.mes_json.specs.Machine.{State, start}
 use Rattle.mes_json.specs.Machine.At.{named, after}
-use Rattle.mes_json.specs.Tree.Tree.{string}
-use Rattle.mes_json.specs.Tape.{span, value_due, name_due, valued, in_object, apply, spelled_from, spelled, IsSpan, HasSpan, Takes, ArePlaced, IsTape}
+use Rattle.mes_json.specs.Tree.Tree.{number, string}
+use Rattle.mes_json.specs.Tape.{span, span_length, spanned, value_due, name_due, valued, in_object, apply, spelled_from, spelled, IsSpan, HasSpan, Takes, ArePlaced, IsTape}
 use Rattle.mes_json.specs.declared.tape.Node.{Node}
-use Rattle.mes_json.specs.declared.tape.Node.TheVariants.{Text, Name, Map, End}
+use Rattle.mes_json.specs.declared.tape.Node.TheVariants.{Null, Bool, Number, Text, Name, List as list, Map, End}
 
 pub spelled_last : (texts : List ℕ) (s : State) (xs : List Node) (x : Node) → spelled_from texts s (xs ++ x ∷ []) ≡ apply texts x (spelled_from texts s xs)
 spelled_last texts s [] x = refl
@@ -20,9 +21,13 @@ placed_last : (texts : List ℕ) (s : State) (xs : List Node) (x : Node) → Are
 placed_last texts s [] x h takes = (takes, tt)
 placed_last texts s (y ∷ xs) x h takes = (h.0, placed_last texts (apply texts y s) xs x h.1 takes)
 
-spans_last : (texts : List ℕ) (xs : List Node) (x : Node) → AllByRecursion (HasSpan texts) xs → HasSpan texts x → AllByRecursion (HasSpan texts) (xs ++ x ∷ [])
+pub spans_last : (texts : List ℕ) (xs : List Node) (x : Node) → AllByRecursion (HasSpan texts) xs → HasSpan texts x → AllByRecursion (HasSpan texts) (xs ++ x ∷ [])
 spans_last texts [] x h has = (has, tt)
 spans_last texts (y ∷ xs) x h has = (h.0, spans_last texts xs x h.1 has)
+
+pub spanned_last : (xs : List Node) (x : Node) → spanned (xs ++ x ∷ []) ≡ spanned xs + span_length x
+spanned_last [] x = omega arith
+spanned_last (y ∷ xs) x = omega (arith, spanned_last xs x)
 
 pub tape_last : (texts : List ℕ) (xs : List Node) (x : Node) → IsTape texts xs → HasSpan texts x → Takes (spelled texts xs) x → IsTape texts (xs ++ x ∷ [])
 tape_last texts xs x h has takes = record { spans = spans_last texts xs x h.spans has; placed = placed_last texts start xs x h.placed takes }
@@ -42,18 +47,30 @@ is_span_grows texts more from to h = record {
 }
 
 has_span_grows : (texts more : List ℕ) (x : Node) → HasSpan texts x → HasSpan (texts ++ more) x
+has_span_grows texts more Null h = tt
+has_span_grows texts more (Bool x) h = tt
+has_span_grows texts more (Number from to) h = record {
+  span_is = is_span_grows texts more from to h.span_is;
+  number_is = subst IsNumber (sym (span_grows texts more from to h.span_is.forward h.span_is.inside)) h.number_is;
+}
 has_span_grows texts more (Text from to) h = is_span_grows texts more from to h
 has_span_grows texts more (Name from to) h = is_span_grows texts more from to h
+has_span_grows texts more list h = tt
 has_span_grows texts more Map h = tt
 has_span_grows texts more End h = tt
 
-spans_grow : (texts more : List ℕ) (xs : List Node) → AllByRecursion (HasSpan texts) xs → AllByRecursion (HasSpan (texts ++ more)) xs
+pub spans_grow : (texts more : List ℕ) (xs : List Node) → AllByRecursion (HasSpan texts) xs → AllByRecursion (HasSpan (texts ++ more)) xs
 spans_grow texts more [] h = tt
 spans_grow texts more (x ∷ xs) h = (has_span_grows texts more x h.0, spans_grow texts more xs h.1)
 
 apply_grows : (texts more : List ℕ) (x : Node) (s : State) → HasSpan texts x → apply (texts ++ more) x s ≡ apply texts x s
+apply_grows texts more Null s h = refl
+apply_grows texts more (Bool x) s h = refl
+apply_grows texts more (Number from to) s h =
+    ap (λ (b : List ℕ). valued (after (number b)) (value_due s)) (span_grows texts more from to h.span_is.forward h.span_is.inside)
 apply_grows texts more (Text from to) s h = ap (λ (b : List ℕ). valued (after (string b)) (value_due s)) (span_grows texts more from to h.forward h.inside)
 apply_grows texts more (Name from to) s h = ap (λ (b : List ℕ). in_object (λ ms. named ms b) (name_due s)) (span_grows texts more from to h.forward h.inside)
+apply_grows texts more list s h = refl
 apply_grows texts more Map s h = refl
 apply_grows texts more End s h = refl
 

@@ -11,7 +11,7 @@ use Rattle.mes_json.specs.Grammar.IsChar.{unescaped}
 use Rattle.mes_json.specs.Machine.{Frame, Purpose, Mid, lead, after_byte, on_quoted}
 use Rattle.mes_json.specs.Machine.State.{state}
 use Rattle.mes_json.specs.Machine.At.{quoted}
-use Rattle.mes_json.specs.Machine.Mid.{between, within}
+use Rattle.mes_json.specs.Machine.Mid.{between, within, escape}
 use Rattle.mes_json.proofs.Reach.{Reaches, by_byte, then_to}
 use Rattle.mes_json.proofs.Held.{Fits, IsPart, PartOf}
 
@@ -107,8 +107,8 @@ module _ (d : ℕ) (fs : List Frame) (p : Purpose) where
       by (inr _) (inr _) (inr k) = subst (Over s) (sym (four c k))
           (over_four_bytes s (240 + c / 262144) (next (c / 4096)) (next (c / 64)) (next c) (omega arith) (omega arith) (λ e. omega arith) (λ e. omega arith) (omega arith) (omega arith) (omega arith) (omega arith) (omega arith) (omega arith))
 
-  pub over_char : (s b : List ℕ) (c : ℕ) → IsChar b c → Reaches d (state fs (quoted p between s)) b (state fs (quoted p between (s ++ encode_utf8 c)))
-  over_char s b c (unescaped is l q n e) =
+  pub over_unescaped : (s b : List ℕ) (c : ℕ) → IsScalar c → 32 ≤ c → c ≢ 34 → c ≢ 92 → b ≡ encode_utf8 c → Reaches d (state fs (quoted p between s)) b (state fs (quoted p between (s ++ encode_utf8 c)))
+  over_unescaped s b c is l q n e =
       subst (λ (u : List ℕ). Reaches d (state fs (quoted p between s)) u (state fs (quoted p between (s ++ encode_utf8 c)))) (sym e) (over_encoded s c (scalar_cases c is) l q n)
 
 -- ---- sound: what the machine takes for a character is one
@@ -268,6 +268,7 @@ part_four a least most l h low high from some to = record { some = some; whole =
 abbrev pub IsRead : Mid → List ℕ → Type 0
 IsRead between b = Char b
 IsRead (within n least most) b = PartOf (within n least most) b
+IsRead (escape e) b = PartOf (escape e) b
 
 pub first_read : (c : ℕ) (m : Mid) → 32 ≤ c → c ≢ 34 → c ≢ 92 → lead c ≡ Some m → IsRead m (c ∷ [])
 first_read c m l q b e = by (lead_is c m e)

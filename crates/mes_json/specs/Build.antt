@@ -1,26 +1,66 @@
 -- What a tree in the making stands for: a state of the machine. Private clauses alone cite it.
-use Rattle.std.specs.Prelude.{List, map, reverse}
+use Rattle.std.specs.Prelude.{◌≡◌, List, [], ◌∷◌, ℕ, map, reverse, Option, Some, None}
+use Rattle.mes_json.specs.Tree.{Items, Members}
+use Rattle.mes_json.specs.Tree.Items.{no_items, item}
+use Rattle.mes_json.specs.Tree.Members.{no_members, member}
 use Rattle.mes_json.specs.Machine.{Frame, At, State}
-use Rattle.mes_json.specs.Machine.Frame.{frame}
-use Rattle.mes_json.specs.Machine.At.{value, name, named, after}
+use Rattle.mes_json.specs.Machine.Frame.{frame, array_frame}
+use Rattle.mes_json.specs.Machine.At.{value, first_item, name, named, after}
 use Rattle.mes_json.specs.Machine.State.{state}
-use Rattle.mes_json.specs.View.{view, members_view}
+use Rattle.mes_json.specs.View.{view, items_view, members_view}
+use Rattle.mes_json.specs.declared.value.Json.{Json}
 use Rattle.mes_json.specs.declared.build.Outer.{Outer}
-use Rattle.mes_json.specs.declared.build.Built.{Built}
-use Rattle.mes_json.specs.declared.build.Built.TheVariants.{Due, Members, Named, Whole}
+use Rattle.mes_json.specs.declared.build.Outer.TheVariants as outer
+use Rattle.mes_json.specs.declared.build.Inner.{Inner}
+use Rattle.mes_json.specs.declared.build.Inner.TheVariants.{Nothing, Whole, Object, Array}
 use Rattle.mes_json.specs.declared.build.Building.{Building}
 
 abbrev pub frame_view : Outer → Frame
-frame_view o = frame (members_view o.members.items) o.name
+frame_view (outer.Object ms k) = frame (members_view ms.items) k
+frame_view (outer.Array ts) = array_frame (items_view ts.items)
 
 abbrev pub frames_view : List Outer → List Frame
 frames_view os = reverse (map frame_view os)
 
-abbrev pub built_view : Built → At
-built_view Due = value
-built_view (Members ms) = name (members_view ms.items)
-built_view (Named ms k) = named (members_view ms.items) k
-built_view (Whole json) = after (view json)
+-- the last of x and those behind it
+abbrev pub last_of : {A : Type 0} → A → List A → A
+last_of x [] = x
+last_of x (y ∷ ys) = last_of y ys
+
+-- the others
+abbrev pub items_before : Json → List Json → Items
+items_before x [] = no_items
+items_before x (y ∷ ys) = item (view x) (items_before y ys)
+
+abbrev pub members_before : List ℕ × Json → List (List ℕ × Json) → Members
+members_before x [] = no_members
+members_before x (y ∷ ys) = member x.0 (view x.1) (members_before y ys)
+
+-- an array behind its items: no item, or the last one is read whole
+abbrev pub array_state : List Frame → List Json → State
+array_state fs [] = state fs first_item
+array_state fs (x ∷ xs) = state (array_frame (items_before x xs) ∷ fs) (after (view (last_of x xs)))
+
+-- an object behind its members: no member, or the value of the last one is read whole
+abbrev pub object_state : List Frame → List (List ℕ × Json) → State
+object_state fs [] = state fs (name no_members)
+object_state fs (x ∷ xs) = let last = last_of x xs in state (frame (members_before x xs) last.0 ∷ fs) (after (view last.1))
+
+-- an object behind its members, and the name of the next where that is read
+abbrev pub member_state : List Frame → List (List ℕ × Json) → Option (List ℕ) → State
+member_state fs ms None = object_state fs ms
+member_state fs ms (Some k) = state fs (named (members_view ms) k)
+
+-- the innermost one within these
+abbrev pub inner_view : List Frame → Inner → State
+inner_view fs Nothing = state [] value
+inner_view fs (Whole json) = state [] (after (view json))
+inner_view fs (Object ms due) = member_state fs ms.items due
+inner_view fs (Array ts) = array_state fs ts.items
 
 abbrev pub building_view : Building → State
-building_view b = state (frames_view b.outer.items) (built_view b.at)
+building_view b = inner_view (frames_view b.outer.items) b.inner
+
+-- this begins what is open
+abbrev pub Opens : Inner → At → Type 0
+Opens i a = (fs : List Frame) → inner_view fs i ≡ state fs a

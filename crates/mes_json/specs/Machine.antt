@@ -1,33 +1,60 @@
 -- The states that a reader of JSON goes through, one byte at a time. Private clauses alone cite it: that it reads just
 -- the grammar is proved.
-use Rattle.std.specs.Prelude.{ℕ, zero, suc, ◌&&◌, ◌||◌, List, [], ◌∷◌, ◌++◌, length, Option, Some, None, option_and_then, if◌then◌else◌, ◌==◌, nat_lt, nat_le}
-use Rattle.mes_json.specs.Tree.{Tree, Members}
-use Rattle.mes_json.specs.Tree.Tree.{string, object}
+use Rattle.std.specs.Prelude.{ℕ, zero, suc, ◌&&◌, ◌||◌, Bool, true, false, List, [], ◌∷◌, ◌++◌, length, Option, Some, None, option_and_then, if◌then◌else◌, ◌==◌, nat_lt, nat_le, encode_utf8}
+use Rattle.mes_fixed.specs.Automaton.{letter_of, number_next, is_final}
+use Rattle.mes_fixed.specs.declared.automaton.Part.{Part}
+use Rattle.mes_fixed.specs.declared.automaton.Part.TheVariants.{AtStart}
+use Rattle.mes_json.specs.Tree.{Tree, Items, Members}
+use Rattle.mes_json.specs.Tree.Tree.{null, boolean, number, string, array, object}
+use Rattle.mes_json.specs.Tree.Items.{no_items, item}
 use Rattle.mes_json.specs.Tree.Members.{no_members, member}
+use Rattle.mes_json.specs.Escape.{Escape, Move, escape_step}
+use Rattle.mes_json.specs.Escape.Escape.{backslash}
+use Rattle.mes_json.specs.Escape.Move.{on, makes, refused}
+
+-- what is read of a literal or a number: the byte that is due of a literal, the ones behind it, and what it means; or the
+-- part of a number that its bytes so far lead to
+pub data Token : Type 0 where
+  literal : ℕ → List ℕ → Tree → Token
+  digits : Part → List ℕ → Token
 
 -- what a byte is outside a string
 pub data Kind : Type 0 where
-  blank quote opening closing colon comma other : Kind
+  blank quote opening closing opening_array closing_array colon comma other : Kind
+  begins : Token → Kind
 
-abbrev pub kind_of : ℕ → Kind
-kind_of c =
+-- the kind of a byte, by where it leads from the start of a number
+abbrev pub kind_unless : ℕ → Option Part → Kind
+kind_unless c (Some part) = begins (digits part (c ∷ []))
+kind_unless c None =
     if c == 34 then quote
     else if c == 32 || c == 9 || c == 10 || c == 13 then blank
     else if c == 123 then opening
     else if c == 125 then closing
+    else if c == 91 then opening_array
+    else if c == 93 then closing_array
     else if c == 58 then colon
     else if c == 44 then comma
+    else if c == 0x6E then begins (literal 0x75 (0x6C ∷ 0x6C ∷ []) null)
+    else if c == 0x74 then begins (literal 0x72 (0x75 ∷ 0x65 ∷ []) (boolean true))
+    else if c == 0x66 then begins (literal 0x61 (0x6C ∷ 0x73 ∷ 0x65 ∷ []) (boolean false))
     else other
 
--- inside a string: between two characters, or within one that wants some more bytes, the next from least to most
--- (RFC 3629, section 4)
+abbrev pub kind_of : ℕ → Kind
+kind_of c = kind_unless c (number_next AtStart (letter_of c))
+
+-- inside a string: between two characters; within one that wants some more bytes, the next from least to most (RFC 3629,
+-- section 4); or within an escape
 pub data Mid : Type 0 where
   between : Mid
   within : ℕ → ℕ → ℕ → Mid
+  escape : Escape → Mid
 
--- an object that is still open: its members so far, and the name whose value is being read
+-- An object or an array that is still open: an object's members so far, and the name whose value is being read; an array's
+-- items so far.
 pub data Frame : Type 0 where
   frame : Members → List ℕ → Frame
+  array_frame : Items → Frame
 
 -- what a string is read for: a member's name, after these members, or a value
 pub data Purpose : Type 0 where
@@ -37,14 +64,21 @@ pub data Purpose : Type 0 where
 -- what is read next
 pub data At : Type 0 where
   value : At
+  first_item : At
   name : Members → At
   quoted : Purpose → Mid → List ℕ → At
   named : Members → List ℕ → At
+  token : Token → At
   after : Tree → At
 
--- the open objects, the innermost first, and what is read next
+-- the open objects and arrays, the innermost first, and what is read next
 pub data State : Type 0 where
   state : List Frame → At → State
+
+-- the item stands last
+abbrev pub with_item : Items → Tree → Items
+with_item no_items t = item t no_items
+with_item (item u ts) t = item u (with_item ts t)
 
 -- the member stands last
 abbrev pub with_member : Members → List ℕ → Tree → Members
@@ -80,9 +114,25 @@ on_value d fs blank = Some (state fs value)
 on_value d fs quote = Some (state fs (quoted for_value between []))
 on_value d fs opening = if nat_lt (length fs) d then Some (state fs (name no_members)) else None
 on_value d fs closing = None
+on_value d fs opening_array = if nat_lt (length fs) d then Some (state fs first_item) else None
+on_value d fs closing_array = None
 on_value d fs colon = None
 on_value d fs comma = None
 on_value d fs other = None
+on_value d fs (begins x) = Some (state fs (token x))
+
+-- at an array's first item, or its end; the open array goes onto the stack at the item
+abbrev pub on_first_item : ℕ → List Frame → Kind → Option State
+on_first_item d fs blank = Some (state fs first_item)
+on_first_item d fs quote = on_value d (array_frame no_items ∷ fs) quote
+on_first_item d fs opening = on_value d (array_frame no_items ∷ fs) opening
+on_first_item d fs closing = None
+on_first_item d fs opening_array = on_value d (array_frame no_items ∷ fs) opening_array
+on_first_item d fs closing_array = Some (state fs (after (array no_items)))
+on_first_item d fs colon = None
+on_first_item d fs comma = None
+on_first_item d fs other = None
+on_first_item d fs (begins x) = on_value d (array_frame no_items ∷ fs) (begins x)
 
 -- the object ends where no name is due behind a comma
 abbrev pub close_empty : List Frame → Members → Option State
@@ -95,9 +145,12 @@ on_name fs ms blank = Some (state fs (name ms))
 on_name fs ms quote = Some (state fs (quoted (for_name ms) between []))
 on_name fs ms opening = None
 on_name fs ms closing = close_empty fs ms
+on_name fs ms opening_array = None
+on_name fs ms closing_array = None
 on_name fs ms colon = None
 on_name fs ms comma = None
 on_name fs ms other = None
+on_name fs ms (begins x) = None
 
 -- behind a member's name; the open object goes onto the stack at the colon
 abbrev pub on_named : List Frame → Members → List ℕ → Kind → Option State
@@ -105,19 +158,30 @@ on_named fs ms k blank = Some (state fs (named ms k))
 on_named fs ms k quote = None
 on_named fs ms k opening = None
 on_named fs ms k closing = None
+on_named fs ms k opening_array = None
+on_named fs ms k closing_array = None
 on_named fs ms k colon = Some (state (frame ms k ∷ fs) value)
 on_named fs ms k comma = None
 on_named fs ms k other = None
+on_named fs ms k (begins x) = None
 
 -- the value t ends the member that is read, and with it the innermost object
 abbrev pub close_object : List Frame → Tree → Option State
 close_object [] t = None
 close_object (frame ms k ∷ fs) t = Some (state fs (after (object (with_member ms k t))))
+close_object (array_frame ts ∷ fs) t = None
 
--- the value t ends the member that is read, and another follows
+-- the value t is the last item of the innermost array
+abbrev pub close_array : List Frame → Tree → Option State
+close_array [] t = None
+close_array (frame ms k ∷ fs) t = None
+close_array (array_frame ts ∷ fs) t = Some (state fs (after (array (with_item ts t))))
+
+-- the value t ends the member or is the item that is read, and another follows
 abbrev pub next_of : List Frame → Tree → Option State
 next_of [] t = None
 next_of (frame ms k ∷ fs) t = Some (state fs (name (with_member ms k t)))
+next_of (array_frame ts ∷ fs) t = Some (state (array_frame (with_item ts t) ∷ fs) value)
 
 -- behind a value
 abbrev pub on_after : List Frame → Tree → Kind → Option State
@@ -125,9 +189,26 @@ on_after fs t blank = Some (state fs (after t))
 on_after fs t quote = None
 on_after fs t opening = None
 on_after fs t closing = close_object fs t
+on_after fs t opening_array = None
+on_after fs t closing_array = close_array fs t
 on_after fs t colon = None
 on_after fs t comma = next_of fs t
 on_after fs t other = None
+on_after fs t (begins x) = None
+
+-- behind a byte of a literal: these are due, or it ends
+abbrev pub due : List ℕ → Tree → At
+due [] t = after t
+due (e ∷ rest) t = token (literal e rest t)
+
+-- in a number, by the part that the byte leads to: a byte that leads nowhere stands behind the number, where that may end
+abbrev pub on_digits : List Frame → Part → List ℕ → ℕ → Option Part → Option State
+on_digits fs part n c (Some next) = Some (state fs (token (digits next (n ++ c ∷ []))))
+on_digits fs part n c None = if is_final part then on_after fs (number n) (kind_of c) else None
+
+abbrev pub on_token : List Frame → Token → ℕ → Option State
+on_token fs (literal e rest t) c = if c == e then Some (state fs (due rest t)) else None
+on_token fs (digits part n) c = on_digits fs part n c (number_next part (letter_of c))
 
 -- at the quotation mark that ends a string
 abbrev pub end_string : List Frame → Purpose → List ℕ → State
@@ -139,34 +220,52 @@ abbrev pub in_string : List Frame → Purpose → List ℕ → ℕ → Option Mi
 in_string fs p s c None = None
 in_string fs p s c (Some m) = Some (state fs (quoted p m (s ++ c ∷ [])))
 
+-- in a string, behind a byte of an escape
+abbrev pub in_escape : List Frame → Purpose → List ℕ → Move → Option State
+in_escape fs p s (on e) = Some (state fs (quoted p (escape e) s))
+in_escape fs p s (makes c) = Some (state fs (quoted p between (s ++ encode_utf8 c)))
+in_escape fs p s refused = None
+
 abbrev pub on_quoted : List Frame → Purpose → Mid → List ℕ → ℕ → Option State
 on_quoted fs p between s c =
     if c == 34 then Some (end_string fs p s)
-    else if nat_lt c 32 || c == 92 then None
+    else if c == 92 then Some (state fs (quoted p (escape backslash) s))
+    else if nat_lt c 32 then None
     else in_string fs p s c (lead c)
 on_quoted fs p (within n least most) s c =
     if nat_le least c && nat_le c most then Some (state fs (quoted p (after_byte n) (s ++ c ∷ []))) else None
+on_quoted fs p (escape e) s c = in_escape fs p s (escape_step e c)
 
 -- the next state, where there is one; the number is the limit of nesting
 abbrev pub step : ℕ → State → ℕ → Option State
 step d (state fs value) c = on_value d fs (kind_of c)
+step d (state fs first_item) c = on_first_item d fs (kind_of c)
 step d (state fs (name ms)) c = on_name fs ms (kind_of c)
 step d (state fs (quoted p m s)) c = on_quoted fs p m s c
 step d (state fs (named ms k)) c = on_named fs ms k (kind_of c)
+step d (state fs (token x)) c = on_token fs x c
 step d (state fs (after t)) c = on_after fs t (kind_of c)
 
 unfoldable pub run : ℕ → State → List ℕ → Option State
 run d s [] = Some s
 run d s (c ∷ q) = option_and_then (λ next. run d next q) (step d s c)
 
+-- a number's tree, where it may end
+abbrev pub finish_number : Bool → List ℕ → Option Tree
+finish_number true n = Some (number n)
+finish_number false n = None
+
 -- the tree, where the text may end
 abbrev pub finish : State → Option Tree
-finish (state fs value) = None
-finish (state fs (name ms)) = None
-finish (state fs (quoted p m s)) = None
-finish (state fs (named ms k)) = None
 finish (state [] (after t)) = Some t
-finish (state (f ∷ fs) (after t)) = None
+finish (state [] (token (digits part n))) = finish_number (is_final part) n
+finish (state [] value) = None
+finish (state [] first_item) = None
+finish (state [] (name ms)) = None
+finish (state [] (quoted p m s)) = None
+finish (state [] (named ms k)) = None
+finish (state [] (token (literal e rest t))) = None
+finish (state (f ∷ fs) a) = None
 
 -- the tree that the bytes lead to
 abbrev pub ends : ℕ → State → List ℕ → Option Tree

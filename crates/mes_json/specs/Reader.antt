@@ -1,116 +1,193 @@
 -- What the reader stands for: a state of the machine. Private clauses alone cite it.
-use Rattle.std.specs.Prelude.{◌≡◌, ℕ, ◌+◌, ◌≤◌, List, [], ◌∷◌, ◌++◌, length, drop, Some, Result, Ok, Err}
+use Rattle.std.specs.Prelude.{◌≡◌, ◌≢◌, ℕ, ◌-◌, ◌<◌, ◌≤◌, ◌⊎◌, Bool, true, false, List, [], ◌∷◌, ◌++◌, length, take, drop, Option, Some, None, Result, Ok, Err, slice_get}
+use Rattle.mes_fixed.specs.Automaton.{nought, digit, number_next}
+use Rattle.mes_fixed.specs.declared.automaton.Part.{Part}
 use Rattle.mes_json.specs.Tree.{Tree, Members}
+use Rattle.mes_json.specs.Tree.Tree.{null, boolean}
 use Rattle.mes_json.specs.Tree.Members.{no_members, member}
 use Rattle.mes_json.specs.Machine as m
-use Rattle.mes_json.specs.Machine.{Frame, State, step, run, start}
+use Rattle.mes_json.specs.Machine.{Frame, Token, State, step, run, start}
+use Rattle.mes_json.specs.Machine.Frame.{frame, array_frame}
+use Rattle.mes_json.specs.Machine.Token.{literal, digits}
 use Rattle.mes_json.specs.Machine.State.{state}
 use Rattle.mes_json.specs.Refusal.{Refuses}
-use Rattle.mes_json.specs.Tape.{spelled, value_due, name_due, valued, in_object, IsTape}
+use Rattle.mes_json.specs.Tape.{spelled, spanned, value_due, name_due, valued, in_object, IsTape}
+use Rattle.mes_json.specs.EscapeView.{escape_view}
 use Rattle.mes_json.specs.declared.limits.TheConstants.{NESTING_LIMIT}
+use Rattle.mes_json.specs.declared.fault.Why.TheVariants.{Depth}
 use Rattle.mes_json.specs.declared.kind.Kind as kind
 use Rattle.mes_json.specs.declared.utf8.Mid as mid
-use Rattle.mes_json.specs.declared.reader.Purpose as purpose
-use Rattle.mes_json.specs.declared.reader.At as at
-use Rattle.mes_json.specs.declared.reader.Stop.{Stop}
-use Rattle.mes_json.specs.declared.reader.Stop.TheVariants.{Refused, NoMemory}
+use Rattle.mes_json.specs.declared.word.Word as word
+use Rattle.mes_json.specs.declared.word.Said as said
+use Rattle.mes_json.specs.declared.nesting.Open.{Open}
+use Rattle.mes_json.specs.declared.nesting.Open.TheVariants.{Object, Array}
+use Rattle.mes_json.specs.declared.at.Purpose as purpose
+use Rattle.mes_json.specs.declared.at.At as at
+use Rattle.mes_json.specs.declared.stop.Stop.{Stop}
+use Rattle.mes_json.specs.declared.stop.Stop.TheVariants.{Refused, NoMemory}
 use Rattle.mes_json.specs.declared.reader.Reader.{Reader}
 use Rattle.mes_json.specs.declared.tape.Node as node
 
-abbrev pub kind_view : kind.Kind → m.Kind
-kind_view kind.TheVariants.Blank = m.Kind.blank
-kind_view kind.TheVariants.Quote = m.Kind.quote
-kind_view kind.TheVariants.Opening = m.Kind.opening
-kind_view kind.TheVariants.Closing = m.Kind.closing
-kind_view kind.TheVariants.Colon = m.Kind.colon
-kind_view kind.TheVariants.Comma = m.Kind.comma
-kind_view kind.TheVariants.Other = m.Kind.other
+-- what is due of a literal
+abbrev pub word_view : word.Word → Token
+word_view word.TheVariants.N = literal 0x75 (0x6C ∷ 0x6C ∷ []) null
+word_view word.TheVariants.Nu = literal 0x6C (0x6C ∷ []) null
+word_view word.TheVariants.Nul = literal 0x6C [] null
+word_view word.TheVariants.T = literal 0x72 (0x75 ∷ 0x65 ∷ []) (boolean true)
+word_view word.TheVariants.Tr = literal 0x75 (0x65 ∷ []) (boolean true)
+word_view word.TheVariants.Tru = literal 0x65 [] (boolean true)
+word_view word.TheVariants.F = literal 0x61 (0x6C ∷ 0x73 ∷ 0x65 ∷ []) (boolean false)
+word_view word.TheVariants.Fa = literal 0x6C (0x73 ∷ 0x65 ∷ []) (boolean false)
+word_view word.TheVariants.Fal = literal 0x73 (0x65 ∷ []) (boolean false)
+word_view word.TheVariants.Fals = literal 0x65 [] (boolean false)
+
+abbrev pub said_view : said.Said → m.At
+said_view (said.TheVariants.More w) = m.At.token (word_view w)
+said_view said.TheVariants.Null = m.At.after null
+said_view (said.TheVariants.Bool x) = m.At.after (boolean x)
+
+-- the kind of the byte c
+abbrev pub kind_view : ℕ → kind.Kind → m.Kind
+kind_view c kind.TheVariants.Blank = m.Kind.blank
+kind_view c kind.TheVariants.Quote = m.Kind.quote
+kind_view c kind.TheVariants.Opening = m.Kind.opening
+kind_view c kind.TheVariants.Closing = m.Kind.closing
+kind_view c kind.TheVariants.OpeningArray = m.Kind.opening_array
+kind_view c kind.TheVariants.ClosingArray = m.Kind.closing_array
+kind_view c kind.TheVariants.Colon = m.Kind.colon
+kind_view c kind.TheVariants.Comma = m.Kind.comma
+kind_view c (kind.TheVariants.Word w) = m.Kind.begins (word_view w)
+kind_view c (kind.TheVariants.Digits part) = m.Kind.begins (digits part (c ∷ []))
+kind_view c kind.TheVariants.Other = m.Kind.other
 
 abbrev pub mid_view : mid.Mid → m.Mid
 mid_view mid.TheVariants.Between = m.Mid.between
 mid_view (mid.TheVariants.Within more least most) = m.Mid.within more least most
+mid_view (mid.TheVariants.Escape e) = m.Mid.escape (escape_view e)
 
 -- the state of the tape, with the comma or the colon behind it taken
 abbrev pub due_at : at.At → State → State
 due_at at.TheVariants.Value s = value_due s
+due_at at.TheVariants.FirstItem s = s
 due_at at.TheVariants.FirstName s = s
 due_at at.TheVariants.Name s = name_due s
 due_at at.TheVariants.Colon s = s
 due_at at.TheVariants.After s = s
 due_at (at.TheVariants.Quoted purpose.TheVariants.Name mid) s = name_due s
 due_at (at.TheVariants.Quoted purpose.TheVariants.Value mid) s = value_due s
+due_at (at.TheVariants.Literal w) s = value_due s
+due_at (at.TheVariants.Digits part) s = value_due s
 
--- that state, with the bytes of the string that is read
-abbrev pub with_string : at.At → List ℕ → State → State
-with_string at.TheVariants.Value b s = s
-with_string at.TheVariants.FirstName b s = s
-with_string at.TheVariants.Name b s = s
-with_string at.TheVariants.Colon b s = s
-with_string at.TheVariants.After b s = s
-with_string (at.TheVariants.Quoted purpose.TheVariants.Name mid) b s =
+-- that state, with what is read of a string, a literal or a number
+abbrev pub with_read : at.At → List ℕ → State → State
+with_read at.TheVariants.Value b s = s
+with_read at.TheVariants.FirstItem b s = s
+with_read at.TheVariants.FirstName b s = s
+with_read at.TheVariants.Name b s = s
+with_read at.TheVariants.Colon b s = s
+with_read at.TheVariants.After b s = s
+with_read (at.TheVariants.Quoted purpose.TheVariants.Name mid) b s =
     in_object (λ ms. m.At.quoted (m.Purpose.for_name ms) (mid_view mid) b) s
-with_string (at.TheVariants.Quoted purpose.TheVariants.Value mid) b s =
+with_read (at.TheVariants.Quoted purpose.TheVariants.Value mid) b s =
     valued (m.At.quoted m.Purpose.for_value (mid_view mid) b) s
+with_read (at.TheVariants.Literal w) b s = valued (m.At.token (word_view w)) s
+with_read (at.TheVariants.Digits part) b s = valued (m.At.token (digits part b)) s
 
 -- the state that the reader stands for
 abbrev pub state_view : Reader → State
-state_view r = with_string r.at (drop r.start r.text.items) (due_at r.at (spelled r.text.items r.nodes.items))
+state_view r = with_read r.at (drop r.start r.text.items) (due_at r.at (spelled r.text.items r.nodes.items))
 
 -- a comma stands before the name
 abbrev pub IsFull : Members → Type 0
 IsFull no_members = ⊥
 IsFull (member k t ms) = Unit {0}
 
--- a value is read, in so many open objects
-pub record AtValue (depth : ℕ) (s : State) : Type 0 where
+-- what is open where these frames are, the innermost last
+abbrev pub opens : List Frame → List Open
+opens [] = []
+opens (frame ms k ∷ fs) = opens fs ++ Object ∷ []
+opens (array_frame ts ∷ fs) = opens fs ++ Array ∷ []
+
+-- the innermost one
+abbrev pub innermost : List Open → Option Open
+innermost xs = slice_get xs (length xs - 1)
+
+-- the others
+abbrev pub outer : List Open → List Open
+outer xs = take (length xs - 1) xs
+
+-- a value is read
+pub record AtValue (nesting : List Open) (s : State) : Type 0 where
   pub frames : List Frame
   pub is : s ≡ state frames m.At.value
-  pub open_objects : depth ≡ length frames
+  pub are_open : nesting ≡ opens frames
+
+-- an array's first item is read
+pub record AtFirstItem (nesting : List Open) (s : State) : Type 0 where
+  pub frames : List Frame
+  pub is : s ≡ state frames m.At.first_item
+  pub are_open : nesting ≡ opens frames ++ Array ∷ []
 
 -- an object's first name is read
-pub record AtFirstName (depth : ℕ) (s : State) : Type 0 where
+pub record AtFirstName (nesting : List Open) (s : State) : Type 0 where
   pub frames : List Frame
   pub is : s ≡ state frames (m.At.name no_members)
-  pub open_objects : depth ≡ length frames + 1
+  pub are_open : nesting ≡ opens frames ++ Object ∷ []
 
 -- a name is read
-pub record AtName (Allowed : Members → Type 0) (depth : ℕ) (s : State) : Type 0 where
+pub record AtName (Allowed : Members → Type 0) (nesting : List Open) (s : State) : Type 0 where
   pub frames : List Frame
   pub members : Members
   pub is : s ≡ state frames (m.At.name members)
-  pub open_objects : depth ≡ length frames + 1
+  pub are_open : nesting ≡ opens frames ++ Object ∷ []
   pub allowed : Allowed members
 
 -- a colon is due
-pub record AtColon (depth : ℕ) (s : State) : Type 0 where
+pub record AtColon (nesting : List Open) (s : State) : Type 0 where
   pub frames : List Frame
   pub members : Members
   pub name : List ℕ
   pub is : s ≡ state frames (m.At.named members name)
-  pub open_objects : depth ≡ length frames + 1
+  pub are_open : nesting ≡ opens frames ++ Object ∷ []
 
 -- a value is read whole
-pub record AfterValue (depth : ℕ) (s : State) : Type 0 where
+pub record AfterValue (nesting : List Open) (s : State) : Type 0 where
   pub frames : List Frame
   pub tree : Tree
   pub is : s ≡ state frames (m.At.after tree)
-  pub open_objects : depth ≡ length frames
+  pub are_open : nesting ≡ opens frames
 
 -- the form of the state at each place
-abbrev pub IsAt : at.At → ℕ → State → Type 0
-IsAt at.TheVariants.Value depth s = AtValue depth s
-IsAt at.TheVariants.FirstName depth s = AtFirstName depth s
-IsAt at.TheVariants.Name depth s = AtName IsFull depth s
-IsAt at.TheVariants.Colon depth s = AtColon depth s
-IsAt at.TheVariants.After depth s = AfterValue depth s
-IsAt (at.TheVariants.Quoted purpose.TheVariants.Name mid) depth s = AtName (λ _. Unit {0}) depth s
-IsAt (at.TheVariants.Quoted purpose.TheVariants.Value mid) depth s = AtValue depth s
+abbrev pub IsAt : at.At → List Open → State → Type 0
+IsAt at.TheVariants.Value nesting s = AtValue nesting s
+IsAt at.TheVariants.FirstItem nesting s = AtFirstItem nesting s
+IsAt at.TheVariants.FirstName nesting s = AtFirstName nesting s
+IsAt at.TheVariants.Name nesting s = AtName IsFull nesting s
+IsAt at.TheVariants.Colon nesting s = AtColon nesting s
+IsAt at.TheVariants.After nesting s = AfterValue nesting s
+IsAt (at.TheVariants.Quoted purpose.TheVariants.Name mid) nesting s = AtName (λ _. Unit {0}) nesting s
+IsAt (at.TheVariants.Quoted purpose.TheVariants.Value mid) nesting s = AtValue nesting s
+IsAt (at.TheVariants.Literal w) nesting s = AtValue nesting s
+IsAt (at.TheVariants.Digits part) nesting s = AtValue nesting s
 
--- the fields go together
+-- where the text of the string or the number begins that is read, else where the buffer of texts ends
+abbrev pub read_from : at.At → ℕ → ℕ → ℕ
+read_from at.TheVariants.Value first end = end
+read_from at.TheVariants.FirstItem first end = end
+read_from at.TheVariants.FirstName first end = end
+read_from at.TheVariants.Name first end = end
+read_from at.TheVariants.Colon first end = end
+read_from at.TheVariants.After first end = end
+read_from (at.TheVariants.Quoted purpose mid) first end = first
+read_from (at.TheVariants.Literal w) first end = end
+read_from (at.TheVariants.Digits part) first end = first
+
+-- the fields go together; the spans have all of the texts but what is read
 pub record Fits (r : Reader) : Type 0 where
-  pub at : IsAt r.at r.depth (due_at r.at (spelled r.text.items r.nodes.items))
+  pub at : IsAt r.at r.nesting.items (due_at r.at (spelled r.text.items r.nodes.items))
   pub tape : IsTape r.text.items r.nodes.items
   pub start : r.start ≤ length r.text.items
+  pub covered : read_from r.at r.start (length r.text.items) ≤ spanned r.nodes.items
 
 -- some bytes lead to the state
 abbrev pub Reached : Reader → Type 0
@@ -126,27 +203,68 @@ abbrev pub Gives : {A : Type 0} → Result A Stop → State → ℕ → State �
 Gives (Ok _) s c next = step NESTING_LIMIT s c ≡ Some next
 Gives (Err stop) s c next = Stops stop s c
 
--- one more node, and the place behind it
-pub record Puts (old : Reader) (x : node.Node) (place : at.At) (new : Reader) : Type 0 where
+-- the bytes up to one place lead to the old state, those up to another one to the new state
+pub record RunsTo (old : Reader) (b : List ℕ) (from to : ℕ) (new : Reader) : Type 0 where
+  pub forward : from ≤ to
+  pub inside : to ≤ length b
+  pub fits : Fits new
+  pub runs : (s : State) → run NESTING_LIMIT s (take from b) ≡ Some (state_view old) → run NESTING_LIMIT s (take to b) ≡ Some (state_view new)
+
+-- a character that stands for itself in a string and takes no other byte
+abbrev pub IsPlain : ℕ → Type 0
+IsPlain c = (32 ≤ c) × (c < 128) × (c ≢ 34) × (c ≢ 92)
+
+-- a digit
+abbrev pub IsDigit : ℕ → Type 0
+IsDigit c = (48 ≤ c) × (c ≤ 57)
+
+-- white space
+abbrev pub IsBlank : ℕ → Type 0
+IsBlank c = (c ≡ 0x20) ⊎ ((c ≡ 0x09) ⊎ ((c ≡ 0x0A) ⊎ (c ≡ 0x0D)))
+
+-- a digit leaves a number in this part of it
+abbrev pub KeepsOn : Part → Type 0
+KeepsOn x = (number_next x nought ≡ Some x) × (number_next x digit ≡ Some x)
+
+-- one more node, the place behind it, and what is open there
+pub record Puts (old : Reader) (nesting : List Open) (x : node.Node) (place : at.At) (new : Reader) : Type 0 where
   pub at : new.at ≡ place
   pub nodes : new.nodes.items ≡ old.nodes.items ++ x ∷ []
   pub text : new.text.items ≡ old.text.items
-  pub depth : new.depth ≡ old.depth
+  pub nesting_is : new.nesting.items ≡ nesting
   pub start : new.start ≡ old.start
 
--- one more byte of text, and the place behind it
-pub record Keeps (old : Reader) (c : ℕ) (place : at.At) (new : Reader) : Type 0 where
+-- more bytes of text, and the place behind them
+pub record Keeps (old : Reader) (b : List ℕ) (place : at.At) (new : Reader) : Type 0 where
   pub at : new.at ≡ place
-  pub text : new.text.items ≡ old.text.items ++ c ∷ []
+  pub text : new.text.items ≡ old.text.items ++ b
   pub nodes : new.nodes.items ≡ old.nodes.items
-  pub depth : new.depth ≡ old.depth
+  pub nesting : new.nesting.items ≡ old.nesting.items
   pub start : new.start ≡ old.start
 
--- the tape and the depth stay
-pub record SameTape (old new : Reader) : Type 0 where
-  pub text : new.text.items ≡ old.text.items
+-- a text begins with these bytes
+pub record Begins (old : Reader) (b : List ℕ) (place : at.At) (new : Reader) : Type 0 where
+  pub at : new.at ≡ place
+  pub text : new.text.items ≡ old.text.items ++ b
   pub nodes : new.nodes.items ≡ old.nodes.items
-  pub depth : new.depth ≡ old.depth
+  pub nesting : new.nesting.items ≡ old.nesting.items
+  pub start : new.start ≡ length old.text.items
+
+-- why an object or an array is not entered
+abbrev pub NotEntered : Stop → List Open → Type 0
+NotEntered (Refused why) nesting = (why ≡ Depth) × (length nesting ≡ NESTING_LIMIT)
+NotEntered NoMemory nesting = Unit {0}
+
+-- an object or an array is entered, or why it is not
+abbrev pub Enters : {A : Type 0} → Result A Stop → Reader → Open → node.Node → at.At → Reader → Type 0
+Enters (Ok _) old open_one x place new = (length old.nesting.items < NESTING_LIMIT) × Puts old (old.nesting.items ++ open_one ∷ []) x place new
+Enters (Err stop) old open_one x place new = NotEntered stop old.nesting.items
+
+-- whether the value that is found is whole, and the tape then holds just that
+abbrev pub EndsWhole : Bool → Option Tree → Reader → Type 0
+EndsWhole true found r =
+    (t : Tree) × (found ≡ Some t) × (spelled r.text.items r.nodes.items ≡ state [] (m.At.after t)) × IsTape r.text.items r.nodes.items
+EndsWhole false found r = found ≡ None
 
 -- the node of the string that is read
 abbrev pub string_node : purpose.Purpose → Reader → node.Node

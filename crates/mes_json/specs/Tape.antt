@@ -1,65 +1,102 @@
 -- What a tape stands for: the state of the machine that its nodes lead to, over the buffer of their texts. Private clauses
 -- alone cite it.
-use Rattle.std.specs.Prelude.{◌≡◌, ℕ, ◌-◌, ◌≤◌, List, [], ◌∷◌, length, take, drop}
+use Rattle.std.specs.Prelude.{◌≡◌, ℕ, ◌+◌, ◌-◌, ◌≤◌, ◌⊎◌, List, [], ◌∷◌, length, take, drop}
 use Rattle.std.specs.List.{AllByRecursion}
 use Rattle.std.specs.Str.{IsUtf8}
-use Rattle.mes_json.specs.Tree.{Tree, Members}
-use Rattle.mes_json.specs.Tree.Tree.{string, object}
+use Rattle.mes_fixed.specs.Number.{IsNumber}
+use Rattle.mes_json.specs.Tree.{Tree, Items, Members}
+use Rattle.mes_json.specs.Tree.Tree.{null, boolean, number, string, array, object}
+use Rattle.mes_json.specs.Tree.Items.{no_items}
 use Rattle.mes_json.specs.Tree.Members.{no_members}
-use Rattle.mes_json.specs.Machine.{Frame, At, State, with_member, start}
-use Rattle.mes_json.specs.Machine.Frame.{frame}
-use Rattle.mes_json.specs.Machine.At.{value, name, quoted, named, after}
+use Rattle.mes_json.specs.Machine.{Frame, At, State, with_item, with_member, start}
+use Rattle.mes_json.specs.Machine.Frame.{frame, array_frame}
+use Rattle.mes_json.specs.Machine.At.{value, first_item, name, quoted, named, token, after}
 use Rattle.mes_json.specs.Machine.State.{state}
 use Rattle.mes_json.specs.declared.tape.Node.{Node}
-use Rattle.mes_json.specs.declared.tape.Node.TheVariants.{Text, Name, Map, End}
+use Rattle.mes_json.specs.declared.tape.Node.TheVariants.{Null, Bool, Number, Text, Name, List as list, Map, End}
 
 -- the bytes of a span
 abbrev pub span : List ℕ → ℕ → ℕ → List ℕ
 span texts from to = take (to - from) (drop from texts)
 
--- behind the colon: the open object goes onto the stack, and its value is due
+-- the value is the next item of the innermost array, and a comma stands behind it
+abbrev pub item_joined : List Frame → Tree → State
+item_joined [] t = state [] (after t)
+item_joined (frame ms k ∷ fs) t = state (frame ms k ∷ fs) (after t)
+item_joined (array_frame ts ∷ fs) t = state (array_frame (with_item ts t) ∷ fs) value
+
+-- where a value may follow: the open object or array goes onto the stack, and its value is due
 abbrev pub value_due : State → State
 value_due (state fs value) = state fs value
+value_due (state fs first_item) = state (array_frame no_items ∷ fs) value
 value_due (state fs (name ms)) = state fs (name ms)
 value_due (state fs (quoted p m s)) = state fs (quoted p m s)
 value_due (state fs (named ms k)) = state (frame ms k ∷ fs) value
-value_due (state fs (after t)) = state fs (after t)
+value_due (state fs (token x)) = state fs (token x)
+value_due (state fs (after t)) = item_joined fs t
 
 -- the value ends the member that is read
-abbrev pub joined : List Frame → Tree → State
-joined [] t = state [] (after t)
-joined (frame ms k ∷ fs) t = state fs (name (with_member ms k t))
+abbrev pub member_joined : List Frame → Tree → State
+member_joined [] t = state [] (after t)
+member_joined (frame ms k ∷ fs) t = state fs (name (with_member ms k t))
+member_joined (array_frame ts ∷ fs) t = state (array_frame ts ∷ fs) (after t)
 
 -- behind a member's value: a name may follow
 abbrev pub name_due : State → State
 name_due (state fs value) = state fs value
+name_due (state fs first_item) = state fs first_item
 name_due (state fs (name ms)) = state fs (name ms)
 name_due (state fs (quoted p m s)) = state fs (quoted p m s)
 name_due (state fs (named ms k)) = state fs (named ms k)
-name_due (state fs (after t)) = joined fs t
+name_due (state fs (token x)) = state fs (token x)
+name_due (state fs (after t)) = member_joined fs t
 
 -- where a value is due, this is in its place
 abbrev pub valued : At → State → State
 valued a (state fs value) = state fs a
+valued a (state fs first_item) = state fs first_item
 valued a (state fs (name ms)) = state fs (name ms)
 valued a (state fs (quoted p m s)) = state fs (quoted p m s)
 valued a (state fs (named ms k)) = state fs (named ms k)
+valued a (state fs (token x)) = state fs (token x)
 valued a (state fs (after t)) = state fs (after t)
 
 -- where a name is due, this is in its place
 abbrev pub in_object : (Members → At) → State → State
 in_object f (state fs value) = state fs value
+in_object f (state fs first_item) = state fs first_item
 in_object f (state fs (name ms)) = state fs (f ms)
 in_object f (state fs (quoted p m s)) = state fs (quoted p m s)
 in_object f (state fs (named ms k)) = state fs (named ms k)
+in_object f (state fs (token x)) = state fs (token x)
 in_object f (state fs (after t)) = state fs (after t)
+
+-- the value is the last one of the innermost object or array, which ends
+abbrev pub ended_behind : List Frame → Tree → State
+ended_behind [] t = state [] (after t)
+ended_behind (frame ms k ∷ fs) t = state fs (after (object (with_member ms k t)))
+ended_behind (array_frame ts ∷ fs) t = state fs (after (array (with_item ts t)))
+
+-- the innermost object or array ends
+abbrev pub ended : State → State
+ended (state fs value) = state fs value
+ended (state fs first_item) = state fs (after (array no_items))
+ended (state fs (name ms)) = state fs (after (object ms))
+ended (state fs (quoted p m s)) = state fs (quoted p m s)
+ended (state fs (named ms k)) = state fs (named ms k)
+ended (state fs (token x)) = state fs (token x)
+ended (state fs (after t)) = ended_behind fs t
 
 -- the state behind one more node
 abbrev pub apply : List ℕ → Node → State → State
+apply texts Null s = valued (after null) (value_due s)
+apply texts (Bool x) s = valued (after (boolean x)) (value_due s)
+apply texts (Number from to) s = valued (after (number (span texts from to))) (value_due s)
 apply texts (Text from to) s = valued (after (string (span texts from to))) (value_due s)
 apply texts (Name from to) s = in_object (λ ms. named ms (span texts from to)) (name_due s)
+apply texts list s = valued first_item (value_due s)
 apply texts Map s = valued (name no_members) (value_due s)
-apply texts End s = in_object (λ ms. after (object ms)) (name_due s)
+apply texts End s = ended s
 
 -- the state behind nodes
 abbrev pub spelled_from : List ℕ → State → List Node → State
@@ -75,10 +112,35 @@ pub record IsSpan (texts : List ℕ) (from to : ℕ) : Type 0 where
   pub inside : to ≤ length texts
   pub utf8 : IsUtf8 (span texts from to)
 
+-- the span holds a number
+pub record IsNumberSpan (texts : List ℕ) (from to : ℕ) : Type 0 where
+  pub span_is : IsSpan texts from to
+  pub number_is : IsNumber (span texts from to)
+
+-- how many bytes a node's span has
+abbrev pub span_length : Node → ℕ
+span_length Null = 0
+span_length (Bool x) = 0
+span_length (Number from to) = to - from
+span_length (Text from to) = to - from
+span_length (Name from to) = to - from
+span_length list = 0
+span_length Map = 0
+span_length End = 0
+
+-- how many bytes the spans of nodes have
+abbrev pub spanned : List Node → ℕ
+spanned [] = 0
+spanned (x ∷ xs) = span_length x + spanned xs
+
 -- a node's span is one
 abbrev pub HasSpan : List ℕ → Node → Type 0
+HasSpan texts Null = Unit {0}
+HasSpan texts (Bool x) = Unit {0}
+HasSpan texts (Number from to) = IsNumberSpan texts from to
 HasSpan texts (Text from to) = IsSpan texts from to
 HasSpan texts (Name from to) = IsSpan texts from to
+HasSpan texts list = Unit {0}
 HasSpan texts Map = Unit {0}
 HasSpan texts End = Unit {0}
 
@@ -86,16 +148,25 @@ HasSpan texts End = Unit {0}
 abbrev pub TakesValue : State → Type 0
 TakesValue s = (fs : List Frame) × (value_due s ≡ state fs value)
 
--- a name or the object's end is due
+-- a name is due
 abbrev pub TakesName : State → Type 0
 TakesName s = (fs : List Frame) × (ms : Members) × (name_due s ≡ state fs (name ms))
 
+-- an array's first item is due, or an item is read whole
+abbrev pub EndsItems : State → Type 0
+EndsItems s =
+    ((fs : List Frame) × (s ≡ state fs first_item)) ⊎ ((ts : Items) × (fs : List Frame) × (t : Tree) × (s ≡ state (array_frame ts ∷ fs) (after t)))
+
 -- the node may stand there
 abbrev pub Takes : State → Node → Type 0
+Takes s Null = TakesValue s
+Takes s (Bool x) = TakesValue s
+Takes s (Number from to) = TakesValue s
 Takes s (Text from to) = TakesValue s
 Takes s (Name from to) = TakesName s
+Takes s list = TakesValue s
 Takes s Map = TakesValue s
-Takes s End = TakesName s
+Takes s End = TakesName s ⊎ EndsItems s
 
 -- each node stands where it may
 abbrev pub ArePlaced : List ℕ → State → List Node → Type 0

@@ -9,7 +9,7 @@ use crate::memory::NoMemory;
 pub enum Why {
     /// The bytes end before the text does.
     End,
-    /// The byte opens an object past the nesting limit.
+    /// The byte opens an array or an object past the nesting limit.
     Depth,
     /// No text has this byte there.
     Byte,

@@ -1,19 +1,46 @@
 //! What the definitions say of any bytes, as contracts of functions that do nothing.
-ghost use Rattle.std.specs.Prelude.{◌≡◌, ℕ, List};
-ghost use Rattle.mes_json.specs.Tree.{Tree};
+ghost use Rattle.std.specs.Prelude.{◌≡◌, ◌⊎◌, ◌≤◌, ◌++◌, ℕ, List};
+ghost use Rattle.mes_json.specs.Tree.{Tree, depth};
+ghost use Rattle.mes_json.specs.Canonical.{canonical};
+ghost use Rattle.mes_json.specs.Writable.{IsWritable};
 ghost use Rattle.mes_json.specs.Grammar.{IsText};
-ghost use Rattle.mes_json.specs.Place.{IsFault};
+ghost use Rattle.mes_json.specs.Place.{Begins, IsFault};
+ghost use Rattle.mes_json.specs.Inner.{inner};
+ghost use Rattle.mes_json.specs.Lexer.{HasLexed, IsOutOfMemory, IsBounded, HoldsNothing};
 ghost use Rattle.mes_json.specs.declared.fault.TextFault.{TextFault as Fault};
 
+use crate::lexer::Lexer;
 use crate::limits::NESTING_LIMIT;
 
-/// Bytes are a JSON text of at most one tree, or they have at most one fault.
+/// Bytes are a JSON text or have a fault; the text is of one tree, and there is one fault.
 pub fn one_text_reading()
+    ensures some { (d : ℕ) (b : List ℕ) → ((t : Tree) × IsText d b t) ⊎ ((f : Fault) × IsFault d b f) }
     ensures tree { (d : ℕ) (b : List ℕ) (t u : Tree) → IsText d b t → IsText d b u → t ≡ u }
     ensures fault { (d : ℕ) (b : List ℕ) (f g : Fault) → IsFault d b f → IsFault d b g → f ≡ g }
 {}
 
-/// Objects nest at most 64 deep.
+/// The canonical text of a tree is a JSON text of it, wherever the tree nests no deeper than the limit.
+pub fn canonical_text()
+    ensures { (d : ℕ) (t : Tree) → IsWritable t → depth t ≤ d → IsText d (canonical t) t }
+{}
+
+/// What a lexer holds of texts is at most the bytes inside strings and numbers; what it holds of nodes, at most the bytes.
+pub fn lexer_bound(lexer: &Lexer)
+    ensures { (p : List ℕ) → HasLexed lexer.now p → IsBounded lexer.now p }
+{}
+
+/// Behind a fault, and after want of memory, a lexer holds nothing.
+pub fn lexer_lets_go(lexer: &Lexer)
+    ensures fault { (p : List ℕ) → HasLexed lexer.now p → (Begins NESTING_LIMIT p → ⊥) → HoldsNothing lexer.now }
+    ensures memory { IsOutOfMemory lexer.now → HoldsNothing lexer.now }
+{}
+
+/// More bytes hold no fewer inside strings and numbers.
+pub fn inner_grows()
+    ensures { (p q : List ℕ) → inner p ≤ inner (p ++ q) }
+{}
+
+/// Arrays and objects nest at most 64 deep.
 pub fn nesting_limit()
     ensures { NESTING_LIMIT ≡ 64 }
 {}

@@ -1,25 +1,53 @@
 #![tactic(auto)]
-//! JSON texts (RFC 8259) read exactly: the tree that the bytes spell, or the place and the reason of the first fault.
+//! JSON texts (RFC 8259) read exactly: the tree that the bytes spell, or the place and the reason of the first fault; and trees
+//! copied, compared and written.
 
+mod at;
+mod blank;
 mod build;
+mod copy;
+mod cursor;
+mod depth;
+mod digits;
+mod escape;
 mod fault;
 mod kind;
 mod laws;
+mod lexer;
 mod limits;
 mod memory;
+mod nesting;
+mod number_text;
+mod plain;
 mod read;
 mod reader;
+mod run;
+mod same;
+mod skip;
+mod stop;
 mod tape;
 #[cfg(test)]
 mod tests;
 mod text;
 mod utf8;
 mod value;
+mod value_kind;
+mod word;
+mod write;
+mod write_string;
 
+pub use cursor::{Element, Items, Members};
 pub use fault::{ReadFault, TextFault, Why};
-pub use laws::{nesting_limit, one_text_reading};
-pub use limits::NESTING_LIMIT;
+pub use laws::{
+    canonical_text, inner_grows, lexer_bound, lexer_lets_go, nesting_limit, one_text_reading,
+};
+pub use lexer::Lexer;
+pub use limits::{NESTING_LIMIT, ROOM_KEPT};
 pub use memory::NoMemory;
-pub use read::read_text;
+pub use number_text::NumText;
+pub use read::{read_tape, read_text};
+pub use tape::Tape;
 pub use text::Text;
 pub use value::Json;
+pub use value_kind::ValueKind;
+pub use write::write_text;

@@ -1,72 +1,37 @@
 //! The reader: takes a JSON text a byte at a time and keeps it as a tape.
-ghost use Rattle.std.specs.Prelude.{◌≡◌, length, option_map, IfOk, IfErr, OnOk};
-ghost use Rattle.mes_json.specs.declared.reader.Stop.TheVariants.{NoMemory};
+ghost use Rattle.std.specs.Prelude.{◌≡◌, ◌≤◌, [], ◌∷◌, length, option_map, encode_utf8, IfOk, IfErr, OnOk};
+ghost use Rattle.mes_json.specs.declared.stop.Stop.TheVariants.{NoMemory as no_memory};
 ghost use Rattle.mes_json.specs.Machine.{start, finish};
-ghost use Rattle.mes_json.specs.View.{view};
-ghost use Rattle.mes_json.specs.Reader.{Fits, Reached, Gives, Puts, Keeps, SameTape, string_node, behind_string, state_view};
+ghost use Rattle.mes_json.specs.Tokens.{tokens};
+ghost use Rattle.mes_json.specs.Reader.{Fits, Reached, EndsWhole, Gives, RunsTo, Enters, Puts, Keeps, Begins, innermost, outer, string_node, behind_string, state_view};
 
-use crate::build;
+use crate::at::{At, Purpose};
+use crate::blank::blank_run;
+use crate::digits::{digit_run, keeps_on};
+use crate::escape::{Escape, Move};
 use crate::fault::Why;
 use crate::kind::Kind;
 use crate::limits::NESTING_LIMIT;
 use crate::memory::NoMemory;
-use crate::tape::Node;
+use crate::nesting::Open;
+use crate::plain::plain_run;
+use crate::stop::Stop;
+use crate::tape::{Node, Tape};
 use crate::utf8::Mid;
-use crate::value::Json;
-use std::alloc::{AllocFailed, Global};
-
-/// What a string is read for.
-#[derive(Clone, Copy)]
-pub(crate) enum Purpose {
-    /// A member's name.
-    Name,
-    /// A value.
-    Value,
-}
-
-/// What is read next.
-#[derive(Clone, Copy)]
-pub(crate) enum At {
-    /// A value.
-    Value,
-    /// An object's first name, or its end.
-    FirstName,
-    /// The name behind a comma.
-    Name,
-    /// The colon behind a name.
-    Colon,
-    /// What may stand behind a value.
-    After,
-    /// The rest of a string.
-    Quoted(Purpose, Mid),
-}
-
-/// Why a byte was not taken.
-#[derive(Clone, Copy)]
-pub(crate) enum Stop {
-    /// No JSON text goes on with it.
-    Refused(Why),
-    /// A growth was refused memory.
-    NoMemory,
-}
-
-impl<T: Drop> From<AllocFailed<T>> for Stop {
-    ghost from_gives = { λ _ stop. stop ≡ NoMemory };
-
-    fn from(_refused: AllocFailed<T>) -> Stop {
-        Stop::NoMemory
-    }
-}
+use crate::word::{Said, Word};
+use arrayvec::ArrayVec;
+use mes_fixed::automaton::{Part, may_end, next_part};
+use std::alloc::Global;
 
 /// What was read of a JSON text.
 #[derive(Drop)]
 pub(crate) struct Reader {
     at: At,
-    /// How many objects are open.
-    depth: usize,
-    /// Where the text of the string that is read begins.
+    /// What is open, the innermost last.
+    nesting: ArrayVec<Open, NESTING_LIMIT, Global>,
+    /// Where the text of the string or the number that is read begins.
     start: usize,
-    /// The texts of the strings, one behind the other.
+    /// The texts of the strings and the numbers, one behind the other.
     text: Vec<u8>,
     nodes: Vec<Node>,
 }
@@ -77,16 +42,27 @@ impl Reader {
         ensures fits { Fits result }
         ensures start { state_view result ≡ start }
     {
+        Reader::within(alloc, Vec::new(alloc), Vec::new(alloc))
+    }
+
+    /// The same, in memory that is there.
+    pub(crate) fn within(alloc: Global, text: Vec<u8>, nodes: Vec<Node>) -> Reader
+        requires text { text.items ≡ [] }
+        requires nodes { nodes.items ≡ [] }
+        ensures fits { Fits result }
+        ensures start { state_view result ≡ start }
+    {
         Reader {
             at: At::Value,
-            depth: 0,
+            nesting: ArrayVec::new_in(alloc),
             start: 0,
-            text: Vec::new(alloc),
-            nodes: Vec::new(alloc),
+            text,
+            nodes,
         }
     }
 
     /// Takes a byte. After an error the reader holds nothing of use.
+    #[inline(always)]
     pub(crate) fn step(&mut self, byte: u8) -> Result<(), Stop>
         requires fits { Fits self.old }
         requires reached { Reached self.old }
@@ -95,52 +71,135 @@ impl Reader {
     {
         match self.at {
             At::Value => self.value(byte),
+            At::FirstItem => self.first_item(byte),
             At::FirstName => self.first_name(byte),
             At::Name => self.name(byte),
             At::Colon => self.colon(byte),
             At::After => self.after(byte),
             At::Quoted(purpose, mid) => self.quoted(purpose, mid, byte),
+            At::Literal(word) => self.literal(word, byte),
+            At::Digits(part) => self.digits(part, byte),
         }
     }
 
-    /// The value that the bytes so far spell, where they may end.
-    pub(crate) fn to_json(&self, alloc: Global) -> Result<Option<Json>, NoMemory>
-        requires { Fits self.now }
-        ensures { IfOk result (λ json. option_map view json ≡ finish (state_view self.now)) }
+    /// Takes the bytes from this place that are plain characters of a string, where one is read, or digits of a number, or
+    /// white space between tokens, all at once. The result is the place behind them.
+    #[inline(always)]
+    pub(crate) fn take_run(&mut self, bytes: &[u8], from: usize) -> Result<usize, NoMemory>
+        requires inside { from ≤ length bytes.now }
+        requires fits { Fits self.old }
+        ensures { IfOk result (λ to. RunsTo self.old bytes.now from to self.new) }
     {
         match self.at {
-            At::After if self.depth == 0 => build::to_json(alloc, &self.text, &self.nodes),
-            _ => Ok(None),
+            At::Quoted(_purpose, mid) => match mid {
+                Mid::Between => {
+                    let rest = &bytes[from..];
+                    let run = plain_run(rest);
+                    if run == 0 {
+                        return Ok(from);
+                    }
+                    self.text.extend_from_slice(&rest[..run])?;
+                    Ok(from + run)
+                }
+                _ => Ok(from),
+            },
+            At::Digits(part) if keeps_on(part) => {
+                let rest = &bytes[from..];
+                let run = digit_run(rest);
+                if run == 0 {
+                    return Ok(from);
+                }
+                self.text.extend_from_slice(&rest[..run])?;
+                Ok(from + run)
+            }
+            At::Digits(_) | At::Literal(_) => Ok(from),
+            At::Value | At::FirstItem | At::FirstName | At::Name | At::Colon | At::After => {
+                Ok(from + blank_run(&bytes[from..]))
+            }
+        }
+    }
+
+    /// How many bytes the texts of the strings and the numbers have.
+    pub(crate) fn held(&self) -> u64
+        ensures { result ≡ length self.now.text.items }
+    {
+        self.text.len() as u64
+    }
+
+    /// The tape of the value that the bytes so far spell, where they may end.
+    pub(crate) fn into_tape(mut self) -> Result<Option<Tape>, NoMemory>
+        requires fits { Fits self }
+        requires reached { Reached self }
+        ensures { IfOk result (λ tape. tape ≡ option_map tokens (finish (state_view self))) }
+    {
+        if self.ends()? {
+            Ok(Some(Tape::new(self.text, self.nodes)))
+        } else {
+            Ok(None)
+        }
+    }
+
+    /// Whether the bytes may end here. A number ends with them.
+    fn ends(&mut self) -> Result<bool, NoMemory>
+        requires fits { Fits self.old }
+        requires reached { Reached self.old }
+        ensures { IfOk result (λ whole. EndsWhole whole (finish (state_view self.old)) self.new) }
+    {
+        match self.at {
+            At::After => Ok(self.nesting.is_empty()),
+            At::Digits(part) if may_end(part) => {
+                self.end_number()?;
+                Ok(self.nesting.is_empty())
+            }
+            _ => Ok(false),
         }
     }
 }
 
 // One method for each place, on the byte behind it.
 impl Reader {
+    #[inline(always)]
     fn value(&mut self, byte: u8) -> Result<(), Stop>
         requires at { self.old.at ≡ At.Value }
         requires fits { Fits self.old }
-        requires reached { Reached self.old }
         ensures gives { Gives result (state_view self.old) byte (state_view self.new) }
         ensures fits { OnOk result (Fits self.new) }
     {
         match Kind::of(byte) {
             Kind::Blank => Ok(()),
             Kind::Quote => {
-                self.open_string(Purpose::Value);
+                self.begin(At::Quoted(Purpose::Value, Mid::Between));
                 Ok(())
             }
-            Kind::Opening => {
-                if self.depth >= NESTING_LIMIT {
-                    return Err(Stop::Refused(Why::Depth));
-                }
-                self.depth += 1;
-                self.put(Node::Map, At::FirstName)
+            Kind::Opening => self.enter(Open::Object, Node::Map, At::FirstName),
+            Kind::OpeningArray => self.enter(Open::Array, Node::List, At::FirstItem),
+            Kind::Word(word) => {
+                self.at = At::Literal(word);
+                Ok(())
             }
+            Kind::Digits(part) => self.begin_number(byte, part),
             _ => Err(Stop::Refused(Why::Byte)),
         }
     }
 
+    #[inline(always)]
+    fn first_item(&mut self, byte: u8) -> Result<(), Stop>
+        requires at { self.old.at ≡ At.FirstItem }
+        requires fits { Fits self.old }
+        ensures gives { Gives result (state_view self.old) byte (state_view self.new) }
+        ensures fits { OnOk result (Fits self.new) }
+    {
+        match Kind::of(byte) {
+            Kind::Blank => Ok(()),
+            Kind::ClosingArray => self.leave(),
+            _ => {
+                self.at = At::Value;
+                self.value(byte)
+            }
+        }
+    }
+
+    #[inline(always)]
     fn first_name(&mut self, byte: u8) -> Result<(), Stop>
         requires at { self.old.at ≡ At.FirstName }
         requires fits { Fits self.old }
@@ -150,17 +209,15 @@ impl Reader {
         match Kind::of(byte) {
             Kind::Blank => Ok(()),
             Kind::Quote => {
-                self.open_string(Purpose::Name);
+                self.begin(At::Quoted(Purpose::Name, Mid::Between));
                 Ok(())
             }
-            Kind::Closing => {
-                self.depth -= 1;
-                self.put(Node::End, At::After)
-            }
+            Kind::Closing => self.leave(),
             _ => Err(Stop::Refused(Why::Byte)),
         }
     }
 
+    #[inline(always)]
     fn name(&mut self, byte: u8) -> Result<(), Stop>
         requires at { self.old.at ≡ At.Name }
         requires fits { Fits self.old }
@@ -170,13 +227,14 @@ impl Reader {
         match Kind::of(byte) {
             Kind::Blank => Ok(()),
             Kind::Quote => {
-                self.open_string(Purpose::Name);
+                self.begin(At::Quoted(Purpose::Name, Mid::Between));
                 Ok(())
             }
             _ => Err(Stop::Refused(Why::Byte)),
         }
     }
 
+    #[inline(always)]
     fn colon(&mut self, byte: u8) -> Result<(), Stop>
         requires at { self.old.at ≡ At.Colon }
         requires fits { Fits self.old }
@@ -193,6 +251,7 @@ impl Reader {
         }
     }
 
+    #[inline(always)]
     fn after(&mut self, byte: u8) -> Result<(), Stop>
         requires at { self.old.at ≡ At.After }
         requires fits { Fits self.old }
@@ -201,18 +260,32 @@ impl Reader {
     {
         match Kind::of(byte) {
             Kind::Blank => Ok(()),
-            Kind::Closing if self.depth > 0 => {
-                self.depth -= 1;
-                self.put(Node::End, At::After)
-            }
-            Kind::Comma if self.depth > 0 => {
-                self.at = At::Name;
-                Ok(())
-            }
+            Kind::Comma => match self.innermost() {
+                Some(Open::Object) => {
+                    self.at = At::Name;
+                    Ok(())
+                }
+                Some(Open::Array) => {
+                    self.at = At::Value;
+                    Ok(())
+                }
+                None => Err(Stop::Refused(Why::Byte)),
+            },
+            Kind::Closing => match self.innermost() {
+                Some(Open::Object) => self.leave(),
+                Some(Open::Array) => Err(Stop::Refused(Why::Byte)),
+                None => Err(Stop::Refused(Why::Byte)),
+            },
+            Kind::ClosingArray => match self.innermost() {
+                Some(Open::Array) => self.leave(),
+                Some(Open::Object) => Err(Stop::Refused(Why::Byte)),
+                None => Err(Stop::Refused(Why::Byte)),
+            },
             _ => Err(Stop::Refused(Why::Byte)),
         }
     }
 
+    #[inline(always)]
     fn quoted(&mut self, purpose: Purpose, mid: Mid, byte: u8) -> Result<(), Stop>
         requires at { self.old.at ≡ At.Quoted purpose mid }
         requires fits { Fits self.old }
@@ -223,7 +296,11 @@ impl Reader {
         match mid {
             Mid::Between => match byte {
                 b'"' => self.end_string(purpose),
-                0..=0x1F | b'\\' => Err(Stop::Refused(Why::Byte)),
+                b'\\' => {
+                    self.at = At::Quoted(purpose, Mid::Escape(Escape::Backslash));
+                    Ok(())
+                }
+                0..=0x1F => Err(Stop::Refused(Why::Byte)),
                 _ => match Mid::lead(byte) {
                     Some(next) => self.keep(byte, At::Quoted(purpose, next)),
                     None => Err(Stop::Refused(Why::Byte)),
@@ -235,26 +312,117 @@ impl Reader {
                 }
                 self.keep(byte, At::Quoted(purpose, Mid::after(more)))
             }
+            Mid::Escape(escape) => self.escaped(purpose, escape, byte),
         }
+    }
+
+    #[inline(always)]
+    fn escaped(&mut self, purpose: Purpose, escape: Escape, byte: u8) -> Result<(), Stop>
+        requires at { self.old.at ≡ At.Quoted purpose (Mid.Escape escape) }
+        requires fits { Fits self.old }
+        requires reached { Reached self.old }
+        ensures gives { Gives result (state_view self.old) byte (state_view self.new) }
+        ensures fits { OnOk result (Fits self.new) }
+    {
+        match escape.step(byte) {
+            Move::On(next) => {
+                self.at = At::Quoted(purpose, Mid::Escape(next));
+                Ok(())
+            }
+            Move::Makes(character) => {
+                self.keep_character(character, At::Quoted(purpose, Mid::Between))
+            }
+            Move::Refused => Err(Stop::Refused(Why::Byte)),
+        }
+    }
+
+    fn literal(&mut self, word: Word, byte: u8) -> Result<(), Stop>
+        requires at { self.old.at ≡ At.Literal word }
+        requires fits { Fits self.old }
+        ensures gives { Gives result (state_view self.old) byte (state_view self.new) }
+        ensures fits { OnOk result (Fits self.new) }
+    {
+        match word.next(byte) {
+            Some(Said::More(next)) => {
+                self.at = At::Literal(next);
+                Ok(())
+            }
+            Some(Said::Null) => self.put(Node::Null, At::After),
+            Some(Said::Bool(truth)) => self.put(Node::Bool(truth), At::After),
+            None => Err(Stop::Refused(Why::Byte)),
+        }
+    }
+
+    #[inline(always)]
+    fn digits(&mut self, part: Part, byte: u8) -> Result<(), Stop>
+        requires at { self.old.at ≡ At.Digits part }
+        requires fits { Fits self.old }
+        requires reached { Reached self.old }
+        ensures gives { Gives result (state_view self.old) byte (state_view self.new) }
+        ensures fits { OnOk result (Fits self.new) }
+    {
+        match next_part(part, byte) {
+            Some(next) => self.keep(byte, At::Digits(next)),
+            None => {
+                if !may_end(part) {
+                    return Err(Stop::Refused(Why::Byte));
+                }
+                self.end_number()?;
+                self.after(byte)
+            }
+        }
+    }
+}
+
+// What is open.
+impl Reader {
+    /// The innermost object or array that is open.
+    #[inline(always)]
+    fn innermost(&self) -> Option<Open>
+        ensures { result ≡ innermost self.now.nesting.items }
+    {
+        self.nesting.as_slice().last().copied()
+    }
+
+    /// An object or an array begins.
+    #[inline(always)]
+    fn enter(&mut self, open_one: Open, node: Node, at: At) -> Result<(), Stop>
+        ensures { Enters result self.old open_one node at self.new }
+    {
+        if self.nesting.is_full() {
+            return Err(Stop::Refused(Why::Depth));
+        }
+        self.nesting.push(open_one);
+        self.put(node, at)
+    }
+
+    /// The innermost object or array ends.
+    #[inline(always)]
+    fn leave(&mut self) -> Result<(), Stop>
+        ensures ok { OnOk result (Puts self.old (outer self.old.nesting.items) Node.End At.After self.new) }
+        ensures err { IfErr result (λ e. e ≡ no_memory) }
+    {
+        self.nesting.pop();
+        self.put(Node::End, At::After)
     }
 }
 
 // What the methods do to the tape.
 impl Reader {
-    /// A string begins.
-    fn open_string(&mut self, purpose: Purpose)
-        ensures at { self.new.at ≡ At.Quoted purpose Mid.Between }
-        ensures start { self.new.start ≡ length self.old.text.items }
-        ensures same { SameTape self.old self.new }
+    /// The text of a string or a number begins.
+    #[inline(always)]
+    fn begin(&mut self, at: At)
+        ensures { Begins self.old [] at self.new }
     {
         self.start = self.text.len();
-        self.at = At::Quoted(purpose, Mid::Between);
+        self.at = at;
     }
 
     /// The string that is read ends.
+    #[inline(always)]
     fn end_string(&mut self, purpose: Purpose) -> Result<(), Stop>
-        ensures ok { OnOk result (Puts self.old (string_node purpose self.old) (behind_string purpose) self.new) }
-        ensures err { IfErr result (λ e. e ≡ Stop.NoMemory) }
+        ensures ok { OnOk result (Puts self.old self.old.nesting.items (string_node purpose self.old) (behind_string purpose) self.new) }
+        ensures err { IfErr result (λ e. e ≡ no_memory) }
     {
         let from = self.start;
         let to = self.text.len();
@@ -264,20 +432,55 @@ impl Reader {
         }
     }
 
-    /// A byte of the string that is read.
+    /// A number begins with a byte that leads to this part of it.
+    fn begin_number(&mut self, byte: u8, part: Part) -> Result<(), Stop>
+        ensures ok { OnOk result (Begins self.old (byte ∷ []) (At.Digits part) self.new) }
+        ensures err { IfErr result (λ e. e ≡ no_memory) }
+    {
+        self.begin(At::Digits(part));
+        self.keep(byte, At::Digits(part))
+    }
+
+    /// The number that is read ends.
+    fn end_number(&mut self) -> Result<(), NoMemory>
+        ensures ok { OnOk result (Puts self.old self.old.nesting.items (Node.Number self.old.start (length self.old.text.items)) At.After self.new) }
+    {
+        let from = self.start;
+        let to = self.text.len();
+        self.nodes.push(Node::Number { from, to })?;
+        self.at = At::After;
+        Ok(())
+    }
+
+    /// A byte of the string or the number that is read.
+    #[inline(always)]
     fn keep(&mut self, byte: u8, at: At) -> Result<(), Stop>
-        ensures ok { OnOk result (Keeps self.old byte at self.new) }
-        ensures err { IfErr result (λ e. e ≡ Stop.NoMemory) }
+        ensures ok { OnOk result (Keeps self.old (byte ∷ []) at self.new) }
+        ensures err { IfErr result (λ e. e ≡ no_memory) }
     {
         self.text.push(byte)?;
         self.at = at;
         Ok(())
     }
 
+    /// A character of the string that is read.
+    #[inline(always)]
+    fn keep_character(&mut self, character: char, at: At) -> Result<(), Stop>
+        ensures ok { OnOk result (Keeps self.old (encode_utf8 character) at self.new) }
+        ensures err { IfErr result (λ e. e ≡ no_memory) }
+    {
+        let mut bytes = [0; 4];
+        let text = character.encode_utf8(&mut bytes);
+        self.text.extend_from_slice(text.as_bytes())?;
+        self.at = at;
+        Ok(())
+    }
+
     /// The next node.
+    #[inline(always)]
     fn put(&mut self, node: Node, at: At) -> Result<(), Stop>
-        ensures ok { OnOk result (Puts self.old node at self.new) }
-        ensures err { IfErr result (λ e. e ≡ Stop.NoMemory) }
+        ensures ok { OnOk result (Puts self.old self.old.nesting.items node at self.new) }
+        ensures err { IfErr result (λ e. e ≡ no_memory) }
     {
         self.nodes.push(node)?;
         self.at = at;

@@ -1,14 +1,112 @@
 //! The tape: a JSON value as one flat list of nodes over one buffer of texts.
+ghost use Rattle.std.specs.Prelude.{◌≡◌, ◌≤◌, [], vec_capacity};
+ghost use Rattle.std.specs.List.{AllByRecursion};
+ghost use Rattle.mes_json.specs.Tape.{span, IsSpan, HasSpan};
+ghost use Rattle.mes_json.specs.Cursor.{tokens_held};
+
+mod spell;
+
+use crate::cursor::Element;
+use crate::limits::ROOM_KEPT;
+use std::alloc::Global;
+use std::marker::Model;
+use std::{mem, str};
 
 /// A node of the tape. A span is the bytes of the buffer of texts from `from` up to but not including `to`.
 #[derive(Clone, Copy)]
 pub(crate) enum Node {
+    /// The literal `null`.
+    Null,
+    /// The literal `false` or `true`.
+    Bool(bool),
+    /// A number's text.
+    Number { from: usize, to: usize },
     /// A string's text.
     Text { from: usize, to: usize },
     /// The name of the member whose value follows.
     Name { from: usize, to: usize },
+    /// An array's items follow.
+    List,
     /// An object's members follow.
     Map,
-    /// The innermost object ends.
+    /// The innermost array or object ends.
     End,
+}
+
+/// A JSON value that was read whole, in two runs of memory and not a tree. A contract sees it as its tokens.
+#[derive(Drop)]
+pub struct Tape {
+    /// The texts of the strings and the numbers, one behind the other.
+    texts: Vec<u8>,
+    nodes: Vec<Node>,
+}
+
+impl Model for Tape {
+    ghost use Rattle.std.specs.Prelude.{List};
+    ghost use Rattle.std.specs.List.{AllByRecursion};
+    ghost use Rattle.mes_json.specs.Tokens.{Token, tokens_code};
+
+    ghost Value = { List Token };
+
+    ghost coded = { tokens_code };
+
+    ghost use Rattle.mes_json.specs.Tape.{HasSpan};
+    ghost use Rattle.mes_json.specs.Cursor.{tokens_held};
+
+    ghost view = { λ t. tokens_held t.texts.items t.nodes.items };
+
+    ghost invariant = { λ t. AllByRecursion (HasSpan t.texts.items) t.nodes.items };
+}
+
+impl Tape {
+    /// The tape of these nodes.
+    pub(crate) fn new(texts: Vec<u8>, nodes: Vec<Node>) -> Tape
+        requires { AllByRecursion (HasSpan texts.items) nodes.items }
+        ensures { result ≡ tokens_held texts.items nodes.items }
+    {
+        Tape { texts, nodes }
+    }
+
+    /// The value, read in place.
+    pub fn root(&self) -> Element<'_>
+        ensures { result ≡ self.now }
+    {
+        Element::new(&self.texts, &self.nodes)
+    }
+}
+
+impl Tape {
+    /// The memory of the tape, emptied; of each vector that has more than `ROOM_KEPT` bytes it is given back. Takes no memory.
+    pub(crate) fn into_room(self, alloc: Global) -> (Vec<u8>, Vec<Node>)
+        ensures texts { result.0.items ≡ [] }
+        ensures nodes { result.1.items ≡ [] }
+    {
+        let Tape { texts, nodes } = self;
+        let most = ROOM_KEPT / mem::size_of::<Node>();
+        (
+            emptied(alloc, texts, ROOM_KEPT),
+            emptied(alloc, nodes, most),
+        )
+    }
+}
+
+/// The memory of a vector, emptied. Where it has room for more elements than so many, it is given back.
+fn emptied<T: Drop>(alloc: Global, mut room: Vec<T>, most: usize) -> Vec<T>
+    ensures items { result.items ≡ [] }
+    ensures most { vec_capacity result ≤ most }
+    ensures kept { vec_capacity room ≤ most → vec_capacity result ≡ vec_capacity room }
+{
+    if room.capacity() > most {
+        return Vec::new(alloc);
+    }
+    room.clear();
+    room
+}
+
+/// The text of a span.
+pub(crate) fn span_text(texts: &[u8], from: usize, to: usize) -> &str
+    requires { IsSpan texts.now from to }
+    ensures { result.now ≡ span texts.now from to }
+{
+    unsafe { str::from_utf8_unchecked(&texts[from..to]) }
 }

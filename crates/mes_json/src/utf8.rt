@@ -1,7 +1,9 @@
-//! Where a reader of UTF-8 stands between and within characters (RFC 3629, section 4).
+//! Where a reader of a string stands between and within characters (RFC 3629, section 4; RFC 8259, section 7).
 ghost use Rattle.std.specs.Prelude.{◌≡◌, ◌≤◌, option_map};
 ghost use Rattle.mes_json.specs.Machine.{lead, after_byte};
 ghost use Rattle.mes_json.specs.Reader.{mid_view};
+
+use crate::escape::Escape;
 
 /// What of a character is read.
 #[derive(Clone, Copy)]
@@ -10,10 +12,13 @@ pub(crate) enum Mid {
     Between,
     /// Some of it: `more` bytes are due, the next one from `least` to `most`.
     Within { more: u8, least: u8, most: u8 },
+    /// Some of an escape.
+    Escape(Escape),
 }
 
 impl Mid {
     /// Where the first byte of a character leads.
+    #[inline(always)]
     pub(crate) fn lead(byte: u8) -> Option<Mid>
         ensures { option_map mid_view result ≡ lead byte }
     {
@@ -32,6 +37,7 @@ impl Mid {
     }
 
     /// Where a byte leads in a character that `more` bytes were due of.
+    #[inline(always)]
     pub(crate) fn after(more: u8) -> Mid
         ensures { mid_view result ≡ after_byte more }
     {

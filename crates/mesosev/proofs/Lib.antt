@@ -1,8 +1,3 @@
-mod DecoderLemmas
-mod EventLemmas
-mod FieldLemmas
-mod LimitLemmas
-mod PathLemmas
-mod PlainLemmas
-mod PlainWords
 mod CommandLemmas
+mod LimitLemmas
+mod PlainWords

@@ -1,13 +1,3 @@
 pub mod CommandLine
-pub mod Decoding
-pub mod Events
-pub mod FieldFaults
-pub mod Fields
-pub mod Lines
 pub mod NamedOptions
-pub mod Paths
-pub mod Reading
-pub mod RecordFaults
-pub mod Steps
-pub mod Stream
 pub mod Printing

@@ -8,13 +8,13 @@ use Rattle.mes_frame.specs.Write.{NoneFails, StopsWrite}
 use Rattle.mes_frame.specs.declared.counts.Counts.{Counts}
 use Rattle.mes_frame.specs.declared.write.WriteFault.{WriteFault}
 use Rattle.mesosev.specs.CommandLine.{command_app}
-use Rattle.mesosev.specs.Lines.{fault_text, count_text}
+use Rattle.mes_stream.specs.Lines.{fault_text, count_text}
 use Rattle.mesosev.specs.NamedOptions.{IsLimit, NameOptions, NameNoOptions}
-use Rattle.mesosev.specs.Reading.{EndsPlain}
-use Rattle.mesosev.specs.declared.event.Event.{Event}
-use Rattle.mesosev.specs.declared.fault.Fault.TheVariants.{NoMemory}
-use Rattle.mesosev.specs.declared.fault.Report.{Report}
-use Rattle.mesosev.specs.declared.fault.Stop.{Stop}
+use Rattle.mes_stream.specs.Reading.{EndsPlain}
+use Rattle.mes_msg.specs.declared.event.Event.{Event}
+use Rattle.mes_stream.specs.declared.fault.Fault.TheVariants.{NoMemory}
+use Rattle.mes_stream.specs.declared.fault.Report.{Report}
+use Rattle.mes_stream.specs.declared.fault.Stop.{Stop}
 use Rattle.mesosev.specs.declared.run.TheConstants.{READS_MOST}
 use Rattle.mesosev.specs.declared.words.Options.TheVariants.{Check}
 use Rattle.mesosev.specs.declared.words.WordsFault.{WordsFault}

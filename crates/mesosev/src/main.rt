@@ -2,15 +2,7 @@
 #![tactic(auto)]
 
 mod command;
-mod decoder;
-mod event;
-mod fault;
-mod field;
-mod line;
-mod members;
 mod options;
-mod path;
-mod plain;
 mod run;
 #[cfg(test)]
 mod tests;

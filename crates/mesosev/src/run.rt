@@ -5,13 +5,11 @@ ghost use Rattle.mesosev.specs.NamedOptions.{SayPlainly, IsLimit, IsInRange, Ref
 ghost use Rattle.mesosev.specs.Printing.{Prints, Checks, LacksMemory, Tells, TellsError, Runs};
 ghost use Rattle.mesosev.specs.declared.words.Options.TheVariants.{Check};
 
-use crate::fault::Fault;
-use crate::line::{FAULT_LINE_MOST, count_line, fault_line};
 use crate::options::options;
-use crate::plain::{READ_MOST, read_plain};
 use crate::words::{LIMIT_DEFAULT, LIMIT_LEAST, LIMIT_MOST, Options, WordsFault};
 use arrayvec::ArrayString;
 use mes_frame::{Limit, Sink, Source, write_all};
+use mes_stream::{FAULT_LINE_MOST, Fault, READ_MOST, count_line, fault_line, read_plain};
 use std::alloc::{AllocGlobal, Global};
 use std::convert::AsStr;
 

@@ -1,6 +1,5 @@
 //! The words of the command, as a user writes them.
 
-mod plain;
 mod run;
 
 use crate::options::options;

@@ -63,6 +63,12 @@ fn events_are_counted(rt: HostRuntime) -> Result<(), Fail> {
             "35\n{\"x\":\"a\",\"type\":\"HEARTBEAT\",\"x\":{}}",
             "events 1 bytes 38",
         ),
+        ("26\n{\"type\":\"HEARTBEAT\",\"x\":1}", "events 1 bytes 29"),
+        // Escapes in a name and in a text; each kind of value in a member of another name.
+        (
+            "60\n{\"x\":[null,true,-0.5e+1],\"t\\u0079pe\":\"\\u0048EARTBEAT\",\"y\":0}",
+            "events 1 bytes 63",
+        ),
     ];
     for (input, line) in streams {
         expect_check(&rt, &[], input, line, 0)?;
@@ -83,15 +89,33 @@ fn faults_are_told(rt: HostRuntime) -> Result<(), Fail> {
         // Records that are no JSON text.
         ("0\n", "fault F11 Text record 1 byte 0 End after 2"),
         (
-            "26\n{\"type\":\"HEARTBEAT\",\"x\":1}",
-            "fault F11 Text record 1 byte 24 Byte after 29",
+            "34\n{\"type\":\"HEARTBEAT\",\"x\":\"\\ud800x\"}",
+            "fault F11 Text record 1 byte 31 Byte after 37",
+        ),
+        (
+            "33\n{\"type\":\"HEARTBEAT\",\"x\":\"\\udc00\"}",
+            "fault F11 Text record 1 byte 28 Byte after 36",
         ),
         // JSON texts of no event.
         (
             "7\n\"abcde\"",
             "fault F12 Field record 1 . WrongKind after 9",
         ),
+        ("4\nnull", "fault F12 Field record 1 . WrongKind after 6"),
+        ("2\n[]", "fault F12 Field record 1 . WrongKind after 4"),
         ("2\n{}", "fault F12 Field record 1 type Missing after 4"),
+        (
+            "13\n{\"type\":null}",
+            "fault F12 Field record 1 type Missing after 16",
+        ),
+        (
+            "25\n{\"type\":null,\"type\":null}",
+            "fault F12 Field record 1 type Twice after 28",
+        ),
+        (
+            "10\n{\"type\":1}",
+            "fault F12 Field record 1 type WrongKind after 13",
+        ),
         (
             "11\n{\"type\":{}}",
             "fault F12 Field record 1 type WrongKind after 14",

@@ -4,7 +4,7 @@ use Rattle.mes_fixed.specs.declared.automaton.Part.TheVariants.{AtStart}
 use Rattle.mes_fixed.specs.Number.{Numeral}
 use Rattle.mes_fixed.specs.Gathering.{blank, IsBeforePoint}
 use Rattle.mes_fixed.specs.Decimal.{IsDecimal}
-use Rattle.mes_fixed.proofs.Reading.{run}
+use Rattle.mes_fixed.specs.Gathering.{run}
 use Rattle.mes_fixed.proofs.decimal.Decimal.read.Given as goal
 
 abbrev pub invariant-loop-byte : goal.invariant-loop-byte

@@ -1,0 +1,257 @@
+-- How the parts of a chunked body grow by a byte: a chunk's line, its data, the trailer lines, and the ends of each.
+use Rattle.std.proofs.Common.{◌≡◌, ℕ, Bool, true, false, ◌+◌, ◌-◌, ◌*◌, ◌^◌, ◌<◌, ◌≤◌, List, [], ◌∷◌, ◌++◌, length, refl, ap, sym, ◌∙◌, inl, inr, append_assoc, arith, length-append}
+use Rattle.std.proofs.lemmas.Int.Digits.{digits_push, digits_value_push}
+use Rattle.std.proofs.lemmas.List.{append-nil, flat_map_more}
+use Rattle.std.specs.Char.{digit_value}
+use Rattle.std.specs.List.{AllByRecursion}
+use Rattle.mes_frame.specs.Chunk.{Line, BeginsExtension, IsExtensionByte, IsExtension, line_bytes, IsLine, IsPlain, IsTrailer, trailer_bytes, trailers_bytes, ending, IsEnding, Chunk, IsChunk, chunk_bytes, IsChunked}
+use Rattle.mes_frame.specs.ChunkFront.{InSize, InExtension, AfterLine, InData, AfterData, InTrailer, AfterTrailer, AfterEnding}
+use Rattle.mes_frame.specs.ChunkFaults.{ShowsBadLine, ShowsLargeChunk}
+use Rattle.mes_frame.specs.ChunkState.{PlaceStands, GoesOn}
+use Rattle.mes_frame.specs.declared.chunk.Place.TheVariants.{Size, Extension, LineEnd, Data, DataEnd, Trailer, TrailerEnd, End}
+use Rattle.mes_frame.specs.declared.limits.TheConstants.{CHUNK_LINE_LIMIT, TRAILERS_LIMIT}
+
+-- one element more
+pub all_push : {X : Type 0} (P : X → Type 0) (xs : List X) (x : X) → AllByRecursion P xs → P x → AllByRecursion P (xs ++ x ∷ [])
+all_push P [] x all is = (is, tt)
+all_push P (y ∷ ys) x all is = (all.0, all_push P ys x all.1 is)
+
+pub all_append : {X : Type 0} (P : X → Type 0) (xs ys : List X) → AllByRecursion P xs → AllByRecursion P ys → AllByRecursion P (xs ++ ys)
+all_append P [] ys first second = second
+all_append P (x ∷ xs) ys first second = (first.0, all_append P xs ys first.1 second)
+
+-- a digit more
+pub digit_kept : (count size digit b : ℕ) (x d : List ℕ) → PlaceStands (Size count size) x d → count < CHUNK_LINE_LIMIT → digit_value b ≡ digit → digit < 16 → size * 16 + digit < 2 ^ 64 → PlaceStands (Size (count + 1) (size * 16 + digit)) (x ++ b ∷ []) d
+digit_kept count size digit b x d stands room is small fits =
+    let len = length-append x (b ∷ []) in
+    let sum = digits_value_push 16 x b in
+    let kept : InSize (x ++ b ∷ []) d = record {
+      hex = digits_push 16 x b stands.0.hex (omega arith);
+      fits = omega arith;
+      short = omega arith;
+      empty = stands.0.empty;
+    } in
+    (kept, omega arith, omega arith)
+
+-- a digit too many for 64 bits
+pub digit_too_large : (count size digit b : ℕ) (x d : List ℕ) → PlaceStands (Size count size) x d → count < CHUNK_LINE_LIMIT → digit_value b ≡ digit → digit < 16 → 2 ^ 64 ≤ size * 16 + digit → ShowsLargeChunk x d b
+digit_too_large count size digit b x d stands room is small large =
+    let sum = digits_value_push 16 x b in
+    (stands.0, omega arith, omega arith, omega arith)
+
+-- a byte that goes on with no line
+pub size_shows : (count size b : ℕ) (x d : List ℕ) → PlaceStands (Size count size) x d → count < CHUNK_LINE_LIMIT → 16 ≤ digit_value b → (0 < count → BeginsExtension b → ⊥) → (0 < count → b ≡ 13 → ⊥) → ShowsBadLine x d b
+size_shows count size b x d stands room other begins cr = inl (stands.0, omega arith, (other, λ some. (begins (omega arith), cr (omega arith))))
+
+-- digits are a line
+size_line : (x d : List ℕ) → InSize x d → 0 < length x → IsLine (record { size = x; extension = [] })
+size_line x d in_size some = record {
+  some = some;
+  hex = in_size.hex;
+  fits = in_size.fits;
+  extension = tt;
+  short = let short = in_size.short in omega arith;
+}
+
+-- the CR behind the digits
+pub size_ends : (count size : ℕ) (x d : List ℕ) → PlaceStands (Size count size) x d → 0 < count → PlaceStands (LineEnd size) (x ++ 13 ∷ []) d
+size_ends count size x d stands some =
+    let l : Line = record { size = x; extension = [] } in
+    let after : AfterLine l (x ++ 13 ∷ []) d = record {
+      line = size_line x d stands.0 (omega arith);
+      spelt = ap (λ (y : List ℕ). y ++ 13 ∷ []) (sym (append-nil x));
+      empty = stands.0.empty;
+    } in
+    (l, after, stands.2)
+
+-- an extension's first byte
+pub extension_begins : (count size b : ℕ) (x d : List ℕ) → PlaceStands (Size count size) x d → 0 < count → count < CHUNK_LINE_LIMIT → BeginsExtension b → PlaceStands (Extension (count + 1) size) (x ++ b ∷ []) d
+extension_begins count size b x d stands some room begins =
+    let len = length-append x (b ∷ []) in
+    let l : Line = record { size = x; extension = b ∷ [] } in
+    let line : IsLine l = record {
+      some = omega arith;
+      hex = stands.0.hex;
+      fits = stands.0.fits;
+      extension = (begins, tt);
+      short = omega arith;
+    } in
+    let within : InExtension l (x ++ b ∷ []) d = record { line = line; some = omega arith; spelt = refl; empty = stands.0.empty } in
+    (l, within, omega arith, stands.2)
+
+extension_push : (e : List ℕ) (b : ℕ) → IsExtension e → 0 < length e → IsExtensionByte b → IsExtension (e ++ b ∷ [])
+extension_push [] b extension some is = absurd (omega arith)
+extension_push (a ∷ e) b extension some is = (extension.0, all_push IsExtensionByte e b extension.1 is)
+
+-- more of an extension
+pub extension_kept : (count size b : ℕ) (x d : List ℕ) → PlaceStands (Extension count size) x d → count < CHUNK_LINE_LIMIT → IsExtensionByte b → PlaceStands (Extension (count + 1) size) (x ++ b ∷ []) d
+extension_kept count size b x d (l, old, count-is, size-is) room is =
+    let len = length-append x (b ∷ []) in
+    let more = length-append l.extension (b ∷ []) in
+    let whole = length-append l.size l.extension in
+    let lens = ap length old.spelt in
+    let longer : Line = record { size = l.size; extension = l.extension ++ b ∷ [] } in
+    let line : IsLine longer = record {
+      some = old.line.some;
+      hex = old.line.hex;
+      fits = old.line.fits;
+      extension = extension_push l.extension b old.line.extension old.some is;
+      short = omega arith;
+    } in
+    let within : InExtension longer (x ++ b ∷ []) d = record {
+      line = line;
+      some = omega arith;
+      spelt = ap (λ (y : List ℕ). y ++ b ∷ []) old.spelt ∙ append_assoc l.size l.extension (b ∷ []);
+      empty = old.empty;
+    } in
+    (longer, within, omega arith, size-is)
+
+-- the CR behind an extension
+pub extension_ends : (count size : ℕ) (x d : List ℕ) → PlaceStands (Extension count size) x d → PlaceStands (LineEnd size) (x ++ 13 ∷ []) d
+extension_ends count size x d (l, old, count-is, size-is) =
+    let after : AfterLine l (x ++ 13 ∷ []) d = record {
+      line = old.line;
+      spelt = ap (λ (y : List ℕ). y ++ 13 ∷ []) old.spelt;
+      empty = old.empty;
+    } in
+    (l, after, size-is)
+
+-- the LF of the line of a chunk with data
+pub data_begins : (size : ℕ) (x d : List ℕ) → PlaceStands (LineEnd size) x d → 0 < size → PlaceStands (Data size) (x ++ 10 ∷ []) d
+data_begins size x d (l, old, size-is) some =
+    let none = ap length old.empty in
+    let begun : InData l size (x ++ 10 ∷ []) d = record {
+      line = old.line;
+      spelt = rw old.empty (ap (λ (y : List ℕ). y ++ 10 ∷ []) old.spelt ∙ append_assoc (line_bytes l) (13 ∷ []) (10 ∷ []));
+      size = omega arith;
+      some = omega arith;
+    } in
+    (l, begun)
+
+-- a byte of data
+pub data_kept : (left b : ℕ) (x d : List ℕ) → PlaceStands (Data left) x d → 0 < left → PlaceStands (Data (left - 1)) (x ++ b ∷ []) (d ++ b ∷ [])
+data_kept left b x d (l, old) some =
+    let len = length-append d (b ∷ []) in
+    let size = old.size in
+    let more : InData l (left - 1) (x ++ b ∷ []) (d ++ b ∷ []) = record {
+      line = old.line;
+      spelt = ap (λ (y : List ℕ). y ++ b ∷ []) old.spelt ∙ append_assoc (line_bytes l) (13 ∷ 10 ∷ d) (b ∷ []);
+      size = omega arith;
+      some = old.some;
+    } in
+    (l, more)
+
+-- the CR behind the data
+pub data_ends : (x d : List ℕ) → PlaceStands (Data 0) x d → PlaceStands DataEnd (x ++ 13 ∷ []) d
+data_ends x d (l, old) =
+    let size = old.size in
+    let some = old.some in
+    let chunk : IsChunk (record { line = l; bytes = d }) = record { line = old.line; size = omega arith; some = omega arith } in
+    let after : AfterData l (x ++ 13 ∷ []) d = record {
+      chunk = chunk;
+      spelt = ap (λ (y : List ℕ). y ++ 13 ∷ []) old.spelt ∙ append_assoc (line_bytes l) (13 ∷ 10 ∷ d) (13 ∷ []);
+    } in
+    (l, after)
+
+-- before a chunk's first byte
+pub size_begins : PlaceStands (Size 0 0) [] []
+size_begins =
+    let none : InSize [] [] = record { hex = tt; fits = omega arith; short = omega arith; empty = refl } in
+    (none, refl, refl)
+
+-- the LF behind the data
+pub chunk_ends : (x d : List ℕ) → PlaceStands DataEnd x d → GoesOn (Size 0 0) (x ++ 10 ∷ []) d
+chunk_ends x d (l, old) =
+    let c : Chunk = record { line = l; bytes = d } in
+    let spelt : x ++ 10 ∷ [] ≡ chunk_bytes c = ap (λ (y : List ℕ). y ++ 10 ∷ []) old.spelt
+    ∙ (append_assoc (line_bytes l) (13 ∷ 10 ∷ (d ++ 13 ∷ [])) (10 ∷ [])
+    ∙ ap (λ (y : List ℕ). line_bytes l ++ (13 ∷ 10 ∷ y)) (append_assoc d (13 ∷ []) (10 ∷ []))) in
+    inr (c, old.chunk, spelt, refl, size_begins)
+
+-- the LF of the last chunk's line
+pub trailers_begin : (x d : List ℕ) → PlaceStands (LineEnd 0) x d → PlaceStands (Trailer 0 false) (x ++ 10 ∷ []) d
+trailers_begin x d (l, old, size-is) =
+    let ends : IsEnding l [] = record { line = old.line; zero_size = sym size-is; each = tt; short = omega arith } in
+    let begun : InTrailer l [] [] (x ++ 10 ∷ []) d = record {
+      ends = ends;
+      plain = tt;
+      short = omega arith;
+      spelt = ap (λ (y : List ℕ). y ++ 10 ∷ []) old.spelt ∙ (append_assoc (line_bytes l) (13 ∷ []) (10 ∷ []) ∙ sym (append-nil (ending l [])));
+      empty = old.empty;
+    } in
+    (l, [], [], begun, refl, refl)
+
+-- a byte of a trailer line
+pub trailer_kept : (used b : ℕ) (begun : Bool) (x d : List ℕ) → PlaceStands (Trailer used begun) x d → used < TRAILERS_LIMIT → IsPlain b → PlaceStands (Trailer (used + 1) true) (x ++ b ∷ []) d
+trailer_kept used b begun x d (l, ts, t, old, used-is, begun-is) room plain =
+    let len = length-append t (b ∷ []) in
+    let within : InTrailer l ts (t ++ b ∷ []) (x ++ b ∷ []) d = record {
+      ends = old.ends;
+      plain = all_push IsPlain t b old.plain plain;
+      short = omega arith;
+      spelt = ap (λ (y : List ℕ). y ++ b ∷ []) old.spelt ∙ append_assoc (ending l ts) t (b ∷ []);
+      empty = old.empty;
+    } in
+    (l, ts, t ++ b ∷ [], within, omega arith, omega arith)
+
+-- the CR of a trailer line
+pub trailer_returns : (used : ℕ) (x d : List ℕ) → PlaceStands (Trailer used true) x d → used < TRAILERS_LIMIT → PlaceStands (TrailerEnd (used + 1)) (x ++ 13 ∷ []) d
+trailer_returns used x d (l, ts, t, old, used-is, begun-is) room =
+    let after : AfterTrailer l ts t (x ++ 13 ∷ []) d = record {
+      ends = old.ends;
+      is_trailer = (begun-is, old.plain);
+      short = omega arith;
+      spelt = ap (λ (y : List ℕ). y ++ 13 ∷ []) old.spelt ∙ append_assoc (ending l ts) t (13 ∷ []);
+      empty = old.empty;
+    } in
+    (l, ts, t, after, omega arith)
+
+ending_push : (l : Line) (ts : List (List ℕ)) (t : List ℕ) → ending l ts ++ trailer_bytes t ≡ ending l (ts ++ t ∷ [])
+ending_push l ts t =
+    append_assoc (line_bytes l) (13 ∷ 10 ∷ trailers_bytes ts) (trailer_bytes t)
+    ∙ ap (λ (y : List ℕ). line_bytes l ++ y) (flat_map_more trailer_bytes (13 ∷ 10 ∷ []) ts t)
+
+-- the LF of a trailer line
+pub trailer_ends : (used : ℕ) (x d : List ℕ) → PlaceStands (TrailerEnd used) x d → used < TRAILERS_LIMIT → PlaceStands (Trailer (used + 1) false) (x ++ 10 ∷ []) d
+trailer_ends used x d (l, ts, t, old, used-is) room =
+    let len = length-append t (13 ∷ 10 ∷ []) in
+    let sum = length-append (trailers_bytes ts) (trailer_bytes t) in
+    let more = ap length (flat_map_more trailer_bytes [] ts t) in
+    let ends : IsEnding l (ts ++ t ∷ []) = record {
+      line = old.ends.line;
+      zero_size = old.ends.zero_size;
+      each = all_push IsTrailer ts t old.ends.each old.is_trailer;
+      short = omega arith;
+    } in
+    let within : InTrailer l (ts ++ t ∷ []) [] (x ++ 10 ∷ []) d = record {
+      ends = ends;
+      plain = tt;
+      short = omega arith;
+      spelt = ap (λ (y : List ℕ). y ++ 10 ∷ []) old.spelt ∙ (append_assoc (ending l ts) (t ++ 13 ∷ []) (10 ∷ [])
+          ∙ (ap (λ (y : List ℕ). ending l ts ++ y) (append_assoc t (13 ∷ []) (10 ∷ []))
+          ∙ (ending_push l ts t ∙ sym (append-nil (ending l (ts ++ t ∷ []))))));
+      empty = old.empty;
+    } in
+    (l, ts ++ t ∷ [], [], within, omega arith, refl)
+
+-- the CR of the empty line
+pub ending_returns : (used : ℕ) (x d : List ℕ) → PlaceStands (Trailer used false) x d → PlaceStands End (x ++ 13 ∷ []) d
+ending_returns used x d (l, ts, t, old, used-is, none) =
+    let after : AfterEnding l ts (x ++ 13 ∷ []) d = record {
+      ends = old.ends;
+      spelt = ap (λ (y : List ℕ). y ++ 13 ∷ []) (old.spelt ∙ (ap (λ (y : List ℕ). ending l ts ++ y) none ∙ append-nil (ending l ts)));
+      empty = old.empty;
+    } in
+    (l, ts, after)
+
+-- the LF of the empty line
+pub body_ends : (l : Line) (ts : List (List ℕ)) (x d : List ℕ) → AfterEnding l ts x d → IsChunked (x ++ 10 ∷ []) d
+body_ends l ts x d after = record {
+  chunks = [];
+  last = l;
+  trailers = ts;
+  each = tt;
+  ends = after.ends;
+  spelt = ap (λ (y : List ℕ). y ++ 10 ∷ []) after.spelt ∙ append_assoc (ending l ts) (13 ∷ []) (10 ∷ []);
+  content = after.empty;
+}

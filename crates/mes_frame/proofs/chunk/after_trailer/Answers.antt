@@ -1,0 +1,9 @@
+use Rattle.std.proofs.Common.{inl, arith}
+use Rattle.mes_frame.specs.Chunk.{IsPlain}
+use Rattle.mes_frame.proofs.Chunks.{trailer_kept}
+use Rattle.mes_frame.proofs.chunk.after_trailer.Goals as goal
+
+pub returns-in_default-2-clause-steps : goal.returns-in_default-2-clause-steps
+returns-in_default-2-clause-steps c = λ x d stands.
+    let plain : IsPlain c.args.byte = (λ e. omega arith, λ e. omega arith) in
+    inl (trailer_kept _ _ _ x d stands c.if-used-ge-TRAILERS_LIMIT.false plain)

@@ -1,0 +1,66 @@
+-- Which byte behind a chunked body that is open shows which fault. Where two rows name the same byte, F2 stands before F1 and F3,
+-- and F5 before F4.
+use Rattle.std.specs.Prelude.{◌≡◌, ◌≢◌, ℕ, ◌+◌, ◌^◌, ◌<◌, ◌≤◌, ◌⊎◌, List, [], ◌∷◌, ◌++◌, length}
+use Rattle.std.specs.Char.{digit_value}
+use Rattle.std.specs.Str.Parse.{digits_value}
+use Rattle.mes_frame.specs.Chunk.{Line, BeginsExtension, IsExtensionByte, IsPlain, trailers_bytes}
+use Rattle.mes_frame.specs.ChunkFront.{InSize, InExtension, AfterLine, InData, AfterData, InTrailer, AfterTrailer, AfterEnding, After}
+use Rattle.mes_frame.specs.declared.limits.TheConstants.{CHUNK_LINE_LIMIT, TRAILERS_LIMIT}
+use Rattle.mes_frame.specs.declared.fault.FrameFault.{FrameFault}
+use Rattle.mes_frame.specs.declared.fault.FrameFault.TheVariants.{BadChunkLine, ChunkLineTooLong, ChunkTooLarge, BadChunkEnd, TrailersTooLong, BadSizeLine, SizeLineTooLong, RecordTooLarge}
+
+-- a byte that goes on with no line behind the digits x: neither a digit nor, where there is one, an extension's first byte or the CR
+abbrev pub EndsNoSize : List ℕ → ℕ → Type 0
+EndsNoSize x b = (16 ≤ digit_value b) × (0 < length x → (BeginsExtension b → ⊥) × (b ≢ 13))
+
+-- F1: the first byte that no chunk line has there, a LF without CR among them
+abbrev pub ShowsBadLine : List ℕ → List ℕ → ℕ → Type 0
+ShowsBadLine x d b =
+    (InSize x d × (length x < CHUNK_LINE_LIMIT) × EndsNoSize x b)
+    ⊎ ((l : Line) × InExtension l x d × (length x < CHUNK_LINE_LIMIT) × (IsExtensionByte b → ⊥) × (b ≢ 13))
+    ⊎ ((l : Line) × AfterLine l x d × (b ≢ 10))
+
+-- F2: a line's byte past its limit, where neither it nor one before it is a CR
+abbrev pub ShowsLongLine : List ℕ → List ℕ → ℕ → Type 0
+ShowsLongLine x d b =
+    (InSize x d × (length x ≡ CHUNK_LINE_LIMIT) × (b ≢ 13))
+    ⊎ ((l : Line) × InExtension l x d × (length x ≡ CHUNK_LINE_LIMIT) × (b ≢ 13))
+
+-- F3: the digit that makes the size pass 2^64 - 1
+abbrev pub ShowsLargeChunk : List ℕ → List ℕ → ℕ → Type 0
+ShowsLargeChunk x d b =
+    InSize x d × (length x < CHUNK_LINE_LIMIT) × (digit_value b < 16) × (2 ^ 64 ≤ digits_value 16 (x ++ b ∷ []))
+
+-- F4: a byte other than CR, LF behind a chunk's data; behind the last chunk a LF without CR, or a CR without LF
+abbrev pub ShowsBadEnd : List ℕ → List ℕ → ℕ → Type 0
+ShowsBadEnd x d b =
+    ((l : Line) × InData l 0 x d × (b ≢ 13))
+    ⊎ ((l : Line) × AfterData l x d × (b ≢ 10))
+    ⊎ ((l : Line) × (ts : List (List ℕ)) × (t : List ℕ) × InTrailer l ts t x d × (b ≡ 10)
+    × ((t ≡ []) ⊎ (length (trailers_bytes ts) + length t < TRAILERS_LIMIT)))
+    ⊎ ((l : Line) × (ts : List (List ℕ)) × (t : List ℕ) × AfterTrailer l ts t x d × (b ≢ 10)
+    × (length (trailers_bytes ts) + length t + 1 < TRAILERS_LIMIT))
+    ⊎ ((l : Line) × (ts : List (List ℕ)) × AfterEnding l ts x d × (b ≢ 10))
+
+-- F5: the byte past the limit of trailer lines with their CRLFs. A CR or a LF that begins a line belongs to none.
+abbrev pub ShowsLongTrailers : List ℕ → List ℕ → ℕ → Type 0
+ShowsLongTrailers x d b =
+    ((l : Line) × (ts : List (List ℕ)) × (t : List ℕ) × InTrailer l ts t x d
+    × (length (trailers_bytes ts) + length t ≡ TRAILERS_LIMIT) × (t ≡ [] → IsPlain b))
+    ⊎ ((l : Line) × (ts : List (List ℕ)) × (t : List ℕ) × AfterTrailer l ts t x d
+    × (length (trailers_bytes ts) + length t + 1 ≡ TRAILERS_LIMIT))
+
+-- behind the part x with the data d the byte b shows the fault
+abbrev pub PartShows : List ℕ → List ℕ → ℕ → FrameFault → Type 0
+PartShows x d b BadChunkLine = ShowsBadLine x d b
+PartShows x d b ChunkLineTooLong = ShowsLongLine x d b
+PartShows x d b ChunkTooLarge = ShowsLargeChunk x d b
+PartShows x d b BadChunkEnd = ShowsBadEnd x d b
+PartShows x d b TrailersTooLong = ShowsLongTrailers x d b
+PartShows x d b BadSizeLine = ⊥
+PartShows x d b SizeLineTooLong = ⊥
+PartShows x d b RecordTooLarge = ⊥
+
+-- behind w, which is open with that data, the byte b shows the fault
+abbrev pub ChunkShows : List ℕ → List ℕ → ℕ → FrameFault → Type 0
+ChunkShows w body b fault = After (λ x d. PartShows x d b fault) w body

@@ -1,0 +1,86 @@
+-- What stands of a chunked body that has not ended: whole chunks, and then a part of one more chunk or of what ends the body.
+use Rattle.std.specs.Prelude.{◌≡◌, ℕ, ◌+◌, ◌^◌, ◌<◌, ◌≤◌, ◌⊎◌, List, [], ◌∷◌, ◌++◌, length}
+use Rattle.std.specs.List.{AllByRecursion}
+use Rattle.std.specs.Str.Parse.{AllDigits, digits_value}
+use Rattle.mes_frame.specs.Chunk.{Line, IsLine, line_bytes, size_of, Chunk, IsChunk, IsPlain, IsTrailer, trailers_bytes, ending, IsEnding, chunks_bytes, data_of}
+use Rattle.mes_frame.specs.declared.limits.TheConstants.{CHUNK_LINE_LIMIT, TRAILERS_LIMIT}
+
+-- In each part x is what stands of it, and d its data so far.
+-- digits of a chunk-size, also none yet
+pub record InSize (x d : List ℕ) : Type 0 where
+  pub hex : AllDigits 16 x
+  pub fits : digits_value 16 x < 2 ^ 64
+  pub short : length x ≤ CHUNK_LINE_LIMIT
+  pub empty : d ≡ []
+
+-- a line behind its size
+pub record InExtension (l : Line) (x d : List ℕ) : Type 0 where
+  pub line : IsLine l
+  pub some : 0 < length l.extension
+  pub spelt : x ≡ line_bytes l
+  pub empty : d ≡ []
+
+-- a line and its CR
+pub record AfterLine (l : Line) (x d : List ℕ) : Type 0 where
+  pub line : IsLine l
+  pub spelt : x ≡ line_bytes l ++ 13 ∷ []
+  pub empty : d ≡ []
+
+-- a line of a size that isn't zero, and data, of which `left` bytes more are to come
+pub record InData (l : Line) (left : ℕ) (x d : List ℕ) : Type 0 where
+  pub line : IsLine l
+  pub spelt : x ≡ line_bytes l ++ (13 ∷ 10 ∷ d)
+  pub size : size_of l ≡ length d + left
+  pub some : 0 < size_of l
+
+-- the data is whole, and its CR stands
+pub record AfterData (l : Line) (x d : List ℕ) : Type 0 where
+  pub chunk : IsChunk (record { line = l; bytes = d })
+  pub spelt : x ≡ line_bytes l ++ (13 ∷ 10 ∷ (d ++ 13 ∷ []))
+
+-- the last chunk's line, trailer lines, and t of one more, also nothing yet
+pub record InTrailer (l : Line) (ts : List (List ℕ)) (t x d : List ℕ) : Type 0 where
+  pub ends : IsEnding l ts
+  pub plain : AllByRecursion IsPlain t
+  pub short : length (trailers_bytes ts) + length t ≤ TRAILERS_LIMIT
+  pub spelt : x ≡ ending l ts ++ t
+  pub empty : d ≡ []
+
+-- and the CR behind that trailer line
+pub record AfterTrailer (l : Line) (ts : List (List ℕ)) (t x d : List ℕ) : Type 0 where
+  pub ends : IsEnding l ts
+  pub is_trailer : IsTrailer t
+  pub short : length (trailers_bytes ts) + length t < TRAILERS_LIMIT
+  pub spelt : x ≡ ending l ts ++ (t ++ 13 ∷ [])
+  pub empty : d ≡ []
+
+-- the CR of the empty line that ends the body
+pub record AfterEnding (l : Line) (ts : List (List ℕ)) (x d : List ℕ) : Type 0 where
+  pub ends : IsEnding l ts
+  pub spelt : x ≡ ending l ts ++ 13 ∷ []
+  pub empty : d ≡ []
+
+abbrev pub IsPart : List ℕ → List ℕ → Type 0
+IsPart x d =
+    InSize x d
+    ⊎ ((l : Line) × InExtension l x d)
+    ⊎ ((l : Line) × AfterLine l x d)
+    ⊎ ((l : Line) × (left : ℕ) × InData l left x d)
+    ⊎ ((l : Line) × AfterData l x d)
+    ⊎ ((l : Line) × (ts : List (List ℕ)) × (t : List ℕ) × InTrailer l ts t x d)
+    ⊎ ((l : Line) × (ts : List (List ℕ)) × (t : List ℕ) × AfterTrailer l ts t x d)
+    ⊎ ((l : Line) × (ts : List (List ℕ)) × AfterEnding l ts x d)
+
+-- w is whole chunks and then a part for which P holds, and `body` the data that stands in w
+pub record After (P : List ℕ → List ℕ → Type 0) (w body : List ℕ) : Type 0 where
+  pub chunks : List Chunk
+  pub each : AllByRecursion IsChunk chunks
+  pub part : List ℕ
+  pub stands : List ℕ
+  pub is : P part stands
+  pub spelt : w ≡ chunks_bytes chunks ++ part
+  pub content : body ≡ data_of chunks ++ stands
+
+-- w has begun a chunked body and not ended it
+abbrev pub IsOpen : List ℕ → List ℕ → Type 0
+IsOpen w body = After IsPart w body

@@ -1,0 +1,311 @@
+//! The reader of chunked bodies: a machine that is given one byte after the other.
+#![tactic(auto, unfolding(crate::specs::ChunkState::ChunkStands))]
+
+ghost use Rattle.std.specs.Prelude.{◌≡◌, ℕ, ◌+◌, ◌<◌, ◌≤◌, List, [], ◌++◌, length, take, IfSome};
+ghost use Rattle.std.specs.Char.{digit_value};
+ghost use Rattle.mes_frame.specs.ChunkFront.{IsOpen};
+ghost use Rattle.mes_frame.specs.ChunkState.{PlaceStands, PlaceSteps, ChunkStands, ChunkSteps, OutWith, end_at, end_of, room_at, room_of};
+
+use crate::fault::FrameFault;
+use crate::limits::{CHUNK_LINE_LIMIT, TRAILERS_LIMIT};
+
+/// What a byte was to the reader of chunked bodies.
+#[derive(Clone, Copy, Debug, PartialEq, Eq)]
+pub enum ChunkOut {
+    /// A byte of the framing.
+    Quiet,
+    /// A byte of the body.
+    Byte,
+    /// The LF that ends the body.
+    Closed,
+    /// The byte that shows the fault.
+    Fault(FrameFault),
+}
+
+// What is expected next.
+#[derive(Clone, Copy, Debug)]
+enum Place {
+    // A chunk's size, of which so many digits stand, with their value.
+    Size { count: u16, size: u64 },
+    // More of its line, of which so many bytes stand.
+    Extension { count: u16, size: u64 },
+    // The LF of its line.
+    LineEnd { size: u64 },
+    // So many bytes of data, and then their CR.
+    Data { left: u64 },
+    // The LF behind the data.
+    DataEnd,
+    // Trailer lines, of which so many bytes stand; `begun`: within a line.
+    Trailer { used: u16, begun: bool },
+    // The LF of a trailer line.
+    TrailerEnd { used: u16 },
+    // The LF of the empty line.
+    End,
+    Closed,
+    Failed(FrameFault),
+}
+
+const START: Place = Place::Size { count: 0, size: 0 };
+
+/// Where the reader of chunked bodies stands.
+#[derive(Clone, Copy, Debug)]
+pub struct ChunkState {
+    place: Place,
+}
+
+impl ChunkState {
+    /// The reader before the first byte.
+    pub fn new() -> ChunkState
+        ensures { ChunkStands result [] [] }
+    {
+        ChunkState { place: START }
+    }
+
+    /// Takes one more byte and answers what it was. A fault is answered at the first byte that shows it.
+    pub fn step(&mut self, byte: u8) -> ChunkOut
+        // What each answer means, and when each fault comes, behind w with the data `body`.
+        ensures steps { (w body : List ℕ) → ChunkStands self.old w body
+            → ChunkSteps self.new w body byte result }
+
+        // A byte is data exactly where there is room for it.
+        ensures data { OutWith (room_of self.old) result }
+
+        // After the body's end or a fault each later step answers the same again.
+        ensures again { IfSome (end_of self.old) (λ out. (result ≡ out) × (self.new ≡ self.old)) }
+    {
+        let (place, out) = self.place.after(byte);
+        self.place = place;
+        out
+    }
+
+    /// How many of the next bytes are data of the body: 0 in the framing, after the end and after a fault.
+    pub fn room(&self) -> u64
+        ensures { result ≡ room_of self.now }
+    {
+        match self.place {
+            Place::Data { left } => left,
+            _ => 0,
+        }
+    }
+
+    /// Takes the next `count` bytes at once, all of them data. They do what as many steps do.
+    pub fn pass(&mut self, count: u64)
+        requires room { count ≤ room_of self.old }
+        // Behind w with the data `body`, for a run p of so many bytes.
+        ensures passes { (w body p : List ℕ) → length p ≡ count → ChunkStands self.old w body
+            → ChunkStands self.new (w ++ p) (body ++ p) }
+
+        // Each front of the run is open.
+        ensures fronts { (w body p : List ℕ) (k : ℕ) → length p ≡ count → k ≤ count
+            → ChunkStands self.old w body → IsOpen (w ++ take k p) (body ++ take k p) }
+        ensures room { room_of self.new + count ≡ room_of self.old }
+
+        // The end of the body, or a fault, is kept.
+        ensures end { end_of self.new ≡ end_of self.old }
+    {
+        if let Place::Data { left } = self.place {
+            self.place = Place::Data { left: left - count };
+        }
+    }
+}
+
+impl Default for ChunkState {
+    ghost is_default = { λ s. ChunkStands s [] [] };
+
+    fn default() -> ChunkState {
+        ChunkState::new()
+    }
+}
+
+impl Place {
+    // Where the reader stands after one more byte, and what the byte was.
+    fn after(self, byte: u8) -> (Place, ChunkOut)
+        ensures steps { (x d : List ℕ) → PlaceStands self x d → PlaceSteps result.0 x d byte result.1 }
+        ensures data { OutWith (room_at self) result.1 }
+        ensures again { IfSome (end_at self) (λ out. (result.0 ≡ self) × (result.1 ≡ out)) }
+    {
+        match self {
+            Place::Size { count, size } => after_size(count, size, byte),
+            Place::Extension { count, size } => after_extension(count, size, byte),
+            Place::LineEnd { size } => after_line(size, byte),
+            Place::Data { left } => after_data(left, byte),
+            Place::DataEnd => after_data_cr(byte),
+            Place::Trailer { used, begun } => after_trailer(used, begun, byte),
+            Place::TrailerEnd { used } => after_trailer_cr(used, byte),
+            Place::End => after_end_cr(byte),
+            Place::Closed => (Place::Closed, ChunkOut::Closed),
+            Place::Failed(fault) => fail(fault),
+        }
+    }
+}
+
+// In a chunk's size.
+fn after_size(count: u16, size: u64, byte: u8) -> (Place, ChunkOut)
+    ensures steps { (x d : List ℕ) → PlaceStands (Place.Size count size) x d → PlaceSteps result.0 x d byte result.1 }
+    ensures data { OutWith 0 result.1 }
+{
+    if byte == b'\r' && count > 0 {
+        return (Place::LineEnd { size }, ChunkOut::Quiet);
+    }
+    if count >= CHUNK_LINE_LIMIT {
+        return fail(FrameFault::ChunkLineTooLong);
+    }
+    match byte {
+        b'0'..=b'9' => after_digit(count, size, byte, byte - b'0'),
+        b'A'..=b'F' => after_digit(count, size, byte, byte - b'A' + 10),
+        b'a'..=b'f' => after_digit(count, size, byte, byte - b'a' + 10),
+        b';' | b' ' | b'\t' if count > 0 => (
+            Place::Extension {
+                count: count + 1,
+                size,
+            },
+            ChunkOut::Quiet,
+        ),
+        _ => fail(FrameFault::BadChunkLine),
+    }
+}
+
+// At a digit of a chunk's size, with its value, where its line may have one more byte.
+fn after_digit(count: u16, size: u64, byte: u8, digit: u8) -> (Place, ChunkOut)
+    requires digit { (digit_value byte ≡ digit) × (digit < 16) }
+    requires room { count < CHUNK_LINE_LIMIT }
+    ensures steps { (x d : List ℕ) → PlaceStands (Place.Size count size) x d → PlaceSteps result.0 x d byte result.1 }
+    ensures data { OutWith 0 result.1 }
+{
+    if size > u64::MAX >> 4 {
+        return fail(FrameFault::ChunkTooLarge);
+    }
+    let place = Place::Size {
+        count: count + 1,
+        size: size * 16 + u64::from(digit),
+    };
+    (place, ChunkOut::Quiet)
+}
+
+// In the rest of a chunk's line.
+fn after_extension(count: u16, size: u64, byte: u8) -> (Place, ChunkOut)
+    ensures steps { (x d : List ℕ) → PlaceStands (Place.Extension count size) x d → PlaceSteps result.0 x d byte result.1 }
+    ensures data { OutWith 0 result.1 }
+{
+    if byte == b'\r' {
+        return (Place::LineEnd { size }, ChunkOut::Quiet);
+    }
+    if count >= CHUNK_LINE_LIMIT {
+        return fail(FrameFault::ChunkLineTooLong);
+    }
+    match byte {
+        b'\t' | 0x20..=0x7E | 0x80..=0xFF => (
+            Place::Extension {
+                count: count + 1,
+                size,
+            },
+            ChunkOut::Quiet,
+        ),
+        _ => fail(FrameFault::BadChunkLine),
+    }
+}
+
+// Behind the CR of a chunk's line.
+fn after_line(size: u64, byte: u8) -> (Place, ChunkOut)
+    ensures steps { (x d : List ℕ) → PlaceStands (Place.LineEnd size) x d → PlaceSteps result.0 x d byte result.1 }
+    ensures data { OutWith 0 result.1 }
+{
+    if byte != b'\n' {
+        return fail(FrameFault::BadChunkLine);
+    }
+    if size == 0 {
+        return (
+            Place::Trailer {
+                used: 0,
+                begun: false,
+            },
+            ChunkOut::Quiet,
+        );
+    }
+    (Place::Data { left: size }, ChunkOut::Quiet)
+}
+
+// In a chunk's data, whatever the byte is, and at the CR behind it.
+fn after_data(left: u64, byte: u8) -> (Place, ChunkOut)
+    ensures steps { (x d : List ℕ) → PlaceStands (Place.Data left) x d → PlaceSteps result.0 x d byte result.1 }
+    ensures data { OutWith left result.1 }
+{
+    if left > 0 {
+        return (Place::Data { left: left - 1 }, ChunkOut::Byte);
+    }
+    if byte != b'\r' {
+        return fail(FrameFault::BadChunkEnd);
+    }
+    (Place::DataEnd, ChunkOut::Quiet)
+}
+
+// Behind the CR of a chunk's data.
+fn after_data_cr(byte: u8) -> (Place, ChunkOut)
+    ensures steps { (x d : List ℕ) → PlaceStands Place.DataEnd x d → PlaceSteps result.0 x d byte result.1 }
+    ensures data { OutWith 0 result.1 }
+{
+    if byte != b'\n' {
+        return fail(FrameFault::BadChunkEnd);
+    }
+    (START, ChunkOut::Quiet)
+}
+
+// In the trailer lines.
+fn after_trailer(used: u16, begun: bool, byte: u8) -> (Place, ChunkOut)
+    ensures steps { (x d : List ℕ) → PlaceStands (Place.Trailer used begun) x d → PlaceSteps result.0 x d byte result.1 }
+    ensures data { OutWith 0 result.1 }
+{
+    match byte {
+        b'\r' if !begun => (Place::End, ChunkOut::Quiet),
+        b'\n' if !begun => fail(FrameFault::BadChunkEnd),
+        _ if used >= TRAILERS_LIMIT => fail(FrameFault::TrailersTooLong),
+        b'\r' => (Place::TrailerEnd { used: used + 1 }, ChunkOut::Quiet),
+        b'\n' => fail(FrameFault::BadChunkEnd),
+        _ => (
+            Place::Trailer {
+                used: used + 1,
+                begun: true,
+            },
+            ChunkOut::Quiet,
+        ),
+    }
+}
+
+// Behind the CR of a trailer line.
+fn after_trailer_cr(used: u16, byte: u8) -> (Place, ChunkOut)
+    ensures steps { (x d : List ℕ) → PlaceStands (Place.TrailerEnd used) x d → PlaceSteps result.0 x d byte result.1 }
+    ensures data { OutWith 0 result.1 }
+{
+    if used >= TRAILERS_LIMIT {
+        return fail(FrameFault::TrailersTooLong);
+    }
+    if byte != b'\n' {
+        return fail(FrameFault::BadChunkEnd);
+    }
+    (
+        Place::Trailer {
+            used: used + 1,
+            begun: false,
+        },
+        ChunkOut::Quiet,
+    )
+}
+
+// Behind the CR of the empty line.
+fn after_end_cr(byte: u8) -> (Place, ChunkOut)
+    ensures steps { (x d : List ℕ) → PlaceStands Place.End x d → PlaceSteps result.0 x d byte result.1 }
+    ensures data { OutWith 0 result.1 }
+{
+    if byte != b'\n' {
+        return fail(FrameFault::BadChunkEnd);
+    }
+    (Place::Closed, ChunkOut::Closed)
+}
+
+// At a byte that shows a fault, and at each byte after it.
+fn fail(fault: FrameFault) -> (Place, ChunkOut)
+    ensures place { result.0 ≡ Place.Failed fault }
+    ensures answer { result.1 ≡ ChunkOut.Fault fault }
+{
+    (Place::Failed(fault), ChunkOut::Fault(fault))
+}

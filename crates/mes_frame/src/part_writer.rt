@@ -1,0 +1,30 @@
+//! Writing what is written in parts, and how many bytes went out by all of them.
+ghost use Rattle.std.specs.Prelude.{◌≡◌, ◌+◌, length, IfOk, OnOk, IfErr};
+ghost use Rattle.std.specs.Io.KnownBytes.{Appends};
+ghost use Rattle.mes_frame.specs.Write.{NoneFails, CallsFor, StopsWrite};
+ghost use Rattle.mes_frame.specs.Written.{told, WrotePart};
+
+use crate::device::Sink;
+use crate::write::{WriteFault, write_all};
+
+// Writes all of `bytes`, behind `sent` bytes that went out before, and answers how many went out then.
+pub(crate) fn write_part<W: Sink>(
+    writer: &mut W,
+    bytes: &[u8],
+    sent: u64,
+) -> Result<u64, WriteFault>
+    ensures ok { OnOk result (Appends (W.written writer.old) (W.written writer.new) bytes.now) }
+    ensures ok_counts { OnOk result (NoneFails (W.counts writer.old) (W.counts writer.new)) }
+    ensures ok_sent { IfOk result (λ all. all ≡ told (sent + length bytes.now)) }
+    ensures err { IfErr result (λ f. WrotePart (W.written writer.old) (W.written writer.new) bytes.now sent f.sent) }
+    ensures err_counts { IfErr result (λ f. StopsWrite f.why (W.counts writer.old) (W.counts writer.new)) }
+    ensures calls { CallsFor (length bytes.now) (W.counts writer.old) (W.counts writer.new) }
+{
+    match write_all(writer, bytes) {
+        Ok(()) => Ok(sent.saturating_add(bytes.len() as u64)),
+        Err(fault) => Err(WriteFault {
+            sent: sent.saturating_add(fault.sent),
+            why: fault.why,
+        }),
+    }
+}

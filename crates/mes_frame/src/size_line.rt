@@ -1,0 +1,50 @@
+//! The size lines that are written, each in a buffer for the largest.
+ghost use Rattle.std.specs.Prelude.{◌≡◌, ◌<◌, false, [], ◌∷◌, ◌++◌, decimal};
+ghost use Rattle.std.specs.Fmt.{digits, digit_glyph};
+
+use itoa::write_digits;
+
+/// The longest size line of a record: 20 digits and LF.
+pub(crate) const RECORD_LINE_LENGTH: usize = 21;
+
+/// The longest line of a chunk: 16 digits and CRLF.
+pub(crate) const CHUNK_LINE_LENGTH: usize = 18;
+
+// The size line of a record of so many bytes.
+pub(crate) fn record_line(size: u64, buffer: &mut [u8; RECORD_LINE_LENGTH]) -> &[u8]
+    ensures { result.now ≡ decimal size ++ 10 ∷ [] }
+{
+    buffer[20] = b'\n';
+    let start = write_digits(size, buffer, 20);
+    &buffer[start..]
+}
+
+// The line of a chunk of so many bytes, in lower case.
+pub(crate) fn chunk_line(size: u64, buffer: &mut [u8; CHUNK_LINE_LENGTH]) -> &[u8]
+    ensures { result.now ≡ digits 16 false size ++ 13 ∷ 10 ∷ [] }
+{
+    buffer[16] = b'\r';
+    buffer[17] = b'\n';
+    let mut start = 16;
+    let mut rest = size;
+    loop {
+        start -= 1;
+        buffer[start] = hex_digit((rest % 16) as u8);
+        rest /= 16;
+        if rest == 0 {
+            break;
+        }
+    }
+    &buffer[start..]
+}
+
+fn hex_digit(digit: u8) -> u8
+    requires { digit < 16 }
+    ensures { result ≡ digit_glyph false digit }
+{
+    if digit < 10 {
+        b'0' + digit
+    } else {
+        b'a' + (digit - 10)
+    }
+}

@@ -1,0 +1,52 @@
+-- How digits move the reader where they leave a number in its part, all at once.
+--     digits_taken    a run of them is taken
+use Rattle.std.proofs.Common.{◌≡◌, ℕ, ◌+◌, ◌-◌, ◌≤◌, ◌==◌, Bool, true, false, List, [], ◌∷◌, ◌++◌, length, take, drop, Some, option_and_then, refl, ap, sym, ◌∙◌, arith, append_assoc, append-nil}
+use Rattle.std.proofs.lemmas.Bool.Decides.{nat_tests}
+use Rattle.std.specs.List.{AllByRecursion}
+use Rattle.mes_fixed.specs.Automaton.{nought, digit, letter_of, number_next}
+use Rattle.mes_fixed.specs.declared.automaton.Part.{Part}
+use Rattle.mes_json.specs.Machine as m
+use Rattle.mes_json.specs.Machine.{Frame, State, run, on_digits}
+use Rattle.mes_json.specs.Machine.State.{state}
+use Rattle.mes_json.specs.Machine.Token.{digits}
+use Rattle.mes_json.specs.Reader.{with_read, Fits, Keeps, RunsTo, IsDigit, KeepsOn, AtValue}
+use Rattle.mes_json.specs.declared.limits.TheConstants.{NESTING_LIMIT}
+use Rattle.mes_json.specs.declared.at.At as at
+use Rattle.mes_json.specs.declared.reader.Reader.{Reader}
+use Rattle.mes_json.proofs.ReaderLemmas.{part}
+use Rattle.mes_json.proofs.TakenLemmas.{runs_over}
+
+-- ---- the machine's run over them
+is_nought : (c : ℕ) → c == 48 ≡ true → letter_of c ≡ nought
+is_nought c e = grind (arith, nat_tests)
+
+is_other : (c : ℕ) → 48 ≤ c → c ≤ 57 → c == 48 ≡ false → letter_of c ≡ digit
+is_other c least most e = grind (arith, nat_tests)
+
+leads : (x : Part) (c : ℕ) → KeepsOn x → IsDigit c → number_next x (letter_of c) ≡ Some x
+leads x c keeps is = by (c == 48) refl
+  where
+    by : (b : Bool) → c == 48 ≡ b → number_next x (letter_of c) ≡ Some x
+    by true e = ap (number_next x) (is_nought c e) ∙ keeps.0
+    by false e = ap (number_next x) (is_other c is.0 is.1 e) ∙ keeps.1
+
+over_digits : (d : ℕ) (fs : List Frame) (x : Part) (b q : List ℕ) → KeepsOn x → AllByRecursion IsDigit q
+    → run d (state fs (m.At.token (digits x b))) q ≡ Some (state fs (m.At.token (digits x (b ++ q))))
+unfolding run
+over_digits d fs x b [] keeps h = ap (λ (n : List ℕ). Some (state fs (m.At.token (digits x n)))) (sym (append-nil b))
+over_digits d fs x b (c ∷ q) keeps h =
+    ap (option_and_then (λ (next : State). run d next q)) (ap (on_digits fs x b c) (leads x c keeps h.0)) ∙ over_digits d fs x (b ++ c ∷ []) q keeps h.1
+    ∙ ap (λ (n : List ℕ). Some (state fs (m.At.token (digits x n)))) (append_assoc b (c ∷ []) q)
+
+-- ---- the reader's, over the bytes behind the place, as they are cut out
+pub digits_taken : (old new : Reader) (x : Part) (b : List ℕ) (from n : ℕ) → Fits old → old.at ≡ at.TheVariants.Digits x → KeepsOn x → from ≤ length b
+    → n ≤ length (take (length b - from) (drop from b)) → AllByRecursion IsDigit (take n (take (length b - from) (drop from b)))
+    → Keeps old (take n (take (length b - from) (drop from b))) (at.TheVariants.Digits x) new → RunsTo old b from (from + n) new
+digits_taken old new x b from n fits is_at keeps_on within few all keeps =
+    let there = at.TheVariants.Digits x in
+    let q = take n (take (length b - from) (drop from b)) in
+    runs_over old new there b from n fits is_at (λ start end last. refl) within few
+    (λ (s : State) (h : AtValue old.nesting.items s). ap (λ (t : State). run NESTING_LIMIT (with_read there (part old) t) q) h.is
+    ∙ over_digits NESTING_LIMIT h.frames x (part old) q keeps_on all
+    ∙ ap (λ (t : State). Some (with_read there (part old ++ q) t)) (sym h.is))
+    keeps

@@ -1,0 +1,48 @@
+-- How bytes of text that leave the place as it is move the reader, all at once.
+--     runs_over               a run of them is taken
+--     rest_is, rest_length    the bytes behind the place
+use Rattle.std.proofs.Common.{◌≡◌, ℕ, ◌+◌, ◌-◌, ◌≤◌, List, ◌++◌, length, take, drop, Some, refl, ap, sym, ◌∙◌, subst, arith, length-drop}
+use Rattle.std.proofs.lemmas.Grind.{common_steps}
+use Rattle.std.proofs.Math.Seq.{take-add}
+use Rattle.mes_json.specs.Machine.{State, run}
+use Rattle.mes_json.specs.Reader.{with_read, state_view, IsAt, Fits, Keeps, RunsTo}
+use Rattle.mes_json.specs.declared.limits.TheConstants.{NESTING_LIMIT}
+use Rattle.mes_json.specs.declared.nesting.Open.{Open}
+use Rattle.mes_json.specs.declared.at.At as at
+use Rattle.mes_json.specs.declared.reader.Reader.{Reader}
+use Rattle.mes_json.proofs.RunLemmas.{run_on}
+use Rattle.mes_json.proofs.ReaderLemmas.{due, part, view_at, form_at, SameText, kept_fits, kept_view}
+
+-- the bytes q leave this place as it is, behind the bytes b of a text
+abbrev pub Leaves : at.At → List Open → List ℕ → List ℕ → Type 0
+Leaves there n b q = (s : State) → IsAt there n s → run NESTING_LIMIT (with_read there b s) q ≡ Some (with_read there (b ++ q) s)
+
+runs_to : (old new : Reader) (there : at.At) (b : List ℕ) (from n : ℕ) → Fits old → old.at ≡ there → SameText there there → from + n ≤ length b
+    → Leaves there old.nesting.items (part old) (take n (drop from b)) → Keeps old (take n (drop from b)) there new → RunsTo old b from (from + n) new
+runs_to old new there b from n fits is_at same_text within leaves keeps =
+    let q = take n (drop from b) in
+    let run_is : run NESTING_LIMIT (state_view old) q ≡ Some (state_view new) =
+    ap (λ (s : State). run NESTING_LIMIT s q) (view_at old there is_at)
+    ∙ leaves (due there old) (form_at old there is_at fits)
+    ∙ ap (λ (s : State). Some s) (sym (kept_view old new q there there fits (λ s. refl) keeps)) in
+    record {
+      forward = omega arith;
+      inside = within;
+      fits = kept_fits old new q there there fits is_at (λ n s h. h) same_text keeps;
+      runs = λ s e. ap (run NESTING_LIMIT s) (take-add from n b) ∙ run_on NESTING_LIMIT s (state_view old) (take from b) q e ∙ run_is;
+    }
+
+pub rest_is : (b : List ℕ) (from : ℕ) → from ≤ length b → take (length b - from) (drop from b) ≡ drop from b
+rest_is b from inside = grind (arith, common_steps)
+
+pub rest_length : (b : List ℕ) (from n : ℕ) → from ≤ length b → n ≤ length (drop from b) → from + n ≤ length b
+rest_length b from n inside within = let l : n ≤ length b - from = subst (λ (k : ℕ). n ≤ k) (length-drop from b) within in omega arith
+
+-- the same over the bytes behind the place, as they are cut out
+pub runs_over : (old new : Reader) (there : at.At) (b : List ℕ) (from n : ℕ) → Fits old → old.at ≡ there → SameText there there → from ≤ length b
+    → n ≤ length (take (length b - from) (drop from b)) → Leaves there old.nesting.items (part old) (take n (take (length b - from) (drop from b)))
+    → Keeps old (take n (take (length b - from) (drop from b))) there new → RunsTo old b from (from + n) new
+runs_over old new there b from n fits is_at same_text within few leaves keeps =
+    let same = rest_is b from within in
+    runs_to old new there b from n fits is_at same_text (rest_length b from n within (subst (λ (x : List ℕ). n ≤ length x) same few))
+    (subst (λ (x : List ℕ). Leaves there old.nesting.items (part old) (take n x)) same leaves) (subst (λ (x : List ℕ). Keeps old (take n x) there new) same keeps)

@@ -1,0 +1,40 @@
+-- A reader at the end of its bytes, and the tape that it gives.
+--     ends_behind        behind a value
+--     tape_found         the tape of the value that is whole
+use Rattle.std.proofs.Common.{◌≡◌, ◌==◌, Bool, true, false, List, [], ◌∷◌, ◌++◌, length, Option, Some, option_map, ap, sym, ◌∙◌, subst, arith}
+use Rattle.std.proofs.lemmas.Grind.{common_steps}
+use Rattle.mes_json.specs.Tree.{Tree}
+use Rattle.mes_json.specs.Machine.{Frame, finish}
+use Rattle.mes_json.specs.Machine.At.{after}
+use Rattle.mes_json.specs.Machine.State.{state}
+use Rattle.mes_json.specs.Machine.Frame.{frame, array_frame}
+use Rattle.mes_json.specs.Reader.{opens, state_view, AfterValue, Fits, EndsWhole}
+use Rattle.mes_json.specs.Tokens.{Token, tokens}
+use Rattle.mes_json.specs.Cursor.{tokens_held}
+use Rattle.mes_json.specs.declared.nesting.Open.{Open}
+use Rattle.mes_json.specs.declared.at.At as at
+use Rattle.mes_json.specs.declared.reader.Reader.{Reader}
+use Rattle.mes_json.proofs.ReaderLemmas.{tape_of, view_at, form_at}
+use Rattle.mes_json.proofs.TokensHeld.{tokens_spelled}
+
+not_empty : (xs : List Open) (x : Open) → (length (xs ++ x ∷ []) == 0) ≡ false
+not_empty xs x = grind (arith, common_steps)
+
+pub ends_behind : (r : Reader) (whole : Bool) → Fits r → r.at ≡ at.TheVariants.After → whole ≡ (length r.nesting.items == 0) → EndsWhole whole (finish (state_view r)) r
+ends_behind r whole fits is_at none =
+    let h : AfterValue r.nesting.items (tape_of r) = form_at r at.TheVariants.After is_at fits in
+    by h.frames h.tree whole (view_at r at.TheVariants.After is_at ∙ h.is) h.is (none ∙ ap (λ (xs : List Open). length xs == 0) h.are_open)
+  where
+    by : (fs : List Frame) (t : Tree) (b : Bool) → state_view r ≡ state fs (after t) → tape_of r ≡ state fs (after t) → b ≡ (length (opens fs) == 0)
+        → EndsWhole b (finish (state_view r)) r
+    by [] t b shown is e = subst (λ (x : Bool). EndsWhole x (finish (state_view r)) r) (sym e) (t, ap finish shown, is, fits.tape)
+    by (frame ms k ∷ fs) t b shown is e = subst (λ (x : Bool). EndsWhole x (finish (state_view r)) r) (sym (e ∙ not_empty (opens fs) _)) (ap finish shown)
+    by (array_frame ts ∷ fs) t b shown is e = subst (λ (x : Bool). EndsWhole x (finish (state_view r)) r) (sym (e ∙ not_empty (opens fs) _)) (ap finish shown)
+
+pub tape_found : (r : Reader) (whole : Bool) (found : Option Tree) (tape : List Token) → whole ≡ true → EndsWhole whole found r
+    → tape ≡ tokens_held r.text.items r.nodes.items → Some tape ≡ option_map tokens found
+tape_found r whole found tape here h held = by (subst (λ (b : Bool). EndsWhole b found r) here h)
+  where
+    by : EndsWhole true found r → Some tape ≡ option_map tokens found
+    by (t, finds, is, fits) =
+        ap (λ (x : List Token). Some x) (held ∙ tokens_spelled r.text.items r.nodes.items t fits.placed is) ∙ ap (option_map tokens) (sym finds)

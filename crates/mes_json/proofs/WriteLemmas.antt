@@ -1,0 +1,83 @@
+-- What is written stays in front of what is written next; one more item, one more member.
+use Rattle.std.proofs.Common.{◌≡◌, ℕ, ◌+◌, ◌<◌, List, [], ◌∷◌, ◌++◌, length, take, get_or, refl, ap, sym, ◌∙◌, subst, append_assoc, Result, Ok, Err, IfOk}
+use Rattle.std.proofs.lemmas.List.{append-nil}
+use Rattle.std.specs.Str.{IsUtf8}
+use Rattle.mes_json.specs.Canonical.{canonical, more_items, more_members}
+use Rattle.mes_json.specs.View.{view, items_view, members_view}
+use Rattle.mes_json.specs.Writable.{IsWritable, AreWritable, AreWritableMembers, Extends, member_text}
+use Rattle.mes_json.specs.declared.value.Json.{Json}
+use Rattle.mes_json.proofs.GrownLemmas.{items_grown, members_grown}
+
+pub extended : (a b x : List ℕ) → b ≡ a ++ x → Extends a b
+extended a b x e = record { rest = x; is = e }
+
+pub extends_then : (a b c : List ℕ) → Extends a b → Extends b c → Extends a c
+extends_then a b c h k = record { rest = h.rest ++ k.rest; is = k.is ∙ ap (λ (x : List ℕ). x ++ k.rest) h.is ∙ append_assoc a h.rest k.rest }
+
+pub ok_map : {A E : Type 0} {P Q : A → Type 0} (r : Result A E) → ((x : A) → P x → Q x) → IfOk r P → IfOk r Q
+ok_map (Ok x) f h = f x h
+ok_map (Err e) f h = tt
+
+-- ---- what is put together
+one_comma : (start so_far text : List ℕ) → ((start ++ so_far) ++ 44 ∷ []) ++ text ≡ start ++ (so_far ++ 44 ∷ text)
+one_comma start so_far text = simp append_assoc refl
+
+pub between : (start inside : List ℕ) (first last : ℕ) (a b new : List ℕ) → a ≡ start ++ first ∷ [] → b ≡ a ++ inside → new ≡ b ++ last ∷ []
+    → new ≡ start ++ first ∷ (inside ++ last ∷ [])
+between start inside first last a b new e f g =
+    g ∙ ap (λ (x : List ℕ). x ++ last ∷ []) (f ∙ ap (λ (x : List ℕ). x ++ inside) e) ∙ simp append_assoc refl
+
+-- ---- one more
+more_last : (xs : List Json) (x : Json) → more_items (items_view (xs ++ x ∷ [])) ≡ more_items (items_view xs) ++ 44 ∷ canonical (view x)
+more_last [] x = ap (λ (b : List ℕ). 44 ∷ b) (append-nil (canonical (view x)))
+more_last (y ∷ ys) x =
+    ap (λ (b : List ℕ). 44 ∷ (canonical (view y) ++ b)) (more_last ys x)
+    ∙ ap (λ (b : List ℕ). 44 ∷ b) (sym (append_assoc (canonical (view y)) (more_items (items_view ys)) (44 ∷ canonical (view x))))
+
+all_last : (xs : List Json) (x : Json) → AreWritable (items_view xs) → IsWritable (view x) → AreWritable (items_view (xs ++ x ∷ []))
+all_last [] x are is = (is, tt)
+all_last (y ∷ ys) x are is = (are.0, all_last ys x are.1 is)
+
+-- one more item behind the first n
+pub item_written : (xs : List Json) (x : Json) (n : ℕ) (start out comma new : List ℕ) → n < length xs → x ≡ get_or xs n x
+    → out ≡ start ++ more_items (items_view (take n xs)) → comma ≡ out ++ 44 ∷ [] → new ≡ comma ++ canonical (view x)
+    → new ≡ start ++ more_items (items_view (take (n + 1) xs))
+item_written xs x n start out comma new inside is so_far then next =
+    next ∙ ap (λ (b : List ℕ). b ++ canonical (view x)) (then ∙ ap (λ (b : List ℕ). b ++ 44 ∷ []) so_far)
+    ∙ one_comma start (more_items (items_view (take n xs))) (canonical (view x))
+    ∙ ap (λ (b : List ℕ). start ++ b) (sym (more_last (take n xs) x))
+    ∙ ap (λ (ys : List Json). start ++ more_items (items_view ys)) (sym (items_grown xs x n inside is))
+
+pub item_writable : (xs : List Json) (x : Json) (n : ℕ) → n < length xs → x ≡ get_or xs n x
+    → AreWritable (items_view (take n xs)) → IsWritable (view x) → AreWritable (items_view (take (n + 1) xs))
+item_writable xs x n inside is are one =
+    subst (λ (ys : List Json). AreWritable (items_view ys)) (sym (items_grown xs x n inside is)) (all_last (take n xs) x are one)
+
+-- ---- the same of members
+abbrev text_of : List ℕ × Json → List ℕ
+text_of m = member_text m.0 (view m.1)
+
+more_members_last : (xs : List (List ℕ × Json)) (x : List ℕ × Json) → more_members (members_view (xs ++ x ∷ [])) ≡ more_members (members_view xs) ++ 44 ∷ text_of x
+more_members_last [] x = ap (λ (b : List ℕ). 44 ∷ b) (append-nil (text_of x))
+more_members_last (y ∷ ys) x =
+    ap (λ (b : List ℕ). 44 ∷ (text_of y ++ b)) (more_members_last ys x)
+    ∙ ap (λ (b : List ℕ). 44 ∷ b) (sym (append_assoc (text_of y) (more_members (members_view ys)) (44 ∷ text_of x)))
+
+all_members_last : (xs : List (List ℕ × Json)) (x : List ℕ × Json) → AreWritableMembers (members_view xs) → IsUtf8 x.0 × IsWritable (view x.1)
+    → AreWritableMembers (members_view (xs ++ x ∷ []))
+all_members_last [] x are is = (is.0, is.1, tt)
+all_members_last (y ∷ ys) x are is = (are.0, are.1, all_members_last ys x are.2 is)
+
+pub member_written : (xs : List (List ℕ × Json)) (x : List ℕ × Json) (n : ℕ) (start out comma new : List ℕ) → n < length xs → x ≡ get_or xs n x
+    → out ≡ start ++ more_members (members_view (take n xs)) → comma ≡ out ++ 44 ∷ [] → new ≡ comma ++ member_text x.0 (view x.1)
+    → new ≡ start ++ more_members (members_view (take (n + 1) xs))
+member_written xs x n start out comma new inside is so_far then next =
+    next ∙ ap (λ (b : List ℕ). b ++ text_of x) (then ∙ ap (λ (b : List ℕ). b ++ 44 ∷ []) so_far)
+    ∙ one_comma start (more_members (members_view (take n xs))) (text_of x)
+    ∙ ap (λ (b : List ℕ). start ++ b) (sym (more_members_last (take n xs) x))
+    ∙ ap (λ (ys : List (List ℕ × Json)). start ++ more_members (members_view ys)) (sym (members_grown xs x n inside is))
+
+pub member_writable : (xs : List (List ℕ × Json)) (x : List ℕ × Json) (n : ℕ) → n < length xs → x ≡ get_or xs n x
+    → AreWritableMembers (members_view (take n xs)) → IsUtf8 x.0 × IsWritable (view x.1) → AreWritableMembers (members_view (take (n + 1) xs))
+member_writable xs x n inside is are one =
+    subst (λ (ys : List (List ℕ × Json)). AreWritableMembers (members_view ys)) (sym (members_grown xs x n inside is)) (all_members_last (take n xs) x are one)

@@ -1,0 +1,10 @@
+use Rattle.std.proofs.Common.{List, ℕ, ◌++◌, ap, ◌∙◌}
+use Rattle.mes_json.specs.Canonical.{escaped_text}
+use Rattle.mes_json.proofs.WriteLemmas.{ok_map, between}
+use Rattle.mes_json.proofs.write_string.write_quoted.Goals as goal
+
+pub returns-clause-written : goal.returns-clause-written
+returns-clause-written c =
+    let inside = ap (λ (s : List ℕ). c.append.new.out.items ++ escaped_text s) (c.as_bytes.ensures.value ∙ c.as_str.ensures) in
+    ok_map c.append-2.result (λ x h. between c.args.out.now.items (escaped_text c.args.text.now) 34 34 c.append.new.out.items c.write_escaped.new.out.items c.append-2.new.out.items
+    c.in_ok-append.ensures.written (c.in_ok-write_escaped.ensures.written ∙ inside) h) c.append-2.ensures.written

@@ -1,0 +1,50 @@
+-- What a cursor meets: an end, a name, and what stands behind a value, found by counting what is open. Private clauses alone
+-- cite it.
+use Rattle.std.specs.Prelude.{ℕ, zero, suc, pred, Bool, true, false, Option, Some, None, List, [], ◌∷◌}
+use Rattle.mes_json.specs.Tokens.{Token}
+use Rattle.mes_json.specs.Tokens.Token.{null, boolean, number, string, name, begin_array, begin_object, ends}
+
+-- how many arrays and objects are open behind a token, where so many are before it
+abbrev pub depth_behind : ℕ → Token → ℕ
+depth_behind n null = n
+depth_behind n (boolean x) = n
+depth_behind n (number s) = n
+depth_behind n (string s) = n
+depth_behind n (name s) = n
+depth_behind n begin_array = suc n
+depth_behind n begin_object = suc n
+depth_behind n ends = pred n
+
+-- where nothing is open, the first; else the second
+abbrev pub by_depth : ℕ → List Token → List Token → List Token
+by_depth zero xs ys = xs
+by_depth (suc n) xs ys = ys
+
+-- the tokens behind the first one that leaves nothing open, where so many are open before these
+abbrev pub behind : ℕ → List Token → List Token
+behind n [] = []
+behind n (x ∷ xs) = by_depth (depth_behind n x) xs (behind (depth_behind n x) xs)
+
+-- an array or an object ends there, or the tape does
+abbrev pub is_end : List Token → Bool
+is_end [] = true
+is_end (null ∷ xs) = false
+is_end (boolean x ∷ xs) = false
+is_end (number s ∷ xs) = false
+is_end (string s ∷ xs) = false
+is_end (name s ∷ xs) = false
+is_end (begin_array ∷ xs) = false
+is_end (begin_object ∷ xs) = false
+is_end (ends ∷ xs) = true
+
+-- the name of a member that stands there
+abbrev pub as_name : List Token → Option (List ℕ)
+as_name [] = None
+as_name (null ∷ xs) = None
+as_name (boolean x ∷ xs) = None
+as_name (number s ∷ xs) = None
+as_name (string s ∷ xs) = None
+as_name (name s ∷ xs) = Some s
+as_name (begin_array ∷ xs) = None
+as_name (begin_object ∷ xs) = None
+as_name (ends ∷ xs) = None

@@ -1,0 +1,243 @@
+//! A value on a tape, read in place: no tree is made, and nothing is copied.
+ghost use Rattle.std.specs.Prelude.{◌≡◌, ◌<◌, length, drop, option_map, OnSome};
+ghost use Rattle.std.specs.List.{AllByRecursion};
+ghost use Rattle.mes_json.specs.Tree.{Tree, Items as items, Members as members};
+ghost use Rattle.mes_json.specs.Tape.{span, IsSpan, HasSpan};
+ghost use Rattle.mes_json.specs.Tokens.{BeginsWith, BeginsItems, BeginsMembers};
+ghost use Rattle.mes_json.specs.Cursor.{tokens_held, is_null, as_bool, as_number, as_text, as_items, as_members, FindsItems, FindsMembers, NextItem, NextMember};
+ghost use Rattle.mes_json.specs.Passing.{is_end, as_name, behind};
+ghost use Rattle.mes_json.specs.ValueKinds.{kind_of};
+
+mod tree;
+
+use crate::skip::{behind_value, first};
+use crate::tape::{Node, span_text};
+use crate::value_kind::ValueKind;
+use std::marker::Model;
+use std::mem;
+
+/// A value on a tape. A contract sees the tokens from its place on.
+#[derive(Drop)]
+pub struct Element<'a> {
+    texts: &'a [u8],
+    /// The nodes from the place on.
+    nodes: &'a [Node],
+}
+
+impl<'a> Model for Element<'a> {
+    ghost use Rattle.std.specs.Prelude.{List};
+    ghost use Rattle.std.specs.List.{AllByRecursion};
+    ghost use Rattle.mes_json.specs.Tokens.{Token, tokens_code};
+    ghost use Rattle.mes_json.specs.Tape.{HasSpan};
+    ghost use Rattle.mes_json.specs.Cursor.{tokens_held};
+
+    ghost Value = { List Token };
+
+    ghost coded = { tokens_code };
+
+    ghost view = { λ e. tokens_held e.texts.now e.nodes.now };
+
+    ghost invariant = { λ e. AllByRecursion (HasSpan e.texts.now) e.nodes.now };
+}
+
+impl<'a> Element<'a> {
+    /// The place of the first of these nodes.
+    pub(crate) fn new(texts: &'a [u8], nodes: &'a [Node]) -> Element<'a>
+        requires { AllByRecursion (HasSpan texts.now) nodes.now }
+        ensures { result ≡ tokens_held texts.now nodes.now }
+    {
+        Element { texts, nodes }
+    }
+
+    /// The same place once more.
+    pub fn copy(&self) -> Element<'a>
+        ensures { result ≡ self.now }
+    {
+        Element {
+            texts: self.texts,
+            nodes: self.nodes,
+        }
+    }
+
+    /// The kind of the value.
+    pub fn kind(&self) -> ValueKind
+        ensures { (t : Tree) → BeginsWith self.now t → result ≡ kind_of t }
+    {
+        match first(self.nodes) {
+            Node::Null => ValueKind::Null,
+            Node::Bool(_) => ValueKind::Bool,
+            Node::Number { .. } => ValueKind::Number,
+            Node::Text { .. } => ValueKind::Text,
+            Node::List => ValueKind::List,
+            Node::Map => ValueKind::Map,
+            // No value begins with these.
+            Node::Name { .. } | Node::End => ValueKind::Null,
+        }
+    }
+
+    /// Whether it is the literal `null`.
+    pub fn is_null(&self) -> bool
+        ensures { (t : Tree) → BeginsWith self.now t → result ≡ is_null t }
+    {
+        match first(self.nodes) {
+            Node::Null => true,
+            _ => false,
+        }
+    }
+
+    /// The truth value, where it is one.
+    pub fn as_bool(&self) -> Option<bool>
+        ensures { (t : Tree) → BeginsWith self.now t → result ≡ as_bool t }
+    {
+        match first(self.nodes) {
+            Node::Bool(truth) => Some(truth),
+            _ => None,
+        }
+    }
+
+    /// The text of the number as it is written, where it is one.
+    pub fn as_number(&self) -> Option<&'a str>
+        ensures { (t : Tree) → BeginsWith self.now t → option_map (λ n. n.now) result ≡ as_number t }
+    {
+        match first(self.nodes) {
+            Node::Number { from, to } => Some(span_text(self.texts, from, to)),
+            _ => None,
+        }
+    }
+
+    /// The text of the string, where it is one.
+    pub fn as_text(&self) -> Option<&'a str>
+        ensures { (t : Tree) → BeginsWith self.now t → option_map (λ s. s.now) result ≡ as_text t }
+    {
+        match first(self.nodes) {
+            Node::Text { from, to } => Some(span_text(self.texts, from, to)),
+            _ => None,
+        }
+    }
+
+    /// The items of the array, where it is one.
+    pub fn items(&self) -> Option<Items<'a>>
+        ensures { (t : Tree) → BeginsWith self.now t → FindsItems result (as_items t) }
+    {
+        match first(self.nodes) {
+            Node::List => Some(Items {
+                next: self.inside(),
+            }),
+            _ => None,
+        }
+    }
+
+    /// The members of the object, where it is one.
+    pub fn members(&self) -> Option<Members<'a>>
+        ensures { (t : Tree) → BeginsWith self.now t → FindsMembers result (as_members t) }
+    {
+        match first(self.nodes) {
+            Node::Map => Some(Members {
+                next: self.inside(),
+            }),
+            _ => None,
+        }
+    }
+
+    /// Whether an array or an object ends there.
+    fn is_end(&self) -> bool
+        ensures { result ≡ is_end self.now }
+    {
+        match first(self.nodes) {
+            Node::End => true,
+            _ => false,
+        }
+    }
+
+    /// The member's name, where one stands there.
+    fn name(&self) -> Option<&'a str>
+        ensures { option_map (λ n. n.now) result ≡ as_name self.now }
+    {
+        match first(self.nodes) {
+            Node::Name { from, to } => Some(span_text(self.texts, from, to)),
+            _ => None,
+        }
+    }
+
+    /// The place behind the value.
+    fn behind(&self) -> Element<'a>
+        ensures { result ≡ behind 0 self.now }
+    {
+        Element {
+            texts: self.texts,
+            nodes: behind_value(self.nodes),
+        }
+    }
+
+    /// The place behind the first node.
+    fn inside(&self) -> Element<'a>
+        ensures { result ≡ drop 1 self.now }
+    {
+        let (texts, nodes) = (self.texts, self.nodes);
+        match nodes.split_first() {
+            Some((_, nodes)) => Element { texts, nodes },
+            None => Element { texts, nodes },
+        }
+    }
+}
+
+/// The items of an array in order. A contract sees the tokens from the next one on.
+#[derive(Drop)]
+pub struct Items<'a> {
+    next: Element<'a>,
+}
+
+impl<'a> Model for Items<'a> {
+    ghost use Rattle.std.specs.Prelude.{List};
+    ghost use Rattle.mes_json.specs.Tokens.{Token, tokens_code};
+
+    ghost Value = { List Token };
+
+    ghost coded = { tokens_code };
+
+    ghost view = { λ i. i.next };
+}
+
+impl<'a> Items<'a> {
+    /// The next item. Its cost is proportional to the nodes of that item, which it passes over.
+    pub fn next(&mut self) -> Option<Element<'a>>
+        ensures item { (ts : items) → BeginsItems self.old ts → NextItem ts result self.new }
+        ensures shorter { OnSome result (length self.new < length self.old) }
+    {
+        if self.next.is_end() {
+            return None;
+        }
+        let behind = self.next.behind();
+        Some(mem::replace(&mut self.next, behind))
+    }
+}
+
+/// The members of an object in order, repeated ones too. A contract sees the tokens from the next one on.
+#[derive(Drop)]
+pub struct Members<'a> {
+    next: Element<'a>,
+}
+
+impl<'a> Model for Members<'a> {
+    ghost use Rattle.std.specs.Prelude.{List};
+    ghost use Rattle.mes_json.specs.Tokens.{Token, tokens_code};
+
+    ghost Value = { List Token };
+
+    ghost coded = { tokens_code };
+
+    ghost view = { λ m. m.next };
+}
+
+impl<'a> Members<'a> {
+    /// The next member: its name and its value. Its cost is proportional to the nodes of that value, which it passes over.
+    pub fn next(&mut self) -> Option<(&'a str, Element<'a>)>
+        ensures member { (ms : members) → BeginsMembers self.old ms → NextMember ms (option_map (λ m. (m.0.now, m.1)) result) self.new }
+        ensures shorter { OnSome result (length self.new < length self.old) }
+    {
+        let name = self.next.name()?;
+        let value = self.next.inside();
+        self.next = value.behind();
+        Some((name, value))
+    }
+}

@@ -1,0 +1,23 @@
+//! The tree of a value on a tape.
+ghost use Rattle.std.specs.Prelude.{◌≡◌, IfOk};
+ghost use Rattle.mes_json.specs.Tree.{Tree};
+ghost use Rattle.mes_json.specs.Tokens.{BeginsWith};
+ghost use Rattle.mes_json.specs.View.{view};
+
+use crate::build;
+use crate::cursor::Element;
+use crate::memory::NoMemory;
+use crate::value::Json;
+use std::alloc::Global;
+
+impl Element<'_> {
+    /// The value as a tree in memory of its own; where none is whole, `null`.
+    pub fn to_json(&self, alloc: Global) -> Result<Json, NoMemory>
+        ensures { (t : Tree) → BeginsWith self.now t → IfOk result (λ json. view json ≡ t) }
+    {
+        match build::to_json(alloc, self.texts, self.nodes)? {
+            Some(json) => Ok(json),
+            None => Ok(Json::Null),
+        }
+    }
+}

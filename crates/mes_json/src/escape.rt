@@ -1,0 +1,136 @@
+//! Where a reader stands within an escape of a string (RFC 8259, section 7).
+ghost use Rattle.std.specs.Prelude.{◌≡◌, ◌<◌, ◌≤◌, ◌⊎◌, IfSome};
+ghost use Rattle.mes_json.specs.Escape.{HasBounds, hex_of, short_of, two_digits, four_digits, pair_of, escape_step};
+ghost use Rattle.mes_json.specs.EscapeView.{escape_view, move_view};
+
+/// What of an escape is read.
+#[derive(Clone, Copy)]
+pub(crate) enum Escape {
+    /// The backslash.
+    Backslash,
+    /// `\u`.
+    Unit0,
+    /// `\u` and a digit, with its value.
+    Unit1(u8),
+    /// `\u` and two digits, with their value: not those of a low surrogate.
+    Unit2(u8),
+    /// `\u` and three digits, with their value.
+    Unit3(u16),
+    /// A high surrogate.
+    High(u16),
+    /// A high surrogate and a backslash.
+    HighBackslash(u16),
+    /// A high surrogate and `\u`.
+    Low0(u16),
+    /// A high surrogate, `\u` and a digit, which is D.
+    Low1(u16),
+    /// A high surrogate, `\u` and the first two digits of a low one, with their value.
+    Low2 { high: u16, value: u8 },
+    /// A high surrogate, `\u` and the first three digits of a low one, with their value.
+    Low3 { high: u16, value: u16 },
+}
+
+/// Where a byte leads in an escape.
+pub(crate) enum Move {
+    /// To more of it.
+    On(Escape),
+    /// To its end: it stands for this character.
+    Makes(char),
+    /// Nowhere.
+    Refused,
+}
+
+/// The value of a hexadecimal digit.
+fn hex(byte: u8) -> Option<u8>
+    ensures value { result ≡ hex_of byte }
+    ensures small { IfSome result (λ x. x < 16) }
+{
+    match byte {
+        b'0'..=b'9' => Some(byte - b'0'),
+        b'A'..=b'F' => Some(byte - b'A' + 10),
+        b'a'..=b'f' => Some(byte - b'a' + 10),
+        _ => None,
+    }
+}
+
+/// Behind the backslash, where no `u` stands there.
+fn short(byte: u8) -> Move
+    ensures { move_view result ≡ short_of byte }
+{
+    match byte {
+        b'"' | b'\\' | b'/' => Move::Makes(byte as char),
+        b'b' => Move::Makes('\u{8}'),
+        b'f' => Move::Makes('\u{C}'),
+        b'n' => Move::Makes('\n'),
+        b'r' => Move::Makes('\r'),
+        b't' => Move::Makes('\t'),
+        _ => Move::Refused,
+    }
+}
+
+/// Behind two digits, with their value.
+fn two_digits(value: u8) -> Move
+    ensures { move_view result ≡ two_digits value }
+{
+    match value {
+        0xDC..=0xDF => Move::Refused,
+        _ => Move::On(Escape::Unit2(value)),
+    }
+}
+
+/// Behind four digits, with their value.
+fn four_digits(value: u16) -> Move
+    requires { (value < 0xDC00) ⊎ (0xE000 ≤ value) }
+    ensures { move_view result ≡ four_digits value }
+{
+    match value {
+        0xD800..=0xDBFF => Move::On(Escape::High(value)),
+        _ => Move::Makes(unsafe { char::from_u32_unchecked(u32::from(value)) }),
+    }
+}
+
+/// The character of a surrogate pair.
+fn pair(high: u16, low: u16) -> char
+    requires high { (0xD800 ≤ high) × (high ≤ 0xDBFF) }
+    requires low { (0xDC00 ≤ low) × (low ≤ 0xDFFF) }
+    ensures { result ≡ pair_of high low }
+{
+    let code = 0x1_0000 + (u32::from(high) - 0xD800) * 0x400 + (u32::from(low) - 0xDC00);
+    unsafe { char::from_u32_unchecked(code) }
+}
+
+impl Escape {
+    /// Where the next byte leads.
+    #[inline(always)]
+    pub(crate) fn step(self, byte: u8) -> Move
+        requires { HasBounds (escape_view self) }
+        ensures { move_view result ≡ escape_step (escape_view self) byte }
+    {
+        match (self, hex(byte)) {
+            (Escape::Backslash, _) if byte == b'u' => Move::On(Escape::Unit0),
+            (Escape::Backslash, _) => short(byte),
+            (Escape::High(high), _) if byte == b'\\' => Move::On(Escape::HighBackslash(high)),
+            (Escape::HighBackslash(high), _) if byte == b'u' => Move::On(Escape::Low0(high)),
+            (Escape::Unit0, Some(digit)) => Move::On(Escape::Unit1(digit)),
+            (Escape::Unit1(value), Some(digit)) => two_digits(value * 16 + digit),
+            (Escape::Unit2(value), Some(digit)) => Move::On(Escape::Unit3(
+                u16::from(value) * 16 + u16::from(digit),
+            )),
+            (Escape::Unit3(value), Some(digit)) => four_digits(value * 16 + u16::from(digit)),
+            (Escape::Low0(high), Some(13)) => Move::On(Escape::Low1(high)),
+            (Escape::Low1(high), Some(digit)) if digit >= 12 => Move::On(Escape::Low2 {
+                high,
+                value: 13 * 16 + digit,
+            }),
+            (Escape::Low2 { high, value }, Some(digit)) => Move::On(Escape::Low3 {
+                high,
+                value: u16::from(value) * 16 + u16::from(digit),
+            }),
+            (Escape::Low3 { high, value }, Some(digit)) => Move::Makes(pair(
+                high,
+                value * 16 + u16::from(digit),
+            )),
+            _ => Move::Refused,
+        }
+    }
+}

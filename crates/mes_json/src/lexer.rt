@@ -1,0 +1,234 @@
+#![tactic(auto, unfolding(crate::specs::Lexer::HasLexed, crate::specs::Lexer::IsOutOfMemory, crate::specs::Lexer::held))]
+//! Reads a JSON text that comes in pieces.
+ghost use Rattle.std.specs.Prelude.{◌≡◌, ◌≢◌, ℕ, List, [], ◌∷◌, ◌++◌, Err, IfOk, IfErr, MatchResult};
+ghost use Rattle.mes_json.specs.Tree.{Tree};
+ghost use Rattle.mes_json.specs.Grammar.{IsText};
+ghost use Rattle.mes_json.specs.Machine.{start};
+ghost use Rattle.mes_json.specs.Reader.{Fits, state_view};
+ghost use Rattle.mes_json.specs.Tokens.{tokens};
+ghost use Rattle.mes_json.specs.Place.{Begins};
+ghost use Rattle.mes_json.specs.View.{view};
+ghost use Rattle.mes_json.specs.Lexer.{HasLexed, IsOutOfMemory, IsLexFault, Tells, held};
+ghost use Rattle.mes_json.specs.declared.fault.ReadFault.TheVariants.{NoMemory as no_memory};
+
+use crate::fault::{ReadFault, TextFault, Why};
+use crate::limits::NESTING_LIMIT;
+use crate::memory::NoMemory;
+use crate::reader::Reader;
+use crate::stop::Stop;
+use crate::tape::Tape;
+use crate::value::Json;
+use std::alloc::Global;
+use std::marker::Model;
+
+/// What is kept of the bytes.
+#[derive(Drop)]
+enum Kept {
+    /// Some text goes on from them.
+    Reading(Reader),
+    /// None does.
+    Faulty(TextFault),
+    /// A growth was refused memory.
+    OutOfMemory,
+}
+
+/// Reads a JSON text (RFC 8259, section 2) whose bytes come one at a time or in runs, as `read_text` reads it whole. A contract
+/// sees which bytes it stands for, by `HasLexed`.
+#[derive(Drop)]
+pub struct Lexer {
+    alloc: Global,
+    /// How many bytes were taken before a fault, as far as a u64 counts.
+    count: u64,
+    kept: Kept,
+}
+
+// Not inlined, so that taking a byte makes no room for what is let go here.
+impl Kept {
+    /// No text goes on from the bytes.
+    #[inline(never)]
+    fn fail(&mut self, fault: TextFault)
+        ensures { self.new ≡ Kept.Faulty fault }
+    {
+        *self = Kept::Faulty(fault);
+    }
+
+    /// A growth was refused memory.
+    #[inline(never)]
+    fn lose(&mut self)
+        ensures { self.new ≡ Kept.OutOfMemory }
+    {
+        *self = Kept::OutOfMemory;
+    }
+}
+
+impl Model for Lexer {
+    ghost use Rattle.std.specs.Prelude.{ℕ};
+    ghost use Rattle.mes_json.specs.declared.lexer.Kept.{Kept};
+
+    ghost Value = { ℕ × Kept };
+
+    ghost use Rattle.mes_json.specs.Lexer.{IsPossible};
+
+    ghost view = { λ l. (l.count, l.kept) };
+
+    ghost invariant = { λ l. IsPossible (l.count, l.kept) };
+}
+
+impl Lexer {
+    /// A lexer of no byte. Takes no memory.
+    pub fn new(alloc: Global) -> Lexer
+        ensures lexed { HasLexed result [] }
+        ensures memory { IsOutOfMemory result → ⊥ }
+    {
+        Lexer::begin(alloc, Reader::new(alloc))
+    }
+
+    /// A lexer of no byte in the memory of a tape that is not wanted any more, as far as `ROOM_KEPT` goes. Takes no memory.
+    pub fn reusing(alloc: Global, tape: Tape) -> Lexer
+        ensures lexed { HasLexed result [] }
+        ensures memory { IsOutOfMemory result → ⊥ }
+    {
+        let (texts, nodes) = tape.into_room(alloc);
+        Lexer::begin(alloc, Reader::within(alloc, texts, nodes))
+    }
+
+    /// A lexer of no byte, by its reader.
+    fn begin(alloc: Global, reader: Reader) -> Lexer
+        requires fits { Fits reader }
+        requires start { state_view reader ≡ start }
+        ensures lexed { HasLexed result [] }
+        ensures memory { IsOutOfMemory result → ⊥ }
+    {
+        Lexer {
+            alloc,
+            count: 0,
+            kept: Kept::Reading(reader),
+        }
+    }
+
+    /// Takes one more byte. Bytes behind a fault are let go.
+    #[inline(never)]
+    pub fn push(&mut self, byte: u8) -> Result<(), NoMemory>
+        ensures lexed { (p : List ℕ) → HasLexed self.old p → HasLexed self.new (p ++ byte ∷ []) }
+        ensures tells { Tells result self.new }
+        ensures stays { IsOutOfMemory self.old → IsOutOfMemory self.new }
+        // Behind a fault nothing wants memory.
+        ensures swallows { (p : List ℕ) → HasLexed self.old p → (Begins NESTING_LIMIT p → ⊥) → (IsOutOfMemory self.old → ⊥) → IsOutOfMemory self.new → ⊥ }
+    {
+        match &mut self.kept {
+            Kept::Reading(reader) => match reader.step(byte) {
+                Ok(()) => {
+                    self.count = self.count.saturating_add(1);
+                    Ok(())
+                }
+                Err(Stop::Refused(why)) => {
+                    self.kept.fail(TextFault {
+                        byte: self.count,
+                        why,
+                    });
+                    Ok(())
+                }
+                Err(Stop::NoMemory) => {
+                    self.kept.lose();
+                    Err(NoMemory)
+                }
+            },
+            Kept::Faulty(_) => Ok(()),
+            Kept::OutOfMemory => Err(NoMemory),
+        }
+    }
+
+    /// Takes the bytes of a run as `push` would in turn, but the plain characters of a string all at once.
+    pub fn push_run(&mut self, bytes: &[u8]) -> Result<(), NoMemory>
+        ensures lexed { (p : List ℕ) → HasLexed self.old p → HasLexed self.new (p ++ bytes.now) }
+        ensures tells { Tells result self.new }
+        ensures stays { IsOutOfMemory self.old → IsOutOfMemory self.new }
+        // Behind a fault nothing wants memory.
+        ensures swallows { (p : List ℕ) → HasLexed self.old p → (Begins NESTING_LIMIT p → ⊥) → (IsOutOfMemory self.old → ⊥) → IsOutOfMemory self.new → ⊥ }
+    {
+        match &mut self.kept {
+            Kept::Reading(reader) => match reader.take_all(bytes) {
+                Ok(()) => {
+                    self.count = self.count.saturating_add(bytes.len() as u64);
+                    Ok(())
+                }
+                Err(ReadFault::Text(fault)) => {
+                    self.kept = Kept::Faulty(TextFault {
+                        byte: self.count.saturating_add(fault.byte),
+                        why: fault.why,
+                    });
+                    Ok(())
+                }
+                Err(ReadFault::NoMemory) => {
+                    self.kept = Kept::OutOfMemory;
+                    Err(NoMemory)
+                }
+            },
+            Kept::Faulty(_) => Ok(()),
+            Kept::OutOfMemory => Err(NoMemory),
+        }
+    }
+
+    /// How many bytes of texts and numbers the lexer holds, not counting spare room. `lexer_bound` says how many they are at most.
+    pub fn held(&self) -> u64
+        ensures count { result ≡ held self.now }
+        // None behind a fault or a want of memory.
+        ensures fault { (p : List ℕ) → HasLexed self.now p → (Begins NESTING_LIMIT p → ⊥) → result ≡ 0 }
+        ensures memory { IsOutOfMemory self.now → result ≡ 0 }
+    {
+        match &self.kept {
+            Kept::Reading(reader) => reader.held(),
+            Kept::Faulty(_) => 0,
+            Kept::OutOfMemory => 0,
+        }
+    }
+
+    /// The tree that the bytes spell, or their fault.
+    pub fn finish(self) -> Result<Json, ReadFault>
+        // What `Ok` holds: by the grammar, the bytes spell this value, and no text is refused but for want of memory.
+        ensures read { (p : List ℕ) → HasLexed self p → IfOk result (λ json. IsText NESTING_LIMIT p (view json)) }
+        ensures only { (p : List ℕ) → HasLexed self p → (t : Tree) → IsText NESTING_LIMIT p t
+            → MatchResult result (λ json. view json ≡ t) (λ e. e ≡ ReadFault.NoMemory) }
+
+        // What each refusal means: the place is the length of the longest front that some text goes on from, as far as a u64 counts.
+        ensures fault { (p : List ℕ) → HasLexed self p → IfErr result (λ e. IsLexFault NESTING_LIMIT p e) }
+
+        // A fault is told whatever memory there is; want of memory is answered again.
+        ensures told { (p : List ℕ) → HasLexed self p → (Begins NESTING_LIMIT p → ⊥) → (IsOutOfMemory self → ⊥) → result ≢ Err ReadFault.NoMemory }
+        ensures memory { IsOutOfMemory self → result ≡ Err ReadFault.NoMemory }
+    {
+        let alloc = self.alloc;
+        let tape = self.end()?;
+        Ok(tape.root().to_json(alloc)?)
+    }
+
+    /// The tape of the value that the bytes spell, or their fault.
+    pub fn end(self) -> Result<Tape, ReadFault>
+        // What `Ok` holds: by the grammar, the bytes spell the value of these tokens, and no text is refused but for want of memory.
+        ensures read { (p : List ℕ) → HasLexed self p → IfOk result (λ tape. (t : Tree) × IsText NESTING_LIMIT p t × (tape ≡ tokens t)) }
+        ensures only { (p : List ℕ) → HasLexed self p → (t : Tree) → IsText NESTING_LIMIT p t
+            → MatchResult result (λ tape. tape ≡ tokens t) (λ e. e ≡ ReadFault.NoMemory) }
+
+        // What each refusal means, as of `finish`.
+        ensures fault { (p : List ℕ) → HasLexed self p → IfErr result (λ e. IsLexFault NESTING_LIMIT p e) }
+        ensures told { (p : List ℕ) → HasLexed self p → (Begins NESTING_LIMIT p → ⊥) → (IsOutOfMemory self → ⊥) → result ≢ Err ReadFault.NoMemory }
+        ensures memory { IsOutOfMemory self → result ≡ Err ReadFault.NoMemory }
+    {
+        let Lexer {
+            alloc: _alloc,
+            count,
+            kept,
+        } = self;
+        match kept {
+            Kept::Reading(reader) => match reader.into_tape()? {
+                Some(tape) => Ok(tape),
+                None => Err(ReadFault::Text(TextFault {
+                    byte: count,
+                    why: Why::End,
+                })),
+            },
+            Kept::Faulty(fault) => Err(ReadFault::Text(fault)),
+            Kept::OutOfMemory => Err(ReadFault::NoMemory),
+        }
+    }
+}

@@ -1,0 +1,69 @@
+//! The plain characters of a string.
+ghost use Rattle.std.specs.Prelude.{◌↔◌, ◌+◌, ◌<◌, ◌≤◌, IsTrue, length, take, drop, slice_index};
+ghost use Rattle.std.specs.List.{AllByRecursion};
+ghost use Rattle.mes_json.specs.Reader.{IsPlain};
+
+use std::simd::prelude::*;
+
+/// How many bytes are looked at together.
+const BLOCK: usize = 16;
+
+/// How many plain characters the slice begins with. A block shows where they end, so most strings need one.
+pub(crate) fn plain_run(bytes: &[u8]) -> usize
+    ensures inside { result ≤ length bytes.now }
+    ensures plain { AllByRecursion IsPlain (take result bytes.now) }
+    ensures maximal { result < length bytes.now → IsPlain (slice_index bytes.now result) → ⊥ }
+{
+    let mut place = 0;
+    while BLOCK <= bytes.len() - place {
+        let front = first_in_block(bytes, place);
+        if front < BLOCK {
+            return place + front;
+        }
+        place += BLOCK;
+    }
+    run_by_byte(bytes, place)
+}
+
+/// Goes on from a place behind plain characters to the first byte that is none.
+fn run_by_byte(bytes: &[u8], from: usize) -> usize
+    requires room { from ≤ length bytes.now }
+    requires before { AllByRecursion IsPlain (take from bytes.now) }
+    ensures inside { result ≤ length bytes.now }
+    ensures plain { AllByRecursion IsPlain (take result bytes.now) }
+    ensures stops { result < length bytes.now → IsPlain (slice_index bytes.now result) → ⊥ }
+{
+    for place in from..bytes.len() {
+        if !is_plain(bytes[place]) {
+            return place;
+        }
+    }
+    bytes.len()
+}
+
+/// Whether a byte is a character that stands for itself in a string (RFC 8259, section 7) and takes no other byte.
+fn is_plain(byte: u8) -> bool
+    ensures { IsTrue result ↔ IsPlain byte }
+{
+    byte >= 0x20 && byte < 0x80 && byte != b'"' && byte != b'\\'
+}
+
+/// How many plain characters the block at this place begins with.
+fn first_in_block(bytes: &[u8], place: usize) -> usize
+    requires { place + BLOCK ≤ length bytes.now }
+    ensures inside { result ≤ BLOCK }
+    ensures plain { AllByRecursion IsPlain (take result (drop place bytes.now)) }
+    ensures stops { result < BLOCK → IsPlain (slice_index bytes.now (place + result)) → ⊥ }
+{
+    let block = u8x16::from_slice(&bytes[place..]);
+    let marked = block.simd_lt(u8x16::splat(0x20))
+        | block.simd_ge(u8x16::splat(0x80))
+        | block.simd_eq(u8x16::splat(b'"'))
+        | block.simd_eq(u8x16::splat(b'\\'));
+    let marks = marked.to_bitmask();
+    if marks == 0 {
+        BLOCK
+    } else {
+        marks.trailing_zeros() as usize
+    }
+}

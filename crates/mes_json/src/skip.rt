@@ -1,0 +1,49 @@
+//! Passing over a value on a tape.
+ghost use Rattle.std.specs.Prelude.{◌≡◌, ◌<◌, ◌≤◌, ℕ, List, length, drop, slice_index_or};
+ghost use Rattle.mes_json.specs.Cursor.{token_of, tokens_held};
+ghost use Rattle.mes_json.specs.Passing.{depth_behind, behind};
+ghost use Rattle.mes_json.specs.declared.tape.Node.TheVariants.{End};
+
+use crate::tape::Node;
+
+/// The first node, or an end where there is none.
+pub(crate) fn first(nodes: &[Node]) -> Node
+    ensures { result ≡ slice_index_or nodes.now 0 End }
+{
+    nodes.first().copied().unwrap_or(Node::End)
+}
+
+/// The nodes behind the value that the first node begins.
+pub(crate) fn behind_value(nodes: &[Node]) -> &[Node]
+    ensures held { (texts : List ℕ) → tokens_held texts result.now ≡ behind 0 (tokens_held texts nodes.now) }
+    ensures rest { (n : ℕ) × (result.now ≡ drop n nodes.now) }
+{
+    &nodes[nodes_of_value(nodes)..]
+}
+
+/// How many nodes the value has that the first one begins: up to the one that leaves nothing open.
+fn nodes_of_value(nodes: &[Node]) -> usize
+    ensures behind { (texts : List ℕ) → behind 0 (tokens_held texts nodes.now) ≡ drop result (tokens_held texts nodes.now) }
+    ensures inside { result ≤ length nodes.now }
+{
+    let mut depth = 0;
+    for (i, node) in nodes.iter().enumerate() {
+        depth = depth_behind(depth, *node);
+        if depth == 0 {
+            return i + 1;
+        }
+    }
+    nodes.len()
+}
+
+/// How many arrays and objects are open behind the node, where so many are before it.
+fn depth_behind(depth: usize, node: Node) -> usize
+    requires { depth < usize.MAX }
+    ensures { (texts : List ℕ) → result ≡ depth_behind depth (token_of texts node) }
+{
+    match node {
+        Node::List | Node::Map => depth + 1,
+        Node::End => depth.saturating_sub(1),
+        _ => depth,
+    }
+}

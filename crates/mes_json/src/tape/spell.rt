@@ -1,0 +1,113 @@
+//! The tape of a value that is a tree.
+ghost use Rattle.std.specs.Prelude.{◌≡◌, ℕ, List, [], ◌∷◌, ◌++◌, IfOk, OnOk};
+ghost use Rattle.mes_json.specs.Tokens.{tokens, tokens_of_items, tokens_of_members};
+ghost use Rattle.mes_json.specs.Tape.{span, IsSpan, HasSpan};
+ghost use Rattle.mes_json.specs.Cursor.{token_of};
+ghost use Rattle.mes_json.specs.Spell.{HasNoText, text_token, IsTextOf};
+ghost use Rattle.mes_json.specs.View.{view, items_view, members_view};
+
+use crate::memory::NoMemory;
+use crate::tape::{Node, Tape};
+use crate::text::Text;
+use crate::value::Json;
+use std::alloc::Global;
+
+/// What a text on the tape is.
+#[derive(Clone, Copy)]
+enum Form {
+    /// A number.
+    Number,
+    /// A string.
+    Text,
+    /// A member's name.
+    Name,
+}
+
+impl Form {
+    /// The node of the text of a span.
+    fn node(self, from: usize, to: usize) -> Node
+        ensures token { (texts : List ℕ) → token_of texts result ≡ text_token self (span texts from to) }
+        ensures span { (texts : List ℕ) → IsSpan texts from to → IsTextOf self (span texts from to) → HasSpan texts result }
+    {
+        match self {
+            Form::Number => Node::Number { from, to },
+            Form::Text => Node::Text { from, to },
+            Form::Name => Node::Name { from, to },
+        }
+    }
+}
+
+impl Tape {
+    /// The tape of the value. Recurses as deep as the value nests.
+    pub fn of_json(alloc: Global, json: &Json) -> Result<Tape, NoMemory>
+        ensures { IfOk result (λ tape. tape ≡ tokens (view json.now)) }
+    {
+        let mut tape = Tape::new(Vec::new(alloc), Vec::new(alloc));
+        tape.put_value(json)?;
+        Ok(tape)
+    }
+
+    #[cycle(spell)]
+    fn put_value(&mut self, json: &Json) -> Result<(), NoMemory>
+        ensures { OnOk result (self.new ≡ self.old ++ tokens (view json.now)) }
+    {
+        match json {
+            Json::Null => self.put(Node::Null),
+            Json::Bool(truth) => self.put(Node::Bool(*truth)),
+            Json::Num(number) => self.put_text(Form::Number, number.as_str()),
+            Json::Text(text) => self.put_text(Form::Text, text.as_str()),
+            Json::List(items) => {
+                self.put(Node::List)?;
+                self.put_items(items)?;
+                self.put(Node::End)
+            }
+            Json::Map(members) => {
+                self.put(Node::Map)?;
+                self.put_members(members)?;
+                self.put(Node::End)
+            }
+        }
+    }
+
+    #[cycle(spell)]
+    fn put_items(&mut self, items: &[Json]) -> Result<(), NoMemory>
+        ensures { OnOk result (self.new ≡ self.old ++ tokens_of_items (items_view items.now)) }
+    {
+        for item in items {
+            self.put_value(item)?;
+        }
+        Ok(())
+    }
+
+    #[cycle(spell)]
+    fn put_members(&mut self, members: &[(Text, Json)]) -> Result<(), NoMemory>
+        ensures { OnOk result (self.new ≡ self.old ++ tokens_of_members (members_view members.now)) }
+    {
+        for (name, value) in members {
+            self.put_text(Form::Name, name.as_str())?;
+            self.put_value(value)?;
+        }
+        Ok(())
+    }
+
+    /// One more node, which has no text.
+    fn put(&mut self, node: Node) -> Result<(), NoMemory>
+        requires { HasNoText node }
+        ensures { OnOk result (self.new ≡ self.old ++ token_of [] node ∷ []) }
+    {
+        self.nodes.push(node)?;
+        Ok(())
+    }
+
+    /// One more text, and its node.
+    fn put_text(&mut self, form: Form, text: &str) -> Result<(), NoMemory>
+        requires { IsTextOf form text.now }
+        ensures { OnOk result (self.new ≡ self.old ++ text_token form text.now ∷ []) }
+    {
+        let from = self.texts.len();
+        self.texts.extend_from_slice(text.as_bytes())?;
+        let to = self.texts.len();
+        self.nodes.push(form.node(from, to))?;
+        Ok(())
+    }
+}

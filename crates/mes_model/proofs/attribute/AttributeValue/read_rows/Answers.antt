@@ -1,0 +1,73 @@
+use Rattle.std.proofs.Common.{refl}
+use Rattle.std.specs.Prelude.{codes}
+use Rattle.mes_part.specs.NameLaws.{names_differ}
+use Rattle.mes_part.specs.Rows.{required, row_value}
+use Rattle.mes_part.proofs.PartLemmas.{gives_fault}
+use Rattle.mes_part.proofs.RowLemmas.{gives_bound}
+use Rattle.mes_model.specs.Values.{ranges, scalar, set, text_value}
+use Rattle.mes_model.proofs.attribute.AttributeValue.read_rows.Goals as goal
+
+pub returns-in_err-type_of : goal.returns-in_err-type_of
+unfolding row_value
+returns-in_err-type_of c = λ ms kind_found scalar_found ranges_found set_found text_found.
+    gives_fault _ c.from_residual.result _ c.from_residual.ensures.1 (rw (c.in_err-type_of.ensures ms kind_found) refl)
+
+pub returns-in_err-required-in-SCALAR : goal.returns-in_err-required-in-SCALAR
+unfolding row_value
+returns-in_err-required-in-SCALAR c = λ ms kind_found scalar_found ranges_found set_found text_found.
+    rw (c.in_ok-type_of.ensures ms kind_found, c.in-SCALAR.is)
+    (gives_bound (required (codes "scalar") scalar c.args.path.now ms) _ _ c.from_residual-in_err-required-in-SCALAR.result c.from_residual-in_err-required-in-SCALAR.ensures.1
+    (c.in_err-required-in-SCALAR.ensures ms scalar_found))
+
+pub returns-in_err-required-in-RANGES : goal.returns-in_err-required-in-RANGES
+unfolding row_value
+returns-in_err-required-in-RANGES c = λ ms kind_found scalar_found ranges_found set_found text_found.
+    rw (c.in_ok-type_of.ensures ms kind_found, c.in-RANGES.is)
+    (gives_bound (required (codes "ranges") ranges c.args.path.now ms) _ _ c.from_residual-in_err-required-in-RANGES.result c.from_residual-in_err-required-in-RANGES.ensures.1
+    (c.in_err-required-in-RANGES.ensures ms ranges_found))
+
+pub returns-in_err-required-in-SET : goal.returns-in_err-required-in-SET
+unfolding row_value
+returns-in_err-required-in-SET c = λ ms kind_found scalar_found ranges_found set_found text_found.
+    rw (c.in_ok-type_of.ensures ms kind_found, c.in-SET.is)
+    (gives_bound (required (codes "set") set c.args.path.now ms) _ _ c.from_residual-in_err-required-in-SET.result c.from_residual-in_err-required-in-SET.ensures.1
+    (c.in_err-required-in-SET.ensures ms set_found))
+
+pub returns-in_err-required-in-TEXT : goal.returns-in_err-required-in-TEXT
+unfolding row_value
+returns-in_err-required-in-TEXT c = λ ms kind_found scalar_found ranges_found set_found text_found.
+    rw (c.in_ok-type_of.ensures ms kind_found, c.in-TEXT.is)
+    (gives_bound (required (codes "text") text_value c.args.path.now ms) _ _ c.from_residual-in_err-required-in-TEXT.result c.from_residual-in_err-required-in-TEXT.ensures.1
+    (c.in_err-required-in-TEXT.ensures ms text_found))
+
+pub returns-in_ok-required-in-SCALAR : goal.returns-in_ok-required-in-SCALAR
+unfolding row_value
+returns-in_ok-required-in-SCALAR c = λ ms kind_found scalar_found ranges_found set_found text_found.
+    rw (c.in_ok-type_of.ensures ms kind_found, c.in-SCALAR.is, c.in_ok-required-in-SCALAR.ensures ms scalar_found) refl
+
+pub returns-in_ok-required-in-RANGES : goal.returns-in_ok-required-in-RANGES
+unfolding row_value
+returns-in_ok-required-in-RANGES c = λ ms kind_found scalar_found ranges_found set_found text_found.
+    rw (c.in_ok-type_of.ensures ms kind_found, c.in-RANGES.is, c.in_ok-required-in-RANGES.ensures ms ranges_found) refl
+
+pub returns-in_ok-required-in-SET : goal.returns-in_ok-required-in-SET
+unfolding row_value
+returns-in_ok-required-in-SET c = λ ms kind_found scalar_found ranges_found set_found text_found.
+    rw (c.in_ok-type_of.ensures ms kind_found, c.in-SET.is, c.in_ok-required-in-SET.ensures ms set_found) refl
+
+pub returns-in_ok-required-in-TEXT : goal.returns-in_ok-required-in-TEXT
+unfolding row_value
+returns-in_ok-required-in-TEXT c = λ ms kind_found scalar_found ranges_found set_found text_found.
+    rw (c.in_ok-type_of.ensures ms kind_found, c.in-TEXT.is, c.in_ok-required-in-TEXT.ensures ms text_found) refl
+
+pub returns-in_default : goal.returns-in_default
+unfolding row_value
+returns-in_default c = λ ms kind_found scalar_found ranges_found set_found text_found.
+    rw (
+      c.in_ok-type_of.ensures ms kind_found,
+      names_differ c.in_ok-type_of.field-0.now (codes "SCALAR") c.in_default.not-SCALAR,
+      names_differ c.in_ok-type_of.field-0.now (codes "RANGES") c.in_default.not-RANGES,
+      names_differ c.in_ok-type_of.field-0.now (codes "SET") c.in_default.not-SET,
+      names_differ c.in_ok-type_of.field-0.now (codes "TEXT") c.in_default.not-TEXT,
+      c.type_fault.ensures,
+    ) refl

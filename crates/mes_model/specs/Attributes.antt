@@ -1,0 +1,87 @@
+-- An attribute of an agent: its name, and its value by its type.
+use Rattle.std.specs.Prelude.{◌≡◌, ◌⊎◌, codes}
+use Rattle.std.proofs.Common.{inl, inr, refl}
+use Rattle.mes_part.specs.Kinds.{Kind, Lawful, Returns}
+use Rattle.mes_part.specs.Leaves.{texts}
+use Rattle.mes_part.specs.Rows.{Row, need, ◌⨾◌, mapped, joined, message}
+use Rattle.mes_part.specs.Choices.{no_other, case, typed}
+use Rattle.mes_part.specs.KindLaws.{lawful_texts}
+use Rattle.mes_part.specs.RowLaws.{LawfulRow, lawful_need, ◌⨾⨾◌, lawful_mapped, lawful_joined, lawful_message, message_returns}
+use Rattle.mes_part.specs.ChoiceLaws.{lawful_no_other, lawful_case, lawful_typed}
+use Rattle.mes_part.specs.declared.field.FieldWhy.TheVariants.{UnknownName}
+use Rattle.mes_model.specs.Values.{scalar, ranges, set, text_value, lawful_scalar, lawful_ranges, lawful_set, lawful_text_value}
+use Rattle.mes_model.specs.declared.value.Scalar.{Scalar}
+use Rattle.mes_model.specs.declared.value.Ranges.{Ranges}
+use Rattle.mes_model.specs.declared.value.Set.{Set}
+use Rattle.mes_model.specs.declared.text_value.TextValue.{TextValue}
+use Rattle.mes_model.specs.declared.attribute.AttributeValue.{AttributeValue}
+use Rattle.mes_model.specs.declared.attribute.AttributeValue.TheVariants.{Scalar as OfScalar, Ranges as OfRanges, Set as OfSet, Text as OfText}
+use Rattle.mes_model.specs.declared.attribute.Attribute.{Attribute}
+
+-- one of the values
+abbrev pub to_attribute_value : Scalar ⊎ Ranges ⊎ Set ⊎ TextValue ⊎ ⊥ → AttributeValue
+to_attribute_value (inl v) = OfScalar v
+to_attribute_value (inr (inl v)) = OfRanges v
+to_attribute_value (inr (inr (inl v))) = OfSet v
+to_attribute_value (inr (inr (inr (inl v)))) = OfText v
+to_attribute_value (inr (inr (inr (inr v)))) = absurd v
+
+abbrev pub from_attribute_value : AttributeValue → Scalar ⊎ Ranges ⊎ Set ⊎ TextValue ⊎ ⊥
+from_attribute_value (OfScalar v) = inl v
+from_attribute_value (OfRanges v) = inr (inl v)
+from_attribute_value (OfSet v) = inr (inr (inl v))
+from_attribute_value (OfText v) = inr (inr (inr (inl v)))
+
+-- type !, and by it scalar !, ranges !, set ! or text !
+abbrev pub attribute_value_rows : Row AttributeValue
+attribute_value_rows =
+    mapped (typed (
+    case (codes "SCALAR") (need (codes "scalar") scalar) (
+    case (codes "RANGES") (need (codes "ranges") ranges) (
+    case (codes "SET") (need (codes "set") set) (
+    case (codes "TEXT") (need (codes "text") text_value) (
+    no_other UnknownName
+    )
+    )
+    )
+    )
+    )) to_attribute_value from_attribute_value
+
+-- name !, its value
+abbrev pub attribute_rows : Row Attribute
+attribute_rows =
+    mapped (
+    need (codes "name") texts
+    ⨾ joined attribute_value_rows
+    ) (λ x. record { name = x.0; value = x.1 })
+    (λ v. (v.name, v.value))
+
+unfoldable pub attribute : Kind Attribute
+attribute = message attribute_rows
+
+-- ---- their laws
+
+to_from_attribute_value : (v : AttributeValue) → to_attribute_value (from_attribute_value v) ≡ v
+to_from_attribute_value (OfScalar v) = refl
+to_from_attribute_value (OfRanges v) = refl
+to_from_attribute_value (OfSet v) = refl
+to_from_attribute_value (OfText v) = refl
+
+lawful_attribute_value_rows : LawfulRow attribute_value_rows
+lawful_attribute_value_rows =
+    lawful_mapped _ _ (lawful_typed (
+    lawful_case (lawful_need lawful_scalar) (lawful_case (lawful_need lawful_ranges) (
+    lawful_case (lawful_need lawful_set) (lawful_case (lawful_need lawful_text_value) lawful_no_other)
+    ))
+    ) refl) to_from_attribute_value
+
+lawful_attribute_rows : LawfulRow attribute_rows
+lawful_attribute_rows = lawful_mapped _ _ (lawful_need lawful_texts ⨾⨾ lawful_joined lawful_attribute_value_rows) (λ v. refl)
+
+pub lawful_attribute : Lawful attribute
+unfolding attribute
+lawful_attribute = lawful_message lawful_attribute_rows
+
+pub attribute_back : (v : Attribute) → attribute_rows.Back v → Returns attribute v
+unfolding attribute
+attribute_back v back = message_returns lawful_attribute_rows refl v back

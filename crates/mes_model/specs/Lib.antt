@@ -1,0 +1,6 @@
+pub mod Ids
+pub mod Reservations
+pub mod Values
+pub mod Resources
+pub mod Attributes
+pub mod Offers

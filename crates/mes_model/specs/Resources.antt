@@ -1,0 +1,111 @@
+-- A resource of an agent: its name, its value by its type, and for whom it is.
+use Rattle.std.specs.Prelude.{◌≡◌, ◌⊎◌, codes}
+use Rattle.std.proofs.Common.{inl, inr, refl}
+use Rattle.mes_part.specs.Kinds.{Kind, Lawful, Returns}
+use Rattle.mes_part.specs.Leaves.{texts, objects}
+use Rattle.mes_part.specs.Rows.{Row, need, maybe, many, flag, ◌⨾◌, mapped, joined, message}
+use Rattle.mes_part.specs.Choices.{no_other, case, typed}
+use Rattle.mes_part.specs.KindLaws.{lawful_texts, lawful_objects}
+use Rattle.mes_part.specs.RowLaws.{LawfulRow, lawful_need, lawful_maybe, lawful_many, lawful_flag, ◌⨾⨾◌, lawful_mapped, lawful_joined, lawful_message, message_returns}
+use Rattle.mes_part.specs.ChoiceLaws.{lawful_no_other, lawful_case, lawful_typed}
+use Rattle.mes_part.specs.declared.field.FieldWhy.TheVariants.{UnknownName}
+use Rattle.mes_model.specs.Ids.{id, lawful_id}
+use Rattle.mes_model.specs.Reservations.{allocation, reservation, lawful_allocation, lawful_reservation}
+use Rattle.mes_model.specs.Values.{scalar, ranges, set, lawful_scalar, lawful_ranges, lawful_set}
+use Rattle.mes_model.specs.declared.value.Scalar.{Scalar}
+use Rattle.mes_model.specs.declared.value.Ranges.{Ranges}
+use Rattle.mes_model.specs.declared.value.Set.{Set}
+use Rattle.mes_model.specs.declared.resource.ResourceValue.{ResourceValue}
+use Rattle.mes_model.specs.declared.resource.ResourceValue.TheVariants.{Scalar as OfScalar, Ranges as OfRanges, Set as OfSet}
+use Rattle.mes_model.specs.declared.resource.Resource.{Resource}
+
+-- one of the values
+abbrev pub to_resource_value : Scalar ⊎ Ranges ⊎ Set ⊎ ⊥ → ResourceValue
+to_resource_value (inl v) = OfScalar v
+to_resource_value (inr (inl v)) = OfRanges v
+to_resource_value (inr (inr (inl v))) = OfSet v
+to_resource_value (inr (inr (inr v))) = absurd v
+
+abbrev pub from_resource_value : ResourceValue → Scalar ⊎ Ranges ⊎ Set ⊎ ⊥
+from_resource_value (OfScalar v) = inl v
+from_resource_value (OfRanges v) = inr (inl v)
+from_resource_value (OfSet v) = inr (inr (inl v))
+
+-- type !, and by it scalar !, ranges ! or set !
+abbrev pub resource_value_rows : Row ResourceValue
+resource_value_rows =
+    mapped (typed (
+    case (codes "SCALAR") (need (codes "scalar") scalar) (
+    case (codes "RANGES") (need (codes "ranges") ranges) (
+    case (codes "SET") (need (codes "set") set) (
+    no_other UnknownName
+    )
+    )
+    )
+    )) to_resource_value from_resource_value
+
+-- name !, its value, role ?, allocation_info ?, reservation ?, reservations *, disk ?, revocable, shared, provider_id ?
+abbrev pub resource_rows : Row Resource
+resource_rows =
+    mapped (
+    need (codes "name") texts
+    ⨾ joined resource_value_rows
+    ⨾ maybe (codes "role") texts
+    ⨾ maybe (codes "allocation_info") allocation
+    ⨾ maybe (codes "reservation") reservation
+    ⨾ many (codes "reservations") reservation
+    ⨾ maybe (codes "disk") objects
+    ⨾ flag (codes "revocable")
+    ⨾ flag (codes "shared")
+    ⨾ maybe (codes "provider_id") id
+    ) (λ x. record {
+      name = x.0;
+      value = x.1.0;
+      role = x.1.1.0;
+      allocation_info = x.1.1.1.0;
+      reservation = x.1.1.1.1.0;
+      reservations = x.1.1.1.1.1.0;
+      disk = x.1.1.1.1.1.1.0;
+      revocable = x.1.1.1.1.1.1.1.0;
+      shared = x.1.1.1.1.1.1.1.1.0;
+      provider_id = x.1.1.1.1.1.1.1.1.1;
+    }) (λ v. (v.name, (v.value, (v.role, (v.allocation_info, (v.reservation, (v.reservations, (v.disk, (v.revocable, (v.shared, v.provider_id))))))))))
+
+unfoldable pub resource : Kind Resource
+resource = message resource_rows
+
+-- ---- their laws
+
+to_from_resource_value : (v : ResourceValue) → to_resource_value (from_resource_value v) ≡ v
+to_from_resource_value (OfScalar v) = refl
+to_from_resource_value (OfRanges v) = refl
+to_from_resource_value (OfSet v) = refl
+
+lawful_resource_value_rows : LawfulRow resource_value_rows
+lawful_resource_value_rows =
+    lawful_mapped _ _ (lawful_typed (
+    lawful_case (lawful_need lawful_scalar) (lawful_case (lawful_need lawful_ranges) (lawful_case (lawful_need lawful_set) lawful_no_other))
+    ) refl) to_from_resource_value
+
+lawful_resource_rows : LawfulRow resource_rows
+lawful_resource_rows =
+    lawful_mapped _ _ (
+    lawful_need lawful_texts
+    ⨾⨾ lawful_joined lawful_resource_value_rows
+    ⨾⨾ lawful_maybe lawful_texts
+    ⨾⨾ lawful_maybe lawful_allocation
+    ⨾⨾ lawful_maybe lawful_reservation
+    ⨾⨾ lawful_many lawful_reservation
+    ⨾⨾ lawful_maybe lawful_objects
+    ⨾⨾ lawful_flag
+    ⨾⨾ lawful_flag
+    ⨾⨾ lawful_maybe lawful_id
+    ) (λ v. refl)
+
+pub lawful_resource : Lawful resource
+unfolding resource
+lawful_resource = lawful_message lawful_resource_rows
+
+pub resource_back : (v : Resource) → resource_rows.Back v → Returns resource v
+unfolding resource
+resource_back v back = message_returns lawful_resource_rows refl v back

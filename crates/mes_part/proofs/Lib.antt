@@ -1,0 +1,10 @@
+mod PathLemmas
+pub mod LeafLemmas
+pub mod NumberPlaces
+pub mod PartLemmas
+pub mod TreeLemmas
+pub mod ListLemmas
+pub mod FoundLemmas
+pub mod ValueLemmas
+pub mod RowLemmas
+pub mod ReadListLemmas

@@ -1,0 +1,83 @@
+-- A row, by the value that was found of its member.
+--     looked_value, looked_none            the look-up
+--     required_at, optional_at, repeated_at, flagged_at      the row, where a value is there
+--     gives_bound                          a fault that a `?` hands on
+use Rattle.std.proofs.Common.{◌≡◌, ℕ, true, List, Option, Some, None, refl, sym, ◌∙◌, ap, subst}
+use Rattle.std.specs.Prelude.{Result, Ok, Err}
+use Rattle.std.specs.Result.{IsErrAnd}
+use Rattle.mes_json.specs.Tree.{Tree, Members}
+use Rattle.mes_json.specs.Tokens.{Token, BeginsWith}
+use Rattle.mes_part.specs.Paths.{Place}
+use Rattle.mes_part.specs.Fields.{values_named, below, single, lookup}
+use Rattle.mes_part.specs.Kinds.{Kind, ◌>>=◌}
+use Rattle.mes_part.specs.Leaves.{members_at}
+use Rattle.mes_part.specs.Lists.{list_of}
+use Rattle.mes_part.specs.Rows.{must, required, likewise, optional, listed, repeated, is_there, flagged}
+use Rattle.mes_part.specs.FieldLaws.{after}
+use Rattle.mes_part.specs.FoundRows.{IsFound, ShowsValue}
+use Rattle.mes_part.specs.Parts.{Gives}
+use Rattle.mes_part.specs.declared.field.FieldFault.{FieldFault}
+use Rattle.mes_part.specs.declared.found.Found.{Found}
+use Rattle.mes_part.specs.declared.part.PartFault.{PartFault}
+use Rattle.mes_part.specs.declared.part.PartFault.TheVariants.{Field, NoMemory}
+
+shown_some : (expected : Result (Option Tree) FieldFault) (o : Option (List Token)) (e : List Token) → o ≡ Some e → ShowsValue expected (Ok o)
+    → (t : Tree) × (expected ≡ Ok (Some t)) × BeginsWith e t
+shown_some expected None e is shows = let bad : None ≡ Some e = is in absurd (cc)
+shown_some expected (Some x) e is shows =
+    let same : x ≡ e = cc in (shows.0, shows.1, subst (λ (y : List Token). BeginsWith y shows.0) same shows.2)
+
+-- the value of a member, at its place
+pub looked_value : (f : Found) (at inner : List Place) (n : List ℕ) (ms : Members) (o : Option (List Token)) (e : List Token)
+    → inner ≡ below at n → ((ts : List Tree) → IsFound f ts → ShowsValue (single inner ts) (Ok o)) → o ≡ Some e → IsFound f (values_named n ms)
+    → (t : Tree) × (lookup at n ms ≡ Ok (Some t)) × BeginsWith e t
+unfolding lookup
+looked_value f at inner n ms o e place shows is found =
+    let shown = shown_some (single inner (values_named n ms)) o e is (shows (values_named n ms) found) in
+    (shown.0, ap (λ (p : List Place). single p (values_named n ms)) (sym place) ∙ shown.1, shown.2)
+
+-- ---- the rows
+
+pub required_at : {A : Type 0} (k : Kind A) (at inner : List Place) (n : List ℕ) (ms : Members) (t : Tree)
+    → inner ≡ below at n → lookup at n ms ≡ Ok (Some t) → required n k at ms ≡ k.read inner t
+unfolding required
+required_at k at inner n ms t place is = after (lookup at n ms) (must k (below at n)) (Some t) is ∙ ap (λ (p : List Place). k.read p t) (sym place)
+
+pub optional_at : {A : Type 0} (k : Kind A) (at inner : List Place) (n : List ℕ) (ms : Members) (t : Tree)
+    → inner ≡ below at n → lookup at n ms ≡ Ok (Some t) → optional n k at ms ≡ (k.read inner t >>= λ v. Ok (Some v))
+unfolding optional
+optional_at k at inner n ms t place is =
+    after (lookup at n ms) (likewise k (below at n)) (Some t) is ∙ ap (λ (p : List Place). k.read p t >>= λ v. Ok (Some v)) (sym place)
+
+pub repeated_at : {A : Type 0} (k : Kind A) (at inner : List Place) (n : List ℕ) (ms : Members) (t : Tree)
+    → inner ≡ below at n → lookup at n ms ≡ Ok (Some t) → repeated n k at ms ≡ (list_of k).read inner t
+unfolding repeated
+repeated_at k at inner n ms t place is =
+    after (lookup at n ms) (listed k (below at n)) (Some t) is ∙ ap (λ (p : List Place). (list_of k).read p t) (sym place)
+
+pub flagged_at : (at inner : List Place) (n : List ℕ) (ms : Members) (t : Tree)
+    → inner ≡ below at n → lookup at n ms ≡ Ok (Some t) → flagged n at ms ≡ (members_at inner t >>= λ os. Ok true)
+unfolding flagged
+flagged_at at inner n ms t place is =
+    after (lookup at n ms) (is_there (below at n)) (Some t) is ∙ ap (λ (p : List Place). members_at p t >>= λ os. Ok true) (sym place)
+
+-- ---- a fault that a `?` hands on
+
+pub gives_bound : {V W : Type 0} (read : Result V FieldFault) (go : V → Result W FieldFault) (e : PartFault) (r : Result W PartFault)
+    → IsErrAnd r (λ x. x ≡ e) → Gives {V = V} read (Err e) → Gives (read >>= go) r
+gives_bound read go e (Ok v) is fails = absurd is
+gives_bound {V} read go e (Err x) is fails = by_fault x (subst (λ (y : PartFault). Gives {V = V} read (Err y)) (sym is) fails) where
+  by_fault : (x : PartFault) → Gives {V = V} read (Err x) → Gives (read >>= go) (Err x)
+  by_fault (Field f) fails = rw fails refl
+  by_fault NoMemory fails = tt
+
+-- ---- one row after the other
+
+-- what was found, as it was handed on
+pub found_as : (f g : Found) (ts : List Tree) → f ≡ g → IsFound g ts → IsFound f ts
+found_as f g ts same found = subst (λ (x : Found). IsFound x ts) (sym same) found
+
+-- a row was read, and the answer is that of the rest
+pub gives_then : {V W : Type 0} (read : Result V FieldFault) (go : V → Result W FieldFault) (v : V) (r : Result W PartFault)
+    → read ≡ Ok v → Gives (go v) r → Gives (read >>= go) r
+gives_then {W = W} read go v r is gives = subst (λ (x : Result W FieldFault). Gives x r) (sym (after read go v is)) gives

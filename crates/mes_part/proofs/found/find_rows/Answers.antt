@@ -1,0 +1,39 @@
+use Rattle.std.proofs.Common.{map, ◌∙◌, arith}
+use Rattle.std.proofs.lemmas.List.{length-map}
+use Rattle.mes_part.specs.Objects.{members_in}
+use Rattle.mes_part.proofs.FoundLemmas.{members_found, no_members_found, follow_each_first, follow_each_next, follow_each_last, finds_all}
+use Rattle.mes_part.proofs.found.find_rows.Goals as goal
+
+pub returns-in_default : goal.returns-in_default
+returns-in_default c = λ t b. rw c.fault_at.ensures (no_members_found c.args.path.now t (c.in_default.ensures t b))
+
+pub loop-name-init : goal.loop-name-init
+loop-name-init c = (
+  c.nothing_found-found.ensures.all,
+  λ t b.
+      let found = members_found c.in-Some.members t (c.in-Some.ensures t b) in
+      (found.0, (members_in t, found.1, follow_each_first c.nothing_found-found.result.items (map (λ n. n.now) c.args.names.now) (members_in t) c.nothing_found-found.ensures.none)),
+)
+
+pub loop-name-preserved : goal.loop-name-preserved
+loop-name-preserved c = (
+  c.note_member.ensures.all ∙ c.loop-name.invariant.0,
+  λ t b.
+      let before = c.loop-name.invariant.1 t b in (
+        before.0,
+        follow_each_next c.loop-name.found.items c.note_member.new.found.items (map (λ n. n.now) c.args.names.now) (members_in t) before.1.0
+            (c.in-Some-next.name.now, c.in-Some-next.value) c.next.new.self
+            (λ i inside. c.note_member.ensures.notes i (omega (arith, inside, length-map c.args.names.now (λ n. n.now))))
+            (c.in-Some-next.ensures.member before.1.0 before.1.1) before.1.2,
+      ),
+)
+
+pub returns : goal.returns
+returns c = λ t b.
+    let before = c.loop-name.invariant.1 t b in (
+      members_in t,
+      before.0,
+      finds_all c.loop-name.found.items (map (λ n. n.now) c.args.names.now) (members_in t)
+          (follow_each_last c.loop-name.found.items (map (λ n. n.now) c.args.names.now) (members_in t) before.1.0 _
+          (c.in_default-next.ensures.member before.1.0 before.1.1) before.1.2),
+    )

@@ -1,0 +1,90 @@
+-- The member `type`, and the rows that depend on it.
+use Rattle.std.specs.Prelude.{◌≡◌, ◌≢◌, ◌⊎◌, ℕ, List, [], ◌∷◌, ◌++◌, bytes_eq, codes, if◌then◌else◌, Result}
+use Rattle.std.proofs.Common.{inl, inr}
+use Rattle.mes_json.specs.Tree.{Tree, Members}
+use Rattle.mes_json.specs.Tree.Tree.{string}
+use Rattle.mes_part.specs.Paths.{Place}
+use Rattle.mes_part.specs.Fields.{Has, below, fault}
+use Rattle.mes_part.specs.Kinds.{◌>>=◌}
+use Rattle.mes_part.specs.Leaves.{texts}
+use Rattle.mes_part.specs.Rows.{Row, required}
+use Rattle.mes_part.specs.declared.field.FieldFault.{FieldFault}
+use Rattle.mes_part.specs.declared.field.FieldWhy.{FieldWhy}
+
+-- What the members of an object hold by its type.
+pub record Choice (F : Type 0) : Type 1 where
+  -- the types that are known
+  pub types : List (List ℕ)
+  -- the names of the members that are read under one of them
+  pub names : List (List ℕ)
+  -- under a type, the members hold x
+  pub Reads : List ℕ → Members → F → Type 0
+  -- under a type, what the members of an object at a path hold, and then what is read with it
+  pub walk : {B : Type 0} → List Place → List ℕ → Members → (F → Result B FieldFault) → Result B FieldFault
+  -- the type of x, and the members beside it that x is written as
+  pub type_of : F → List ℕ
+  pub members : F → List (List ℕ × Tree)
+  -- each value in x is read back from its own tree
+  pub Back : F → Type 0
+
+abbrev pub type_name : List ℕ
+type_name = codes "type"
+
+-- no further type is known
+abbrev pub no_other : FieldWhy → Choice ⊥
+no_other why = record {
+  types = [];
+  names = [];
+  Reads = λ kind ms x. ⊥;
+  walk = λ at kind ms go. fault (below at type_name) why;
+  type_of = λ x. [];
+  members = λ x. [];
+  Back = λ x. ⊥;
+}
+
+-- the rows of a type that is known and refused
+abbrev pub refused : FieldWhy → Row ⊥
+refused why = record {
+  names = [];
+  Reads = λ ms x. ⊥;
+  walk = λ at ms go. fault (below at type_name) why;
+  members = λ x. [];
+  Back = λ x. ⊥;
+}
+
+-- under this type these rows, and else the rest
+abbrev pub case : {F G : Type 0} → List ℕ → Row F → Choice G → Choice (F ⊎ G)
+case {F} {G} this r rest = record {
+  types = this ∷ rest.types;
+  names = r.names ++ rest.names;
+  Reads = CaseReads;
+  walk = λ at kind ms go. if bytes_eq kind this then r.walk at ms (λ x. go (inl x)) else rest.walk at kind ms (λ y. go (inr y));
+  type_of = case_type;
+  members = case_members;
+  Back = CaseBack;
+} where
+  CaseReads : List ℕ → Members → F ⊎ G → Type 0
+  CaseReads kind ms (inl x) = (kind ≡ this) × r.Reads ms x
+  CaseReads kind ms (inr y) = (kind ≢ this) × rest.Reads kind ms y
+
+  case_type : F ⊎ G → List ℕ
+  case_type (inl x) = this
+  case_type (inr y) = rest.type_of y
+
+  case_members : F ⊎ G → List (List ℕ × Tree)
+  case_members (inl x) = r.members x
+  case_members (inr y) = rest.members y
+
+  CaseBack : F ⊎ G → Type 0
+  CaseBack (inl x) = r.Back x
+  CaseBack (inr y) = rest.Back y
+
+-- the row `type`, which must be there, and the rows of the type
+abbrev pub typed : {F : Type 0} → Choice F → Row F
+typed c = record {
+  names = type_name ∷ c.names;
+  Reads = λ ms x. (kind : List ℕ) × Has ms type_name (string kind) × c.Reads kind ms x;
+  walk = λ at ms go. required type_name texts at ms >>= λ kind. c.walk at kind ms go;
+  members = λ x. (type_name, string (c.type_of x)) ∷ c.members x;
+  Back = c.Back;
+}

@@ -1,0 +1,45 @@
+-- What is found of the rows of an object: of each name no member, one, or more.
+use Rattle.std.specs.Prelude.{◌≡◌, ℕ, suc, ◌≤◌, Bool, true, false, List, [], ◌∷◌, length, slice_index_or, Option, Some, None, Result, Ok, Err}
+use Rattle.mes_json.specs.Tree.{Tree, Members}
+use Rattle.mes_json.specs.Tree.Tree.{object}
+use Rattle.mes_json.specs.Tokens.{Token, BeginsWith}
+use Rattle.mes_part.specs.Paths.{Place}
+use Rattle.mes_part.specs.Fields.{values_named}
+use Rattle.mes_part.specs.Leaves.{members_at}
+use Rattle.mes_part.specs.declared.field.FieldFault.{FieldFault}
+use Rattle.mes_part.specs.declared.found.Found.{Found}
+use Rattle.mes_part.specs.declared.found.Found.TheVariants.{Nothing, One, More}
+use Rattle.mes_part.specs.declared.rows.Rows.{Rows}
+
+-- these are the values of the members that were found
+abbrev pub IsFound : Found → List Tree → Type 0
+IsFound Nothing ts = ts ≡ []
+IsFound (One e) ts = (t : Tree) × (ts ≡ t ∷ []) × BeginsWith e t
+IsFound More ts = 2 ≤ length ts
+
+-- what is found where one more member is
+abbrev pub noted : List Token → Found → Found
+noted e Nothing = One e
+noted e (One x) = More
+noted e More = More
+
+-- what is found where the member has the name, or another
+abbrev pub noted_if : Bool → List Token → Found → Found
+noted_if true e f = noted e f
+noted_if false e f = f
+
+-- of each name, the first of which stands in this place, the values of its members are found
+abbrev pub FindsEach : ℕ → List (List ℕ) → Members → List Found → Type 0
+FindsEach i [] ms fs = Unit {0}
+FindsEach i (n ∷ ns) ms fs = IsFound (slice_index_or fs i Nothing) (values_named n ms) × FindsEach (suc i) ns ms fs
+
+-- the tree is an object, and the members of these names are found; or it is none
+abbrev pub FindsRows : List (List ℕ) → List Place → Tree → Result Rows FieldFault → Type 0
+FindsRows names at t (Ok rows) = (ms : Members) × (t ≡ object ms) × FindsEach 0 names ms rows.found.items
+FindsRows names at t (Err f) = members_at at t ≡ Err f
+
+-- the value that is looked up is at this place, or there is none
+abbrev pub ShowsValue : Result (Option Tree) FieldFault → Result (Option (List Token)) FieldFault → Type 0
+ShowsValue expected (Ok None) = expected ≡ Ok None
+ShowsValue expected (Ok (Some e)) = (t : Tree) × (expected ≡ Ok (Some t)) × BeginsWith e t
+ShowsValue expected (Err f) = expected ≡ Err f

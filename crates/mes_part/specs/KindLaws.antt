@@ -1,0 +1,156 @@
+-- A lawful kind has one answer to any tree; the laws of the kinds that hold no rows, and of lists.
+use Rattle.std.proofs.Common.{◌≡◌, inl, inr, ℕ, ◌+◌, Bool, List, [], ◌∷◌, ◌++◌, map, refl, sym, ◌∙◌, ap}
+use Rattle.std.specs.Prelude.{Result, Ok, Err}
+use Rattle.mes_json.specs.Tree.{Tree, Items, Members}
+use Rattle.mes_json.specs.Tree.Tree.{null, boolean, number, string, array, object}
+use Rattle.mes_json.specs.Tree.Items.{no_items, item}
+use Rattle.mes_json.specs.View.{items_of}
+use Rattle.mes_part.specs.Paths.{Place}
+use Rattle.mes_part.specs.Paths.Place.{index}
+use Rattle.mes_part.specs.Kinds.{Kind, Lawful, Settled, Returns}
+use Rattle.mes_part.specs.Leaves.{text_of, number_of, boolean_of, members_at, texts, booleans, objects, left_out}
+use Rattle.mes_part.specs.Lists.{ReadsEach, read_each, items_at, list_of}
+use Rattle.mes_part.specs.Rows.{ReturnsEach}
+use Rattle.mes_part.specs.FieldLaws.{bound}
+use Rattle.mes_part.specs.declared.field.FieldFault.{FieldFault}
+
+-- ---- one answer
+
+pub settled : {A : Type 0} (k : Kind A) → Lawful k → (at : List Place) (t : Tree) → Settled k at t
+settled {A} k lawful at t = by_read (k.read at t) refl where
+  by_read : (r : Result A FieldFault) → k.read at t ≡ r → Settled k at t
+  by_read (Ok v) e = inl (
+    v,
+    lawful.sound at t v e,
+    (λ w reads. let h : Ok w ≡ Ok v = sym (lawful.complete at t w reads) ∙ e in cc),
+    (λ f breaks. let h : Ok v ≡ Err f = sym e ∙ breaks in absurd (cc)),
+  )
+  by_read (Err f) e = inr (
+    f,
+    e,
+    (λ g breaks. let h : Err g ≡ Err f = sym breaks ∙ e in cc),
+    (λ w reads. let h : Ok w ≡ Err f = sym (lawful.complete at t w reads) ∙ e in absurd (cc)),
+  )
+
+-- ---- what a tree of one JSON kind holds
+
+pub text_is : (at : List Place) (t : Tree) (s : List ℕ) → text_of at t ≡ Ok s → t ≡ string s
+text_is at (string r) s e = cc
+text_is at null s e = absurd (cc)
+text_is at (boolean x) s e = absurd (cc)
+text_is at (number n) s e = absurd (cc)
+text_is at (array ts) s e = absurd (cc)
+text_is at (object ms) s e = absurd (cc)
+
+pub number_is : (at : List Place) (t : Tree) (s : List ℕ) → number_of at t ≡ Ok s → t ≡ number s
+number_is at (number n) s e = cc
+number_is at null s e = absurd (cc)
+number_is at (boolean x) s e = absurd (cc)
+number_is at (string r) s e = absurd (cc)
+number_is at (array ts) s e = absurd (cc)
+number_is at (object ms) s e = absurd (cc)
+
+pub boolean_is : (at : List Place) (t : Tree) (x : Bool) → boolean_of at t ≡ Ok x → t ≡ boolean x
+boolean_is at (boolean y) x e = cc
+boolean_is at null x e = absurd (cc)
+boolean_is at (number n) x e = absurd (cc)
+boolean_is at (string r) x e = absurd (cc)
+boolean_is at (array ts) x e = absurd (cc)
+boolean_is at (object ms) x e = absurd (cc)
+
+pub members_are : (at : List Place) (t : Tree) (ms : Members) → members_at at t ≡ Ok ms → t ≡ object ms
+members_are at (object os) ms e = cc
+members_are at null ms e = absurd (cc)
+members_are at (boolean x) ms e = absurd (cc)
+members_are at (number n) ms e = absurd (cc)
+members_are at (string r) ms e = absurd (cc)
+members_are at (array ts) ms e = absurd (cc)
+
+pub items_are : (at : List Place) (t : Tree) (ts : Items) → items_at at t ≡ Ok ts → t ≡ array ts
+items_are at (array us) ts e = cc
+items_are at null ts e = absurd (cc)
+items_are at (boolean x) ts e = absurd (cc)
+items_are at (number n) ts e = absurd (cc)
+items_are at (string r) ts e = absurd (cc)
+items_are at (object ms) ts e = absurd (cc)
+
+pub lawful_texts : Lawful texts
+unfolding texts
+lawful_texts = record {
+  sound = text_is;
+  complete = λ at t s e. ap (text_of at) e;
+  no_null = λ s e. absurd (cc);
+}
+
+pub lawful_booleans : Lawful booleans
+unfolding booleans
+lawful_booleans = record {
+  sound = boolean_is;
+  complete = λ at t x e. ap (boolean_of at) e;
+  no_null = λ x e. absurd (cc);
+}
+
+pub lawful_objects : Lawful objects
+unfolding objects
+lawful_objects = record {
+  sound = members_are;
+  complete = λ at t ms e. ap (members_at at) e;
+  no_null = λ ms e. absurd (cc);
+}
+
+pub lawful_left_out : Lawful left_out
+unfolding left_out
+lawful_left_out = record {
+  sound = λ at t v e. absurd v;
+  complete = λ at t v e. absurd v;
+  no_null = λ v e. v;
+}
+
+pub texts_return : (s : List ℕ) → Returns texts s
+unfolding texts
+texts_return s = refl
+
+pub booleans_return : (x : Bool) → Returns booleans x
+unfolding booleans
+booleans_return x = refl
+
+pub objects_return : (ms : Members) → Returns objects ms
+unfolding objects
+objects_return ms = refl
+
+-- ---- lists
+
+each_sound : {A : Type 0} (k : Kind A) → Lawful k → (at : List Place) (i : ℕ) (ts : Items) (vs : List A) → read_each k at i ts ≡ Ok vs → ReadsEach k ts vs
+each_sound k lawful at i no_items [] e = tt
+each_sound {A} k lawful at i no_items (v ∷ vs) e = let h : [] ≡ v ∷ vs = cc in absurd (cc)
+each_sound k lawful at i (item t ts) [] e =
+    let one = bound (k.read (at ++ index i ∷ []) t) _ _ e in
+    let more = bound (read_each k at (i + 1) ts) _ _ one.2 in
+    let last = more.2 in absurd (cc)
+each_sound k lawful at i (item t ts) (v ∷ vs) e =
+    let one = bound (k.read (at ++ index i ∷ []) t) _ _ e in
+    let more = bound (read_each k at (i + 1) ts) _ _ one.2 in
+    let last = more.2 in
+    (lawful.sound _ t v (one.1 ∙ cc), each_sound k lawful at (i + 1) ts vs (more.1 ∙ cc))
+
+each_complete : {A : Type 0} (k : Kind A) → Lawful k → (at : List Place) (i : ℕ) (ts : Items) (vs : List A) → ReadsEach k ts vs → read_each k at i ts ≡ Ok vs
+each_complete k lawful at i no_items [] h = refl
+each_complete k lawful at i no_items (v ∷ vs) h = absurd h
+each_complete k lawful at i (item t ts) [] h = absurd h
+each_complete k lawful at i (item t ts) (v ∷ vs) h =
+    rw (lawful.complete (at ++ index i ∷ []) t v h.0, each_complete k lawful at (i + 1) ts vs h.1) refl
+
+pub lawful_list : {A : Type 0} {k : Kind A} → Lawful k → Lawful (list_of k)
+lawful_list {A = A} {k = k} lawful = record {
+  sound = λ at t vs e. let h = bound (items_at at t) _ _ e in (h.0, items_are at t h.0 h.1, each_sound k lawful at 0 h.0 vs h.2);
+  complete = λ at t vs h. rw (h.1) (each_complete k lawful at 0 h.0 vs h.2);
+  no_null = λ vs h. let e = h.1 in absurd (cc);
+}
+
+each_returns : {A : Type 0} (k : Kind A) (vs : List A) → ReturnsEach k vs → ReadsEach k (items_of (map k.tree vs)) vs
+each_returns k [] h = tt
+each_returns k (v ∷ vs) h = (h.0, each_returns k vs h.1)
+
+-- a list is read back where each of its values is
+pub list_returns : {A : Type 0} (k : Kind A) (vs : List A) → ReturnsEach k vs → Returns (list_of k) vs
+list_returns k vs h = (items_of (map k.tree vs), refl, each_returns k vs h)

@@ -1,0 +1,40 @@
+-- A kind of value: what trees it is read from, the first fault of any other tree, and the tree that it is written as.
+use Rattle.std.specs.Prelude.{◌≡◌, ◌⊎◌, List, Result, Ok, Err}
+use Rattle.mes_json.specs.Tree.{Tree}
+use Rattle.mes_json.specs.Tree.Tree.{null}
+use Rattle.mes_part.specs.Paths.{Place}
+use Rattle.mes_part.specs.declared.field.FieldFault.{FieldFault}
+
+pub record Kind (V : Type 0) : Type 1 where
+  -- the tree is the value
+  pub Reads : Tree → V → Type 0
+  -- the value, or the first fault, of a tree at a path
+  pub read : List Place → Tree → Result V FieldFault
+  -- what the value is written as
+  pub tree : V → Tree
+
+-- What is read is what the relation says, wherever the tree stands; null is never a value.
+pub record Lawful {V : Type 0} (k : Kind V) : Type 0 where
+  pub sound : (at : List Place) (t : Tree) (v : V) → k.read at t ≡ Ok v → k.Reads t v
+  pub complete : (at : List Place) (t : Tree) (v : V) → k.Reads t v → k.read at t ≡ Ok v
+  pub no_null : (v : V) → k.Reads null v → ⊥
+
+-- a tree at a path is no such value, and this is its first fault
+abbrev pub Breaks : {V : Type 0} → Kind V → List Place → Tree → FieldFault → Type 0
+Breaks k at t f = k.read at t ≡ Err f
+
+-- exactly one value is read and nothing breaks, or exactly one path and reason breaks and nothing is read
+abbrev pub Settled : {V : Type 0} → Kind V → List Place → Tree → Type 0
+Settled {V} k at t =
+    ((v : V) × k.Reads t v × ((w : V) → k.Reads t w → w ≡ v) × ((f : FieldFault) → Breaks k at t f → ⊥))
+    ⊎ ((f : FieldFault) × Breaks k at t f × ((g : FieldFault) → Breaks k at t g → g ≡ f) × ((w : V) → k.Reads t w → ⊥))
+
+-- the value is read back from the tree that it is written as
+abbrev pub Returns : {V : Type 0} → Kind V → V → Type 0
+Returns k v = k.Reads (k.tree v) v
+
+-- the value, and then what is read with it; the first fault stands
+infixl 1 ◌>>=◌
+abbrev pub ◌>>=◌ : {V W : Type 0} → Result V FieldFault → (V → Result W FieldFault) → Result W FieldFault
+Ok v >>= go = go v
+Err f >>= go = Err f

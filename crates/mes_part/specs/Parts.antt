@@ -1,0 +1,24 @@
+-- What reading a part answers.
+use Rattle.std.specs.Prelude.{◌≡◌, List, Result, Ok, Err}
+use Rattle.mes_json.specs.Tree.{Tree}
+use Rattle.mes_part.specs.Kinds.{Kind, Breaks}
+use Rattle.mes_part.specs.Paths.{Place}
+use Rattle.mes_part.specs.declared.field.FieldFault.{FieldFault}
+use Rattle.mes_part.specs.declared.part.PartFault.{PartFault}
+use Rattle.mes_part.specs.declared.part.PartFault.TheVariants.{Field, NoMemory}
+
+-- the answer is the value or the fault that is expected, or want of memory
+abbrev pub Gives : {V : Type 0} → Result V FieldFault → Result V PartFault → Type 0
+Gives expected (Ok v) = expected ≡ Ok v
+Gives expected (Err (Field f)) = expected ≡ Err f
+Gives expected (Err NoMemory) = Unit {0}
+
+-- the answer stands for the value that is expected, or is its fault
+abbrev pub Shows : {X V : Type 0} → (X → V) → Result V FieldFault → Result X FieldFault → Type 0
+Shows view expected (Ok x) = expected ≡ Ok (view x)
+Shows view expected (Err f) = expected ≡ Err f
+
+-- the fault is the first one of the tree at the path; want of memory says nothing of it
+abbrev pub IsFirstFault : {V : Type 0} → Kind V → List Place → Tree → PartFault → Type 0
+IsFirstFault k at t (Field f) = Breaks k at t f
+IsFirstFault k at t NoMemory = Unit {0}

@@ -1,0 +1,12 @@
+-- What is written so far: the members of an object in the making.
+use Rattle.std.specs.Prelude.{ℕ, List, map}
+use Rattle.mes_json.specs.Tree.{Tree}
+use Rattle.mes_json.specs.View.{view}
+use Rattle.mes_json.specs.declared.value.Json.{Json}
+
+-- a name and the tree of its value
+abbrev pub member_view : List ℕ × Json → List ℕ × Tree
+member_view m = (m.0, view m.1)
+
+abbrev pub pairs_view : List (List ℕ × Json) → List (List ℕ × Tree)
+pairs_view ms = map member_view ms

@@ -1,0 +1,55 @@
+//! What holds of every part, as contracts of generic calls.
+
+ghost use Rattle.std.specs.Prelude.{◌≡◌, ◌+◌, ◌≤◌, List, Ok, length, IfOk, IfErr};
+ghost use Rattle.mes_json.specs.Tree.{Tree};
+ghost use Rattle.mes_part.specs.Paths.{Place};
+ghost use Rattle.mes_json.specs.View.{view};
+ghost use Rattle.mes_part.specs.Kinds.{Settled, Returns};
+ghost use Rattle.mes_part.specs.Lists.{list_of};
+ghost use Rattle.mes_part.specs.Rows.{ReturnsEach};
+ghost use Rattle.mes_part.specs.Parts.{Gives, IsFirstFault};
+
+use crate::part::{Part, PartFault};
+use crate::path::Path;
+use mes_json::Json;
+use std::alloc::Global;
+
+/// Any tree at any path is one value of the type, or has one first fault.
+pub fn one_answer<T: Part>()
+    ensures { (at : List Place) (t : Tree) → Settled T.kind at t }
+{}
+
+/// A value that is read back from the tree that it is written as is read there at any path.
+pub fn returned<T: Part>()
+    ensures { (at : List Place) (value : T) → Returns T.kind value → T.kind.read at (T.kind.tree value) ≡ Ok value }
+{}
+
+/// Any tree at any path is one list of values of the type, or has one first fault.
+pub fn one_list<T: Part>()
+    ensures { (at : List Place) (t : Tree) → Settled (list_of T.kind) at t }
+{}
+
+/// A list whose values are read back is read back from the tree that it is written as.
+pub fn list_returned<T: Part>()
+    ensures { (at : List Place) (values : List T) → ReturnsEach T.kind values
+        → (list_of T.kind).read at ((list_of T.kind).tree values) ≡ Ok values }
+{}
+
+/// The value that is read where another is written: the same one. It takes the memory of its tree.
+pub fn written_again<T: Part>(alloc: Global, value: &T) -> Result<T, PartFault>
+    requires { T.STEPS ≤ 16 }
+    ensures { Gives (Ok value.now) result }
+{
+    let tree = value.tree(alloc)?;
+    T::read(alloc, &tree, &Path::new())
+}
+
+/// The value that a tree is, exactly.
+pub fn read_part<T: Part>(alloc: Global, json: &Json, path: &Path) -> Result<T, PartFault>
+    requires { length path.now + T.STEPS ≤ 16 }
+    ensures found { IfOk result (λ v. T.kind.Reads (view json.now) v) }
+    ensures only { (v : T) → T.kind.Reads (view json.now) v → Gives (Ok v) result }
+    ensures fault { IfErr result (λ e. IsFirstFault T.kind path.now (view json.now) e) }
+{
+    T::read(alloc, json, path)
+}

@@ -1,0 +1,98 @@
+//! The rows of an object, found in one pass over its members.
+
+ghost use Rattle.std.specs.Prelude.{◌≡◌, ℕ, ◌<◌, ◌≤◌, [], length, map, bytes_eq, slice_index_or};
+ghost use Rattle.mes_json.specs.Tree.{Tree};
+ghost use Rattle.mes_json.specs.Tokens.{BeginsWith};
+ghost use Rattle.mes_part.specs.FoundRows.{noted, noted_if, FindsRows};
+ghost use Rattle.mes_part.specs.declared.found.Found.TheVariants.{Nothing};
+
+use crate::field::{FieldFault, FieldWhy};
+use crate::leaf::fault_at;
+use crate::path::Path;
+use crate::rows::{ROWS_MOST, Rows};
+use arrayvec::ArrayVec;
+use mes_json::Element;
+
+/// What an object has under a name.
+#[derive(Drop)]
+pub enum Found<'a> {
+    /// No member has the name.
+    Nothing,
+    /// One member has it; this is its value.
+    One(Element<'a>),
+    /// Two members or more have it.
+    More,
+}
+
+/// What fills the free room of `Rows`.
+impl<'a> Default for Found<'a> {
+    ghost use Rattle.mes_part.specs.declared.found.Found.TheVariants.{Nothing};
+
+    ghost is_default = { λ f. f ≡ Nothing };
+
+    fn default() -> Found<'a> {
+        Found::Nothing
+    }
+}
+
+impl<'a> Found<'a> {
+    /// One more member has the name.
+    fn note(&mut self, value: &Element<'a>)
+        ensures { self.new ≡ noted value.now self.old }
+    {
+        match self {
+            Found::Nothing => *self = Found::One(value.copy()),
+            Found::One(_) | Found::More => *self = Found::More,
+        }
+    }
+}
+
+/// What the object at a place has under these names. Each member is looked at once.
+pub fn find_rows<'a>(
+    element: &Element<'a>,
+    names: &[&'static str],
+    path: &Path,
+) -> Result<Rows<'a>, FieldFault>
+    requires few { length names.now ≤ ROWS_MOST }
+    ensures { (t : Tree) → BeginsWith element.now t → FindsRows (map (λ n. n.now) names.now) path.now t result }
+{
+    let Some(mut members) = element.members() else {
+        return Err(fault_at(path, FieldWhy::WrongKind));
+    };
+    let mut found: ArrayVec<Found<'a>, ROWS_MOST> = nothing_found();
+    while let Some((name, value)) = members.next() {
+        note_member(&mut found, names, name, &value);
+    }
+    Ok(Rows { found })
+}
+
+/// Nothing found under any name.
+fn nothing_found<'a>() -> ArrayVec<Found<'a>, ROWS_MOST>
+    ensures none { (i : ℕ) → slice_index_or result.items i Nothing ≡ Nothing }
+    ensures all { length result.items ≡ ROWS_MOST }
+{
+    let mut found = ArrayVec::new();
+    for _ in 0..ROWS_MOST {
+        found.push(Found::Nothing);
+    }
+    found
+}
+
+/// Notes a member under each of these names that it has.
+fn note_member<'a>(
+    found: &mut ArrayVec<Found<'a>, ROWS_MOST>,
+    names: &[&'static str],
+    name: &str,
+    value: &Element<'a>,
+)
+    requires { length names.now ≤ length found.old.items }
+    ensures all { length found.new.items ≡ length found.old.items }
+    ensures notes { (i : ℕ) → i < length names.now → slice_index_or found.new.items i Nothing
+        ≡ noted_if (bytes_eq name.now (slice_index_or (map (λ n. n.now) names.now) i [])) value.now (slice_index_or found.old.items i Nothing) }
+{
+    for (i, row) in names.iter().enumerate() {
+        if name == *row {
+            found[i].note(value);
+        }
+    }
+}

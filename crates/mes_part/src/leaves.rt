@@ -1,0 +1,61 @@
+//! Texts and truth values as parts.
+
+ghost use Rattle.std.specs.Prelude.{◌≡◌};
+ghost use Rattle.mes_part.specs.Leaves.{texts, booleans};
+ghost use Rattle.mes_part.specs.KindLaws.{lawful_texts, lawful_booleans};
+
+use crate::field::FieldFault;
+use crate::leaf::{boolean_in, text_in};
+use crate::part::{Part, PartFault};
+use crate::path::Path;
+use mes_json::{Element, Json, NoMemory, Text};
+use std::alloc::Global;
+
+impl Part for Text {
+    ghost kind = { texts };
+
+    ghost STEPS = { 0 };
+
+    const STEPS: u32 = 0;
+
+    ghost lawful = { lawful_texts };
+
+    #[tactic(auto, unfolding(crate::specs::Leaves::texts))]
+    fn read_from(alloc: Global, element: &Element<'_>, path: &Path) -> Result<Text, PartFault> {
+        let text = text_in(element, path)?;
+        Ok(Text::new(String::from_str(alloc, text)?))
+    }
+
+    #[tactic(auto, unfolding(crate::specs::Leaves::texts))]
+    fn tree(&self, alloc: Global) -> Result<Json, NoMemory> {
+        Ok(Json::Text(self.copy(alloc)?))
+    }
+
+    fn copy(&self, alloc: Global) -> Result<Text, NoMemory> {
+        self.copy(alloc)
+    }
+}
+
+impl Part for bool {
+    ghost kind = { booleans };
+
+    ghost STEPS = { 0 };
+
+    const STEPS: u32 = 0;
+
+    ghost lawful = { lawful_booleans };
+
+    #[tactic(auto, unfolding(crate::specs::Leaves::booleans))]
+    fn read_from(_alloc: Global, element: &Element<'_>, path: &Path) -> Result<bool, PartFault> {
+        Ok(boolean_in(element, path)?)
+    }
+
+    #[tactic(auto, unfolding(crate::specs::Leaves::booleans))]
+    fn tree(&self, _alloc: Global) -> Result<Json, NoMemory> {
+        Ok(Json::Bool(*self))
+    }
+
+    fn copy(&self, _alloc: Global) -> Result<bool, NoMemory> {
+        Ok(*self)
+    }
+}

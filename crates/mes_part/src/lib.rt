@@ -1,0 +1,33 @@
+#![tactic(auto)]
+//! The rows that messages are read and written by: paths into a JSON value, faults, and tables of fields.
+
+mod calls;
+mod field;
+mod found;
+mod kept;
+mod label;
+mod leaf;
+mod leaves;
+mod list;
+mod numbers;
+mod part;
+mod path;
+mod read_row;
+mod rows;
+#[cfg(test)]
+mod tests;
+mod write_row;
+
+pub use calls::{list_returned, one_answer, one_list, read_part, returned, written_again};
+pub use field::{FieldFault, FieldWhy};
+pub use found::{Found, find_rows};
+pub use kept::Kept;
+pub use label::{Label, Labels};
+pub use list::List;
+pub use part::{Part, PartFault};
+pub use path::{PATH_TEXT_MOST, Path, STEPS_MOST, Step};
+pub use read_row::{flagged, optional, read_list, repeated, required, type_fault, type_of};
+pub use rows::{ROWS_MOST, Rows};
+pub use write_row::{
+    copy_list, copy_some, list_tree, put, put_flag, put_many, put_some, put_type, whole_object,
+};

@@ -1,0 +1,91 @@
+//! Values that messages are made of, each read from a place of a tape and written as a tree.
+
+ghost use Rattle.std.specs.Prelude.{◌≡◌, ℕ, ◌+◌, ◌≤◌, length, IfOk, OnOk};
+ghost use Rattle.mes_json.specs.Tree.{Tree};
+ghost use Rattle.mes_json.specs.Tokens.{BeginsWith};
+ghost use Rattle.mes_json.specs.View.{view};
+ghost use Rattle.mes_part.specs.Kinds.{Kind, Lawful, Returns};
+ghost use Rattle.mes_part.specs.Parts.{Gives};
+ghost use Rattle.mes_part.specs.declared.part.PartFault.TheVariants.{Field as field, NoMemory as no_memory};
+
+use crate::field::FieldFault;
+use crate::path::Path;
+use mes_json::{Element, Json, NoMemory, Tape};
+use std::alloc::{AllocError, AllocFailed, Global};
+
+/// Why a value was not read from a tree.
+#[derive(Debug, Drop)]
+pub enum PartFault {
+    /// The tree is no such value.
+    Field(FieldFault),
+    /// A growth was refused memory.
+    NoMemory,
+}
+
+impl From<FieldFault> for PartFault {
+    ghost from_gives = { λ f e. e ≡ field f };
+
+    fn from(fault: FieldFault) -> PartFault {
+        PartFault::Field(fault)
+    }
+}
+
+impl From<NoMemory> for PartFault {
+    ghost from_gives = { λ _ e. e ≡ no_memory };
+
+    fn from(_refused: NoMemory) -> PartFault {
+        PartFault::NoMemory
+    }
+}
+
+impl From<AllocError> for PartFault {
+    ghost from_gives = { λ _ e. e ≡ no_memory };
+
+    fn from(_refused: AllocError) -> PartFault {
+        PartFault::NoMemory
+    }
+}
+
+impl<T: Drop> From<AllocFailed<T>> for PartFault {
+    ghost from_gives = { λ _ e. e ≡ no_memory };
+
+    fn from(_refused: AllocFailed<T>) -> PartFault {
+        PartFault::NoMemory
+    }
+}
+
+/// A value that a message may hold, or a message.
+pub trait Part: Drop {
+    ghost kind: { Kind Self };
+
+    ghost STEPS: { ℕ };
+
+    /// The most steps from a value of this type to a place in it.
+    const STEPS: u32;
+
+    /// The value that stands at the place, whose path this is, or the first fault.
+    fn read_from(alloc: Global, element: &Element<'_>, path: &Path) -> Result<Self, PartFault>
+        requires { length path.now + STEPS ≤ 16 }
+        ensures { (t : Tree) → BeginsWith element.now t → Gives (kind.read path.now t) result };
+
+    /// The value that a tree is, where it stands at the path, or the first fault. The tree is laid on a tape.
+    fn read(alloc: Global, json: &Json, path: &Path) -> Result<Self, PartFault>
+        requires { length path.now + STEPS ≤ 16 }
+        ensures { Gives (kind.read path.now (view json.now)) result }
+    {
+        let tape = Tape::of_json(alloc, json)?;
+        Self::read_from(alloc, &tape.root(), path)
+    }
+
+    /// What the value is written as.
+    fn tree(&self, alloc: Global) -> Result<Json, NoMemory>
+        ensures tree { IfOk result (λ t. view t ≡ kind.tree self.now) }
+        // It is read back.
+        ensures back { OnOk result (Returns kind self.now) };
+
+    /// The same value, in memory of its own.
+    fn copy(&self, alloc: Global) -> Result<Self, NoMemory>
+        ensures { IfOk result (λ v. v ≡ self.now) };
+
+    ghost lawful: { Lawful kind };
+}

@@ -1,0 +1,156 @@
+//! Where in a JSON value a fault lies.
+
+ghost use Rattle.std.specs.Prelude.{◌≡◌, ◌+◌, ◌*◌, ◌<◌, ◌≤◌, [], ◌∷◌, ◌++◌, length, decimal, codes};
+ghost use Rattle.arrayvec.specs.ArrayString.{array_string_len};
+ghost use Rattle.mes_part.specs.Paths.{Place, IsPlace, step_text, path_text};
+ghost use Rattle.mes_part.specs.Steps.{place_of};
+
+use arrayvec::{ArrayString, ArrayVec};
+use itoa::Buffer;
+use std::marker::Model;
+
+/// How many steps a path has at most.
+pub const STEPS_MOST: usize = 16;
+
+/// How many bytes the text of a path has at most: 16 steps of a dot and 31 bytes.
+pub const PATH_TEXT_MOST: usize = 512;
+
+/// One step into a JSON value.
+#[derive(Clone, Copy, Debug)]
+pub enum Step {
+    /// To the member of this name, of 1 to 31 bytes.
+    Name(&'static str),
+    /// To the element at this index, from 0.
+    Index(u64),
+}
+
+/// The step to the first element, which fills the free room of a path.
+impl Default for Step {
+    ghost use Rattle.mes_part.specs.declared.path.Step.TheVariants.{Index};
+
+    ghost is_default = { λ s. s ≡ Index 0 };
+
+    fn default() -> Step {
+        Step::Index(0)
+    }
+}
+
+/// The steps from a JSON value to the place of a fault, at most 16.
+#[derive(Debug, Drop)]
+pub struct Path {
+    steps: ArrayVec<Step, STEPS_MOST>,
+}
+
+impl Model for Path {
+    ghost use Rattle.std.specs.Prelude.{List, map};
+    ghost use Rattle.mes_part.specs.Paths.{Place, IsPath};
+    ghost use Rattle.mes_part.specs.Steps.{place_of};
+
+    ghost Value = { List Place };
+
+    ghost view = { λ p. map place_of p.steps.items };
+
+    ghost invariant = { λ p. IsPath (map place_of p.steps.items) };
+}
+
+impl Path {
+    /// The path to the value itself.
+    pub fn new() -> Path
+        ensures { result ≡ [] }
+    {
+        Path {
+            steps: ArrayVec::new(),
+        }
+    }
+
+    /// The same path once more; takes no memory.
+    pub fn copy(&self) -> Path
+        ensures { result ≡ self.now }
+    {
+        let mut steps = ArrayVec::new();
+        steps.try_extend_from_slice(self.steps.as_slice()).unwrap();
+        Path { steps }
+    }
+
+    /// The path with one more step at its end; takes no memory.
+    pub fn with(&self, step: Step) -> Path
+        requires room { length self.now < STEPS_MOST }
+        requires step { IsPlace (place_of step) }
+        ensures { result ≡ self.now ++ place_of step ∷ [] }
+    {
+        let Path { mut steps } = self.copy();
+        steps.push(step);
+        Path { steps }
+    }
+
+    /// Writes the path in place of the text: its steps as `a.b[0].c`, or `.` where it has none.
+    pub fn text(&self, text: &mut ArrayString<PATH_TEXT_MOST>)
+        ensures { text.new.bytes ≡ path_text self.now }
+    {
+        text.clear();
+        let Some((first, rest)) = self.steps.as_slice().split_first() else {
+            return text.push_str(".");
+        };
+        match first {
+            Step::Name(name) => text.push_str(name),
+            Step::Index(index) => push_index(text, *index),
+        }
+        for step in rest {
+            push_step(text, *step);
+        }
+    }
+}
+
+/// Appends a step that stands behind another.
+fn push_step(text: &mut ArrayString<PATH_TEXT_MOST>, step: Step)
+    requires place { IsPlace (place_of step) }
+    requires room { array_string_len text.old + 32 ≤ PATH_TEXT_MOST }
+    ensures { text.new.bytes ≡ text.old.bytes ++ step_text (place_of step) }
+{
+    match step {
+        Step::Name(name) => {
+            text.push_str(".");
+            text.push_str(name);
+        }
+        Step::Index(index) => push_index(text, index),
+    }
+}
+
+/// Appends an index between brackets.
+fn push_index(text: &mut ArrayString<PATH_TEXT_MOST>, index: u64)
+    requires { array_string_len text.old + 22 ≤ PATH_TEXT_MOST }
+    ensures { text.new.bytes ≡ text.old.bytes ++ (codes "[" ++ decimal index ++ codes "]") }
+{
+    let mut buffer = Buffer::new();
+    text.push_str("[");
+    text.push_str(buffer.format(index));
+    text.push_str("]");
+}
+
+#[cfg(test)]
+mod tests {
+    use super::*;
+    use std::process::Abort;
+
+    fn expect_text(rt: &impl Abort, path: &Path, expected: &str) {
+        let mut text = ArrayString::new();
+        path.text(&mut text);
+        assert_eq!(rt; text.as_str(), expected);
+    }
+
+    #[test]
+    fn paths_are_printed(rt: HostRuntime) {
+        expect_text(&rt, &Path::new(), ".");
+        let path = Path::new()
+            .with(Step::Name("a"))
+            .with(Step::Name("b"))
+            .with(Step::Index(0));
+        expect_text(&rt, &path.copy(), "a.b[0]");
+        expect_text(&rt, &path.with(Step::Name("c")), "a.b[0].c");
+        expect_text(
+            &rt,
+            &Path::new().with(Step::Index(u64::MAX)),
+            "[18446744073709551615]",
+        );
+    }
+}

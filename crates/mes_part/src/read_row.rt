@@ -1,0 +1,155 @@
+//! Rows read: the value of a member that was found, or the first fault.
+
+ghost use Rattle.std.specs.Prelude.{◌≡◌, ℕ, List as list, ◌+◌, ◌≤◌, ◌<◌, length};
+ghost use Rattle.mes_json.specs.Tree.{Tree, Members};
+ghost use Rattle.mes_json.specs.Tokens.{BeginsWith};
+ghost use Rattle.mes_part.specs.Paths.{Place, IsPlace};
+ghost use Rattle.mes_part.specs.Fields.{values_named, below, single};
+ghost use Rattle.mes_part.specs.Leaves.{texts};
+ghost use Rattle.mes_part.specs.Lists.{list_of};
+ghost use Rattle.mes_part.specs.Rows.{required, optional, repeated, flagged};
+ghost use Rattle.mes_part.specs.Choices.{type_name};
+ghost use Rattle.mes_part.specs.FoundRows.{IsFound, ShowsValue};
+ghost use Rattle.mes_part.specs.Parts.{Gives, Shows};
+
+use crate::field::{FieldFault, FieldWhy};
+use crate::found::Found;
+use crate::leaf::{fault_at, text_in};
+use crate::list::List;
+use crate::part::{Part, PartFault};
+use crate::path::{Path, Step};
+use mes_json::Element;
+use std::alloc::Global;
+
+/// A row that must be there.
+#[tactic(auto, unfolding(crate::specs::Rows::required, crate::specs::Fields::lookup))]
+pub fn required<T: Part>(
+    alloc: Global,
+    found: &Found<'_>,
+    name: &'static str,
+    path: &Path,
+) -> Result<T, PartFault>
+    requires room { length path.now + 1 + T.STEPS ≤ 16 }
+    requires step { IsPlace (Place.name name.now) }
+    ensures { (ms : Members) → IsFound found.now (values_named name.now ms) → Gives (required name.now T.kind path.now ms) result }
+{
+    let path = path.with(Step::Name(name));
+    match value_found(found, &path)? {
+        Some(value) => T::read_from(alloc, &value, &path),
+        None => Err(PartFault::Field(fault_at(&path, FieldWhy::Missing))),
+    }
+}
+
+/// A row that may be there.
+#[tactic(auto, unfolding(crate::specs::Rows::optional, crate::specs::Fields::lookup))]
+pub fn optional<T: Part>(
+    alloc: Global,
+    found: &Found<'_>,
+    name: &'static str,
+    path: &Path,
+) -> Result<Option<T>, PartFault>
+    requires room { length path.now + 1 + T.STEPS ≤ 16 }
+    requires step { IsPlace (Place.name name.now) }
+    ensures { (ms : Members) → IsFound found.now (values_named name.now ms) → Gives (optional name.now T.kind path.now ms) result }
+{
+    let path = path.with(Step::Name(name));
+    match value_found(found, &path)? {
+        Some(value) => Ok(Some(T::read_from(alloc, &value, &path)?)),
+        None => Ok(None),
+    }
+}
+
+/// A list, which is empty where no member has the name.
+#[tactic(auto, unfolding(crate::specs::Rows::repeated, crate::specs::Fields::lookup))]
+pub fn repeated<T: Part>(
+    alloc: Global,
+    found: &Found<'_>,
+    name: &'static str,
+    path: &Path,
+) -> Result<List<T>, PartFault>
+    requires room { length path.now + 2 + T.STEPS ≤ 16 }
+    requires step { IsPlace (Place.name name.now) }
+    ensures { (ms : Members) → IsFound found.now (values_named name.now ms) → Gives (repeated name.now T.kind path.now ms) result }
+{
+    let path = path.with(Step::Name(name));
+    match value_found(found, &path)? {
+        Some(value) => read_list(alloc, &value, &path),
+        None => Ok(List::new(Vec::new(alloc))),
+    }
+}
+
+/// A flag, which is set where a member has the name and its value is an object.
+#[tactic(auto, unfolding(crate::specs::Rows::flagged, crate::specs::Fields::lookup))]
+pub fn flagged(found: &Found<'_>, name: &'static str, path: &Path) -> Result<bool, FieldFault>
+    requires room { length path.now < 16 }
+    requires step { IsPlace (Place.name name.now) }
+    ensures { (ms : Members) → IsFound found.now (values_named name.now ms) → Shows (λ x. x) (flagged name.now path.now ms) result }
+{
+    let path = path.with(Step::Name(name));
+    match value_found(found, &path)? {
+        Some(value) => match value.members() {
+            Some(_) => Ok(true),
+            None => Err(fault_at(&path, FieldWhy::WrongKind)),
+        },
+        None => Ok(false),
+    }
+}
+
+/// The row `type`, which says what other rows there are.
+#[tactic(auto, unfolding(crate::specs::Rows::required, crate::specs::Fields::lookup, crate::specs::Leaves::texts))]
+pub fn type_of<'a>(found: &Found<'a>, path: &Path) -> Result<&'a str, FieldFault>
+    requires { length path.now < 16 }
+    ensures { (ms : Members) → IsFound found.now (values_named type_name ms) → Shows (λ s. s.now) (required type_name texts path.now ms) result }
+{
+    let path = path.with(Step::Name("type"));
+    match value_found(found, &path)? {
+        Some(value) => text_in(&value, &path),
+        None => Err(fault_at(&path, FieldWhy::Missing)),
+    }
+}
+
+/// What is wrong with the type of the object at this path.
+pub fn type_fault(path: &Path, why: FieldWhy) -> FieldFault
+    requires { length path.now < 16 }
+    ensures { result ≡ record { path = below path.now type_name; why = why } }
+{
+    fault_at(&path.with(Step::Name("type")), why)
+}
+
+/// The values of an array's items, in order.
+pub fn read_list<T: Part>(
+    alloc: Global,
+    element: &Element<'_>,
+    path: &Path,
+) -> Result<List<T>, PartFault>
+    requires { length path.now + 1 + T.STEPS ≤ 16 }
+    ensures { (t : Tree) → BeginsWith element.now t → Gives ((list_of T.kind).read path.now t) result }
+{
+    let Some(mut items) = element.items() else {
+        return Err(PartFault::Field(fault_at(path, FieldWhy::WrongKind)));
+    };
+    let mut values = Vec::new(alloc);
+    while let Some(item) = items.next() {
+        let value = T::read_from(alloc, &item, &path.with(Step::Index(values.len() as u64)))?;
+        values.push(value)?;
+    }
+    Ok(List::new(values))
+}
+
+/// The one value that was found and isn't null, where there is one.
+#[tactic(auto, using(crate::proofs::ValueLemmas::single_none, crate::proofs::ValueLemmas::single_null, crate::proofs::ValueLemmas::single_one, crate::proofs::ValueLemmas::single_twice))]
+fn value_found<'a>(found: &Found<'a>, path: &Path) -> Result<Option<Element<'a>>, FieldFault>
+    ensures { (ts : list Tree) → IsFound found.now ts → ShowsValue (single path.now ts) result }
+{
+    match found {
+        Found::Nothing => Ok(None),
+        Found::One(value) => {
+            if value.is_null() {
+                Ok(None)
+            } else {
+                Ok(Some(value.copy()))
+            }
+        }
+        Found::More => Err(fault_at(path, FieldWhy::Twice)),
+    }
+}

@@ -1,0 +1,4 @@
+//! What the contracts don't show: the texts that messages are read from and written as.
+
+mod read;
+mod written;

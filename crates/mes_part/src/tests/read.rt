@@ -1,0 +1,111 @@
+//! Labels read from JSON texts, by the table of labels: the value, or the path and the reason of the first fault.
+
+use crate::{FieldFault, FieldWhy, Labels, PATH_TEXT_MOST, Part, PartFault, Path, written_again};
+use arrayvec::ArrayString;
+use mes_json::{read_tape, read_text, write_text};
+use std::alloc::Global;
+use std::process::Abort;
+use std::test::Fail;
+
+/// Texts that are no labels.
+const FAULTS: [(&str, &str, FieldWhy); 11] = [
+    ("[]", ".", FieldWhy::WrongKind),
+    ("null", ".", FieldWhy::WrongKind),
+    ("{\"labels\":{}}", "labels", FieldWhy::WrongKind),
+    ("{\"labels\":[],\"labels\":null}", "labels", FieldWhy::Twice),
+    (
+        "{\"labels\":[{\"key\":\"a\"},null]}",
+        "labels[1]",
+        FieldWhy::WrongKind,
+    ),
+    (
+        "{\"labels\":[{\"value\":\"v\"}]}",
+        "labels[0].key",
+        FieldWhy::Missing,
+    ),
+    (
+        "{\"labels\":[{\"key\":null}]}",
+        "labels[0].key",
+        FieldWhy::Missing,
+    ),
+    (
+        "{\"labels\":[{\"key\":1}]}",
+        "labels[0].key",
+        FieldWhy::WrongKind,
+    ),
+    (
+        "{\"labels\":[{\"key\":\"a\",\"key\":\"a\"}]}",
+        "labels[0].key",
+        FieldWhy::Twice,
+    ),
+    (
+        "{\"labels\":[{\"value\":[],\"key\":true}]}",
+        "labels[0].key",
+        FieldWhy::WrongKind,
+    ),
+    (
+        "{\"labels\":[{\"key\":\"a\",\"value\":[]}]}",
+        "labels[0].value",
+        FieldWhy::WrongKind,
+    ),
+];
+
+/// Texts of labels, and what they are written as.
+const LABELS: [(&str, &str); 4] = [
+    ("{}", "{}"),
+    ("{\"labels\":null}", "{}"),
+    ("{\"x\":1,\"labels\":[],\"x\":{}}", "{}"),
+    (
+        "{\"labels\":[{\"key\":\"k\"},{\"value\":\"v\",\"key\":\"l\"},{\"key\":\"m\",\"value\":null,\"y\":[{}]}]}",
+        "{\"labels\":[{\"key\":\"k\"},{\"key\":\"l\",\"value\":\"v\"},{\"key\":\"m\"}]}",
+    ),
+];
+
+/// The labels of a text, read from its tape.
+fn read(alloc: Global, text: &str) -> Result<Result<Labels, PartFault>, Fail> {
+    let tape = read_tape(alloc, text.as_bytes())?;
+    Ok(Labels::read_from(alloc, &tape.root(), &Path::new()))
+}
+
+/// The fault of an answer that tells one.
+fn fault_of(answer: Result<Labels, PartFault>) -> Option<FieldFault> {
+    match answer.err()? {
+        PartFault::Field(fault) => Some(fault),
+        PartFault::NoMemory => None,
+    }
+}
+
+fn expect_fault<R: Abort>(rt: &R, fault: Option<FieldFault>, path: &str, why: FieldWhy) {
+    let fault = fault.expect(rt, "a fault");
+    let mut text: ArrayString<PATH_TEXT_MOST> = ArrayString::new();
+    fault.path.text(&mut text);
+    assert_eq!(rt; text.as_str(), path);
+    assert_eq!(rt; fault.why, why);
+}
+
+#[test]
+fn faults_are_told(rt: HostRuntime) -> Result<(), Fail> {
+    for (text, path, why) in FAULTS {
+        expect_fault(&rt, fault_of(read(rt.alloc(), text)?), path, why);
+        let tree = read_text(rt.alloc(), text.as_bytes())?;
+        let answer = Labels::read(rt.alloc(), &tree, &Path::new());
+        expect_fault(&rt, fault_of(answer), path, why);
+    }
+    Ok(())
+}
+
+#[test]
+fn labels_are_read(rt: HostRuntime) -> Result<(), Fail> {
+    for (text, expected) in LABELS {
+        let Ok(labels) = read(rt.alloc(), text)? else {
+            return Err("they are labels")?;
+        };
+        let Ok(again) = written_again(rt.alloc(), &labels) else {
+            return Err("they are written and read")?;
+        };
+        let mut out = Vec::new(rt.alloc());
+        write_text(&again.tree(rt.alloc())?, &mut out)?;
+        assert_eq!(rt; out.as_slice(), expected.as_bytes());
+    }
+    Ok(())
+}

@@ -1,0 +1,146 @@
+//! Rows written: the members of an object, each with its value's tree. After want of memory nothing is said of them.
+
+ghost use Rattle.std.specs.Prelude.{◌≡◌, [], ◌∷◌, ◌++◌, IfOk, OnOk};
+ghost use Rattle.mes_json.specs.Tree.Tree.{object, string};
+ghost use Rattle.mes_json.specs.View.{view, members_of};
+ghost use Rattle.mes_part.specs.Lists.{list_of};
+ghost use Rattle.mes_part.specs.Rows.{need, maybe, many, flag, ReturnsEach};
+ghost use Rattle.mes_part.specs.Choices.{type_name};
+ghost use Rattle.mes_part.specs.Written.{pairs_view};
+
+use crate::list::List;
+use crate::part::Part;
+use mes_json::{Json, NoMemory, Text};
+use std::alloc::Global;
+
+/// Appends a row that must be there.
+pub fn put<T: Part>(
+    members: &mut Vec<(Text, Json)>,
+    alloc: Global,
+    name: &'static str,
+    value: &T,
+) -> Result<(), NoMemory>
+    ensures members { OnOk result (pairs_view members.new.items ≡ pairs_view members.old.items ++ (need name.now T.kind).members value.now) }
+    ensures back { OnOk result ((need name.now T.kind).Back value.now) }
+{
+    let tree = value.tree(alloc)?;
+    push_member(members, alloc, name, tree)
+}
+
+/// Appends a row that may be there.
+pub fn put_some<T: Part>(
+    members: &mut Vec<(Text, Json)>,
+    alloc: Global,
+    name: &'static str,
+    value: &Option<T>,
+) -> Result<(), NoMemory>
+    ensures members { OnOk result (pairs_view members.new.items ≡ pairs_view members.old.items ++ (maybe name.now T.kind).members value.now) }
+    ensures back { OnOk result ((maybe name.now T.kind).Back value.now) }
+{
+    match value {
+        Some(value) => put(members, alloc, name, value),
+        None => Ok(()),
+    }
+}
+
+/// Appends a list, and no member where it is empty.
+pub fn put_many<T: Part>(
+    members: &mut Vec<(Text, Json)>,
+    alloc: Global,
+    name: &'static str,
+    values: &List<T>,
+) -> Result<(), NoMemory>
+    ensures members { OnOk result (pairs_view members.new.items ≡ pairs_view members.old.items ++ (many name.now T.kind).members values.now) }
+    ensures back { OnOk result ((many name.now T.kind).Back values.now) }
+{
+    if values.is_empty() {
+        return Ok(());
+    }
+    let tree = list_tree(alloc, values)?;
+    push_member(members, alloc, name, tree)
+}
+
+/// Appends an empty object where the flag is set.
+pub fn put_flag(
+    members: &mut Vec<(Text, Json)>,
+    alloc: Global,
+    name: &'static str,
+    set: bool,
+) -> Result<(), NoMemory>
+    ensures { OnOk result (pairs_view members.new.items ≡ pairs_view members.old.items ++ (flag name.now).members set) }
+{
+    if set {
+        push_member(members, alloc, name, whole_object(Vec::new(alloc)))
+    } else {
+        Ok(())
+    }
+}
+
+/// Appends the row `type`, which says what other rows there are.
+pub fn put_type(
+    members: &mut Vec<(Text, Json)>,
+    alloc: Global,
+    kind: &'static str,
+) -> Result<(), NoMemory>
+    ensures { OnOk result (pairs_view members.new.items ≡ pairs_view members.old.items ++ (type_name, string kind.now) ∷ []) }
+{
+    let kind = Text::new(String::from_str(alloc, kind)?);
+    push_member(members, alloc, "type", Json::Text(kind))
+}
+
+/// The object of these members. Takes no memory.
+#[tactic(auto, using(crate::proofs::TreeLemmas::view_map))]
+pub fn whole_object(members: Vec<(Text, Json)>) -> Json
+    ensures { view result ≡ object (members_of (pairs_view members.items)) }
+{
+    Json::Map(members)
+}
+
+/// What a list is written as.
+#[tactic(auto, using(crate::proofs::TreeLemmas::view_list))]
+pub fn list_tree<T: Part>(alloc: Global, values: &List<T>) -> Result<Json, NoMemory>
+    ensures tree { IfOk result (λ t. view t ≡ (list_of T.kind).tree values.now) }
+    // Each value is read back.
+    ensures back { OnOk result (ReturnsEach T.kind values.now) }
+{
+    let mut trees = Vec::with_capacity(alloc, values.len())?;
+    for value in values.as_slice() {
+        trees.push(value.tree(alloc)?)?;
+    }
+    Ok(Json::List(trees))
+}
+
+/// The same list, in memory of its own.
+pub fn copy_list<T: Part>(alloc: Global, values: &List<T>) -> Result<List<T>, NoMemory>
+    ensures { IfOk result (λ copies. copies ≡ values.now) }
+{
+    let mut copies = Vec::with_capacity(alloc, values.len())?;
+    for value in values.as_slice() {
+        copies.push(value.copy(alloc)?)?;
+    }
+    Ok(List::new(copies))
+}
+
+/// The same value, where there is one, in memory of its own.
+pub fn copy_some<T: Part>(alloc: Global, value: &Option<T>) -> Result<Option<T>, NoMemory>
+    ensures { IfOk result (λ copy. copy ≡ value.now) }
+{
+    match value {
+        Some(value) => Ok(Some(value.copy(alloc)?)),
+        None => Ok(None),
+    }
+}
+
+/// Appends a member.
+fn push_member(
+    members: &mut Vec<(Text, Json)>,
+    alloc: Global,
+    name: &'static str,
+    tree: Json,
+) -> Result<(), NoMemory>
+    ensures { OnOk result (pairs_view members.new.items ≡ pairs_view members.old.items ++ (name.now, view tree) ∷ []) }
+{
+    let name = Text::new(String::from_str(alloc, name)?);
+    members.push((name, tree))?;
+    Ok(())
+}

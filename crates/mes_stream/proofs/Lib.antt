@@ -1,0 +1,2 @@
+mod DecoderLemmas
+mod PlainLemmas

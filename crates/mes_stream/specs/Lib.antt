@@ -1,0 +1,4 @@
+pub mod Decoding
+pub mod Lines
+pub mod Reading
+pub mod Stream

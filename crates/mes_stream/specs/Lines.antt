@@ -1,0 +1,57 @@
+-- The lines that are printed of a stream, without their LF.
+use Rattle.std.specs.Prelude.{ℕ, List, [], ◌∷◌, ◌++◌, codes, decimal}
+use Rattle.std.specs.List.{flat_map}
+use Rattle.mes_frame.specs.declared.fault.FrameFault.TheVariants.{BadChunkLine, ChunkLineTooLong, ChunkTooLarge, BadChunkEnd, TrailersTooLong, BadSizeLine, SizeLineTooLong, RecordTooLarge}
+use Rattle.mes_json.specs.declared.fault.Why.{Why}
+use Rattle.mes_json.specs.declared.fault.Why.TheVariants.{End, Depth, Byte}
+use Rattle.mes_stream.specs.declared.fault.Fault.{Fault}
+use Rattle.mes_stream.specs.declared.fault.Fault.TheVariants.{Frame, EndsInsideRecord, Text, Field, NoMemory, Read, ReadsSpent}
+use Rattle.mes_part.specs.Paths.{path_text}
+use Rattle.mes_part.specs.Whys.{field_why_name}
+
+-- a fault's number and name
+abbrev pub fault_title : Fault → List ℕ
+fault_title (Frame BadChunkLine) = codes "F1 BadChunkLine"
+fault_title (Frame ChunkLineTooLong) = codes "F2 ChunkLineTooLong"
+fault_title (Frame ChunkTooLarge) = codes "F3 ChunkTooLarge"
+fault_title (Frame BadChunkEnd) = codes "F4 BadChunkEnd"
+fault_title (Frame TrailersTooLong) = codes "F5 TrailersTooLong"
+fault_title (Frame BadSizeLine) = codes "F7 BadSizeLine"
+fault_title (Frame SizeLineTooLong) = codes "F8 SizeLineTooLong"
+fault_title (Frame RecordTooLarge) = codes "F9 RecordTooLarge"
+fault_title EndsInsideRecord = codes "F10 EndsInsideRecord"
+fault_title (Text at_record byte why) = codes "F11 Text"
+fault_title (Field at_record path why) = codes "F12 Field"
+fault_title NoMemory = codes "F13 NoMemory"
+fault_title Read = codes "F14 Read"
+fault_title ReadsSpent = codes "F15 ReadsSpent"
+
+-- why bytes are no JSON text
+abbrev pub text_why_name : Why → List ℕ
+text_why_name End = codes "End"
+text_why_name Depth = codes "Depth"
+text_why_name Byte = codes "Byte"
+
+-- the words that say where a record is at fault and why
+abbrev pub details : Fault → List (List ℕ)
+details (Frame f) = []
+details EndsInsideRecord = []
+details (Text at_record byte why) =
+    codes "record" ∷ decimal at_record ∷ codes "byte" ∷ decimal byte ∷ text_why_name why ∷ []
+details (Field at_record path why) =
+    codes "record" ∷ decimal at_record ∷ path_text path ∷ field_why_name why ∷ []
+details NoMemory = []
+details Read = []
+details ReadsSpent = []
+
+-- words behind others, each after a space
+abbrev pub spaced : List (List ℕ) → List ℕ
+spaced words = flat_map (λ word. codes " " ++ word) words
+
+-- `fault F10 EndsInsideRecord after 12`, `fault F12 Field record 1 type Missing after 4`
+abbrev pub fault_text : Fault → ℕ → List ℕ
+fault_text f used = codes "fault" ++ spaced (fault_title f ∷ details f ++ codes "after" ∷ decimal used ∷ [])
+
+-- `events 2 bytes 57`
+abbrev pub count_text : ℕ → ℕ → List ℕ
+count_text events used = codes "events" ++ spaced (decimal events ∷ codes "bytes" ∷ decimal used ∷ [])
