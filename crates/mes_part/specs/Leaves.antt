@@ -1,47 +1,33 @@
 -- The kinds of values that hold no rows: texts, truth values, objects kept whole, and what is left out.
-use Rattle.std.specs.Prelude.{◌≡◌, ℕ, Bool, List, Result, Ok}
+use Rattle.std.specs.Prelude.{◌≡◌, ℕ, Bool, List, Option, Some, None, Result, Ok}
 use Rattle.mes_json.specs.Tree.{Tree, Members}
-use Rattle.mes_json.specs.Tree.Tree.{null, boolean, number, string, array, object}
+use Rattle.mes_json.specs.Tree.Tree.{null, boolean, string, object}
+use Rattle.mes_json.specs.Cursor.{as_bool, as_number, as_text, as_members}
 use Rattle.mes_part.specs.Paths.{Place}
 use Rattle.mes_part.specs.Fields.{fault}
 use Rattle.mes_part.specs.Kinds.{Kind}
 use Rattle.mes_part.specs.declared.field.FieldFault.{FieldFault}
 use Rattle.mes_part.specs.declared.field.FieldWhy.TheVariants.{WrongKind, LeftOut}
 
+-- what is there, or else the value is of another kind
+abbrev pub expected : {V : Type 0} → List Place → Option V → Result V FieldFault
+expected at None = fault at WrongKind
+expected at (Some v) = Ok v
+
 -- the text of a string
 abbrev pub text_of : List Place → Tree → Result (List ℕ) FieldFault
-text_of at (string s) = Ok s
-text_of at null = fault at WrongKind
-text_of at (boolean x) = fault at WrongKind
-text_of at (number n) = fault at WrongKind
-text_of at (array ts) = fault at WrongKind
-text_of at (object ms) = fault at WrongKind
+text_of at t = expected at (as_text t)
 
 -- the text of a number, as it is written
 abbrev pub number_of : List Place → Tree → Result (List ℕ) FieldFault
-number_of at (number n) = Ok n
-number_of at null = fault at WrongKind
-number_of at (boolean x) = fault at WrongKind
-number_of at (string s) = fault at WrongKind
-number_of at (array ts) = fault at WrongKind
-number_of at (object ms) = fault at WrongKind
+number_of at t = expected at (as_number t)
 
 abbrev pub boolean_of : List Place → Tree → Result Bool FieldFault
-boolean_of at (boolean x) = Ok x
-boolean_of at null = fault at WrongKind
-boolean_of at (number n) = fault at WrongKind
-boolean_of at (string s) = fault at WrongKind
-boolean_of at (array ts) = fault at WrongKind
-boolean_of at (object ms) = fault at WrongKind
+boolean_of at t = expected at (as_bool t)
 
 -- the members of an object
 abbrev pub members_at : List Place → Tree → Result Members FieldFault
-members_at at (object ms) = Ok ms
-members_at at null = fault at WrongKind
-members_at at (boolean x) = fault at WrongKind
-members_at at (number n) = fault at WrongKind
-members_at at (string s) = fault at WrongKind
-members_at at (array ts) = fault at WrongKind
+members_at at t = expected at (as_members t)
 
 -- a string, as its text
 unfoldable pub texts : Kind (List ℕ)

@@ -1,15 +1,15 @@
 -- Lists of one kind: an array, each of whose items is one value.
 use Rattle.std.specs.Prelude.{◌≡◌, ℕ, ◌+◌, List, [], ◌∷◌, ◌++◌, map, Result, Ok}
 use Rattle.mes_json.specs.Tree.{Tree, Items}
-use Rattle.mes_json.specs.Tree.Tree.{null, boolean, number, string, array, object}
+use Rattle.mes_json.specs.Tree.Tree.{array}
 use Rattle.mes_json.specs.Tree.Items.{no_items, item}
+use Rattle.mes_json.specs.Cursor.{as_items}
 use Rattle.mes_json.specs.View.{items_of}
 use Rattle.mes_part.specs.Paths.{Place}
 use Rattle.mes_part.specs.Paths.Place.{index}
-use Rattle.mes_part.specs.Fields.{fault}
 use Rattle.mes_part.specs.Kinds.{Kind, ◌>>=◌}
+use Rattle.mes_part.specs.Leaves.{expected}
 use Rattle.mes_part.specs.declared.field.FieldFault.{FieldFault}
-use Rattle.mes_part.specs.declared.field.FieldWhy.TheVariants.{WrongKind}
 
 -- the items are the values, in order
 abbrev pub ReadsEach : {V : Type 0} → Kind V → Items → List V → Type 0
@@ -26,12 +26,7 @@ read_each k at i (item t ts) =
 
 -- the items of an array
 abbrev pub items_at : List Place → Tree → Result Items FieldFault
-items_at at (array ts) = Ok ts
-items_at at null = fault at WrongKind
-items_at at (boolean x) = fault at WrongKind
-items_at at (number n) = fault at WrongKind
-items_at at (string s) = fault at WrongKind
-items_at at (object ms) = fault at WrongKind
+items_at at t = expected at (as_items t)
 
 -- an array of such values
 abbrev pub list_of : {V : Type 0} → Kind V → Kind (List V)

@@ -21,7 +21,6 @@ pub(crate) fn fault_at(path: &Path, why: FieldWhy) -> FieldFault
 }
 
 /// The text of a string.
-#[tactic(auto, using(crate::proofs::LeafLemmas::text_of_some, crate::proofs::LeafLemmas::text_of_none))]
 pub(crate) fn text_in<'a>(element: &Element<'a>, path: &Path) -> Result<&'a str, FieldFault>
     ensures { (t : Tree) → BeginsWith element.now t → Shows (λ s. s.now) (text_of path.now t) result }
 {
@@ -32,7 +31,6 @@ pub(crate) fn text_in<'a>(element: &Element<'a>, path: &Path) -> Result<&'a str,
 }
 
 /// The text of a number, as it is written.
-#[tactic(auto, using(crate::proofs::LeafLemmas::number_of_some, crate::proofs::LeafLemmas::number_of_none))]
 pub(crate) fn number_in<'a>(element: &Element<'a>, path: &Path) -> Result<&'a str, FieldFault>
     ensures { (t : Tree) → BeginsWith element.now t → Shows (λ n. n.now) (number_of path.now t) result }
 {
@@ -43,7 +41,6 @@ pub(crate) fn number_in<'a>(element: &Element<'a>, path: &Path) -> Result<&'a st
 }
 
 /// A truth value.
-#[tactic(auto, using(crate::proofs::LeafLemmas::boolean_of_some, crate::proofs::LeafLemmas::boolean_of_none))]
 pub(crate) fn boolean_in(element: &Element<'_>, path: &Path) -> Result<bool, FieldFault>
     ensures { (t : Tree) → BeginsWith element.now t → Shows (λ x. x) (boolean_of path.now t) result }
 {
