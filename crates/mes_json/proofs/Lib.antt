@@ -53,6 +53,7 @@ pub mod CanonicalLemmas
 pub mod NumberLemmas
 pub mod GrownLemmas
 pub mod WriteLemmas
+pub mod LengthLemmas
 pub mod RunOfBytesLemmas
 pub mod SameLemmas
 pub mod PassingLemmas

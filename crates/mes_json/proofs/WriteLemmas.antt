@@ -28,7 +28,7 @@ between start inside first last a b new e f g =
     g ∙ ap (λ (x : List ℕ). x ++ last ∷ []) (f ∙ ap (λ (x : List ℕ). x ++ inside) e) ∙ simp append_assoc refl
 
 -- ---- one more
-more_last : (xs : List Json) (x : Json) → more_items (items_view (xs ++ x ∷ [])) ≡ more_items (items_view xs) ++ 44 ∷ canonical (view x)
+pub more_last : (xs : List Json) (x : Json) → more_items (items_view (xs ++ x ∷ [])) ≡ more_items (items_view xs) ++ 44 ∷ canonical (view x)
 more_last [] x = ap (λ (b : List ℕ). 44 ∷ b) (append-nil (canonical (view x)))
 more_last (y ∷ ys) x =
     ap (λ (b : List ℕ). 44 ∷ (canonical (view y) ++ b)) (more_last ys x)
@@ -57,7 +57,7 @@ item_writable xs x n inside is are one =
 abbrev text_of : List ℕ × Json → List ℕ
 text_of m = member_text m.0 (view m.1)
 
-more_members_last : (xs : List (List ℕ × Json)) (x : List ℕ × Json) → more_members (members_view (xs ++ x ∷ [])) ≡ more_members (members_view xs) ++ 44 ∷ text_of x
+pub more_members_last : (xs : List (List ℕ × Json)) (x : List ℕ × Json) → more_members (members_view (xs ++ x ∷ [])) ≡ more_members (members_view xs) ++ 44 ∷ text_of x
 more_members_last [] x = ap (λ (b : List ℕ). 44 ∷ b) (append-nil (text_of x))
 more_members_last (y ∷ ys) x =
     ap (λ (b : List ℕ). 44 ∷ (text_of y ++ b)) (more_members_last ys x)

@@ -11,6 +11,10 @@ use Rattle.mes_json.specs.Grammar.{null_text, boolean_text}
 abbrev pub hex_digit : ℕ → ℕ
 hex_digit v = if nat_lt v 10 then 48 + v else 87 + v
 
+-- a control character as \u00 and two digits
+abbrev pub by_digits : ℕ → List ℕ
+by_digits c = 92 ∷ 0x75 ∷ 0x30 ∷ 0x30 ∷ hex_digit (c / 16) ∷ hex_digit (c % 16) ∷ []
+
 -- A byte of a string's text: \" \\ \b \f \n \r \t, \u00 and two digits for another control character, else as it is.
 abbrev pub escaped : ℕ → List ℕ
 escaped c =
@@ -21,7 +25,7 @@ escaped c =
     else if c == 0x0A then 92 ∷ 0x6E ∷ []
     else if c == 0x0D then 92 ∷ 0x72 ∷ []
     else if c == 0x09 then 92 ∷ 0x74 ∷ []
-    else if nat_lt c 0x20 then 92 ∷ 0x75 ∷ 0x30 ∷ 0x30 ∷ hex_digit (c / 16) ∷ hex_digit (c % 16) ∷ []
+    else if nat_lt c 0x20 then by_digits c
     else c ∷ []
 
 abbrev pub escaped_text : List ℕ → List ℕ

@@ -13,6 +13,7 @@ mod escape;
 mod fault;
 mod kind;
 mod laws;
+mod length;
 mod lexer;
 mod limits;
 mod memory;
@@ -41,6 +42,7 @@ pub use fault::{ReadFault, TextFault, Why};
 pub use laws::{
     canonical_text, inner_grows, lexer_bound, lexer_lets_go, nesting_limit, one_text_reading,
 };
+pub use length::text_length;
 pub use lexer::Lexer;
 pub use limits::{NESTING_LIMIT, ROOM_KEPT};
 pub use memory::NoMemory;
@@ -51,3 +53,4 @@ pub use text::Text;
 pub use value::Json;
 pub use value_kind::ValueKind;
 pub use write::write_text;
+pub use write_string::write_str;

@@ -1,20 +1,45 @@
 //! Writes a string in quotation marks.
-ghost use Rattle.std.specs.Prelude.{◌≡◌, ◌<◌, ◌++◌, ◌==◌, ◌||◌, nat_lt, IsTrue, IfOk};
+ghost use Rattle.std.specs.Prelude.{◌≡◌, ◌<◌, [], ◌∷◌, ◌++◌, ◌==◌, ◌||◌, length, nat_lt, IsTrue, IfSome, IfNone, IfOk, IfErr};
 ghost use Rattle.std.specs.Str.{IsUtf8};
-ghost use Rattle.mes_json.specs.Canonical.{hex_digit, escaped, escaped_text, quoted_text};
+ghost use Rattle.mes_json.specs.Canonical.{hex_digit, by_digits, escaped, escaped_text, quoted_text};
 ghost use Rattle.mes_json.specs.Writable.{Extends};
 
 use crate::memory::NoMemory;
 use crate::text::Text;
 
-/// Appends the text in quotation marks, with what has to be escaped in its shortest form.
+/// Appends the text as a JSON string: in quotation marks, with what has to be escaped in its shortest form.
+///
+/// Errors: `NoMemory` where a growth was refused; the bytes are as before then.
+pub fn write_str(text: &str, out: &mut Vec<u8>) -> Result<(), NoMemory>
+    ensures written { IfOk result (λ _. out.new.items ≡ out.old.items ++ quoted_text text.now) }
+    ensures unchanged { IfErr result (λ _. out.new.items ≡ out.old.items) }
+{
+    let before = out.len();
+    match write_between_marks(text.as_bytes(), out) {
+        Ok(()) => Ok(()),
+        Err(refused) => {
+            out.truncate(before);
+            Err(refused)
+        }
+    }
+}
+
+/// Appends the text in quotation marks; where memory is refused, a front of it.
 pub(crate) fn write_quoted(text: &Text, out: &mut Vec<u8>) -> Result<(), NoMemory>
     ensures written { IfOk result (λ _. out.new.items ≡ out.old.items ++ quoted_text text.now) }
     ensures utf8 { IfOk result (λ _. IsUtf8 text.now) }
     ensures front { Extends out.old.items out.new.items }
 {
+    write_between_marks(text.as_str().as_bytes(), out)
+}
+
+/// Appends the bytes of a string in quotation marks; where memory is refused, a front of them.
+fn write_between_marks(bytes: &[u8], out: &mut Vec<u8>) -> Result<(), NoMemory>
+    ensures written { IfOk result (λ _. out.new.items ≡ out.old.items ++ quoted_text bytes.now) }
+    ensures front { Extends out.old.items out.new.items }
+{
     append(b"\"", out)?;
-    write_escaped(text.as_str().as_bytes(), out)?;
+    write_escaped(bytes, out)?;
     append(b"\"", out)
 }
 
@@ -47,15 +72,9 @@ fn write_escape(byte: u8, out: &mut Vec<u8>) -> Result<(), NoMemory>
     ensures written { IfOk result (λ _. out.new.items ≡ out.old.items ++ escaped byte) }
     ensures front { Extends out.old.items out.new.items }
 {
-    match byte {
-        b'"' => append(b"\\\"", out),
-        b'\\' => append(b"\\\\", out),
-        0x08 => append(b"\\b", out),
-        0x0C => append(b"\\f", out),
-        b'\n' => append(b"\\n", out),
-        b'\r' => append(b"\\r", out),
-        b'\t' => append(b"\\t", out),
-        _ => append(
+    match short_form(byte) {
+        Some(letter) => append(&[b'\\', letter], out),
+        None => append(
             &[
                 b'\\',
                 b'u',
@@ -66,6 +85,36 @@ fn write_escape(byte: u8, out: &mut Vec<u8>) -> Result<(), NoMemory>
             ],
             out,
         ),
+    }
+}
+
+/// The letter behind the reverse solidus in an escaped byte's short form, where it has one.
+fn short_form(byte: u8) -> Option<u8>
+    requires { IsTrue (nat_lt byte 0x20 || byte == 0x22 || byte == 0x5C) }
+    ensures some { IfSome result (λ letter. escaped byte ≡ 92 ∷ letter ∷ []) }
+    ensures none { IfNone result (escaped byte ≡ by_digits byte) }
+{
+    match byte {
+        b'"' | b'\\' => Some(byte),
+        0x08 => Some(b'b'),
+        0x0C => Some(b'f'),
+        b'\n' => Some(b'n'),
+        b'\r' => Some(b'r'),
+        b'\t' => Some(b't'),
+        _ => None,
+    }
+}
+
+/// How many bytes the byte takes in a string.
+pub(crate) fn escaped_length(byte: u8) -> usize
+    ensures { result ≡ length (escaped byte) }
+{
+    if !is_escaped(byte) {
+        return 1;
+    }
+    match short_form(byte) {
+        Some(_) => b"\\n".len(),
+        None => b"\\u0000".len(),
     }
 }
 

@@ -4,3 +4,9 @@ pub mod Values
 pub mod Resources
 pub mod Attributes
 pub mod Offers
+pub mod Tasks
+pub mod Frameworks
+pub mod Filters
+pub mod TaskStates
+pub mod TaskStatuses
+pub mod Owed

@@ -2,8 +2,11 @@
 
 ghost use Rattle.std.specs.Prelude.{◌≤◌};
 
+mod frameworks;
 mod offers;
 mod resources;
+mod statuses;
+mod tasks;
 mod values;
 
 use crate::{FieldFault, FieldWhy, PATH_TEXT_MOST, Part, PartFault, Path};

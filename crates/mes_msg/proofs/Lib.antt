@@ -1,2 +1,3 @@
-mod EventLemmas
-mod FieldLemmas
+mod WordLemmas
+mod NameLemmas
+mod RecordLemmas

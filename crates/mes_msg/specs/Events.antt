@@ -1,67 +1,135 @@
--- The events of the scheduler API (mesos.proto, scheduler.proto) in their JSON form: so far ERROR and HEARTBEAT.
-use Rattle.std.specs.Prelude.{◌≡◌, ◌≢◌, ℕ, ◌⊎◌, List, [], ◌∷◌, codes}
-use Rattle.mes_json.specs.Tree.{Tree, Members}
-use Rattle.mes_json.specs.Tree.Tree.{string, object}
+-- The events of the scheduler API (scheduler.proto, `Event`) in their JSON form.
+use Rattle.std.specs.Prelude.{◌≡◌, ◌⊎◌, ℕ, List, [], codes}
+use Rattle.std.proofs.Common.{inl, inr, refl}
+use Rattle.mes_json.specs.Tree.{Tree}
 use Rattle.mes_json.specs.Grammar.{IsText}
 use Rattle.mes_json.specs.Place.{IsFault}
 use Rattle.mes_json.specs.declared.limits.TheConstants.{NESTING_LIMIT}
-use Rattle.mes_part.specs.Paths.Place.{name}
-use Rattle.mes_part.specs.Fields.{Has}
-use Rattle.mes_msg.specs.FieldFaults.{IsString, IsObject}
-use Rattle.mes_msg.specs.FieldFaults.{BreaksMember}
-use Rattle.mes_part.specs.declared.field.FieldWhy.TheVariants.{WrongKind, LeftOut}
+use Rattle.mes_part.specs.Kinds.{Kind, Lawful, Returns, Breaks}
+use Rattle.mes_part.specs.Rows.{Row, need, no_rows, mapped, message}
+use Rattle.mes_part.specs.Choices.{others, case, typed}
+use Rattle.mes_part.specs.RowLaws.{LawfulRow, lawful_need, lawful_no_rows, lawful_mapped, lawful_message, message_returns}
+use Rattle.mes_part.specs.ChoiceLaws.{lawful_others, lawful_case, lawful_typed}
 use Rattle.mes_part.specs.declared.field.FieldFault.{FieldFault}
-use Rattle.mes_part.specs.declared.part.PartFault.{PartFault}
+use Rattle.mes_model.specs.declared.offer.Offer.{Offer}
+use Rattle.mes_msg.specs.Bodies.{subscribed, rescind, update, message_body, failure, error_body, lawful_subscribed, lawful_rescind, lawful_update, lawful_message_body, lawful_failure, lawful_error_body}
+use Rattle.mes_msg.specs.Offers.{offers, lawful_offers}
+use Rattle.mes_msg.specs.declared.bodies.Subscribed.{Subscribed}
+use Rattle.mes_msg.specs.declared.bodies.Rescind.{Rescind}
+use Rattle.mes_msg.specs.declared.bodies.Update.{Update}
+use Rattle.mes_msg.specs.declared.bodies.Message.{Message}
+use Rattle.mes_msg.specs.declared.bodies.Failure.{Failure}
+use Rattle.mes_msg.specs.declared.bodies.ErrorBody.{ErrorBody}
 use Rattle.mes_msg.specs.declared.event.Event.{Event}
-use Rattle.mes_msg.specs.declared.event.Event.TheVariants.{Error, Heartbeat}
-use Rattle.mes_msg.specs.declared.event.RecordFault.{RecordFault}
+use Rattle.mes_msg.specs.declared.event.Event.TheVariants as of
+use Rattle.mes_msg.specs.declared.record.RecordFault.{RecordFault}
+use Rattle.mes_msg.specs.EventNames.{event_names}
 
--- the member `type` is this text
-abbrev pub IsTyped : Members → List ℕ → Type 0
-IsTyped ms kind = Has ms (codes "type") (string kind)
+-- an event by its type
+abbrev pub Body : Type 0
+Body = Subscribed ⊎ List Offer ⊎ Rescind ⊎ Update ⊎ Message ⊎ Failure ⊎ ErrorBody ⊎ Unit {0} ⊎ List ℕ
 
--- HEARTBEAT has no body; ERROR has the body `error`, whose `message` is a text. Other members are free.
-abbrev pub ReadsEvent : Tree → Event → Type 0
-ReadsEvent t (Error message) =
-    (ms : Members) × (t ≡ object ms) × IsTyped ms (codes "ERROR")
-    × ((body : Members) × Has ms (codes "error") (object body) × Has body (codes "message") (string message))
-ReadsEvent t Heartbeat = (ms : Members) × (t ≡ object ms) × IsTyped ms (codes "HEARTBEAT")
+abbrev pub to_event : Body → Event
+to_event (inl v) = of.Subscribed v
+to_event (inr (inl v)) = of.Offers v
+to_event (inr (inr (inl v))) = of.Rescind v
+to_event (inr (inr (inr (inl v)))) = of.Update v
+to_event (inr (inr (inr (inr (inl v))))) = of.Message v
+to_event (inr (inr (inr (inr (inr (inl v)))))) = of.Failure v
+to_event (inr (inr (inr (inr (inr (inr (inl v))))))) = of.Error v
+to_event (inr (inr (inr (inr (inr (inr (inr (inl v)))))))) = of.Heartbeat
+to_event (inr (inr (inr (inr (inr (inr (inr (inr name)))))))) = of.Other name
 
--- the row `type`: a text that names an event
-abbrev pub BreaksType : Members → FieldFault → Type 0
-BreaksType ms f =
-    BreaksMember IsString ms [] (codes "type") f
-    ⊎ ((kind : List ℕ) × IsTyped ms kind × (kind ≢ codes "ERROR") × (kind ≢ codes "HEARTBEAT")
-    × (f.path ≡ name (codes "type") ∷ []) × (f.why ≡ LeftOut))
+abbrev pub from_event : Event → Body
+from_event (of.Subscribed v) = inl v
+from_event (of.Offers v) = inr (inl v)
+from_event (of.Rescind v) = inr (inr (inl v))
+from_event (of.Update v) = inr (inr (inr (inl v)))
+from_event (of.Message v) = inr (inr (inr (inr (inl v))))
+from_event (of.Failure v) = inr (inr (inr (inr (inr (inl v)))))
+from_event (of.Error v) = inr (inr (inr (inr (inr (inr (inl v))))))
+from_event of.Heartbeat = inr (inr (inr (inr (inr (inr (inr (inl tt)))))))
+from_event (of.Other name) = inr (inr (inr (inr (inr (inr (inr (inr name)))))))
 
--- the rows of an ERROR: its body, and in it the message
-abbrev pub BreaksError : Members → FieldFault → Type 0
-BreaksError ms f =
-    BreaksMember IsObject ms [] (codes "error") f
-    ⊎ ((body : Members) × Has ms (codes "error") (object body)
-    × BreaksMember IsString body (name (codes "error") ∷ []) (codes "message") f)
+-- type !, and by it the one row of its body; another type is kept by its name, and no further member is read
+abbrev pub event_rows : Row Event
+event_rows =
+    mapped (typed (
+    case (codes "SUBSCRIBED") (need (codes "subscribed") subscribed) (
+    case (codes "OFFERS") (need (codes "offers") offers) (
+    case (codes "RESCIND") (need (codes "rescind") rescind) (
+    case (codes "UPDATE") (need (codes "update") update) (
+    case (codes "MESSAGE") (need (codes "message") message_body) (
+    case (codes "FAILURE") (need (codes "failure") failure) (
+    case (codes "ERROR") (need (codes "error") error_body) (
+    case (codes "HEARTBEAT") no_rows (
+    others event_names
+    )
+    )
+    )
+    )
+    )
+    )
+    )
+    )
+    )) to_event from_event
 
--- the first row that is broken, and why
-abbrev pub BreaksEvent : Tree → FieldFault → Type 0
-BreaksEvent t f =
-    ((IsObject t → ⊥) × (f.path ≡ []) × (f.why ≡ WrongKind))
-    ⊎ ((ms : Members) × (t ≡ object ms)
-    × (BreaksType ms f ⊎ (IsTyped ms (codes "ERROR") × BreaksError ms f)))
+unfoldable pub event : Kind Event
+event = message event_rows
 
--- the bytes of a record are a JSON text of the event
+-- ---- an event in the bytes of a record
+
+-- the bytes are a JSON text of the event
 abbrev pub Spells : List ℕ → Event → Type 0
-Spells b ev = (t : Tree) × IsText NESTING_LIMIT b t × ReadsEvent t ev
+Spells b ev = (t : Tree) × IsText NESTING_LIMIT b t × event.Reads t ev
 
--- the bytes of a record are a JSON text of no event, and where
+-- the bytes are a JSON text of no event, and this is its first fault
 abbrev pub SpellsNone : List ℕ → FieldFault → Type 0
-SpellsNone b f = (t : Tree) × IsText NESTING_LIMIT b t × BreaksEvent t f
+SpellsNone b f = (t : Tree) × IsText NESTING_LIMIT b t × Breaks event [] t f
 
-abbrev pub IsPartFault : Tree → PartFault → Type 0
-IsPartFault t (PartFault.Field f) = BreaksEvent t f
-IsPartFault t PartFault.NoMemory = Unit {0}
-
--- why the bytes of a record spell no event; want of memory says nothing of them
+-- why the bytes spell no event; want of memory says nothing of them
 abbrev pub IsRecordFault : List ℕ → RecordFault → Type 0
 IsRecordFault b (RecordFault.Text f) = IsFault NESTING_LIMIT b f
 IsRecordFault b (RecordFault.Field f) = SpellsNone b f
 IsRecordFault b RecordFault.NoMemory = Unit {0}
+
+-- ---- the laws
+
+to_from_event : (v : Event) → to_event (from_event v) ≡ v
+to_from_event (of.Subscribed v) = refl
+to_from_event (of.Offers v) = refl
+to_from_event (of.Rescind v) = refl
+to_from_event (of.Update v) = refl
+to_from_event (of.Message v) = refl
+to_from_event (of.Failure v) = refl
+to_from_event (of.Error v) = refl
+to_from_event of.Heartbeat = refl
+to_from_event (of.Other name) = refl
+
+lawful_event_rows : LawfulRow event_rows
+lawful_event_rows =
+    lawful_mapped _ _ (lawful_typed (
+    lawful_case (lawful_need lawful_subscribed) (
+    lawful_case (lawful_need lawful_offers) (
+    lawful_case (lawful_need lawful_rescind) (
+    lawful_case (lawful_need lawful_update) (
+    lawful_case (lawful_need lawful_message_body) (
+    lawful_case (lawful_need lawful_failure) (
+    lawful_case (lawful_need lawful_error_body) (
+    lawful_case lawful_no_rows (lawful_others event_names)
+    )
+    )
+    )
+    )
+    )
+    )
+    )
+    ) refl) to_from_event
+
+pub lawful_event : Lawful event
+unfolding event
+lawful_event = lawful_message lawful_event_rows
+
+pub event_back : (v : Event) → event_rows.Back v → Returns event v
+unfolding event
+event_back v back = message_returns lawful_event_rows refl v back

@@ -1,3 +1,7 @@
+pub mod Bodies
+pub mod EventNames
+pub mod Offers
 pub mod Events
-pub mod FieldFaults
 pub mod RecordFaults
+pub mod Shown
+pub mod Canon

@@ -3,8 +3,8 @@ use Rattle.mes_json.specs.declared.fault.ReadFault.{ReadFault}
 use Rattle.mes_json.specs.declared.fault.ReadFault.TheVariants as read
 use Rattle.mes_part.specs.declared.part.PartFault.{PartFault}
 use Rattle.mes_part.specs.declared.part.PartFault.TheVariants as part
-use Rattle.mes_msg.specs.declared.event.RecordFault.{RecordFault}
-use Rattle.mes_msg.specs.declared.event.RecordFault.TheVariants.{Text, Field, NoMemory}
+use Rattle.mes_msg.specs.declared.record.RecordFault.{RecordFault}
+use Rattle.mes_msg.specs.declared.record.RecordFault.TheVariants.{Text, Field, NoMemory}
 
 abbrev pub of_read : ReadFault → RecordFault
 of_read (read.Text f) = Text f

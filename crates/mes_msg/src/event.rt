@@ -1,124 +1,155 @@
 //! An event of the scheduler API.
+ghost use Rattle.std.specs.Prelude.{◌≡◌, [], ◌∷◌, ◌++◌, IfOk, OnOk};
+ghost use Rattle.mes_json.specs.Tree.Tree.{string};
+ghost use Rattle.mes_part.specs.Choices.{type_name};
+ghost use Rattle.mes_part.specs.Kinds.{Returns};
+ghost use Rattle.mes_part.specs.Written.{pairs_view};
+ghost use Rattle.mes_msg.specs.Events.{event_rows};
 
-ghost use Rattle.std.specs.Prelude.{◌≡◌, codes, IfOk, IfErr, MatchResult};
-ghost use Rattle.mes_json.specs.Tree.Tree.{object};
-ghost use Rattle.mes_json.specs.View.{view, members_view};
-
-use crate::members::{at_member, required_object, required_text};
-use mes_json::{Json, ReadFault, Text, TextFault, read_text};
-use mes_part::{FieldFault, FieldWhy, PartFault, Path, Step};
+use crate::bodies::{ErrorBody, Failure, Message, Rescind, Subscribed, Update};
+use crate::offers::{Offers, offers_tree};
+use crate::other_name::OtherName;
+use mes_json::{Element, Json, NoMemory, Text};
+use mes_model::Offer;
+use mes_part::{
+    List, Part, PartFault, Path, copy_list, find_rows, put, put_type, required, type_of,
+    whole_object,
+};
 use std::alloc::Global;
 
-/// An event of the scheduler API (mesos.proto, scheduler.proto): so far ERROR and HEARTBEAT.
+/// An event of the scheduler API (scheduler.proto, `Event`).
 #[derive(Debug, Drop)]
 pub enum Event {
+    /// SUBSCRIBED: the framework is subscribed.
+    Subscribed(Subscribed),
+    /// OFFERS: offers of resources.
+    Offers(List<Offer>),
+    /// RESCIND: an offer is no longer valid.
+    Rescind(Rescind),
+    /// UPDATE: the state of a task.
+    Update(Update),
+    /// MESSAGE: bytes that an executor sends to the framework.
+    Message(Message),
+    /// FAILURE: an agent or an executor is lost.
+    Failure(Failure),
     /// ERROR: the master refuses the framework and says why.
-    Error { message: Text },
+    Error(ErrorBody),
     /// HEARTBEAT: the connection is alive.
     Heartbeat,
+    /// An event of another type, whose body is dropped.
+    Other(OtherName),
 }
 
-/// Why the bytes of a record spell no event.
-#[derive(Debug, Drop)]
-pub enum RecordFault {
-    /// They are no JSON text.
-    Text(TextFault),
-    /// The JSON text is of no event.
-    Field(FieldFault),
-    /// A growth was refused memory.
-    NoMemory,
-}
-
-impl From<ReadFault> for RecordFault {
-    ghost use Rattle.std.specs.Prelude.{◌≡◌};
-    ghost use Rattle.mes_msg.specs.RecordFaults.{of_read};
-
-    ghost from_gives = { λ fault e. e ≡ of_read fault };
-
-    fn from(fault: ReadFault) -> RecordFault {
-        match fault {
-            ReadFault::Text(fault) => RecordFault::Text(fault),
-            ReadFault::NoMemory => RecordFault::NoMemory,
-        }
-    }
-}
-
-impl From<PartFault> for RecordFault {
-    ghost use Rattle.std.specs.Prelude.{◌≡◌};
-    ghost use Rattle.mes_msg.specs.RecordFaults.{of_part};
-
-    ghost from_gives = { λ fault e. e ≡ of_part fault };
-
-    fn from(fault: PartFault) -> RecordFault {
-        match fault {
-            PartFault::Field(fault) => RecordFault::Field(fault),
-            PartFault::NoMemory => RecordFault::NoMemory,
-        }
-    }
-}
+/// The names of the rows, in the order of the table.
+const ROWS: [&str; 8] = [
+    "type",
+    "subscribed",
+    "offers",
+    "rescind",
+    "update",
+    "message",
+    "failure",
+    "error",
+];
 
 impl Event {
-    ghost use Rattle.mes_msg.specs.Events.{ReadsEvent, IsTyped, IsPartFault, Spells, IsRecordFault};
-
-    /// The event that the bytes of a record spell.
-    pub fn read_record(alloc: Global, bytes: &[u8]) -> Result<Event, RecordFault>
-        // Ok: the bytes are a JSON text of the event.
-        ensures ok { IfOk result (Spells bytes.now) }
-        ensures only { (event : Event) → Spells bytes.now event → MatchResult result (λ e. e ≡ event) (λ e. e ≡ RecordFault.NoMemory) }
-
-        // Err: they are no JSON text, or one of no event, and where.
-        ensures err { IfErr result (IsRecordFault bytes.now) }
+    /// Appends the row `type` and the one of the body.
+    fn put_rows(&self, members: &mut Vec<(Text, Json)>, alloc: Global) -> Result<(), NoMemory>
+        ensures members { OnOk result (pairs_view members.new.items ≡ pairs_view members.old.items ++ event_rows.members self.now) }
+        ensures back { OnOk result (event_rows.Back self.now) }
     {
-        let json = read_text(alloc, bytes)?;
-        Ok(Event::of_tree(alloc, &json)?)
+        match self {
+            Event::Subscribed(body) => put_body(members, alloc, "SUBSCRIBED", "subscribed", body),
+            Event::Offers(list) => put_offers(members, alloc, list),
+            Event::Rescind(body) => put_body(members, alloc, "RESCIND", "rescind", body),
+            Event::Update(body) => put_body(members, alloc, "UPDATE", "update", body),
+            Event::Message(body) => put_body(members, alloc, "MESSAGE", "message", body),
+            Event::Failure(body) => put_body(members, alloc, "FAILURE", "failure", body),
+            Event::Error(body) => put_body(members, alloc, "ERROR", "error", body),
+            Event::Heartbeat => put_type(members, alloc, "HEARTBEAT"),
+            Event::Other(name) => put(members, alloc, "type", name.text()),
+        }
     }
+}
 
-    /// The event that a JSON value stands for.
-    pub fn of_tree(alloc: Global, json: &Json) -> Result<Event, PartFault>
-        ensures ok { IfOk result (ReadsEvent (view json.now)) }
-        ensures err { IfErr result (IsPartFault (view json.now)) }
-    {
-        match json {
-            Json::Map(members) => Event::of_members(alloc, members.as_slice()),
-            Json::Null | Json::Bool(_) | Json::Num(_) | Json::Text(_) | Json::List(_) => {
-                Err(PartFault::Field(FieldFault {
-                    path: Path::new(),
-                    why: FieldWhy::WrongKind,
-                }))
+impl Part for Event {
+    ghost use Rattle.mes_msg.specs.Events.{event, lawful_event};
+
+    ghost kind = { event };
+
+    ghost STEPS = { 11 };
+
+    const STEPS: u32 = 11;
+
+    ghost lawful = { lawful_event };
+
+    fn read_from(alloc: Global, element: &Element<'_>, path: &Path) -> Result<Event, PartFault> {
+        let rows = find_rows(element, &ROWS, path)?;
+        match type_of(rows.at(0), path)? {
+            "SUBSCRIBED" => Ok(Event::Subscribed(required(alloc, rows.at(1), "subscribed", path)?)),
+            "OFFERS" => {
+                let body: Offers = required(alloc, rows.at(2), "offers", path)?;
+                Ok(Event::Offers(body.into_list()))
             }
+            "RESCIND" => Ok(Event::Rescind(required(alloc, rows.at(3), "rescind", path)?)),
+            "UPDATE" => Ok(Event::Update(required(alloc, rows.at(4), "update", path)?)),
+            "MESSAGE" => Ok(Event::Message(required(alloc, rows.at(5), "message", path)?)),
+            "FAILURE" => Ok(Event::Failure(required(alloc, rows.at(6), "failure", path)?)),
+            "ERROR" => Ok(Event::Error(required(alloc, rows.at(7), "error", path)?)),
+            "HEARTBEAT" => Ok(Event::Heartbeat),
+            name => Ok(Event::Other(OtherName::of_type(alloc, name)?)),
         }
     }
 
-    // The event of an object's members.
-    fn of_members(alloc: Global, members: &[(Text, Json)]) -> Result<Event, PartFault>
-        ensures ok { IfOk result (ReadsEvent (object (members_view members.now))) }
-        ensures err { IfErr result (IsPartFault (object (members_view members.now))) }
-    {
-        match required_text(members, "type", &Path::new()) {
-            Ok(name) => match name.as_str() {
-                "ERROR" => Event::error_of(alloc, members),
-                "HEARTBEAT" => Ok(Event::Heartbeat),
-                _ => Err(PartFault::Field(at_member(&Path::new(), "type", FieldWhy::LeftOut))),
-            },
-            Err(fault) => Err(PartFault::Field(fault)),
-        }
+    #[tactic(auto, using(crate::specs::Events::event_back), unfolding(crate::specs::Events::event))]
+    fn tree(&self, alloc: Global) -> Result<Json, NoMemory> {
+        let mut members = Vec::new(alloc);
+        self.put_rows(&mut members, alloc)?;
+        Ok(whole_object(members))
     }
 
-    // The ERROR of an object's members, which have that type.
-    fn error_of(alloc: Global, members: &[(Text, Json)]) -> Result<Event, PartFault>
-        requires { IsTyped (members_view members.now) (codes "ERROR") }
-        ensures ok { IfOk result (ReadsEvent (object (members_view members.now))) }
-        ensures err { IfErr result (IsPartFault (object (members_view members.now))) }
-    {
-        let body = match required_object(members, "error", &Path::new()) {
-            Ok(body) => body,
-            Err(fault) => return Err(PartFault::Field(fault)),
-        };
-        match required_text(body, "message", &Path::new().with(Step::Name("error"))) {
-            Ok(message) => Ok(Event::Error {
-                message: message.copy(alloc)?,
-            }),
-            Err(fault) => Err(PartFault::Field(fault)),
+    fn copy(&self, alloc: Global) -> Result<Event, NoMemory> {
+        match self {
+            Event::Subscribed(body) => Ok(Event::Subscribed(body.copy(alloc)?)),
+            Event::Offers(list) => Ok(Event::Offers(copy_list(alloc, list)?)),
+            Event::Rescind(body) => Ok(Event::Rescind(body.copy(alloc)?)),
+            Event::Update(body) => Ok(Event::Update(body.copy(alloc)?)),
+            Event::Message(body) => Ok(Event::Message(body.copy(alloc)?)),
+            Event::Failure(body) => Ok(Event::Failure(body.copy(alloc)?)),
+            Event::Error(body) => Ok(Event::Error(body.copy(alloc)?)),
+            Event::Heartbeat => Ok(Event::Heartbeat),
+            Event::Other(name) => Ok(Event::Other(name.copy(alloc)?)),
         }
     }
+}
+
+/// Appends the row `type` and the row of a body.
+fn put_body<T: Part>(
+    members: &mut Vec<(Text, Json)>,
+    alloc: Global,
+    kind: &'static str,
+    name: &'static str,
+    body: &T,
+) -> Result<(), NoMemory>
+    ensures members { OnOk result (pairs_view members.new.items ≡ pairs_view members.old.items ++ (type_name, string kind.now) ∷ (name.now, T.kind.tree body.now) ∷ []) }
+    ensures back { OnOk result (Returns T.kind body.now) }
+{
+    put_type(members, alloc, kind)?;
+    put(members, alloc, name, body)
+}
+
+/// Appends the row `type` of OFFERS and its body.
+fn put_offers(
+    members: &mut Vec<(Text, Json)>,
+    alloc: Global,
+    list: &List<Offer>,
+) -> Result<(), NoMemory>
+    ensures members { OnOk result (pairs_view members.new.items ≡ pairs_view members.old.items ++ event_rows.members (Event.Offers list.now)) }
+    ensures back { OnOk result (event_rows.Back (Event.Offers list.now)) }
+{
+    put_type(members, alloc, "OFFERS")?;
+    let tree = offers_tree(alloc, list)?;
+    let name = Text::new(String::from_str(alloc, "offers")?);
+    members.push((name, tree))?;
+    Ok(())
 }

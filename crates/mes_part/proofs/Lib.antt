@@ -1,6 +1,7 @@
 mod PathLemmas
 pub mod LeafLemmas
 pub mod NumberPlaces
+pub mod BinaryPlaces
 pub mod PartLemmas
 pub mod TreeLemmas
 pub mod ListLemmas
@@ -8,3 +9,4 @@ pub mod FoundLemmas
 pub mod ValueLemmas
 pub mod RowLemmas
 pub mod ReadListLemmas
+pub mod EitherLemmas

@@ -1,10 +1,10 @@
 -- The member `type`, and the rows that depend on it.
-use Rattle.std.specs.Prelude.{◌≡◌, ◌≢◌, ◌⊎◌, ℕ, List, [], ◌∷◌, ◌++◌, bytes_eq, codes, if◌then◌else◌, Result}
+use Rattle.std.specs.Prelude.{◌≡◌, ◌≢◌, ◌⊎◌, ℕ, Bool, true, false, ◌||◌, ◌&&◌, not, List, [], ◌∷◌, ◌++◌, bytes_eq, codes, if◌then◌else◌, Result}
 use Rattle.std.proofs.Common.{inl, inr}
 use Rattle.mes_json.specs.Tree.{Tree, Members}
 use Rattle.mes_json.specs.Tree.Tree.{string}
 use Rattle.mes_part.specs.Paths.{Place}
-use Rattle.mes_part.specs.Fields.{Has, below, fault}
+use Rattle.mes_part.specs.Fields.{is_in, Has, below, fault}
 use Rattle.mes_part.specs.Kinds.{◌>>=◌}
 use Rattle.mes_part.specs.Leaves.{texts}
 use Rattle.mes_part.specs.Rows.{Row, required}
@@ -13,8 +13,10 @@ use Rattle.mes_part.specs.declared.field.FieldWhy.{FieldWhy}
 
 -- What the members of an object hold by its type.
 pub record Choice (F : Type 0) : Type 1 where
-  -- the types that are known
-  pub types : List (List ℕ)
+  -- a value may have this type
+  pub takes : List ℕ → Bool
+  -- no type stands twice
+  pub told_apart : Bool
   -- the names of the members that are read under one of them
   pub names : List (List ℕ)
   -- under a type, the members hold x
@@ -33,13 +35,27 @@ type_name = codes "type"
 -- no further type is known
 abbrev pub no_other : FieldWhy → Choice ⊥
 no_other why = record {
-  types = [];
+  takes = λ kind. false;
+  told_apart = true;
   names = [];
   Reads = λ kind ms x. ⊥;
   walk = λ at kind ms go. fault (below at type_name) why;
   type_of = λ x. [];
   members = λ x. [];
   Back = λ x. ⊥;
+}
+
+-- any further type is kept by its name, which is none of the known ones, and no member is read or written
+abbrev pub others : List (List ℕ) → Choice (List ℕ)
+others known = record {
+  takes = λ kind. not (is_in kind known);
+  told_apart = true;
+  names = [];
+  Reads = λ kind ms x. kind ≡ x;
+  walk = λ at kind ms go. go kind;
+  type_of = λ x. x;
+  members = λ x. [];
+  Back = λ x. is_in x known ≡ false;
 }
 
 -- the rows of a type that is known and refused
@@ -55,7 +71,8 @@ refused why = record {
 -- under this type these rows, and else the rest
 abbrev pub case : {F G : Type 0} → List ℕ → Row F → Choice G → Choice (F ⊎ G)
 case {F} {G} this r rest = record {
-  types = this ∷ rest.types;
+  takes = λ kind. bytes_eq this kind || rest.takes kind;
+  told_apart = not (rest.takes this) && rest.told_apart;
   names = r.names ++ rest.names;
   Reads = CaseReads;
   walk = λ at kind ms go. if bytes_eq kind this then r.walk at ms (λ x. go (inl x)) else rest.walk at kind ms (λ y. go (inr y));

@@ -1,13 +1,12 @@
 -- What a look-up of a member says, and what follows one another: laws of `lookup` and of `>>=`.
-use Rattle.std.proofs.Common.{◌≡◌, ◌≢◌, ◌⊎◌, inl, inr, ℕ, ◌≤◌, List, [], ◌∷◌, length, Option, Some, None, refl, sym, ◌∙◌, ap, subst, arith}
+use Rattle.std.proofs.Common.{◌≡◌, ◌≢◌, ◌⊎◌, inl, inr, ℕ, List, [], ◌∷◌, Option, Some, None, refl, sym, ◌∙◌, ap, subst}
 use Rattle.std.specs.Prelude.{Result, Ok, Err}
 use Rattle.mes_json.specs.Tree.{Tree, Members}
 use Rattle.mes_json.specs.Tree.Tree.{null, boolean, number, string, array, object}
 use Rattle.mes_part.specs.Paths.{Place}
-use Rattle.mes_part.specs.Fields.{values_named, Has, Lacks, Repeats, below, fault, unless_null, single, lookup}
+use Rattle.mes_part.specs.Fields.{values_named, Has, Lacks, below, unless_null, single, lookup}
 use Rattle.mes_part.specs.Kinds.{◌>>=◌}
 use Rattle.mes_part.specs.declared.field.FieldFault.{FieldFault}
-use Rattle.mes_part.specs.declared.field.FieldWhy.TheVariants.{Twice}
 
 -- ---- one after the other
 
@@ -55,15 +54,6 @@ pub lacks_looked : (at : List Place) (n : List ℕ) (ms : Members) → Lacks ms 
 unfolding lookup
 lacks_looked at n ms (inl e) = rw e refl
 lacks_looked at n ms (inr e) = rw e refl
-
--- a name that stands twice
-pub repeats_looked : (at : List Place) (n : List ℕ) (ms : Members) → Repeats ms n → lookup at n ms ≡ fault (below at n) Twice
-unfolding lookup
-repeats_looked at n ms h = by_values (values_named n ms) h where
-  by_values : (ts : List Tree) → 2 ≤ length ts → single (below at n) ts ≡ fault (below at n) Twice
-  by_values [] h = absurd (omega arith)
-  by_values (t ∷ []) h = absurd (omega arith)
-  by_values (t ∷ u ∷ ts) h = refl
 
 -- a look-up that was well: the member isn't there, or it is
 pub looked : {F : Type 0} (at : List Place) (n : List ℕ) (ms : Members) (value : Option Tree → Result F FieldFault) (x : F)

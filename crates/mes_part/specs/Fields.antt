@@ -1,5 +1,5 @@
 -- The members of an object by their names: a known member stands once or not at all, and null counts as not there.
-use Rattle.std.specs.Prelude.{◌≡◌, ◌≢◌, ◌⊎◌, ℕ, ◌≤◌, Bool, true, false, List, [], ◌∷◌, ◌++◌, length, bytes_eq, if◌then◌else◌, Option, Some, None, Result, Ok, Err}
+use Rattle.std.specs.Prelude.{◌≡◌, ◌≢◌, ◌⊎◌, ℕ, Bool, true, false, List, [], ◌∷◌, ◌++◌, bytes_eq, ◌||◌, if◌then◌else◌, Option, Some, None, Result, Ok, Err}
 use Rattle.mes_json.specs.Tree.{Tree, Members}
 use Rattle.mes_json.specs.Tree.Tree.{null, boolean, number, string, array, object}
 use Rattle.mes_json.specs.Tree.Members.{no_members, member}
@@ -14,6 +14,11 @@ abbrev pub values_named : List ℕ → Members → List Tree
 values_named n no_members = []
 values_named n (member m t ms) = if bytes_eq m n then t ∷ values_named n ms else values_named n ms
 
+-- a name is among these
+abbrev pub is_in : List ℕ → List (List ℕ) → Bool
+is_in n [] = false
+is_in n (m ∷ ms) = bytes_eq m n || is_in n ms
+
 -- exactly one member has the name, and t is its value, which isn't null
 abbrev pub Has : Members → List ℕ → Tree → Type 0
 Has ms n t = (values_named n ms ≡ t ∷ []) × (t ≢ null)
@@ -21,10 +26,6 @@ Has ms n t = (values_named n ms ≡ t ∷ []) × (t ≢ null)
 -- no member has the name, or exactly one has it and its value is null
 abbrev pub Lacks : Members → List ℕ → Type 0
 Lacks ms n = (values_named n ms ≡ []) ⊎ (values_named n ms ≡ null ∷ [])
-
--- two members or more have the name
-abbrev pub Repeats : Members → List ℕ → Type 0
-Repeats ms n = 2 ≤ length (values_named n ms)
 
 -- the path of the member of that name, in an object at a path
 abbrev pub below : List Place → List ℕ → List Place

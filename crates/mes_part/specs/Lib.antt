@@ -21,3 +21,7 @@ pub mod Parts
 pub mod Written
 pub mod FoundRows
 pub mod Labels
+pub mod EitherLists
+pub mod EitherListLaws
+pub mod Binary
+pub mod BinaryLaws

@@ -4,12 +4,7 @@ use Rattle.std.specs.Prelude.{◌||◌, ◌&&◌, not}
 use Rattle.std.proofs.lemmas.Slice.Eq.{bytes_eq-Decides}
 use Rattle.mes_json.specs.Tree.{Tree, Members}
 use Rattle.mes_json.specs.View.{members_of}
-use Rattle.mes_part.specs.Fields.{values_named}
-
--- a name is among these
-abbrev pub is_in : List ℕ → List (List ℕ) → Bool
-is_in n [] = false
-is_in n (m ∷ ms) = bytes_eq m n || is_in n ms
+use Rattle.mes_part.specs.Fields.{values_named, is_in}
 
 -- no name is in both
 abbrev pub apart : List (List ℕ) → List (List ℕ) → Bool

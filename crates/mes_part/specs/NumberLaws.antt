@@ -36,7 +36,7 @@ pub when_some : {X : Type 0} (b : Bool) (x y : X) → when b x ≡ Some y → (b
 when_some true x y e = (refl, cc)
 when_some false x y e = absurd (cc)
 
-less : (a b : ℕ) → nat_lt a b ≡ true → a < b
+pub less : (a b : ℕ) → nat_lt a b ≡ true → a < b
 less a b e = elim (leb_tells (suc a) b) [
   | inl h ↦ omega (arith, h.1)
   | inr h ↦ let bad = h.0 in absurd (cc)
@@ -54,7 +54,7 @@ at_most_test a b le = elim (leb_tells a b) [
   | inr h ↦ absurd (omega (arith, h.1, le))
 ]
 
-less_test : (a b : ℕ) → a < b → nat_lt a b ≡ true
+pub less_test : (a b : ℕ) → a < b → nat_lt a b ≡ true
 less_test a b lt = elim (leb_tells (suc a) b) [
   | inl h ↦ h.0
   | inr h ↦ absurd (omega (arith, h.1, lt))

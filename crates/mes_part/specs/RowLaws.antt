@@ -6,13 +6,13 @@ use Rattle.mes_json.specs.Tree.Tree.{object}
 use Rattle.mes_json.specs.Tree.Members.{no_members}
 use Rattle.mes_json.specs.View.{members_of}
 use Rattle.mes_part.specs.Paths.{Place}
-use Rattle.mes_part.specs.Fields.{values_named, Has, Lacks, below, lookup}
+use Rattle.mes_part.specs.Fields.{values_named, is_in, Has, Lacks, below, lookup}
 use Rattle.mes_part.specs.Kinds.{Kind, Lawful, Returns, ◌>>=◌}
 use Rattle.mes_part.specs.Leaves.{members_at}
 use Rattle.mes_part.specs.Lists.{list_of}
 use Rattle.mes_part.specs.Rows.{Row, must, required, need, HasSome, likewise, optional, some_member, ReturnsSome, maybe, listed, repeated, list_member, ReturnsEach, many, IsFlag, is_there, flagged, flag_member, flag, no_rows, ◌⨾◌, mapped, row_value, joined, message}
 use Rattle.mes_part.specs.FieldLaws.{bound, after, same_bound, bound_ok, has_looked, lacks_looked, looked_ok}
-use Rattle.mes_part.specs.NameLaws.{is_in, distinct, distinct_both, Agrees, in_front, in_back, in_neither, apart_in, apart_back, named_append, named_this, named_other, not_only, is_only}
+use Rattle.mes_part.specs.NameLaws.{distinct, distinct_both, Agrees, in_front, in_back, in_neither, apart_in, apart_back, named_append, named_this, named_other, not_only, is_only}
 use Rattle.mes_part.specs.KindLaws.{members_are, lawful_list, list_returns}
 use Rattle.mes_part.specs.declared.field.FieldFault.{FieldFault}
 

@@ -1,11 +1,12 @@
 //! What holds of every part, as contracts of generic calls.
 
-ghost use Rattle.std.specs.Prelude.{◌≡◌, ◌+◌, ◌≤◌, List, Ok, length, IfOk, IfErr};
+ghost use Rattle.std.specs.Prelude.{◌≡◌, ℕ, ◌+◌, ◌≤◌, List, Ok, length, IfOk, IfErr};
 ghost use Rattle.mes_json.specs.Tree.{Tree};
 ghost use Rattle.mes_part.specs.Paths.{Place};
 ghost use Rattle.mes_json.specs.View.{view};
 ghost use Rattle.mes_part.specs.Kinds.{Settled, Returns};
 ghost use Rattle.mes_part.specs.Lists.{list_of};
+ghost use Rattle.mes_part.specs.EitherLists.{either_list};
 ghost use Rattle.mes_part.specs.Rows.{ReturnsEach};
 ghost use Rattle.mes_part.specs.Parts.{Gives, IsFirstFault};
 
@@ -33,6 +34,17 @@ pub fn one_list<T: Part>()
 pub fn list_returned<T: Part>()
     ensures { (at : List Place) (values : List T) → ReturnsEach T.kind values
         → (list_of T.kind).read at ((list_of T.kind).tree values) ≡ Ok values }
+{}
+
+/// Any tree at any path is one list of values of the type in either of a list's forms, or has one first fault.
+pub fn one_either_list<T: Part>()
+    ensures { (n : List ℕ) (at : List Place) (t : Tree) → Settled (either_list n T.kind) at t }
+{}
+
+/// A list whose values are read back is read back from the object that it is written as.
+pub fn either_list_returned<T: Part>()
+    ensures { (n : List ℕ) (at : List Place) (values : List T) → ReturnsEach T.kind values
+        → (either_list n T.kind).read at ((either_list n T.kind).tree values) ≡ Ok values }
 {}
 
 /// The value that is read where another is written: the same one. It takes the memory of its tree.

@@ -11,7 +11,7 @@ use crate::path::Path;
 use mes_json::Element;
 
 /// What is wrong at the place of this path.
-pub(crate) fn fault_at(path: &Path, why: FieldWhy) -> FieldFault
+pub fn fault_at(path: &Path, why: FieldWhy) -> FieldFault
     ensures { result ≡ record { path = path.now; why = why } }
 {
     FieldFault {
@@ -21,7 +21,7 @@ pub(crate) fn fault_at(path: &Path, why: FieldWhy) -> FieldFault
 }
 
 /// The text of a string.
-pub(crate) fn text_in<'a>(element: &Element<'a>, path: &Path) -> Result<&'a str, FieldFault>
+pub fn text_in<'a>(element: &Element<'a>, path: &Path) -> Result<&'a str, FieldFault>
     ensures { (t : Tree) → BeginsWith element.now t → Shows (λ s. s.now) (text_of path.now t) result }
 {
     match element.as_text() {

@@ -7,13 +7,14 @@ ghost use Rattle.mes_part.specs.Paths.{Place, IsPlace};
 ghost use Rattle.mes_part.specs.Fields.{values_named, below, single};
 ghost use Rattle.mes_part.specs.Leaves.{texts};
 ghost use Rattle.mes_part.specs.Lists.{list_of};
+ghost use Rattle.mes_part.specs.EitherLists.{either_list};
 ghost use Rattle.mes_part.specs.Rows.{required, optional, repeated, flagged};
 ghost use Rattle.mes_part.specs.Choices.{type_name};
 ghost use Rattle.mes_part.specs.FoundRows.{IsFound, ShowsValue};
 ghost use Rattle.mes_part.specs.Parts.{Gives, Shows};
 
 use crate::field::{FieldFault, FieldWhy};
-use crate::found::Found;
+use crate::found::{Found, find_rows};
 use crate::leaf::{fault_at, text_in};
 use crate::list::List;
 use crate::part::{Part, PartFault};
@@ -134,6 +135,24 @@ pub fn read_list<T: Part>(
         values.push(value)?;
     }
     Ok(List::new(values))
+}
+
+/// The values of a list in either of its forms: an object whose member of that name is the list, or the list itself.
+pub fn read_either_list<T: Part>(
+    alloc: Global,
+    element: &Element<'_>,
+    name: &'static str,
+    path: &Path,
+) -> Result<List<T>, PartFault>
+    requires room { length path.now + 2 + T.STEPS ≤ 16 }
+    requires step { IsPlace (Place.name name.now) }
+    ensures { (t : Tree) → BeginsWith element.now t → Gives ((either_list name.now T.kind).read path.now t) result }
+{
+    if element.items().is_some() {
+        return read_list(alloc, element, path);
+    }
+    let rows = find_rows(element, &[name], path)?;
+    repeated(alloc, rows.at(0), name, path)
 }
 
 /// The one value that was found and isn't null, where there is one.

@@ -1,4 +1,5 @@
 //! What the contracts don't show: the texts that messages are read from and written as.
 
+mod bytes;
 mod read;
 mod written;

@@ -1,6 +1,6 @@
-//! Rows written: the members of an object, each with its value's tree. After want of memory nothing is said of them.
+//! Rows written: the members of an object, each with its value's tree. After want of memory the members are as they were.
 
-ghost use Rattle.std.specs.Prelude.{◌≡◌, [], ◌∷◌, ◌++◌, IfOk, OnOk};
+ghost use Rattle.std.specs.Prelude.{◌≡◌, [], ◌∷◌, ◌++◌, IfOk, IfErr, OnOk};
 ghost use Rattle.mes_json.specs.Tree.Tree.{object, string};
 ghost use Rattle.mes_json.specs.View.{view, members_of};
 ghost use Rattle.mes_part.specs.Lists.{list_of};
@@ -21,6 +21,7 @@ pub fn put<T: Part>(
     value: &T,
 ) -> Result<(), NoMemory>
     ensures members { OnOk result (pairs_view members.new.items ≡ pairs_view members.old.items ++ (need name.now T.kind).members value.now) }
+    ensures unchanged { IfErr result (λ _. pairs_view members.new.items ≡ pairs_view members.old.items) }
     ensures back { OnOk result ((need name.now T.kind).Back value.now) }
 {
     let tree = value.tree(alloc)?;
@@ -35,6 +36,7 @@ pub fn put_some<T: Part>(
     value: &Option<T>,
 ) -> Result<(), NoMemory>
     ensures members { OnOk result (pairs_view members.new.items ≡ pairs_view members.old.items ++ (maybe name.now T.kind).members value.now) }
+    ensures unchanged { IfErr result (λ _. pairs_view members.new.items ≡ pairs_view members.old.items) }
     ensures back { OnOk result ((maybe name.now T.kind).Back value.now) }
 {
     match value {
@@ -51,6 +53,7 @@ pub fn put_many<T: Part>(
     values: &List<T>,
 ) -> Result<(), NoMemory>
     ensures members { OnOk result (pairs_view members.new.items ≡ pairs_view members.old.items ++ (many name.now T.kind).members values.now) }
+    ensures unchanged { IfErr result (λ _. pairs_view members.new.items ≡ pairs_view members.old.items) }
     ensures back { OnOk result ((many name.now T.kind).Back values.now) }
 {
     if values.is_empty() {
@@ -67,7 +70,8 @@ pub fn put_flag(
     name: &'static str,
     set: bool,
 ) -> Result<(), NoMemory>
-    ensures { OnOk result (pairs_view members.new.items ≡ pairs_view members.old.items ++ (flag name.now).members set) }
+    ensures members { OnOk result (pairs_view members.new.items ≡ pairs_view members.old.items ++ (flag name.now).members set) }
+    ensures unchanged { IfErr result (λ _. pairs_view members.new.items ≡ pairs_view members.old.items) }
 {
     if set {
         push_member(members, alloc, name, whole_object(Vec::new(alloc)))
@@ -82,7 +86,8 @@ pub fn put_type(
     alloc: Global,
     kind: &'static str,
 ) -> Result<(), NoMemory>
-    ensures { OnOk result (pairs_view members.new.items ≡ pairs_view members.old.items ++ (type_name, string kind.now) ∷ []) }
+    ensures members { OnOk result (pairs_view members.new.items ≡ pairs_view members.old.items ++ (type_name, string kind.now) ∷ []) }
+    ensures unchanged { IfErr result (λ _. pairs_view members.new.items ≡ pairs_view members.old.items) }
 {
     let kind = Text::new(String::from_str(alloc, kind)?);
     push_member(members, alloc, "type", Json::Text(kind))
@@ -138,7 +143,8 @@ fn push_member(
     name: &'static str,
     tree: Json,
 ) -> Result<(), NoMemory>
-    ensures { OnOk result (pairs_view members.new.items ≡ pairs_view members.old.items ++ (name.now, view tree) ∷ []) }
+    ensures members { OnOk result (pairs_view members.new.items ≡ pairs_view members.old.items ++ (name.now, view tree) ∷ []) }
+    ensures unchanged { IfErr result (λ _. pairs_view members.new.items ≡ pairs_view members.old.items) }
 {
     let name = Text::new(String::from_str(alloc, name)?);
     members.push((name, tree))?;

@@ -12,8 +12,8 @@ use Rattle.mes_msg.specs.Events.{Spells, SpellsNone, IsRecordFault}
 use Rattle.mes_stream.specs.Stream.{saturated, Records, Behind, Live, number_after, Shows, ShowsAt}
 use Rattle.mes_stream.specs.Decoding.{Stands, BadFront, fault_of_record}
 use Rattle.mes_msg.specs.declared.event.Event.{Event}
-use Rattle.mes_msg.specs.declared.event.RecordFault.{RecordFault}
-use Rattle.mes_msg.specs.declared.event.RecordFault.TheVariants as refusal
+use Rattle.mes_msg.specs.declared.record.RecordFault.{RecordFault}
+use Rattle.mes_msg.specs.declared.record.RecordFault.TheVariants as refusal
 use Rattle.mes_stream.specs.declared.fault.Fault.{Fault}
 use Rattle.mes_stream.specs.declared.fault.Fault.TheVariants.{Frame, EndsInsideRecord, Text, Field, NoMemory, Read, ReadsSpent}
 use Rattle.mes_stream.specs.declared.decoder.Decoder.{Decoder}

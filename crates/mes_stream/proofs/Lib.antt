@@ -1,2 +1,2 @@
-mod DecoderLemmas
-mod PlainLemmas
+pub mod DecoderLemmas
+pub mod PlainLemmas

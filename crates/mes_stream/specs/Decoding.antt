@@ -7,8 +7,8 @@ use Rattle.mes_frame.specs.declared.record.RecordState.{RecordState}
 use Rattle.mes_msg.specs.Events.{Spells, IsRecordFault}
 use Rattle.mes_stream.specs.Stream.{saturated, Records, ShowsAt}
 use Rattle.mes_msg.specs.declared.event.Event.{Event}
-use Rattle.mes_msg.specs.declared.event.RecordFault.{RecordFault}
-use Rattle.mes_msg.specs.declared.event.RecordFault.TheVariants as record_fault
+use Rattle.mes_msg.specs.declared.record.RecordFault.{RecordFault}
+use Rattle.mes_msg.specs.declared.record.RecordFault.TheVariants as record_fault
 use Rattle.mes_stream.specs.declared.fault.Fault.{Fault}
 use Rattle.mes_stream.specs.declared.fault.Fault.TheVariants.{Frame, EndsInsideRecord, Text, Field, NoMemory, Read, ReadsSpent}
 use Rattle.mes_stream.specs.declared.decoder.Decoder.{Decoder}

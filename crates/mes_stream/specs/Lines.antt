@@ -1,9 +1,9 @@
 -- The lines that are printed of a stream, without their LF.
 use Rattle.std.specs.Prelude.{ℕ, List, [], ◌∷◌, ◌++◌, codes, decimal}
-use Rattle.std.specs.List.{flat_map}
 use Rattle.mes_frame.specs.declared.fault.FrameFault.TheVariants.{BadChunkLine, ChunkLineTooLong, ChunkTooLarge, BadChunkEnd, TrailersTooLong, BadSizeLine, SizeLineTooLong, RecordTooLarge}
 use Rattle.mes_json.specs.declared.fault.Why.{Why}
 use Rattle.mes_json.specs.declared.fault.Why.TheVariants.{End, Depth, Byte}
+use Rattle.mes_msg.specs.Shown.{spaced}
 use Rattle.mes_stream.specs.declared.fault.Fault.{Fault}
 use Rattle.mes_stream.specs.declared.fault.Fault.TheVariants.{Frame, EndsInsideRecord, Text, Field, NoMemory, Read, ReadsSpent}
 use Rattle.mes_part.specs.Paths.{path_text}
@@ -43,10 +43,6 @@ details (Field at_record path why) =
 details NoMemory = []
 details Read = []
 details ReadsSpent = []
-
--- words behind others, each after a space
-abbrev pub spaced : List (List ℕ) → List ℕ
-spaced words = flat_map (λ word. codes " " ++ word) words
 
 -- `fault F10 EndsInsideRecord after 12`, `fault F12 Field record 1 type Missing after 4`
 abbrev pub fault_text : Fault → ℕ → List ℕ

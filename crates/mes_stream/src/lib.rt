@@ -11,4 +11,4 @@ mod tests;
 pub use decoder::{Decoder, Halt};
 pub use fault::{Fault, REST_MOST, Report, Stop};
 pub use line::{COUNT_LINE_MOST, FAULT_LINE_MOST, count_line, fault_line};
-pub use plain::{READ_MOST, read_plain};
+pub use plain::{READ_MOST, plain_end, read_plain};

@@ -44,7 +44,7 @@ pub fn read_plain<S: Source>(
             }),
         };
         if taken == 0 {
-            return end(&decoder, used);
+            return plain_end(&decoder, used);
         }
         if let Err(halt) = decoder.feed(&buffer[..taken], events) {
             return Err(Stop {
@@ -60,8 +60,8 @@ pub fn read_plain<S: Source>(
     })
 }
 
-// What the end of the reader means to a decoder that has taken the bytes b.
-fn end(decoder: &Decoder, used: u64) -> Result<Report, Stop>
+/// What the end of the reader means to a decoder of which `used` bytes were taken: F10 inside a record.
+pub fn plain_end(decoder: &Decoder, used: u64) -> Result<Report, Stop>
     ensures { (b : List ℕ) (evs : List EventValue) → Stands decoder.now b evs → AtEnd (limit_of decoder.now.state) b evs used result }
 {
     if decoder.between() {

@@ -38,8 +38,8 @@ fn reads_are_counted(rt: HostRuntime) -> Result<(), Fail> {
     assert!(rt; report.rest.is_empty());
     assert_eq!(rt; events.len(), 1);
     match &events[0] {
-        Event::Error { message } => assert_eq!(rt; message.as_str(), "m"),
-        Event::Heartbeat => Err("the event is an error")?,
+        Event::Error(body) => assert_eq!(rt; body.message.as_str(), "m"),
+        _ => Err("the event is an error")?,
     }
     Ok(())
 }

@@ -2,7 +2,8 @@
 use Rattle.std.proofs.Common.{ℕ, List, inl, inr, refl}
 use Rattle.clap.specs.Words.{Text}
 use Rattle.mesosev.specs.NamedOptions.{RefusesWords}
-use Rattle.mesosev.specs.Printing.{Device, Tells, Runs}
+use Rattle.mesosev.specs.Printing.{Device, Tells}
+use Rattle.mesosev.specs.Running.{Runs}
 use Rattle.mesosev.specs.declared.words.WordsFault.{WordsFault}
 use Rattle.mesosev.specs.declared.words.WordsFault.TheVariants.{Clap, BadValue, NoMemory}
 

@@ -1,3 +1,5 @@
 mod CommandLemmas
 mod LimitLemmas
 mod PlainWords
+mod ShowLemmas
+mod ShowReads

@@ -18,7 +18,11 @@ limit_rule = record (new_rule (codes "limit")) {
 abbrev pub check_app : App
 check_app = with_rule (new_app (codes "check")) limit_rule
 
+-- `show [--limit N]`
+abbrev pub show_app : App
+show_app = with_rule (new_app (codes "show")) limit_rule
+
 -- `mesosev SUBCOMMAND`
 abbrev pub command_app : App
 command_app = with_subcommand
-    (on_top (λ s. record s { subcommand_required = true }) (new_app (codes "mesosev"))) check_app.top
+    (with_subcommand (on_top (λ s. record s { subcommand_required = true }) (new_app (codes "mesosev"))) check_app.top) show_app.top

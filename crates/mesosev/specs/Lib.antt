@@ -1,3 +1,5 @@
 pub mod CommandLine
 pub mod NamedOptions
 pub mod Printing
+pub mod Showing
+pub mod Running

@@ -6,7 +6,7 @@ use Rattle.clap.specs.declared.error.Error.{Error}
 use Rattle.clap.specs.declared.error.kind.ErrorKind.TheVariants.{OutOfMemory}
 use Rattle.mesosev.specs.CommandLine.{command_app}
 use Rattle.mesosev.specs.declared.words.Options.{Options}
-use Rattle.mesosev.specs.declared.words.Options.TheVariants.{Check}
+use Rattle.mesosev.specs.declared.words.Options.TheVariants.{Check, Show}
 use Rattle.mesosev.specs.declared.words.WordsFault.{WordsFault}
 use Rattle.mesosev.specs.declared.words.WordsFault.TheVariants.{Clap, BadValue, NoMemory}
 use Rattle.mesosev.specs.declared.words.TheConstants.{LIMIT_DEFAULT, LIMIT_LEAST, LIMIT_MOST}
@@ -23,6 +23,7 @@ HasLimit rows limit = IsSomeAnd (one_of (codes "limit") rows) (λ text. Writes t
 -- the subcommand's name and its matches are those of the options
 abbrev pub IsReadAs : Text × List Row → Options → Type 0
 IsReadAs read (Check limit) = (read.0 ≡ codes "check") × HasLimit read.1 limit
+IsReadAs read (Show limit) = (read.0 ≡ codes "show") × HasLimit read.1 limit
 
 -- the subcommand that the words name, and the values that they give it, are those of the options
 abbrev pub NameOptions : List Text → Options → Type 0
@@ -35,6 +36,7 @@ IsLimit limit = (LIMIT_LEAST ≤ limit) × (limit ≤ LIMIT_MOST)
 -- each value lies in its range
 abbrev pub IsInRange : Options → Type 0
 IsInRange (Check limit) = IsLimit limit
+IsInRange (Show limit) = IsLimit limit
 
 -- the words give a value that is no number of its range, or none
 abbrev pub NameNoOptions : List Text → Type 0
@@ -53,7 +55,7 @@ IsFaultOf error (Clap same) = (same ≡ error) × (kind_of error ≢ OutOfMemory
 IsFaultOf error (BadValue option) = ⊥
 IsFaultOf error NoMemory = kind_of error ≡ OutOfMemory
 
--- the words after `check` that give this limit: none for the default, `--limit N` or `--limit=N`
+-- the words after a subcommand that give this limit: none for the default, `--limit N` or `--limit=N`
 abbrev pub GiveLimit : List Text → ℕ → Type 0
 GiveLimit [] limit = Writes LIMIT_DEFAULT.now limit
 GiveLimit (option ∷ []) limit =
@@ -66,3 +68,4 @@ abbrev pub SayPlainly : List Text → Options → Type 0
 SayPlainly [] o = ⊥
 SayPlainly (program ∷ []) o = ⊥
 SayPlainly (program ∷ name ∷ rest) (Check limit) = (name ≡ codes "check") × GiveLimit rest limit
+SayPlainly (program ∷ name ∷ rest) (Show limit) = (name ≡ codes "show") × GiveLimit rest limit

@@ -1,22 +1,19 @@
 -- What the command does with its input and its outputs.
 use Rattle.std.specs.Prelude.{◌≡◌, ◌≢◌, ℕ, ◌<◌, ◌⊎◌, Option, List, [], ◌∷◌, ◌++◌, length, take, Result, Ok, Err}
 use Rattle.std.specs.Io.KnownBytes.{Appends, Consumes}
-use Rattle.clap.specs.Words.{Text, IsAmong, fault_of, kind_of}
+use Rattle.clap.specs.Words.{kind_of}
 use Rattle.clap.specs.declared.error.Error.{Error}
 use Rattle.clap.specs.declared.error.kind.ErrorKind.TheVariants.{DisplayHelp, DisplayVersion}
 use Rattle.mes_frame.specs.Write.{NoneFails, StopsWrite}
 use Rattle.mes_frame.specs.declared.counts.Counts.{Counts}
-use Rattle.mes_frame.specs.declared.write.WriteFault.{WriteFault}
-use Rattle.mesosev.specs.CommandLine.{command_app}
+use Rattle.mes_frame.specs.declared.write.WriteWhy.{WriteWhy}
 use Rattle.mes_stream.specs.Lines.{fault_text, count_text}
-use Rattle.mesosev.specs.NamedOptions.{IsLimit, NameOptions, NameNoOptions}
 use Rattle.mes_stream.specs.Reading.{EndsPlain}
 use Rattle.mes_msg.specs.declared.event.Event.{Event}
 use Rattle.mes_stream.specs.declared.fault.Fault.TheVariants.{NoMemory}
 use Rattle.mes_stream.specs.declared.fault.Report.{Report}
 use Rattle.mes_stream.specs.declared.fault.Stop.{Stop}
 use Rattle.mesosev.specs.declared.run.TheConstants.{READS_MOST}
-use Rattle.mesosev.specs.declared.words.Options.TheVariants.{Check}
 use Rattle.mesosev.specs.declared.words.WordsFault.{WordsFault}
 use Rattle.mesosev.specs.declared.words.WordsFault.TheVariants.{Clap, BadValue}
 use Rattle.mesosev.specs.declared.words.WordsFault.TheVariants as words_fault
@@ -26,23 +23,28 @@ pub record Device : Type 0 where
   pub bytes : Option (List ℕ)
   pub counts : Counts
 
--- The text went out whole, and the status is the one that was meant. Or the writer failed or took nothing behind a part of
--- the text, and the status is 1.
-abbrev pub Prints : Device → Device → List ℕ → ℕ → ℕ → Type 0
-Prints old new text meant status =
-    (Appends old.bytes new.bytes text × NoneFails old.counts new.counts × (status ≡ meant))
-    ⊎ ((f : WriteFault) × (f.sent < length text) × Appends old.bytes new.bytes (take f.sent text)
-    × StopsWrite f.why old.counts new.counts × (status ≡ 1))
+-- the text went out whole, and no call of the writer failed or took nothing
+abbrev pub GoesOut : Device → Device → List ℕ → Type 0
+GoesOut old new text = Appends old.bytes new.bytes text × NoneFails old.counts new.counts
 
--- the line of a stream that was read: its counts, or its fault
-abbrev pub check_line : List Event → Result Report Stop → List ℕ
-check_line events (Ok report) = count_text (length events) report.used
-check_line events (Err stop) = fault_text stop.fault stop.used
+-- the writer failed or took nothing behind a front of the text, before its end
+abbrev pub IsCutOff : Device → Device → List ℕ → Type 0
+IsCutOff old new text =
+    (sent : ℕ) × (why : WriteWhy) × (sent < length text) × Appends old.bytes new.bytes (take sent text) × StopsWrite why old.counts new.counts
+
+-- The text went out whole, and the status is the one that was meant. Or it was cut off, and the status is 1.
+abbrev pub Prints : Device → Device → List ℕ → ℕ → ℕ → Type 0
+Prints old new text meant status = (GoesOut old new text × (status ≡ meant)) ⊎ (IsCutOff old new text × (status ≡ 1))
+
+-- the line of a stream that was read: the count of its events and bytes, or its fault
+abbrev pub outcome_line : ℕ → Result Report Stop → List ℕ
+outcome_line events (Ok report) = count_text events report.used
+outcome_line events (Err stop) = fault_text stop.fault stop.used
 
 -- the status of a stream that was read: 0 where it was read to its end
-abbrev pub check_status : Result Report Stop → ℕ
-check_status (Ok report) = 0
-check_status (Err stop) = 1
+abbrev pub outcome_status : Result Report Stop → ℕ
+outcome_status (Ok report) = 0
+outcome_status (Err stop) = 1
 
 -- the bytes w were taken from the input, they are records that spell the events up to the outcome, and its line was
 -- printed
@@ -50,7 +52,7 @@ abbrev pub Checks : ℕ → Device → Device → Device → Device → ℕ → 
 Checks limit input rest out printed status =
     (w : List ℕ) × (events : List Event) × (outcome : Result Report Stop) × Consumes input.bytes rest.bytes w
     × EndsPlain limit READS_MOST input.counts rest.counts rest.bytes w events outcome
-    × Prints out printed (check_line events outcome ++ 10 ∷ []) (check_status outcome) status
+    × Prints out printed (outcome_line (length events) outcome ++ 10 ∷ []) (outcome_status outcome) status
 
 -- the line that memory was refused before any byte was used
 abbrev pub LacksMemory : Device → Device → ℕ → Type 0
@@ -65,17 +67,6 @@ abbrev pub TellsError : Error → Device → Device → Device → Device → �
 TellsError error out printed err told status =
     (text : List ℕ) × ((IsMistake error × Prints err told text 2 status × (printed ≡ out))
     ⊎ (¬ (IsMistake error) × Prints out printed text 0 status × (told ≡ err)))
-
--- What became of the words: the input was checked under the limit that they name; or clap's error for them was told; or
--- they name no options, which was told; or memory was refused. What isn't named stays as it was.
-abbrev pub Runs : List Text → Device → Device → Device → Device → Device → Device → ℕ → Type 0
-Runs words input rest out printed err told status =
-    ((limit : ℕ) × (fault_of command_app words ≡ []) × NameOptions words (Check limit) × IsLimit limit
-    × Checks limit input rest out printed status × (told ≡ err))
-    ⊎ ((error : Error) × IsAmong (kind_of error) (fault_of command_app words)
-    × TellsError error out printed err told status × (rest ≡ input))
-    ⊎ ((text : List ℕ) × (fault_of command_app words ≡ []) × NameNoOptions words × Prints err told text 2 status × (printed ≡ out) × (rest ≡ input))
-    ⊎ (LacksMemory out printed status × (told ≡ err) × (rest ≡ input))
 
 -- why the words name no options, told
 abbrev pub Tells : WordsFault → Device → Device → Device → Device → ℕ → Type 0

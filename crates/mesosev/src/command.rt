@@ -3,7 +3,7 @@ ghost use Rattle.std.specs.Prelude.{◌≡◌, false, true, map, IfOk, MatchResu
 ghost use Rattle.clap.specs.Words.{HasKind, app_of, fault_of, rule_of, subcommand_of};
 ghost use Rattle.clap.specs.Words.{subcommand_rows_of};
 ghost use Rattle.clap.specs.declared.builder.command.Command.TheViews.{out-Command};
-ghost use Rattle.mesosev.specs.CommandLine.{limit_rule, check_app, command_app};
+ghost use Rattle.mesosev.specs.CommandLine.{limit_rule, check_app, show_app, command_app};
 
 use crate::words::{LIMIT_DEFAULT, LIMIT_LEAST, LIMIT_MOST};
 use clap::{Arg, ArgMatches, Command, Error};
@@ -33,7 +33,8 @@ fn command<'a>(alloc: Global) -> Result<Command<'a>, AllocError>
     Command::new(alloc, "mesosev")
         .about("Read the event stream of a Mesos scheduler")
         .subcommand_required(true)
-        .subcommand(check_command(alloc)?)
+        .subcommand(check_command(alloc)?)?
+        .subcommand(show_command(alloc)?)
 }
 
 // `check [--limit N]`
@@ -43,6 +44,16 @@ fn check_command<'a>(alloc: Global) -> Result<Command<'a>, AllocError>
 {
     Command::new(alloc, "check")
         .about("Check that each record of standard input is an event")
+        .arg(limit_option(alloc))
+}
+
+// `show [--limit N]`
+fn show_command<'a>(alloc: Global) -> Result<Command<'a>, AllocError>
+    ensures app { IfOk result (λ c. app_of c ≡ show_app) }
+    ensures local { IfOk result (λ c. (out-Command c).has_globals ≡ false) }
+{
+    Command::new(alloc, "show")
+        .about("Print each event of standard input as it comes")
         .arg(limit_option(alloc))
 }
 

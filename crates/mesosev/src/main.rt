@@ -1,9 +1,11 @@
-//! `mesosev` checks the event stream of the Apache Mesos v1 scheduler API.
+//! `mesosev` reads the event stream of the Apache Mesos v1 scheduler API.
 #![tactic(auto)]
 
 mod command;
 mod options;
+mod print;
 mod run;
+mod show;
 #[cfg(test)]
 mod tests;
 mod words;

@@ -35,6 +35,10 @@ pub fn options<S: AsStr>(alloc: Global, words: &[S]) -> Result<Options, WordsFau
             let limit = limit_of(check).ok_or(WordsFault::BadValue("limit"))?;
             Ok(Options::Check { limit })
         }
+        Some(("show", show)) => {
+            let limit = limit_of(show).ok_or(WordsFault::BadValue("limit"))?;
+            Ok(Options::Show { limit })
+        }
         _ => Err(WordsFault::BadValue("COMMAND")),
     }
 }

@@ -1,29 +1,22 @@
 //! The command: its words, its input, and what it prints.
 
-ghost use Rattle.std.specs.Prelude.{◌≡◌, codes, ℕ, ◌≤◌, ◌⊎◌, map, [], ◌∷◌, ◌++◌, length};
-ghost use Rattle.mesosev.specs.NamedOptions.{SayPlainly, IsLimit, IsInRange, RefusesWords};
-ghost use Rattle.mesosev.specs.Printing.{Prints, Checks, LacksMemory, Tells, TellsError, Runs};
-ghost use Rattle.mesosev.specs.declared.words.Options.TheVariants.{Check};
+ghost use Rattle.std.specs.Prelude.{◌≡◌, codes, ◌⊎◌, map};
+ghost use Rattle.mesosev.specs.NamedOptions.{SayPlainly, IsInRange};
+ghost use Rattle.mesosev.specs.Printing.{Checks, LacksMemory, Tells, TellsError};
+ghost use Rattle.mesosev.specs.Running.{Performs, Runs};
+ghost use Rattle.mesosev.specs.declared.words.Options.{Options as OptionsValue};
 
 use crate::options::options;
+use crate::print::{GOOD, print_fault, print_outcome, put};
+use crate::show::show;
 use crate::words::{LIMIT_DEFAULT, LIMIT_LEAST, LIMIT_MOST, Options, WordsFault};
-use arrayvec::ArrayString;
-use mes_frame::{Limit, Sink, Source, write_all};
-use mes_stream::{FAULT_LINE_MOST, Fault, READ_MOST, count_line, fault_line, read_plain};
+use mes_frame::{Limit, Sink, Source};
+use mes_stream::{Fault, READ_MOST, read_plain};
 use std::alloc::{AllocGlobal, Global};
 use std::convert::AsStr;
 
-/// The status of a good run.
-const GOOD: u8 = 0;
-
-/// The status where a fault was told, or an output failed.
-const FAULT: u8 = 1;
-
 /// The status of bad words.
 const BAD_WORDS: u8 = 2;
-
-/// The room for a line and its LF, in bytes.
-const LINE_MOST: usize = 641;
 
 /// The most reads of standard input.
 pub const READS_MOST: u64 = 4_294_967_296;
@@ -43,9 +36,9 @@ pub fn run<R: AllocGlobal, W: AsStr, I: Source, O: Sink, E: Sink>(
         (record { bytes = E.written err.old; counts = E.counts err.old }) (record { bytes = E.written err.new; counts = E.counts err.new })
         result }
 
-    // Words that name `check` with a limit plainly: the input is checked under that limit, unless memory was refused.
-    ensures plain { (limit : ℕ) → SayPlainly (map W.text words.now) (Check limit) → IsLimit limit
-        → Checks limit
+    // Words that name options plainly: they are performed, unless memory was refused.
+    ensures plain { (said : OptionsValue) → SayPlainly (map W.text words.now) said → IsInRange said
+        → Performs said
         (record { bytes = I.left input.old; counts = I.counts input.old }) (record { bytes = I.left input.new; counts = I.counts input.new })
         (record { bytes = O.written out.old; counts = O.counts out.old }) (record { bytes = O.written out.new; counts = O.counts out.new })
         result
@@ -64,13 +57,14 @@ pub fn run<R: AllocGlobal, W: AsStr, I: Source, O: Sink, E: Sink>(
 
 // Does what the words name.
 fn perform<I: Source, O: Sink>(alloc: Global, options: &Options, input: &mut I, out: &mut O) -> u8
-    ensures { (limit : ℕ) → options.now ≡ Check limit → Checks limit
+    ensures { Performs options.now
         (record { bytes = I.left input.old; counts = I.counts input.old }) (record { bytes = I.left input.new; counts = I.counts input.new })
         (record { bytes = O.written out.old; counts = O.counts out.old }) (record { bytes = O.written out.new; counts = O.counts out.new })
         result }
 {
     match options {
         Options::Check { limit } => check(alloc, *limit, input, out),
+        Options::Show { limit } => show(alloc, *limit, input, out),
     }
 }
 
@@ -82,41 +76,8 @@ fn check<I: Source, O: Sink>(alloc: Global, limit: Limit, input: &mut I, out: &m
         result }
 {
     let mut events = Vec::new(alloc);
-    match read_plain(alloc, input, limit, READS_MOST, &mut events) {
-        Ok(report) => {
-            let mut line = ArrayString::new();
-            count_line(events.len() as u64, report.used, &mut line);
-            print(out, line.as_str(), GOOD)
-        }
-        Err(stop) => {
-            let mut line = ArrayString::new();
-            fault_line(&stop.fault, stop.used, &mut line);
-            print(out, line.as_str(), FAULT)
-        }
-    }
-}
-
-/// Prints a line, and answers the status, or 1 where the writer failed.
-fn print<O: Sink>(out: &mut O, line: &str, status: u8) -> u8
-    requires { length line.now ≤ FAULT_LINE_MOST }
-    ensures { Prints (record { bytes = O.written out.old; counts = O.counts out.old }) (record { bytes = O.written out.new; counts = O.counts out.new })
-        (line.now ++ 10 ∷ []) status result }
-{
-    let mut text = ArrayString::<LINE_MOST>::new();
-    text.push_str(line);
-    text.push_str("\n");
-    put(out, text.as_str(), status)
-}
-
-/// Writes a text, and answers the status, or 1 where the writer failed.
-fn put<O: Sink>(out: &mut O, text: &str, status: u8) -> u8
-    ensures { Prints (record { bytes = O.written out.old; counts = O.counts out.old }) (record { bytes = O.written out.new; counts = O.counts out.new })
-        text.now status result }
-{
-    match write_all(out, text.as_bytes()) {
-        Ok(()) => status,
-        Err(_) => FAULT,
-    }
+    let outcome = read_plain(alloc, input, limit, READS_MOST, &mut events);
+    print_outcome(out, events.len() as u64, &outcome)
 }
 
 /// Tells why the words name no options.
@@ -159,7 +120,5 @@ fn tell_error<O: Sink, E: Sink>(alloc: Global, error: &clap::Error, out: &mut O,
 fn out_of_memory<O: Sink>(out: &mut O) -> u8
     ensures { LacksMemory (record { bytes = O.written out.old; counts = O.counts out.old }) (record { bytes = O.written out.new; counts = O.counts out.new }) result }
 {
-    let mut line = ArrayString::new();
-    fault_line(&Fault::NoMemory, 0, &mut line);
-    print(out, line.as_str(), FAULT)
+    print_fault(out, &Fault::NoMemory, 0)
 }

@@ -1,15 +1,18 @@
 //! The words of the command, as a user writes them.
 
 mod run;
+mod show;
 
 use crate::options::options;
 use crate::words::{Options, WordsFault};
 use std::test::Fail;
 
-// The limit of `check`, where the words name it.
-fn limit_of(rt: &HostRuntime, words: &[&str]) -> Result<u32, WordsFault> {
-    let Options::Check { limit } = options(rt.alloc(), words)?;
-    Ok(limit.get())
+// Whether the words name `show`, and not `check`, and the limit that they give.
+fn limit_of(rt: &HostRuntime, words: &[&str]) -> Result<(bool, u32), WordsFault> {
+    match options(rt.alloc(), words)? {
+        Options::Check { limit } => Ok((false, limit.get())),
+        Options::Show { limit } => Ok((true, limit.get())),
+    }
 }
 
 // What clap says of the words: whether it is a mistake, the exit code, and the text.
@@ -24,14 +27,22 @@ fn told(rt: &HostRuntime, words: &[&str]) -> Result<(bool, i32, String), Fail> {
 }
 
 #[test]
-fn check_has_its_limit(rt: HostRuntime) -> Result<(), Fail> {
-    assert_eq!(rt; limit_of(&rt, &["mesosev", "check"])?, 4_194_304);
-    assert_eq!(rt; limit_of(&rt, &["mesosev", "check", "--limit", "1"])?, 1);
-    assert_eq!(rt;
-        limit_of(&rt, &["mesosev", "check", "--limit", "16777216"])?,
-        16_777_216
-    );
-    assert_eq!(rt; limit_of(&rt, &["mesosev", "check", "--limit=20"])?, 20);
+fn subcommands_have_their_limits(rt: HostRuntime) -> Result<(), Fail> {
+    for (name, shows) in [("check", false), ("show", true)] {
+        assert_eq!(rt; limit_of(&rt, &["mesosev", name])?, (shows, 4_194_304));
+        assert_eq!(rt;
+            limit_of(&rt, &["mesosev", name, "--limit", "1"])?,
+            (shows, 1)
+        );
+        assert_eq!(rt;
+            limit_of(&rt, &["mesosev", name, "--limit", "16777216"])?,
+            (shows, 16_777_216)
+        );
+        assert_eq!(rt;
+            limit_of(&rt, &["mesosev", name, "--limit=20"])?,
+            (shows, 20)
+        );
+    }
     Ok(())
 }
 

@@ -22,6 +22,11 @@ pub enum Options {
         /// The most bytes of a record.
         limit: Limit,
     },
+    /// `show [--limit N]`: the events are printed as they come.
+    Show {
+        /// The most bytes of a record.
+        limit: Limit,
+    },
 }
 
 /// Why words name no options.

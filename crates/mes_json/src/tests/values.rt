@@ -1,6 +1,6 @@
 //! Values copied, measured, compared and written: texts by the grammar of RFC 8259.
 
-use crate::{Json, NumText, Text, write_text};
+use crate::{Json, NumText, Text, text_length, write_str, write_text};
 use std::alloc::Global;
 use std::test::Fail;
 
@@ -125,7 +125,8 @@ fn writes_behind_what_is_there(rt: HostRuntime) -> Result<(), Fail> {
     out.extend_from_slice(b"x ")?;
     write_text(&nested(rt.alloc(), 2)?, &mut out)?;
     write_text(&Json::Null, &mut out)?;
-    assert!(rt; out.as_slice() == b"x [[]]null".as_slice());
+    write_str("a\n\"", &mut out)?;
+    assert!(rt; out.as_slice() == br#"x [[]]null"a\n\"""#.as_slice());
     Ok(())
 }
 
@@ -159,6 +160,48 @@ fn escapes_what_has_to_be(rt: HostRuntime) -> Result<(), Fail> {
         let out = written(alloc, &object)?;
         assert_eq!(rt; out.len(), expected.len() + 7);
         assert_eq!(rt; &out[1..expected.len() + 1], expected);
+    }
+    Ok(())
+}
+
+/// Whether the text is so long: told at that limit and at the highest, refused at each limit below.
+fn is_long(json: &Json, length: usize) -> bool {
+    for most in 0..length {
+        if text_length(json, most).is_some() {
+            return false;
+        }
+    }
+    text_length(json, length) == Some(length) && text_length(json, usize::MAX) == Some(length)
+}
+
+#[test]
+fn counts_each_kind(rt: HostRuntime) -> Result<(), Fail> {
+    let alloc = rt.alloc();
+    assert!(rt; is_long(&Json::Null, 4));
+    assert!(rt; is_long(&Json::Bool(false), 5));
+    assert!(rt; is_long(&Json::Bool(true), 4));
+    assert!(rt; is_long(&number(alloc, "-1.50E+2")?, 8));
+    assert!(rt; is_long(&string(alloc, "")?, 2));
+    assert!(rt; is_long(&Json::List(Vec::new(alloc)), 2));
+    assert!(rt; is_long(&Json::Map(Vec::new(alloc)), 2));
+    assert!(rt; is_long(&list(alloc, Json::Null)?, 6));
+    assert!(rt; is_long(&pair(alloc, Json::Null, Json::Bool(false))?, 12));
+    assert!(rt; is_long(&map(alloc, "a", Json::Null)?, 10));
+    assert!(rt; is_long(&names(alloc, "a", "bc")?, 20));
+    assert!(rt; is_long(&nested(alloc, 64)?, 128));
+    // {"list":[null,true,7,"a\n"],"b":[false],"b":{}}
+    let json = sample(alloc, "7", "b", list(alloc, Json::Bool(false))?)?;
+    assert!(rt; is_long(&json, 47));
+    Ok(())
+}
+
+#[test]
+fn counts_what_is_escaped(rt: HostRuntime) -> Result<(), Fail> {
+    let alloc = rt.alloc();
+    for (characters, expected) in ESCAPES {
+        assert!(rt; is_long(&string(alloc, characters)?, expected.len()));
+        let object = map(alloc, characters, Json::Null)?;
+        assert!(rt; is_long(&object, expected.len() + 7));
     }
     Ok(())
 }

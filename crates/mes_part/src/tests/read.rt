@@ -1,6 +1,9 @@
 //! Labels read from JSON texts, by the table of labels: the value, or the path and the reason of the first fault.
 
-use crate::{FieldFault, FieldWhy, Labels, PATH_TEXT_MOST, Part, PartFault, Path, written_again};
+use crate::{
+    FieldFault, FieldWhy, Label, Labels, List, PATH_TEXT_MOST, Part, PartFault, Path, list_tree,
+    read_either_list, written_again,
+};
 use arrayvec::ArrayString;
 use mes_json::{read_tape, read_text, write_text};
 use std::alloc::Global;
@@ -61,14 +64,54 @@ const LABELS: [(&str, &str); 4] = [
     ),
 ];
 
+/// Texts that are no list of labels in either form.
+const EITHER_FAULTS: [(&str, &str, FieldWhy); 7] = [
+    ("null", ".", FieldWhy::WrongKind),
+    ("7", ".", FieldWhy::WrongKind),
+    ("\"labels\"", ".", FieldWhy::WrongKind),
+    (
+        "[{\"key\":\"a\"},{\"key\":1}]",
+        "[1].key",
+        FieldWhy::WrongKind,
+    ),
+    (
+        "{\"labels\":{\"key\":\"a\"}}",
+        "labels",
+        FieldWhy::WrongKind,
+    ),
+    ("{\"labels\":[7]}", "labels[0]", FieldWhy::WrongKind),
+    ("{\"labels\":[],\"labels\":[]}", "labels", FieldWhy::Twice),
+];
+
+/// Texts of a list of labels in either form, and what the list is written as.
+const EITHER: [(&str, &str); 5] = [
+    ("[]", "[]"),
+    ("{}", "[]"),
+    ("{\"labels\":null,\"key\":7}", "[]"),
+    (
+        "[{\"key\":\"a\"},{\"key\":\"b\"}]",
+        "[{\"key\":\"a\"},{\"key\":\"b\"}]",
+    ),
+    (
+        "{\"labels\":[{\"key\":\"a\"},{\"key\":\"b\"}]}",
+        "[{\"key\":\"a\"},{\"key\":\"b\"}]",
+    ),
+];
+
 /// The labels of a text, read from its tape.
 fn read(alloc: Global, text: &str) -> Result<Result<Labels, PartFault>, Fail> {
     let tape = read_tape(alloc, text.as_bytes())?;
     Ok(Labels::read_from(alloc, &tape.root(), &Path::new()))
 }
 
+/// The list of labels of a text, in either form.
+fn read_either(alloc: Global, text: &str) -> Result<Result<List<Label>, PartFault>, Fail> {
+    let tape = read_tape(alloc, text.as_bytes())?;
+    Ok(read_either_list(alloc, &tape.root(), "labels", &Path::new()))
+}
+
 /// The fault of an answer that tells one.
-fn fault_of(answer: Result<Labels, PartFault>) -> Option<FieldFault> {
+fn fault_of<T: Drop>(answer: Result<T, PartFault>) -> Option<FieldFault> {
     match answer.err()? {
         PartFault::Field(fault) => Some(fault),
         PartFault::NoMemory => None,
@@ -106,6 +149,22 @@ fn labels_are_read(rt: HostRuntime) -> Result<(), Fail> {
         let mut out = Vec::new(rt.alloc());
         write_text(&again.tree(rt.alloc())?, &mut out)?;
         assert_eq!(rt; out.as_slice(), expected.as_bytes());
+    }
+    Ok(())
+}
+
+#[test]
+fn lists_are_read_in_either_form(rt: HostRuntime) -> Result<(), Fail> {
+    for (text, expected) in EITHER {
+        let Ok(labels) = read_either(rt.alloc(), text)? else {
+            return Err("they are labels")?;
+        };
+        let mut out = Vec::new(rt.alloc());
+        write_text(&list_tree(rt.alloc(), &labels)?, &mut out)?;
+        assert_eq!(rt; out.as_slice(), expected.as_bytes());
+    }
+    for (text, path, why) in EITHER_FAULTS {
+        expect_fault(&rt, fault_of(read_either(rt.alloc(), text)?), path, why);
     }
     Ok(())
 }

@@ -58,6 +58,8 @@ fn events_are_counted(rt: HostRuntime) -> Result<(), Fail> {
             "40\n{\"type\":\"ERROR\",\"error\":{\"message\":\"m\"}}",
             "events 1 bytes 43",
         ),
+        // An event whose body is dropped.
+        ("25\n{\"type\":\"INVERSE_OFFERS\"}", "events 1 bytes 28"),
         // Members of other names are ignored, also where they stand twice.
         (
             "35\n{\"x\":\"a\",\"type\":\"HEARTBEAT\",\"x\":{}}",
@@ -122,7 +124,7 @@ fn faults_are_told(rt: HostRuntime) -> Result<(), Fail> {
         ),
         (
             "18\n{\"type\":\"RESCIND\"}",
-            "fault F12 Field record 1 type LeftOut after 21",
+            "fault F12 Field record 1 rescind Missing after 21",
         ),
         (
             "39\n{\"type\":\"HEARTBEAT\",\"type\":\"HEARTBEAT\"}",

@@ -11,8 +11,8 @@ pub returns-then-taken-eq0 : goal.returns-then-taken-eq0
 returns-then-taken-eq0 g c =
     let r = c.reads.invariant.1 in
     reads_end (g.S.Source.left c.args.reader.now) (g.S.Source.left c.reads.reader) (g.S.Source.left c.fetch.new.self) (g.S.Source.counts c.args.reader.now) (g.S.Source.counts c.reads.reader) (g.S.Source.counts c.fetch.new.self) c.args.events.now.items c.reads.events.items c.reads.decoder c.args.limit
-    c.reads.counter c.args.max_reads c.reads.used (length c.reads.buffer) c.end.result r c.reads-test.true (omega (arith, c.reads.invariant.0))
-    (rw c.if-taken-eq0.true at c.in-Ok.ensures.bytes.0) (c.in-Ok.ensures.bytes.1 c.if-taken-eq0.true (omega (arith, c.fetch.auto.buffer, c.reads.invariant.0))) (rw c.if-taken-eq0.true at c.in-Ok.ensures.counted) (c.end.ensures r.w r.more r.stands)
+    c.reads.counter c.args.max_reads c.reads.used (length c.reads.buffer) c.plain_end.result r c.reads-test.true (omega (arith, c.reads.invariant.0))
+    (rw c.if-taken-eq0.true at c.in-Ok.ensures.bytes.0) (c.in-Ok.ensures.bytes.1 c.if-taken-eq0.true (omega (arith, c.fetch.auto.buffer, c.reads.invariant.0))) (rw c.if-taken-eq0.true at c.in-Ok.ensures.counted) (c.plain_end.ensures r.w r.more r.stands)
 
 pub returns-in-Err-feed : goal.returns-in-Err-feed
 returns-in-Err-feed g c =

@@ -1,5 +1,5 @@
 use Rattle.std.proofs.Common.{map, rules, Ok, Err}
-use Rattle.mesosev.specs.declared.words.Options.TheVariants.{Check}
+use Rattle.mesosev.specs.declared.words.Options.TheVariants.{Check, Show}
 use Rattle.mesosev.specs.declared.words.WordsFault.TheVariants.{BadValue}
 use Rattle.mesosev.proofs.PlainWords.{plain_answer}
 use Rattle.mesosev.proofs.options.options.Goals as goal
@@ -16,6 +16,15 @@ returns-in_err-limit-in-Some-check-default-clause-plain g c =
 pub returns-in-Some-check-default-clause-plain : goal.returns-in-Some-check-default-clause-plain
 returns-in-Some-check-default-clause-plain g c =
     plain_answer (map g.S.AsStr.text c.args.words.now) (Ok (Check c.in_ok-limit-in-Some-check-default.limit)) (search rules) (search rules)
+
+pub returns-in_err-limit-in-Some-show-default-clause-plain :
+    goal.returns-in_err-limit-in-Some-show-default-clause-plain
+returns-in_err-limit-in-Some-show-default-clause-plain g c =
+    plain_answer (map g.S.AsStr.text c.args.words.now) c.from_residual-in_err-limit-in-Some-show-default.result (search rules) (search rules)
+
+pub returns-in-Some-show-default-clause-plain : goal.returns-in-Some-show-default-clause-plain
+returns-in-Some-show-default-clause-plain g c =
+    plain_answer (map g.S.AsStr.text c.args.words.now) (Ok (Show c.in_ok-limit-in-Some-show-default.limit)) (search rules) (search rules)
 
 pub returns-clause-plain : goal.returns-clause-plain
 returns-clause-plain g c =

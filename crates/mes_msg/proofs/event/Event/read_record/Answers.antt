@@ -1,18 +1,32 @@
+use Rattle.std.proofs.Common.{◌∙◌}
 use Rattle.std.proofs.lemmas.Result.{err_from_is_err_and}
-use Rattle.mes_json.specs.View.{view}
-use Rattle.mes_msg.proofs.EventLemmas.{one_event, read_only}
+use Rattle.mes_msg.specs.Events.{lawful_event}
+use Rattle.mes_msg.proofs.RecordLemmas.{begins, read_only, read_same, refused}
 use Rattle.mes_msg.proofs.event.Event.read_record.Goals as goal
 
-pub returns-in_err-json-clause-only : goal.returns-in_err-json-clause-only
-returns-in_err-json-clause-only c = λ event spells.
+pub returns-in_err-tape-clause-only : goal.returns-in_err-tape-clause-only
+returns-in_err-tape-clause-only c = λ ev spells.
     let p = err_from_is_err_and c.from_residual.result c.from_residual.ensures.1 in
-    rw (p.1, p.2, c.in_err-json.ensures.only spells.0 spells.1)
+    rw (p.1, p.2, c.in_err-tape.ensures.only spells.0 spells.1)
 
-pub returns-in_err-of_tree-clause-only : goal.returns-in_err-of_tree-clause-only
-returns-in_err-of_tree-clause-only c = λ event spells.
-    let p = err_from_is_err_and c.from_residual-in_err-of_tree.result c.from_residual-in_err-of_tree.ensures.1 in
-    rw (p.1, p.2) (read_only (view c.in_ok-json.json) event _ (rw (c.in_ok-json.ensures.only spells.0 spells.1) spells.2) c.in_err-of_tree.ensures.err)
+pub returns-in_err-read_from-clause-only : goal.returns-in_err-read_from-clause-only
+returns-in_err-read_from-clause-only c = λ ev spells.
+    let p = err_from_is_err_and c.from_residual-in_err-read_from.result c.from_residual-in_err-read_from.ensures.1 in
+    let begin = begins _ spells.0 (c.root.ensures ∙ c.in_ok-tape.ensures.only spells.0 spells.1) in
+    rw (p.1, p.2) (read_only _ spells.0 ev _ spells.2 (c.in_err-read_from.ensures spells.0 begin))
+
+pub returns-in_err-read_from-clause-err : goal.returns-in_err-read_from-clause-err
+returns-in_err-read_from-clause-err c =
+    let p = err_from_is_err_and c.from_residual-in_err-read_from.result c.from_residual-in_err-read_from.ensures.1 in
+    let spelt = c.in_ok-tape.ensures.read in
+    rw (p.1, p.2) (refused c.args.bytes.now _ spelt.0 _ c.new.ensures spelt.1 (c.in_err-read_from.ensures spelt.0 (begins _ spelt.0 (c.root.ensures ∙ spelt.2))))
+
+pub returns-clause-ok : goal.returns-clause-ok
+returns-clause-ok c =
+    let spelt = c.in_ok-tape.ensures.read in
+    (spelt.0, spelt.1, lawful_event.sound _ spelt.0 _ (c.in_ok-read_from.ensures spelt.0 (begins _ spelt.0 (c.root.ensures ∙ spelt.2))))
 
 pub returns-clause-only : goal.returns-clause-only
-returns-clause-only c = λ event spells.
-    one_event (view c.in_ok-json.json) _ _ c.in_ok-of_tree.ensures.ok (rw (c.in_ok-json.ensures.only spells.0 spells.1) spells.2)
+returns-clause-only c = λ ev spells.
+    let begin = begins _ spells.0 (c.root.ensures ∙ c.in_ok-tape.ensures.only spells.0 spells.1) in
+    read_same _ spells.0 ev _ spells.2 (c.in_ok-read_from.ensures spells.0 begin)

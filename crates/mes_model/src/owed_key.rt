@@ -1,0 +1,40 @@
+//! What names an acknowledgement that is owed.
+
+ghost use Rattle.std.specs.Prelude.{◌≡◌, IsTrue, ◌↔◌, IfOk};
+
+use crate::id::Id;
+use mes_json::NoMemory;
+use mes_part::{Bytes, Part};
+use std::alloc::Global;
+
+/// What names an acknowledgement that is owed for an update of a task's status.
+#[derive(Debug, Drop)]
+pub struct OwedKey {
+    /// The task's agent.
+    pub agent: Id,
+    /// The task.
+    pub task: Id,
+    /// The uuid of the update.
+    pub uuid: Bytes,
+}
+
+impl OwedKey {
+    /// The same key, in memory of its own.
+    pub fn copy(&self, alloc: Global) -> Result<OwedKey, NoMemory>
+        ensures { IfOk result (λ key. key ≡ self.now) }
+    {
+        let agent = self.agent.copy(alloc)?;
+        let task = self.task.copy(alloc)?;
+        let uuid = self.uuid.copy(alloc)?;
+        Ok(OwedKey { agent, task, uuid })
+    }
+
+    /// Whether the other key is the same. Takes no memory.
+    pub fn same(&self, other: &OwedKey) -> bool
+        ensures { IsTrue result ↔ self.now ≡ other.now }
+    {
+        self.agent.value == other.agent.value
+            && self.task.value == other.task.value
+            && self.uuid.as_slice() == other.uuid.as_slice()
+    }
+}

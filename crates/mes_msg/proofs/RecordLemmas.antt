@@ -1,0 +1,42 @@
+-- The event of a JSON text.
+use Rattle.std.proofs.Common.{◌≡◌, ℕ, List, [], ◌∷◌, ◌++◌, refl, sym, ◌∙◌, append-nil, subst}
+use Rattle.std.specs.Prelude.{Result, Ok, Err}
+use Rattle.std.specs.Result.{IsErrAnd}
+use Rattle.mes_json.specs.Tree.{Tree}
+use Rattle.mes_json.specs.Grammar.{IsText}
+use Rattle.mes_json.specs.Tokens.{Token, tokens, BeginsWith}
+use Rattle.mes_json.specs.declared.limits.TheConstants.{NESTING_LIMIT}
+use Rattle.mes_part.specs.FieldLaws.{bound_ok}
+use Rattle.mes_part.specs.Parts.{Gives}
+use Rattle.mes_part.specs.Paths.{Place}
+use Rattle.mes_part.specs.declared.field.FieldFault.{FieldFault}
+use Rattle.mes_part.specs.declared.part.PartFault.{PartFault}
+use Rattle.mes_part.specs.declared.part.PartFault.TheVariants as part
+use Rattle.mes_part.proofs.RowLemmas.{gives_bound}
+use Rattle.mes_msg.specs.Events.{event, lawful_event, IsRecordFault}
+use Rattle.mes_msg.specs.RecordFaults.{of_part}
+use Rattle.mes_msg.specs.declared.event.Event.{Event}
+use Rattle.mes_msg.specs.declared.record.RecordFault.TheVariants.{NoMemory}
+
+-- a fault that is handed on
+pub gives_same : {V : Type 0} (read : Result V FieldFault) (e : PartFault) (r : Result V PartFault) → IsErrAnd r (λ x. x ≡ e) → Gives {V = V} read (Err e) → Gives read r
+gives_same {V} read e r is fails =
+    subst (λ (x : Result V FieldFault). Gives x r) (bound_ok read) (gives_bound read (λ x. Ok x) e r is fails)
+
+-- a tape begins with the tree that it is of
+pub begins : (xs : List Token) (t : Tree) → xs ≡ tokens t → BeginsWith xs t
+begins xs t is = ([], is ∙ sym (append-nil (tokens t)))
+
+-- what is read of an event's tree is that event, or there was no memory
+pub read_only : (at : List Place) (t : Tree) (ev : Event) (fault : PartFault) → event.Reads t ev → Gives {V = Event} (event.read at t) (Err fault) → of_part fault ≡ NoMemory
+read_only at t ev (part.Field f) reads gives = let e = lawful_event.complete at t ev reads in absurd (cc)
+read_only at t ev part.NoMemory reads gives = refl
+
+pub read_same : (at : List Place) (t : Tree) (ev got : Event) → event.Reads t ev → event.read at t ≡ Ok got → got ≡ ev
+read_same at t ev got reads gives = let e = lawful_event.complete at t ev reads in cc
+
+-- why the text of a tree spells no event
+pub refused : (b : List ℕ) (at : List Place) (t : Tree) (fault : PartFault) → at ≡ [] → IsText NESTING_LIMIT b t → Gives {V = Event} (event.read at t) (Err fault)
+    → IsRecordFault b (of_part fault)
+refused b at t (part.Field f) root is gives = (t, is, subst (λ (p : List Place). event.read p t ≡ Err f) root gives)
+refused b at t part.NoMemory root is gives = tt

@@ -1,0 +1,28 @@
+use Rattle.std.proofs.Common.{ap, refl}
+use Rattle.std.specs.Prelude.{codes}
+use Rattle.mes_part.specs.Leaves.{members_at}
+use Rattle.mes_part.specs.Rows.{required}
+use Rattle.mes_part.proofs.PartLemmas.{gives_fault}
+use Rattle.mes_part.proofs.RowLemmas.{found_as, gives_bound}
+use Rattle.mes_model.specs.Ids.{id}
+use Rattle.mes_msg.specs.Bodies.{rescind}
+use Rattle.mes_msg.proofs.bodies.RescindPart.read_from.Goals as goal
+
+pub returns-in_err-rows : goal.returns-in_err-rows
+unfolding rescind
+returns-in_err-rows c = λ t b. gives_fault _ c.from_residual.result _ c.from_residual.ensures.1 (rw (c.in_err-rows.ensures t b) refl)
+
+pub returns-in_err-offer_id : goal.returns-in_err-offer_id
+unfolding rescind
+returns-in_err-offer_id c = λ t b.
+    let rows = c.in_ok-rows.ensures t b in
+    rw (ap (members_at c.args.path.now) rows.1)
+    (gives_bound (required (codes "offer_id") id c.args.path.now rows.0) _ _ c.from_residual-in_err-offer_id.result c.from_residual-in_err-offer_id.ensures.1
+    (c.in_err-offer_id.ensures rows.0 (found_as _ _ _ c.at.ensures rows.2.0)))
+
+pub returns : goal.returns
+unfolding rescind
+returns c = λ t b.
+    let rows = c.in_ok-rows.ensures t b in
+    rw (ap (members_at c.args.path.now) rows.1, c.in_ok-offer_id.ensures rows.0 (found_as _ _ _ c.at.ensures rows.2.0))
+    refl

@@ -1,0 +1,60 @@
+//! The canonical text of an event.
+ghost use Rattle.std.specs.Prelude.{◌≡◌, IfOk, IfErr, MatchResult};
+ghost use Rattle.mes_msg.specs.Events.{Spells};
+ghost use Rattle.mes_msg.specs.Canon.{canonical_text, IsGood, IsEncodeFault};
+
+use crate::event::Event;
+use mes_frame::Limit;
+use mes_json::{NESTING_LIMIT, NoMemory, text_length, write_text};
+use mes_part::Part;
+use std::alloc::Global;
+
+/// Why an event has no canonical text that a record can hold.
+#[derive(Debug, Drop)]
+pub enum EncodeFault {
+    /// Its objects and arrays nest deeper than `NESTING_LIMIT`.
+    TooDeep,
+    /// It nests no deeper, but has more bytes than the limit.
+    TooLarge,
+    /// A growth was refused memory.
+    NoMemory,
+}
+
+impl From<NoMemory> for EncodeFault {
+    ghost use Rattle.std.specs.Prelude.{◌≡◌};
+    ghost use Rattle.mes_msg.specs.declared.canon.EncodeFault.TheVariants.{NoMemory as no_memory};
+
+    ghost from_gives = { λ _ e. e ≡ no_memory };
+
+    fn from(_refused: NoMemory) -> EncodeFault {
+        EncodeFault::NoMemory
+    }
+}
+
+impl Event {
+    /// The event's canonical text: no white space, members in the order of the tables, none that is absent, unset or empty. It
+    /// nests at most `NESTING_LIMIT` deep and has at most `limit` bytes.
+    pub fn canon(&self, alloc: Global, limit: Limit) -> Result<Vec<u8>, EncodeFault>
+        // Ok: this text, which a record of the limit can hold, and in which the event is read again.
+        ensures text { IfOk result (λ text. text.items ≡ canonical_text self.now) }
+        ensures good { IfOk result (λ _. IsGood self.now limit) }
+        ensures spells { IfOk result (λ text. Spells text.items self.now) }
+        ensures only { IsGood self.now limit → MatchResult result (λ text. text.items ≡ canonical_text self.now) (λ e. e ≡ EncodeFault.NoMemory) }
+
+        // Err: too deep, or else too large.
+        ensures err { IfErr result (IsEncodeFault self.now limit) }
+    {
+        let tree = self.tree(alloc)?;
+        if tree.depth() > NESTING_LIMIT as u64 {
+            return Err(EncodeFault::TooDeep);
+        }
+        let Some(length) = text_length(&tree, limit.get() as usize) else {
+            return Err(EncodeFault::TooLarge);
+        };
+        let Ok(mut text) = Vec::with_capacity(alloc, length) else {
+            return Err(EncodeFault::NoMemory);
+        };
+        write_text(&tree, &mut text)?;
+        Ok(text)
+    }
+}
