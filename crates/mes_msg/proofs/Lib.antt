@@ -1,3 +1,3 @@
 mod WordLemmas
 mod NameLemmas
-mod RecordLemmas
+pub mod RecordLemmas

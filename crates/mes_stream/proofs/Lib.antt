@@ -1,2 +1,7 @@
-pub mod DecoderLemmas
+mod BodyLemmas
+mod ChunkLemmas
+mod DecoderLemmas
+mod Grows
+mod PlainLaw
 pub mod PlainLemmas
+mod StreamLaw

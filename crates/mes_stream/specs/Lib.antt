@@ -1,4 +1,10 @@
+pub mod Chunked
+pub mod Decoders
 pub mod Decoding
+pub mod EventData
 pub mod Lines
+pub mod PlainReading
 pub mod Reading
 pub mod Stream
+pub mod StreamReading
+pub mod Taking

@@ -5,7 +5,7 @@ use Rattle.mes_json.specs.declared.fault.Why.{Why}
 use Rattle.mes_json.specs.declared.fault.Why.TheVariants.{End, Depth, Byte}
 use Rattle.mes_msg.specs.Shown.{spaced}
 use Rattle.mes_stream.specs.declared.fault.Fault.{Fault}
-use Rattle.mes_stream.specs.declared.fault.Fault.TheVariants.{Frame, EndsInsideRecord, Text, Field, NoMemory, Read, ReadsSpent}
+use Rattle.mes_stream.specs.declared.fault.Fault.TheVariants.{Frame, EndsInsideChunks, EndsInsideRecord, Text, Field, NoMemory, Read, ReadsSpent}
 use Rattle.mes_part.specs.Paths.{path_text}
 use Rattle.mes_part.specs.Whys.{field_why_name}
 
@@ -16,6 +16,7 @@ fault_title (Frame ChunkLineTooLong) = codes "F2 ChunkLineTooLong"
 fault_title (Frame ChunkTooLarge) = codes "F3 ChunkTooLarge"
 fault_title (Frame BadChunkEnd) = codes "F4 BadChunkEnd"
 fault_title (Frame TrailersTooLong) = codes "F5 TrailersTooLong"
+fault_title EndsInsideChunks = codes "F6 EndsInsideChunks"
 fault_title (Frame BadSizeLine) = codes "F7 BadSizeLine"
 fault_title (Frame SizeLineTooLong) = codes "F8 SizeLineTooLong"
 fault_title (Frame RecordTooLarge) = codes "F9 RecordTooLarge"
@@ -35,6 +36,7 @@ text_why_name Byte = codes "Byte"
 -- the words that say where a record is at fault and why
 abbrev pub details : Fault → List (List ℕ)
 details (Frame f) = []
+details EndsInsideChunks = []
 details EndsInsideRecord = []
 details (Text at_record byte why) =
     codes "record" ∷ decimal at_record ∷ codes "byte" ∷ decimal byte ∷ text_why_name why ∷ []

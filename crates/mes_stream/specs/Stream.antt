@@ -1,65 +1,66 @@
--- A stream of events as plain RecordIO: records one behind the other, each the JSON text of an event.
-use Rattle.std.specs.Prelude.{◌≡◌, ℕ, ◌+◌, ◌-◌, ◌^◌, ◌⊎◌, min, List, [], ◌∷◌, ◌++◌, length}
-use Rattle.mes_json.specs.Place.{IsFault}
-use Rattle.mes_json.specs.declared.limits.TheConstants.{NESTING_LIMIT}
+-- A stream of values as plain RecordIO: records one behind the other, the data of each spelling a value. Which data spell
+-- which value, and why data spell none, are given: `spells` and `breaks`.
+use Rattle.std.specs.Prelude.{◌≡◌, ◌≢◌, ℕ, ◌+◌, ◌-◌, ◌^◌, ◌⊎◌, min, List, [], ◌∷◌, ◌++◌, length}
 use Rattle.mes_frame.specs.Record.{IsRecord, Begun, DataBegun, SizeShows}
-use Rattle.mes_msg.specs.Events.{Spells, SpellsNone}
-use Rattle.mes_msg.specs.declared.event.Event.{Event}
+use Rattle.mes_msg.specs.declared.record.RecordFault.{RecordFault}
+use Rattle.mes_msg.specs.declared.record.RecordFault.TheVariants as refusal
 use Rattle.mes_stream.specs.declared.fault.Fault.{Fault}
-use Rattle.mes_stream.specs.declared.fault.Fault.TheVariants.{Frame, EndsInsideRecord, Text, Field, NoMemory, Read, ReadsSpent}
+use Rattle.mes_stream.specs.declared.fault.Fault.TheVariants.{Frame, EndsInsideChunks, EndsInsideRecord, Text, Field, NoMemory, Read, ReadsSpent}
 
 -- a count that stays at 2^64 - 1 once it is there
 abbrev pub saturated : ℕ → ℕ
 saturated n = min n (2 ^ 64 - 1)
 
--- the bytes are records whose data, each of at most limit bytes, spell the events in order
-abbrev pub Records : ℕ → List ℕ → List Event → Type 0
-Records limit b [] = b ≡ []
-Records limit b (event ∷ events) =
-    (front : List ℕ) × (rest : List ℕ) × (r : List ℕ) × IsRecord front r limit × Spells r event × (b ≡ front ++ rest)
-    × Records limit rest events
+-- the bytes are records whose data, each of at most limit bytes, spell the values in order
+abbrev pub Records : {E : Type 0} → (List ℕ → E → Type 0) → ℕ → List ℕ → List E → Type 0
+Records spells limit b [] = b ≡ []
+Records spells limit b (value ∷ values) =
+    (front : List ℕ) × (rest : List ℕ) × (r : List ℕ) × IsRecord front r limit × spells r value × (b ≡ front ++ rest)
+    × Records spells limit rest values
 
 -- the bytes are such records, and behind them x, of which Is holds
-pub record Behind (limit : ℕ) (Is : List ℕ → Type 0) (b : List ℕ) (events : List Event) : Type 0 where
+pub record Behind {E : Type 0} (spells : List ℕ → E → Type 0) (limit : ℕ) (Is : List ℕ → Type 0) (b : List ℕ) (values : List E) : Type 0 where
   pub whole : List ℕ
   pub x : List ℕ
   pub spelt : b ≡ whole ++ x
-  pub records : Records limit whole events
+  pub records : Records spells limit whole values
   pub is : Is x
 
 -- the bytes are such records, and perhaps the front of one more
-abbrev pub Live : ℕ → List ℕ → List Event → Type 0
-Live limit b events = Behind limit (λ x. (r : List ℕ) × Begun x r limit) b events
+abbrev pub BodyLive : {E : Type 0} → (List ℕ → E → Type 0) → ℕ → List ℕ → List E → Type 0
+BodyLive spells limit b values = Behind spells limit (λ x. (r : List ℕ) × Begun x r limit) b values
 
--- the number of the record behind the events, from 1
-abbrev pub number_after : List Event → ℕ
-number_after events = saturated (length events + 1)
+-- the bytes are such records, and behind them a record that has begun and not ended
+abbrev pub EndsInside : {E : Type 0} → (List ℕ → E → Type 0) → ℕ → List ℕ → List E → Type 0
+EndsInside spells limit b values = Behind spells limit (λ x. (x ≢ []) × ((r : List ℕ) × Begun x r limit)) b values
+
+-- the number of the record behind the values, from 1
+abbrev pub number_after : {E : Type 0} → List E → ℕ
+number_after values = saturated (length values + 1)
 
 -- the byte c behind the bytes b ends a record whose data are r
-abbrev pub EndsRecord : ℕ → List ℕ → List Event → ℕ → (List ℕ → Type 0) → Type 0
-EndsRecord limit b events c Is = Behind limit (λ x. (r : List ℕ) × IsRecord (x ++ c ∷ []) r limit × Is r) b events
+abbrev pub EndsRecord : {E : Type 0} → (List ℕ → E → Type 0) → ℕ → List ℕ → List E → ℕ → (List ℕ → Type 0) → Type 0
+EndsRecord spells limit b values c Is = Behind spells limit (λ x. (r : List ℕ) × IsRecord (x ++ c ∷ []) r limit × Is r) b values
 
 -- behind the bytes b, which are live, the byte c shows the fault: no size line has it there, or it ends a record that
--- spells no event. Want of memory says only what stood before: a byte of data was to be kept, or an event.
-abbrev pub Shows : ℕ → List ℕ → List Event → ℕ → Fault → Type 0
-Shows limit b events c (Frame fault) = Behind limit (λ x. SizeShows x c limit fault) b events
-Shows limit b events c (Text at_record byte why) =
-    EndsRecord limit b events c (λ r. IsFault NESTING_LIMIT r (record { byte = byte; why = why })) × (at_record ≡ number_after events)
-Shows limit b events c (Field at_record path why) =
-    EndsRecord limit b events c (λ r. SpellsNone r (record { path = path; why = why })) × (at_record ≡ number_after events)
-Shows limit b events c NoMemory =
-    Behind limit (λ x. (r : List ℕ) × (left : ℕ) × DataBegun x r left limit) b events
-    ⊎ ((event : Event) × EndsRecord limit b events c (λ r. Spells r event))
-Shows limit b events c EndsInsideRecord = ⊥
-Shows limit b events c Read = ⊥
-Shows limit b events c ReadsSpent = ⊥
+-- spells no value
+abbrev pub BodyShows : {E : Type 0} → (List ℕ → E → Type 0) → (List ℕ → RecordFault → Type 0) → ℕ → List ℕ → List E → ℕ → Fault → Type 0
+BodyShows spells breaks limit b values c (Frame fault) = Behind spells limit (λ x. SizeShows x c limit fault) b values
+BodyShows spells breaks limit b values c (Text at_record byte why) =
+    EndsRecord spells limit b values c (λ r. breaks r (refusal.Text (record { byte = byte; why = why }))) × (at_record ≡ number_after values)
+BodyShows spells breaks limit b values c (Field at_record path why) =
+    EndsRecord spells limit b values c (λ r. breaks r (refusal.Field (record { path = path; why = why }))) × (at_record ≡ number_after values)
+BodyShows spells breaks limit b values c EndsInsideChunks = ⊥
+BodyShows spells breaks limit b values c EndsInsideRecord = ⊥
+BodyShows spells breaks limit b values c NoMemory = ⊥
+BodyShows spells breaks limit b values c Read = ⊥
+BodyShows spells breaks limit b values c ReadsSpent = ⊥
 
--- the first n bytes of w show the fault with their last
-pub record ShowsAt (limit : ℕ) (w : List ℕ) (events : List Event) (fault : Fault) (n : ℕ) : Type 0 where
-  pub front : List ℕ
-  pub byte : ℕ
-  pub rest : List ℕ
-  pub is : w ≡ front ++ byte ∷ rest
-  pub used : n ≡ length front + 1
-  pub live : Live limit front events
-  pub shows : Shows limit front events byte fault
+-- the next byte behind the bytes b is a byte of a record's data
+abbrev pub InData : {E : Type 0} → (List ℕ → E → Type 0) → ℕ → List ℕ → List E → Type 0
+InData spells limit b values = Behind spells limit (λ x. (r : List ℕ) × (left : ℕ) × DataBegun x r left limit) b values
+
+-- a fault that the byte c shows, or want of memory at a byte of data: that says only what stood before
+abbrev pub BodyStops : {E : Type 0} → (List ℕ → E → Type 0) → (List ℕ → RecordFault → Type 0) → ℕ → List ℕ → List E → ℕ → Fault → Type 0
+BodyStops spells breaks limit b values c fault =
+    BodyShows spells breaks limit b values c fault ⊎ ((fault ≡ NoMemory) × InData spells limit b values)

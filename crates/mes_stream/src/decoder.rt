@@ -1,175 +1,143 @@
-//! A decoder of plain RecordIO: it takes the stream in pieces, however cut, and makes the events of its records.
+//! A decoder of a chunked stream: it takes the stream in pieces, however cut, and answers its values one by one.
 
-ghost use Rattle.std.specs.Prelude.{◌≡◌, true, false, ◌+◌, ◌<◌, ◌≤◌, ℕ, List, [], ◌++◌, length, IfOk, IfErr, take};
-ghost use Rattle.mes_msg.specs.declared.event.Event.{Event as EventValue};
+ghost use Rattle.std.specs.Prelude.{◌≡◌, ◌≢◌, ℕ, ◌+◌, ◌<◌, ◌≤◌, List, [], ◌++◌, length, None, Some, IfSome};
+ghost use Rattle.mes_stream.specs.Chunked.{Live};
+ghost use Rattle.mes_stream.specs.Decoding.{Says, LiveBefore};
+ghost use Rattle.mes_stream.specs.Decoders.{DecoderStands, end_of, answer_of, finish_of, EndsBy, HoldsOf};
+ghost use Rattle.mes_stream.specs.EventData.{HoldsData};
+ghost use Rattle.mes_msg.specs.Events.{Spells};
 
+use crate::body::Body;
+use crate::event_reader::EventReader;
 use crate::fault::Fault;
-use mes_frame::{Limit, RecordOut, RecordState};
-use mes_json::{TextFault, Why};
-use mes_msg::{Event, RecordFault};
+use crate::reading::{Out, Reading, Step};
+use crate::record_reader::RecordReader;
+use mes_frame::Limit;
 use std::alloc::Global;
 
-/// A decoder of plain RecordIO.
+/// How a stream ended, for a decoder.
 #[derive(Drop)]
-pub struct Decoder {
-    alloc: Global,
-    state: RecordState,
-    // The data of the record that has begun. Its room is kept from record to record.
-    bytes: Vec<u8>,
-    // How many records have ended.
-    done: u64,
+pub(crate) enum Ended {
+    Closed,
+    Failed(Fault),
 }
 
-/// Where in a piece the decoder stopped, and why.
-#[derive(Drop)]
-pub struct Halt {
-    /// Why.
-    pub fault: Fault,
-    /// How many bytes of the piece were used, the one that shows the fault among them.
-    pub used: usize,
+impl Ended {
+    // What is answered from then on.
+    fn answer<V>(&self) -> Out<V>
+        ensures { result ≡ answer_of self.now }
+    {
+        match self {
+            Ended::Closed => Out::End,
+            Ended::Failed(fault) => Out::Fault(fault.copy()),
+        }
+    }
+
+    // The end that an answer brings, if it does.
+    fn brought<V>(out: &Out<V>) -> Option<Ended>
+        ensures { EndsBy result out.now }
+    {
+        match out {
+            Out::More => None,
+            Out::Event(_) => None,
+            Out::End => Some(Ended::Closed),
+            Out::Fault(fault) => Some(Ended::Failed(fault.copy())),
+        }
+    }
 }
 
-// What the front of a piece is: a byte of a size line, data of the record, or a fault with its first byte.
+// What a decoder holds: behind the end or a fault nothing of the stream.
 #[derive(Drop)]
-enum Front {
-    Size,
-    Data { count: usize, last: bool },
-    Bad(Fault),
+enum State<R> {
+    Going(Reading<R>),
+    Ended(Ended),
 }
 
-impl Decoder {
-    ghost use Rattle.mes_frame.specs.RecordState.{RecordStands, limit_of};
-    ghost use Rattle.mes_stream.specs.Stream.{Records};
-    ghost use Rattle.mes_stream.specs.Reading.{EndsInside};
-    ghost use Rattle.mes_stream.specs.Decoding.{Stands, Feeds, Turns, Fronts, IsWithin, Ends, fault_of_record};
+/// A decoder of a chunked stream.
+#[derive(Drop)]
+pub struct Decoder<R> {
+    state: State<R>,
+}
 
-    /// The decoder before the first byte. Takes no memory.
-    pub fn new(alloc: Global, limit: Limit) -> Decoder
-        ensures stands { Stands result [] [] }
-        ensures limit { limit_of result.state ≡ limit }
+impl Decoder<EventReader> {
+    /// A decoder of events before the first byte. Takes no memory.
+    pub fn new(alloc: Global, limit: Limit) -> Decoder<EventReader>
+        ensures stands { DecoderStands HoldsData Spells result limit [] [] }
+    {
+        Decoder::of(EventReader::new(alloc), limit)
+    }
+}
+
+impl<R: RecordReader> Decoder<R> {
+    /// A decoder before the first byte, by what reads its records.
+    pub fn of(reader: R, limit: Limit) -> Decoder<R>
+        requires { R.holds reader [] }
+        ensures stands { DecoderStands R.holds R.spells result limit [] [] }
     {
         Decoder {
-            alloc,
-            state: RecordState::new(limit),
-            bytes: Vec::new(alloc),
-            done: 0,
+            state: State::Going(Reading::new(Body::new(reader, limit))),
         }
     }
 
-    /// No record has begun and not ended.
-    pub fn between(&self) -> bool
-        ensures whole { (b : List ℕ) (evs : List EventValue) → Stands self.now b evs → result ≡ true → Records (limit_of self.now.state) b evs }
-        ensures inside { (b : List ℕ) (evs : List EventValue) → Stands self.now b evs → result ≡ false → EndsInside (limit_of self.now.state) b evs }
-    {
-        self.state.between()
-    }
+    /// Takes a piece up to the end of a record or of the stream, or a fault, or the piece's end. The end or a fault is
+    /// answered again by every later call, which uses no byte.
+    pub fn next(&mut self, piece: &[u8]) -> Step<R::Value>
+        // What each answer means behind w, which is live with the values.
+        ensures says { (limit : ℕ) (w : List ℕ) (values : List R.Value) → DecoderStands R.holds R.spells self.old limit w values
+            → Says (DecoderStands R.holds R.spells self.new limit) R.spells R.breaks limit w values piece.now result.used result.out }
 
-    /// Takes a piece of the stream, and adds the events of the records that end in it.
-    pub fn feed(&mut self, piece: &[u8], events: &mut Vec<Event>) -> Result<(), Halt>
-        ensures feeds { (b : List ℕ) (evs : List EventValue) → Stands self.old b evs → Feeds self.new b evs piece.now events.old.items events.new.items result }
-        ensures limit { limit_of self.new.state ≡ limit_of self.old.state }
-        ensures used { IfErr result (λ halt. (0 < halt.used) × (halt.used ≤ length piece.now)) }
-    {
-        let mut at = 0;
-        while at < piece.len() {
-            match self.turn(&piece[at..], events) {
-                Ok(used) => at += used,
-                Err(halt) => return Err(Halt {
-                    fault: halt.fault,
-                    used: at + halt.used,
-                }),
-            }
-        }
-        Ok(())
-    }
+        // Up to the last byte that was used all is live with the same values.
+        ensures before { (limit : ℕ) (w : List ℕ) (values : List R.Value) → DecoderStands R.holds R.spells self.old limit w values
+            → LiveBefore R.spells limit w values piece.now result.used }
 
-    // Takes a byte of a size line or a run of data from the front of a piece.
-    fn turn(&mut self, rest: &[u8], events: &mut Vec<Event>) -> Result<usize, Halt>
-        requires { 0 < length rest.now }
-        ensures turns { (b : List ℕ) (evs : List EventValue) → Stands self.old b evs → Turns self.new b evs rest.now events.old.items events.new.items result }
-        ensures limit { limit_of self.new.state ≡ limit_of self.old.state }
-        ensures some { IfOk result (λ used. (0 < used) × (used ≤ length rest.now)) }
-        ensures used { IfErr result (λ halt. (0 < halt.used) × (halt.used ≤ length rest.now)) }
-    {
-        match self.front(rest) {
-            Front::Size => Ok(1),
-            Front::Bad(fault) => Err(Halt { fault, used: 1 }),
-            Front::Data { count, last } => {
-                if self.bytes.extend_from_slice(&rest[..count]).is_err() {
-                    return Err(Halt {
-                        fault: Fault::NoMemory,
-                        used: 1,
-                    });
-                }
-                if last {
-                    if let Err(fault) = self.end_record(events) {
-                        return Err(Halt { fault, used: count });
-                    }
-                }
-                Ok(count)
-            }
-        }
-    }
+        // More is wanted only behind the whole piece, and what was used then is live.
+        ensures more { (limit : ℕ) (w : List ℕ) (values : List R.Value) → DecoderStands R.holds R.spells self.old limit w values
+            → result.out ≡ Out.More → (result.used ≡ length piece.now) × Live R.spells limit (w ++ piece.now) values }
 
-    // Tells what the front of a piece is, and moves the reader of records over it.
-    fn front(&mut self, rest: &[u8]) -> Front
-        requires { 0 < length rest.now }
-        ensures fronts { (x r : List ℕ) → RecordStands self.old.state x r → Fronts self.new.state x r self.old.done rest.now result }
-        ensures limit { limit_of self.new.state ≡ limit_of self.old.state }
-        ensures within { IsWithin (length rest.now) result }
-        ensures same { self.new ≡ record self.old { state = self.new.state } }
-    {
-        let count = self.state.room().min(rest.len());
-        if count > 0 {
-            let last = self.state.pass(count);
-            return Front::Data { count, last };
-        }
-        match self.state.step(rest[0]) {
-            RecordOut::Quiet => Front::Size,
-            RecordOut::Byte { last } => Front::Data { count: 1, last },
-            RecordOut::Empty => Front::Bad(Fault::Text {
-                at_record: self.done.saturating_add(1),
-                byte: 0,
-                why: Why::End,
-            }),
-            RecordOut::Fault(fault) => Front::Bad(Fault::Frame(fault)),
-        }
-    }
+        // Each other answer comes with a byte.
+        ensures some { (limit : ℕ) (w : List ℕ) (values : List R.Value) → DecoderStands R.holds R.spells self.old limit w values
+            → result.out ≢ Out.More → 0 < result.used }
+        ensures used { result.used ≤ length piece.now }
 
-    // The record has ended: adds its event.
-    fn end_record(&mut self, events: &mut Vec<Event>) -> Result<(), Fault>
-        ensures ends { Ends self.old self.new events.old.items events.new.items result }
-        ensures state { self.new.state ≡ self.old.state }
+        // The end or a fault is kept, and answered again.
+        ensures ends { EndsBy (end_of self.new) result.out }
+        ensures again { IfSome (end_of self.old) (λ e. (result ≡ record { used = 0; out = answer_of e }) × (self.new ≡ self.old)) }
     {
-        let event = match Event::read_record(self.alloc, self.bytes.as_slice()) {
-            Ok(event) => event,
-            Err(fault) => return Err(self.refused(fault)),
+        let step = match &mut self.state {
+            State::Going(reading) => reading.next(piece),
+            State::Ended(end) => return Step {
+                used: 0,
+                out: end.answer(),
+            },
         };
-        if events.push(event).is_err() {
-            return Err(Fault::NoMemory);
+        if let Some(end) = Ended::brought(&step.out) {
+            self.state = State::Ended(end);
         }
-        self.bytes.clear();
-        self.done = self.done.saturating_add(1);
-        Ok(())
+        step
     }
 
-    // The fault of the record that has ended.
-    fn refused(&self, fault: RecordFault) -> Fault
-        ensures { result ≡ fault_of_record self.now.done fault }
+    /// The input has no more bytes: Ok after the end of the stream, the fault after one, else F6.
+    pub fn finish(&self) -> Result<(), Fault>
+        ensures { result ≡ finish_of (end_of self.now) }
     {
-        let at_record = self.done.saturating_add(1);
-        match fault {
-            RecordFault::Text(fault) => Fault::Text {
-                at_record,
-                byte: fault.byte,
-                why: fault.why,
-            },
-            RecordFault::Field(fault) => Fault::Field {
-                at_record,
-                path: fault.path,
-                why: fault.why,
-            },
-            RecordFault::NoMemory => Fault::NoMemory,
+        match &self.state {
+            State::Going(_) => Err(Fault::EndsInsideChunks),
+            State::Ended(Ended::Closed) => Ok(()),
+            State::Ended(Ended::Failed(fault)) => Err(fault.copy()),
+        }
+    }
+
+    /// How many bytes of the record that has begun are kept, not counting spare room: for events at most those inside its
+    /// texts and numbers.
+    pub fn held(&self) -> u64
+        ensures held { (limit : ℕ) (w : List ℕ) (values : List R.Value) → DecoderStands R.holds R.spells self.now limit w values
+            → HoldsOf R.spells R.room limit w values result }
+        // After the end or a fault nothing is.
+        ensures ended { end_of self.now ≢ None → result ≡ 0 }
+    {
+        match &self.state {
+            State::Going(reading) => reading.held(),
+            State::Ended(_) => 0,
         }
     }
 }

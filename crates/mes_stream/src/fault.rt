@@ -16,6 +16,8 @@ pub const REST_MOST: usize = 512;
 pub enum Fault {
     /// F1 to F5: a chunked body is refused; F7 to F9: the size line of a record is.
     Frame(FrameFault),
+    /// F6: the input ended before the chunked body did, also where it had no byte at all.
+    EndsInsideChunks,
     /// F10: the stream ended inside a record.
     EndsInsideRecord,
     /// F11: the record's bytes are no JSON text. It comes with the record's last byte; for a size of 0 that is the
@@ -46,6 +48,38 @@ pub enum Fault {
 }
 
 impl Fault {
+    /// The same fault once more. Takes no memory.
+    pub fn copy(&self) -> Fault
+        ensures { result ≡ self.now }
+    {
+        match self {
+            Fault::Frame(fault) => Fault::Frame(*fault),
+            Fault::EndsInsideChunks => Fault::EndsInsideChunks,
+            Fault::EndsInsideRecord => Fault::EndsInsideRecord,
+            Fault::Text {
+                at_record,
+                byte,
+                why,
+            } => Fault::Text {
+                at_record: *at_record,
+                byte: *byte,
+                why: *why,
+            },
+            Fault::Field {
+                at_record,
+                path,
+                why,
+            } => Fault::Field {
+                at_record: *at_record,
+                path: path.copy(),
+                why: *why,
+            },
+            Fault::NoMemory => Fault::NoMemory,
+            Fault::Read => Fault::Read,
+            Fault::ReadsSpent => Fault::ReadsSpent,
+        }
+    }
+
     /// The number and the name, with a space between, as they are printed.
     pub fn title(&self) -> &'static str
         ensures text { result.now ≡ fault_title self.now }
@@ -57,6 +91,7 @@ impl Fault {
             Fault::Frame(FrameFault::ChunkTooLarge) => "F3 ChunkTooLarge",
             Fault::Frame(FrameFault::BadChunkEnd) => "F4 BadChunkEnd",
             Fault::Frame(FrameFault::TrailersTooLong) => "F5 TrailersTooLong",
+            Fault::EndsInsideChunks => "F6 EndsInsideChunks",
             Fault::Frame(FrameFault::BadSizeLine) => "F7 BadSizeLine",
             Fault::Frame(FrameFault::SizeLineTooLong) => "F8 SizeLineTooLong",
             Fault::Frame(FrameFault::RecordTooLarge) => "F9 RecordTooLarge",

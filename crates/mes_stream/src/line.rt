@@ -201,6 +201,12 @@ mod tests {
         );
         expect_line(
             &rt,
+            &Fault::EndsInsideChunks,
+            0,
+            "fault F6 EndsInsideChunks after 0",
+        );
+        expect_line(
+            &rt,
             &Fault::EndsInsideRecord,
             12,
             "fault F10 EndsInsideRecord after 12",

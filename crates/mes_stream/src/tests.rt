@@ -1,9 +1,14 @@
-//! Plain RecordIO with few reads allowed.
+//! Plain RecordIO with few reads allowed, and chunked streams in pieces.
 
+use crate::decoder::Decoder;
+use crate::event_reader::EventReader;
 use crate::fault::Fault;
 use crate::plain::read_plain;
-use mes_frame::{Limit, MemorySource};
+use crate::reading::Out;
+use mes_frame::{FrameFault, Limit, MemorySource};
 use mes_msg::Event;
+use std::alloc::Global;
+use std::process::Abort;
 use std::test::Fail;
 
 const ERROR: &[u8] = b"40\n{\"type\":\"ERROR\",\"error\":{\"message\":\"m\"}}";
@@ -42,4 +47,156 @@ fn reads_are_counted(rt: HostRuntime) -> Result<(), Fail> {
         _ => Err("the event is an error")?,
     }
     Ok(())
+}
+
+const HEARTBEAT: &[u8] = b"20\n{\"type\":\"HEARTBEAT\"}";
+
+// Two records and the begin of a third, in one chunk that isn't whole.
+const TWO_AND_MORE: &[u8] =
+    b"33\r\n20\n{\"type\":\"HEARTBEAT\"}20\n{\"type\":\"HEARTBEAT\"}20\n{\"";
+
+fn decoder(alloc: Global) -> Decoder<EventReader> {
+    Decoder::new(alloc, Limit::USUAL)
+}
+
+// A letter for an answer: E for an event, C for the end, M for more, and a digit or another letter for a fault.
+fn letter(out: &Out<Event>) -> u8 {
+    match out {
+        Out::More => b'M',
+        Out::Event(_) => b'E',
+        Out::End => b'C',
+        Out::Fault(Fault::Frame(FrameFault::BadChunkLine)) => b'1',
+        Out::Fault(Fault::Frame(FrameFault::ChunkLineTooLong)) => b'2',
+        Out::Fault(Fault::Frame(FrameFault::ChunkTooLarge)) => b'3',
+        Out::Fault(Fault::Frame(FrameFault::BadChunkEnd)) => b'4',
+        Out::Fault(Fault::Frame(FrameFault::TrailersTooLong)) => b'5',
+        Out::Fault(Fault::EndsInsideChunks) => b'6',
+        Out::Fault(Fault::Frame(FrameFault::BadSizeLine)) => b'7',
+        Out::Fault(Fault::Frame(FrameFault::SizeLineTooLong)) => b'8',
+        Out::Fault(Fault::Frame(FrameFault::RecordTooLarge)) => b'9',
+        Out::Fault(Fault::EndsInsideRecord) => b'a',
+        Out::Fault(Fault::Text { .. }) => b'b',
+        Out::Fault(Fault::Field { .. }) => b'c',
+        Out::Fault(Fault::NoMemory) => b'd',
+        Out::Fault(Fault::Read) => b'e',
+        Out::Fault(Fault::ReadsSpent) => b'f',
+    }
+}
+
+// Takes the stream in two pieces, and each piece until it is used up; answers but `More`, with the bytes used then.
+fn answers(
+    alloc: Global,
+    stream: &[u8],
+    cut: usize,
+    found: &mut Vec<(u8, usize)>,
+) -> Result<(), Fail> {
+    let mut decoder = decoder(alloc);
+    let mut total = 0;
+    for part in 0..2 {
+        let mut rest = if part == 0 {
+            &stream[..cut]
+        } else {
+            &stream[cut..]
+        };
+        while !rest.is_empty() {
+            let step = decoder.next(rest);
+            total += step.used;
+            rest = &rest[step.used..];
+            match letter(&step.out) {
+                b'M' => {}
+                b'E' => found.push((b'E', total))?,
+                last => {
+                    found.push((last, total))?;
+                    return Ok(());
+                }
+            }
+        }
+    }
+    Ok(())
+}
+
+// In every cut into two pieces the answers are these.
+fn expect(
+    rt: &impl Abort,
+    alloc: Global,
+    stream: &[u8],
+    expected: &[(u8, usize)],
+) -> Result<(), Fail> {
+    for cut in 0..=stream.len() {
+        let mut found = Vec::new(alloc);
+        answers(alloc, stream, cut, &mut found)?;
+        assert_eq!(rt; found.as_slice(), expected, "{cut}");
+    }
+    Ok(())
+}
+
+#[test]
+fn streams_in_every_cut(rt: HostRuntime) -> Result<(), Fail> {
+    expect(&rt, rt.alloc(), TWO_AND_MORE, &[(b'E', 27), (b'E', 50)])?;
+    expect(&rt, rt.alloc(), b"2\r\n5\n\r\n0\r\n\r\n", &[(b'a', 12)])?;
+    expect(&rt, rt.alloc(), b"5\r\n20\n", &[])?;
+    expect(&rt, rt.alloc(), b"0\r\n\r\nXYZ", &[(b'C', 5)])?;
+    expect(&rt, rt.alloc(), b"g", &[(b'1', 1)])?;
+    expect(&rt, rt.alloc(), b"1\n", &[(b'1', 2)])?;
+    expect(&rt, rt.alloc(), b"10000000000000000", &[(b'3', 17)])?;
+    expect(&rt, rt.alloc(), b"1\r\n2X", &[(b'4', 5)])?;
+    expect(&rt, rt.alloc(), b"2\r\n0\n\r\n", &[(b'b', 5)])?;
+    expect(&rt, rt.alloc(), b"1\r\nx", &[(b'7', 4)])?;
+    expect(&rt, rt.alloc(), b"4\r\n2\n{}", &[(b'c', 7)])?;
+    Ok(())
+}
+
+// The record of 23 bytes in chunks of one byte each, and then the last chunk: 143 bytes, one by one.
+#[test]
+fn bytes_one_by_one(rt: HostRuntime) -> Result<(), Fail> {
+    let mut stream = Vec::new(rt.alloc());
+    for byte in HEARTBEAT.iter() {
+        stream.extend_from_slice(b"1\r\n")?;
+        stream.push(*byte)?;
+        stream.extend_from_slice(b"\r\n")?;
+    }
+    stream.extend_from_slice(b"0\r\n\r\n")?;
+    assert_eq!(rt; stream.len(), 143);
+    let mut decoder = decoder(rt.alloc());
+    for (at, byte) in stream.iter().enumerate() {
+        let step = decoder.next(&[*byte]);
+        assert_eq!(rt; step.used, 1);
+        let expected = match at {
+            135 => b'E',
+            142 => b'C',
+            _ => b'M',
+        };
+        assert_eq!(rt; letter(&step.out), expected, "{at}");
+        assert_eq!(rt; decoder.finish().is_ok(), at == 142);
+    }
+    let again = decoder.next(b"more");
+    assert_eq!(rt; again.used, 0);
+    assert_eq!(rt; letter(&again.out), b'C');
+    Ok(())
+}
+
+#[test]
+fn a_piece_with_two_records(rt: HostRuntime) {
+    let mut decoder = decoder(rt.alloc());
+    let first = decoder.next(TWO_AND_MORE);
+    assert_eq!(rt; (letter(&first.out), first.used), (b'E', 27));
+    let second = decoder.next(&TWO_AND_MORE[27..]);
+    assert_eq!(rt; (letter(&second.out), second.used), (b'E', 23));
+    let third = decoder.next(&TWO_AND_MORE[50..]);
+    assert_eq!(rt; (letter(&third.out), third.used), (b'M', 5));
+    assert!(rt; matches!(decoder.finish(), Err(Fault::EndsInsideChunks)));
+}
+
+#[test]
+fn a_fault_is_kept_and_nothing_is_held(rt: HostRuntime) {
+    let mut decoder = decoder(rt.alloc());
+    let open = decoder.next(b"20\r\n40\n{\"type\":\"ERR");
+    assert_eq!(rt; letter(&open.out), b'M');
+    assert_eq!(rt; decoder.held(), 7);
+    let long = decoder.next(b"01234567890123456X");
+    assert_eq!(rt; (letter(&long.out), long.used), (b'4', 18));
+    assert_eq!(rt; decoder.held(), 0);
+    let again = decoder.next(b"0\r\n\r\n");
+    assert_eq!(rt; (letter(&again.out), again.used), (b'4', 0));
+    assert!(rt; matches!(decoder.finish(), Err(Fault::Frame(FrameFault::BadChunkEnd))));
 }

@@ -1,6 +1,7 @@
 -- What `show` prints: the lines of each event, and then the line that ends the stream.
 use Rattle.std.specs.Prelude.{◌≡◌, ℕ, ◌+◌, ◌⊎◌, List, [], ◌∷◌, ◌++◌, length, Result, Ok, Err}
 use Rattle.std.specs.Io.KnownBytes.{Consumes}
+use Rattle.mes_msg.specs.Events.{Spells}
 use Rattle.mes_msg.specs.Shown.{event_lines}
 use Rattle.mes_msg.specs.declared.event.Event.{Event}
 use Rattle.mes_stream.specs.Lines.{fault_text}
@@ -34,7 +35,7 @@ ShowsOne number event old new (Err unshown.NoMemory) = GoesOut old new []
 
 -- records at the front of the bytes w spell the events
 abbrev pub Spelt : ℕ → List ℕ → List Event → Type 0
-Spelt limit w events = Behind limit (λ x. Unit {0}) w events
+Spelt limit w events = Behind Spells limit (λ x. Unit {0}) w events
 
 -- The bytes w were taken from the input. They are records that spell the events up to the outcome, and the lines of the
 -- events and the line of the outcome were printed. Or the lines of the events that were there were cut off. Or memory was

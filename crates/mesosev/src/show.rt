@@ -9,7 +9,7 @@ use crate::print::{FAULT, print_fault, print_outcome};
 use crate::run::READS_MOST;
 use mes_frame::{Limit, Sink, Source, write_all};
 use mes_msg::Event;
-use mes_stream::{Decoder, Fault, READ_MOST, Stop, plain_end};
+use mes_stream::{Body, EventReader, Fault, READ_MOST, Stop, plain_end};
 use std::alloc::Global;
 
 /// Why the lines of an event were not printed.
@@ -34,7 +34,7 @@ pub(crate) fn show<I: Source, O: Sink>(
         (record { bytes = O.written out.old; counts = O.counts out.old }) (record { bytes = O.written out.new; counts = O.counts out.new })
         result }
 {
-    let mut decoder = Decoder::new(alloc, limit);
+    let mut decoder = Body::new(EventReader::new(alloc), limit);
     let mut events = Vec::new(alloc);
     let mut buffer = [0; READ_MOST];
     let mut number: u64 = 1;

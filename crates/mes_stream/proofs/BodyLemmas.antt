@@ -1,0 +1,186 @@
+-- What a reader of a body stands for, over the fronts of a run.
+use Rattle.std.proofs.Common.{◌≡◌, ℕ, ◌+◌, ◌-◌, ◌^◌, ◌<◌, ◌≤◌, List, [], ◌∷◌, ◌++◌, length, take, drop, get_or, sym, ◌∙◌, ap, append_assoc, append-nil, arith, refl, subst, inl, inr, ◌⊎◌, length-append, length-take-le, take-append-drop, take-add}
+use Rattle.std.specs.Prelude.{slice_index}
+use Rattle.std.proofs.lemmas.List.{take_more}
+use Rattle.mes_frame.proofs.Records.{begun_of, data_goes_on}
+use Rattle.mes_frame.specs.Record.{IsRecord, Begun, DataBegun}
+use Rattle.mes_frame.specs.RecordState.{RecordStands, limit_of}
+use Rattle.mes_stream.specs.Stream.{saturated, Records, Behind, BodyLive, number_after, EndsRecord, InData, BodyStops}
+use Rattle.mes_stream.specs.Reading.{BodyStopsAt}
+use Rattle.mes_stream.specs.Taking.{BodyStands, Takes, Ends, fault_of_record}
+use Rattle.mes_msg.specs.declared.record.RecordFault.{RecordFault}
+use Rattle.mes_msg.specs.declared.record.RecordFault.TheVariants as refusal
+use Rattle.mes_stream.specs.declared.fault.Fault.{Fault}
+use Rattle.mes_stream.specs.declared.fault.Fault.TheVariants.{NoMemory}
+use Rattle.mes_stream.specs.declared.body.Body.{Body}
+use Rattle.mes_stream.specs.declared.body.BodyOut.{BodyOut}
+use Rattle.mes_stream.specs.declared.body.BodyOut.TheVariants as out
+
+-- a count that has stopped stays
+pub saturated_more : (n : ℕ) → saturated (saturated n + 1) ≡ saturated (n + 1)
+saturated_more n = omega arith
+
+module _ {R E : Type 0} (holds : R → List ℕ → Type 0) (spells : List ℕ → E → Type 0) where
+  -- one record more
+  pub records_more : (limit : ℕ) (b f r : List ℕ) (values : List E) (value : E) → Records spells limit b values → IsRecord f r limit → spells r value
+      → Records spells limit (b ++ f) (values ++ value ∷ [])
+  records_more limit b f r [] value none is says = (f, [], r, is, says, (rw none (sym (append-nil f))), refl)
+  records_more limit b f r (e ∷ values) value (front, rest, r0, is_front, before, spelt, behind) is says =
+      (front, rest ++ f, r0, is_front, before, (ap (λ (x : List ℕ). x ++ f) spelt ∙ append_assoc front rest f), records_more limit rest f r values value behind is says)
+
+  -- what stands is live
+  pub live_of : (d : Body R) (b : List ℕ) (values : List E) → BodyStands holds spells d b values → BodyLive spells (limit_of d.records) b values
+  live_of d b values s = record { whole = s.whole; x = s.x; spelt = s.spelt; records = s.records; is = (s.r, begun_of d.records s.x s.r s.state) }
+
+  -- so many records have ended
+  pub number_of : (d : Body R) (b : List ℕ) (values : List E) → BodyStands holds spells d b values → saturated (d.done + 1) ≡ number_after values
+  number_of d b values s = ap (λ (n : ℕ). saturated (n + 1)) s.count ∙ saturated_more (length values)
+
+  -- p more bytes stand behind the records
+  pub behind_on : (d : Body R) (b p : List ℕ) (values : List E) (s : BodyStands holds spells d b values) (Is : List ℕ → Type 0) → Is (s.x ++ p)
+      → Behind spells (limit_of d.records) Is (b ++ p) values
+  behind_on d b p values s Is h = record {
+    whole = s.whole;
+    x = s.x ++ p;
+    spelt = ap (λ (y : List ℕ). y ++ p) s.spelt ∙ append_assoc s.whole s.x p;
+    records = s.records;
+    is = h;
+  }
+
+  -- bytes were taken that end no record
+  pub stands_on : (d new : Body R) (b p r : List ℕ) (values : List E) (s : BodyStands holds spells d b values) → new.done ≡ d.done
+      → limit_of new.records ≡ limit_of d.records → holds new.reader r → RecordStands new.records (s.x ++ p) r → BodyStands holds spells new (b ++ p) values
+  stands_on d new b p r values s done limit kept state = record {
+    whole = s.whole;
+    x = s.x ++ p;
+    r = r;
+    spelt = ap (λ (y : List ℕ). y ++ p) s.spelt ∙ append_assoc s.whole s.x p;
+    records = rw limit s.records;
+    state = state;
+    kept = kept;
+    count = done ∙ s.count;
+    limit = rw limit s.limit;
+  }
+
+  -- a record has ended with a run of data, and has a value
+  pub stands_value : (d new : Body R) (b p r : List ℕ) (values : List E) (value : E) (s : BodyStands holds spells d b values) → new.done ≡ saturated (d.done + 1)
+      → limit_of new.records ≡ limit_of d.records → holds new.reader [] → IsRecord (s.x ++ p) r (limit_of d.records)
+      → RecordStands new.records [] [] → spells r value → BodyStands holds spells new (b ++ p) (values ++ value ∷ [])
+  stands_value d new b p r values value s done limit kept is state says = record {
+    whole = s.whole ++ (s.x ++ p);
+    x = [];
+    r = [];
+    spelt = (ap (λ (y : List ℕ). y ++ p) s.spelt ∙ append_assoc s.whole s.x p) ∙ sym (append-nil (s.whole ++ (s.x ++ p)));
+    records = rw limit (records_more (limit_of d.records) s.whole (s.x ++ p) r values value s.records is says);
+    state = state;
+    kept = kept;
+    count = done ∙ (let count = s.count in let len = length-append values (value ∷ []) in omega arith);
+    limit = rw limit s.limit;
+  }
+
+  -- before the first byte of a run
+  pub first_live : (d : Body R) (b run : List ℕ) (values : List E) (n : ℕ) → BodyStands holds spells d b values → n < 1
+      → BodyLive spells (limit_of d.records) (b ++ take n run) values
+  first_live d b run values n s first =
+      let none : 0 ≡ n = omega arith in
+      subst (λ (m : ℕ). BodyLive spells (limit_of d.records) (b ++ take m run) values) none (rw (append-nil b) (live_of d b values s))
+
+  -- within a run of data the record goes on
+  pub data_on : (d : Body R) (b run : List ℕ) (values : List E) (n left : ℕ) (s : BodyStands holds spells d b values) → n < left → n ≤ length run
+      → DataBegun s.x s.r left (limit_of d.records) → DataBegun (s.x ++ take n run) (s.r ++ take n run) (left - n) (limit_of d.records)
+  data_on d b run values n left s inside within begun =
+      let len : length (take n run) ≡ n = length-take-le n run within in
+      subst (λ (m : ℕ). DataBegun (s.x ++ take n run) (s.r ++ take n run) (left - m) (limit_of d.records)) len
+      (data_goes_on s.x s.r (take n run) left (limit_of d.records) begun (omega arith))
+
+  pub data_live : (d : Body R) (b run : List ℕ) (values : List E) (n left : ℕ) (s : BodyStands holds spells d b values) → n < left → n ≤ length run
+      → DataBegun s.x s.r left (limit_of d.records) → BodyLive spells (limit_of d.records) (b ++ take n run) values
+  data_live d b run values n left s inside within begun =
+      behind_on d b (take n run) values s (λ x. (r : List ℕ) × Begun x r (limit_of d.records)) (s.r ++ take n run, inr (left - n, data_on d b run values n left s inside within begun))
+
+  pub data_next : (d : Body R) (b run : List ℕ) (values : List E) (n left : ℕ) (s : BodyStands holds spells d b values) → n < left → n ≤ length run
+      → DataBegun s.x s.r left (limit_of d.records) → InData spells (limit_of d.records) (b ++ take n run) values
+  data_next d b run values n left s inside within begun =
+      behind_on d b (take n run) values s (λ x. (r : List ℕ) × (left : ℕ) × DataBegun x r left (limit_of d.records)) (s.r ++ take n run, left - n, data_on d b run values n left s inside within begun)
+
+  -- the record ends with the last of so many bytes of a run
+  pub ends_with : (d : Body R) (b run r : List ℕ) (values : List E) (count : ℕ) (s : BodyStands holds spells d b values) (Is : List ℕ → Type 0) → 0 < count → count ≤ length run
+      → IsRecord (s.x ++ take count run) r (limit_of d.records) → Is r
+      → EndsRecord spells (limit_of d.records) (b ++ take (count - 1) run) values (slice_index run (count - 1)) Is
+  ends_with d b run r values count s Is some within is h =
+      let whole : take count run ≡ take (count - 1) run ++ get_or run (count - 1) 0 ∷ [] =
+      ap (λ (n : ℕ). take n run) (let e : count ≡ (count - 1) + 1 = omega (arith, some) in e) ∙ take_more run (count - 1) 0 (omega (arith, some, within)) in
+      behind_on d b (take (count - 1) run) values s (λ x. (r : List ℕ) × IsRecord (x ++ slice_index run (count - 1) ∷ []) r (limit_of d.records) × Is r)
+      (r, subst (λ (y : List ℕ). IsRecord y r (limit_of d.records)) (ap (λ (y : List ℕ). s.x ++ y) whole ∙ sym (append_assoc s.x (take (count - 1) run) (get_or run (count - 1) 0 ∷ []))) is, h)
+
+  module _ (breaks : List ℕ → RecordFault → Type 0) where
+    -- the record that ended so has no value, or its value wanted memory
+    pub refused_with : (d : Body R) (b run r : List ℕ) (values : List E) (count : ℕ) (why : RecordFault) (s : BodyStands holds spells d b values) → 0 < count → count ≤ length run
+        → IsRecord (s.x ++ take count run) r (limit_of d.records) → breaks r why → (why ≡ refusal.NoMemory → InData spells (limit_of d.records) (b ++ take (count - 1) run) values)
+        → BodyStops spells breaks (limit_of d.records) (b ++ take (count - 1) run) values (slice_index run (count - 1)) (fault_of_record d.done why)
+    refused_with d b run r values count (refusal.Text f) s some within is h memory =
+        inl (ends_with d b run r values count s (λ r. breaks r (refusal.Text (record { byte = f.byte; why = f.why }))) some within is h, number_of d b values s)
+    refused_with d b run r values count (refusal.Field f) s some within is h memory =
+        inl (ends_with d b run r values count s (λ r. breaks r (refusal.Field (record { path = f.path; why = f.why }))) some within is h, number_of d b values s)
+    refused_with d b run r values count refusal.NoMemory s some within is h memory = inr (refl, memory refl)
+
+    -- the record has ended with a run of data
+    pub ends_as : (d mid new : Body R) (b run : List ℕ) (values : List E) (count left : ℕ) (answer : BodyOut E) (s : BodyStands holds spells d b values) → 0 < count → count ≤ length run → count ≤ left
+        → DataBegun s.x s.r left (limit_of d.records) → mid.done ≡ d.done → limit_of new.records ≡ limit_of d.records
+        → IsRecord (s.x ++ take count run) (s.r ++ take count run) (limit_of d.records) → RecordStands new.records [] []
+        → Ends holds spells breaks mid new (s.r ++ take count run) answer → Takes holds spells breaks new b values run count answer
+    ends_as d mid new b run values count left out.More s some within inside begun done limit is state ends = absurd ends
+    ends_as d mid new b run values count left (out.Value value) s some within inside begun done limit is state (says, ready, more) = (
+      stands_value d new b (take count run) (s.r ++ take count run) values value s (more ∙ ap (λ (n : ℕ). saturated (n + 1)) done) limit ready is state says,
+      rw limit (ends_with d b run (s.r ++ take count run) values count s (λ r. spells r value) some within is says),
+    )
+    ends_as d mid new b run values count left (out.Fault fault) s some within inside begun done limit is state (why, h, eq) =
+        rw (eq, done, limit) (refused_with d b run (s.r ++ take count run) values count why s some within is h
+        (λ none. data_next d b run values (count - 1) left s (omega (arith, some, inside)) (omega (arith, within)) begun))
+
+  -- the data of a record that is whole
+  pub whole_fits : (d : Body R) (b x r : List ℕ) (values : List E) → BodyStands holds spells d b values → IsRecord x r (limit_of d.records) → length r < 2 ^ 64
+  whole_fits d b x r values s is = let within = is.within in let small = s.limit in omega arith
+
+-- a run of bytes and the byte behind it
+run_split : (rest : List ℕ) (m : ℕ) → m < length rest → rest ≡ take m rest ++ get_or rest m 0 ∷ drop (m + 1) rest
+run_split rest m lt =
+    sym (take-append-drop (m + 1) rest) ∙ rw (take_more rest m 0 lt) (append_assoc (take m rest) (get_or rest m 0 ∷ []) (drop (m + 1) rest))
+
+module _ {E : Type 0} (spells : List ℕ → E → Type 0) (breaks : List ℕ → RecordFault → Type 0) where
+  -- a byte of what is left of a piece stops the reading
+  pub stops_in : (limit : ℕ) (b piece : List ℕ) (values : List E) (fault : Fault) (at used : ℕ) → at ≤ length piece → 0 < used → used ≤ length (drop at piece)
+      → BodyLive spells limit ((b ++ take at piece) ++ take (used - 1) (drop at piece)) values
+      → BodyStops spells breaks limit ((b ++ take at piece) ++ take (used - 1) (drop at piece)) values (slice_index (drop at piece) (used - 1)) fault
+      ⊎ ((fault ≡ NoMemory) × ((value : E) × EndsRecord spells limit ((b ++ take at piece) ++ take (used - 1) (drop at piece)) values (slice_index (drop at piece) (used - 1)) (λ r. spells r value)))
+      → BodyStopsAt spells breaks limit (b ++ piece) values fault (length b + (at + used))
+  stops_in limit b piece values fault at used inside some within live stops = record {
+    front = (b ++ take at piece) ++ take (used - 1) (drop at piece);
+    byte = slice_index (drop at piece) (used - 1);
+    rest = drop (used - 1 + 1) (drop at piece);
+    is = ap (λ (y : List ℕ). b ++ y) (sym (take-append-drop at piece)) ∙ sym (append_assoc b (take at piece) (drop at piece))
+        ∙ ap (λ (y : List ℕ). (b ++ take at piece) ++ y) (run_split (drop at piece) (used - 1) (omega (arith, some, within)))
+        ∙ sym (append_assoc (b ++ take at piece) (take (used - 1) (drop at piece)) (slice_index (drop at piece) (used - 1) ∷ drop (used - 1 + 1) (drop at piece)));
+    used = omega (
+      arith,
+      some,
+      length-append (b ++ take at piece) (take (used - 1) (drop at piece)),
+      length-append b (take at piece),
+      length-take-le at piece inside,
+      length-take-le (used - 1) (drop at piece) (omega (arith, within)),
+    );
+    live = live;
+    stops = stops;
+  }
+
+-- behind the bytes of a piece up to `at` more of it was taken
+pub piece_on : (b piece : List ℕ) (at used : ℕ) → (b ++ take at piece) ++ take used (drop at piece) ≡ b ++ take (at + used) piece
+piece_on b piece at used = append_assoc b (take at piece) (take used (drop at piece)) ∙ ap (λ (p : List ℕ). b ++ p) (sym (take-add at used piece))
+
+-- and a record ended there
+pub value_on : {R E : Type 0} (holds : R → List ℕ → Type 0) (spells : List ℕ → E → Type 0) (d : Body R) (b piece : List ℕ) (values more : List E) (value : E) (at used : ℕ)
+    → BodyStands holds spells d ((b ++ take at piece) ++ take used (drop at piece)) ((values ++ more) ++ value ∷ [])
+    → BodyStands holds spells d (b ++ take (at + used) piece) (values ++ (more ++ value ∷ []))
+value_on {E = E} holds spells d b piece values more value at used s =
+    subst (λ (w : List ℕ). BodyStands holds spells d w (values ++ (more ++ value ∷ []))) (piece_on b piece at used)
+    (subst (λ (vs : List E). BodyStands holds spells d ((b ++ take at piece) ++ take used (drop at piece)) vs) (append_assoc values more (value ∷ [])) s)

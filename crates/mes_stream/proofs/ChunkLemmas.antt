@@ -1,0 +1,150 @@
+-- What a reader of a chunked stream stands for, over the fronts of a piece.
+use Rattle.std.proofs.Common.{◌≡◌, ℕ, ◌+◌, ◌-◌, ◌<◌, ◌≤◌, List, [], ◌∷◌, ◌++◌, length, take, drop, get_or, sym, ◌∙◌, ap, append_assoc, append-nil, arith, refl, subst, inl, inr}
+use Rattle.std.specs.Prelude.{slice_index}
+use Rattle.std.proofs.lemmas.List.{take_more}
+use Rattle.std.proofs.lemmas.Grind.{common_steps}
+use Rattle.std.proofs.lemmas.Bool.{cases_lt}
+use Rattle.mes_frame.proofs.ChunkParts.{open_of, fronts_of}
+use Rattle.mes_frame.specs.ChunkFront.{IsOpen}
+use Rattle.mes_frame.specs.ChunkState.{ChunkStands, room_of}
+use Rattle.mes_msg.specs.declared.record.RecordFault.{RecordFault}
+use Rattle.mes_stream.specs.Stream.{BodyLive, BodyShows, BodyStops}
+use Rattle.mes_stream.specs.Chunked.{IsStream, Live, Shows, Stops}
+use Rattle.mes_stream.specs.Taking.{Takes}
+use Rattle.mes_stream.specs.Decoding.{ReadingStands, Says, LiveBefore, reading_limit}
+use Rattle.mes_stream.specs.declared.fault.Fault.{Fault}
+use Rattle.mes_stream.specs.declared.fault.Fault.TheVariants.{Frame, EndsInsideChunks, EndsInsideRecord, Text, Field, NoMemory, Read, ReadsSpent}
+use Rattle.mes_stream.specs.declared.body.BodyOut.{BodyOut}
+use Rattle.mes_stream.specs.declared.body.BodyOut.TheVariants as body_out
+use Rattle.mes_stream.specs.declared.reading.Out.{Out}
+use Rattle.mes_stream.specs.declared.reading.Out.TheVariants as out
+use Rattle.mes_stream.specs.declared.reading.Reading.{Reading}
+use Rattle.mes_stream.proofs.BodyLemmas.{live_of, piece_on}
+
+-- the whole piece
+pub take_whole : (piece : List ℕ) (used : ℕ) → used ≡ length piece → take used piece ≡ piece
+take_whole piece used all = grind (arith, common_steps)
+
+-- a byte of the body shows what it shows of the body
+pub shows_data : {E : Type 0} (spells : List ℕ → E → Type 0) (breaks : List ℕ → RecordFault → Type 0) (limit : ℕ) (w body : List ℕ) (values : List E) (c : ℕ) (fault : Fault)
+    → IsOpen w body → IsOpen (w ++ c ∷ []) (body ++ c ∷ []) → BodyShows spells breaks limit body values c fault → Shows spells breaks limit w values c fault
+shows_data spells breaks limit w body values c (Frame f) before behind h = inr (body, before, behind, h)
+shows_data spells breaks limit w body values c (Text at byte why) before behind h = (body, before, behind, h)
+shows_data spells breaks limit w body values c (Field at path why) before behind h = (body, before, behind, h)
+shows_data spells breaks limit w body values c EndsInsideChunks before behind h = absurd h
+shows_data spells breaks limit w body values c EndsInsideRecord before behind h = absurd h
+shows_data spells breaks limit w body values c NoMemory before behind h = absurd h
+shows_data spells breaks limit w body values c Read before behind h = absurd h
+shows_data spells breaks limit w body values c ReadsSpent before behind h = absurd h
+
+pub stops_data : {E : Type 0} (spells : List ℕ → E → Type 0) (breaks : List ℕ → RecordFault → Type 0) (limit : ℕ) (w body : List ℕ) (values : List E) (c : ℕ) (fault : Fault)
+    → IsOpen w body → IsOpen (w ++ c ∷ []) (body ++ c ∷ []) → BodyStops spells breaks limit body values c fault → Stops spells breaks limit w values c fault
+stops_data spells breaks limit w body values c fault before behind stops = elim stops [
+  | inl h ↦ inl (shows_data spells breaks limit w body values c fault before behind h)
+  | inr h ↦ inr (h.0, (body, before, behind, h.1))
+]
+
+module _ {R E : Type 0} (holds : R → List ℕ → Type 0) (spells : List ℕ → E → Type 0) where
+  -- what stands is live
+  pub reading_live : (d : Reading R) (w : List ℕ) (values : List E) → ReadingStands holds spells d w values → Live spells (reading_limit d) w values
+  reading_live d w values s = (s.content, open_of d.chunks w s.content s.chunks, live_of holds spells d.body s.content values s.body)
+
+  -- before the first byte of a piece
+  pub first_before : (d : Reading R) (w rest : List ℕ) (values : List E) (n : ℕ) → ReadingStands holds spells d w values → n < 1
+      → Live spells (reading_limit d) (w ++ take n rest) values
+  first_before d w rest values n s first =
+      let none : 0 ≡ n = omega arith in
+      subst (λ (m : ℕ). Live spells (reading_limit d) (w ++ take m rest) values) none (rw (append-nil w) (reading_live d w values s))
+
+  -- within a run of data
+  pub run_before : (d : Reading R) (limit : ℕ) (w run : List ℕ) (values : List E) (n count : ℕ) (s : ReadingStands holds spells d w values) → length run ≡ count → count ≤ room_of d.chunks → n ≤ count
+      → BodyLive spells limit (s.content ++ take n run) values → Live spells limit (w ++ take n run) values
+  run_before d limit w run values n count s len room within live =
+      (s.content ++ take n run, fronts_of d.chunks w s.content run n count room len within s.chunks, live)
+
+  module _ (breaks : List ℕ → RecordFault → Type 0) where
+    -- a byte of a run of data stops the reading
+    pub run_stops : (d : Reading R) (limit : ℕ) (w run : List ℕ) (values : List E) (used count : ℕ) (fault : Fault) (s : ReadingStands holds spells d w values) → length run ≡ count → count ≤ room_of d.chunks
+        → 0 < used → used ≤ count → BodyStops spells breaks limit (s.content ++ take (used - 1) run) values (slice_index run (used - 1)) fault
+        → Stops spells breaks limit (w ++ take (used - 1) run) values (slice_index run (used - 1)) fault
+    run_stops d limit w run values used count fault s len room some within stops =
+        let fronts : (n : ℕ) → n ≤ count → IsOpen (w ++ take n run) (s.content ++ take n run) = λ n inside. fronts_of d.chunks w s.content run n count room len inside s.chunks in
+        let sum : used ≡ (used - 1) + 1 = omega (arith, some) in
+        let more : take used run ≡ take (used - 1) run ++ slice_index run (used - 1) ∷ [] =
+        ap (λ (n : ℕ). take n run) sum ∙ take_more run (used - 1) 0 (omega (arith, some, within, len)) in
+        let join : (u : List ℕ) → u ++ take used run ≡ (u ++ take (used - 1) run) ++ slice_index run (used - 1) ∷ [] =
+        λ u. ap (λ (y : List ℕ). u ++ y) more ∙ sym (append_assoc u (take (used - 1) run) (slice_index run (used - 1) ∷ [])) in
+        stops_data spells breaks limit (w ++ take (used - 1) run) (s.content ++ take (used - 1) run) values (slice_index run (used - 1)) fault
+        (fronts (used - 1) (omega (arith, within)))
+        (subst (λ (y : List ℕ). IsOpen y ((s.content ++ take (used - 1) run) ++ slice_index run (used - 1) ∷ [])) (join w)
+        (subst (λ (y : List ℕ). IsOpen (w ++ take used run) y) (join s.content) (fronts used within))) stops
+
+    -- what a body says of a run of data
+    abbrev pub out_of : BodyOut E → Out E
+    out_of body_out.More = out.More
+    out_of (body_out.Value value) = out.Event value
+    out_of (body_out.Fault fault) = out.Fault fault
+
+    pub run_says : (d new : Reading R) (w run : List ℕ) (values : List E) (used count : ℕ) (answer : BodyOut E) (s : ReadingStands holds spells d w values) → length run ≡ count → count ≤ room_of d.chunks
+        → 0 < used → used ≤ count → ChunkStands new.chunks (w ++ take used run) (s.content ++ take used run)
+        → Takes holds spells breaks new.body s.content values run used answer → Says (ReadingStands holds spells new) spells breaks (reading_limit new) w values run used (out_of answer)
+    run_says d new w run values used count body_out.More s len room some within chunks taken =
+        record { content = s.content ++ take used run; chunks = chunks; body = taken }
+    run_says d new w run values used count (body_out.Value value) s len room some within chunks taken =
+        record { content = s.content ++ take used run; chunks = chunks; body = taken.0 }
+    run_says d new w run values used count (body_out.Fault fault) s len room some within chunks taken =
+        run_stops d (reading_limit new) w run values used count fault s len room some within taken
+
+module _ {E : Type 0} (Stands : List ℕ → List E → Type 0) (spells : List ℕ → E → Type 0) (breaks : List ℕ → RecordFault → Type 0) (limit : ℕ) where
+  -- the same bytes seen behind others
+  pub says_as : (w v run rest : List ℕ) (values : List E) (used most : ℕ) (answer : Out E) → w ++ take used run ≡ v ++ take most rest → w ++ take (used - 1) run ≡ v ++ take (most - 1) rest
+      → slice_index run (used - 1) ≡ slice_index rest (most - 1) → Says Stands spells breaks limit w values run used answer → Says Stands spells breaks limit v values rest most answer
+  says_as w v run rest values used most out.More same front last h = subst (λ (y : List ℕ). Stands y values) same h
+  says_as w v run rest values used most (out.Event value) same front last h = subst (λ (y : List ℕ). Stands y (values ++ value ∷ [])) same h
+  says_as w v run rest values used most out.End same front last h = subst (λ (y : List ℕ). IsStream spells limit y values) same h
+  says_as w v run rest values used most (out.Fault fault) same front last h =
+      subst (λ (y : List ℕ). Stops spells breaks limit y values (slice_index rest (most - 1)) fault) front
+      (subst (λ (c : ℕ). Stops spells breaks limit (w ++ take (used - 1) run) values c fault) last h)
+
+  -- of a byte
+  pub says_first : (w rest : List ℕ) (values : List E) (answer : Out E) → 0 < length rest → Says Stands spells breaks limit w values (slice_index rest 0 ∷ []) 1 answer
+      → Says Stands spells breaks limit w values rest 1 answer
+  says_first w [] values answer some h = absurd (omega (arith, some))
+  says_first w (c ∷ rest) values answer some h = says_as w w (c ∷ []) (c ∷ rest) values 1 1 answer refl refl refl h
+
+  take_take : (m n : ℕ) (xs : List ℕ) → m ≤ n → take m (take n xs) ≡ take m xs
+  take_take m n xs le = grind (arith, common_steps)
+
+  index_take : (m n : ℕ) (xs : List ℕ) → m < n → get_or (take n xs) m 0 ≡ get_or xs m 0
+  index_take m n xs lt = grind (arith, common_steps)
+
+  index_drop : (m n : ℕ) (xs : List ℕ) → get_or (drop n xs) m 0 ≡ get_or xs (n + m) 0
+  index_drop m n xs = grind (arith, common_steps)
+
+  -- of a longer piece
+  pub says_more : (w rest : List ℕ) (values : List E) (used count : ℕ) (answer : Out E) → 0 < used → used ≤ count → Says Stands spells breaks limit w values (take count rest) used answer
+      → Says Stands spells breaks limit w values rest used answer
+  says_more w rest values used count answer some within h =
+      says_as w w (take count rest) rest values used used answer (ap (λ (y : List ℕ). w ++ y) (take_take used count rest within)) (ap (λ (y : List ℕ). w ++ y) (take_take (used - 1) count rest (omega (arith, within))))
+      (index_take (used - 1) count rest (omega (arith, some, within))) h
+
+  -- of what is left of a piece
+  pub says_on : (w piece : List ℕ) (values : List E) (at used : ℕ) (answer : Out E) → 0 < used → Says Stands spells breaks limit (w ++ take at piece) values (drop at piece) used answer
+      → Says Stands spells breaks limit w values piece (at + used) answer
+  says_on w piece values at used answer some h =
+      let less : at + (used - 1) ≡ at + used - 1 = omega (arith, some) in
+      says_as (w ++ take at piece) w (drop at piece) piece values used (at + used) answer (piece_on w piece at used)
+      (piece_on w piece at (used - 1) ∙ ap (λ (n : ℕ). w ++ take n piece) less) (index_drop (used - 1) at piece ∙ ap (λ (n : ℕ). get_or piece n 0) less) h
+
+  pub before_on : (w piece : List ℕ) (values : List E) (at used : ℕ) → LiveBefore spells limit w values piece at → LiveBefore spells limit (w ++ take at piece) values (drop at piece) used
+      → LiveBefore spells limit w values piece (at + used)
+  before_on w piece values at used first second n inside = elim (cases_lt n at) [
+    | inl early ↦ first n early
+    | inr late ↦
+        let sum : at + (n - at) ≡ n = omega (arith, late) in
+        subst (λ (y : List ℕ). Live spells limit y values) (piece_on w piece at (n - at) ∙ ap (λ (m : ℕ). w ++ take m piece) sum) (second (n - at) (omega (arith, late, inside)))
+  ]
+
+  pub before_more : (w rest : List ℕ) (values : List E) (used count : ℕ) → used ≤ count → LiveBefore spells limit w values (take count rest) used → LiveBefore spells limit w values rest used
+  before_more w rest values used count within h n inside =
+      subst (λ (y : List ℕ). Live spells limit (w ++ y) values) (take_take n count rest (omega (arith, within, inside))) (h n inside)

@@ -1,0 +1,215 @@
+-- Bytes are read as a chunked stream in at most one way.
+use Rattle.std.proofs.Common.{◌≡◌, ℕ, ◌<◌, ◌⊎◌, inl, inr, List, [], ◌∷◌, ◌++◌, length, refl, ap, ap₂, sym, ◌∙◌, subst, append_assoc, append-nil, arith, length-append}
+use Rattle.std.proofs.lemmas.Bool.{cases_lt}
+use Rattle.mes_frame.proofs.OneChunkReading.{one_reading}
+use Rattle.mes_frame.proofs.ChunkTotal.{some_reading}
+use Rattle.mes_frame.specs.ChunkFront.{IsOpen}
+use Rattle.mes_frame.specs.ChunkReading.{ChunkReading, Begins, Whole, Broken, ReadsChunks}
+use Rattle.mes_msg.specs.declared.record.RecordFault.{RecordFault}
+use Rattle.mes_stream.specs.Stream.{Records, BodyLive, BodyShows, EndsInside}
+use Rattle.mes_stream.specs.Chunked.{AtData, Shows}
+use Rattle.mes_stream.specs.PlainReading.{IsExact, PlainReading}
+use Rattle.mes_stream.specs.PlainReading as plain
+use Rattle.mes_stream.specs.StreamReading.{StreamReading, Goes, Ends, Stops, ReadsStream}
+use Rattle.mes_stream.specs.declared.fault.Fault.{Fault}
+use Rattle.mes_stream.specs.declared.fault.Fault.TheVariants.{Frame, EndsInsideChunks, EndsInsideRecord, Text, Field, NoMemory, Read, ReadsSpent}
+use Rattle.mes_stream.proofs.Grows.{content_of, grows}
+use Rattle.mes_stream.proofs.PlainLaw.{one_plain, no_rest, same_last}
+
+-- a shorter front is the front of a longer one
+shorter : (u v rest more : List ℕ) (c d : ℕ) → u ++ c ∷ rest ≡ v ++ d ∷ more → length u < length v → (m : List ℕ) × (v ≡ (u ++ c ∷ []) ++ m)
+shorter u [] rest more c d same less = absurd (omega arith)
+shorter [] (b ∷ v) rest more c d same less = let head : c ≡ b = cc in (v, cc)
+shorter (a ∷ u) (b ∷ v) rest more c d same less =
+    let head : a ≡ b = cc in
+    let tail : u ++ c ∷ rest ≡ v ++ d ∷ more = cc in
+    let found = shorter u v rest more c d tail (omega arith) in
+    let on : v ≡ (u ++ c ∷ []) ++ found.0 = found.1 in
+    (found.0, cc)
+
+as_long : (u v rest more : List ℕ) (c d : ℕ) → u ++ c ∷ rest ≡ v ++ d ∷ more → length u ≡ length v → u ≡ v
+as_long [] [] rest more c d same len = refl
+as_long [] (b ∷ v) rest more c d same len = absurd (omega arith)
+as_long (a ∷ u) [] rest more c d same len = absurd (omega arith)
+as_long (a ∷ u) (b ∷ v) rest more c d same len =
+    let head : a ≡ b = cc in
+    let tail : u ++ c ∷ rest ≡ v ++ d ∷ more = cc in
+    let on : u ≡ v = as_long u v rest more c d tail (omega arith) in
+    cc
+
+-- behind a byte of data the data are more
+not_shorter : (u v rest more body : List ℕ) (c d : ℕ) → u ++ c ∷ rest ≡ v ++ d ∷ more → IsOpen (u ++ c ∷ []) (body ++ c ∷ []) → IsOpen v body → length u < length v → ⊥
+not_shorter u v rest more body c d same begun too less =
+    let found = shorter u v rest more c d same less in
+    let on = grows (u ++ c ∷ []) (body ++ c ∷ []) found.0 (Begins body) begun (subst (λ (y : List ℕ). IsOpen y body) found.1 too) in
+    let len = ap length on.1 in
+    let a = length-append (body ++ c ∷ []) on.0 in
+    let b = length-append body (c ∷ []) in
+    omega arith
+
+one_front : (u v rest more body : List ℕ) (c : ℕ) → u ++ c ∷ rest ≡ v ++ c ∷ more → IsOpen u body → IsOpen v body → IsOpen (u ++ c ∷ []) (body ++ c ∷ []) → IsOpen (v ++ c ∷ []) (body ++ c ∷ []) → u ≡ v
+one_front u v rest more body c same first second begun too = elim (cases_lt (length u) (length v)) [
+  | inl less ↦ absurd (not_shorter u v rest more body c c same begun second less)
+  | inr most ↦ elim (cases_lt (length v) (length u)) [
+    | inl less ↦ absurd (not_shorter v u more rest body c c (sym same) too first less)
+    | inr least ↦ as_long u v rest more c c same (omega arith)
+  ]
+]
+
+-- what a chunked body that has ended says of its records: they are whole, or it ends inside one
+data Mark : Type 0 where
+  Clean : Mark
+  Inside : (front : List ℕ) (c : ℕ) → Mark
+
+module _ {E : Type 0} (spells : List ℕ → E → Type 0) (breaks : List ℕ → RecordFault → Type 0) (exact : IsExact spells breaks) (limit : ℕ) where
+  outer_of : ChunkReading → List E → Mark → StreamReading E
+  outer_of (Begins body) values mark = Goes values
+  outer_of (Whole front body) values Clean = Ends front values
+  outer_of (Whole whole body) values (Inside front c) = Stops front c values EndsInsideRecord
+  outer_of (Broken front c body fault) values mark = Stops front c values (Frame fault)
+
+  IsMark : ChunkReading → List E → Mark → Type 0
+  IsMark (Begins body) values mark = mark ≡ Clean
+  IsMark (Whole front body) values Clean = Records spells limit body values
+  IsMark (Whole whole body) values (Inside front c) = (whole ≡ front ++ c ∷ []) × EndsInside spells limit body values
+  IsMark (Broken front c body fault) values mark = mark ≡ Clean
+
+  -- the framing decides
+  record Outer (w : List ℕ) (reading : StreamReading E) : Type 0 where
+    chunks : ChunkReading
+    values : List E
+    mark : Mark
+    reads : ReadsChunks w chunks
+    live : BodyLive spells limit (content_of chunks) values
+    is_mark : IsMark chunks values mark
+    is : reading ≡ outer_of chunks values mark
+
+  -- a byte of a record does
+  record Inner (w : List ℕ) (reading : StreamReading E) : Type 0 where
+    front : List ℕ
+    c : ℕ
+    values : List E
+    fault : Fault
+    rest : List ℕ
+    body : List ℕ
+    spelt : w ≡ front ++ c ∷ rest
+    before : IsOpen front body
+    behind : IsOpen (front ++ c ∷ []) (body ++ c ∷ [])
+    shows : BodyShows spells breaks limit body values c fault
+    is : reading ≡ Stops front c values fault
+
+  one_mark : (k : ChunkReading) (values : List E) (m n : Mark) → IsMark k values m → IsMark k values n → m ≡ n
+  unfolding IsMark
+  one_mark (Begins body) values m n h g = h ∙ sym g
+  one_mark (Whole front body) values Clean Clean h g = refl
+  one_mark (Whole front body) values Clean (Inside u c) h (is, g) = absurd (no_rest spells breaks exact limit body values values h g)
+  one_mark (Whole front body) values (Inside u c) Clean (is, g) h = absurd (no_rest spells breaks exact limit body values values h g)
+  one_mark (Whole front body) values (Inside u c) (Inside v d) (is, h) (at, g) =
+      let ends = same_last u v c d (sym is ∙ at) in ap₂ (λ (y : List ℕ) (b : ℕ). Inside y b) ends.0 ends.1
+  one_mark (Broken front c body fault) values m n h g = h ∙ sym g
+
+  outer_outer : (w : List ℕ) (reading other : StreamReading E) → Outer w reading → Outer w other → reading ≡ other
+  outer_outer w reading other f g =
+      let chunks : f.chunks ≡ g.chunks = one_reading w f.chunks g.chunks f.reads g.reads in
+      let live : BodyLive spells limit (content_of g.chunks) f.values = subst (λ (k : ChunkReading). BodyLive spells limit (content_of k) f.values) chunks f.live in
+      let both : plain.Goes f.values ≡ plain.Goes g.values = one_plain spells breaks exact limit (content_of g.chunks) (plain.Goes f.values) (plain.Goes g.values) live g.live in
+      let values : f.values ≡ g.values = cc in
+      let mark : f.mark ≡ g.mark = one_mark g.chunks g.values f.mark g.mark
+      (subst (λ (vs : List E). IsMark g.chunks vs f.mark) values (subst (λ (k : ChunkReading). IsMark k f.values f.mark) chunks f.is_mark)) g.is_mark in
+      f.is ∙ ap (λ (k : ChunkReading). outer_of k f.values f.mark) chunks ∙ ap₂ (λ (vs : List E) (m : Mark). outer_of g.chunks vs m) values mark ∙ sym g.is
+
+  -- the data of whatever stands behind
+  content_on : (w : List ℕ) (reading : StreamReading E) (f : Inner w reading) (k : ChunkReading) → ReadsChunks w k → (more : List ℕ) × (content_of k ≡ f.body ++ f.c ∷ more)
+  content_on w reading f k reads =
+      let spelt : w ≡ (f.front ++ f.c ∷ []) ++ f.rest = f.spelt ∙ sym (append_assoc f.front (f.c ∷ []) f.rest) in
+      let on = grows (f.front ++ f.c ∷ []) (f.body ++ f.c ∷ []) f.rest k f.behind (subst (λ (y : List ℕ). ReadsChunks y k) spelt reads) in
+      (on.0, on.1 ∙ append_assoc f.body (f.c ∷ []) on.0)
+
+  inner_outer : (w : List ℕ) (reading other : StreamReading E) → Inner w reading → Outer w other → ⊥
+  inner_outer w reading other f g =
+      let on = content_on w reading f g.chunks g.reads in
+      let clash : plain.Stops f.body f.c f.values f.fault ≡ plain.Goes g.values =
+      one_plain spells breaks exact limit (content_of g.chunks) (plain.Stops f.body f.c f.values f.fault) (plain.Goes g.values) (on.0, on.1, f.shows) g.live in
+      absurd (cc)
+
+  inner_inner : (w : List ℕ) (reading other : StreamReading E) → Inner w reading → Inner w other → reading ≡ other
+  inner_inner w reading other f g =
+      let k = some_reading w in
+      let on = content_on w reading f k.0 k.1 in
+      let at = content_on w other g k.0 k.1 in
+      let both : plain.Stops f.body f.c f.values f.fault ≡ plain.Stops g.body g.c g.values g.fault =
+      one_plain spells breaks exact limit (content_of k.0) (plain.Stops f.body f.c f.values f.fault) (plain.Stops g.body g.c g.values g.fault) (on.0, on.1, f.shows) (at.0, at.1, g.shows) in
+      let bodies : f.body ≡ g.body = cc in
+      let bytes : f.c ≡ g.c = cc in
+      let values : f.values ≡ g.values = cc in
+      let faults : f.fault ≡ g.fault = cc in
+      let fronts : f.front ≡ g.front = one_front f.front g.front f.rest g.rest f.body f.c
+      (sym f.spelt ∙ g.spelt ∙ ap (λ (b : ℕ). g.front ++ b ∷ g.rest) (sym bytes)) f.before (subst (λ (y : List ℕ). IsOpen g.front y) (sym bodies) g.before) f.behind
+      (subst (λ (b : ℕ). IsOpen (g.front ++ b ∷ []) (f.body ++ b ∷ [])) (sym bytes) (subst (λ (y : List ℕ). IsOpen (g.front ++ g.c ∷ []) (y ++ g.c ∷ [])) (sym bodies) g.behind)) in
+      f.is ∙ ap₂ (λ (y : List ℕ) (b : ℕ). Stops y b f.values f.fault) fronts bytes ∙ ap₂ (λ (vs : List E) (h : Fault). Stops g.front g.c vs h) values faults ∙ sym g.is
+
+  Found : List ℕ → StreamReading E → Type 0
+  Found w reading = Outer w reading ⊎ Inner w reading
+
+  -- whole records are live
+  records_live : (b : List ℕ) (values : List E) → Records spells limit b values → BodyLive spells limit b values
+  records_live b values records = record { whole = b; x = []; spelt = sym (append-nil b); records = records; is = ([], inl (record { digits = tt; few = omega arith }, refl)) }
+
+  found_data : (w front rest : List ℕ) (byte : ℕ) (values : List E) (fault : Fault) → w ≡ front ++ byte ∷ rest → AtData (λ body vs. BodyShows spells breaks limit body vs byte fault) front values byte
+      → Found w (Stops front byte values fault)
+  unfolding Found
+  found_data w front rest byte values fault is (body, before, behind, shows) = inr (record {
+    front = front;
+    c = byte;
+    values = values;
+    fault = fault;
+    rest = rest;
+    body = body;
+    spelt = is;
+    before = before;
+    behind = behind;
+    shows = shows;
+    is = refl;
+  })
+
+  found_stop : (w front rest : List ℕ) (byte : ℕ) (values : List E) (fault : Fault) → w ≡ front ++ byte ∷ rest → Shows spells breaks limit front values byte fault → Found w (Stops front byte values fault)
+  unfolding Found outer_of IsMark
+  found_stop w front rest byte values (Frame fault) is shows = elim shows [
+    | inl h ↦ inl (record { chunks = Broken front byte h.0 fault; values = values; mark = Clean; reads = (rest, is, h.1); live = h.2; is_mark = refl; is = refl })
+    | inr h ↦ found_data w front rest byte values (Frame fault) is h
+  ]
+  found_stop w front rest byte values EndsInsideRecord is (body, whole, inside) = inl (record {
+    chunks = Whole (front ++ byte ∷ []) body;
+    values = values;
+    mark = Inside front byte;
+    reads = (rest, is ∙ sym (append_assoc front (byte ∷ []) rest), whole);
+    live = record { whole = inside.whole; x = inside.x; spelt = inside.spelt; records = inside.records; is = inside.is.1 };
+    is_mark = (refl, inside);
+    is = refl;
+  })
+  found_stop w front rest byte values (Text at place why) is shows = found_data w front rest byte values (Text at place why) is shows
+  found_stop w front rest byte values (Field at path why) is shows = found_data w front rest byte values (Field at path why) is shows
+  found_stop w front rest byte values EndsInsideChunks is shows = absurd shows
+  found_stop w front rest byte values NoMemory is shows = absurd shows
+  found_stop w front rest byte values Read is shows = absurd shows
+  found_stop w front rest byte values ReadsSpent is shows = absurd shows
+
+  found : (w : List ℕ) (reading : StreamReading E) → ReadsStream spells breaks limit w reading → Found w reading
+  unfolding Found outer_of IsMark
+  found w (Goes values) (body, begun, live) = inl (record { chunks = Begins body; values = values; mark = Clean; reads = begun; live = live; is_mark = refl; is = refl })
+  found w (Ends front values) (rest, is, (body, whole, records)) =
+      inl (record { chunks = Whole front body; values = values; mark = Clean; reads = (rest, is, whole); live = records_live body values records; is_mark = records; is = refl })
+  found w (Stops front byte values fault) (rest, is, shows) = found_stop w front rest byte values fault is shows
+
+  pub one_stream : (w : List ℕ) (reading other : StreamReading E) → ReadsStream spells breaks limit w reading → ReadsStream spells breaks limit w other → reading ≡ other
+  unfolding Found
+  one_stream w reading other reads too = elim (found w reading reads) [
+    | inl f ↦ elim (found w other too) [
+      | inl g ↦ outer_outer w reading other f g
+      | inr g ↦ absurd (inner_outer w other reading g f)
+    ]
+    | inr f ↦ elim (found w other too) [
+      | inl g ↦ absurd (inner_outer w reading other f g)
+      | inr g ↦ inner_inner w reading other f g
+    ]
+  ]

@@ -1,0 +1,42 @@
+use Rattle.std.proofs.Common.{◌++◌, take, ap, arith, refl, ◌∙◌}
+use Rattle.mes_frame.specs.RecordState.{limit_of}
+use Rattle.mes_frame.specs.declared.record.RecordState.{RecordState}
+use Rattle.mes_stream.specs.declared.body.Body.{Body}
+use Rattle.mes_stream.proofs.BodyLemmas.{first_live, data_live, stands_on, ends_as, whole_fits}
+use Rattle.mes_stream.proofs.body.Body.take.Goals as goal
+use Rattle.mes_stream.proofs.body.Body.take.Goals.{then-last, else-last}
+
+pub returns-in-Size-clause-lives : goal.returns-in-Size-clause-lives
+returns-in-Size-clause-lives g c = λ b values s n first.
+    rw c.in-Size.ensures.limit (first_live g.R.RecordReader.holds g.R.RecordReader.spells c.args.self.now b c.args.run.now values n s first)
+
+pub returns-after-last-clause-takes : goal.returns-after-last-clause-takes
+returns-after-last-clause-takes g c = λ b values s.
+    let h = c.in-Data.ensures.fronts s.x s.r s.state in
+    let limit = c.in-Data.ensures.limit in
+    let kept = c.in-Ok.ensures.ok s.r s.kept in
+    let within = c.in-Data.ensures.within in
+    let mid : Body g.row.R.Denot = record { records = c.front_of.new.records; reader = c.push_run.new.self; done = c.args.self.now.done } in
+    elim c.if-last.branch [
+      | then-last w ↦
+          let ended = rw w.if-last.true at h.1 in
+          let same = ap (λ (t : RecordState). limit_of t) w.end_record.ensures.records ∙ limit in
+          let is = rw limit at ended.0 in
+          rw (w.self-is, w.result-is) (ends_as g.R.RecordReader.holds g.R.RecordReader.spells g.R.RecordReader.breaks c.args.self.now mid w.end_record.new.self b c.args.run.now values c.in-Data.count h.0.0 w.end_record.result
+          s within.0 within.1 h.0.2 (rw limit at h.0.1) refl same is (rw w.end_record.ensures.records ended.1)
+          (w.end_record.ensures.ends (s.r ++ take c.in-Data.count c.args.run.now) kept (whole_fits g.R.RecordReader.holds g.R.RecordReader.spells c.args.self.now b _ _ values s is)))
+      | else-last w ↦
+          rw (w.self-is, w.result-is) (stands_on g.R.RecordReader.holds g.R.RecordReader.spells c.args.self.now _ b (take c.in-Data.count c.args.run.now) (s.r ++ take c.in-Data.count c.args.run.now) values s refl limit kept
+          (rw w.if-last.false at h.1))
+    ]
+
+pub returns-after-last-clause-lives : goal.returns-after-last-clause-lives
+returns-after-last-clause-lives g c = λ b values s n inside.
+    let h = c.in-Data.ensures.fronts s.x s.r s.state in
+    let limit = c.in-Data.ensures.limit in
+    let within = c.in-Data.ensures.within in
+    let lives = data_live g.R.RecordReader.holds g.R.RecordReader.spells c.args.self.now b c.args.run.now values n h.0.0 s (omega (arith, inside, h.0.2)) (omega (arith, inside, within.1)) (rw limit at h.0.1) in
+    elim c.if-last.branch [
+      | then-last w ↦ rw (w.self-is, w.end_record.ensures.records, limit) lives
+      | else-last w ↦ rw (w.self-is, limit) lives
+    ]

@@ -1,0 +1,60 @@
+use Rattle.std.proofs.Common.{◌≡◌, ℕ, ◌≤◌, List, length, take, ap, sym, ◌∙◌, arith, length-take-le}
+use Rattle.mes_frame.specs.ChunkState.{room_of}
+use Rattle.mes_frame.specs.RecordState.{limit_of}
+use Rattle.mes_stream.specs.Decoding.{ReadingStands, reading_limit}
+use Rattle.mes_stream.specs.declared.body.Body.{Body}
+use Rattle.mes_stream.specs.declared.reading.Reading.{Reading}
+use Rattle.mes_stream.proofs.ChunkLemmas.{first_before, run_before, run_says, out_of, says_first, says_more, before_more}
+use Rattle.mes_stream.proofs.reading.Reading.turn.Goals as goal
+use Rattle.mes_stream.proofs.reading.Reading.turn.Goals.{then-room-rest, else-room-rest, in-More, in-Value, in-Fault}
+
+pub returns-then-room-eq0-clause-says : goal.returns-then-room-eq0-clause-says
+returns-then-room-eq0-clause-says g c = λ w values s.
+    says_first (ReadingStands g.R.RecordReader.holds g.R.RecordReader.spells c.frame.new.self) g.R.RecordReader.spells g.R.RecordReader.breaks (reading_limit c.frame.new.self) w c.args.rest.now values c.frame.result c.requires
+    (c.frame.ensures.says w values s (sym c.room-room.ensures ∙ c.if-room-eq0.true))
+
+pub returns-then-room-eq0-clause-before : goal.returns-then-room-eq0-clause-before
+returns-then-room-eq0-clause-before g c = λ w values s n first.
+    let same = ap (λ (b : Body g.row.R.Denot). limit_of b.records) c.frame.ensures.body in
+    rw same (first_before g.R.RecordReader.holds g.R.RecordReader.spells c.args.self.now w c.args.rest.now values n s first)
+
+pub returns-clause-says : goal.returns-clause-says
+returns-clause-says g c = λ w values s.
+    let fits : (c.if-room-rest.count ≤ room_of c.args.self.now.chunks) × (c.if-room-rest.count ≤ length c.args.rest.now) =
+    elim c.if-room-rest.branch [
+      | then-room-rest b ↦ (omega (arith, b.count-is, b.if-room-rest.true, c.room-room.ensures), omega (arith, b.count-is, b.if-room-rest.true, c.room-room.ensures))
+      | else-room-rest b ↦ (omega (arith, b.count-is, b.if-room-rest.false, c.room-room.ensures), omega (arith, b.count-is))
+    ] in
+    let run : List ℕ = take c.if-room-rest.count c.args.rest.now in
+    let len : length run ≡ c.if-room-rest.count = length-take-le c.if-room-rest.count c.args.rest.now fits.1 in
+    let used : ℕ = c.take-taken.result.used in
+    let some = c.take-taken.ensures.used.0 in
+    let inside : used ≤ length run = c.take-taken.ensures.used.1 in
+    let within : used ≤ c.if-room-rest.count = omega (arith, inside, len) in
+    let new : Reading g.row.R.Denot = record { chunks = c.pass.new.self; body = c.take-taken.new.self } in
+    let Stands : List ℕ → List g.row.R-Value.Denot → Type 0 = ReadingStands g.R.RecordReader.holds g.R.RecordReader.spells new in
+    let says = says_more Stands g.R.RecordReader.spells g.R.RecordReader.breaks (reading_limit new) w c.args.rest.now values used c.if-room-rest.count (out_of g.R.RecordReader.holds g.R.RecordReader.spells g.R.RecordReader.breaks c.take-taken.result.out) some within
+    (run_says g.R.RecordReader.holds g.R.RecordReader.spells g.R.RecordReader.breaks c.args.self.now new w run values used c.if-room-rest.count c.take-taken.result.out s len fits.0 some within
+    (c.pass.ensures.passes w s.content (take used run) (length-take-le used run inside) s.chunks) (c.take-taken.ensures.takes s.content values s.body)) in
+    elim c.match-taken.branch [
+      | in-More b ↦ rw b.result-is (rw b.in-More.is at says)
+      | in-Value b ↦ rw (b.result-is, b.in-Value.value-is) (rw b.in-Value.is at says)
+      | in-Fault b ↦ rw (b.result-is, b.in-Fault.fault-is) (rw b.in-Fault.is at says)
+    ]
+
+pub returns-clause-before : goal.returns-clause-before
+returns-clause-before g c = λ w values s.
+    let fits : (c.if-room-rest.count ≤ room_of c.args.self.now.chunks) × (c.if-room-rest.count ≤ length c.args.rest.now) =
+    elim c.if-room-rest.branch [
+      | then-room-rest b ↦ (omega (arith, b.count-is, b.if-room-rest.true, c.room-room.ensures), omega (arith, b.count-is, b.if-room-rest.true, c.room-room.ensures))
+      | else-room-rest b ↦ (omega (arith, b.count-is, b.if-room-rest.false, c.room-room.ensures), omega (arith, b.count-is))
+    ] in
+    let run : List ℕ = take c.if-room-rest.count c.args.rest.now in
+    let len : length run ≡ c.if-room-rest.count = length-take-le c.if-room-rest.count c.args.rest.now fits.1 in
+    let used : ℕ = c.take-taken.result.used in
+    let some = c.take-taken.ensures.used.0 in
+    let inside : used ≤ length run = c.take-taken.ensures.used.1 in
+    let within : used ≤ c.if-room-rest.count = omega (arith, inside, len) in
+    before_more (ReadingStands g.R.RecordReader.holds g.R.RecordReader.spells c.args.self.now) g.R.RecordReader.spells g.R.RecordReader.breaks (limit_of c.take-taken.new.self.records) w c.args.rest.now values used c.if-room-rest.count within
+    (λ n early. run_before g.R.RecordReader.holds g.R.RecordReader.spells c.args.self.now (limit_of c.take-taken.new.self.records) w run values n c.if-room-rest.count s len fits.0 (omega (arith, early, within))
+    (c.take-taken.ensures.lives s.content values s.body n early))

@@ -1,0 +1,43 @@
+-- A stream of values as records in a chunked body.
+use Rattle.std.specs.Prelude.{◌≡◌, ℕ, ◌⊎◌, List, [], ◌∷◌, ◌++◌}
+use Rattle.mes_frame.specs.Chunk.{IsChunked}
+use Rattle.mes_frame.specs.ChunkFront.{IsOpen}
+use Rattle.mes_frame.specs.ChunkFaults.{ChunkShows}
+use Rattle.mes_msg.specs.declared.record.RecordFault.{RecordFault}
+use Rattle.mes_stream.specs.Stream.{Records, BodyLive, EndsInside, BodyShows, InData}
+use Rattle.mes_stream.specs.declared.fault.Fault.{Fault}
+use Rattle.mes_stream.specs.declared.fault.Fault.TheVariants.{Frame, EndsInsideChunks, EndsInsideRecord, Text, Field, NoMemory, Read, ReadsSpent}
+
+-- w is a whole chunked body, and its data are records that spell the values
+abbrev pub IsStream : {E : Type 0} → (List ℕ → E → Type 0) → ℕ → List ℕ → List E → Type 0
+IsStream spells limit w values = (body : List ℕ) × IsChunked w body × Records spells limit body values
+
+-- w has begun a chunked body and not ended it, and its data so far are such records and perhaps the front of one more
+abbrev pub Live : {E : Type 0} → (List ℕ → E → Type 0) → ℕ → List ℕ → List E → Type 0
+Live spells limit w values = (body : List ℕ) × IsOpen w body × BodyLive spells limit body values
+
+-- the byte c behind w is a byte of the body, of which this holds
+abbrev pub AtData : {E : Type 0} → (List ℕ → List E → Type 0) → List ℕ → List E → ℕ → Type 0
+AtData Is w values c = (body : List ℕ) × IsOpen w body × IsOpen (w ++ c ∷ []) (body ++ c ∷ []) × Is body values
+
+-- The byte c behind w, which is live with the values, shows the fault: no chunked body has it there (F1 to F5); it is a byte
+-- of the body and shows it there (F7 to F9, F11, F12); or it ends the body inside a record (F10).
+abbrev pub Shows : {E : Type 0} → (List ℕ → E → Type 0) → (List ℕ → RecordFault → Type 0) → ℕ → List ℕ → List E → ℕ → Fault → Type 0
+Shows spells breaks limit w values c (Frame fault) =
+    ((body : List ℕ) × ChunkShows w body c fault × BodyLive spells limit body values)
+    ⊎ AtData (λ body vs. BodyShows spells breaks limit body vs c (Frame fault)) w values c
+Shows spells breaks limit w values c (Text at_record byte why) =
+    AtData (λ body vs. BodyShows spells breaks limit body vs c (Text at_record byte why)) w values c
+Shows spells breaks limit w values c (Field at_record path why) =
+    AtData (λ body vs. BodyShows spells breaks limit body vs c (Field at_record path why)) w values c
+Shows spells breaks limit w values c EndsInsideRecord =
+    (body : List ℕ) × IsChunked (w ++ c ∷ []) body × EndsInside spells limit body values
+Shows spells breaks limit w values c EndsInsideChunks = ⊥
+Shows spells breaks limit w values c NoMemory = ⊥
+Shows spells breaks limit w values c Read = ⊥
+Shows spells breaks limit w values c ReadsSpent = ⊥
+
+-- a fault that the byte c shows, or want of memory at a byte of a record's data: that says only what stood before
+abbrev pub Stops : {E : Type 0} → (List ℕ → E → Type 0) → (List ℕ → RecordFault → Type 0) → ℕ → List ℕ → List E → ℕ → Fault → Type 0
+Stops spells breaks limit w values c fault =
+    Shows spells breaks limit w values c fault ⊎ ((fault ≡ NoMemory) × AtData (λ body vs. InData spells limit body vs) w values c)

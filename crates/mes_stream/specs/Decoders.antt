@@ -1,0 +1,56 @@
+-- What a decoder of a chunked stream stands for, and what it keeps of the end.
+use Rattle.std.specs.Prelude.{◌≡◌, ℕ, ◌≤◌, List, Option, None, Some, Result, Ok, Err}
+use Rattle.mes_frame.specs.ChunkFront.{IsOpen}
+use Rattle.mes_frame.specs.Record.{Begun}
+use Rattle.mes_stream.specs.Stream.{Behind}
+use Rattle.mes_stream.specs.Decoding.{ReadingStands, reading_limit}
+use Rattle.mes_stream.specs.declared.fault.Fault.{Fault}
+use Rattle.mes_stream.specs.declared.fault.Fault.TheVariants.{EndsInsideChunks}
+use Rattle.mes_stream.specs.declared.decoder.Decoder.{Decoder}
+use Rattle.mes_stream.specs.declared.decoder.State.{State}
+use Rattle.mes_stream.specs.declared.decoder.State.TheVariants as state
+use Rattle.mes_stream.specs.declared.decoder.Ended.{Ended}
+use Rattle.mes_stream.specs.declared.decoder.Ended.TheVariants.{Closed, Failed}
+use Rattle.mes_stream.specs.declared.reading.Out.{Out}
+use Rattle.mes_stream.specs.declared.reading.Out.TheVariants as out
+
+abbrev pub end_at : {R : Type 0} → State R → Option Ended
+end_at (state.Going reading) = None
+end_at (state.Ended end) = Some end
+
+-- how the stream ended, if it did
+abbrev pub end_of : {R : Type 0} → Decoder R → Option Ended
+end_of d = end_at d.state
+
+abbrev pub StateStands : {R E : Type 0} → (R → List ℕ → Type 0) → (List ℕ → E → Type 0) → State R → ℕ → List ℕ → List E → Type 0
+StateStands holds spells (state.Going reading) limit w values = ReadingStands holds spells reading w values × (reading_limit reading ≡ limit)
+StateStands holds spells (state.Ended end) limit w values = ⊥
+
+-- the decoder has taken w, which is live with the values under that limit; after the end or a fault it stands for no bytes
+abbrev pub DecoderStands : {R E : Type 0} → (R → List ℕ → Type 0) → (List ℕ → E → Type 0) → Decoder R → ℕ → List ℕ → List E → Type 0
+DecoderStands holds spells d limit w values = StateStands holds spells d.state limit w values
+
+-- what is answered from then on
+abbrev pub answer_of : {E : Type 0} → Ended → Out E
+answer_of Closed = out.End
+answer_of (Failed fault) = out.Fault fault
+
+-- what it means that the input has no more bytes
+abbrev pub finish_of : Option Ended → Result (Unit {0}) Fault
+finish_of None = Err EndsInsideChunks
+finish_of (Some Closed) = Ok tt
+finish_of (Some (Failed fault)) = Err fault
+
+-- the end that is kept behind an answer
+abbrev pub EndsBy : {E : Type 0} → Option Ended → Out E → Type 0
+EndsBy end out.More = end ≡ None
+EndsBy end (out.Event value) = end ≡ None
+EndsBy end out.End = end ≡ Some Closed
+EndsBy end (out.Fault fault) = end ≡ Some (Failed fault)
+
+-- n is at most what may be kept of the data, so far, of the record that has begun
+abbrev pub HoldsInBody : {E : Type 0} → (List ℕ → E → Type 0) → (List ℕ → ℕ) → ℕ → List ℕ → List E → ℕ → Type 0
+HoldsInBody spells room limit b values n = Behind spells limit (λ x. (r : List ℕ) × Begun x r limit × (n ≤ room r)) b values
+
+abbrev pub HoldsOf : {E : Type 0} → (List ℕ → E → Type 0) → (List ℕ → ℕ) → ℕ → List ℕ → List E → ℕ → Type 0
+HoldsOf spells room limit w values n = (body : List ℕ) × IsOpen w body × HoldsInBody spells room limit body values n

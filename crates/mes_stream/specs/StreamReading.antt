@@ -1,0 +1,20 @@
+-- What any bytes are to a reader of chunked streams.
+use Rattle.std.specs.Prelude.{◌≡◌, ℕ, List, ◌∷◌, ◌++◌}
+use Rattle.mes_msg.specs.declared.record.RecordFault.{RecordFault}
+use Rattle.mes_stream.specs.Chunked.{IsStream, Live, Shows}
+use Rattle.mes_stream.specs.declared.fault.Fault.{Fault}
+
+pub data StreamReading (E : Type 0) : Type 0 where
+  -- a stream of these values that has not ended
+  Goes : (values : List E) → StreamReading E
+  -- `front` is a whole stream of these values
+  Ends : (front : List ℕ) (values : List E) → StreamReading E
+  -- `front`, which is live with these values, and then the byte that shows the fault
+  Stops : (front : List ℕ) (byte : ℕ) (values : List E) (fault : Fault) → StreamReading E
+
+-- the bytes w read so
+abbrev pub ReadsStream : {E : Type 0} → (List ℕ → E → Type 0) → (List ℕ → RecordFault → Type 0) → ℕ → List ℕ → StreamReading E → Type 0
+ReadsStream spells breaks limit w (Goes values) = Live spells limit w values
+ReadsStream spells breaks limit w (Ends front values) = (rest : List ℕ) × (w ≡ front ++ rest) × IsStream spells limit front values
+ReadsStream spells breaks limit w (Stops front byte values fault) =
+    (rest : List ℕ) × (w ≡ front ++ byte ∷ rest) × Shows spells breaks limit front values byte fault

@@ -1,0 +1,74 @@
+-- What a reader of a body of records holds, and what it makes of a run of the body's bytes.
+use Rattle.std.specs.Prelude.{◌≡◌, ℕ, ◌+◌, ◌-◌, ◌^◌, ◌<◌, ◌≤◌, List, [], ◌∷◌, ◌++◌, length, take, slice_index, Result, Ok, Err}
+use Rattle.mes_frame.specs.Record.{IsRecord, DataBegun, SizeShows}
+use Rattle.mes_frame.specs.RecordState.{RecordStands, RecordPasses, limit_of}
+use Rattle.mes_frame.specs.declared.record.RecordState.{RecordState}
+use Rattle.mes_msg.specs.declared.record.RecordFault.{RecordFault}
+use Rattle.mes_msg.specs.declared.record.RecordFault.TheVariants as refusal
+use Rattle.mes_stream.specs.Stream.{saturated, Records, EndsRecord, BodyStops}
+use Rattle.mes_stream.specs.declared.fault.Fault.{Fault}
+use Rattle.mes_stream.specs.declared.fault.Fault.TheVariants.{Text, Field, NoMemory}
+use Rattle.mes_stream.specs.Reading.{BodyStopsAt}
+use Rattle.mes_stream.specs.declared.body.Body.{Body}
+use Rattle.mes_stream.specs.declared.body.Halt.{Halt}
+use Rattle.mes_stream.specs.declared.body.BodyOut.{BodyOut}
+use Rattle.mes_stream.specs.declared.body.BodyOut.TheVariants as out
+use Rattle.mes_stream.specs.declared.body.Front.{Front}
+use Rattle.mes_stream.specs.declared.body.Front.TheVariants.{Size, Data, Empty, Bad}
+
+-- it has taken the bytes b, which are records that spell the values and perhaps the front of one more
+pub record BodyStands {R E : Type 0} (holds : R → List ℕ → Type 0) (spells : List ℕ → E → Type 0) (d : Body R) (b : List ℕ) (values : List E) : Type 0 where
+  pub whole : List ℕ
+  pub x : List ℕ
+  pub r : List ℕ
+  pub spelt : b ≡ whole ++ x
+  pub records : Records spells (limit_of d.records) whole values
+  pub state : RecordStands d.records x r
+  pub kept : holds d.reader r
+  pub count : d.done ≡ saturated (length values)
+  pub limit : limit_of d.records < 2 ^ 64
+
+-- the front of a run has at least one byte, and no more than the run
+abbrev pub IsWithin : ℕ → Front → Type 0
+IsWithin len Size = Unit {0}
+IsWithin len (Data count last) = (0 < count) × (count ≤ len)
+IsWithin len Empty = Unit {0}
+IsWithin len (Bad fault) = Unit {0}
+
+-- what the front of a run is behind x, the front of a record with the data r
+abbrev pub Fronts : RecordState → List ℕ → List ℕ → List ℕ → Front → Type 0
+Fronts new x r run Size = RecordStands new (x ++ take 1 run) r
+Fronts new x r run (Data count last) =
+    ((left : ℕ) × DataBegun x r left (limit_of new) × (count ≤ left)) × RecordPasses new x r (take count run) last
+Fronts new x r run Empty = IsRecord (x ++ slice_index run 0 ∷ []) [] (limit_of new)
+Fronts new x r run (Bad fault) = SizeShows x (slice_index run 0) (limit_of new) fault
+
+-- a refusal of the record behind so many
+abbrev pub fault_of_record : ℕ → RecordFault → Fault
+fault_of_record done (refusal.Text f) = Text (saturated (done + 1)) f.byte f.why
+fault_of_record done (refusal.Field f) = Field (saturated (done + 1)) f.path f.why
+fault_of_record done refusal.NoMemory = NoMemory
+
+-- What became of the first `used` bytes of the run: they were taken, or a record ended with them and has that value, or
+-- the last of them stopped the reading.
+abbrev pub Takes : {R E : Type 0} → (R → List ℕ → Type 0) → (List ℕ → E → Type 0) → (List ℕ → RecordFault → Type 0) → Body R → List ℕ → List E → List ℕ → ℕ → BodyOut E → Type 0
+Takes holds spells breaks new b values run used out.More = BodyStands holds spells new (b ++ take used run) values
+Takes holds spells breaks new b values run used (out.Value value) =
+    BodyStands holds spells new (b ++ take used run) (values ++ value ∷ [])
+    × EndsRecord spells (limit_of new.records) (b ++ take (used - 1) run) values (slice_index run (used - 1)) (λ r. spells r value)
+Takes holds spells breaks new b values run used (out.Fault fault) =
+    BodyStops spells breaks (limit_of new.records) (b ++ take (used - 1) run) values (slice_index run (used - 1)) fault
+
+-- the value of the record whose data r has ended, or why there is none
+abbrev pub Ends : {R E : Type 0} → (R → List ℕ → Type 0) → (List ℕ → E → Type 0) → (List ℕ → RecordFault → Type 0) → Body R → Body R → List ℕ → BodyOut E → Type 0
+Ends holds spells breaks old new r out.More = ⊥
+Ends holds spells breaks old new r (out.Value value) = spells r value × holds new.reader [] × (new.done ≡ saturated (old.done + 1))
+Ends holds spells breaks old new r (out.Fault fault) = (why : RecordFault) × breaks r why × (fault ≡ fault_of_record old.done why)
+
+-- what became of a piece behind the bytes b: all of it was taken, or a byte of it stops the reading
+abbrev pub Feeds : {R E T : Type 0} → (R → List ℕ → Type 0) → (List ℕ → E → Type 0) → (List ℕ → RecordFault → Type 0) → Body R → List ℕ → List E → List ℕ → List E → List E → Result T Halt → Type 0
+Feeds {E = E} holds spells breaks new b values piece old now (Ok done) =
+    (more : List E) × (now ≡ old ++ more) × BodyStands holds spells new (b ++ piece) (values ++ more)
+Feeds {E = E} holds spells breaks new b values piece old now (Err halt) =
+    (more : List E) × (now ≡ old ++ more)
+    × BodyStopsAt spells breaks (limit_of new.records) (b ++ piece) (values ++ more) halt.fault (length b + halt.used)

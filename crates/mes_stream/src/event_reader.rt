@@ -1,0 +1,70 @@
+//! Reads the data of records to events.
+
+ghost use Rattle.std.specs.Prelude.{◌≡◌, ◌≢◌, ℕ, ◌^◌, ◌<◌, ◌≤◌, List, [], ◌++◌, length, OnOk, IfOk, IfErr};
+ghost use Rattle.mes_json.specs.Inner.{inner};
+ghost use Rattle.mes_msg.specs.Events.{Spells, IsRecordFault};
+ghost use Rattle.mes_stream.specs.EventData.{HoldsData};
+
+use crate::record_reader::RecordReader;
+use mes_json::{Lexer, NoMemory, TextFault, Why, lexer_bound};
+use mes_msg::{Event, RecordFault};
+use mes_part::{Part, Path};
+use std::alloc::Global;
+use std::mem;
+
+/// Reads the data of records to events: JSON texts that are lexed as their bytes come. The memory of a text serves for the
+/// next one.
+#[derive(Drop)]
+pub struct EventReader {
+    alloc: Global,
+    lexer: Lexer,
+}
+
+impl EventReader {
+    /// A reader before the first record. Takes no memory.
+    pub fn new(alloc: Global) -> EventReader
+        ensures { HoldsData result [] }
+    {
+        EventReader {
+            alloc,
+            lexer: Lexer::new(alloc),
+        }
+    }
+}
+
+impl RecordReader for EventReader {
+    type Value = Event;
+
+    ghost holds = { HoldsData };
+
+    ghost spells = { Spells };
+
+    ghost breaks = { IsRecordFault };
+
+    ghost room = { inner };
+
+    fn push_run(&mut self, bytes: &[u8]) -> Result<(), NoMemory> {
+        self.lexer.push_run(bytes)
+    }
+
+    fn finish(&mut self) -> Result<Event, RecordFault> {
+        let alloc = self.alloc;
+        let lexer = mem::replace(&mut self.lexer, Lexer::new(alloc));
+        let tape = lexer.end()?;
+        let event = Event::read_from(alloc, &tape.root(), &Path::new())?;
+        self.lexer = Lexer::reusing(alloc, tape);
+        Ok(event)
+    }
+
+    fn refuse_empty(&self) -> RecordFault {
+        RecordFault::Text(TextFault {
+            byte: 0,
+            why: Why::End,
+        })
+    }
+
+    fn held(&self) -> u64 {
+        lexer_bound(&self.lexer);
+        self.lexer.held()
+    }
+}

@@ -1,0 +1,160 @@
+//! Reads a chunked stream up to its end or its first fault.
+
+ghost use Rattle.std.specs.Prelude.{◌≡◌, ◌≢◌, ◌+◌, ◌<◌, ◌≤◌, ℕ, List, [], ◌∷◌, ◌++◌, length, take, IsTrue, ◌↔◌};
+ghost use Rattle.mes_frame.specs.ChunkState.{room_of};
+ghost use Rattle.mes_stream.specs.Taking.{BodyStands};
+ghost use Rattle.mes_stream.specs.Chunked.{Live};
+ghost use Rattle.mes_stream.specs.Decoders.{HoldsOf};
+ghost use Rattle.mes_stream.specs.Decoding.{ReadingStands, Says, LiveBefore, reading_limit};
+
+use crate::body::{Body, BodyOut};
+use crate::fault::Fault;
+use crate::record_reader::RecordReader;
+use mes_frame::{ChunkOut, ChunkState};
+
+/// What a decoder made of a piece.
+#[derive(Drop)]
+pub struct Step<V> {
+    /// How many bytes of the piece were used.
+    pub used: usize,
+    /// What they were.
+    pub out: Out<V>,
+}
+
+/// What the bytes that were used were.
+#[derive(Drop)]
+pub enum Out<V> {
+    /// The whole piece, and more is wanted.
+    More,
+    /// The value of the record that ended with them.
+    Event(V),
+    /// The last of them ended the stream.
+    End,
+    /// The last of them stops the reading: it shows the fault, or memory was refused there.
+    Fault(Fault),
+}
+
+impl<V> Out<V> {
+    /// The whole piece was used, and more is wanted.
+    pub fn is_more(&self) -> bool
+        ensures { IsTrue result ↔ (self.now ≡ Out.More) }
+    {
+        match self {
+            Out::More => true,
+            Out::Event(_) => false,
+            Out::End => false,
+            Out::Fault(_) => false,
+        }
+    }
+}
+
+/// Reads a chunked stream that has not ended.
+#[derive(Drop)]
+pub(crate) struct Reading<R> {
+    chunks: ChunkState,
+    body: Body<R>,
+}
+
+impl<R: RecordReader> Reading<R> {
+    /// Before the first byte.
+    pub fn new(body: Body<R>) -> Reading<R>
+        requires { BodyStands R.holds R.spells body [] [] }
+        ensures stands { ReadingStands R.holds R.spells result [] [] }
+        ensures body { result.body ≡ body }
+    {
+        Reading {
+            chunks: ChunkState::new(),
+            body,
+        }
+    }
+
+    /// Takes a byte of the framing or a run of data from the front of a piece.
+    pub fn turn(&mut self, rest: &[u8]) -> Step<R::Value>
+        requires { 0 < length rest.now }
+        ensures says { (w : List ℕ) (values : List R.Value) → ReadingStands R.holds R.spells self.old w values
+            → Says (ReadingStands R.holds R.spells self.new) R.spells R.breaks (reading_limit self.new) w values rest.now result.used result.out }
+        ensures before { (w : List ℕ) (values : List R.Value) → ReadingStands R.holds R.spells self.old w values
+            → LiveBefore R.spells (reading_limit self.new) w values rest.now result.used }
+        ensures used { (0 < result.used) × (result.used ≤ length rest.now) }
+        ensures limit { reading_limit self.new ≡ reading_limit self.old }
+    {
+        let room = self.chunks.room();
+        if room == 0 {
+            return Step {
+                used: 1,
+                out: self.frame(rest[0]),
+            };
+        }
+        let count = if room < rest.len() as u64 {
+            room as usize
+        } else {
+            rest.len()
+        };
+        let taken = self.body.take(&rest[..count]);
+        self.chunks.pass(taken.used as u64);
+        Step {
+            used: taken.used,
+            out: match taken.out {
+                BodyOut::More => Out::More,
+                BodyOut::Value(value) => Out::Event(value),
+                BodyOut::Fault(fault) => Out::Fault(fault),
+            },
+        }
+    }
+
+    /// Takes a piece up to the end of a record or of the stream, or a fault, or the piece's end.
+    pub fn next(&mut self, piece: &[u8]) -> Step<R::Value>
+        ensures says { (w : List ℕ) (values : List R.Value) → ReadingStands R.holds R.spells self.old w values
+            → Says (ReadingStands R.holds R.spells self.new) R.spells R.breaks (reading_limit self.new) w values piece.now result.used result.out }
+        ensures before { (w : List ℕ) (values : List R.Value) → ReadingStands R.holds R.spells self.old w values
+            → LiveBefore R.spells (reading_limit self.new) w values piece.now result.used }
+        ensures more { result.out ≡ Out.More → result.used ≡ length piece.now }
+        ensures some { result.out ≢ Out.More → 0 < result.used }
+        ensures used { result.used ≤ length piece.now }
+        ensures limit { reading_limit self.new ≡ reading_limit self.old }
+    {
+        let mut at = 0;
+        while at < piece.len() {
+            let step = self.turn(&piece[at..]);
+            at += step.used;
+            if !step.out.is_more() {
+                return Step {
+                    used: at,
+                    out: step.out,
+                };
+            }
+        }
+        Step {
+            used: at,
+            out: Out::More,
+        }
+    }
+
+    /// How many bytes of the record that has begun are kept.
+    pub fn held(&self) -> u64
+        ensures { (w : List ℕ) (values : List R.Value) → ReadingStands R.holds R.spells self.now w values
+            → HoldsOf R.spells R.room (reading_limit self.now) w values result }
+    {
+        self.body.held()
+    }
+
+    // Takes a byte of the framing.
+    fn frame(&mut self, byte: u8) -> Out<R::Value>
+        ensures says { (w : List ℕ) (values : List R.Value) → ReadingStands R.holds R.spells self.old w values → room_of self.old.chunks ≡ 0
+            → Says (ReadingStands R.holds R.spells self.new) R.spells R.breaks (reading_limit self.new) w values (byte ∷ []) 1 result }
+        ensures body { self.new.body ≡ self.old.body }
+    {
+        match self.chunks.step(byte) {
+            ChunkOut::Quiet => Out::More,
+            ChunkOut::Byte => Out::More,
+            ChunkOut::Closed => {
+                if self.body.between() {
+                    Out::End
+                } else {
+                    Out::Fault(Fault::EndsInsideRecord)
+                }
+            }
+            ChunkOut::Fault(fault) => Out::Fault(Fault::Frame(fault)),
+        }
+    }
+}

@@ -1,0 +1,45 @@
+//! What reads the data of records.
+
+ghost use Rattle.std.specs.Prelude.{◌≡◌, ◌≢◌, ℕ, ◌^◌, ◌<◌, ◌≤◌, List, [], ◌++◌, length, OnOk, IfOk, IfErr};
+ghost use Rattle.mes_msg.specs.declared.record.RecordFault.{RecordFault as Refusal};
+
+use mes_json::NoMemory;
+use mes_msg::RecordFault;
+
+/// Reads the data of one record after the other to a value each, while the bytes come.
+pub trait RecordReader: Drop {
+    /// What the data of a record are read to.
+    type Value: Drop;
+
+    /// The reader has taken these bytes of a record's data, and memory was there for them.
+    ghost holds: { Self → List ℕ → Type 0 };
+
+    /// The data are those of the value.
+    ghost spells: { List ℕ → Self.Value → Type 0 };
+
+    /// The data are those of no value, and why.
+    ghost breaks: { List ℕ → Refusal → Type 0 };
+
+    /// How many bytes are kept of these at most.
+    ghost room: { List ℕ → ℕ };
+
+    /// Takes a run of the data.
+    fn push_run(&mut self, bytes: &[u8]) -> Result<(), NoMemory>
+        ensures ok { OnOk result ((r : List ℕ) → holds self.old r → holds self.new (r ++ bytes.now)) };
+
+    /// Reads the value of the record whose data has ended.
+    fn finish(&mut self) -> Result<Self::Value, RecordFault>
+        ensures ok { (r : List ℕ) → holds self.old r → length r < 2 ^ 64 → IfOk result (spells r) }
+        ensures err { (r : List ℕ) → holds self.old r → length r < 2 ^ 64 → IfErr result (breaks r) }
+        // Then it is ready for the next record.
+        ensures next { OnOk result (holds self.new []) };
+
+    /// Why a record without data has no value. Takes no memory.
+    fn refuse_empty(&self) -> RecordFault
+        ensures breaks { breaks [] result }
+        ensures memory { result ≢ RecordFault.NoMemory };
+
+    /// How many bytes of the data are kept, not counting spare room.
+    fn held(&self) -> u64
+        ensures { (r : List ℕ) → holds self.now r → result ≤ room r };
+}
