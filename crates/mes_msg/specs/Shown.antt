@@ -8,6 +8,7 @@ use Rattle.mes_json.specs.Canonical.{hex_digit, quoted_text}
 use Rattle.mes_model.specs.TaskStates.{state_name}
 use Rattle.mes_model.specs.declared.id.Id.{Id}
 use Rattle.mes_model.specs.declared.offer.Offer.{Offer}
+use Rattle.mes_model.specs.declared.task_status.TaskStatus.{TaskStatus}
 use Rattle.mes_msg.specs.declared.event.Event.{Event}
 use Rattle.mes_msg.specs.declared.event.Event.TheVariants.{Subscribed, Offers, Rescind, Update, Message, Failure, Error, Heartbeat, Other}
 
@@ -35,14 +36,18 @@ seconds_text units = text_of 6 units
 abbrev pub id_text : Id → List ℕ
 id_text id = quoted_text id.value
 
+-- the words of an UPDATE
+abbrev pub update_words : TaskStatus → List (List ℕ)
+update_words status =
+    codes "UPDATE" ∷ id_text status.task_id ∷ state_name status.state ∷ or_dash uuid_text status.uuid ∷ []
+
 -- the words of an event, its type first
 abbrev pub event_words : Event → List (List ℕ)
 event_words (Subscribed body) =
     codes "SUBSCRIBED" ∷ id_text body.framework_id ∷ or_dash seconds_text body.heartbeat_interval_seconds ∷ []
 event_words (Offers offers) = codes "OFFERS" ∷ decimal (length offers) ∷ []
 event_words (Rescind body) = codes "RESCIND" ∷ id_text body.offer_id ∷ []
-event_words (Update body) =
-    codes "UPDATE" ∷ id_text body.status.task_id ∷ state_name body.status.state ∷ or_dash uuid_text body.status.uuid ∷ []
+event_words (Update body) = update_words body.status
 event_words (Message body) =
     codes "MESSAGE" ∷ id_text body.agent_id ∷ id_text body.executor_id ∷ decimal (length body.payload) ∷ []
 event_words (Failure body) =

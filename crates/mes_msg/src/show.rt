@@ -2,7 +2,7 @@
 
 ghost use Rattle.std.specs.Prelude.{◌≡◌, ◌++◌, IfOk};
 ghost use Rattle.std.specs.List.{flat_map};
-ghost use Rattle.mes_msg.specs.Shown.{spaced, event_words, offer_line, event_lines};
+ghost use Rattle.mes_msg.specs.Shown.{spaced, update_words, event_words, offer_line, event_lines};
 
 use crate::event::Event;
 use crate::words::{
@@ -11,7 +11,7 @@ use crate::words::{
 };
 use itoa::Buffer;
 use mes_json::NoMemory;
-use mes_model::Offer;
+use mes_model::{Offer, TaskStatus};
 use std::alloc::Global;
 
 impl Event {
@@ -51,12 +51,7 @@ fn put_event(event: &Event, line: &mut Vec<u8>) -> Result<(), NoMemory>
             put_word("RESCIND", line)?;
             put_id(&body.offer_id, line)
         }
-        Event::Update(body) => {
-            put_word("UPDATE", line)?;
-            put_id(&body.status.task_id, line)?;
-            put_word(body.status.state.name(), line)?;
-            put_some_uuid(&body.status.uuid, line)
-        }
+        Event::Update(body) => put_update(&body.status, line),
         Event::Message(body) => {
             put_word("MESSAGE", line)?;
             put_id(&body.agent_id, line)?;
@@ -79,6 +74,16 @@ fn put_event(event: &Event, line: &mut Vec<u8>) -> Result<(), NoMemory>
             put_text(name.as_str(), line)
         }
     }
+}
+
+/// Appends what is told of an UPDATE.
+fn put_update(status: &TaskStatus, line: &mut Vec<u8>) -> Result<(), NoMemory>
+    ensures { IfOk result (λ _. line.new.items ≡ line.old.items ++ spaced (update_words status.now)) }
+{
+    put_word("UPDATE", line)?;
+    put_id(&status.task_id, line)?;
+    put_word(status.state.name(), line)?;
+    put_some_uuid(&status.uuid, line)
 }
 
 /// Appends a line for each offer.
@@ -126,53 +131,55 @@ mod tests {
         Ok(())
     }
 
+    // Events, and the line of each under the number 1.
+    const BODIES: [(&str, &str); 12] = [
+        (
+            r#"{"type":"SUBSCRIBED","subscribed":{"framework_id":{"value":"F1"},"heartbeat_interval_seconds":15}}"#,
+            "1 SUBSCRIBED \"F1\" 15.0\n",
+        ),
+        (
+            r#"{"type":"SUBSCRIBED","subscribed":{"framework_id":{"value":"F1"},"heartbeat_interval_seconds":0.0000015}}"#,
+            "1 SUBSCRIBED \"F1\" 0.000002\n",
+        ),
+        (
+            r#"{"type":"SUBSCRIBED","subscribed":{"framework_id":{"value":"F1"}}}"#,
+            "1 SUBSCRIBED \"F1\" -\n",
+        ),
+        (
+            r#"{"type":"RESCIND","rescind":{"offer_id":{"value":"O1"}}}"#,
+            "1 RESCIND \"O1\"\n",
+        ),
+        (
+            r#"{"type":"MESSAGE","message":{"agent_id":{"value":"A1"},"executor_id":{"value":"E1"},"data":"AAEC"}}"#,
+            "1 MESSAGE \"A1\" \"E1\" 3\n",
+        ),
+        (
+            r#"{"type":"MESSAGE","message":{"agent_id":{"value":"A1"},"executor_id":{"value":""},"data":""}}"#,
+            "1 MESSAGE \"A1\" \"\" 0\n",
+        ),
+        (r#"{"type":"FAILURE","failure":{}}"#, "1 FAILURE - - -\n"),
+        (
+            r#"{"type":"FAILURE","failure":{"agent_id":{"value":"A1"},"executor_id":{"value":"E1"},"status":-2147483648}}"#,
+            "1 FAILURE \"A1\" \"E1\" -2147483648\n",
+        ),
+        (
+            r#"{"type":"FAILURE","failure":{"executor_id":{"value":"E1"},"status":0}}"#,
+            "1 FAILURE - \"E1\" 0\n",
+        ),
+        (
+            r#"{"type":"ERROR","error":{"message":"m"}}"#,
+            "1 ERROR \"m\"\n",
+        ),
+        (r#"{"type":"HEARTBEAT"}"#, "1 HEARTBEAT\n"),
+        (
+            r#"{"type":"INVERSE_OFFERS","inverse_offers":{}}"#,
+            "1 OTHER \"INVERSE_OFFERS\"\n",
+        ),
+    ];
+
     #[test]
     fn bodies_are_told(rt: HostRuntime) -> Result<(), Fail> {
-        let events = [
-            (
-                r#"{"type":"SUBSCRIBED","subscribed":{"framework_id":{"value":"F1"},"heartbeat_interval_seconds":15}}"#,
-                "1 SUBSCRIBED \"F1\" 15.0\n",
-            ),
-            (
-                r#"{"type":"SUBSCRIBED","subscribed":{"framework_id":{"value":"F1"},"heartbeat_interval_seconds":0.0000015}}"#,
-                "1 SUBSCRIBED \"F1\" 0.000002\n",
-            ),
-            (
-                r#"{"type":"SUBSCRIBED","subscribed":{"framework_id":{"value":"F1"}}}"#,
-                "1 SUBSCRIBED \"F1\" -\n",
-            ),
-            (
-                r#"{"type":"RESCIND","rescind":{"offer_id":{"value":"O1"}}}"#,
-                "1 RESCIND \"O1\"\n",
-            ),
-            (
-                r#"{"type":"MESSAGE","message":{"agent_id":{"value":"A1"},"executor_id":{"value":"E1"},"data":"AAEC"}}"#,
-                "1 MESSAGE \"A1\" \"E1\" 3\n",
-            ),
-            (
-                r#"{"type":"MESSAGE","message":{"agent_id":{"value":"A1"},"executor_id":{"value":""},"data":""}}"#,
-                "1 MESSAGE \"A1\" \"\" 0\n",
-            ),
-            (r#"{"type":"FAILURE","failure":{}}"#, "1 FAILURE - - -\n"),
-            (
-                r#"{"type":"FAILURE","failure":{"agent_id":{"value":"A1"},"executor_id":{"value":"E1"},"status":-2147483648}}"#,
-                "1 FAILURE \"A1\" \"E1\" -2147483648\n",
-            ),
-            (
-                r#"{"type":"FAILURE","failure":{"executor_id":{"value":"E1"},"status":0}}"#,
-                "1 FAILURE - \"E1\" 0\n",
-            ),
-            (
-                r#"{"type":"ERROR","error":{"message":"m"}}"#,
-                "1 ERROR \"m\"\n",
-            ),
-            (r#"{"type":"HEARTBEAT"}"#, "1 HEARTBEAT\n"),
-            (
-                r#"{"type":"INVERSE_OFFERS","inverse_offers":{}}"#,
-                "1 OTHER \"INVERSE_OFFERS\"\n",
-            ),
-        ];
-        for (record, lines) in events {
+        for (record, lines) in BODIES {
             expect_lines(&rt, rt.alloc(), 1, record, lines)?;
         }
         Ok(())

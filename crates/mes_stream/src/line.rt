@@ -150,70 +150,52 @@ mod tests {
     }
 
     #[test]
-    fn framing_and_device_faults(rt: HostRuntime) {
-        expect_line(
-            &rt,
-            &Fault::Frame(FrameFault::BadChunkLine),
-            1,
-            "fault F1 BadChunkLine after 1",
-        );
-        expect_line(
-            &rt,
-            &Fault::Frame(FrameFault::ChunkLineTooLong),
-            257,
-            "fault F2 ChunkLineTooLong after 257",
-        );
-        expect_line(
-            &rt,
-            &Fault::Frame(FrameFault::ChunkTooLarge),
-            17,
-            "fault F3 ChunkTooLarge after 17",
-        );
-        expect_line(
-            &rt,
-            &Fault::Frame(FrameFault::BadChunkEnd),
-            5,
-            "fault F4 BadChunkEnd after 5",
-        );
-        expect_line(
-            &rt,
-            &Fault::Frame(FrameFault::TrailersTooLong),
-            4100,
-            "fault F5 TrailersTooLong after 4100",
-        );
-        expect_line(
-            &rt,
-            &Fault::Frame(FrameFault::BadSizeLine),
-            1,
-            "fault F7 BadSizeLine after 1",
-        );
-        expect_line(
-            &rt,
-            &Fault::Frame(FrameFault::SizeLineTooLong),
-            21,
-            "fault F8 SizeLineTooLong after 21",
-        );
-        expect_line(
-            &rt,
-            &Fault::Frame(FrameFault::RecordTooLarge),
-            3,
-            "fault F9 RecordTooLarge after 3",
-        );
-        expect_line(
-            &rt,
-            &Fault::EndsInsideChunks,
-            0,
-            "fault F6 EndsInsideChunks after 0",
-        );
-        expect_line(
-            &rt,
-            &Fault::EndsInsideRecord,
-            12,
-            "fault F10 EndsInsideRecord after 12",
-        );
-        expect_line(&rt, &Fault::NoMemory, 5, "fault F13 NoMemory after 5");
-        expect_line(&rt, &Fault::Read, 0, "fault F14 Read after 0");
-        expect_line(&rt, &Fault::ReadsSpent, 0, "fault F15 ReadsSpent after 0");
+    fn framing_faults(rt: HostRuntime) {
+        let faults = [
+            (FrameFault::BadChunkLine, "fault F1 BadChunkLine after 5"),
+            (
+                FrameFault::ChunkLineTooLong,
+                "fault F2 ChunkLineTooLong after 5",
+            ),
+            (FrameFault::ChunkTooLarge, "fault F3 ChunkTooLarge after 5"),
+            (FrameFault::BadChunkEnd, "fault F4 BadChunkEnd after 5"),
+            (
+                FrameFault::TrailersTooLong,
+                "fault F5 TrailersTooLong after 5",
+            ),
+            (FrameFault::BadSizeLine, "fault F7 BadSizeLine after 5"),
+            (
+                FrameFault::SizeLineTooLong,
+                "fault F8 SizeLineTooLong after 5",
+            ),
+            (
+                FrameFault::RecordTooLarge,
+                "fault F9 RecordTooLarge after 5",
+            ),
+        ];
+        for (fault, expected) in faults {
+            expect_line(&rt, &Fault::Frame(fault), 5, expected);
+        }
+    }
+
+    #[test]
+    fn ends_and_device_faults(rt: HostRuntime) {
+        let faults = [
+            (
+                Fault::EndsInsideChunks,
+                "fault F6 EndsInsideChunks after 12",
+            ),
+            (
+                Fault::EndsInsideRecord,
+                "fault F10 EndsInsideRecord after 12",
+            ),
+            (Fault::NoMemory, "fault F13 NoMemory after 12"),
+            (Fault::Read, "fault F14 Read after 12"),
+            (Fault::ReadsSpent, "fault F15 ReadsSpent after 12"),
+        ];
+        for (fault, expected) in faults {
+            expect_line(&rt, &fault, 12, expected);
+        }
     }
 
     #[test]
@@ -279,6 +261,10 @@ mod tests {
             5,
             "fault F12 Field record 1 . WrongKind after 5",
         );
+    }
+
+    #[test]
+    fn field_faults_of_elements(rt: HostRuntime) {
         let listed = Path::new()
             .with(Step::Name("a"))
             .with(Step::Name("b"))

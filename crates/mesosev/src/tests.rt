@@ -1,5 +1,6 @@
 //! The words of the command, as a user writes them.
 
+mod devices;
 mod run;
 mod show;
 

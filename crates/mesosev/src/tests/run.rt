@@ -1,23 +1,16 @@
 //! The command over devices in memory: the line that it prints, and its status.
 
+use super::devices::{HEARTBEAT, WRITE_SIZE, expect_run};
 use crate::run::run;
 use mes_frame::{MemorySink, MemorySource, MemoryStop};
 use std::alloc::AllocGlobal;
 use std::process::Abort;
 use std::test::Fail;
 
-// A record of 20 bytes, 23 with its size line.
-const HEARTBEAT: &str = "20\n{\"type\":\"HEARTBEAT\"}";
-
-// What `check` prints of it, in 18 bytes.
+// What `check` prints of a record of 20 bytes, in 18 bytes.
 const HEARTBEAT_LINE: &str = "events 1 bytes 23\n";
 
-// How many bytes the reader gives by one call, and the writer takes.
-const READ_SIZES: [usize; 3] = [1, 7, 4096];
-
-const WRITE_SIZE: usize = 5;
-
-// Runs `check` with the words behind it over the input, by pieces of each size, and asserts what it prints and answers.
+// Runs `check` with the words behind it over the input, and asserts the line that it prints and its status.
 fn expect_check<R: Abort + AllocGlobal>(
     rt: &R,
     more: &[&str],
@@ -25,20 +18,8 @@ fn expect_check<R: Abort + AllocGlobal>(
     line: &str,
     status: u8,
 ) -> Result<(), Fail> {
-    let mut words = Vec::new(rt.alloc());
-    words.extend_from_slice(&["mesosev", "check"])?;
-    words.extend_from_slice(more)?;
     let line = format!(in rt.alloc(); "{line}\n")?;
-    for most in READ_SIZES {
-        let mut source = MemorySource::new(input.as_bytes(), most);
-        let mut out = MemorySink::new(rt.alloc(), WRITE_SIZE);
-        let mut err = MemorySink::new(rt.alloc(), WRITE_SIZE);
-        let answer = run(rt, words.as_slice(), &mut source, &mut out, &mut err);
-        assert_eq!(rt; out.bytes(), line.as_bytes(), "{input:?} by {most}");
-        assert_eq!(rt; answer, status, "{input:?} by {most}");
-        assert!(rt; err.bytes().is_empty(), "{input:?} by {most}");
-    }
-    Ok(())
+    expect_run(rt, "check", more, input, line.as_str(), status)
 }
 
 #[test]
@@ -78,89 +59,91 @@ fn events_are_counted(rt: HostRuntime) -> Result<(), Fail> {
     expect_check(&rt, &["--limit", "20"], HEARTBEAT, "events 1 bytes 23", 0)
 }
 
+// Streams, and the fault of each.
+const FAULTS: [(&str, &str); 23] = [
+    // Size lines.
+    ("x", "fault F7 BadSizeLine after 1"),
+    (
+        "000000000000000000020\n",
+        "fault F8 SizeLineTooLong after 21",
+    ),
+    ("18446744073709551636\n", "fault F9 RecordTooLarge after 21"),
+    // Records that are no JSON text.
+    ("0\n", "fault F11 Text record 1 byte 0 End after 2"),
+    (
+        "34\n{\"type\":\"HEARTBEAT\",\"x\":\"\\ud800x\"}",
+        "fault F11 Text record 1 byte 31 Byte after 37",
+    ),
+    (
+        "33\n{\"type\":\"HEARTBEAT\",\"x\":\"\\udc00\"}",
+        "fault F11 Text record 1 byte 28 Byte after 36",
+    ),
+    // JSON texts of no event.
+    (
+        "7\n\"abcde\"",
+        "fault F12 Field record 1 . WrongKind after 9",
+    ),
+    ("4\nnull", "fault F12 Field record 1 . WrongKind after 6"),
+    ("2\n[]", "fault F12 Field record 1 . WrongKind after 4"),
+    ("2\n{}", "fault F12 Field record 1 type Missing after 4"),
+    (
+        "13\n{\"type\":null}",
+        "fault F12 Field record 1 type Missing after 16",
+    ),
+    (
+        "25\n{\"type\":null,\"type\":null}",
+        "fault F12 Field record 1 type Twice after 28",
+    ),
+    (
+        "10\n{\"type\":1}",
+        "fault F12 Field record 1 type WrongKind after 13",
+    ),
+    (
+        "11\n{\"type\":{}}",
+        "fault F12 Field record 1 type WrongKind after 14",
+    ),
+    (
+        "18\n{\"type\":\"RESCIND\"}",
+        "fault F12 Field record 1 rescind Missing after 21",
+    ),
+    (
+        "39\n{\"type\":\"HEARTBEAT\",\"type\":\"HEARTBEAT\"}",
+        "fault F12 Field record 1 type Twice after 42",
+    ),
+    (
+        "16\n{\"type\":\"ERROR\"}",
+        "fault F12 Field record 1 error Missing after 19",
+    ),
+    (
+        "28\n{\"type\":\"ERROR\",\"error\":\"m\"}",
+        "fault F12 Field record 1 error WrongKind after 31",
+    ),
+    (
+        "64\n{\"type\":\"ERROR\",\"error\":{\"message\":\"m\"},\"error\":{\"message\":\"m\"}}",
+        "fault F12 Field record 1 error Twice after 67",
+    ),
+    (
+        "27\n{\"type\":\"ERROR\",\"error\":{}}",
+        "fault F12 Field record 1 error.message Missing after 30",
+    ),
+    (
+        "39\n{\"type\":\"ERROR\",\"error\":{\"message\":{}}}",
+        "fault F12 Field record 1 error.message WrongKind after 42",
+    ),
+    (
+        "54\n{\"type\":\"ERROR\",\"error\":{\"message\":\"m\",\"message\":\"n\"}}",
+        "fault F12 Field record 1 error.message Twice after 57",
+    ),
+    // The record behind an event, before a good one.
+    (
+        "20\n{\"type\":\"HEARTBEAT\"}2\n{}20\n{\"type\":\"HEARTBEAT\"}",
+        "fault F12 Field record 2 type Missing after 27",
+    ),
+];
+
 #[test]
 fn faults_are_told(rt: HostRuntime) -> Result<(), Fail> {
-    let streams = [
-        // Size lines.
-        ("x", "fault F7 BadSizeLine after 1"),
-        (
-            "000000000000000000020\n",
-            "fault F8 SizeLineTooLong after 21",
-        ),
-        ("18446744073709551636\n", "fault F9 RecordTooLarge after 21"),
-        // Records that are no JSON text.
-        ("0\n", "fault F11 Text record 1 byte 0 End after 2"),
-        (
-            "34\n{\"type\":\"HEARTBEAT\",\"x\":\"\\ud800x\"}",
-            "fault F11 Text record 1 byte 31 Byte after 37",
-        ),
-        (
-            "33\n{\"type\":\"HEARTBEAT\",\"x\":\"\\udc00\"}",
-            "fault F11 Text record 1 byte 28 Byte after 36",
-        ),
-        // JSON texts of no event.
-        (
-            "7\n\"abcde\"",
-            "fault F12 Field record 1 . WrongKind after 9",
-        ),
-        ("4\nnull", "fault F12 Field record 1 . WrongKind after 6"),
-        ("2\n[]", "fault F12 Field record 1 . WrongKind after 4"),
-        ("2\n{}", "fault F12 Field record 1 type Missing after 4"),
-        (
-            "13\n{\"type\":null}",
-            "fault F12 Field record 1 type Missing after 16",
-        ),
-        (
-            "25\n{\"type\":null,\"type\":null}",
-            "fault F12 Field record 1 type Twice after 28",
-        ),
-        (
-            "10\n{\"type\":1}",
-            "fault F12 Field record 1 type WrongKind after 13",
-        ),
-        (
-            "11\n{\"type\":{}}",
-            "fault F12 Field record 1 type WrongKind after 14",
-        ),
-        (
-            "18\n{\"type\":\"RESCIND\"}",
-            "fault F12 Field record 1 rescind Missing after 21",
-        ),
-        (
-            "39\n{\"type\":\"HEARTBEAT\",\"type\":\"HEARTBEAT\"}",
-            "fault F12 Field record 1 type Twice after 42",
-        ),
-        (
-            "16\n{\"type\":\"ERROR\"}",
-            "fault F12 Field record 1 error Missing after 19",
-        ),
-        (
-            "28\n{\"type\":\"ERROR\",\"error\":\"m\"}",
-            "fault F12 Field record 1 error WrongKind after 31",
-        ),
-        (
-            "64\n{\"type\":\"ERROR\",\"error\":{\"message\":\"m\"},\"error\":{\"message\":\"m\"}}",
-            "fault F12 Field record 1 error Twice after 67",
-        ),
-        (
-            "27\n{\"type\":\"ERROR\",\"error\":{}}",
-            "fault F12 Field record 1 error.message Missing after 30",
-        ),
-        (
-            "39\n{\"type\":\"ERROR\",\"error\":{\"message\":{}}}",
-            "fault F12 Field record 1 error.message WrongKind after 42",
-        ),
-        (
-            "54\n{\"type\":\"ERROR\",\"error\":{\"message\":\"m\",\"message\":\"n\"}}",
-            "fault F12 Field record 1 error.message Twice after 57",
-        ),
-        // The record behind an event, before a good one.
-        (
-            "20\n{\"type\":\"HEARTBEAT\"}2\n{}20\n{\"type\":\"HEARTBEAT\"}",
-            "fault F12 Field record 2 type Missing after 27",
-        ),
-    ];
-    for (input, line) in streams {
+    for (input, line) in FAULTS {
         expect_check(&rt, &[], input, line, 1)?;
     }
     expect_check(

@@ -1,44 +1,12 @@
 //! `show` over devices in memory: the lines of the events, the line behind them, and the status.
 
+use super::devices::{HEARTBEAT, WRITE_SIZE, expect_run};
 use crate::run::run;
 use mes_frame::{MemorySink, MemorySource, MemoryStop};
-use std::alloc::AllocGlobal;
-use std::process::Abort;
 use std::test::Fail;
 
-// A record of 20 bytes, 23 with its size line.
-const HEARTBEAT: &str = "20\n{\"type\":\"HEARTBEAT\"}";
-
-// What `show` prints of it, in 30 bytes.
+// What `show` prints of a record of 20 bytes, in 30 bytes.
 const HEARTBEAT_LINES: &str = "1 HEARTBEAT\nevents 1 bytes 23\n";
-
-// How many bytes the reader gives by one call, and the writer takes.
-const READ_SIZES: [usize; 3] = [1, 7, 4096];
-
-const WRITE_SIZE: usize = 5;
-
-// Runs `show` with the words behind it over the input, by pieces of each size, and asserts what it prints and answers.
-fn expect_show<R: Abort + AllocGlobal>(
-    rt: &R,
-    more: &[&str],
-    input: &str,
-    text: &str,
-    status: u8,
-) -> Result<(), Fail> {
-    let mut words = Vec::new(rt.alloc());
-    words.extend_from_slice(&["mesosev", "show"])?;
-    words.extend_from_slice(more)?;
-    for most in READ_SIZES {
-        let mut source = MemorySource::new(input.as_bytes(), most);
-        let mut out = MemorySink::new(rt.alloc(), WRITE_SIZE);
-        let mut err = MemorySink::new(rt.alloc(), WRITE_SIZE);
-        let answer = run(rt, words.as_slice(), &mut source, &mut out, &mut err);
-        assert_eq!(rt; out.bytes(), text.as_bytes(), "{input:?} by {most}");
-        assert_eq!(rt; answer, status, "{input:?} by {most}");
-        assert!(rt; err.bytes().is_empty(), "{input:?} by {most}");
-    }
-    Ok(())
-}
 
 #[test]
 fn events_are_shown(rt: HostRuntime) -> Result<(), Fail> {
@@ -51,10 +19,17 @@ fn events_are_shown(rt: HostRuntime) -> Result<(), Fail> {
         ),
     ];
     for (input, text) in streams {
-        expect_show(&rt, &[], input, text, 0)?;
+        expect_run(&rt, "show", &[], input, text, 0)?;
     }
-    expect_show(&rt, &["--limit", "20"], HEARTBEAT, HEARTBEAT_LINES, 0)?;
-    expect_show(&rt, &["--limit=20"], HEARTBEAT, HEARTBEAT_LINES, 0)
+    expect_run(
+        &rt,
+        "show",
+        &["--limit", "20"],
+        HEARTBEAT,
+        HEARTBEAT_LINES,
+        0,
+    )?;
+    expect_run(&rt, "show", &["--limit=20"], HEARTBEAT, HEARTBEAT_LINES, 0)
 }
 
 // 920 bytes, which are more than one read takes.
@@ -67,7 +42,7 @@ fn events_are_numbered_over_reads(rt: HostRuntime) -> Result<(), Fail> {
         text.push_str(line.as_str())?;
     }
     text.push_str("events 40 bytes 920\n")?;
-    expect_show(&rt, &[], input.as_str(), text.as_str(), 0)
+    expect_run(&rt, "show", &[], input.as_str(), text.as_str(), 0)
 }
 
 #[test]
@@ -88,10 +63,11 @@ fn events_before_a_fault_are_shown(rt: HostRuntime) -> Result<(), Fail> {
         ),
     ];
     for (input, text) in streams {
-        expect_show(&rt, &[], input, text, 1)?;
+        expect_run(&rt, "show", &[], input, text, 1)?;
     }
-    expect_show(
+    expect_run(
         &rt,
+        "show",
         &["--limit", "19"],
         HEARTBEAT,
         "fault F9 RecordTooLarge after 3\n",

@@ -1,6 +1,3 @@
-use Rattle.std.proofs.Common.{ap, ◌∙◌, sym}
-use Rattle.mes_msg.specs.Shown.{spaced, event_words}
-use Rattle.mes_msg.specs.declared.event.Event.{Event}
 use Rattle.mes_msg.proofs.WordLemmas.{three_words}
 use Rattle.mes_msg.proofs.show.put_event.Goals as goal
 
