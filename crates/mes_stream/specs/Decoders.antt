@@ -48,6 +48,14 @@ EndsBy end (out.Event value) = end ≡ None
 EndsBy end out.End = end ≡ Some Closed
 EndsBy end (out.Fault fault) = end ≡ Some (Failed fault)
 
+abbrev pub kept_at : {R : Type 0} → (R → ℕ) → State R → ℕ
+kept_at kept (state.Going reading) = kept reading.body.reader
+kept_at kept (state.Ended end) = 0
+
+-- how many bytes are kept of the record that has begun: none after the end or a fault
+abbrev pub kept_by : {R : Type 0} → (R → ℕ) → Decoder R → ℕ
+kept_by kept d = kept_at kept d.state
+
 -- n is at most what may be kept of the data, so far, of the record that has begun
 abbrev pub HoldsInBody : {E : Type 0} → (List ℕ → E → Type 0) → (List ℕ → ℕ) → ℕ → List ℕ → List E → ℕ → Type 0
 HoldsInBody spells room limit b values n = Behind spells limit (λ x. (r : List ℕ) × Begun x r limit × (n ≤ room r)) b values

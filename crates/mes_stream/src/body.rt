@@ -157,7 +157,8 @@ impl<R: RecordReader> Body<R> {
 
     /// How many bytes of the record that has begun are kept.
     pub fn held(&self) -> u64
-        ensures { (b : List ℕ) (values : List R.Value) → BodyStands R.holds R.spells self.now b values
+        ensures count { result ≡ R.kept self.now.reader }
+        ensures most { (b : List ℕ) (values : List R.Value) → BodyStands R.holds R.spells self.now b values
             → HoldsInBody R.spells R.room (limit_of self.now.records) b values result }
     {
         self.reader.held()

@@ -3,7 +3,7 @@
 ghost use Rattle.std.specs.Prelude.{◌≡◌, ◌≢◌, ℕ, ◌+◌, ◌<◌, ◌≤◌, List, [], ◌++◌, length, None, Some, IfSome};
 ghost use Rattle.mes_stream.specs.Chunked.{Live};
 ghost use Rattle.mes_stream.specs.Decoding.{Says, LiveBefore};
-ghost use Rattle.mes_stream.specs.Decoders.{DecoderStands, end_of, answer_of, finish_of, EndsBy, HoldsOf};
+ghost use Rattle.mes_stream.specs.Decoders.{DecoderStands, end_of, answer_of, finish_of, EndsBy, HoldsOf, kept_by};
 ghost use Rattle.mes_stream.specs.EventData.{HoldsData};
 ghost use Rattle.mes_msg.specs.Events.{Spells};
 
@@ -132,8 +132,8 @@ impl<R: RecordReader> Decoder<R> {
     pub fn held(&self) -> u64
         ensures held { (limit : ℕ) (w : List ℕ) (values : List R.Value) → DecoderStands R.holds R.spells self.now limit w values
             → HoldsOf R.spells R.room limit w values result }
-        // After the end or a fault nothing is.
-        ensures ended { end_of self.now ≢ None → result ≡ 0 }
+        // It is what the reader of records keeps; after the end or a fault nothing is.
+        ensures count { result ≡ kept_by R.kept self.now }
     {
         match &self.state {
             State::Going(reading) => reading.held(),

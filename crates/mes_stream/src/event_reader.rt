@@ -3,7 +3,7 @@
 ghost use Rattle.std.specs.Prelude.{◌≡◌, ◌≢◌, ℕ, ◌^◌, ◌<◌, ◌≤◌, List, [], ◌++◌, length, OnOk, IfOk, IfErr};
 ghost use Rattle.mes_json.specs.Inner.{inner};
 ghost use Rattle.mes_msg.specs.Events.{Spells, IsRecordFault};
-ghost use Rattle.mes_stream.specs.EventData.{HoldsData};
+ghost use Rattle.mes_stream.specs.EventData.{HoldsData, kept_data};
 
 use crate::record_reader::RecordReader;
 use mes_json::{Lexer, NoMemory, TextFault, Why, lexer_bound};
@@ -40,6 +40,8 @@ impl RecordReader for EventReader {
     ghost spells = { Spells };
 
     ghost breaks = { IsRecordFault };
+
+    ghost kept = { kept_data };
 
     ghost room = { inner };
 

@@ -132,7 +132,8 @@ impl<R: RecordReader> Reading<R> {
 
     /// How many bytes of the record that has begun are kept.
     pub fn held(&self) -> u64
-        ensures { (w : List ℕ) (values : List R.Value) → ReadingStands R.holds R.spells self.now w values
+        ensures count { result ≡ R.kept self.now.body.reader }
+        ensures most { (w : List ℕ) (values : List R.Value) → ReadingStands R.holds R.spells self.now w values
             → HoldsOf R.spells R.room (reading_limit self.now) w values result }
     {
         self.body.held()

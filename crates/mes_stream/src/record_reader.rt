@@ -20,6 +20,9 @@ pub trait RecordReader: Drop {
     /// The data are those of no value, and why.
     ghost breaks: { List ℕ → Refusal → Type 0 };
 
+    /// How many bytes of the data are kept.
+    ghost kept: { Self → ℕ };
+
     /// How many bytes are kept of these at most.
     ghost room: { List ℕ → ℕ };
 
@@ -41,5 +44,6 @@ pub trait RecordReader: Drop {
 
     /// How many bytes of the data are kept, not counting spare room.
     fn held(&self) -> u64
-        ensures { (r : List ℕ) → holds self.now r → result ≤ room r };
+        ensures count { result ≡ kept self.now }
+        ensures most { (r : List ℕ) → holds self.now r → result ≤ room r };
 }

@@ -1,11 +1,11 @@
 use Rattle.mes_frame.proofs.Records.{begun_of}
 use Rattle.mes_stream.proofs.body.Body.held.Goals as goal
 
-pub returns : goal.returns
-returns g c = λ b values s. record {
+pub returns-clause-most : goal.returns-clause-most
+returns-clause-most g c = λ b values s. record {
   whole = s.whole;
   x = s.x;
   spelt = s.spelt;
   records = s.records;
-  is = (s.r, begun_of c.args.self.now.records s.x s.r s.state, c.held.ensures s.r s.kept);
+  is = (s.r, begun_of c.args.self.now.records s.x s.r s.state, c.held.ensures.most s.r s.kept);
 }
