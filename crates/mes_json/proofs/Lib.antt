@@ -24,7 +24,9 @@ pub mod TapeLemmas
 pub mod ReaderLemmas
 pub mod AfterLemmas
 pub mod TakenLemmas
+pub mod CharacterLemmas
 pub mod PlainLemmas
+pub mod EscapeTaken
 pub mod BlockLemmas
 pub mod FrontLemmas
 pub mod BlankLemmas

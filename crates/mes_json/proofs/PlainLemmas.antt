@@ -1,57 +1,75 @@
--- How plain characters move the reader, all at once.
---     plain_taken     a run of them is taken
-use Rattle.std.proofs.Common.{◌≡◌, ℕ, ◌+◌, ◌-◌, ◌≤◌, Bool, true, List, [], ◌∷◌, ◌++◌, length, take, drop, Some, option_and_then, if◌then◌else◌, nat_lt, refl, ap, sym, ◌∙◌, append_assoc, append-nil, lt-ltb}
-use Rattle.std.specs.List.{AllByRecursion}
+-- How characters of a string that stand for themselves move the reader, all at once.
+--     characters_taken    a run of them is taken
+--     string_taken        and the quotation mark behind it
+--     runs_further        and what is taken behind that
+--     colon_taken         a colon
+use Rattle.std.proofs.Common.{◌≡◌, ℕ, ◌+◌, ◌-◌, ◌<◌, ◌≤◌, List, ◌∷◌, ◌++◌, length, take, drop, Some, Ok, get_or, ap, sym, ◌∙◌, refl, arith}
 use Rattle.mes_json.specs.Machine as m
-use Rattle.mes_json.specs.Machine.{Frame, State, run, on_quoted, lead}
+use Rattle.mes_json.specs.Machine.{State, step, run}
+use Rattle.mes_json.specs.Machine.Frame.{frame}
 use Rattle.mes_json.specs.Machine.State.{state}
-use Rattle.mes_json.specs.Reader.{with_read, IsAt, Fits, Keeps, RunsTo, IsPlain}
+use Rattle.mes_json.specs.Tape.{value_due}
+use Rattle.mes_json.specs.Reader.{with_read, AtColon, AtValue, IsAt, Fits, Reached, Keeps, Puts, RunsTo, StandAlone, string_node, behind_string}
 use Rattle.mes_json.specs.declared.limits.TheConstants.{NESTING_LIMIT}
 use Rattle.mes_json.specs.declared.nesting.Open.{Open}
 use Rattle.mes_json.specs.declared.utf8.Mid as mid
 use Rattle.mes_json.specs.declared.at.Purpose as purpose
 use Rattle.mes_json.specs.declared.at.At as at
 use Rattle.mes_json.specs.declared.reader.Reader.{Reader}
-use Rattle.mes_json.proofs.ReaderLemmas.{part}
-use Rattle.mes_json.proofs.TakenLemmas.{runs_over}
-use Rattle.mes_json.proofs.StringLemmas.{between_reads}
+use Rattle.mes_json.proofs.ReaderLemmas.{part, due, view_at, form_at, covered_at}
+use Rattle.mes_json.proofs.TakenLemmas.{runs_over, over, reached_over, one_more}
+use Rattle.mes_json.proofs.StringLemmas.{string_ends}
 
--- ---- the machine's run over them
-where_true : {A : Type 0} (t : Bool) (x y : A) → t ≡ true → (if t then x else y) ≡ x
-where_true t x y is = ap (λ (b : Bool). if b then x else y) is
-
-plain_lead : (c : ℕ) → IsPlain c → lead c ≡ Some m.Mid.between
-plain_lead c h = where_true (nat_lt c 0x80) (Some m.Mid.between) _ (lt-ltb c 0x80 h.1)
-
-plain_step : (fs : List Frame) (p : m.Purpose) (b : List ℕ) (c : ℕ) → IsPlain c → on_quoted fs p m.Mid.between b c ≡ Some (state fs (m.At.quoted p m.Mid.between (b ++ c ∷ [])))
-plain_step fs p b c h = between_reads c mid.TheVariants.Between h.2 h.0 h.3 (plain_lead c h) fs p b
-
-over_plain : (d : ℕ) (fs : List Frame) (p : m.Purpose) (b q : List ℕ) → AllByRecursion IsPlain q
-    → run d (state fs (m.At.quoted p m.Mid.between b)) q ≡ Some (state fs (m.At.quoted p m.Mid.between (b ++ q)))
-unfolding run
-over_plain d fs p b [] h = ap (λ (x : List ℕ). Some (state fs (m.At.quoted p m.Mid.between x))) (sym (append-nil b))
-over_plain d fs p b (c ∷ q) h =
-    ap (option_and_then (λ (next : State). run d next q)) (plain_step fs p b c h.0) ∙ over_plain d fs p (b ++ c ∷ []) q h.1
-    ∙ ap (λ (x : List ℕ). Some (state fs (m.At.quoted p m.Mid.between x))) (append_assoc b (c ∷ []) q)
-
--- ---- the reader's
 abbrev inside : purpose.Purpose → at.At
 inside p = at.TheVariants.Quoted p mid.TheVariants.Between
 
-shown_run : (p : purpose.Purpose) (n : List Open) (b q : List ℕ) (s : State) → IsAt (inside p) n s → AllByRecursion IsPlain q
+shown_run : (p : purpose.Purpose) (n : List Open) (b q : List ℕ) (s : State) → IsAt (inside p) n s → StandAlone q
     → run NESTING_LIMIT (with_read (inside p) b s) q ≡ Some (with_read (inside p) (b ++ q) s)
-shown_run purpose.TheVariants.Name n b q s h plain =
+shown_run purpose.TheVariants.Name n b q s h alone =
     ap (λ (t : State). run NESTING_LIMIT (with_read (inside purpose.TheVariants.Name) b t) q) h.is
-    ∙ over_plain NESTING_LIMIT h.frames (m.Purpose.for_name h.members) b q plain
+    ∙ alone.runs h.frames (m.Purpose.for_name h.members) b
     ∙ ap (λ (t : State). Some (with_read (inside purpose.TheVariants.Name) (b ++ q) t)) (sym h.is)
-shown_run purpose.TheVariants.Value n b q s h plain =
+shown_run purpose.TheVariants.Value n b q s h alone =
     ap (λ (t : State). run NESTING_LIMIT (with_read (inside purpose.TheVariants.Value) b t) q) h.is
-    ∙ over_plain NESTING_LIMIT h.frames m.Purpose.for_value b q plain
+    ∙ alone.runs h.frames m.Purpose.for_value b
     ∙ ap (λ (t : State). Some (with_read (inside purpose.TheVariants.Value) (b ++ q) t)) (sym h.is)
 
 -- a run over the bytes behind the place, as they are cut out
-pub plain_taken : (old new : Reader) (p : purpose.Purpose) (b : List ℕ) (from n : ℕ) → Fits old → old.at ≡ inside p → from ≤ length b
-    → n ≤ length (take (length b - from) (drop from b)) → AllByRecursion IsPlain (take n (take (length b - from) (drop from b)))
+pub characters_taken : (old new : Reader) (p : purpose.Purpose) (b : List ℕ) (from n : ℕ) → Fits old → old.at ≡ inside p → from ≤ length b
+    → n ≤ length (take (length b - from) (drop from b)) → StandAlone (take n (take (length b - from) (drop from b)))
     → Keeps old (take n (take (length b - from) (drop from b))) (inside p) new → RunsTo old b from (from + n) new
-plain_taken old new p b from n fits is_at within few plain keeps =
-    runs_over old new (inside p) b from n fits is_at (λ start end last. refl) within few (λ s h. shown_run p old.nesting.items (part old) (take n (take (length b - from) (drop from b))) s h plain) keeps
+characters_taken old new p b from n fits is_at within few alone keeps =
+    runs_over old new (inside p) b from n fits is_at (λ start end last. refl) within few (λ s h. shown_run p old.nesting.items (part old) (take n (take (length b - from) (drop from b))) s h alone) keeps
+
+-- and the quotation mark behind them
+pub string_taken : (old mid new : Reader) (p : purpose.Purpose) (b : List ℕ) (from n : ℕ) → Puts mid mid.nesting.items (string_node p mid) (behind_string p) new
+    → Fits old → Reached old → old.at ≡ inside p → from ≤ length b → n ≤ length (take (length b - from) (drop from b))
+    → StandAlone (take n (take (length b - from) (drop from b))) → Keeps old (take n (take (length b - from) (drop from b))) (inside p) mid
+    → from + n < length b → get_or b (from + n) 0 ≡ 34 → RunsTo old b from (from + n + 1) new
+string_taken old mid new p b from n puts fits reached is_at within few alone keeps more quote =
+    let q = take n (take (length b - from) (drop from b)) in
+    let runs = characters_taken old mid p b from n fits is_at within few alone keeps in
+    let known = reached_over old mid q reached (over old mid (inside p) q fits is_at (λ s h. shown_run p old.nesting.items (part old) q s h alone) keeps) in
+    let ends = string_ends {A = ℕ} p mid new (Ok 0) (get_or b (from + n) 0) runs.fits known keeps.at quote puts tt in
+    one_more old mid new b from (from + n) runs more ends.0 ends.1
+
+pub runs_further : (old mid new : Reader) (b : List ℕ) (from place to : ℕ) → RunsTo old b from place mid → RunsTo mid b place to new → RunsTo old b from to new
+runs_further old mid new b from place to h k = record {
+  forward = omega (arith, h.forward, k.forward);
+  inside = k.inside;
+  fits = k.fits;
+  runs = λ s e. k.runs s (h.runs s e);
+}
+
+-- ---- a colon
+value_form : (n : List Open) (s : State) → AtColon n s → AtValue n (value_due s)
+value_form n s h = record { frames = frame h.members h.name ∷ h.frames; is = ap value_due h.is; are_open = h.are_open }
+
+pub colon_taken : (old : Reader) (b : List ℕ) (from : ℕ) → Fits old → old.at ≡ at.TheVariants.Colon → from < length b → get_or b from 0 ≡ 58
+    → RunsTo old b from (from + 1) (record { at = at.TheVariants.Value; nesting = old.nesting; start = old.start; text = old.text; nodes = old.nodes })
+colon_taken old b from fits is_at inside colon =
+    let h = form_at old at.TheVariants.Colon is_at fits in
+    one_more old old _ b from from (record { forward = omega arith; inside = omega (arith, inside); fits = fits; runs = λ s e. e }) inside
+    (ap (λ (s : State). step NESTING_LIMIT s (get_or b from 0)) (view_at old at.TheVariants.Colon is_at ∙ h.is)
+    ∙ ap (step NESTING_LIMIT (state h.frames (m.At.named h.members h.name))) colon ∙ ap (λ (s : State). Some (value_due s)) (sym h.is))
+    (record { at = value_form old.nesting.items (due at.TheVariants.Colon old) h; tape = fits.tape; start = fits.start; covered = covered_at old at.TheVariants.Colon is_at fits })

@@ -1,30 +1,49 @@
 -- How bytes of text that leave the place as it is move the reader, all at once.
 --     runs_over               a run of them is taken
---     rest_is, rest_length    the bytes behind the place
-use Rattle.std.proofs.Common.{◌≡◌, ℕ, ◌+◌, ◌-◌, ◌≤◌, List, ◌++◌, length, take, drop, Some, refl, ap, sym, ◌∙◌, subst, arith, length-drop}
+--     over                    the machine's run over them
+--     one_more                and one more byte
+--     reached_over            some bytes lead to the state behind a run
+--     rest_is, rest_length, within_rest    the bytes behind the place
+use Rattle.std.proofs.Common.{◌≡◌, ℕ, ◌+◌, ◌-◌, ◌<◌, ◌≤◌, List, ◌++◌, length, take, drop, get_or, Some, refl, ap, sym, ◌∙◌, subst, arith, length-drop}
 use Rattle.std.proofs.lemmas.Grind.{common_steps}
 use Rattle.std.proofs.Math.Seq.{take-add}
-use Rattle.mes_json.specs.Machine.{State, run}
-use Rattle.mes_json.specs.Reader.{with_read, state_view, IsAt, Fits, Keeps, RunsTo}
+use Rattle.mes_json.specs.Machine.{State, start, step, run}
+use Rattle.mes_json.specs.Reader.{with_read, state_view, IsAt, Fits, Reached, Keeps, RunsTo}
 use Rattle.mes_json.specs.declared.limits.TheConstants.{NESTING_LIMIT}
 use Rattle.mes_json.specs.declared.nesting.Open.{Open}
 use Rattle.mes_json.specs.declared.at.At as at
 use Rattle.mes_json.specs.declared.reader.Reader.{Reader}
-use Rattle.mes_json.proofs.RunLemmas.{run_on}
+use Rattle.mes_json.proofs.RunLemmas.{run_on, run_take}
 use Rattle.mes_json.proofs.ReaderLemmas.{due, part, view_at, form_at, SameText, kept_fits, kept_view}
 
 -- the bytes q leave this place as it is, behind the bytes b of a text
 abbrev pub Leaves : at.At → List Open → List ℕ → List ℕ → Type 0
 Leaves there n b q = (s : State) → IsAt there n s → run NESTING_LIMIT (with_read there b s) q ≡ Some (with_read there (b ++ q) s)
 
+pub over : (old new : Reader) (there : at.At) (q : List ℕ) → Fits old → old.at ≡ there → Leaves there old.nesting.items (part old) q → Keeps old q there new
+    → run NESTING_LIMIT (state_view old) q ≡ Some (state_view new)
+over old new there q fits is_at leaves keeps =
+    ap (λ (s : State). run NESTING_LIMIT s q) (view_at old there is_at)
+    ∙ leaves (due there old) (form_at old there is_at fits)
+    ∙ ap (λ (s : State). Some s) (sym (kept_view old new q there there fits (λ s. refl) keeps))
+
+pub reached_over : (old new : Reader) (q : List ℕ) → Reached old → run NESTING_LIMIT (state_view old) q ≡ Some (state_view new) → Reached new
+reached_over old new q reached runs = (reached.0 ++ q, run_on NESTING_LIMIT start (state_view old) reached.0 q reached.1 ∙ runs)
+
+pub one_more : (old mid new : Reader) (b : List ℕ) (from to : ℕ) → RunsTo old b from to mid → to < length b
+    → step NESTING_LIMIT (state_view mid) (get_or b to 0) ≡ Some (state_view new) → Fits new → RunsTo old b from (to + 1) new
+one_more old mid new b from to h inside gives fits = record {
+  forward = omega (arith, h.forward);
+  inside = omega (arith, inside);
+  fits = fits;
+  runs = λ s e. run_take NESTING_LIMIT s (state_view mid) b to inside (h.runs s e) ∙ gives;
+}
+
 runs_to : (old new : Reader) (there : at.At) (b : List ℕ) (from n : ℕ) → Fits old → old.at ≡ there → SameText there there → from + n ≤ length b
     → Leaves there old.nesting.items (part old) (take n (drop from b)) → Keeps old (take n (drop from b)) there new → RunsTo old b from (from + n) new
 runs_to old new there b from n fits is_at same_text within leaves keeps =
     let q = take n (drop from b) in
-    let run_is : run NESTING_LIMIT (state_view old) q ≡ Some (state_view new) =
-    ap (λ (s : State). run NESTING_LIMIT s q) (view_at old there is_at)
-    ∙ leaves (due there old) (form_at old there is_at fits)
-    ∙ ap (λ (s : State). Some s) (sym (kept_view old new q there there fits (λ s. refl) keeps)) in
+    let run_is = over old new there q fits is_at leaves keeps in
     record {
       forward = omega arith;
       inside = within;
@@ -38,11 +57,14 @@ rest_is b from inside = grind (arith, common_steps)
 pub rest_length : (b : List ℕ) (from n : ℕ) → from ≤ length b → n ≤ length (drop from b) → from + n ≤ length b
 rest_length b from n inside within = let l : n ≤ length b - from = subst (λ (k : ℕ). n ≤ k) (length-drop from b) within in omega arith
 
+pub within_rest : (b : List ℕ) (from n : ℕ) → from ≤ length b → n ≤ length (take (length b - from) (drop from b)) → from + n ≤ length b
+within_rest b from n inside few = rest_length b from n inside (subst (λ (x : List ℕ). n ≤ length x) (rest_is b from inside) few)
+
 -- the same over the bytes behind the place, as they are cut out
 pub runs_over : (old new : Reader) (there : at.At) (b : List ℕ) (from n : ℕ) → Fits old → old.at ≡ there → SameText there there → from ≤ length b
     → n ≤ length (take (length b - from) (drop from b)) → Leaves there old.nesting.items (part old) (take n (take (length b - from) (drop from b)))
     → Keeps old (take n (take (length b - from) (drop from b))) there new → RunsTo old b from (from + n) new
 runs_over old new there b from n fits is_at same_text within few leaves keeps =
     let same = rest_is b from within in
-    runs_to old new there b from n fits is_at same_text (rest_length b from n within (subst (λ (x : List ℕ). n ≤ length x) same few))
+    runs_to old new there b from n fits is_at same_text (within_rest b from n within few)
     (subst (λ (x : List ℕ). Leaves there old.nesting.items (part old) (take n x)) same leaves) (subst (λ (x : List ℕ). Keeps old (take n x) there new) same keeps)

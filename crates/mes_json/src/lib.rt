@@ -5,6 +5,7 @@
 mod at;
 mod blank;
 mod build;
+mod characters;
 mod copy;
 mod cursor;
 mod depth;
@@ -53,4 +54,4 @@ pub use text::Text;
 pub use value::Json;
 pub use value_kind::ValueKind;
 pub use write::write_text;
-pub use write_string::write_str;
+pub use write_string::{hex_digit, write_str};

@@ -1,5 +1,5 @@
 //! The reader: takes a JSON text a byte at a time and keeps it as a tape.
-ghost use Rattle.std.specs.Prelude.{◌≡◌, ◌≤◌, [], ◌∷◌, length, option_map, encode_utf8, IfOk, IfErr, OnOk};
+ghost use Rattle.std.specs.Prelude.{◌≡◌, ◌+◌, ◌<◌, ◌≤◌, [], ◌∷◌, length, option_map, encode_utf8, IfOk, IfErr, OnOk};
 ghost use Rattle.mes_json.specs.declared.stop.Stop.TheVariants.{NoMemory as no_memory};
 ghost use Rattle.mes_json.specs.Machine.{start, finish};
 ghost use Rattle.mes_json.specs.Tokens.{tokens};
@@ -7,6 +7,7 @@ ghost use Rattle.mes_json.specs.Reader.{Fits, Reached, EndsWhole, Gives, RunsTo,
 
 use crate::at::{At, Purpose};
 use crate::blank::blank_run;
+use crate::characters::character_run;
 use crate::digits::{digit_run, keeps_on};
 use crate::escape::{Escape, Move};
 use crate::fault::Why;
@@ -14,7 +15,7 @@ use crate::kind::Kind;
 use crate::limits::NESTING_LIMIT;
 use crate::memory::NoMemory;
 use crate::nesting::Open;
-use crate::plain::plain_run;
+use crate::plain::append_front;
 use crate::stop::Stop;
 use crate::tape::{Node, Tape};
 use crate::utf8::Mid;
@@ -82,40 +83,109 @@ impl Reader {
         }
     }
 
-    /// Takes the bytes from this place that are plain characters of a string, where one is read, or digits of a number, or
-    /// white space between tokens, all at once. The result is the place behind them.
+    /// Takes the bytes behind this place, whose byte was the last, that need no look each: characters of a string with the
+    /// quotation mark and the colon that may follow, digits of a number, or white space between tokens. The result is the place
+    /// behind them.
     #[inline(always)]
-    pub(crate) fn take_run(&mut self, bytes: &[u8], from: usize) -> Result<usize, NoMemory>
-        requires inside { from ≤ length bytes.now }
+    pub(crate) fn take_run(&mut self, bytes: &[u8], place: usize) -> Result<usize, NoMemory>
+        requires inside { place < length bytes.now }
         requires fits { Fits self.old }
-        ensures { IfOk result (λ to. RunsTo self.old bytes.now from to self.new) }
+        requires reached { Reached self.old }
+        ensures { IfOk result (λ to. RunsTo self.old bytes.now (place + 1) to self.new) }
     {
+        let from = place + 1;
         match self.at {
-            At::Quoted(_purpose, mid) => match mid {
-                Mid::Between => {
-                    let rest = &bytes[from..];
-                    let run = plain_run(rest);
-                    if run == 0 {
-                        return Ok(from);
-                    }
-                    self.text.extend_from_slice(&rest[..run])?;
-                    Ok(from + run)
-                }
-                _ => Ok(from),
+            At::Quoted(purpose, mid) => match mid {
+                Mid::Between => self.take_string(purpose, bytes, from),
+                Mid::Escape(escape) => self.take_escape(purpose, escape, bytes, from),
+                Mid::Within { .. } => Ok(from),
             },
             At::Digits(part) if keeps_on(part) => {
                 let rest = &bytes[from..];
                 let run = digit_run(rest);
-                if run == 0 {
-                    return Ok(from);
-                }
-                self.text.extend_from_slice(&rest[..run])?;
+                append_front(&mut self.text, rest, run)?;
                 Ok(from + run)
             }
             At::Digits(_) | At::Literal(_) => Ok(from),
             At::Value | At::FirstItem | At::FirstName | At::Name | At::Colon | At::After => {
+                if bytes[place] > b' ' {
+                    return Ok(from);
+                }
                 Ok(from + blank_run(&bytes[from..]))
             }
+        }
+    }
+
+    /// Takes the characters of a string from this place that stand for themselves, the quotation mark behind them, and the colon
+    /// behind a name.
+    #[inline(always)]
+    fn take_string(
+        &mut self,
+        purpose: Purpose,
+        bytes: &[u8],
+        from: usize,
+    ) -> Result<usize, NoMemory>
+        requires at { self.old.at ≡ At.Quoted purpose Mid.Between }
+        requires inside { from ≤ length bytes.now }
+        requires fits { Fits self.old }
+        requires reached { Reached self.old }
+        ensures { IfOk result (λ to. RunsTo self.old bytes.now from to self.new) }
+    {
+        let rest = &bytes[from..];
+        let run = character_run(rest);
+        append_front(&mut self.text, rest, run)?;
+        let end = from + run;
+        if end == bytes.len() || bytes[end] != b'"' {
+            return Ok(end);
+        }
+        self.close_string(purpose)?;
+        Ok(self.take_colon(bytes, end + 1))
+    }
+
+    /// Takes the rest of an escape from this place, and what follows it in the string. A byte that leads nowhere is left.
+    fn take_escape(
+        &mut self,
+        purpose: Purpose,
+        first: Escape,
+        bytes: &[u8],
+        from: usize,
+    ) -> Result<usize, NoMemory>
+        requires at { self.old.at ≡ At.Quoted purpose (Mid.Escape first) }
+        requires inside { from ≤ length bytes.now }
+        requires fits { Fits self.old }
+        requires reached { Reached self.old }
+        ensures { IfOk result (λ to. RunsTo self.old bytes.now from to self.new) }
+    {
+        let mut place = from;
+        let mut escape = first;
+        while place < bytes.len() {
+            match escape.step(bytes[place]) {
+                Move::On(next) => escape = next,
+                Move::Makes(character) => {
+                    self.append_character(character, At::Quoted(purpose, Mid::Between))?;
+                    return self.take_string(purpose, bytes, place + 1);
+                }
+                Move::Refused => break,
+            }
+            place += 1;
+        }
+        self.at = At::Quoted(purpose, Mid::Escape(escape));
+        Ok(place)
+    }
+
+    /// Takes the colon at this place, where one is due.
+    #[inline(always)]
+    fn take_colon(&mut self, bytes: &[u8], from: usize) -> usize
+        requires inside { from ≤ length bytes.now }
+        requires fits { Fits self.old }
+        ensures { RunsTo self.old bytes.now from result self.new }
+    {
+        match self.at {
+            At::Colon if from < bytes.len() && bytes[from] == b':' => {
+                self.at = At::Value;
+                from + 1
+            }
+            _ => from,
         }
     }
 
@@ -424,12 +494,27 @@ impl Reader {
         ensures ok { OnOk result (Puts self.old self.old.nesting.items (string_node purpose self.old) (behind_string purpose) self.new) }
         ensures err { IfErr result (λ e. e ≡ no_memory) }
     {
+        Ok(self.close_string(purpose)?)
+    }
+
+    /// The same, where no byte can be refused.
+    #[inline(always)]
+    fn close_string(&mut self, purpose: Purpose) -> Result<(), NoMemory>
+        ensures { OnOk result (Puts self.old self.old.nesting.items (string_node purpose self.old) (behind_string purpose) self.new) }
+    {
         let from = self.start;
         let to = self.text.len();
         match purpose {
-            Purpose::Name => self.put(Node::Name { from, to }, At::Colon),
-            Purpose::Value => self.put(Node::Text { from, to }, At::After),
+            Purpose::Name => {
+                self.nodes.push(Node::Name { from, to })?;
+                self.at = At::Colon;
+            }
+            Purpose::Value => {
+                self.nodes.push(Node::Text { from, to })?;
+                self.at = At::After;
+            }
         }
+        Ok(())
     }
 
     /// A number begins with a byte that leads to this part of it.
@@ -468,6 +553,14 @@ impl Reader {
     fn keep_character(&mut self, character: char, at: At) -> Result<(), Stop>
         ensures ok { OnOk result (Keeps self.old (encode_utf8 character) at self.new) }
         ensures err { IfErr result (λ e. e ≡ no_memory) }
+    {
+        Ok(self.append_character(character, at)?)
+    }
+
+    /// The same, where no byte can be refused.
+    #[inline(always)]
+    fn append_character(&mut self, character: char, at: At) -> Result<(), NoMemory>
+        ensures { OnOk result (Keeps self.old (encode_utf8 character) at self.new) }
     {
         let mut bytes = [0; 4];
         let text = character.encode_utf8(&mut bytes);

@@ -24,7 +24,7 @@ impl Reader {
             if let Err(stop) = self.step(bytes[place]) {
                 return Err(stop.at(place));
             }
-            place = self.take_run(bytes, place + 1)?;
+            place = self.take_run(bytes, place)?;
         }
         Ok(())
     }

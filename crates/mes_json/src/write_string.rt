@@ -118,7 +118,8 @@ pub(crate) fn escaped_length(byte: u8) -> usize
     }
 }
 
-fn hex_digit(value: u8) -> u8
+/// The lower-case hexadecimal digit of a value below 16.
+pub fn hex_digit(value: u8) -> u8
     requires { value < 16 }
     ensures { result ≡ hex_digit value }
 {

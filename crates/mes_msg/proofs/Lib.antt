@@ -1,3 +1,5 @@
 mod WordLemmas
 mod NameLemmas
+mod CallLemmas
 pub mod RecordLemmas
+mod TextLaw

@@ -1,5 +1,5 @@
 -- The types of events, and any other.
-use Rattle.std.proofs.Common.{◌≡◌, ◌≢◌, ℕ, List, refl, sym}
+use Rattle.std.proofs.Common.{◌≢◌, ℕ, List, refl, sym}
 use Rattle.std.specs.Prelude.{codes}
 use Rattle.mes_part.specs.NameLaws.{names_differ}
 use Rattle.mes_msg.specs.EventNames.{IsOther}

@@ -1,5 +1,5 @@
--- The event of a JSON text.
-use Rattle.std.proofs.Common.{◌≡◌, ℕ, List, [], ◌∷◌, ◌++◌, refl, sym, ◌∙◌, append-nil, subst}
+-- The value of a JSON text.
+use Rattle.std.proofs.Common.{◌≡◌, ℕ, List, [], refl, sym, ◌∙◌, append-nil, subst}
 use Rattle.std.specs.Prelude.{Result, Ok, Err}
 use Rattle.std.specs.Result.{IsErrAnd}
 use Rattle.mes_json.specs.Tree.{Tree}
@@ -7,14 +7,16 @@ use Rattle.mes_json.specs.Grammar.{IsText}
 use Rattle.mes_json.specs.Tokens.{Token, tokens, BeginsWith}
 use Rattle.mes_json.specs.declared.limits.TheConstants.{NESTING_LIMIT}
 use Rattle.mes_part.specs.FieldLaws.{bound_ok}
+use Rattle.mes_part.specs.Kinds.{Kind, Lawful}
 use Rattle.mes_part.specs.Parts.{Gives}
 use Rattle.mes_part.specs.Paths.{Place}
 use Rattle.mes_part.specs.declared.field.FieldFault.{FieldFault}
 use Rattle.mes_part.specs.declared.part.PartFault.{PartFault}
 use Rattle.mes_part.specs.declared.part.PartFault.TheVariants as part
 use Rattle.mes_part.proofs.RowLemmas.{gives_bound}
-use Rattle.mes_msg.specs.Events.{event, lawful_event, IsRecordFault}
+use Rattle.mes_msg.specs.Events.{event, IsRecordFault}
 use Rattle.mes_msg.specs.RecordFaults.{of_part}
+use Rattle.mes_msg.specs.Texts.{IsFaultOf}
 use Rattle.mes_msg.specs.declared.event.Event.{Event}
 use Rattle.mes_msg.specs.declared.record.RecordFault.TheVariants.{NoMemory}
 
@@ -27,16 +29,22 @@ gives_same {V} read e r is fails =
 pub begins : (xs : List Token) (t : Tree) → xs ≡ tokens t → BeginsWith xs t
 begins xs t is = ([], is ∙ sym (append-nil (tokens t)))
 
--- what is read of an event's tree is that event, or there was no memory
-pub read_only : (at : List Place) (t : Tree) (ev : Event) (fault : PartFault) → event.Reads t ev → Gives {V = Event} (event.read at t) (Err fault) → of_part fault ≡ NoMemory
-read_only at t ev (part.Field f) reads gives = let e = lawful_event.complete at t ev reads in absurd (cc)
-read_only at t ev part.NoMemory reads gives = refl
+-- what is read of a value's tree is that value, or there was no memory
+pub read_only : {V : Type 0} (k : Kind V) → Lawful k → (at : List Place) (t : Tree) (v : V) (fault : PartFault)
+    → k.Reads t v → Gives {V = V} (k.read at t) (Err fault) → of_part fault ≡ NoMemory
+read_only k lawful at t v (part.Field f) reads gives = let e = lawful.complete at t v reads in absurd (cc)
+read_only k lawful at t v part.NoMemory reads gives = refl
 
-pub read_same : (at : List Place) (t : Tree) (ev got : Event) → event.Reads t ev → event.read at t ≡ Ok got → got ≡ ev
-read_same at t ev got reads gives = let e = lawful_event.complete at t ev reads in cc
+pub read_same : {V : Type 0} (k : Kind V) → Lawful k → (at : List Place) (t : Tree) (v got : V) → k.Reads t v → k.read at t ≡ Ok got → got ≡ v
+read_same k lawful at t v got reads gives = let e = lawful.complete at t v reads in cc
+
+-- why the text of a tree is of no such value
+pub refused_by : {V : Type 0} (k : Kind V) (b : List ℕ) (at : List Place) (t : Tree) (fault : PartFault)
+    → at ≡ [] → IsText NESTING_LIMIT b t → Gives {V = V} (k.read at t) (Err fault) → IsFaultOf k b (of_part fault)
+refused_by k b at t (part.Field f) root is gives = (t, is, subst (λ (p : List Place). k.read p t ≡ Err f) root gives)
+refused_by k b at t part.NoMemory root is gives = tt
 
 -- why the text of a tree spells no event
 pub refused : (b : List ℕ) (at : List Place) (t : Tree) (fault : PartFault) → at ≡ [] → IsText NESTING_LIMIT b t → Gives {V = Event} (event.read at t) (Err fault)
     → IsRecordFault b (of_part fault)
-refused b at t (part.Field f) root is gives = (t, is, subst (λ (p : List Place). event.read p t ≡ Err f) root gives)
-refused b at t part.NoMemory root is gives = tt
+refused b at t fault root is gives = refused_by event b at t fault root is gives

@@ -1,16 +1,11 @@
 -- The events of the scheduler API (scheduler.proto, `Event`) in their JSON form.
-use Rattle.std.specs.Prelude.{◌≡◌, ◌⊎◌, ℕ, List, [], codes}
+use Rattle.std.specs.Prelude.{◌≡◌, ◌⊎◌, ℕ, List, codes}
 use Rattle.std.proofs.Common.{inl, inr, refl}
-use Rattle.mes_json.specs.Tree.{Tree}
-use Rattle.mes_json.specs.Grammar.{IsText}
-use Rattle.mes_json.specs.Place.{IsFault}
-use Rattle.mes_json.specs.declared.limits.TheConstants.{NESTING_LIMIT}
-use Rattle.mes_part.specs.Kinds.{Kind, Lawful, Returns, Breaks}
+use Rattle.mes_part.specs.Kinds.{Kind, Lawful, Returns}
 use Rattle.mes_part.specs.Rows.{Row, need, no_rows, mapped, message}
 use Rattle.mes_part.specs.Choices.{others, case, typed}
 use Rattle.mes_part.specs.RowLaws.{LawfulRow, lawful_need, lawful_no_rows, lawful_mapped, lawful_message, message_returns}
 use Rattle.mes_part.specs.ChoiceLaws.{lawful_others, lawful_case, lawful_typed}
-use Rattle.mes_part.specs.declared.field.FieldFault.{FieldFault}
 use Rattle.mes_model.specs.declared.offer.Offer.{Offer}
 use Rattle.mes_msg.specs.Bodies.{subscribed, rescind, update, message_body, failure, error_body, lawful_subscribed, lawful_rescind, lawful_update, lawful_message_body, lawful_failure, lawful_error_body}
 use Rattle.mes_msg.specs.Offers.{offers, lawful_offers}
@@ -24,6 +19,7 @@ use Rattle.mes_msg.specs.declared.event.Event.{Event}
 use Rattle.mes_msg.specs.declared.event.Event.TheVariants as of
 use Rattle.mes_msg.specs.declared.record.RecordFault.{RecordFault}
 use Rattle.mes_msg.specs.EventNames.{event_names}
+use Rattle.mes_msg.specs.Texts.{IsTextOf, IsFaultOf}
 
 -- an event by its type
 abbrev pub Body : Type 0
@@ -81,17 +77,11 @@ event = message event_rows
 
 -- the bytes are a JSON text of the event
 abbrev pub Spells : List ℕ → Event → Type 0
-Spells b ev = (t : Tree) × IsText NESTING_LIMIT b t × event.Reads t ev
-
--- the bytes are a JSON text of no event, and this is its first fault
-abbrev pub SpellsNone : List ℕ → FieldFault → Type 0
-SpellsNone b f = (t : Tree) × IsText NESTING_LIMIT b t × Breaks event [] t f
+Spells b ev = IsTextOf event b ev
 
 -- why the bytes spell no event; want of memory says nothing of them
 abbrev pub IsRecordFault : List ℕ → RecordFault → Type 0
-IsRecordFault b (RecordFault.Text f) = IsFault NESTING_LIMIT b f
-IsRecordFault b (RecordFault.Field f) = SpellsNone b f
-IsRecordFault b RecordFault.NoMemory = Unit {0}
+IsRecordFault b f = IsFaultOf event b f
 
 -- ---- the laws
 

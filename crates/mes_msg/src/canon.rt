@@ -1,7 +1,8 @@
-//! The canonical text of an event.
+//! The canonical text of a message.
 ghost use Rattle.std.specs.Prelude.{◌≡◌, IfOk, IfErr, MatchResult};
 ghost use Rattle.mes_msg.specs.Events.{Spells};
 ghost use Rattle.mes_msg.specs.Canon.{canonical_text, IsGood, IsEncodeFault};
+ghost use Rattle.mes_msg.specs.Texts.{IsTextOf, canonical_of, Fits, IsRefusalOf};
 
 use crate::event::Event;
 use mes_frame::Limit;
@@ -9,7 +10,7 @@ use mes_json::{NESTING_LIMIT, NoMemory, text_length, write_text};
 use mes_part::Part;
 use std::alloc::Global;
 
-/// Why an event has no canonical text that a record can hold.
+/// Why an event or a call has no canonical text that a record can hold.
 #[derive(Debug, Drop)]
 pub enum EncodeFault {
     /// Its objects and arrays nest deeper than `NESTING_LIMIT`.
@@ -44,17 +45,32 @@ impl Event {
         // Err: too deep, or else too large.
         ensures err { IfErr result (IsEncodeFault self.now limit) }
     {
-        let tree = self.tree(alloc)?;
-        if tree.depth() > NESTING_LIMIT as u64 {
-            return Err(EncodeFault::TooDeep);
-        }
-        let Some(length) = text_length(&tree, limit.get() as usize) else {
-            return Err(EncodeFault::TooLarge);
-        };
-        let Ok(mut text) = Vec::with_capacity(alloc, length) else {
-            return Err(EncodeFault::NoMemory);
-        };
-        write_text(&tree, &mut text)?;
-        Ok(text)
+        canonical_bytes(self, alloc, limit)
     }
+}
+
+/// The canonical text of a value, of at most `limit` bytes.
+pub(crate) fn canonical_bytes<T: Part>(
+    value: &T,
+    alloc: Global,
+    limit: Limit,
+) -> Result<Vec<u8>, EncodeFault>
+    ensures text { IfOk result (λ text. text.items ≡ canonical_of T.kind value.now) }
+    ensures fits { IfOk result (λ _. Fits T.kind value.now limit) }
+    ensures again { IfOk result (λ text. IsTextOf T.kind text.items value.now) }
+    ensures only { Fits T.kind value.now limit → MatchResult result (λ text. text.items ≡ canonical_of T.kind value.now) (λ e. e ≡ EncodeFault.NoMemory) }
+    ensures err { IfErr result (IsRefusalOf T.kind value.now limit) }
+{
+    let tree = value.tree(alloc)?;
+    if tree.depth() > NESTING_LIMIT as u64 {
+        return Err(EncodeFault::TooDeep);
+    }
+    let Some(length) = text_length(&tree, limit.get() as usize) else {
+        return Err(EncodeFault::TooLarge);
+    };
+    let Ok(mut text) = Vec::with_capacity(alloc, length) else {
+        return Err(EncodeFault::NoMemory);
+    };
+    write_text(&tree, &mut text)?;
+    Ok(text)
 }

@@ -1,20 +1,21 @@
-//! An event read from the bytes of a record.
-ghost use Rattle.std.specs.Prelude.{◌≡◌, [], Ok, IfOk, IfErr, MatchResult};
+//! A message read from the bytes of a record.
+ghost use Rattle.std.specs.Prelude.{◌≡◌, ◌≤◌, [], Ok, IfOk, IfErr, MatchResult};
 ghost use Rattle.mes_json.specs.View.{view};
 ghost use Rattle.mes_part.specs.Parts.{Gives, IsFirstFault};
 ghost use Rattle.mes_msg.specs.Events.{event, Spells, IsRecordFault};
+ghost use Rattle.mes_msg.specs.Texts.{IsTextOf, IsFaultOf};
 
 use crate::event::Event;
 use mes_json::{Json, ReadFault, TextFault, read_tape};
 use mes_part::{FieldFault, Part, PartFault, Path, read_part};
 use std::alloc::Global;
 
-/// Why the bytes of a record spell no event.
+/// Why the bytes of a record spell no event, or no call.
 #[derive(Debug, Drop)]
 pub enum RecordFault {
     /// They are no JSON text.
     Text(TextFault),
-    /// The JSON text is of no event.
+    /// The JSON text is of no event, or of no call.
     Field(FieldFault),
     /// A growth was refused memory.
     NoMemory,
@@ -58,8 +59,7 @@ impl Event {
         // Err: they are no JSON text, or one of no event, and where.
         ensures err { IfErr result (IsRecordFault bytes.now) }
     {
-        let tape = read_tape(alloc, bytes)?;
-        Ok(Event::read_from(alloc, &tape.root(), &Path::new())?)
+        read_bytes(alloc, bytes)
     }
 
     /// The event that a JSON value stands for.
@@ -70,4 +70,15 @@ impl Event {
     {
         read_part(alloc, json, &Path::new())
     }
+}
+
+/// The value that the bytes of a record spell.
+pub(crate) fn read_bytes<T: Part>(alloc: Global, bytes: &[u8]) -> Result<T, RecordFault>
+    requires { T.STEPS ≤ 16 }
+    ensures ok { IfOk result (IsTextOf T.kind bytes.now) }
+    ensures only { (v : T) → IsTextOf T.kind bytes.now v → MatchResult result (λ r. r ≡ v) (λ e. e ≡ RecordFault.NoMemory) }
+    ensures err { IfErr result (IsFaultOf T.kind bytes.now) }
+{
+    let tape = read_tape(alloc, bytes)?;
+    Ok(T::read_from(alloc, &tape.root(), &Path::new())?)
 }

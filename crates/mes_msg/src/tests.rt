@@ -1,5 +1,6 @@
-//! Events read from JSON texts: what is written of each, or the path and the reason of the first fault.
+//! Events and calls read from JSON texts: what is written of each, or the path and the reason of the first fault.
 
+mod calls;
 mod encode;
 mod faults;
 mod written;

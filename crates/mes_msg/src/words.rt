@@ -1,14 +1,14 @@
 //! The words of a printed line: each is appended behind a space.
 
-ghost use Rattle.std.specs.Prelude.{◌≡◌, ◌<◌, ◌++◌, codes, decimal, IfOk};
+ghost use Rattle.std.specs.Prelude.{◌≡◌, ◌++◌, codes, decimal, IfOk};
 ghost use Rattle.std.specs.Fmt.{signed_decimal};
-ghost use Rattle.mes_json.specs.Canonical.{hex_digit, quoted_text};
+ghost use Rattle.mes_json.specs.Canonical.{quoted_text};
 ghost use Rattle.mes_msg.specs.Shown.{hex_pairs, uuid_text, or_dash, id_text, seconds_text};
 
 use arrayvec::ArrayString;
 use itoa::Buffer;
 use mes_fixed::Micros;
-use mes_json::{NoMemory, write_str};
+use mes_json::{NoMemory, hex_digit, write_str};
 use mes_model::Id;
 use mes_part::Bytes;
 use uuid::Uuid;
@@ -113,15 +113,4 @@ fn put_hex_pairs(bytes: &[u8], line: &mut Vec<u8>) -> Result<(), NoMemory>
         line.extend_from_slice(&[hex_digit(byte / 16), hex_digit(byte % 16)])?;
     }
     Ok(())
-}
-
-fn hex_digit(value: u8) -> u8
-    requires { value < 16 }
-    ensures { result ≡ hex_digit value }
-{
-    if value < 10 {
-        b'0' + value
-    } else {
-        b'a' - 10 + value
-    }
 }

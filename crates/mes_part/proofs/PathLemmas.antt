@@ -1,12 +1,33 @@
 -- The steps of a path, one after the other.
-use Rattle.std.proofs.Common.{◌≡◌, ℕ, zero, suc, ◌+◌, ◌<◌, ◌≤◌, ◌^◌, List, ◌∷◌, ◌++◌, length, map, get_or, drop, codes, decimal, ◌∙◌, append_assoc, arith, subst, drop-cons, add-one, length-append, lit<}
+use Rattle.std.proofs.Common.{◌≡◌, ℕ, zero, suc, ◌+◌, ◌<◌, ◌≤◌, ◌^◌, List, ◌∷◌, [], ◌++◌, length, map, get_or, set, take, drop, codes, decimal, ◌∙◌, ap, append_assoc, arith, subst, drop-cons, add-one, length-append, lit<}
 use Rattle.std.specs.List.{flat_map, All}
-use Rattle.std.proofs.lemmas.List.{get_or-map, length-map}
+use Rattle.std.proofs.lemmas.List.{get_or-map, length-map, map-append, length-take-le, take_more_set}
+use Rattle.std.proofs.lemmas.List.Elements.{All-append}
 use Rattle.std.proofs.lemmas.Fmt.{length-decimal-le}
-use Rattle.mes_part.specs.Paths.{Place, IsPlace, step_text, first_text, path_text}
+use Rattle.mes_part.specs.Paths.{Place, IsPlace, IsPath, step_text, first_text, path_text}
 use Rattle.mes_part.specs.Paths.Place.{name, index}
 use Rattle.mes_part.specs.Steps.{place_of}
 use Rattle.mes_part.specs.declared.path.Step.{Step}
+
+-- a path that has not all its steps has room
+pub room_left : (steps : List Step) (n : ℕ) (at : List Place) → length steps ≡ 16 → n ≤ 16 → map place_of (take n steps) ≡ at → length at < 16 → n < 16
+room_left steps n at whole fits is less = omega (arith, ap length is, length-map (take n steps) place_of, length-take-le n steps (omega arith))
+
+-- one more step
+pub steps_more : (steps : List Step) (n : ℕ) (step : Step) (at : List Place) → n < length steps → map place_of (take n steps) ≡ at
+    → map place_of (take (n + 1) (set steps n step)) ≡ at ++ place_of step ∷ []
+steps_more steps n step at inside is = rw (take_more_set, ← is) (map-append place_of (take n steps) (step ∷ []))
+
+all_one : (p : Place) → IsPlace p → All IsPlace (p ∷ [])
+all_one p place zero d inside = place
+all_one p place (suc i) d inside = absurd (omega arith)
+
+-- a path with one more step is a path
+pub path_more : (at : List Place) (p : Place) → length at < 16 → IsPath at → IsPlace p → IsPath (at ++ p ∷ [])
+path_more at p less path place = record {
+  few = omega (arith, length-append at (p ∷ []));
+  each = All-append IsPlace at (p ∷ []) path.each (all_one p place);
+}
 
 -- the steps behind the first of a path are places
 pub place_at : (items : List Step) (first : Step) (rest : List Step) (k : ℕ) (d : Step) → All IsPlace (map place_of items) → items ≡ first ∷ rest → k < length rest → IsPlace (place_of (get_or rest k d))

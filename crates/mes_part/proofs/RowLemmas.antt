@@ -2,7 +2,7 @@
 --     looked_value, looked_none            the look-up
 --     required_at, optional_at, repeated_at, flagged_at      the row, where a value is there
 --     gives_bound                          a fault that a `?` hands on
-use Rattle.std.proofs.Common.{◌≡◌, ℕ, true, List, Option, Some, None, refl, sym, ◌∙◌, ap, subst}
+use Rattle.std.proofs.Common.{◌≡◌, ℕ, true, List, Some, refl, sym, ◌∙◌, ap, subst}
 use Rattle.std.specs.Prelude.{Result, Ok, Err}
 use Rattle.std.specs.Result.{IsErrAnd}
 use Rattle.mes_json.specs.Tree.{Tree, Members}
@@ -14,27 +14,22 @@ use Rattle.mes_part.specs.Leaves.{members_at}
 use Rattle.mes_part.specs.Lists.{list_of}
 use Rattle.mes_part.specs.Rows.{must, required, likewise, optional, listed, repeated, is_there, flagged}
 use Rattle.mes_part.specs.FieldLaws.{after}
-use Rattle.mes_part.specs.FoundRows.{IsFound, ShowsValue}
+use Rattle.mes_part.specs.FoundRows.{IsFound, IsSole}
 use Rattle.mes_part.specs.Parts.{Gives}
 use Rattle.mes_part.specs.declared.field.FieldFault.{FieldFault}
 use Rattle.mes_part.specs.declared.found.Found.{Found}
+use Rattle.mes_part.specs.declared.read_row.Sole.{Sole}
+use Rattle.mes_part.specs.declared.read_row.Sole.TheVariants.{Present}
 use Rattle.mes_part.specs.declared.part.PartFault.{PartFault}
 use Rattle.mes_part.specs.declared.part.PartFault.TheVariants.{Field, NoMemory}
 
-shown_some : (expected : Result (Option Tree) FieldFault) (o : Option (List Token)) (e : List Token) → o ≡ Some e → ShowsValue expected (Ok o)
-    → (t : Tree) × (expected ≡ Ok (Some t)) × BeginsWith e t
-shown_some expected None e is shows = let bad : None ≡ Some e = is in absurd (cc)
-shown_some expected (Some x) e is shows =
-    let same : x ≡ e = cc in (shows.0, shows.1, subst (λ (y : List Token). BeginsWith y shows.0) same shows.2)
-
--- the value of a member, at its place
-pub looked_value : (f : Found) (at inner : List Place) (n : List ℕ) (ms : Members) (o : Option (List Token)) (e : List Token)
-    → inner ≡ below at n → ((ts : List Tree) → IsFound f ts → ShowsValue (single inner ts) (Ok o)) → o ≡ Some e → IsFound f (values_named n ms)
+-- the value of a member
+pub looked_value : (f : Found) (at : List Place) (n : List ℕ) (ms : Members) (s : Sole) (e : List Token)
+    → ((at : List Place) (ts : List Tree) → IsFound f ts → IsSole at (single at ts) s) → s ≡ Present e → IsFound f (values_named n ms)
     → (t : Tree) × (lookup at n ms ≡ Ok (Some t)) × BeginsWith e t
 unfolding lookup
-looked_value f at inner n ms o e place shows is found =
-    let shown = shown_some (single inner (values_named n ms)) o e is (shows (values_named n ms) found) in
-    (shown.0, ap (λ (p : List Place). single p (values_named n ms)) (sym place) ∙ shown.1, shown.2)
+looked_value f at n ms s e shows is found =
+    subst (λ (x : Sole). IsSole (below at n) (single (below at n) (values_named n ms)) x) is (shows (below at n) (values_named n ms) found)
 
 -- ---- the rows
 

@@ -1,5 +1,5 @@
 -- The laws of the row `type` and of the rows that depend on it.
-use Rattle.std.proofs.Common.{◌≡◌, ◌≢◌, ◌⊎◌, inl, inr, ℕ, Bool, true, false, List, [], ◌∷◌, ◌++◌, refl, sym, ◌∙◌, ap, subst, cond, bytes_eq}
+use Rattle.std.proofs.Common.{◌≡◌, ◌≢◌, ◌⊎◌, inl, inr, ℕ, Bool, true, false, List, [], ◌∷◌, refl, sym, ◌∙◌, ap, subst, cond, bytes_eq}
 use Rattle.std.specs.Prelude.{◌||◌, ◌&&◌, not, Result, Ok, Err}
 use Rattle.mes_json.specs.Tree.{Tree, Members}
 use Rattle.mes_json.specs.Tree.Tree.{string}
@@ -11,7 +11,7 @@ use Rattle.mes_part.specs.Leaves.{texts}
 use Rattle.mes_part.specs.Rows.{Row, must, required}
 use Rattle.mes_part.specs.Choices.{Choice, type_name, no_other, others, refused, case, typed}
 use Rattle.mes_part.specs.FieldLaws.{bound, after, has_looked, looked}
-use Rattle.mes_part.specs.NameLaws.{distinct, distinct_first, distinct_both, Agrees, names_equal, names_differ, same_name, in_front, in_back, in_neither, not_only, named_this, named_other}
+use Rattle.mes_part.specs.NameLaws.{distinct, distinct_first, Agrees, names_equal, names_differ, same_name, in_back, in_neither, united, united_front, united_back, united_neither, not_only, named_this, named_other}
 use Rattle.mes_part.specs.KindLaws.{text_is}
 use Rattle.mes_part.specs.RowLaws.{LawfulRow}
 use Rattle.mes_part.specs.declared.field.FieldFault.{FieldFault}
@@ -24,8 +24,8 @@ pub record LawfulChoice {F : Type 0} (c : Choice F) : Type 1 where
   -- to go on is to read, and then to go on
   pub goes_on : {B : Type 0} → (at : List Place) (kind : List ℕ) (ms : Members) (go : F → Result B FieldFault)
       → c.walk at kind ms go ≡ (c.walk at kind ms (λ y. Ok y) >>= go)
-  -- what was written is read back from any members that hold it under these names, if no type and no name stands twice
-  pub back : (ms : Members) (x : F) → c.told_apart ≡ true → distinct c.names ≡ true → Agrees c.names ms (c.members x) → c.Back x → c.Reads (c.type_of x) ms x
+  -- what was written is read back from any members that hold it under these names, if no type stands twice, and under none a name
+  pub back : (ms : Members) (x : F) → c.told_apart ≡ true → Agrees c.names ms (c.members x) → c.Back x → c.Reads (c.type_of x) ms x
   -- nothing is written under other names
   pub only : (n : List ℕ) (x : F) → is_in n c.names ≡ false → values_named n (members_of (c.members x)) ≡ []
   -- what is written has a type that it may have
@@ -36,7 +36,7 @@ lawful_no_other {why = why} = record {
   sound = λ at kind ms x e. absurd x;
   complete = λ at kind ms x h. absurd x;
   goes_on = λ at kind ms go. refl;
-  back = λ ms x once names agrees returns. absurd x;
+  back = λ ms x once agrees returns. absurd x;
   only = λ n x other. absurd x;
   known = λ x. absurd x;
 }
@@ -46,7 +46,7 @@ lawful_others known = record {
   sound = λ at kind ms x e. cc;
   complete = λ at kind ms x h. ap (λ (n : List ℕ). Ok n) h;
   goes_on = λ at kind ms go. refl;
-  back = λ ms x once names agrees returns. refl;
+  back = λ ms x once agrees returns. refl;
   only = λ n x other. refl;
   known = λ x returns. ap not returns;
 }
@@ -63,6 +63,10 @@ lawful_refused {why = why} = record {
 not_both : (a b : Bool) → (not a && b) ≡ true → (a ≡ false) × (b ≡ true)
 not_both true b e = absurd (cc)
 not_both false b e = (refl, e)
+
+both : (a b : Bool) → (a && b) ≡ true → (a ≡ true) × (b ≡ true)
+both true b e = (refl, e)
+both false b e = absurd (cc)
 
 or_back : (a b : Bool) → b ≡ true → (a || b) ≡ true
 or_back true b e = refl
@@ -117,24 +121,29 @@ lawful_case {F = F} {G = G} {this = this} {r = r} {rest = rest} lr lrest = recor
         by_rest (Ok a) = refl
         by_rest (Err f) = refl
 
-  back : (ms : Members) (x : F ⊎ G) → (not (rest.takes this) && rest.told_apart) ≡ true → distinct (r.names ++ rest.names) ≡ true → Agrees (r.names ++ rest.names) ms ((case this r rest).members x) → (case this r rest).Back x
+  back : (ms : Members) (x : F ⊎ G) → (not (rest.takes this) && (distinct r.names && rest.told_apart)) ≡ true
+      → Agrees (united r.names rest.names) ms ((case this r rest).members x) → (case this r rest).Back x
       → (case this r rest).Reads ((case this r rest).type_of x) ms x
-  back ms (inl x) once names agrees returns = (refl, lr.back ms x (distinct_both r.names rest.names names).0 (λ n named. agrees n (in_front n r.names rest.names named)) returns)
-  back ms (inr y) once names agrees returns =
-      let apart = not_both (rest.takes this) rest.told_apart once in (
+  back ms (inl x) once agrees returns =
+      let apart = not_both (rest.takes this) (distinct r.names && rest.told_apart) once in
+      let names = both (distinct r.names) rest.told_apart apart.1 in
+      (refl, lr.back ms x names.0 (λ n named. agrees n (united_front n r.names rest.names named)) returns)
+  back ms (inr y) once agrees returns =
+      let apart = not_both (rest.takes this) (distinct r.names && rest.told_apart) once in
+      let names = both (distinct r.names) rest.told_apart apart.1 in (
         (λ e. let other : rest.takes this ≡ true = subst (λ (n : List ℕ). rest.takes n ≡ true) e (lrest.known y returns) in absurd (cc)),
-        lrest.back ms y apart.1 (distinct_both r.names rest.names names).1 (λ n named. agrees n (in_back n r.names rest.names named)) returns,
+        lrest.back ms y names.1 (λ n named. agrees n (united_back n r.names rest.names named)) returns,
       )
 
-  only : (n : List ℕ) (x : F ⊎ G) → is_in n (r.names ++ rest.names) ≡ false → values_named n (members_of ((case this r rest).members x)) ≡ []
-  only n (inl x) other = lr.only n x (in_neither n r.names rest.names other).0
-  only n (inr y) other = lrest.only n y (in_neither n r.names rest.names other).1
+  only : (n : List ℕ) (x : F ⊎ G) → is_in n (united r.names rest.names) ≡ false → values_named n (members_of ((case this r rest).members x)) ≡ []
+  only n (inl x) other = lr.only n x (united_neither n r.names rest.names other).0
+  only n (inr y) other = lrest.only n y (united_neither n r.names rest.names other).1
 
   known : (x : F ⊎ G) → (case this r rest).Back x → (bytes_eq this ((case this r rest).type_of x) || rest.takes ((case this r rest).type_of x)) ≡ true
   known (inl x) returns = rw (same_name this) refl
   known (inr y) returns = or_back (bytes_eq this (rest.type_of y)) (rest.takes (rest.type_of y)) (lrest.known y returns)
 
--- no type stands twice
+-- no type stands twice, and under none of them does a name
 pub lawful_typed : {F : Type 0} {c : Choice F} → LawfulChoice c → c.told_apart ≡ true → LawfulRow (typed c)
 unfolding texts required
 lawful_typed {F = F} {c = c} lc once_each = record {
@@ -150,7 +159,7 @@ lawful_typed {F = F} {c = c} lc once_each = record {
           ∙ ap (λ (ts : List Tree). string (c.type_of x) ∷ ts) (lc.only type_name x names.0),
       (λ e. absurd (cc)),
     ),
-    lc.back ms x once_each names.1 (λ n named. agrees n (in_back n (type_name ∷ []) c.names named)
+    lc.back ms x once_each (λ n named. agrees n (in_back n (type_name ∷ []) c.names named)
         ∙ named_other type_name n (string (c.type_of x)) (c.members x) (not_type n names.0 named)) returns,
   );
   only = λ n x other.

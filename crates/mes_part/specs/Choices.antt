@@ -1,5 +1,5 @@
 -- The member `type`, and the rows that depend on it.
-use Rattle.std.specs.Prelude.{◌≡◌, ◌≢◌, ◌⊎◌, ℕ, Bool, true, false, ◌||◌, ◌&&◌, not, List, [], ◌∷◌, ◌++◌, bytes_eq, codes, if◌then◌else◌, Result}
+use Rattle.std.specs.Prelude.{◌≡◌, ◌≢◌, ◌⊎◌, ℕ, Bool, true, false, ◌||◌, ◌&&◌, not, List, [], ◌∷◌, bytes_eq, codes, if◌then◌else◌, Result}
 use Rattle.std.proofs.Common.{inl, inr}
 use Rattle.mes_json.specs.Tree.{Tree, Members}
 use Rattle.mes_json.specs.Tree.Tree.{string}
@@ -7,6 +7,7 @@ use Rattle.mes_part.specs.Paths.{Place}
 use Rattle.mes_part.specs.Fields.{is_in, Has, below, fault}
 use Rattle.mes_part.specs.Kinds.{◌>>=◌}
 use Rattle.mes_part.specs.Leaves.{texts}
+use Rattle.mes_part.specs.NameLaws.{distinct, united}
 use Rattle.mes_part.specs.Rows.{Row, required}
 use Rattle.mes_part.specs.declared.field.FieldFault.{FieldFault}
 use Rattle.mes_part.specs.declared.field.FieldWhy.{FieldWhy}
@@ -15,9 +16,9 @@ use Rattle.mes_part.specs.declared.field.FieldWhy.{FieldWhy}
 pub record Choice (F : Type 0) : Type 1 where
   -- a value may have this type
   pub takes : List ℕ → Bool
-  -- no type stands twice
+  -- no type stands twice, and under none of them does a name
   pub told_apart : Bool
-  -- the names of the members that are read under one of them
+  -- the names of the members that are read under one of them or more
   pub names : List (List ℕ)
   -- under a type, the members hold x
   pub Reads : List ℕ → Members → F → Type 0
@@ -68,12 +69,12 @@ refused why = record {
   Back = λ x. ⊥;
 }
 
--- under this type these rows, and else the rest
+-- under this type these rows, and else the rest; a name may stand under several types, each with a row of its own
 abbrev pub case : {F G : Type 0} → List ℕ → Row F → Choice G → Choice (F ⊎ G)
 case {F} {G} this r rest = record {
   takes = λ kind. bytes_eq this kind || rest.takes kind;
-  told_apart = not (rest.takes this) && rest.told_apart;
-  names = r.names ++ rest.names;
+  told_apart = not (rest.takes this) && (distinct r.names && rest.told_apart);
+  names = united r.names rest.names;
   Reads = CaseReads;
   walk = λ at kind ms go. if bytes_eq kind this then r.walk at ms (λ x. go (inl x)) else rest.walk at kind ms (λ y. go (inr y));
   type_of = case_type;

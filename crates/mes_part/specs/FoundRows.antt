@@ -4,11 +4,14 @@ use Rattle.mes_json.specs.Tree.{Tree, Members}
 use Rattle.mes_json.specs.Tree.Tree.{object}
 use Rattle.mes_json.specs.Tokens.{Token, BeginsWith}
 use Rattle.mes_part.specs.Paths.{Place}
-use Rattle.mes_part.specs.Fields.{values_named}
+use Rattle.mes_part.specs.Fields.{values_named, fault}
 use Rattle.mes_part.specs.Leaves.{members_at}
 use Rattle.mes_part.specs.declared.field.FieldFault.{FieldFault}
+use Rattle.mes_part.specs.declared.field.FieldWhy.TheVariants.{Twice}
 use Rattle.mes_part.specs.declared.found.Found.{Found}
 use Rattle.mes_part.specs.declared.found.Found.TheVariants.{Nothing, One, More}
+use Rattle.mes_part.specs.declared.read_row.Sole.{Sole}
+use Rattle.mes_part.specs.declared.read_row.Sole.TheVariants.{Absent, Present, Repeated}
 use Rattle.mes_part.specs.declared.rows.Rows.{Rows}
 
 -- these are the values of the members that were found
@@ -38,8 +41,8 @@ abbrev pub FindsRows : List (List ℕ) → List Place → Tree → Result Rows F
 FindsRows names at t (Ok rows) = (ms : Members) × (t ≡ object ms) × FindsEach 0 names ms rows.found.items
 FindsRows names at t (Err f) = members_at at t ≡ Err f
 
--- the value that is looked up is at this place, or there is none
-abbrev pub ShowsValue : Result (Option Tree) FieldFault → Result (Option (List Token)) FieldFault → Type 0
-ShowsValue expected (Ok None) = expected ≡ Ok None
-ShowsValue expected (Ok (Some e)) = (t : Tree) × (expected ≡ Ok (Some t)) × BeginsWith e t
-ShowsValue expected (Err f) = expected ≡ Err f
+-- of what is looked up at a path: there is no value, or one at this place, or the name stands twice
+abbrev pub IsSole : List Place → Result (Option Tree) FieldFault → Sole → Type 0
+IsSole at expected Absent = expected ≡ Ok None
+IsSole at expected (Present e) = (t : Tree) × (expected ≡ Ok (Some t)) × BeginsWith e t
+IsSole at expected Repeated = expected ≡ fault at Twice

@@ -1,6 +1,6 @@
 -- Names of members: which names a list has, and the members that were written under them.
 use Rattle.std.proofs.Common.{◌≡◌, ◌≢◌, ℕ, Bool, true, false, List, [], ◌∷◌, ◌++◌, refl, ap, subst, cond, bytes_eq}
-use Rattle.std.specs.Prelude.{◌||◌, ◌&&◌, not}
+use Rattle.std.specs.Prelude.{◌||◌, ◌&&◌, not, if◌then◌else◌}
 use Rattle.std.proofs.lemmas.Slice.Eq.{bytes_eq-Decides}
 use Rattle.mes_json.specs.Tree.{Tree, Members}
 use Rattle.mes_json.specs.View.{members_of}
@@ -15,6 +15,11 @@ apart (m ∷ ms) ns = not (is_in m ns) && apart ms ns
 abbrev pub distinct : List (List ℕ) → Bool
 distinct [] = true
 distinct (n ∷ ns) = not (is_in n ns) && distinct ns
+
+-- the names of either list; those of both stand once
+abbrev pub united : List (List ℕ) → List (List ℕ) → List (List ℕ)
+united [] ns = ns
+united (m ∷ ms) ns = if is_in m ns then united ms ns else m ∷ united ms ns
 
 -- under each of these names the members hold what was written, and no more
 abbrev pub Agrees : List (List ℕ) → Members → List (List ℕ × Tree) → Type 0
@@ -57,6 +62,34 @@ in_neither n (m ∷ xs) ys e = elim (bytes_eq m n) as (λ v. (v || is_in n (xs +
   | true ↦ λ h. absurd (cc)
   | false ↦ λ h. in_neither n xs ys h
 ] e
+
+-- in either of two lists
+pub united_back : (n : List ℕ) (xs ys : List (List ℕ)) → is_in n ys ≡ true → is_in n (united xs ys) ≡ true
+united_back n [] ys e = e
+united_back n (m ∷ xs) ys e = by_test (united_back n xs ys e) (is_in m ys) where
+  by_test : is_in n (united xs ys) ≡ true → (x : Bool) → is_in n (if x then united xs ys else m ∷ united xs ys) ≡ true
+  by_test more true = more
+  by_test more false = in_back n (m ∷ []) (united xs ys) more
+
+pub united_front : (n : List ℕ) (xs ys : List (List ℕ)) → is_in n xs ≡ true → is_in n (united xs ys) ≡ true
+united_front n [] ys e = absurd (cc)
+united_front n (m ∷ xs) ys e = by_tests (united_front n xs ys) (is_in m ys) (bytes_eq m n) refl refl e where
+  by_tests : (is_in n xs ≡ true → is_in n (united xs ys) ≡ true) → (x y : Bool) → is_in m ys ≡ x → bytes_eq m n ≡ y → (y || is_in n xs) ≡ true
+      → is_in n (if x then united xs ys else m ∷ united xs ys) ≡ true
+  by_tests more true true p q e = united_back n xs ys (subst (λ (k : List ℕ). is_in k ys ≡ true) (names_equal m n q) p)
+  by_tests more true false p q e = more e
+  by_tests more false true p q e = rw q refl
+  by_tests more false false p q e = rw q (more e)
+
+pub united_neither : (n : List ℕ) (xs ys : List (List ℕ)) → is_in n (united xs ys) ≡ false → (is_in n xs ≡ false) × (is_in n ys ≡ false)
+united_neither n xs ys e = (by_test (is_in n xs) refl, by_back (is_in n ys) refl) where
+  by_test : (x : Bool) → is_in n xs ≡ x → x ≡ false
+  by_test false p = refl
+  by_test true p = let h : is_in n (united xs ys) ≡ true = united_front n xs ys p in absurd (cc)
+
+  by_back : (x : Bool) → is_in n ys ≡ x → x ≡ false
+  by_back false p = refl
+  by_back true p = let h : is_in n (united xs ys) ≡ true = united_back n xs ys p in absurd (cc)
 
 pub apart_in : (n : List ℕ) (xs ys : List (List ℕ)) → apart xs ys ≡ true → is_in n xs ≡ true → is_in n ys ≡ false
 apart_in n [] ys a e = absurd (cc)

@@ -33,7 +33,8 @@ pub use list::List;
 pub use part::{Part, PartFault};
 pub use path::{PATH_TEXT_MOST, Path, STEPS_MOST, Step};
 pub use read_row::{
-    flagged, optional, read_either_list, read_list, repeated, required, type_fault, type_of,
+    flagged, left_out, optional, read_either_list, read_list, repeated, required, type_fault,
+    type_of,
 };
 pub use rows::{ROWS_MOST, Rows};
 pub use write_row::{

@@ -5,7 +5,7 @@ ghost use Rattle.arrayvec.specs.ArrayString.{array_string_len};
 ghost use Rattle.mes_part.specs.Paths.{Place, IsPlace, step_text, path_text};
 ghost use Rattle.mes_part.specs.Steps.{place_of};
 
-use arrayvec::{ArrayString, ArrayVec};
+use arrayvec::ArrayString;
 use itoa::Buffer;
 use std::marker::Model;
 
@@ -38,19 +38,21 @@ impl Default for Step {
 /// The steps from a JSON value to the place of a fault, at most 16.
 #[derive(Debug, Drop)]
 pub struct Path {
-    steps: ArrayVec<Step, STEPS_MOST>,
+    /// The steps in order, and behind them free room.
+    steps: [Step; STEPS_MOST],
+    len: usize,
 }
 
 impl Model for Path {
-    ghost use Rattle.std.specs.Prelude.{List, map};
+    ghost use Rattle.std.specs.Prelude.{◌≡◌, ◌≤◌, List, length, map, take};
     ghost use Rattle.mes_part.specs.Paths.{Place, IsPath};
     ghost use Rattle.mes_part.specs.Steps.{place_of};
 
     ghost Value = { List Place };
 
-    ghost view = { λ p. map place_of p.steps.items };
+    ghost view = { λ p. map place_of (take p.len p.steps) };
 
-    ghost invariant = { λ p. IsPath (map place_of p.steps.items) };
+    ghost invariant = { λ p. (length p.steps ≡ 16) × (p.len ≤ 16) × IsPath (map place_of (take p.len p.steps)) };
 }
 
 impl Path {
@@ -59,7 +61,8 @@ impl Path {
         ensures { result ≡ [] }
     {
         Path {
-            steps: ArrayVec::new(),
+            steps: [Step::default(); STEPS_MOST],
+            len: 0,
         }
     }
 
@@ -67,9 +70,10 @@ impl Path {
     pub fn copy(&self) -> Path
         ensures { result ≡ self.now }
     {
-        let mut steps = ArrayVec::new();
-        steps.try_extend_from_slice(self.steps.as_slice()).unwrap();
-        Path { steps }
+        Path {
+            steps: self.steps,
+            len: self.len,
+        }
     }
 
     /// The path with one more step at its end; takes no memory.
@@ -78,9 +82,12 @@ impl Path {
         requires step { IsPlace (place_of step) }
         ensures { result ≡ self.now ++ place_of step ∷ [] }
     {
-        let Path { mut steps } = self.copy();
-        steps.push(step);
-        Path { steps }
+        let mut steps = self.steps;
+        steps[self.len] = step;
+        Path {
+            steps,
+            len: self.len + 1,
+        }
     }
 
     /// Writes the path in place of the text: its steps as `a.b[0].c`, or `.` where it has none.
@@ -88,7 +95,7 @@ impl Path {
         ensures { text.new.bytes ≡ path_text self.now }
     {
         text.clear();
-        let Some((first, rest)) = self.steps.as_slice().split_first() else {
+        let Some((first, rest)) = self.steps[..self.len].split_first() else {
             return text.push_str(".");
         };
         match first {

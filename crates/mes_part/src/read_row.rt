@@ -1,21 +1,21 @@
 //! Rows read: the value of a member that was found, or the first fault.
 
-ghost use Rattle.std.specs.Prelude.{◌≡◌, ℕ, List as list, ◌+◌, ◌≤◌, ◌<◌, length};
+ghost use Rattle.std.specs.Prelude.{◌≡◌, ℕ, List as list, ◌+◌, ◌≤◌, ◌<◌, length, None};
 ghost use Rattle.mes_json.specs.Tree.{Tree, Members};
 ghost use Rattle.mes_json.specs.Tokens.{BeginsWith};
 ghost use Rattle.mes_part.specs.Paths.{Place, IsPlace};
 ghost use Rattle.mes_part.specs.Fields.{values_named, below, single};
-ghost use Rattle.mes_part.specs.Leaves.{texts};
+ghost use Rattle.mes_part.specs.Leaves.{texts, left_out};
 ghost use Rattle.mes_part.specs.Lists.{list_of};
 ghost use Rattle.mes_part.specs.EitherLists.{either_list};
 ghost use Rattle.mes_part.specs.Rows.{required, optional, repeated, flagged};
 ghost use Rattle.mes_part.specs.Choices.{type_name};
-ghost use Rattle.mes_part.specs.FoundRows.{IsFound, ShowsValue};
+ghost use Rattle.mes_part.specs.FoundRows.{IsFound, IsSole};
 ghost use Rattle.mes_part.specs.Parts.{Gives, Shows};
 
 use crate::field::{FieldFault, FieldWhy};
 use crate::found::{Found, find_rows};
-use crate::leaf::{fault_at, text_in};
+use crate::leaf::fault_at;
 use crate::list::List;
 use crate::part::{Part, PartFault};
 use crate::path::{Path, Step};
@@ -34,10 +34,10 @@ pub fn required<T: Part>(
     requires step { IsPlace (Place.name name.now) }
     ensures { (ms : Members) → IsFound found.now (values_named name.now ms) → Gives (required name.now T.kind path.now ms) result }
 {
-    let path = path.with(Step::Name(name));
-    match value_found(found, &path)? {
-        Some(value) => T::read_from(alloc, &value, &path),
-        None => Err(PartFault::Field(fault_at(&path, FieldWhy::Missing))),
+    match sole_value(found) {
+        Sole::Present(value) => T::read_from(alloc, &value, &path.with(Step::Name(name))),
+        Sole::Absent => Err(PartFault::Field(row_fault(path, name, FieldWhy::Missing))),
+        Sole::Repeated => Err(PartFault::Field(row_fault(path, name, FieldWhy::Twice))),
     }
 }
 
@@ -53,10 +53,13 @@ pub fn optional<T: Part>(
     requires step { IsPlace (Place.name name.now) }
     ensures { (ms : Members) → IsFound found.now (values_named name.now ms) → Gives (optional name.now T.kind path.now ms) result }
 {
-    let path = path.with(Step::Name(name));
-    match value_found(found, &path)? {
-        Some(value) => Ok(Some(T::read_from(alloc, &value, &path)?)),
-        None => Ok(None),
+    match sole_value(found) {
+        Sole::Present(value) => {
+            let value = T::read_from(alloc, &value, &path.with(Step::Name(name)))?;
+            Ok(Some(value))
+        }
+        Sole::Absent => Ok(None),
+        Sole::Repeated => Err(PartFault::Field(row_fault(path, name, FieldWhy::Twice))),
     }
 }
 
@@ -72,10 +75,10 @@ pub fn repeated<T: Part>(
     requires step { IsPlace (Place.name name.now) }
     ensures { (ms : Members) → IsFound found.now (values_named name.now ms) → Gives (repeated name.now T.kind path.now ms) result }
 {
-    let path = path.with(Step::Name(name));
-    match value_found(found, &path)? {
-        Some(value) => read_list(alloc, &value, &path),
-        None => Ok(List::new(Vec::new(alloc))),
+    match sole_value(found) {
+        Sole::Present(value) => read_list(alloc, &value, &path.with(Step::Name(name))),
+        Sole::Absent => Ok(List::new(Vec::new(alloc))),
+        Sole::Repeated => Err(PartFault::Field(row_fault(path, name, FieldWhy::Twice))),
     }
 }
 
@@ -86,13 +89,13 @@ pub fn flagged(found: &Found<'_>, name: &'static str, path: &Path) -> Result<boo
     requires step { IsPlace (Place.name name.now) }
     ensures { (ms : Members) → IsFound found.now (values_named name.now ms) → Shows (λ x. x) (flagged name.now path.now ms) result }
 {
-    let path = path.with(Step::Name(name));
-    match value_found(found, &path)? {
-        Some(value) => match value.members() {
+    match sole_value(found) {
+        Sole::Present(value) => match value.members() {
             Some(_) => Ok(true),
-            None => Err(fault_at(&path, FieldWhy::WrongKind)),
+            None => Err(row_fault(path, name, FieldWhy::WrongKind)),
         },
-        None => Ok(false),
+        Sole::Absent => Ok(false),
+        Sole::Repeated => Err(row_fault(path, name, FieldWhy::Twice)),
     }
 }
 
@@ -102,10 +105,13 @@ pub fn type_of<'a>(found: &Found<'a>, path: &Path) -> Result<&'a str, FieldFault
     requires { length path.now < 16 }
     ensures { (ms : Members) → IsFound found.now (values_named type_name ms) → Shows (λ s. s.now) (required type_name texts path.now ms) result }
 {
-    let path = path.with(Step::Name("type"));
-    match value_found(found, &path)? {
-        Some(value) => text_in(&value, &path),
-        None => Err(fault_at(&path, FieldWhy::Missing)),
+    match sole_value(found) {
+        Sole::Present(value) => match value.as_text() {
+            Some(text) => Ok(text),
+            None => Err(type_fault(path, FieldWhy::WrongKind)),
+        },
+        Sole::Absent => Err(type_fault(path, FieldWhy::Missing)),
+        Sole::Repeated => Err(type_fault(path, FieldWhy::Twice)),
     }
 }
 
@@ -114,7 +120,21 @@ pub fn type_fault(path: &Path, why: FieldWhy) -> FieldFault
     requires { length path.now < 16 }
     ensures { result ≡ record { path = below path.now type_name; why = why } }
 {
-    fault_at(&path.with(Step::Name("type")), why)
+    row_fault(path, "type", why)
+}
+
+/// What is wrong with the row of this name, in the object at this path.
+#[cold]
+#[inline(never)]
+fn row_fault(path: &Path, name: &'static str, why: FieldWhy) -> FieldFault
+    requires room { length path.now < 16 }
+    requires step { IsPlace (Place.name name.now) }
+    ensures { result ≡ record { path = below path.now name.now; why = why } }
+{
+    FieldFault {
+        path: path.with(Step::Name(name)),
+        why,
+    }
 }
 
 /// The values of an array's items, in order.
@@ -155,20 +175,44 @@ pub fn read_either_list<T: Part>(
     repeated(alloc, rows.at(0), name, path)
 }
 
+/// What there is to be read under a name.
+enum Sole<'a> {
+    /// Nothing: no member has the name, or one whose value is null.
+    Absent,
+    /// The value of the one member that has it, which isn't null.
+    Present(Element<'a>),
+    /// Nothing, since two members or more have it.
+    Repeated,
+}
+
+/// A row of what is not supported: it may be absent or `null`, and any other value of it is `LeftOut`.
+#[tactic(auto, unfolding(crate::specs::Rows::optional, crate::specs::Fields::lookup, crate::specs::Leaves::left_out))]
+pub fn left_out(found: &Found<'_>, name: &'static str, path: &Path) -> Result<(), FieldFault>
+    requires room { length path.now < 16 }
+    requires step { IsPlace (Place.name name.now) }
+    ensures { (ms : Members) → IsFound found.now (values_named name.now ms) → Shows (λ _. None) (optional name.now left_out path.now ms) result }
+{
+    match sole_value(found) {
+        Sole::Present(_) => Err(row_fault(path, name, FieldWhy::LeftOut)),
+        Sole::Absent => Ok(()),
+        Sole::Repeated => Err(row_fault(path, name, FieldWhy::Twice)),
+    }
+}
+
 /// The one value that was found and isn't null, where there is one.
 #[tactic(auto, using(crate::proofs::ValueLemmas::single_none, crate::proofs::ValueLemmas::single_null, crate::proofs::ValueLemmas::single_one, crate::proofs::ValueLemmas::single_twice))]
-fn value_found<'a>(found: &Found<'a>, path: &Path) -> Result<Option<Element<'a>>, FieldFault>
-    ensures { (ts : list Tree) → IsFound found.now ts → ShowsValue (single path.now ts) result }
+fn sole_value<'a>(found: &Found<'a>) -> Sole<'a>
+    ensures { (at : list Place) (ts : list Tree) → IsFound found.now ts → IsSole at (single at ts) result }
 {
     match found {
-        Found::Nothing => Ok(None),
+        Found::Nothing => Sole::Absent,
         Found::One(value) => {
             if value.is_null() {
-                Ok(None)
+                Sole::Absent
             } else {
-                Ok(Some(value.copy()))
+                Sole::Present(value.copy())
             }
         }
-        Found::More => Err(fault_at(path, FieldWhy::Twice)),
+        Found::More => Sole::Repeated,
     }
 }

@@ -6,7 +6,8 @@ use Rattle.mes_frame.proofs.Records.{begun_of, data_goes_on}
 use Rattle.mes_frame.specs.Record.{IsRecord, Begun, DataBegun}
 use Rattle.mes_frame.specs.RecordState.{RecordStands, limit_of}
 use Rattle.mes_stream.specs.Stream.{saturated, Records, Behind, BodyLive, number_after, EndsRecord, InData, BodyStops}
-use Rattle.mes_stream.specs.Reading.{BodyStopsAt}
+use Rattle.mes_stream.specs.Framings.{GoesIn, EndsRecordIn, StopsIn, StopsWithin}
+use Rattle.mes_stream.specs.declared.stream_reader.Framing.{Framing}
 use Rattle.mes_stream.specs.Taking.{BodyStands, Takes, Ends, fault_of_record}
 use Rattle.mes_msg.specs.declared.record.RecordFault.{RecordFault}
 use Rattle.mes_msg.specs.declared.record.RecordFault.TheVariants as refusal
@@ -147,13 +148,13 @@ run_split : (rest : List ℕ) (m : ℕ) → m < length rest → rest ≡ take m 
 run_split rest m lt =
     sym (take-append-drop (m + 1) rest) ∙ rw (take_more rest m 0 lt) (append_assoc (take m rest) (get_or rest m 0 ∷ []) (drop (m + 1) rest))
 
-module _ {E : Type 0} (spells : List ℕ → E → Type 0) (breaks : List ℕ → RecordFault → Type 0) where
+module _ {E : Type 0} (framing : Framing) (spells : List ℕ → E → Type 0) (breaks : List ℕ → RecordFault → Type 0) where
   -- a byte of what is left of a piece stops the reading
   pub stops_in : (limit : ℕ) (b piece : List ℕ) (values : List E) (fault : Fault) (at used : ℕ) → at ≤ length piece → 0 < used → used ≤ length (drop at piece)
-      → BodyLive spells limit ((b ++ take at piece) ++ take (used - 1) (drop at piece)) values
-      → BodyStops spells breaks limit ((b ++ take at piece) ++ take (used - 1) (drop at piece)) values (slice_index (drop at piece) (used - 1)) fault
-      ⊎ ((fault ≡ NoMemory) × ((value : E) × EndsRecord spells limit ((b ++ take at piece) ++ take (used - 1) (drop at piece)) values (slice_index (drop at piece) (used - 1)) (λ r. spells r value)))
-      → BodyStopsAt spells breaks limit (b ++ piece) values fault (length b + (at + used))
+      → GoesIn framing spells limit ((b ++ take at piece) ++ take (used - 1) (drop at piece)) values
+      → StopsIn framing spells breaks limit ((b ++ take at piece) ++ take (used - 1) (drop at piece)) values (slice_index (drop at piece) (used - 1)) fault
+      ⊎ ((fault ≡ NoMemory) × ((value : E) × EndsRecordIn framing spells limit ((b ++ take at piece) ++ take (used - 1) (drop at piece)) values (slice_index (drop at piece) (used - 1)) value))
+      → StopsWithin framing spells breaks limit (b ++ piece) values fault (length b + (at + used))
   stops_in limit b piece values fault at used inside some within live stops = record {
     front = (b ++ take at piece) ++ take (used - 1) (drop at piece);
     byte = slice_index (drop at piece) (used - 1);
@@ -178,9 +179,8 @@ pub piece_on : (b piece : List ℕ) (at used : ℕ) → (b ++ take at piece) ++ 
 piece_on b piece at used = append_assoc b (take at piece) (take used (drop at piece)) ∙ ap (λ (p : List ℕ). b ++ p) (sym (take-add at used piece))
 
 -- and a record ended there
-pub value_on : {R E : Type 0} (holds : R → List ℕ → Type 0) (spells : List ℕ → E → Type 0) (d : Body R) (b piece : List ℕ) (values more : List E) (value : E) (at used : ℕ)
-    → BodyStands holds spells d ((b ++ take at piece) ++ take used (drop at piece)) ((values ++ more) ++ value ∷ [])
-    → BodyStands holds spells d (b ++ take (at + used) piece) (values ++ (more ++ value ∷ []))
-value_on {E = E} holds spells d b piece values more value at used s =
-    subst (λ (w : List ℕ). BodyStands holds spells d w (values ++ (more ++ value ∷ []))) (piece_on b piece at used)
-    (subst (λ (vs : List E). BodyStands holds spells d ((b ++ take at piece) ++ take used (drop at piece)) vs) (append_assoc values more (value ∷ [])) s)
+pub value_on : {E : Type 0} (Stands : List ℕ → List E → Type 0) (b piece : List ℕ) (values more : List E) (value : E) (at used : ℕ)
+    → Stands ((b ++ take at piece) ++ take used (drop at piece)) ((values ++ more) ++ value ∷ []) → Stands (b ++ take (at + used) piece) (values ++ (more ++ value ∷ []))
+value_on {E = E} Stands b piece values more value at used s =
+    subst (λ (w : List ℕ). Stands w (values ++ (more ++ value ∷ []))) (piece_on b piece at used)
+    (subst (λ (vs : List E). Stands ((b ++ take at piece) ++ take used (drop at piece)) vs) (append_assoc values more (value ∷ [])) s)

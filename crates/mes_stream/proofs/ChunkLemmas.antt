@@ -8,12 +8,12 @@ use Rattle.mes_frame.proofs.ChunkParts.{open_of, fronts_of}
 use Rattle.mes_frame.specs.ChunkFront.{IsOpen}
 use Rattle.mes_frame.specs.ChunkState.{ChunkStands, room_of}
 use Rattle.mes_msg.specs.declared.record.RecordFault.{RecordFault}
-use Rattle.mes_stream.specs.Stream.{BodyLive, BodyShows, BodyStops}
-use Rattle.mes_stream.specs.Chunked.{IsStream, Live, Shows, Stops}
+use Rattle.mes_stream.specs.Stream.{BodyLive, EndsRecord, BodyShows, BodyStops}
+use Rattle.mes_stream.specs.Chunked.{IsStream, Live, AtData, EndsWith, Shows, Stops}
 use Rattle.mes_stream.specs.Taking.{Takes}
 use Rattle.mes_stream.specs.Decoding.{ReadingStands, Says, LiveBefore, reading_limit}
 use Rattle.mes_stream.specs.declared.fault.Fault.{Fault}
-use Rattle.mes_stream.specs.declared.fault.Fault.TheVariants.{Frame, EndsInsideChunks, EndsInsideRecord, Text, Field, NoMemory, Read, ReadsSpent}
+use Rattle.mes_stream.specs.declared.fault.Fault.TheVariants.{Frame, EndsInsideChunks, EndsInsideRecord, Text, Field, NoMemory, Read, ReadsSpent, BadEntry}
 use Rattle.mes_stream.specs.declared.body.BodyOut.{BodyOut}
 use Rattle.mes_stream.specs.declared.body.BodyOut.TheVariants as body_out
 use Rattle.mes_stream.specs.declared.reading.Out.{Out}
@@ -36,6 +36,7 @@ shows_data spells breaks limit w body values c EndsInsideRecord before behind h 
 shows_data spells breaks limit w body values c NoMemory before behind h = absurd h
 shows_data spells breaks limit w body values c Read before behind h = absurd h
 shows_data spells breaks limit w body values c ReadsSpent before behind h = absurd h
+shows_data spells breaks limit w body values c (BadEntry at_record) before behind h = absurd h
 
 pub stops_data : {E : Type 0} (spells : List ℕ → E → Type 0) (breaks : List ℕ → RecordFault → Type 0) (limit : ℕ) (w body : List ℕ) (values : List E) (c : ℕ) (fault : Fault)
     → IsOpen w body → IsOpen (w ++ c ∷ []) (body ++ c ∷ []) → BodyStops spells breaks limit body values c fault → Stops spells breaks limit w values c fault
@@ -62,22 +63,31 @@ module _ {R E : Type 0} (holds : R → List ℕ → Type 0) (spells : List ℕ �
   run_before d limit w run values n count s len room within live =
       (s.content ++ take n run, fronts_of d.chunks w s.content run n count room len within s.chunks, live)
 
+  -- a byte of a run of data is a byte of the body
+  pub run_at : (d : Reading R) (w run : List ℕ) (values : List E) (used count : ℕ) (Is : List ℕ → List E → Type 0) (s : ReadingStands holds spells d w values) → length run ≡ count → count ≤ room_of d.chunks
+      → 0 < used → used ≤ count → Is (s.content ++ take (used - 1) run) values → AtData Is (w ++ take (used - 1) run) values (slice_index run (used - 1))
+  run_at d w run values used count Is s len room some within is =
+      let fronts : (n : ℕ) → n ≤ count → IsOpen (w ++ take n run) (s.content ++ take n run) = λ n inside. fronts_of d.chunks w s.content run n count room len inside s.chunks in
+      let sum : used ≡ (used - 1) + 1 = omega (arith, some) in
+      let more : take used run ≡ take (used - 1) run ++ slice_index run (used - 1) ∷ [] =
+      ap (λ (n : ℕ). take n run) sum ∙ take_more run (used - 1) 0 (omega (arith, some, within, len)) in
+      let join : (u : List ℕ) → u ++ take used run ≡ (u ++ take (used - 1) run) ++ slice_index run (used - 1) ∷ [] =
+      λ u. ap (λ (y : List ℕ). u ++ y) more ∙ sym (append_assoc u (take (used - 1) run) (slice_index run (used - 1) ∷ [])) in (
+        s.content ++ take (used - 1) run,
+        fronts (used - 1) (omega (arith, within)),
+        subst (λ (y : List ℕ). IsOpen y ((s.content ++ take (used - 1) run) ++ slice_index run (used - 1) ∷ [])) (join w)
+            (subst (λ (y : List ℕ). IsOpen (w ++ take used run) y) (join s.content) (fronts used within)),
+        is,
+      )
+
   module _ (breaks : List ℕ → RecordFault → Type 0) where
     -- a byte of a run of data stops the reading
     pub run_stops : (d : Reading R) (limit : ℕ) (w run : List ℕ) (values : List E) (used count : ℕ) (fault : Fault) (s : ReadingStands holds spells d w values) → length run ≡ count → count ≤ room_of d.chunks
         → 0 < used → used ≤ count → BodyStops spells breaks limit (s.content ++ take (used - 1) run) values (slice_index run (used - 1)) fault
         → Stops spells breaks limit (w ++ take (used - 1) run) values (slice_index run (used - 1)) fault
     run_stops d limit w run values used count fault s len room some within stops =
-        let fronts : (n : ℕ) → n ≤ count → IsOpen (w ++ take n run) (s.content ++ take n run) = λ n inside. fronts_of d.chunks w s.content run n count room len inside s.chunks in
-        let sum : used ≡ (used - 1) + 1 = omega (arith, some) in
-        let more : take used run ≡ take (used - 1) run ++ slice_index run (used - 1) ∷ [] =
-        ap (λ (n : ℕ). take n run) sum ∙ take_more run (used - 1) 0 (omega (arith, some, within, len)) in
-        let join : (u : List ℕ) → u ++ take used run ≡ (u ++ take (used - 1) run) ++ slice_index run (used - 1) ∷ [] =
-        λ u. ap (λ (y : List ℕ). u ++ y) more ∙ sym (append_assoc u (take (used - 1) run) (slice_index run (used - 1) ∷ [])) in
-        stops_data spells breaks limit (w ++ take (used - 1) run) (s.content ++ take (used - 1) run) values (slice_index run (used - 1)) fault
-        (fronts (used - 1) (omega (arith, within)))
-        (subst (λ (y : List ℕ). IsOpen y ((s.content ++ take (used - 1) run) ++ slice_index run (used - 1) ∷ [])) (join w)
-        (subst (λ (y : List ℕ). IsOpen (w ++ take used run) y) (join s.content) (fronts used within))) stops
+        let at = run_at d w run values used count (λ body vs. BodyStops spells breaks limit body vs (slice_index run (used - 1)) fault) s len room some within stops in
+        stops_data spells breaks limit (w ++ take (used - 1) run) at.0 values (slice_index run (used - 1)) fault at.1 at.2 at.3
 
     -- what a body says of a run of data
     abbrev pub out_of : BodyOut E → Out E
@@ -90,8 +100,10 @@ module _ {R E : Type 0} (holds : R → List ℕ → Type 0) (spells : List ℕ �
         → Takes holds spells breaks new.body s.content values run used answer → Says (ReadingStands holds spells new) spells breaks (reading_limit new) w values run used (out_of answer)
     run_says d new w run values used count body_out.More s len room some within chunks taken =
         record { content = s.content ++ take used run; chunks = chunks; body = taken }
-    run_says d new w run values used count (body_out.Value value) s len room some within chunks taken =
-        record { content = s.content ++ take used run; chunks = chunks; body = taken.0 }
+    run_says d new w run values used count (body_out.Value value) s len room some within chunks taken = (
+      record { content = s.content ++ take used run; chunks = chunks; body = taken.0 },
+      run_at d w run values used count (λ body vs. EndsRecord spells (reading_limit new) body vs (slice_index run (used - 1)) (λ r. spells r value)) s len room some within taken.1,
+    )
     run_says d new w run values used count (body_out.Fault fault) s len room some within chunks taken =
         run_stops d (reading_limit new) w run values used count fault s len room some within taken
 
@@ -100,7 +112,11 @@ module _ {E : Type 0} (Stands : List ℕ → List E → Type 0) (spells : List �
   pub says_as : (w v run rest : List ℕ) (values : List E) (used most : ℕ) (answer : Out E) → w ++ take used run ≡ v ++ take most rest → w ++ take (used - 1) run ≡ v ++ take (most - 1) rest
       → slice_index run (used - 1) ≡ slice_index rest (most - 1) → Says Stands spells breaks limit w values run used answer → Says Stands spells breaks limit v values rest most answer
   says_as w v run rest values used most out.More same front last h = subst (λ (y : List ℕ). Stands y values) same h
-  says_as w v run rest values used most (out.Event value) same front last h = subst (λ (y : List ℕ). Stands y (values ++ value ∷ [])) same h
+  says_as w v run rest values used most (out.Event value) same front last h = (
+    subst (λ (y : List ℕ). Stands y (values ++ value ∷ [])) same h.0,
+    subst (λ (y : List ℕ). EndsWith spells limit y values (slice_index rest (most - 1)) value) front
+        (subst (λ (c : ℕ). EndsWith spells limit (w ++ take (used - 1) run) values c value) last h.1),
+  )
   says_as w v run rest values used most out.End same front last h = subst (λ (y : List ℕ). IsStream spells limit y values) same h
   says_as w v run rest values used most (out.Fault fault) same front last h =
       subst (λ (y : List ℕ). Stops spells breaks limit y values (slice_index rest (most - 1)) fault) front

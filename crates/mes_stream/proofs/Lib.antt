@@ -3,5 +3,8 @@ mod ChunkLemmas
 mod DecoderLemmas
 mod Grows
 mod PlainLaw
-pub mod PlainLemmas
+pub mod ReadLemmas
+mod SendLemmas
+mod SomeReading
 mod StreamLaw
+pub mod StreamLemmas

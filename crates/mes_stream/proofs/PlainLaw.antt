@@ -10,7 +10,7 @@ use Rattle.mes_stream.specs.Stream.{Records, BodyShows, EndsInside}
 use Rattle.mes_stream.specs.Taking.{fault_of_record}
 use Rattle.mes_stream.specs.PlainReading.{IsExact, PlainReading, Goes, Stops, ReadsPlain}
 use Rattle.mes_stream.specs.declared.fault.Fault.{Fault}
-use Rattle.mes_stream.specs.declared.fault.Fault.TheVariants.{Frame, EndsInsideChunks, EndsInsideRecord, Text, Field, NoMemory, Read, ReadsSpent}
+use Rattle.mes_stream.specs.declared.fault.Fault.TheVariants.{Frame, EndsInsideChunks, EndsInsideRecord, Text, Field, NoMemory, Read, ReadsSpent, BadEntry}
 
 -- what stands behind the records: the front of one more, a byte that no size line has, or a record without a value
 data Tail : Type 0 where
@@ -158,6 +158,7 @@ module _ {E : Type 0} (spells : List ℕ → E → Type 0) (breaks : List ℕ �
   found_stop w front byte values NoMemory rest is shows = absurd shows
   found_stop w front byte values Read rest is shows = absurd shows
   found_stop w front byte values ReadsSpent rest is shows = absurd shows
+  found_stop w front byte values (BadEntry at_record) rest is shows = absurd shows
 
   found : (w : List ℕ) (reading : PlainReading E) → ReadsPlain spells breaks limit w reading → Found w reading
   unfolding IsTail reading_of

@@ -8,11 +8,11 @@ use Rattle.mes_frame.specs.ChunkReading.{ChunkReading, Begins, Whole, Broken, Re
 use Rattle.mes_msg.specs.declared.record.RecordFault.{RecordFault}
 use Rattle.mes_stream.specs.Stream.{Records, BodyLive, BodyShows, EndsInside}
 use Rattle.mes_stream.specs.Chunked.{AtData, Shows}
-use Rattle.mes_stream.specs.PlainReading.{IsExact, PlainReading}
+use Rattle.mes_stream.specs.PlainReading.{IsExact}
 use Rattle.mes_stream.specs.PlainReading as plain
 use Rattle.mes_stream.specs.StreamReading.{StreamReading, Goes, Ends, Stops, ReadsStream}
 use Rattle.mes_stream.specs.declared.fault.Fault.{Fault}
-use Rattle.mes_stream.specs.declared.fault.Fault.TheVariants.{Frame, EndsInsideChunks, EndsInsideRecord, Text, Field, NoMemory, Read, ReadsSpent}
+use Rattle.mes_stream.specs.declared.fault.Fault.TheVariants.{Frame, EndsInsideChunks, EndsInsideRecord, Text, Field, NoMemory, Read, ReadsSpent, BadEntry}
 use Rattle.mes_stream.proofs.Grows.{content_of, grows}
 use Rattle.mes_stream.proofs.PlainLaw.{one_plain, no_rest, same_last}
 
@@ -193,6 +193,7 @@ module _ {E : Type 0} (spells : List ℕ → E → Type 0) (breaks : List ℕ �
   found_stop w front rest byte values NoMemory is shows = absurd shows
   found_stop w front rest byte values Read is shows = absurd shows
   found_stop w front rest byte values ReadsSpent is shows = absurd shows
+  found_stop w front rest byte values (BadEntry at_record) is shows = absurd shows
 
   found : (w : List ℕ) (reading : StreamReading E) → ReadsStream spells breaks limit w reading → Found w reading
   unfolding Found outer_of IsMark

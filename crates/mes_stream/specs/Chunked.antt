@@ -4,9 +4,9 @@ use Rattle.mes_frame.specs.Chunk.{IsChunked}
 use Rattle.mes_frame.specs.ChunkFront.{IsOpen}
 use Rattle.mes_frame.specs.ChunkFaults.{ChunkShows}
 use Rattle.mes_msg.specs.declared.record.RecordFault.{RecordFault}
-use Rattle.mes_stream.specs.Stream.{Records, BodyLive, EndsInside, BodyShows, InData}
+use Rattle.mes_stream.specs.Stream.{Records, BodyLive, EndsInside, EndsRecord, BodyShows, InData}
 use Rattle.mes_stream.specs.declared.fault.Fault.{Fault}
-use Rattle.mes_stream.specs.declared.fault.Fault.TheVariants.{Frame, EndsInsideChunks, EndsInsideRecord, Text, Field, NoMemory, Read, ReadsSpent}
+use Rattle.mes_stream.specs.declared.fault.Fault.TheVariants.{Frame, EndsInsideChunks, EndsInsideRecord, Text, Field, NoMemory, Read, ReadsSpent, BadEntry}
 
 -- w is a whole chunked body, and its data are records that spell the values
 abbrev pub IsStream : {E : Type 0} → (List ℕ → E → Type 0) → ℕ → List ℕ → List E → Type 0
@@ -19,6 +19,10 @@ Live spells limit w values = (body : List ℕ) × IsOpen w body × BodyLive spel
 -- the byte c behind w is a byte of the body, of which this holds
 abbrev pub AtData : {E : Type 0} → (List ℕ → List E → Type 0) → List ℕ → List E → ℕ → Type 0
 AtData Is w values c = (body : List ℕ) × IsOpen w body × IsOpen (w ++ c ∷ []) (body ++ c ∷ []) × Is body values
+
+-- the byte c behind w ends a record whose data spell the value
+abbrev pub EndsWith : {E : Type 0} → (List ℕ → E → Type 0) → ℕ → List ℕ → List E → ℕ → E → Type 0
+EndsWith spells limit w values c value = AtData (λ body vs. EndsRecord spells limit body vs c (λ r. spells r value)) w values c
 
 -- The byte c behind w, which is live with the values, shows the fault: no chunked body has it there (F1 to F5); it is a byte
 -- of the body and shows it there (F7 to F9, F11, F12); or it ends the body inside a record (F10).
@@ -36,6 +40,7 @@ Shows spells breaks limit w values c EndsInsideChunks = ⊥
 Shows spells breaks limit w values c NoMemory = ⊥
 Shows spells breaks limit w values c Read = ⊥
 Shows spells breaks limit w values c ReadsSpent = ⊥
+Shows spells breaks limit w values c (BadEntry at_record) = ⊥
 
 -- a fault that the byte c shows, or want of memory at a byte of a record's data: that says only what stood before
 abbrev pub Stops : {E : Type 0} → (List ℕ → E → Type 0) → (List ℕ → RecordFault → Type 0) → ℕ → List ℕ → List E → ℕ → Fault → Type 0

@@ -3,7 +3,7 @@ use Rattle.std.specs.Prelude.{ℕ, ◌-◌, ◌<◌, List, [], ◌∷◌, ◌++�
 use Rattle.mes_frame.specs.ChunkState.{ChunkStands}
 use Rattle.mes_frame.specs.RecordState.{limit_of}
 use Rattle.mes_msg.specs.declared.record.RecordFault.{RecordFault}
-use Rattle.mes_stream.specs.Chunked.{IsStream, Live, Stops}
+use Rattle.mes_stream.specs.Chunked.{IsStream, Live, EndsWith, Stops}
 use Rattle.mes_stream.specs.Taking.{BodyStands}
 use Rattle.mes_stream.specs.declared.reading.Reading.{Reading}
 use Rattle.mes_stream.specs.declared.reading.Out.{Out}
@@ -23,7 +23,9 @@ reading_limit d = limit_of d.body.records
 -- record ended with the last of them; the stream did; or the last of them stops the reading.
 abbrev pub Says : {E : Type 0} → (List ℕ → List E → Type 0) → (List ℕ → E → Type 0) → (List ℕ → RecordFault → Type 0) → ℕ → List ℕ → List E → List ℕ → ℕ → Out E → Type 0
 Says Stands spells breaks limit w values piece used out.More = Stands (w ++ take used piece) values
-Says Stands spells breaks limit w values piece used (out.Event value) = Stands (w ++ take used piece) (values ++ value ∷ [])
+Says Stands spells breaks limit w values piece used (out.Event value) =
+    Stands (w ++ take used piece) (values ++ value ∷ [])
+    × EndsWith spells limit (w ++ take (used - 1) piece) values (slice_index piece (used - 1)) value
 Says Stands spells breaks limit w values piece used out.End = IsStream spells limit (w ++ take used piece) values
 Says Stands spells breaks limit w values piece used (out.Fault fault) =
     Stops spells breaks limit (w ++ take (used - 1) piece) values (slice_index piece (used - 1)) fault

@@ -2,9 +2,13 @@ pub mod Chunked
 pub mod Decoders
 pub mod Decoding
 pub mod EventData
+pub mod Framings
 pub mod Lines
 pub mod PlainReading
 pub mod Reading
+pub mod SendLines
+pub mod Sending
 pub mod Stream
+pub mod StreamReaders
 pub mod StreamReading
 pub mod Taking

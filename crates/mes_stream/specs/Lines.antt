@@ -5,7 +5,7 @@ use Rattle.mes_json.specs.declared.fault.Why.{Why}
 use Rattle.mes_json.specs.declared.fault.Why.TheVariants.{End, Depth, Byte}
 use Rattle.mes_msg.specs.Shown.{spaced}
 use Rattle.mes_stream.specs.declared.fault.Fault.{Fault}
-use Rattle.mes_stream.specs.declared.fault.Fault.TheVariants.{Frame, EndsInsideChunks, EndsInsideRecord, Text, Field, NoMemory, Read, ReadsSpent}
+use Rattle.mes_stream.specs.declared.fault.Fault.TheVariants.{Frame, EndsInsideChunks, EndsInsideRecord, Text, Field, NoMemory, Read, ReadsSpent, BadEntry}
 use Rattle.mes_part.specs.Paths.{path_text}
 use Rattle.mes_part.specs.Whys.{field_why_name}
 
@@ -26,6 +26,7 @@ fault_title (Field at_record path why) = codes "F12 Field"
 fault_title NoMemory = codes "F13 NoMemory"
 fault_title Read = codes "F14 Read"
 fault_title ReadsSpent = codes "F15 ReadsSpent"
+fault_title (BadEntry at_record) = codes "F16 BadEntry"
 
 -- why bytes are no JSON text
 abbrev pub text_why_name : Why → List ℕ
@@ -45,6 +46,7 @@ details (Field at_record path why) =
 details NoMemory = []
 details Read = []
 details ReadsSpent = []
+details (BadEntry at_record) = codes "record" ∷ decimal at_record ∷ []
 
 -- `fault F10 EndsInsideRecord after 12`, `fault F12 Field record 1 type Missing after 4`
 abbrev pub fault_text : Fault → ℕ → List ℕ

@@ -1,5 +1,5 @@
 -- What any bytes are to a reader of plain RecordIO.
-use Rattle.std.specs.Prelude.{◌≡◌, ◌≢◌, ℕ, List, ◌∷◌, ◌++◌}
+use Rattle.std.specs.Prelude.{◌≡◌, ◌≢◌, ℕ, ◌⊎◌, List, ◌∷◌, ◌++◌}
 use Rattle.mes_msg.specs.declared.record.RecordFault.{RecordFault}
 use Rattle.mes_msg.specs.declared.record.RecordFault.TheVariants as refusal
 use Rattle.mes_stream.specs.Stream.{BodyLive, BodyShows}
@@ -10,6 +10,10 @@ pub record IsExact {E : Type 0} (spells : List ℕ → E → Type 0) (breaks : L
   pub value : (r : List ℕ) (a b : E) → spells r a → spells r b → a ≡ b
   pub why : (r : List ℕ) (f g : RecordFault) → f ≢ refusal.NoMemory → g ≢ refusal.NoMemory → breaks r f → breaks r g → f ≡ g
   pub apart : (r : List ℕ) (a : E) (f : RecordFault) → f ≢ refusal.NoMemory → spells r a → breaks r f → ⊥
+
+-- the data of any record have a value, or a reason why they have none
+abbrev pub IsDecided : {E : Type 0} → (List ℕ → E → Type 0) → (List ℕ → RecordFault → Type 0) → Type 0
+IsDecided {E} spells breaks = (r : List ℕ) → ((value : E) × spells r value) ⊎ ((why : RecordFault) × (why ≢ refusal.NoMemory) × breaks r why)
 
 pub data PlainReading (E : Type 0) : Type 0 where
   -- records of these values, and perhaps the front of one more

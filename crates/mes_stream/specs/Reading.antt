@@ -1,29 +1,20 @@
 -- How the reading of a stream from a device ends.
-use Rattle.std.specs.Prelude.{◌≡◌, ℕ, ◌+◌, ◌*◌, ◌≤◌, ◌⊎◌, Option, List, [], ◌∷◌, ◌++◌, length, Result, Ok, Err}
+use Rattle.std.specs.Prelude.{◌≡◌, ℕ, ◌+◌, ◌*◌, ◌<◌, ◌≤◌, ◌⊎◌, Option, List, [], ◌++◌, length, Result, Ok, Err}
 use Rattle.std.specs.Io.KnownBytes.{IsAtEnd}
 use Rattle.mes_frame.specs.Counts.{up}
 use Rattle.mes_frame.specs.declared.counts.Counts.{Counts}
 use Rattle.mes_msg.specs.Events.{Spells, IsRecordFault}
 use Rattle.mes_msg.specs.declared.event.Event.{Event}
 use Rattle.mes_msg.specs.declared.record.RecordFault.{RecordFault}
-use Rattle.mes_stream.specs.Stream.{saturated, Records, BodyLive, EndsInside, EndsRecord, BodyStops}
+use Rattle.mes_stream.specs.Stream.{saturated}
+use Rattle.mes_stream.specs.Framings.{GoesIn, EndsIn, InputEnds, StopsWithin}
 use Rattle.mes_stream.specs.declared.fault.Fault.{Fault}
-use Rattle.mes_stream.specs.declared.fault.Fault.TheVariants.{Frame, EndsInsideChunks, EndsInsideRecord, Text, Field, NoMemory, Read, ReadsSpent}
+use Rattle.mes_stream.specs.declared.fault.Fault.TheVariants.{Read, ReadsSpent}
 use Rattle.mes_stream.specs.declared.fault.Report.{Report}
 use Rattle.mes_stream.specs.declared.fault.Stop.{Stop}
-use Rattle.mes_stream.specs.declared.plain.TheConstants.{READ_MOST}
-
--- The first n bytes of w stop the reading with their last. Want of memory may also come where the value of a record that has
--- ended is added to the list.
-pub record BodyStopsAt {E : Type 0} (spells : List ℕ → E → Type 0) (breaks : List ℕ → RecordFault → Type 0) (limit : ℕ) (w : List ℕ) (values : List E) (fault : Fault) (n : ℕ) : Type 0 where
-  pub front : List ℕ
-  pub byte : ℕ
-  pub rest : List ℕ
-  pub is : w ≡ front ++ byte ∷ rest
-  pub used : n ≡ length front + 1
-  pub live : BodyLive spells limit front values
-  pub stops : BodyStops spells breaks limit front values byte fault
-      ⊎ ((fault ≡ NoMemory) × ((value : E) × EndsRecord spells limit front values byte (λ r. spells r value)))
+use Rattle.mes_stream.specs.declared.read.TheConstants.{READ_MOST}
+use Rattle.mes_stream.specs.declared.stream_reader.Framing.{Framing}
+use Rattle.mes_stream.specs.declared.stream_reader.Framing.TheVariants.{Plain, Chunked}
 
 -- The device was asked as often as `made` says, at most `reads` times, and gave the bytes w, at most 512 a time. So many
 -- of the calls failed, and so many told the end.
@@ -33,46 +24,59 @@ pub record Asked (reads : ℕ) (old new : Counts) (w : List ℕ) (made failed en
   pub calls : new.calls ≡ up old.calls made
   pub failures : new.failures ≡ up old.failures failed
   pub idle : new.idle ≡ up old.idle ended
+  -- each call failed, or told the end, or gave bytes
+  pub ends : failed + ended ≤ made
 
 -- a byte among the last 512 of w stops the reading, and no call failed or told the end
-pub record StopsAt {E : Type 0} (spells : List ℕ → E → Type 0) (breaks : List ℕ → RecordFault → Type 0) (limit reads : ℕ) (old new : Counts) (w : List ℕ) (values : List E) (count : ℕ) (fault : Fault) : Type 0 where
+pub record StopsAt {E : Type 0} (framing : Framing) (spells : List ℕ → E → Type 0) (breaks : List ℕ → RecordFault → Type 0) (limit reads : ℕ) (old new : Counts) (w : List ℕ) (values : List E) (used : ℕ) (fault : Fault) : Type 0 where
   pub n : ℕ
-  pub used : count ≡ saturated n
-  pub stops : BodyStopsAt spells breaks limit w values fault n
-  pub last : length w + 1 ≤ n + READ_MOST
+  pub count : used ≡ saturated n
+  pub stops : StopsWithin framing spells breaks limit w values fault n
+  pub last : length w < n + READ_MOST
   pub made : ℕ
   pub asked : Asked reads old new w made 0 0
 
--- Why the reading stopped, where w are the bytes that were taken, old and new what the device counted before and after,
--- and last what it has left. The device ended inside a record, or failed, or was asked as often as allowed: then every
--- byte that was taken was used. Or a byte showed a fault: then the bytes up to it were used.
-abbrev pub Stops : {E : Type 0} → (List ℕ → E → Type 0) → (List ℕ → RecordFault → Type 0) → ℕ → ℕ → Counts → Counts → Option (List ℕ) → List ℕ → List E → ℕ → Fault → Type 0
-Stops spells breaks limit reads old new last w values used EndsInsideChunks = ⊥
-Stops spells breaks limit reads old new last w values used EndsInsideRecord =
-    EndsInside spells limit w values × (used ≡ saturated (length w)) × IsAtEnd last × ((made : ℕ) × Asked reads old new w made 0 1)
-Stops spells breaks limit reads old new last w values used Read =
-    BodyLive spells limit w values × (used ≡ saturated (length w)) × ((made : ℕ) × Asked reads old new w made 1 0)
-Stops spells breaks limit reads old new last w values used ReadsSpent =
-    BodyLive spells limit w values × (used ≡ saturated (length w)) × Asked reads old new w reads 0 0
-Stops spells breaks limit reads old new last w values used (Frame fault) = StopsAt spells breaks limit reads old new w values used (Frame fault)
-Stops spells breaks limit reads old new last w values used (Text at_record byte why) =
-    StopsAt spells breaks limit reads old new w values used (Text at_record byte why)
-Stops spells breaks limit reads old new last w values used (Field at_record path why) =
-    StopsAt spells breaks limit reads old new w values used (Field at_record path why)
-Stops spells breaks limit reads old new last w values used NoMemory = StopsAt spells breaks limit reads old new w values used NoMemory
+-- a byte among the last 512 of w ends the stream, and the rest are the bytes behind it; no call failed or told the end
+pub record EndsAt {E : Type 0} (framing : Framing) (spells : List ℕ → E → Type 0) (limit reads : ℕ) (old new : Counts) (w : List ℕ) (values : List E) (used : ℕ) (rest : List ℕ) : Type 0 where
+  pub stream : List ℕ
+  pub is : w ≡ stream ++ rest
+  pub count : used ≡ saturated (length stream)
+  pub ends : EndsIn framing spells limit stream values
+  pub last : length rest < READ_MOST
+  pub made : ℕ
+  pub asked : Asked reads old new w made 0 0
 
--- Reading ends well where the device tells its end between records, and no byte is left over.
-abbrev pub EndsBody : {E : Type 0} → (List ℕ → E → Type 0) → (List ℕ → RecordFault → Type 0) → ℕ → ℕ → Counts → Counts → Option (List ℕ) → List ℕ → List E → Result Report Stop → Type 0
-EndsBody spells breaks limit reads old new last w values (Ok report) =
-    Records spells limit w values × (report.used ≡ saturated (length w)) × (report.rest.items ≡ []) × IsAtEnd last
-    × ((made : ℕ) × Asked reads old new w made 0 1)
-EndsBody spells breaks limit reads old new last w values (Err stop) = Stops spells breaks limit reads old new last w values stop.used stop.fault
+-- The last call told the end of the device, which has that meaning behind w; no call failed. All bytes were used.
+pub record InputEndsAt {E T : Type 0} (framing : Framing) (spells : List ℕ → E → Type 0) (limit reads : ℕ) (old new : Counts) (last : Option (List ℕ)) (w : List ℕ) (values : List E) (used : ℕ) (meaning : Result T Fault) : Type 0 where
+  pub count : used ≡ saturated (length w)
+  pub ends : InputEnds framing spells limit w values meaning
+  pub end : IsAtEnd last
+  pub made : ℕ
+  pub asked : Asked reads old new w made 0 1
 
--- the same of a stream of events
+-- The stream goes on behind w, of which all bytes were used, and so many calls were made, of which so many failed.
+pub record BreaksOff {E : Type 0} (framing : Framing) (spells : List ℕ → E → Type 0) (limit reads : ℕ) (old new : Counts) (w : List ℕ) (values : List E) (used made failed : ℕ) : Type 0 where
+  pub count : used ≡ saturated (length w)
+  pub live : GoesIn framing spells limit w values
+  pub asked : Asked reads old new w made failed 0
+
+-- How reading ended, where w are the bytes that were taken, old and new what the device counted before and after, and last
+-- what it has left. Well: a byte ended the stream, or the device ended between records. Or it stopped: a byte stopped it,
+-- the device ended too early, a call failed (F14), or as many calls were made as allowed (F15).
+abbrev pub EndsReading : {E : Type 0} → Framing → (List ℕ → E → Type 0) → (List ℕ → RecordFault → Type 0) → ℕ → ℕ → Counts → Counts → Option (List ℕ) → List ℕ → List E → Result Report Stop → Type 0
+EndsReading framing spells breaks limit reads old new last w values (Ok report) =
+    EndsAt framing spells limit reads old new w values report.used report.rest.items
+    ⊎ (InputEndsAt {T = Unit {0}} framing spells limit reads old new last w values report.used (Ok tt) × (report.rest.items ≡ []))
+EndsReading framing spells breaks limit reads old new last w values (Err stop) =
+    StopsAt framing spells breaks limit reads old new w values stop.used stop.fault
+    ⊎ InputEndsAt {T = Unit {0}} framing spells limit reads old new last w values stop.used (Err stop.fault)
+    ⊎ ((stop.fault ≡ Read) × ((made : ℕ) × BreaksOff framing spells limit reads old new w values stop.used made 1))
+    ⊎ ((stop.fault ≡ ReadsSpent) × BreaksOff framing spells limit reads old new w values stop.used reads 0)
+
+-- the same of events in plain RecordIO
 abbrev pub EndsPlain : ℕ → ℕ → Counts → Counts → Option (List ℕ) → List ℕ → List Event → Result Report Stop → Type 0
-EndsPlain limit reads old new last w events outcome = EndsBody Spells IsRecordFault limit reads old new last w events outcome
+EndsPlain limit reads old new last w events outcome = EndsReading Plain Spells IsRecordFault limit reads old new last w events outcome
 
--- what the end of the device means behind the bytes w
-abbrev pub AtEnd : {E : Type 0} → (List ℕ → E → Type 0) → ℕ → List ℕ → List E → ℕ → Result Report Stop → Type 0
-AtEnd spells limit w values used (Ok report) = Records spells limit w values × (report.used ≡ used) × (report.rest.items ≡ [])
-AtEnd spells limit w values used (Err stop) = EndsInside spells limit w values × (stop.used ≡ used) × (stop.fault ≡ EndsInsideRecord)
+-- and in a chunked body
+abbrev pub EndsStream : ℕ → ℕ → Counts → Counts → Option (List ℕ) → List ℕ → List Event → Result Report Stop → Type 0
+EndsStream limit reads old new last w events outcome = EndsReading Chunked Spells IsRecordFault limit reads old new last w events outcome

@@ -5,7 +5,7 @@ use Rattle.mes_frame.specs.Record.{IsRecord, Begun, DataBegun, SizeShows}
 use Rattle.mes_msg.specs.declared.record.RecordFault.{RecordFault}
 use Rattle.mes_msg.specs.declared.record.RecordFault.TheVariants as refusal
 use Rattle.mes_stream.specs.declared.fault.Fault.{Fault}
-use Rattle.mes_stream.specs.declared.fault.Fault.TheVariants.{Frame, EndsInsideChunks, EndsInsideRecord, Text, Field, NoMemory, Read, ReadsSpent}
+use Rattle.mes_stream.specs.declared.fault.Fault.TheVariants.{Frame, EndsInsideChunks, EndsInsideRecord, Text, Field, NoMemory, Read, ReadsSpent, BadEntry}
 
 -- a count that stays at 2^64 - 1 once it is there
 abbrev pub saturated : ℕ → ℕ
@@ -55,6 +55,7 @@ BodyShows spells breaks limit b values c EndsInsideRecord = ⊥
 BodyShows spells breaks limit b values c NoMemory = ⊥
 BodyShows spells breaks limit b values c Read = ⊥
 BodyShows spells breaks limit b values c ReadsSpent = ⊥
+BodyShows spells breaks limit b values c (BadEntry at_record) = ⊥
 
 -- the next byte behind the bytes b is a byte of a record's data
 abbrev pub InData : {E : Type 0} → (List ℕ → E → Type 0) → ℕ → List ℕ → List E → Type 0

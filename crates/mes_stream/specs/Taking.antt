@@ -8,11 +8,12 @@ use Rattle.mes_msg.specs.declared.record.RecordFault.TheVariants as refusal
 use Rattle.mes_stream.specs.Stream.{saturated, Records, EndsRecord, BodyStops}
 use Rattle.mes_stream.specs.declared.fault.Fault.{Fault}
 use Rattle.mes_stream.specs.declared.fault.Fault.TheVariants.{Text, Field, NoMemory}
-use Rattle.mes_stream.specs.Reading.{BodyStopsAt}
+use Rattle.mes_stream.specs.Framings.{StopsWithin}
 use Rattle.mes_stream.specs.declared.body.Body.{Body}
 use Rattle.mes_stream.specs.declared.body.Halt.{Halt}
 use Rattle.mes_stream.specs.declared.body.BodyOut.{BodyOut}
 use Rattle.mes_stream.specs.declared.body.BodyOut.TheVariants as out
+use Rattle.mes_stream.specs.declared.stream_reader.Framing.TheVariants.{Plain}
 use Rattle.mes_stream.specs.declared.body.Front.{Front}
 use Rattle.mes_stream.specs.declared.body.Front.TheVariants.{Size, Data, Empty, Bad}
 
@@ -71,4 +72,4 @@ Feeds {E = E} holds spells breaks new b values piece old now (Ok done) =
     (more : List E) × (now ≡ old ++ more) × BodyStands holds spells new (b ++ piece) (values ++ more)
 Feeds {E = E} holds spells breaks new b values piece old now (Err halt) =
     (more : List E) × (now ≡ old ++ more)
-    × BodyStopsAt spells breaks (limit_of new.records) (b ++ piece) (values ++ more) halt.fault (length b + halt.used)
+    × StopsWithin Plain spells breaks (limit_of new.records) (b ++ piece) (values ++ more) halt.fault (length b + halt.used)

@@ -207,8 +207,9 @@ fn front_of(records: &mut RecordState, run: &[u8]) -> Front
     ensures limit { limit_of records.new ≡ limit_of records.old }
     ensures within { IsWithin (length run.now) result }
 {
-    let count = records.room().min(run.len());
-    if count > 0 {
+    let room = records.room().min(run.len());
+    if room > 0 {
+        let count = part_of(&run[..room]);
         let last = records.pass(count);
         return Front::Data { count, last };
     }
@@ -218,4 +219,17 @@ fn front_of(records: &mut RecordState, run: &[u8]) -> Front
         RecordOut::Empty => Front::Empty,
         RecordOut::Fault(fault) => Front::Bad(fault),
     }
+}
+
+// How many bytes of a run of data are given on together: white space in front of it goes alone. It takes no memory, so want of
+// memory is told behind it.
+fn part_of(bytes: &[u8]) -> usize
+    requires { 0 < length bytes.now }
+    ensures { (0 < result) × (result ≤ length bytes.now) }
+{
+    let mut count = 0;
+    while count < bytes.len() && matches!(bytes[count], b' ' | b'\n' | b'\r' | b'\t') {
+        count += 1;
+    }
+    if count == 0 { bytes.len() } else { count }
 }

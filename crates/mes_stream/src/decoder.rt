@@ -91,10 +91,12 @@ impl<R: RecordReader> Decoder<R> {
             → LiveBefore R.spells limit w values piece.now result.used }
 
         // More is wanted only behind the whole piece, and what was used then is live.
-        ensures more { (limit : ℕ) (w : List ℕ) (values : List R.Value) → DecoderStands R.holds R.spells self.old limit w values
-            → result.out ≡ Out.More → (result.used ≡ length piece.now) × Live R.spells limit (w ++ piece.now) values }
+        ensures more { result.out ≡ Out.More → result.used ≡ length piece.now }
+        ensures live { (limit : ℕ) (w : List ℕ) (values : List R.Value) → DecoderStands R.holds R.spells self.old limit w values
+            → result.out ≡ Out.More → Live R.spells limit (w ++ piece.now) values }
 
-        // Each other answer comes with a byte.
+        // Each other answer comes with a byte; an event always does.
+        ensures event { (value : R.Value) → result.out ≡ Out.Event value → 0 < result.used }
         ensures some { (limit : ℕ) (w : List ℕ) (values : List R.Value) → DecoderStands R.holds R.spells self.old limit w values
             → result.out ≢ Out.More → 0 < result.used }
         ensures used { result.used ≤ length piece.now }

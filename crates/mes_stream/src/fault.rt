@@ -45,6 +45,12 @@ pub enum Fault {
     Read,
     /// F15: another read was needed, and as many as allowed were made.
     ReadsSpent,
+    /// F16: the record is no entry of a session log. It comes with the record's last byte; for a size of 0 that is the
+    /// LF of the size line. Only the reader of a log tells it.
+    BadEntry {
+        /// The number of the record, from 1.
+        at_record: u64,
+    },
 }
 
 impl Fault {
@@ -77,6 +83,9 @@ impl Fault {
             Fault::NoMemory => Fault::NoMemory,
             Fault::Read => Fault::Read,
             Fault::ReadsSpent => Fault::ReadsSpent,
+            Fault::BadEntry { at_record } => Fault::BadEntry {
+                at_record: *at_record,
+            },
         }
     }
 
@@ -101,6 +110,7 @@ impl Fault {
             Fault::NoMemory => "F13 NoMemory",
             Fault::Read => "F14 Read",
             Fault::ReadsSpent => "F15 ReadsSpent",
+            Fault::BadEntry { .. } => "F16 BadEntry",
         }
     }
 }

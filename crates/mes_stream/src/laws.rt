@@ -1,21 +1,49 @@
 //! Laws of the definitions that the contracts cite: functions that do nothing, each with the law as its contract.
 
 ghost use Rattle.std.specs.Prelude.{◌≡◌, ℕ, List};
-ghost use Rattle.mes_stream.specs.PlainReading.{IsExact, PlainReading, ReadsPlain};
+ghost use Rattle.mes_msg.specs.Events.{Spells, IsRecordFault};
+ghost use Rattle.mes_msg.specs.declared.event.Event.{Event as EventValue};
+ghost use Rattle.mes_stream.specs.PlainReading.{IsDecided, IsExact, PlainReading, ReadsPlain};
 ghost use Rattle.mes_stream.specs.StreamReading.{StreamReading, ReadsStream};
 
+use crate::event_reader::EventReader;
+use crate::fault::REST_MOST;
+use crate::read::READ_MOST;
 use crate::record_reader::RecordReader;
+use mes_msg::{Event, one_message};
 
-/// Where the data of each record have one value or one fault at most, bytes are live, with their values, or have a byte that
-/// shows a fault, behind the values before it: at most one of these, in at most one way.
+/// Any bytes are live, with their values, or have a byte that shows a fault, behind the values before it.
 pub fn one_plain_reading<R: RecordReader>()
-    ensures { IsExact R.spells R.breaks → (limit : ℕ) (w : List ℕ) (reading other : PlainReading R.Value)
+    // Where the data of any record have a value or a fault, at least one of these holds.
+    ensures some { IsDecided R.spells R.breaks → (limit : ℕ) (w : List ℕ) → (reading : PlainReading R.Value) × ReadsPlain R.spells R.breaks limit w reading }
+    // Where they have one value or one fault at most, at most one does, in one way.
+    ensures one { IsExact R.spells R.breaks → (limit : ℕ) (w : List ℕ) (reading other : PlainReading R.Value)
         → ReadsPlain R.spells R.breaks limit w reading → ReadsPlain R.spells R.breaks limit w other → reading ≡ other }
 {}
 
-/// The same of a chunked stream: bytes are live, or begin with a whole stream, or have a byte that shows a fault, behind the
-/// values before it: at most one of these, in at most one way.
+/// The same of a chunked stream: any bytes are live, or begin with a whole stream, or have a byte that shows a fault, behind
+/// the values before it.
 pub fn one_stream_reading<R: RecordReader>()
-    ensures { IsExact R.spells R.breaks → (limit : ℕ) (w : List ℕ) (reading other : StreamReading R.Value)
+    ensures some { IsDecided R.spells R.breaks → (limit : ℕ) (w : List ℕ) → (reading : StreamReading R.Value) × ReadsStream R.spells R.breaks limit w reading }
+    ensures one { IsExact R.spells R.breaks → (limit : ℕ) (w : List ℕ) (reading other : StreamReading R.Value)
         → ReadsStream R.spells R.breaks limit w reading → ReadsStream R.spells R.breaks limit w other → reading ≡ other }
 {}
+
+/// One read takes at most 512 bytes, and a report holds at most as many behind the end of a stream.
+pub fn stream_limits()
+    ensures { (READ_MOST ≡ 512) × (REST_MOST ≡ 512) }
+{}
+
+/// Of events no premise is left: any bytes are read as a stream of events in exactly one way, plain or chunked.
+pub fn one_event_reading()
+    ensures some_plain { (limit : ℕ) (w : List ℕ) → (reading : PlainReading EventValue) × ReadsPlain Spells IsRecordFault limit w reading }
+    ensures one_plain { (limit : ℕ) (w : List ℕ) (reading other : PlainReading EventValue)
+        → ReadsPlain Spells IsRecordFault limit w reading → ReadsPlain Spells IsRecordFault limit w other → reading ≡ other }
+    ensures some_stream { (limit : ℕ) (w : List ℕ) → (reading : StreamReading EventValue) × ReadsStream Spells IsRecordFault limit w reading }
+    ensures one_stream { (limit : ℕ) (w : List ℕ) (reading other : StreamReading EventValue)
+        → ReadsStream Spells IsRecordFault limit w reading → ReadsStream Spells IsRecordFault limit w other → reading ≡ other }
+{
+    one_message::<Event>();
+    one_plain_reading::<EventReader>();
+    one_stream_reading::<EventReader>();
+}

@@ -1,16 +1,20 @@
 #![tactic(auto)]
-//! The event stream of the Apache Mesos v1 scheduler API, read to events or to the first fault: plain RecordIO from a device or
-//! in pieces, chunked bodies in pieces.
+//! The event stream of the Apache Mesos v1 scheduler API, read to events or to the first fault: plain RecordIO or a chunked body,
+//! from a device or in pieces; and events written as such streams.
 
 mod body;
 mod decoder;
+mod encode;
 mod event_reader;
 mod fault;
 mod laws;
 mod line;
-mod plain;
+mod read;
 mod reading;
 mod record_reader;
+mod send;
+mod send_fault;
+mod stream_reader;
 #[cfg(test)]
 mod tests;
 
@@ -18,8 +22,11 @@ pub use body::{Body, Halt};
 pub use decoder::Decoder;
 pub use event_reader::EventReader;
 pub use fault::{Fault, REST_MOST, Report, Stop};
-pub use laws::{one_plain_reading, one_stream_reading};
+pub use laws::{one_event_reading, one_plain_reading, one_stream_reading, stream_limits};
 pub use line::{COUNT_LINE_MOST, FAULT_LINE_MOST, count_line, fault_line};
-pub use plain::{READ_MOST, plain_end, read_plain};
+pub use read::{READ_MOST, read_events, read_plain, read_stream};
 pub use reading::{Out, Step};
 pub use record_reader::RecordReader;
+pub use send::{write_plain, write_stream};
+pub use send_fault::{EncodeWhy, SendFault, send_line};
+pub use stream_reader::{Framing, StreamReader};

@@ -69,6 +69,10 @@ fn push_details(line: &mut ArrayString<FAULT_LINE_MOST>, fault: &Fault)
             push_path(line, path);
             push_word(line, why.name());
         }
+        Fault::BadEntry { at_record } => {
+            push_word(line, "record");
+            push_number(line, *at_record);
+        }
         _ => {}
     }
 }
@@ -85,7 +89,7 @@ fn push_path(line: &mut ArrayString<FAULT_LINE_MOST>, path: &Path)
 }
 
 /// Appends a space and the number in decimal.
-fn push_number<const N: usize>(line: &mut ArrayString<N>, number: u64)
+pub(crate) fn push_number<const N: usize>(line: &mut ArrayString<N>, number: u64)
     requires { array_string_len line.old + 21 ≤ N }
     ensures text { line.new.bytes ≡ line.old.bytes ++ (codes " " ++ decimal number) }
     ensures bound { array_string_len line.new ≤ array_string_len line.old + 21 }
@@ -95,7 +99,7 @@ fn push_number<const N: usize>(line: &mut ArrayString<N>, number: u64)
 }
 
 /// Appends a space and the word.
-fn push_word<const N: usize>(line: &mut ArrayString<N>, word: &str)
+pub(crate) fn push_word<const N: usize>(line: &mut ArrayString<N>, word: &str)
     requires { array_string_len line.old + 1 + length word.now ≤ N }
     ensures text { line.new.bytes ≡ line.old.bytes ++ (codes " " ++ word.now) }
     ensures bound { array_string_len line.new ≤ array_string_len line.old + 1 + length word.now }
@@ -196,6 +200,12 @@ mod tests {
         for (fault, expected) in faults {
             expect_line(&rt, &fault, 12, expected);
         }
+    }
+
+    #[test]
+    fn entry_faults(rt: HostRuntime) {
+        let entry = Fault::BadEntry { at_record: 1 };
+        expect_line(&rt, &entry, 3, "fault F16 BadEntry record 1 after 3");
     }
 
     #[test]

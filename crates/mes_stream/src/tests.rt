@@ -1,15 +1,17 @@
-//! Plain RecordIO with few reads allowed, and chunked streams in pieces.
+//! Plain RecordIO with few reads allowed, and chunked streams in pieces and from a device.
 
 use crate::decoder::Decoder;
 use crate::event_reader::EventReader;
 use crate::fault::Fault;
-use crate::plain::read_plain;
+use crate::read::read_plain;
 use crate::reading::Out;
 use mes_frame::{FrameFault, Limit, MemorySource};
 use mes_msg::Event;
 use std::alloc::Global;
 use std::process::Abort;
 use std::test::Fail;
+
+mod reads;
 
 const ERROR: &[u8] = b"40\n{\"type\":\"ERROR\",\"error\":{\"message\":\"m\"}}";
 
@@ -80,6 +82,7 @@ fn letter(out: &Out<Event>) -> u8 {
         Out::Fault(Fault::NoMemory) => b'd',
         Out::Fault(Fault::Read) => b'e',
         Out::Fault(Fault::ReadsSpent) => b'f',
+        Out::Fault(Fault::BadEntry { .. }) => b'g',
     }
 }
 
@@ -112,6 +115,28 @@ fn take_piece(
     Ok(Some(total))
 }
 
+// In a cut into two pieces the answers are these.
+fn expect_cut(
+    rt: &impl Abort,
+    alloc: Global,
+    stream: &[u8],
+    cut: usize,
+    expected: &[(u8, usize)],
+) -> Result<(), Fail> {
+    if cut > stream.len() {
+        return Err("a cut lies in the stream")?;
+    }
+    let front = &stream[..cut];
+    let rest = &stream[cut..];
+    let mut found = Vec::new(alloc);
+    let mut decoder = decoder(alloc);
+    if let Some(total) = take_piece(&mut decoder, front, 0, &mut found)? {
+        take_piece(&mut decoder, rest, total, &mut found)?;
+    }
+    assert_eq!(rt; found.as_slice(), expected, "{cut}");
+    Ok(())
+}
+
 // In every cut into two pieces the answers are these.
 fn expect(
     rt: &impl Abort,
@@ -120,14 +145,28 @@ fn expect(
     expected: &[(u8, usize)],
 ) -> Result<(), Fail> {
     for cut in 0..stream.len() {
-        let mut found = Vec::new(alloc);
-        let mut decoder = decoder(alloc);
-        if let Some(total) = take_piece(&mut decoder, &stream[..cut], 0, &mut found)? {
-            take_piece(&mut decoder, &stream[cut..], total, &mut found)?;
-        }
-        assert_eq!(rt; found.as_slice(), expected, "{cut}");
+        expect_cut(rt, alloc, stream, cut, expected)?;
     }
     Ok(())
+}
+
+// A chunk line that is too long, and trailers that are.
+fn long_line(alloc: Global) -> Result<Vec<u8>, Fail> {
+    let mut line = Vec::new(alloc);
+    line.extend_from_slice(b"1;")?;
+    for _ in 0..255 {
+        line.push(b'a')?;
+    }
+    Ok(line)
+}
+
+fn long_trailers(alloc: Global) -> Result<Vec<u8>, Fail> {
+    let mut trailers = Vec::new(alloc);
+    trailers.extend_from_slice(b"0\r\n")?;
+    for _ in 0..4097 {
+        trailers.push(b'a')?;
+    }
+    Ok(trailers)
 }
 
 #[test]
@@ -140,22 +179,40 @@ fn streams_in_every_cut(rt: HostRuntime) -> Result<(), Fail> {
     expect(&rt, rt.alloc(), b"1\n", &[(b'1', 2)])?;
     expect(&rt, rt.alloc(), b"10000000000000000", &[(b'3', 17)])?;
     expect(&rt, rt.alloc(), b"1\r\n2X", &[(b'4', 5)])?;
+    expect(&rt, rt.alloc(), &long_line(rt.alloc())?, &[(b'2', 257)])?;
+    let stream = byte_chunks(rt.alloc())?;
+    expect(&rt, rt.alloc(), &stream, &[(b'E', 136), (b'C', 143)])?;
     expect(&rt, rt.alloc(), b"2\r\n0\n\r\n", &[(b'b', 5)])?;
     expect(&rt, rt.alloc(), b"1\r\nx", &[(b'7', 4)])?;
     expect(&rt, rt.alloc(), b"4\r\n2\n{}", &[(b'c', 7)])?;
     Ok(())
 }
 
-// The record of 23 bytes in chunks of one byte each, and then the last chunk: 143 bytes, one by one.
 #[test]
-fn bytes_one_by_one(rt: HostRuntime) -> Result<(), Fail> {
-    let mut stream = Vec::new(rt.alloc());
+fn long_trailers_in_some_cuts(rt: HostRuntime) -> Result<(), Fail> {
+    let trailers = long_trailers(rt.alloc())?;
+    for cut in [0, 1, 2, 3, 4, 5, 2048, 4097, 4098, 4099] {
+        expect_cut(&rt, rt.alloc(), &trailers, cut, &[(b'5', 4100)])?;
+    }
+    Ok(())
+}
+
+// The record of 23 bytes in chunks of one byte each, and then the last chunk.
+fn byte_chunks(alloc: Global) -> Result<Vec<u8>, Fail> {
+    let mut stream = Vec::new(alloc);
     for byte in HEARTBEAT.iter() {
         stream.extend_from_slice(b"1\r\n")?;
         stream.push(*byte)?;
         stream.extend_from_slice(b"\r\n")?;
     }
     stream.extend_from_slice(b"0\r\n\r\n")?;
+    Ok(stream)
+}
+
+// Its 143 bytes, one by one.
+#[test]
+fn bytes_one_by_one(rt: HostRuntime) -> Result<(), Fail> {
+    let stream = byte_chunks(rt.alloc())?;
     assert_eq!(rt; stream.len(), 143);
     let mut decoder = decoder(rt.alloc());
     for (at, byte) in stream.iter().enumerate() {

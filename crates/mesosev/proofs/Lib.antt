@@ -1,5 +1,10 @@
 mod CommandLemmas
+mod ConvertLemmas
+mod FewEvents
+mod FollowReads
 mod LimitLemmas
+mod OptionLemmas
+mod PlainOptions
 mod PlainWords
+mod SaidLemmas
 mod ShowLemmas
-mod ShowReads

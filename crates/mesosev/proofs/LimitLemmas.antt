@@ -14,7 +14,7 @@ abbrev pub FromStr : Text → Result ℕ ParseIntError → Type 0
 FromStr text r = ParsesUnsigned 32 10 text r × ExplainsUnsignedError 10 text r × HasUnsignedDigitsIfOk text r
 
 -- the text writes the number
-abbrev IsWritten : ℕ → Option Text → Type 0
+abbrev pub IsWritten : ℕ → Option Text → Type 0
 IsWritten n held = IsSomeAnd held (λ t. Writes t n)
 
 -- a number that is read is the one that the text writes
@@ -38,7 +38,7 @@ written_of_none (Some t) None value is n h fits =
     let read = value t refl in
     read.1.0 (h.0, rw h.1 fits)
 
-written_once : (held : Option Text) (m n : ℕ) → IsWritten m held → IsWritten n held → m ≡ n
+pub written_once : (held : Option Text) (m n : ℕ) → IsWritten m held → IsWritten n held → m ≡ n
 written_once None m n h k = absurd h
 written_once (Some t) m n h k = sym h.1 ∙ k.1
 

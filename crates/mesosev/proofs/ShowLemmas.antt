@@ -9,8 +9,8 @@ use Rattle.mes_msg.specs.declared.event.Event.{Event}
 use Rattle.mes_stream.specs.Stream.{saturated}
 use Rattle.mesosev.specs.Printing.{Device, GoesOut, IsCutOff, Prints}
 use Rattle.mesosev.specs.Showing.{lines_from, ShowsOne, ShowsFrom}
-use Rattle.mesosev.specs.declared.show.Unshown.{Unshown}
-use Rattle.mesosev.specs.declared.show.Unshown.TheVariants.{Output, NoMemory}
+use Rattle.mesosev.specs.declared.follow.Unshown.{Unshown}
+use Rattle.mesosev.specs.declared.follow.Unshown.TheVariants.{Output, NoMemory}
 
 pub goes_none : (a : Device) → GoesOut a a []
 goes_none a = (Appends-nil a.bytes, (refl, refl))

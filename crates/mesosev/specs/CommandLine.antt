@@ -2,8 +2,14 @@
 use Rattle.std.specs.Prelude.{[], ◌∷◌, Some, pos, true, codes}
 use Rattle.clap.specs.Words.{App, Rule, new_app, new_rule, with_rule, with_subcommand}
 use Rattle.clap.specs.Simple.{on_top}
+use Rattle.clap.specs.declared.builder.action.ArgAction.TheVariants.{SetTrue}
 use Rattle.clap.specs.declared.builder.value_parser.ValueParser.TheVariants as vp
 use Rattle.mesosev.specs.declared.words.TheConstants.{LIMIT_DEFAULT, LIMIT_LEAST, LIMIT_MOST}
+use Rattle.mesosev.specs.declared.chunk_size.TheConstants.{CHUNK_LEAST, CHUNK_MOST}
+
+-- `--chunked`: a flag
+abbrev pub chunked_rule : Rule
+chunked_rule = record (new_rule (codes "chunked")) { long = Some (codes "chunked"); action = Some SetTrue }
 
 -- `--limit N`: a number in its range, and the default where it is not given
 abbrev pub limit_rule : Rule
@@ -14,15 +20,30 @@ limit_rule = record (new_rule (codes "limit")) {
   defaults = LIMIT_DEFAULT.now ∷ [];
 }
 
--- `check [--limit N]`
-abbrev pub check_app : App
-check_app = with_rule (new_app (codes "check")) limit_rule
+-- `--most M`: a number in its range
+abbrev pub most_rule : Rule
+most_rule = record (new_rule (codes "most")) {
+  long = Some (codes "most");
+  value_names = 1;
+  parser = Some (vp.Signed (pos CHUNK_LEAST) (pos CHUNK_MOST));
+}
 
--- `show [--limit N]`
+-- `check [--chunked] [--limit N]`
+abbrev pub check_app : App
+check_app = with_rule (with_rule (new_app (codes "check")) chunked_rule) limit_rule
+
+-- `show [--chunked] [--limit N]`
 abbrev pub show_app : App
-show_app = with_rule (new_app (codes "show")) limit_rule
+show_app = with_rule (with_rule (new_app (codes "show")) chunked_rule) limit_rule
+
+-- `convert [--chunked] [--limit N] [--most M]`
+abbrev pub convert_app : App
+convert_app = with_rule (with_rule (with_rule (new_app (codes "convert")) chunked_rule) limit_rule) most_rule
+
+-- `mesosev` before its subcommands, of which one is wanted; `--version`
+abbrev pub bare_app : App
+bare_app = on_top (λ s. record s { subcommand_required = true; has_version = true }) (new_app (codes "mesosev"))
 
 -- `mesosev SUBCOMMAND`
 abbrev pub command_app : App
-command_app = with_subcommand
-    (with_subcommand (on_top (λ s. record s { subcommand_required = true }) (new_app (codes "mesosev"))) check_app.top) show_app.top
+command_app = with_subcommand (with_subcommand (with_subcommand bare_app check_app.top) show_app.top) convert_app.top

@@ -1,29 +1,44 @@
 -- Which options the words name, and when they are refused.
-use Rattle.std.specs.Prelude.{◌≡◌, ◌≢◌, ◌≤◌, ◌++◌, ℕ, List, [], ◌∷◌, IsSomeAnd, codes}
+use Rattle.std.specs.Prelude.{◌≡◌, ◌≢◌, ◌≤◌, ◌⊎◌, ◌++◌, ℕ, List, [], ◌∷◌, Option, Some, None, IsSomeAnd, codes}
 use Rattle.std.specs.Str.Parse.{IsNumeral, digits_value, without_leading_plus}
 use Rattle.clap.specs.Words.{Text, Row, IsAmong, fault_of, kind_of, one_of, subcommand_of}
 use Rattle.clap.specs.declared.error.Error.{Error}
 use Rattle.clap.specs.declared.error.kind.ErrorKind.TheVariants.{OutOfMemory}
 use Rattle.mesosev.specs.CommandLine.{command_app}
+use Rattle.mes_stream.specs.declared.stream_reader.Framing.{Framing}
+use Rattle.mes_stream.specs.declared.stream_reader.Framing.TheVariants.{Plain, Chunked}
 use Rattle.mesosev.specs.declared.words.Options.{Options}
-use Rattle.mesosev.specs.declared.words.Options.TheVariants.{Check, Show}
+use Rattle.mesosev.specs.declared.words.Options.TheVariants.{Check, Show, Convert}
 use Rattle.mesosev.specs.declared.words.WordsFault.{WordsFault}
 use Rattle.mesosev.specs.declared.words.WordsFault.TheVariants.{Clap, BadValue, NoMemory}
 use Rattle.mesosev.specs.declared.words.TheConstants.{LIMIT_DEFAULT, LIMIT_LEAST, LIMIT_MOST}
+use Rattle.mesosev.specs.declared.chunk_size.TheConstants.{CHUNK_LEAST, CHUNK_MOST}
 
 -- the text is the number in decimal digits, after a `+` or without one
 abbrev pub Writes : Text → ℕ → Type 0
 Writes text n = IsNumeral 10 (without_leading_plus text)
     × (digits_value 10 (without_leading_plus text) ≡ n)
 
+-- the flag `--chunked` is set in the matches of a subcommand just where the framing is chunked
+abbrev pub HasFraming : List Row → Framing → Type 0
+HasFraming rows Plain = one_of (codes "chunked") rows ≢ Some (codes "true")
+HasFraming rows Chunked = one_of (codes "chunked") rows ≡ Some (codes "true")
+
 -- `--limit` has this value in the matches of a subcommand, given or by default
 abbrev pub HasLimit : List Row → ℕ → Type 0
 HasLimit rows limit = IsSomeAnd (one_of (codes "limit") rows) (λ text. Writes text limit)
 
+-- `--most` has this value in the matches of a subcommand, or none
+abbrev pub HasMost : List Row → Option ℕ → Type 0
+HasMost rows None = one_of (codes "most") rows ≡ None
+HasMost rows (Some most) = IsSomeAnd (one_of (codes "most") rows) (λ text. Writes text most)
+
 -- the subcommand's name and its matches are those of the options
 abbrev pub IsReadAs : Text × List Row → Options → Type 0
-IsReadAs read (Check limit) = (read.0 ≡ codes "check") × HasLimit read.1 limit
-IsReadAs read (Show limit) = (read.0 ≡ codes "show") × HasLimit read.1 limit
+IsReadAs read (Check framing limit) = (read.0 ≡ codes "check") × HasFraming read.1 framing × HasLimit read.1 limit
+IsReadAs read (Show framing limit) = (read.0 ≡ codes "show") × HasFraming read.1 framing × HasLimit read.1 limit
+IsReadAs read (Convert framing limit most) =
+    (read.0 ≡ codes "convert") × HasFraming read.1 framing × HasLimit read.1 limit × HasMost read.1 most
 
 -- the subcommand that the words name, and the values that they give it, are those of the options
 abbrev pub NameOptions : List Text → Options → Type 0
@@ -33,10 +48,16 @@ NameOptions words o = IsSomeAnd (subcommand_of command_app words) (λ read. IsRe
 abbrev pub IsLimit : ℕ → Type 0
 IsLimit limit = (LIMIT_LEAST ≤ limit) × (limit ≤ LIMIT_MOST)
 
+-- the size of a chunk, where it is given, is 1 to 16,777,216 bytes
+abbrev pub IsMost : Option ℕ → Type 0
+IsMost None = Unit {0}
+IsMost (Some most) = (CHUNK_LEAST ≤ most) × (most ≤ CHUNK_MOST)
+
 -- each value lies in its range
 abbrev pub IsInRange : Options → Type 0
-IsInRange (Check limit) = IsLimit limit
-IsInRange (Show limit) = IsLimit limit
+IsInRange (Check framing limit) = IsLimit limit
+IsInRange (Show framing limit) = IsLimit limit
+IsInRange (Convert framing limit most) = IsLimit limit × IsMost most
 
 -- the words give a value that is no number of its range, or none
 abbrev pub NameNoOptions : List Text → Type 0
@@ -49,23 +70,45 @@ RefusesWords words (Clap error) = IsAmong (kind_of error) (fault_of command_app 
 RefusesWords words (BadValue option) = (fault_of command_app words ≡ []) × NameNoOptions words
 RefusesWords words NoMemory = Unit {0}
 
+-- the fault names an option
+abbrev pub IsBadValue : WordsFault → Type 0
+IsBadValue (Clap error) = ⊥
+IsBadValue (BadValue option) = Unit {0}
+IsBadValue NoMemory = ⊥
+
 -- the fault is clap's error, but for want of memory, which has a variant of its own
 abbrev pub IsFaultOf : Error → WordsFault → Type 0
 IsFaultOf error (Clap same) = (same ≡ error) × (kind_of error ≢ OutOfMemory)
 IsFaultOf error (BadValue option) = ⊥
 IsFaultOf error NoMemory = kind_of error ≡ OutOfMemory
 
--- the words after a subcommand that give this limit: none for the default, `--limit N` or `--limit=N`
-abbrev pub GiveLimit : List Text → ℕ → Type 0
-GiveLimit [] limit = Writes LIMIT_DEFAULT.now limit
-GiveLimit (option ∷ []) limit =
-    (text : Text) × (option ≡ codes "--limit=" ++ text) × Writes text limit
-GiveLimit (option ∷ value ∷ []) limit = (option ≡ codes "--limit") × Writes value limit
-GiveLimit (option ∷ value ∷ word ∷ words) limit = ⊥
+-- the words that name a framing: `--chunked`, or none for plain records
+abbrev pub SayFraming : List Text → Framing → Type 0
+SayFraming words Plain = words ≡ []
+SayFraming words Chunked = words ≡ codes "--chunked" ∷ []
 
--- the words are the program's name, the subcommand and its options, each given at most once
+-- the words that give an option this number: `--option N` or `--option=N`
+abbrev pub SayNumber : Text → List Text → ℕ → Type 0
+SayNumber option words n =
+    (text : Text) × Writes text n × ((words ≡ option ∷ text ∷ []) ⊎ (words ≡ (option ++ 61 ∷ text) ∷ []))
+
+-- the words that give the limit: none for the default
+abbrev pub SayLimit : List Text → ℕ → Type 0
+SayLimit words limit = ((words ≡ []) × Writes LIMIT_DEFAULT.now limit) ⊎ SayNumber (codes "--limit") words limit
+
+-- the words that give the size of a chunk: none for plain records
+abbrev pub SayMost : List Text → Option ℕ → Type 0
+SayMost words None = words ≡ []
+SayMost words (Some most) = SayNumber (codes "--most") words most
+
+-- the words are the program's name, the subcommand, and its options in their order, each given at most once
 abbrev pub SayPlainly : List Text → Options → Type 0
-SayPlainly [] o = ⊥
-SayPlainly (program ∷ []) o = ⊥
-SayPlainly (program ∷ name ∷ rest) (Check limit) = (name ≡ codes "check") × GiveLimit rest limit
-SayPlainly (program ∷ name ∷ rest) (Show limit) = (name ≡ codes "show") × GiveLimit rest limit
+SayPlainly words (Check framing limit) =
+    (program : Text) × (flags : List Text) × (limits : List Text) × SayFraming flags framing × SayLimit limits limit
+    × (words ≡ program ∷ codes "check" ∷ (flags ++ limits))
+SayPlainly words (Show framing limit) =
+    (program : Text) × (flags : List Text) × (limits : List Text) × SayFraming flags framing × SayLimit limits limit
+    × (words ≡ program ∷ codes "show" ∷ (flags ++ limits))
+SayPlainly words (Convert framing limit most) =
+    (program : Text) × (flags : List Text) × (limits : List Text) × (sizes : List Text) × SayFraming flags framing
+    × SayLimit limits limit × SayMost sizes most × (words ≡ program ∷ codes "convert" ∷ (flags ++ (limits ++ sizes)))

@@ -8,8 +8,11 @@ use Rattle.mes_frame.specs.Write.{NoneFails, StopsWrite}
 use Rattle.mes_frame.specs.declared.counts.Counts.{Counts}
 use Rattle.mes_frame.specs.declared.write.WriteWhy.{WriteWhy}
 use Rattle.mes_stream.specs.Lines.{fault_text, count_text}
-use Rattle.mes_stream.specs.Reading.{EndsPlain}
+use Rattle.mes_stream.specs.Reading.{EndsReading}
+use Rattle.mes_stream.specs.declared.stream_reader.Framing.{Framing}
+use Rattle.mes_msg.specs.Events.{Spells, IsRecordFault}
 use Rattle.mes_msg.specs.declared.event.Event.{Event}
+use Rattle.mes_stream.specs.declared.fault.Fault.{Fault}
 use Rattle.mes_stream.specs.declared.fault.Fault.TheVariants.{NoMemory}
 use Rattle.mes_stream.specs.declared.fault.Report.{Report}
 use Rattle.mes_stream.specs.declared.fault.Stop.{Stop}
@@ -46,12 +49,24 @@ abbrev pub outcome_status : Result Report Stop → ℕ
 outcome_status (Ok report) = 0
 outcome_status (Err stop) = 1
 
--- the bytes w were taken from the input, they are records that spell the events up to the outcome, and its line was
--- printed
-abbrev pub Checks : ℕ → Device → Device → Device → Device → ℕ → Type 0
-Checks limit input rest out printed status =
-    (w : List ℕ) × (events : List Event) × (outcome : Result Report Stop) × Consumes input.bytes rest.bytes w
-    × EndsPlain limit READS_MOST input.counts rest.counts rest.bytes w events outcome
+-- the line and the status of what the end of the input means behind so many events and bytes
+abbrev pub finish_line : {T : Type 0} → ℕ → ℕ → Result T Fault → List ℕ
+finish_line events used (Ok done) = count_text events used
+finish_line events used (Err fault) = fault_text fault used
+
+abbrev pub finish_status : {T : Type 0} → Result T Fault → ℕ
+finish_status (Ok done) = 0
+finish_status (Err fault) = 1
+
+-- the bytes w were taken from the input, and read as the events up to the outcome
+abbrev pub ReadsInput : Framing → ℕ → Device → Device → List ℕ → List Event → Result Report Stop → Type 0
+ReadsInput framing limit input rest w events outcome = Consumes input.bytes rest.bytes w
+    × EndsReading framing Spells IsRecordFault limit READS_MOST input.counts rest.counts rest.bytes w events outcome
+
+-- the bytes w were taken from the input and read as the events up to the outcome, and its line was printed
+abbrev pub Checks : Framing → ℕ → Device → Device → Device → Device → ℕ → Type 0
+Checks framing limit input rest out printed status =
+    (w : List ℕ) × (events : List Event) × (outcome : Result Report Stop) × ReadsInput framing limit input rest w events outcome
     × Prints out printed (outcome_line (length events) outcome ++ 10 ∷ []) (outcome_status outcome) status
 
 -- the line that memory was refused before any byte was used

@@ -4,22 +4,24 @@ use Rattle.clap.specs.Words.{Text, IsAmong, fault_of, kind_of}
 use Rattle.clap.specs.declared.error.Error.{Error}
 use Rattle.mesosev.specs.CommandLine.{command_app}
 use Rattle.mesosev.specs.NamedOptions.{IsInRange, NameOptions, NameNoOptions}
+use Rattle.mesosev.specs.Converting.{Converts}
 use Rattle.mesosev.specs.Printing.{Device, Prints, Checks, LacksMemory, TellsError}
 use Rattle.mesosev.specs.Showing.{Shows}
 use Rattle.mesosev.specs.declared.words.Options.{Options}
-use Rattle.mesosev.specs.declared.words.Options.TheVariants.{Check, Show}
+use Rattle.mesosev.specs.declared.words.Options.TheVariants.{Check, Show, Convert}
 
--- what the options name was done
-abbrev pub Performs : Options → Device → Device → Device → Device → ℕ → Type 0
-Performs (Check limit) input rest out printed status = Checks limit input rest out printed status
-Performs (Show limit) input rest out printed status = Shows limit input rest out printed status
+-- what the options name was done; `check` and `show` leave standard error as it was
+abbrev pub Performs : Options → Device → Device → Device → Device → Device → Device → ℕ → Type 0
+Performs (Check framing limit) input rest out printed err told status = Checks framing limit input rest out printed status × (told ≡ err)
+Performs (Show framing limit) input rest out printed err told status = Shows framing limit input rest out printed status × (told ≡ err)
+Performs (Convert framing limit most) input rest out printed err told status = Converts framing limit most input rest out printed err told status
 
 -- What became of the words: the options that they name were performed; or clap's error for them was told; or they name no
 -- options, which was told; or memory was refused. What isn't named stays as it was.
 abbrev pub Runs : List Text → Device → Device → Device → Device → Device → Device → ℕ → Type 0
 Runs words input rest out printed err told status =
     ((options : Options) × (fault_of command_app words ≡ []) × NameOptions words options × IsInRange options
-    × Performs options input rest out printed status × (told ≡ err))
+    × Performs options input rest out printed err told status)
     ⊎ ((error : Error) × IsAmong (kind_of error) (fault_of command_app words)
     × TellsError error out printed err told status × (rest ≡ input))
     ⊎ ((text : List ℕ) × (fault_of command_app words ≡ []) × NameNoOptions words × Prints err told text 2 status × (printed ≡ out) × (rest ≡ input))

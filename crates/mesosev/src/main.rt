@@ -1,30 +1,45 @@
-//! `mesosev` reads the event stream of the Apache Mesos v1 scheduler API.
+//! `mesosev` reads and writes the event stream of the Apache Mesos v1 scheduler API.
 #![tactic(auto)]
 
+mod chunk_size;
 mod command;
+mod convert;
+mod follow;
 mod options;
 mod print;
 mod run;
-mod show;
 #[cfg(test)]
 mod tests;
 mod words;
 
 use mes_frame::FromStd;
-use run::run;
+use run::{BAD_WORDS, out_of_memory, run};
 use std::env;
+use std::io::{BufReader, ErrorKind};
 use std::process::ExitCode;
 
+/// How many bytes standard input is read ahead.
+const READ_AHEAD: usize = 65_536;
+
 fn main(rt: HostRuntime) -> ExitCode {
-    let words = match env::args(&rt) {
-        Ok(args) => args.collect::<Vec<String>>(rt.alloc()),
-        Err(_) => return ExitCode::from(2),
-    };
-    let Ok(words) = words else {
-        return ExitCode::from(1);
-    };
-    let mut input = FromStd::new(rt.stdin());
     let mut out = FromStd::new(rt.stdout());
     let mut err = FromStd::new(rt.stderr());
+    let words = match env::args(&rt) {
+        Ok(args) => args.collect::<Vec<String>>(rt.alloc()),
+        Err(error) => {
+            return ExitCode::from(if error.kind() == ErrorKind::OutOfMemory {
+                out_of_memory(&mut out)
+            } else {
+                BAD_WORDS
+            });
+        }
+    };
+    let Ok(words) = words else {
+        return ExitCode::from(out_of_memory(&mut out));
+    };
+    let Ok(input) = BufReader::with_capacity(rt.alloc(), READ_AHEAD, rt.stdin()) else {
+        return ExitCode::from(out_of_memory(&mut out));
+    };
+    let mut input = FromStd::new(input);
     ExitCode::from(run(&rt, words.as_slice(), &mut input, &mut out, &mut err))
 }

@@ -1,12 +1,13 @@
 //! Texts and lines that the command writes, and its exit status.
 
 ghost use Rattle.std.specs.Prelude.{◌≡◌, ◌≤◌, [], ◌∷◌, ◌++◌, length};
-ghost use Rattle.mes_stream.specs.Lines.{fault_text};
-ghost use Rattle.mesosev.specs.Printing.{Prints, outcome_line, outcome_status};
+ghost use Rattle.mes_stream.specs.Lines.{fault_text, count_text};
+ghost use Rattle.mes_stream.specs.SendLines.{send_text};
+ghost use Rattle.mesosev.specs.Printing.{Prints, finish_line, finish_status};
 
 use arrayvec::ArrayString;
 use mes_frame::{Sink, write_all};
-use mes_stream::{FAULT_LINE_MOST, Fault, Report, Stop, count_line, fault_line};
+use mes_stream::{FAULT_LINE_MOST, Fault, SendFault, count_line, fault_line, send_line};
 
 /// The status of a good run.
 pub(crate) const GOOD: u8 = 0;
@@ -17,18 +18,29 @@ pub(crate) const FAULT: u8 = 1;
 /// The room for a line and its LF, in bytes.
 const LINE_MOST: usize = 641;
 
-/// Prints the line that ends a stream of so many events: its counts, or its fault. Answers the status.
-pub(crate) fn print_outcome<O: Sink>(out: &mut O, events: u64, outcome: &Result<Report, Stop>) -> u8
+/// Prints the line of so many events in so many bytes. Answers the status.
+pub(crate) fn print_count<O: Sink>(out: &mut O, events: u64, used: u64) -> u8
     ensures { Prints (record { bytes = O.written out.old; counts = O.counts out.old }) (record { bytes = O.written out.new; counts = O.counts out.new })
-        (outcome_line events outcome.now ++ 10 ∷ []) (outcome_status outcome.now) result }
+        (count_text events used ++ 10 ∷ []) 0 result }
 {
-    match outcome {
-        Ok(report) => {
-            let mut line = ArrayString::new();
-            count_line(events, report.used, &mut line);
-            print(out, line.as_str(), GOOD)
-        }
-        Err(stop) => print_fault(out, &stop.fault, stop.used),
+    let mut line = ArrayString::new();
+    count_line(events, used, &mut line);
+    print(out, line.as_str(), GOOD)
+}
+
+/// Prints the line of what the end of the input means behind so many events and bytes. Answers the status.
+pub(crate) fn print_finish<O: Sink>(
+    out: &mut O,
+    events: u64,
+    used: u64,
+    finish: &Result<(), Fault>,
+) -> u8
+    ensures { Prints (record { bytes = O.written out.old; counts = O.counts out.old }) (record { bytes = O.written out.new; counts = O.counts out.new })
+        (finish_line events used finish.now ++ 10 ∷ []) (finish_status finish.now) result }
+{
+    match finish {
+        Ok(()) => print_count(out, events, used),
+        Err(fault) => print_fault(out, fault, used),
     }
 }
 
@@ -39,6 +51,16 @@ pub(crate) fn print_fault<O: Sink>(out: &mut O, fault: &Fault, used: u64) -> u8
 {
     let mut line = ArrayString::new();
     fault_line(fault, used, &mut line);
+    print(out, line.as_str(), FAULT)
+}
+
+/// Prints the line of what stopped the sending of events. Answers the status.
+pub(crate) fn print_send_fault<O: Sink>(out: &mut O, fault: &SendFault) -> u8
+    ensures { Prints (record { bytes = O.written out.old; counts = O.counts out.old }) (record { bytes = O.written out.new; counts = O.counts out.new })
+        (send_text fault.now ++ 10 ∷ []) 1 result }
+{
+    let mut line = ArrayString::new();
+    send_line(fault, &mut line);
     print(out, line.as_str(), FAULT)
 }
 

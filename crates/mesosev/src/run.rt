@@ -2,21 +2,23 @@
 
 ghost use Rattle.std.specs.Prelude.{◌≡◌, codes, ◌⊎◌, map};
 ghost use Rattle.mesosev.specs.NamedOptions.{SayPlainly, IsInRange};
-ghost use Rattle.mesosev.specs.Printing.{Checks, LacksMemory, Tells, TellsError};
+ghost use Rattle.mesosev.specs.Printing.{LacksMemory, Tells, TellsError};
 ghost use Rattle.mesosev.specs.Running.{Performs, Runs};
 ghost use Rattle.mesosev.specs.declared.words.Options.{Options as OptionsValue};
 
+use crate::chunk_size::{CHUNK_LEAST, CHUNK_MOST};
+use crate::convert::convert;
+use crate::follow::{Detail, follow};
 use crate::options::options;
-use crate::print::{GOOD, print_fault, print_outcome, put};
-use crate::show::show;
+use crate::print::{GOOD, print_fault, put};
 use crate::words::{LIMIT_DEFAULT, LIMIT_LEAST, LIMIT_MOST, Options, WordsFault};
-use mes_frame::{Limit, Sink, Source};
-use mes_stream::{Fault, READ_MOST, read_plain};
+use mes_frame::{Sink, Source};
+use mes_stream::{Fault, READ_MOST};
 use std::alloc::{AllocGlobal, Global};
 use std::convert::AsStr;
 
 /// The status of bad words.
-const BAD_WORDS: u8 = 2;
+pub(crate) const BAD_WORDS: u8 = 2;
 
 /// The most reads of standard input.
 pub const READS_MOST: u64 = 4_294_967_296;
@@ -41,43 +43,48 @@ pub fn run<R: AllocGlobal, W: AsStr, I: Source, O: Sink, E: Sink>(
         → Performs said
         (record { bytes = I.left input.old; counts = I.counts input.old }) (record { bytes = I.left input.new; counts = I.counts input.new })
         (record { bytes = O.written out.old; counts = O.counts out.old }) (record { bytes = O.written out.new; counts = O.counts out.new })
+        (record { bytes = E.written err.old; counts = E.counts err.old }) (record { bytes = E.written err.new; counts = E.counts err.new })
         result
         ⊎ LacksMemory (record { bytes = O.written out.old; counts = O.counts out.old }) (record { bytes = O.written out.new; counts = O.counts out.new }) result }
 
     // The limits that the clauses name.
     ensures limits { (LIMIT_LEAST ≡ 1) × (LIMIT_MOST ≡ 16777216) × (LIMIT_DEFAULT.now ≡ codes "4194304")
-        × (READ_MOST ≡ 512) × (READS_MOST ≡ 4294967296) }
+        × (CHUNK_LEAST ≡ 1) × (CHUNK_MOST ≡ 16777216) × (READ_MOST ≡ 512) × (READS_MOST ≡ 4294967296) }
 {
     let alloc = rt.alloc();
     match options(alloc, words) {
-        Ok(options) => perform(alloc, &options, input, out),
+        Ok(options) => perform(alloc, &options, input, out, err),
         Err(fault) => tell(alloc, &fault, out, err),
     }
 }
 
 // Does what the words name.
-fn perform<I: Source, O: Sink>(alloc: Global, options: &Options, input: &mut I, out: &mut O) -> u8
+fn perform<I: Source, O: Sink, E: Sink>(
+    alloc: Global,
+    options: &Options,
+    input: &mut I,
+    out: &mut O,
+    err: &mut E,
+) -> u8
     ensures { Performs options.now
         (record { bytes = I.left input.old; counts = I.counts input.old }) (record { bytes = I.left input.new; counts = I.counts input.new })
         (record { bytes = O.written out.old; counts = O.counts out.old }) (record { bytes = O.written out.new; counts = O.counts out.new })
+        (record { bytes = E.written err.old; counts = E.counts err.old }) (record { bytes = E.written err.new; counts = E.counts err.new })
         result }
 {
     match options {
-        Options::Check { limit } => check(alloc, *limit, input, out),
-        Options::Show { limit } => show(alloc, *limit, input, out),
+        Options::Check { framing, limit } => {
+            follow(alloc, Detail::Counts, *framing, *limit, input, out)
+        }
+        Options::Show { framing, limit } => {
+            follow(alloc, Detail::Lines, *framing, *limit, input, out)
+        }
+        Options::Convert {
+            framing,
+            limit,
+            most,
+        } => convert(alloc, *framing, *limit, *most, input, out, err),
     }
-}
-
-/// Reads plain RecordIO and prints how many events it has, or the first fault.
-fn check<I: Source, O: Sink>(alloc: Global, limit: Limit, input: &mut I, out: &mut O) -> u8
-    ensures { Checks limit
-        (record { bytes = I.left input.old; counts = I.counts input.old }) (record { bytes = I.left input.new; counts = I.counts input.new })
-        (record { bytes = O.written out.old; counts = O.counts out.old }) (record { bytes = O.written out.new; counts = O.counts out.new })
-        result }
-{
-    let mut events = Vec::new(alloc);
-    let outcome = read_plain(alloc, input, limit, READS_MOST, &mut events);
-    print_outcome(out, events.len() as u64, &outcome)
 }
 
 /// Tells why the words name no options.
@@ -117,7 +124,7 @@ fn tell_error<O: Sink, E: Sink>(alloc: Global, error: &clap::Error, out: &mut O,
 }
 
 /// Tells that memory was refused before any byte was read.
-fn out_of_memory<O: Sink>(out: &mut O) -> u8
+pub(crate) fn out_of_memory<O: Sink>(out: &mut O) -> u8
     ensures { LacksMemory (record { bytes = O.written out.old; counts = O.counts out.old }) (record { bytes = O.written out.new; counts = O.counts out.new }) result }
 {
     print_fault(out, &Fault::NoMemory, 0)

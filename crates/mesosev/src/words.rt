@@ -1,9 +1,14 @@
 //! What the words of the command name, and why words are refused.
 ghost use Rattle.mesosev.specs.NamedOptions.{IsFaultOf};
 
+use crate::chunk_size::ChunkSize;
 use clap::error::ErrorKind;
 use mes_frame::Limit;
+use mes_stream::Framing;
 use thiserror::Error;
+
+/// The version that `--version` prints behind the name.
+pub const VERSION: &str = "0.1.0";
 
 /// The least record limit, in bytes.
 pub const LIMIT_LEAST: u32 = 1;
@@ -17,15 +22,28 @@ pub const LIMIT_DEFAULT: &str = "4194304";
 /// A subcommand with its values.
 #[derive(Clone, Copy, Debug, PartialEq, Eq)]
 pub enum Options {
-    /// `check [--limit N]`: each record is to be an event.
+    /// `check [--chunked] [--limit N]`: each record is to be an event.
     Check {
+        /// How the records come.
+        framing: Framing,
         /// The most bytes of a record.
         limit: Limit,
     },
-    /// `show [--limit N]`: the events are printed as they come.
+    /// `show [--chunked] [--limit N]`: the events are printed as they come.
     Show {
+        /// How the records come.
+        framing: Framing,
         /// The most bytes of a record.
         limit: Limit,
+    },
+    /// `convert [--chunked] [--limit N] [--most M]`: the events are written again, as plain RecordIO or in chunks.
+    Convert {
+        /// How the records come.
+        framing: Framing,
+        /// The most bytes of a record that is read or written.
+        limit: Limit,
+        /// The bytes of each chunk, where a chunked body is written.
+        most: Option<ChunkSize>,
     },
 }
 

@@ -1,8 +1,8 @@
 //! Labels read from JSON texts, by the table of labels: the value, or the path and the reason of the first fault.
 
 use crate::{
-    FieldFault, FieldWhy, Label, Labels, List, PATH_TEXT_MOST, Part, PartFault, Path, list_tree,
-    read_either_list, written_again,
+    FieldFault, FieldWhy, Label, Labels, List, PATH_TEXT_MOST, Part, PartFault, Path, find_rows,
+    left_out, list_tree, read_either_list, written_again,
 };
 use arrayvec::ArrayString;
 use mes_json::{read_tape, read_text, write_text};
@@ -98,6 +98,27 @@ const EITHER: [(&str, &str); 5] = [
     ),
 ];
 
+/// Objects with a member `x` that is left out.
+const LEFT_OUT: [(&str, FieldWhy); 5] = [
+    ("{\"x\":{}}", FieldWhy::LeftOut),
+    ("{\"x\":false}", FieldWhy::LeftOut),
+    ("{\"y\":1,\"x\":\"\"}", FieldWhy::LeftOut),
+    ("{\"x\":null,\"x\":null}", FieldWhy::Twice),
+    ("{\"x\":{},\"x\":{}}", FieldWhy::Twice),
+];
+
+/// Objects without it.
+const NOT_THERE: [&str; 3] = ["{}", "{\"x\":null}", "{\"y\":{},\"y\":{}}"];
+
+/// What is wrong with a member `x` that is left out.
+fn left_out_fault(alloc: Global, text: &str) -> Result<Option<FieldFault>, Fail> {
+    let tape = read_tape(alloc, text.as_bytes())?;
+    match find_rows(&tape.root(), &["x"], &Path::new()) {
+        Ok(rows) => Ok(left_out(rows.at(0), "x", &Path::new()).err()),
+        Err(_) => Err("an object")?,
+    }
+}
+
 /// The labels of a text, read from its tape.
 fn read(alloc: Global, text: &str) -> Result<Result<Labels, PartFault>, Fail> {
     let tape = read_tape(alloc, text.as_bytes())?;
@@ -165,6 +186,17 @@ fn lists_are_read_in_either_form(rt: HostRuntime) -> Result<(), Fail> {
     }
     for (text, path, why) in EITHER_FAULTS {
         expect_fault(&rt, fault_of(read_either(rt.alloc(), text)?), path, why);
+    }
+    Ok(())
+}
+
+#[test]
+fn what_is_left_out_is_refused(rt: HostRuntime) -> Result<(), Fail> {
+    for (text, why) in LEFT_OUT {
+        expect_fault(&rt, left_out_fault(rt.alloc(), text)?, "x", why);
+    }
+    for text in NOT_THERE {
+        assert!(rt; left_out_fault(rt.alloc(), text)?.is_none(), "{text}");
     }
     Ok(())
 }

@@ -37,3 +37,23 @@ pub(super) fn expect_run<R: Abort + AllocGlobal>(
     }
     Ok(())
 }
+
+/// Runs the words over the input, by pieces of each size, and asserts that nothing is written, that the line is told on
+/// standard error, and status 1.
+pub(super) fn expect_told<R: Abort + AllocGlobal>(
+    rt: &R,
+    words: &[&str],
+    input: &str,
+    line: &str,
+) -> Result<(), Fail> {
+    for most in READ_SIZES {
+        let mut source = MemorySource::new(input.as_bytes(), most);
+        let mut out = MemorySink::new(rt.alloc(), WRITE_SIZE);
+        let mut err = MemorySink::new(rt.alloc(), WRITE_SIZE);
+        let answer = run(rt, words, &mut source, &mut out, &mut err);
+        assert!(rt; out.bytes().is_empty(), "{input:?} by {most}");
+        assert_eq!(rt; err.bytes(), line.as_bytes(), "{input:?} by {most}");
+        assert_eq!(rt; answer, 1, "{input:?} by {most}");
+    }
+    Ok(())
+}

@@ -1,22 +1,21 @@
-use Rattle.std.proofs.Common.{ap}
+use Rattle.std.proofs.Common.{ap, refl}
+use Rattle.mes_part.specs.Fields.{below}
 use Rattle.mes_part.specs.Leaves.{members_at}
 use Rattle.mes_part.proofs.FoundLemmas.{members_found, no_members_found}
 use Rattle.mes_part.proofs.RowLemmas.{looked_value, flagged_at}
 use Rattle.mes_part.proofs.read_row.flagged.Goals as goal
 
-pub returns-in-Some-members : goal.returns-in-Some-members
-returns-in-Some-members c = λ ms found.
-    let value = looked_value c.args.found.now c.args.path.now c.with-path.result c.args.name.now ms c.in_ok-value.field-0 c.in-Some.value
-    c.with-path.ensures c.in_ok-value.ensures c.in-Some.is found in
-    let held = members_found c.in-Some-members.field-0 value.0 (c.in-Some-members.ensures value.0 value.2) in
-    rw (flagged_at c.args.path.now c.with-path.result c.args.name.now ms value.0 c.with-path.ensures value.1, ap (members_at c.with-path.result) held.0)
+pub returns-in-Some : goal.returns-in-Some
+returns-in-Some c = λ ms found.
+    let value = looked_value c.args.found.now c.args.path.now c.args.name.now ms c.sole_value.result c.in-Present.value c.sole_value.ensures c.in-Present.is found in
+    let held = members_found c.in-Some.field-0 value.0 (c.in-Some.ensures value.0 value.2) in
+    rw (flagged_at c.args.path.now (below c.args.path.now c.args.name.now) c.args.name.now ms value.0 refl value.1, ap (members_at (below c.args.path.now c.args.name.now)) held.0)
 
-pub returns-in-None-members : goal.returns-in-None-members
-returns-in-None-members c = λ ms found.
-    let value = looked_value c.args.found.now c.args.path.now c.with-path.result c.args.name.now ms c.in_ok-value.field-0 c.in-Some.value
-    c.with-path.ensures c.in_ok-value.ensures c.in-Some.is found in
+pub returns-in-None : goal.returns-in-None
+returns-in-None c = λ ms found.
+    let value = looked_value c.args.found.now c.args.path.now c.args.name.now ms c.sole_value.result c.in-Present.value c.sole_value.ensures c.in-Present.is found in
     rw (
-      flagged_at c.args.path.now c.with-path.result c.args.name.now ms value.0 c.with-path.ensures value.1,
-      no_members_found c.with-path.result value.0 (c.in-None-members.ensures value.0 value.2),
-      c.fault_at.ensures,
+      flagged_at c.args.path.now (below c.args.path.now c.args.name.now) c.args.name.now ms value.0 refl value.1,
+      no_members_found (below c.args.path.now c.args.name.now) value.0 (c.in-None.ensures value.0 value.2),
+      c.row_fault.ensures,
     )

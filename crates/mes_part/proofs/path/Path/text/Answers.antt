@@ -1,4 +1,4 @@
-use Rattle.std.proofs.Common.{◌≡◌, ◌+◌, ◌≤◌, ◌∷◌, length, arith, sym, ◌∙◌, ap}
+use Rattle.std.proofs.Common.{◌≡◌, ◌+◌, ◌≤◌, ◌∷◌, length, take, arith, sym}
 use Rattle.std.proofs.lemmas.List.{append-nil, length-map, drop_all}
 use Rattle.mes_part.specs.Paths.{first_text}
 use Rattle.mes_part.specs.Steps.{place_of}
@@ -8,9 +8,9 @@ use Rattle.mes_part.proofs.path.Path.text.Goals.{in-Name, in-Index}
 
 pub loop-step-init : goal.loop-step-init
 loop-step-init c =
-    let items : c.self.inside.steps.items ≡ c.in-Some.first.now ∷ c.in-Some.rest.now = sym c.as_slice.ensures.value ∙ c.in-Some.ensures.cases.0 in
-    let whole = path_text_first c.args.self.now c.self.inside.steps.items c.in-Some.first.now c.in-Some.rest.now (sym c.self.view_is) items in
-    let short = length-first_text (place_of c.in-Some.first.now) (first_place _ _ _ c.self.invariant.each items) in
+    let items : take c.self.inside.len c.self.inside.steps ≡ c.in-Some.first.now ∷ c.in-Some.rest.now = c.in-Some.ensures.cases.0 in
+    let whole = path_text_first c.args.self.now (take c.self.inside.len c.self.inside.steps) c.in-Some.first.now c.in-Some.rest.now (sym c.self.view_is) items in
+    let short = length-first_text (place_of c.in-Some.first.now) (first_place _ _ _ c.self.invariant.2.each items) in
     let text : c.match-first.text.bytes ≡ first_text (place_of c.in-Some.first.now) =
     elim c.match-first.branch [
       | in-Name w ↦ rw (w.text-is, w.in-Name.is, w.push_str-in-Name.ensures.bytes, c.clear.ensures)
@@ -20,18 +20,18 @@ loop-step-init c =
 
 pub push_step-requires-clause-place : goal.push_step-requires-clause-place
 push_step-requires-clause-place c =
-    place_at c.self.inside.steps.items c.in-Some.first.now c.in-Some.rest.now c.loop-step.step-index _ c.self.invariant.each
-    (sym c.as_slice.ensures.value ∙ c.in-Some.ensures.cases.0) c.loop-step-test.true
+    place_at (take c.self.inside.len c.self.inside.steps) c.in-Some.first.now c.in-Some.rest.now c.loop-step.step-index _ c.self.invariant.2.each
+    (c.in-Some.ensures.cases.0) c.loop-step-test.true
 
 pub push_step-requires-clause-room : goal.push_step-requires-clause-room
 push_step-requires-clause-room c =
-    omega (arith, c.self.invariant.few, length-map c.self.inside.steps.items place_of, ap length c.as_slice.ensures.value, c.in-Some.ensures.cases.1)
+    omega (arith, c.self.invariant.2.few, length-map (take c.self.inside.len c.self.inside.steps) place_of, c.in-Some.ensures.cases.1)
 
 pub loop-step-preserved : goal.loop-step-preserved
 loop-step-preserved c =
-    let items : c.self.inside.steps.items ≡ c.in-Some.first.now ∷ c.in-Some.rest.now = sym c.as_slice.ensures.value ∙ c.in-Some.ensures.cases.0 in
+    let items : take c.self.inside.len c.self.inside.steps ≡ c.in-Some.first.now ∷ c.in-Some.rest.now = c.in-Some.ensures.cases.0 in
     let longer : length c.push_step.new.text.bytes ≤ length c.loop-step.text.bytes + 32 =
-    length-more _ _ _ c.push_step.ensures (place_at _ _ _ _ _ c.self.invariant.each items c.loop-step-test.true) in (
+    length-more _ _ _ c.push_step.ensures (place_at _ _ _ _ _ c.self.invariant.2.each items c.loop-step-test.true) in (
       omega (arith, c.loop-step.invariant.0, longer),
       rw c.push_step.ensures (written_more _ _ _ _ _ c.loop-step-test.true c.loop-step.invariant.1),
     )

@@ -3,6 +3,7 @@ use Rattle.std.proofs.lemmas.List.{take_rest}
 use Rattle.mes_frame.specs.RecordState.{limit_of}
 use Rattle.mes_stream.specs.Taking.{BodyStands}
 use Rattle.mes_stream.specs.declared.fault.Fault.TheVariants.{NoMemory}
+use Rattle.mes_stream.specs.declared.stream_reader.Framing.TheVariants.{Plain}
 use Rattle.mes_stream.proofs.BodyLemmas.{stops_in, piece_on, value_on}
 use Rattle.mes_stream.proofs.body.Body.feed.Goals as goal
 
@@ -34,7 +35,7 @@ returns-in-Err-clause-feeds g c = λ b values s.
     let lives = c.take-taken.ensures.lives (b ++ take c.loop-at.at c.args.piece.now) (values ++ before.0) before.2 (c.take-taken.result.used - 1) (omega (arith, some)) in (
       before.0,
       c.in-Err.ensures.items ∙ before.1,
-      stops_in g.R.RecordReader.spells g.R.RecordReader.breaks (limit_of c.take-taken.new.self.records) b c.args.piece.now (values ++ before.0) NoMemory c.loop-at.at c.take-taken.result.used c.loop-at.invariant.0 some
+      stops_in Plain g.R.RecordReader.spells g.R.RecordReader.breaks (limit_of c.take-taken.new.self.records) b c.args.piece.now (values ++ before.0) NoMemory c.loop-at.at c.take-taken.result.used c.loop-at.invariant.0 some
           (omega (arith, c.take-taken.ensures.used.1, ap length rest)) (rw rest at lives) (inr (refl, (_, rw rest at taken.1))),
     )
 
@@ -49,7 +50,7 @@ loop-at-preserved g c =
           let taken = rw c.in-Value.is at told in (
             before.0 ++ c.in-Value.value ∷ [],
             (rw c.in-Value.value-is at c.in_default.ensures.items) ∙ ap (λ (x : List g.row.R-Value.Denot). x ++ c.in-Value.value ∷ []) before.1 ∙ append_assoc _ before.0 (c.in-Value.value ∷ []),
-            value_on g.R.RecordReader.holds g.R.RecordReader.spells c.take-taken.new.self b c.args.piece.now values before.0 c.in-Value.value c.loop-at.at c.take-taken.result.used (rw rest at taken.0),
+            value_on (BodyStands g.R.RecordReader.holds g.R.RecordReader.spells c.take-taken.new.self) b c.args.piece.now values before.0 c.in-Value.value c.loop-at.at c.take-taken.result.used (rw rest at taken.0),
           ),
     )
 
@@ -63,7 +64,7 @@ returns-in-Fault-clause-feeds g c = λ b values s.
     let lives = c.take-taken.ensures.lives (b ++ take c.loop-at.at c.args.piece.now) (values ++ before.0) before.2 (c.take-taken.result.used - 1) (omega (arith, some)) in (
       before.0,
       before.1,
-      rw c.in-Fault.fault-is (stops_in g.R.RecordReader.spells g.R.RecordReader.breaks (limit_of c.take-taken.new.self.records) b c.args.piece.now (values ++ before.0) _ c.loop-at.at c.take-taken.result.used c.loop-at.invariant.0 some
+      rw c.in-Fault.fault-is (stops_in Plain g.R.RecordReader.spells g.R.RecordReader.breaks (limit_of c.take-taken.new.self.records) b c.args.piece.now (values ++ before.0) _ c.loop-at.at c.take-taken.result.used c.loop-at.invariant.0 some
           (omega (arith, c.take-taken.ensures.used.1, ap length rest)) (rw rest at lives) (inl (rw rest at taken))),
     )
 

@@ -1,0 +1,45 @@
+use Rattle.std.proofs.Common.{ap, refl}
+use Rattle.std.specs.Prelude.{codes}
+use Rattle.mes_part.specs.Leaves.{members_at}
+use Rattle.mes_part.specs.Rows.{required}
+use Rattle.mes_part.proofs.PartLemmas.{gives_fault}
+use Rattle.mes_part.proofs.RowLemmas.{found_as, gives_bound}
+use Rattle.mes_part.specs.Binary.{base64_bytes}
+use Rattle.mes_model.specs.Ids.{id}
+use Rattle.mes_msg.specs.CallBodies.{acknowledge}
+use Rattle.mes_msg.proofs.call_bodies.AcknowledgePart.read_from.Goals as goal
+
+pub returns-in_err-rows : goal.returns-in_err-rows
+unfolding acknowledge
+returns-in_err-rows c = λ t b. gives_fault _ c.from_residual.result _ c.from_residual.ensures.1 (rw (c.in_err-rows.ensures t b) refl)
+
+pub returns-in_err-agent_id : goal.returns-in_err-agent_id
+unfolding acknowledge
+returns-in_err-agent_id c = λ t b.
+    let rows = c.in_ok-rows.ensures t b in
+    rw (ap (members_at c.args.path.now) rows.1)
+    (gives_bound (required (codes "agent_id") id c.args.path.now rows.0) _ _ c.from_residual-in_err-agent_id.result c.from_residual-in_err-agent_id.ensures.1
+    (c.in_err-agent_id.ensures rows.0 (found_as _ _ _ c.at.ensures rows.2.0)))
+
+pub returns-in_err-task_id : goal.returns-in_err-task_id
+unfolding acknowledge
+returns-in_err-task_id c = λ t b.
+    let rows = c.in_ok-rows.ensures t b in
+    rw (ap (members_at c.args.path.now) rows.1, c.in_ok-agent_id.ensures rows.0 (found_as _ _ _ c.at.ensures rows.2.0))
+    (gives_bound (required (codes "task_id") id c.args.path.now rows.0) _ _ c.from_residual-in_err-task_id.result c.from_residual-in_err-task_id.ensures.1
+    (c.in_err-task_id.ensures rows.0 (found_as _ _ _ c.at-2.ensures rows.2.1.0)))
+
+pub returns-in_err-uuid : goal.returns-in_err-uuid
+unfolding acknowledge
+returns-in_err-uuid c = λ t b.
+    let rows = c.in_ok-rows.ensures t b in
+    rw (ap (members_at c.args.path.now) rows.1, c.in_ok-agent_id.ensures rows.0 (found_as _ _ _ c.at.ensures rows.2.0), c.in_ok-task_id.ensures rows.0 (found_as _ _ _ c.at-2.ensures rows.2.1.0))
+    (gives_bound (required (codes "uuid") base64_bytes c.args.path.now rows.0) _ _ c.from_residual-in_err-uuid.result c.from_residual-in_err-uuid.ensures.1
+    (c.in_err-uuid.ensures rows.0 (found_as _ _ _ c.at-3.ensures rows.2.1.1.0)))
+
+pub returns : goal.returns
+unfolding acknowledge
+returns c = λ t b.
+    let rows = c.in_ok-rows.ensures t b in
+    rw (ap (members_at c.args.path.now) rows.1, c.in_ok-agent_id.ensures rows.0 (found_as _ _ _ c.at.ensures rows.2.0), c.in_ok-task_id.ensures rows.0 (found_as _ _ _ c.at-2.ensures rows.2.1.0), c.in_ok-uuid.ensures rows.0 (found_as _ _ _ c.at-3.ensures rows.2.1.1.0))
+    refl

@@ -1,0 +1,28 @@
+use Rattle.std.proofs.Common.{ap, refl}
+use Rattle.std.specs.Prelude.{codes}
+use Rattle.mes_part.specs.Leaves.{members_at}
+use Rattle.mes_part.specs.Rows.{repeated}
+use Rattle.mes_part.proofs.PartLemmas.{gives_fault}
+use Rattle.mes_part.proofs.RowLemmas.{found_as, gives_bound}
+use Rattle.mes_model.specs.Tasks.{task_ref}
+use Rattle.mes_msg.specs.CallBodies.{reconcile}
+use Rattle.mes_msg.proofs.call_bodies.ReconcilePart.read_from.Goals as goal
+
+pub returns-in_err-rows : goal.returns-in_err-rows
+unfolding reconcile
+returns-in_err-rows c = λ t b. gives_fault _ c.from_residual.result _ c.from_residual.ensures.1 (rw (c.in_err-rows.ensures t b) refl)
+
+pub returns-in_err-tasks : goal.returns-in_err-tasks
+unfolding reconcile
+returns-in_err-tasks c = λ t b.
+    let rows = c.in_ok-rows.ensures t b in
+    rw (ap (members_at c.args.path.now) rows.1)
+    (gives_bound (repeated (codes "tasks") task_ref c.args.path.now rows.0) _ _ c.from_residual-in_err-tasks.result c.from_residual-in_err-tasks.ensures.1
+    (c.in_err-tasks.ensures rows.0 (found_as _ _ _ c.at.ensures rows.2.0)))
+
+pub returns : goal.returns
+unfolding reconcile
+returns c = λ t b.
+    let rows = c.in_ok-rows.ensures t b in
+    rw (ap (members_at c.args.path.now) rows.1, c.in_ok-tasks.ensures rows.0 (found_as _ _ _ c.at.ensures rows.2.0))
+    refl

@@ -1,0 +1,28 @@
+use Rattle.std.proofs.Common.{ap, refl}
+use Rattle.std.specs.Prelude.{codes}
+use Rattle.mes_part.specs.Leaves.{members_at}
+use Rattle.mes_part.specs.Rows.{repeated}
+use Rattle.mes_part.proofs.PartLemmas.{gives_fault}
+use Rattle.mes_part.proofs.RowLemmas.{found_as, gives_bound}
+use Rattle.mes_model.specs.Tasks.{task_info}
+use Rattle.mes_msg.specs.Operations.{launch}
+use Rattle.mes_msg.proofs.operation.LaunchPart.read_from.Goals as goal
+
+pub returns-in_err-rows : goal.returns-in_err-rows
+unfolding launch
+returns-in_err-rows c = λ t b. gives_fault _ c.from_residual.result _ c.from_residual.ensures.1 (rw (c.in_err-rows.ensures t b) refl)
+
+pub returns-in_err-task_infos : goal.returns-in_err-task_infos
+unfolding launch
+returns-in_err-task_infos c = λ t b.
+    let rows = c.in_ok-rows.ensures t b in
+    rw (ap (members_at c.args.path.now) rows.1)
+    (gives_bound (repeated (codes "task_infos") task_info c.args.path.now rows.0) _ _ c.from_residual-in_err-task_infos.result c.from_residual-in_err-task_infos.ensures.1
+    (c.in_err-task_infos.ensures rows.0 (found_as _ _ _ c.at.ensures rows.2.0)))
+
+pub returns : goal.returns
+unfolding launch
+returns c = λ t b.
+    let rows = c.in_ok-rows.ensures t b in
+    rw (ap (members_at c.args.path.now) rows.1, c.in_ok-task_infos.ensures rows.0 (found_as _ _ _ c.at.ensures rows.2.0))
+    refl

@@ -1,0 +1,120 @@
+-- The calls of the scheduler API (scheduler.proto, `Call`) in their JSON form.
+use Rattle.std.specs.Prelude.{◌≡◌, ◌⊎◌, ℕ, List, Option, None, codes}
+use Rattle.std.proofs.Common.{inl, inr, refl}
+use Rattle.mes_part.specs.Kinds.{Kind, Lawful, Returns}
+use Rattle.mes_part.specs.Leaves.{left_out}
+use Rattle.mes_part.specs.Rows.{Row, need, maybe, ◌⨾◌, mapped, joined, message}
+use Rattle.mes_part.specs.Choices.{no_other, case, typed}
+use Rattle.mes_part.specs.KindLaws.{lawful_left_out}
+use Rattle.mes_part.specs.RowLaws.{LawfulRow, lawful_need, lawful_maybe, ◌⨾⨾◌, lawful_mapped, lawful_joined, lawful_message, message_returns}
+use Rattle.mes_part.specs.ChoiceLaws.{lawful_no_other, lawful_case, lawful_typed}
+use Rattle.mes_part.specs.declared.field.FieldWhy.TheVariants.{LeftOut}
+use Rattle.mes_model.specs.Ids.{id, lawful_id}
+use Rattle.mes_model.specs.declared.id.Id.{Id}
+use Rattle.mes_msg.specs.CallBodies.{subscribe, accept, decline, kill, acknowledge, reconcile, lawful_subscribe, lawful_accept, lawful_decline, lawful_kill, lawful_acknowledge, lawful_reconcile}
+use Rattle.mes_msg.specs.declared.call_bodies.Subscribe.{Subscribe}
+use Rattle.mes_msg.specs.declared.call_bodies.Accept.{Accept}
+use Rattle.mes_msg.specs.declared.call_bodies.Decline.{Decline}
+use Rattle.mes_msg.specs.declared.call_bodies.Kill.{Kill}
+use Rattle.mes_msg.specs.declared.call_bodies.Acknowledge.{Acknowledge}
+use Rattle.mes_msg.specs.declared.call_bodies.Reconcile.{Reconcile}
+use Rattle.mes_msg.specs.declared.call.Call.{Call}
+use Rattle.mes_msg.specs.declared.call.Call.TheVariants as of
+
+-- framework_id !, and the row of a body !
+abbrev pub with_body : {V : Type 0} → List ℕ → Kind V → Row (Id × V)
+with_body n k = need (codes "framework_id") id ⨾ need n k
+
+-- a call by its type
+abbrev pub CallRows : Type 0
+CallRows = (Option Id × Subscribe) ⊎ (Id × Accept) ⊎ (Id × Decline) ⊎ (Id × Option ⊥) ⊎ (Id × Kill) ⊎ (Id × Acknowledge) ⊎ (Id × Reconcile) ⊎ Id ⊎ ⊥
+
+abbrev pub to_call : CallRows → Call
+to_call (inl x) = of.Subscribe x.0 x.1
+to_call (inr (inl x)) = of.Accept x.0 x.1
+to_call (inr (inr (inl x))) = of.Decline x.0 x.1
+to_call (inr (inr (inr (inl x)))) = of.Revive x.0
+to_call (inr (inr (inr (inr (inl x))))) = of.Kill x.0 x.1
+to_call (inr (inr (inr (inr (inr (inl x)))))) = of.Acknowledge x.0 x.1
+to_call (inr (inr (inr (inr (inr (inr (inl x))))))) = of.Reconcile x.0 x.1
+to_call (inr (inr (inr (inr (inr (inr (inr (inl x)))))))) = of.Teardown x
+to_call (inr (inr (inr (inr (inr (inr (inr (inr v)))))))) = absurd v
+
+abbrev pub from_call : Call → CallRows
+from_call (of.Subscribe framework body) = inl (framework, body)
+from_call (of.Accept framework body) = inr (inl (framework, body))
+from_call (of.Decline framework body) = inr (inr (inl (framework, body)))
+from_call (of.Revive framework) = inr (inr (inr (inl (framework, None))))
+from_call (of.Kill framework body) = inr (inr (inr (inr (inl (framework, body)))))
+from_call (of.Acknowledge framework body) = inr (inr (inr (inr (inr (inl (framework, body))))))
+from_call (of.Reconcile framework body) = inr (inr (inr (inr (inr (inr (inl (framework, body)))))))
+from_call (of.Teardown framework) = inr (inr (inr (inr (inr (inr (inr (inl framework)))))))
+
+-- type !, and by it framework_id, ? under SUBSCRIBE and else !, and the one row of its body; another type is left out
+abbrev pub call_rows : Row Call
+call_rows =
+    mapped (typed (
+    case (codes "SUBSCRIBE") (maybe (codes "framework_id") id ⨾ need (codes "subscribe") subscribe) (
+    case (codes "ACCEPT") (joined (with_body (codes "accept") accept)) (
+    case (codes "DECLINE") (joined (with_body (codes "decline") decline)) (
+    case (codes "REVIVE") (need (codes "framework_id") id ⨾ maybe (codes "revive") left_out) (
+    case (codes "KILL") (joined (with_body (codes "kill") kill)) (
+    case (codes "ACKNOWLEDGE") (joined (with_body (codes "acknowledge") acknowledge)) (
+    case (codes "RECONCILE") (joined (with_body (codes "reconcile") reconcile)) (
+    case (codes "TEARDOWN") (need (codes "framework_id") id) (
+    no_other LeftOut
+    )
+    )
+    )
+    )
+    )
+    )
+    )
+    )
+    )) to_call from_call
+
+unfoldable pub call : Kind Call
+call = message call_rows
+
+-- ---- the laws
+
+to_from_call : (v : Call) → to_call (from_call v) ≡ v
+to_from_call (of.Subscribe framework body) = refl
+to_from_call (of.Accept framework body) = refl
+to_from_call (of.Decline framework body) = refl
+to_from_call (of.Revive framework) = refl
+to_from_call (of.Kill framework body) = refl
+to_from_call (of.Acknowledge framework body) = refl
+to_from_call (of.Reconcile framework body) = refl
+to_from_call (of.Teardown framework) = refl
+
+lawful_with_body : {V : Type 0} {n : List ℕ} {k : Kind V} → Lawful k → LawfulRow (joined (with_body n k))
+lawful_with_body lawful = lawful_joined (lawful_need lawful_id ⨾⨾ lawful_need lawful)
+
+lawful_call_rows : LawfulRow call_rows
+lawful_call_rows =
+    lawful_mapped _ _ (lawful_typed (
+    lawful_case (lawful_maybe lawful_id ⨾⨾ lawful_need lawful_subscribe) (
+    lawful_case (lawful_with_body lawful_accept) (
+    lawful_case (lawful_with_body lawful_decline) (
+    lawful_case (lawful_need lawful_id ⨾⨾ lawful_maybe lawful_left_out) (
+    lawful_case (lawful_with_body lawful_kill) (
+    lawful_case (lawful_with_body lawful_acknowledge) (
+    lawful_case (lawful_with_body lawful_reconcile) (
+    lawful_case (lawful_need lawful_id) lawful_no_other
+    )
+    )
+    )
+    )
+    )
+    )
+    )
+    ) refl) to_from_call
+
+pub lawful_call : Lawful call
+unfolding call
+lawful_call = lawful_message lawful_call_rows
+
+pub call_back : (v : Call) → call_rows.Back v → Returns call v
+unfolding call
+call_back v back = message_returns lawful_call_rows refl v back

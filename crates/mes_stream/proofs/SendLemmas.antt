@@ -1,0 +1,94 @@
+-- Events encoded one by one, and what became of their bytes.
+use Rattle.std.proofs.Common.{◌≡◌, ℕ, suc, ◌+◌, ◌^◌, ◌<◌, List, [], ◌∷◌, ◌++◌, Option, length, take, drop, get_or, ap, sym, ◌∙◌, subst, append-nil, arith, length-take-le}
+use Rattle.std.proofs.Math.Seq.{split_at}
+use Rattle.std.proofs.lemmas.Grind.{flat_map-append}
+use Rattle.std.proofs.lemmas.List.{take_more}
+use Rattle.std.proofs.lemmas.List.Elements.{All-append, All-nil, All-cons}
+use Rattle.std.specs.Io.KnownBytes.{Appends}
+use Rattle.mes_frame.proofs.Framings.{one_framing, framing_is_chunked}
+use Rattle.mes_frame.specs.Frames.{record_bytes, IsFrames}
+use Rattle.mes_frame.specs.Record.{IsRecord}
+use Rattle.mes_frame.specs.Write.{NoneFails, CallsFor, StopsWrite}
+use Rattle.mes_frame.specs.Written.{WroteFront}
+use Rattle.mes_frame.specs.declared.counts.Counts.{Counts}
+use Rattle.mes_frame.specs.declared.write.WriteFault.{WriteFault}
+use Rattle.mes_msg.specs.Canon.{canonical_text, IsGood, IsEncodeFault}
+use Rattle.mes_msg.specs.Events.{Spells}
+use Rattle.mes_msg.specs.declared.canon.EncodeFault.{EncodeFault}
+use Rattle.mes_msg.specs.declared.canon.EncodeFault.TheVariants as refused
+use Rattle.mes_msg.specs.declared.event.Event.{Event}
+use Rattle.mes_stream.proofs.BodyLemmas.{records_more}
+use Rattle.mes_stream.specs.EventData.{HoldsData}
+use Rattle.mes_stream.specs.Stream.{Records}
+use Rattle.mes_stream.specs.Sending.{records_of, AllGood, IsBad, IsFirstBad, IsPlainOf, IsStreamOf, WroteAll, IsUnsent, fault_at, StopsSending}
+use Rattle.mes_stream.specs.declared.send_fault.EncodeWhy.{EncodeWhy}
+use Rattle.mes_stream.specs.declared.send_fault.EncodeWhy.TheVariants.{TooDeep, TooLarge}
+use Rattle.mes_stream.specs.declared.send_fault.SendFault.TheVariants.{Write}
+
+-- one event more
+pub plain_of_more : (limit : ℕ) (events : List Event) (i : ℕ) (event : Event) (old new : List ℕ) → i < length events → event ≡ get_or events i event
+    → IsPlainOf limit (take i events) old → new ≡ old ++ record_bytes (canonical_text event) → IsGood event limit
+    → IsRecord (record_bytes (canonical_text event)) (canonical_text event) limit → Spells (canonical_text event) event → IsPlainOf limit (take (i + 1) events) new
+plain_of_more limit events i event old new inside here plain is good framed spelt =
+    let text = canonical_text event in
+    let front = take i events in
+    let Good : Event → Type 0 = λ e. IsGood e limit in
+    let P : List Event → Type 0 = λ es. IsPlainOf limit es new in
+    let R : List ℕ → Type 0 = λ b. Records Spells limit b (front ++ event ∷ []) in
+    let last : records_of (event ∷ []) ≡ record_bytes text = append-nil (record_bytes text) in
+    let more = take_more events i event inside ∙ ap (λ (e : Event). front ++ e ∷ []) (sym here) in
+    subst P (sym more) (record {
+      good = All-append Good front (event ∷ []) plain.good (All-cons Good event [] good (All-nil Good));
+      written = is ∙ ap (λ (b : List ℕ). b ++ record_bytes text) plain.written
+          ∙ sym (flat_map-append (λ (e : Event). record_bytes (canonical_text e)) front (event ∷ []) ∙ ap (λ (b : List ℕ). records_of front ++ b) last);
+      read = subst R (sym is) (records_more HoldsData Spells limit old (record_bytes text) text front event plain.read framed spelt);
+    })
+
+-- the event at this place is the first that is not good
+first_bad : (limit : ℕ) (events : List Event) (i : ℕ) (event : Event) (why : EncodeWhy) → i < length events → event ≡ get_or events i event
+    → AllGood limit (take i events) → IsBad limit event why → IsFirstBad limit events i why
+first_bad limit events i event why inside here good bad = record {
+  front = take i events;
+  event = event;
+  rest = drop (suc i) events;
+  is = split_at events i event inside ∙ ap (λ (e : Event). take i events ++ e ∷ drop (suc i) events) (sym here);
+  place = sym (length-take-le i events (omega arith));
+  good = good;
+  bad = bad;
+}
+
+-- an event was refused
+pub unsent_at : (limit : ℕ) (events : List Event) (i : ℕ) (event : Event) (fault : EncodeFault) → i < length events → event ≡ get_or events i event
+    → AllGood limit (take i events) → IsEncodeFault event limit fault → IsUnsent limit events (fault_at i fault)
+unsent_at limit events i event refused.TooDeep inside here good is = first_bad limit events i event TooDeep inside here good is
+unsent_at limit events i event refused.TooLarge inside here good is = first_bad limit events i event TooLarge inside here good is
+unsent_at limit events i event refused.NoMemory inside here good is = tt
+
+module _ {W : Type 0} (written : W → Option (List ℕ)) (counts : W → Counts) (limit : ℕ) (events : List Event) where
+  -- chunks of the records are a stream of the events
+  pub stream_of : (most : ℕ) (body w : List ℕ) → most < 2 ^ 64 → IsPlainOf limit events body → IsFrames body most w → IsStreamOf limit most events w
+  stream_of most body w small plain frames =
+      let P : List ℕ → Type 0 = λ b. IsFrames b most w in
+      record {
+        good = plain.good;
+        written = subst P plain.written frames;
+        read = (body, framing_is_chunked body w most small frames, plain.read);
+      }
+
+  -- all chunks are out
+  pub stream_out : (most : ℕ) (body : List ℕ) (old new : W) → most < 2 ^ 64 → IsPlainOf limit events body
+      → ((w : List ℕ) × IsFrames body most w × Appends (written old) (written new) w) → NoneFails (counts old) (counts new)
+      → ((w : List ℕ) × IsFrames body most w × CallsFor (length w) (counts old) (counts new))
+      → (w : List ℕ) × IsStreamOf limit most events w × WroteAll written counts old new w
+  stream_out most body old new small plain (w, frames, out) none (v, same, calls) =
+      let P : List ℕ → Type 0 = λ u. CallsFor (length u) (counts old) (counts new) in
+      (w, stream_of most body w small plain frames, record { out = out; none_fails = none; calls = subst P (one_framing body v w most same frames) calls })
+
+  -- the writer stopped in the chunks
+  pub stream_stops : (most : ℕ) (body : List ℕ) (old new : W) (fault : WriteFault) → most < 2 ^ 64 → IsPlainOf limit events body
+      → ((w : List ℕ) × IsFrames body most w × WroteFront (written old) (written new) w fault.sent) → StopsWrite fault.why (counts old) (counts new)
+      → ((w : List ℕ) × IsFrames body most w × CallsFor (length w) (counts old) (counts new))
+      → StopsSending written counts (IsStreamOf limit most events) limit events old new (Write fault)
+  stream_stops most body old new fault small plain (w, frames, out) last (v, same, calls) =
+      let P : List ℕ → Type 0 = λ u. CallsFor (length u) (counts old) (counts new) in
+      (w, stream_of most body w small plain frames, record { out = out; last = last; calls = subst P (one_framing body v w most same frames) calls })

@@ -1,0 +1,8 @@
+use Rattle.std.proofs.Common.{◌≡◌, length}
+use Rattle.mes_stream.proofs.ReadLemmas.{Reads}
+use Rattle.mes_stream.proofs.read.read_records.Given as goal
+
+abbrev pub invariant-reads : goal.invariant-reads
+invariant-reads g l =
+    (length l.buffer ≡ 512) × Reads g.R.RecordReader.holds g.R.RecordReader.spells l.fn.framing l.fn.limit (g.S.Source.left l.fn.reader) (g.S.Source.left l.reader) (g.S.Source.counts l.fn.reader) (g.S.Source.counts l.reader)
+    l.fn.values.items l.values.items l.stream l.counter l.used

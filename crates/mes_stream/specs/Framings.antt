@@ -1,0 +1,49 @@
+-- A stream of values by its framing: records one behind the other, or records in a chunked body.
+use Rattle.std.specs.Prelude.{◌≡◌, ℕ, ◌+◌, ◌⊎◌, List, ◌∷◌, ◌++◌, length, Result, Ok, Err}
+use Rattle.mes_msg.specs.declared.record.RecordFault.{RecordFault}
+use Rattle.mes_stream.specs.Stream.{Records, BodyLive, EndsInside, EndsRecord, BodyStops}
+use Rattle.mes_stream.specs.Chunked.{IsStream, Live, EndsWith, Stops}
+use Rattle.mes_stream.specs.declared.fault.Fault.{Fault}
+use Rattle.mes_stream.specs.declared.fault.Fault.TheVariants.{EndsInsideChunks, EndsInsideRecord, NoMemory}
+use Rattle.mes_stream.specs.declared.stream_reader.Framing.{Framing}
+use Rattle.mes_stream.specs.declared.stream_reader.Framing.TheVariants.{Plain, Chunked}
+
+-- w is the front of a stream that has the values so far, and no byte of it ends the stream
+abbrev pub GoesIn : {E : Type 0} → Framing → (List ℕ → E → Type 0) → ℕ → List ℕ → List E → Type 0
+GoesIn Plain spells limit w values = BodyLive spells limit w values
+GoesIn Chunked spells limit w values = Live spells limit w values
+
+-- the last byte of w ends a stream of the values; records one behind the other have no such byte
+abbrev pub EndsIn : {E : Type 0} → Framing → (List ℕ → E → Type 0) → ℕ → List ℕ → List E → Type 0
+EndsIn Plain spells limit w values = ⊥
+EndsIn Chunked spells limit w values = IsStream spells limit w values
+
+-- the byte c behind w ends a record whose data spell the value
+abbrev pub EndsRecordIn : {E : Type 0} → Framing → (List ℕ → E → Type 0) → ℕ → List ℕ → List E → ℕ → E → Type 0
+EndsRecordIn Plain spells limit w values c value = EndsRecord spells limit w values c (λ r. spells r value)
+EndsRecordIn Chunked spells limit w values c value = EndsWith spells limit w values c value
+
+-- the byte c behind w shows the fault, or memory was refused at it
+abbrev pub StopsIn : {E : Type 0} → Framing → (List ℕ → E → Type 0) → (List ℕ → RecordFault → Type 0) → ℕ → List ℕ → List E → ℕ → Fault → Type 0
+StopsIn Plain spells breaks limit w values c fault = BodyStops spells breaks limit w values c fault
+StopsIn Chunked spells breaks limit w values c fault = Stops spells breaks limit w values c fault
+
+-- What it means that the input ends behind w: records one behind the other end there, or one of them has begun (F10); a chunked
+-- body has not ended (F6).
+abbrev pub InputEnds : {E T : Type 0} → Framing → (List ℕ → E → Type 0) → ℕ → List ℕ → List E → Result T Fault → Type 0
+InputEnds Plain spells limit w values (Ok done) = Records spells limit w values
+InputEnds Plain spells limit w values (Err fault) = EndsInside spells limit w values × (fault ≡ EndsInsideRecord)
+InputEnds Chunked spells limit w values (Ok done) = ⊥
+InputEnds Chunked spells limit w values (Err fault) = Live spells limit w values × (fault ≡ EndsInsideChunks)
+
+-- The first n bytes of w stop the reading with their last. Want of memory may also come where the value of a record that has
+-- ended is added to the list.
+pub record StopsWithin {E : Type 0} (framing : Framing) (spells : List ℕ → E → Type 0) (breaks : List ℕ → RecordFault → Type 0) (limit : ℕ) (w : List ℕ) (values : List E) (fault : Fault) (n : ℕ) : Type 0 where
+  pub front : List ℕ
+  pub byte : ℕ
+  pub rest : List ℕ
+  pub is : w ≡ front ++ byte ∷ rest
+  pub used : n ≡ length front + 1
+  pub live : GoesIn framing spells limit front values
+  pub stops : StopsIn framing spells breaks limit front values byte fault
+      ⊎ ((fault ≡ NoMemory) × ((value : E) × EndsRecordIn framing spells limit front values byte value))

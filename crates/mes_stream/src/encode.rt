@@ -1,0 +1,79 @@
+//! Events encoded to the records of plain RecordIO.
+
+ghost use Rattle.std.specs.Prelude.{◌≡◌, ◌++◌, OnOk, IfOk, IfErr};
+ghost use Rattle.mes_frame.specs.Frames.{record_bytes};
+ghost use Rattle.mes_frame.specs.Record.{IsRecord};
+ghost use Rattle.mes_msg.specs.Canon.{canonical_text, IsGood, IsEncodeFault};
+ghost use Rattle.mes_msg.specs.Events.{Spells};
+ghost use Rattle.mes_stream.specs.Sending.{IsPlainOf, IsUnsent, fault_at};
+
+use crate::send_fault::{EncodeWhy, SendFault};
+use itoa::Buffer;
+use mes_frame::Limit;
+use mes_json::NoMemory;
+use mes_msg::{EncodeFault, Event};
+use std::alloc::Global;
+
+/// The records of the events' canonical texts, one behind the other. Errors: the first event that no record of the limit can
+/// hold, or want of memory.
+pub(crate) fn encode_events(
+    alloc: Global,
+    events: &[Event],
+    limit: Limit,
+) -> Result<Vec<u8>, SendFault>
+    ensures ok { IfOk result (λ body. IsPlainOf limit events.now body.items) }
+    ensures err { IfErr result (IsUnsent limit events.now) }
+{
+    let mut body = Vec::new(alloc);
+    for (index, event) in events.iter().enumerate() {
+        if let Err(fault) = put_event(alloc, event, limit, &mut body) {
+            return Err(refused_at(index, fault));
+        }
+    }
+    Ok(body)
+}
+
+/// Appends the record of the event's canonical text.
+fn put_event(
+    alloc: Global,
+    event: &Event,
+    limit: Limit,
+    body: &mut Vec<u8>,
+) -> Result<(), EncodeFault>
+    ensures ok { OnOk result (body.new.items ≡ body.old.items ++ record_bytes (canonical_text event.now)) }
+    ensures good { OnOk result (IsGood event.now limit) }
+    ensures read { OnOk result (IsRecord (record_bytes (canonical_text event.now)) (canonical_text event.now) limit) }
+    ensures spells { OnOk result (Spells (canonical_text event.now) event.now) }
+    ensures err { IfErr result (IsEncodeFault event.now limit) }
+{
+    let text = event.canon(alloc, limit)?;
+    put_record(text.as_slice(), body)?;
+    Ok(())
+}
+
+/// Appends a record with this data.
+fn put_record(payload: &[u8], body: &mut Vec<u8>) -> Result<(), NoMemory>
+    ensures { OnOk result (body.new.items ≡ body.old.items ++ record_bytes payload.now) }
+{
+    body.extend_from_slice(Buffer::new().format(payload.len() as u64).as_bytes())?;
+    body.extend_from_slice(b"\n")?;
+    body.extend_from_slice(payload)?;
+    Ok(())
+}
+
+/// What is told where the event at this place has no record.
+fn refused_at(index: usize, fault: EncodeFault) -> SendFault
+    ensures { result ≡ fault_at index fault }
+{
+    match fault {
+        EncodeFault::TooDeep => SendFault::Encode {
+            index,
+            why: EncodeWhy::TooDeep,
+        },
+        EncodeFault::TooLarge => SendFault::Encode {
+            index,
+            why: EncodeWhy::TooLarge,
+        },
+        EncodeFault::NoMemory => SendFault::NoMemory,
+    }
+}

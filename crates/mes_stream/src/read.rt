@@ -1,0 +1,133 @@
+//! Reads a stream of either framing from a device.
+
+ghost use Rattle.std.specs.Prelude.{◌≡◌, ◌≤◌, ℕ, List, [], ◌++◌, length};
+ghost use Rattle.std.specs.Io.KnownBytes.{Consumes};
+ghost use Rattle.mes_stream.specs.Reading.{EndsReading, EndsPlain, EndsStream};
+ghost use Rattle.mes_msg.specs.Events.{Spells, IsRecordFault};
+ghost use Rattle.mes_msg.specs.declared.event.Event.{Event as EventValue};
+
+use crate::event_reader::EventReader;
+use crate::fault::{Fault, Report, Stop};
+use crate::record_reader::RecordReader;
+use crate::stream_reader::{Framing, StreamReader};
+use arrayvec::ArrayVec;
+use mes_frame::{Limit, Source};
+use mes_msg::Event;
+use std::alloc::Global;
+
+/// How many bytes one read takes at most.
+pub const READ_MOST: usize = 512;
+
+/// Reads plain RecordIO to the end of the reader, in at most `max_reads` reads of at most 512 bytes, and adds the events
+/// to the list; those before a fault stay in it.
+pub fn read_plain<S: Source>(
+    alloc: Global,
+    reader: &mut S,
+    limit: Limit,
+    max_reads: u64,
+    events: &mut Vec<Event>,
+) -> Result<Report, Stop>
+    // The bytes w were taken, the list has more events, and the reading ended as `EndsPlain` says of them.
+    ensures { (w : List ℕ) × (more : List EventValue)
+        × Consumes (S.left reader.old) (S.left reader.new) w
+        × (events.new.items ≡ events.old.items ++ more)
+        × EndsPlain limit max_reads (S.counts reader.old) (S.counts reader.new) (S.left reader.new) w more result }
+{
+    read_events(alloc, reader, Framing::Plain, limit, max_reads, events)
+}
+
+/// Reads a chunked stream to its end, in at most `max_reads` reads of at most 512 bytes, and adds the events to the list;
+/// those before a fault stay in it. What the last read took behind the end is in the report.
+pub fn read_stream<S: Source>(
+    alloc: Global,
+    reader: &mut S,
+    limit: Limit,
+    max_reads: u64,
+    events: &mut Vec<Event>,
+) -> Result<Report, Stop>
+    ensures { (w : List ℕ) × (more : List EventValue)
+        × Consumes (S.left reader.old) (S.left reader.new) w
+        × (events.new.items ≡ events.old.items ++ more)
+        × EndsStream limit max_reads (S.counts reader.old) (S.counts reader.new) (S.left reader.new) w more result }
+{
+    read_events(alloc, reader, Framing::Chunked, limit, max_reads, events)
+}
+
+/// Reads a stream of events of either framing, as `read_plain` and `read_stream` do.
+pub fn read_events<S: Source>(
+    alloc: Global,
+    reader: &mut S,
+    framing: Framing,
+    limit: Limit,
+    max_reads: u64,
+    events: &mut Vec<Event>,
+) -> Result<Report, Stop>
+    ensures { (w : List ℕ) × (more : List EventValue)
+        × Consumes (S.left reader.old) (S.left reader.new) w
+        × (events.new.items ≡ events.old.items ++ more)
+        × EndsReading framing Spells IsRecordFault limit max_reads (S.counts reader.old) (S.counts reader.new) (S.left reader.new) w more result }
+{
+    let records = EventReader::new(alloc);
+    read_records(reader, framing, records, limit, max_reads, events)
+}
+
+// The same for any reader of records, before its first byte.
+fn read_records<R: RecordReader, S: Source>(
+    reader: &mut S,
+    framing: Framing,
+    records: R,
+    limit: Limit,
+    max_reads: u64,
+    values: &mut Vec<R::Value>,
+) -> Result<Report, Stop>
+    requires { R.holds records [] }
+    ensures { (w : List ℕ) × (more : List R.Value)
+        × Consumes (S.left reader.old) (S.left reader.new) w
+        × (values.new.items ≡ values.old.items ++ more)
+        × EndsReading framing R.spells R.breaks limit max_reads (S.counts reader.old) (S.counts reader.new) (S.left reader.new) w more result }
+{
+    let mut stream = StreamReader::new(framing, records, limit);
+    let mut buffer = [0; READ_MOST];
+    let mut used: u64 = 0;
+    'reads: for _ in 0..max_reads {
+        let taken = match reader.fetch(&mut buffer) {
+            Ok(taken) => taken,
+            Err(_) => return Err(stop(Fault::Read, used)),
+        };
+        if taken == 0 {
+            return match stream.finish() {
+                Ok(()) => Ok(report(used, &[])),
+                Err(fault) => Err(stop(fault, used)),
+            };
+        }
+        match stream.feed(&buffer[..taken], values) {
+            Ok(None) => used = used.saturating_add(taken as u64),
+            Ok(Some(end)) => {
+                let all = used.saturating_add(end as u64);
+                return Ok(report(all, &buffer[end..taken]));
+            }
+            Err(halt) => {
+                let all = used.saturating_add(halt.used as u64);
+                return Err(stop(halt.fault, all));
+            }
+        }
+    }
+    Err(stop(Fault::ReadsSpent, used))
+}
+
+// The reading stopped behind so many bytes.
+fn stop(fault: Fault, used: u64) -> Stop
+    ensures { result ≡ record { fault = fault; used = used } }
+{
+    Stop { fault, used }
+}
+
+// The stream ended behind so many bytes, and these were taken behind it.
+fn report(used: u64, rest: &[u8]) -> Report
+    requires { length rest.now ≤ 512 }
+    ensures { (result.used ≡ used) × (result.rest.items ≡ rest.now) }
+{
+    let mut kept = ArrayVec::new();
+    let _fits = kept.try_extend_from_slice(rest);
+    Report { used, rest: kept }
+}
