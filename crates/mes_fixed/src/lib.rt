@@ -18,5 +18,3 @@ pub use laws::{automaton_reads_numbers, number_limits};
 pub use limits::{TEXT_LIMIT, UNITS_LIMIT};
 pub use whole::{read_i32, read_u64};
 
-#[cfg(test)]
-mod tests;

@@ -16,8 +16,6 @@ mod record;
 mod record_writer;
 mod size_line;
 mod std_device;
-#[cfg(test)]
-mod tests;
 mod write;
 
 pub use crate::chunk::{ChunkOut, ChunkState};

@@ -28,8 +28,6 @@ mod same;
 mod skip;
 mod stop;
 mod tape;
-#[cfg(test)]
-mod tests;
 mod text;
 mod utf8;
 mod value;

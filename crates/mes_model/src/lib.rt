@@ -16,8 +16,6 @@ mod task_info;
 mod task_ref;
 mod task_state;
 mod task_status;
-#[cfg(test)]
-mod tests;
 mod text_value;
 mod value;
 

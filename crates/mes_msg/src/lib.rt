@@ -13,8 +13,6 @@ mod operation;
 mod other_name;
 mod record;
 mod show;
-#[cfg(test)]
-mod tests;
 mod words;
 
 pub use bodies::{ErrorBody, Failure, Message, Rescind, Subscribed, Update};

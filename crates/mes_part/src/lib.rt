@@ -15,8 +15,6 @@ mod part;
 mod path;
 mod read_row;
 mod rows;
-#[cfg(test)]
-mod tests;
 mod write_row;
 
 pub use bytes::Bytes;

@@ -15,8 +15,6 @@ mod record_reader;
 mod send;
 mod send_fault;
 mod stream_reader;
-#[cfg(test)]
-mod tests;
 
 pub use body::{Body, Halt};
 pub use decoder::Decoder;

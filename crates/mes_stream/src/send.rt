@@ -9,9 +9,6 @@ use mes_frame::{Limit, Sink, write_all, write_chunked};
 use mes_msg::Event;
 use std::alloc::Global;
 
-#[cfg(test)]
-mod tests;
-
 /// Writes the events as a chunked stream: a record of at most `limit` bytes for the canonical text of each, and these in chunks
 /// of `most` bytes, the last chunk with what is left.
 pub fn write_stream<W: Sink>(

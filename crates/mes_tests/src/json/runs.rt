@@ -1,0 +1,162 @@
+//! Strings about as long as the blocks that are looked at together, with each kind of end, and white space between tokens.
+
+use mes_json::{Json, ReadFault, TextFault, Why, read_text};
+use std::alloc::Global;
+use std::process::Abort;
+use std::test::Fail;
+
+// A hundred plain characters: each that there is, and some again.
+const PLAIN: [u8; 100] =
+    *b" !#$%&'()*+,-./0123456789:;<=>?@ABCDEFGHIJKLMNOPQRSTUVWXYZ[]^_`abcdefghijklmnopqrstuvwxyz{|}~\x7f[{,:}]";
+
+fn joined(alloc: Global, parts: &[&[u8]]) -> Result<Vec<u8>, Fail> {
+    let mut bytes = Vec::new(alloc);
+    for part in parts {
+        bytes.extend_from_slice(part)?;
+    }
+    Ok(bytes)
+}
+
+/// Whether the bytes spell the string of these characters.
+fn spells(alloc: Global, bytes: &[u8], characters: &[u8]) -> bool {
+    match read_text(alloc, bytes) {
+        Ok(Json::Text(text)) => text.as_str().as_bytes() == characters,
+        _ => false,
+    }
+}
+
+#[test]
+fn reads_strings_of_each_length(rt: HostRuntime) -> Result<(), Fail> {
+    for length in 0..101 {
+        let plain = &PLAIN[..length];
+        let bytes = joined(rt.alloc(), &[b"\"", plain, b"\""])?;
+        assert!(rt; spells(rt.alloc(), &bytes, plain), "{length}");
+        let spaced = joined(rt.alloc(), &[b"\"", plain, b"\"", &[b' '; 64]])?;
+        assert!(rt; spells(rt.alloc(), &spaced, plain), "{length}");
+    }
+    Ok(())
+}
+
+// What stands in a string behind plain characters, and what it spells.
+const ENDS: [(&[u8], &[u8]); 6] = [
+    (b"\\\"", b"\""),
+    (b"\\\\", b"\\"),
+    (b"\\n", b"\n"),
+    (b"\\u0041", b"A"),
+    (b"\xc3\xa9", b"\xc3\xa9"),
+    (b"\xdf\xbf\xc2\x80", b"\xdf\xbf\xc2\x80"),
+];
+
+#[test]
+fn reads_each_end_of_a_run(rt: HostRuntime) -> Result<(), Fail> {
+    for length in 0..49 {
+        let plain = &PLAIN[..length];
+        for (written, meant) in ENDS {
+            let bytes = joined(rt.alloc(), &[b"\"", plain, written, &PLAIN, b"\""])?;
+            let characters = joined(rt.alloc(), &[plain, meant, &PLAIN])?;
+            assert!(rt;
+                spells(rt.alloc(), &bytes, &characters),
+                "{length} {written:?}"
+            );
+        }
+    }
+    Ok(())
+}
+
+fn expect_fault<R: Abort + AllocGlobal>(rt: &R, bytes: &[u8], byte: u64) {
+    let fault = TextFault {
+        byte,
+        why: Why::Byte,
+    };
+    assert_eq!(rt;
+        read_text(rt.alloc(), bytes).err(),
+        Some(ReadFault::Text(fault)),
+        "{bytes:?}"
+    );
+}
+
+// Bytes that no string has behind plain characters.
+const FAULTS: [&[u8]; 6] = [b"\x00", b"\n", b"\x1f", b"\x80", b"\xc1", b"\xff"];
+
+#[test]
+fn stops_a_run_at_a_fault(rt: HostRuntime) -> Result<(), Fail> {
+    for length in 0..49 {
+        let plain = &PLAIN[..length];
+        for fault in FAULTS {
+            let bytes = joined(rt.alloc(), &[b"\"", plain, fault, &PLAIN, b"\""])?;
+            expect_fault(&rt, &bytes, length as u64 + 1);
+        }
+    }
+    Ok(())
+}
+
+// A text with each place between two tokens.
+const TOKENS: [&[u8]; 27] = [
+    b"{", b"\"a\"", b":", b"[", b"1", b",", b"-2.5e3", b",", b"true", b",", b"null", b",",
+    b"\"b c\"", b",", b"[", b"]", b",", b"{", b"}", b",", b"0", b"]", b",", b"\"b\"", b":",
+    b"false", b"}",
+];
+
+const BLANKS: [&[u8]; 7] = [
+    b" ",
+    b"\t",
+    b"\n",
+    b"\r",
+    b"\r\n\t ",
+    &[b' '; 40],
+    &[b'\n'; 17],
+];
+
+#[test]
+fn passes_over_white_space(rt: HostRuntime) -> Result<(), Fail> {
+    let close = read_text(rt.alloc(), &joined(rt.alloc(), &TOKENS)?)?;
+    for blank in BLANKS {
+        let mut bytes = joined(rt.alloc(), &[blank])?;
+        for token in TOKENS {
+            bytes.extend_from_slice(token)?;
+            bytes.extend_from_slice(blank)?;
+        }
+        let json = read_text(rt.alloc(), &bytes)?;
+        assert!(rt; json.same(&close), "{blank:?}");
+    }
+    Ok(())
+}
+
+// Bytes that are no white space, and that no token begins with.
+const OTHERS: [&[u8]; 6] = [b"\x00", b"\x0b", b"\x0c", b"\x1f", b"\x7f", b"\xa0"];
+
+fn expect_no_other<R: Abort + AllocGlobal>(rt: &R, front: &[u8]) -> Result<(), Fail> {
+    for other in OTHERS {
+        let bytes = joined(rt.alloc(), &[front, b" \t", other, b" "])?;
+        expect_fault(rt, &bytes, front.len() as u64 + 2);
+    }
+    Ok(())
+}
+
+#[test]
+fn passes_over_no_other_byte(rt: HostRuntime) -> Result<(), Fail> {
+    let mut front = joined(rt.alloc(), &[b" "])?;
+    for token in TOKENS {
+        expect_no_other(&rt, &front)?;
+        front.extend_from_slice(token)?;
+    }
+    Ok(())
+}
+
+// White space within a literal or a number.
+const WITHIN: [(&[u8], u64); 6] = [
+    (b"t rue", 1),
+    (b"nul l", 3),
+    (b"- 1", 1),
+    (b"1 2", 2),
+    (b"1. 5", 2),
+    (b"1e +5", 2),
+];
+
+#[test]
+fn keeps_white_space_where_it_counts(rt: HostRuntime) {
+    for (bytes, byte) in WITHIN {
+        expect_fault(&rt, bytes, byte);
+    }
+    assert!(rt; spells(rt.alloc(), b" \" \x7f  a \" ", b" \x7f  a "));
+}

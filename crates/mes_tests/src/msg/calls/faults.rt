@@ -1,0 +1,575 @@
+//! Texts of no call, each with the place and the reason of its first fault.
+
+use super::expect_faults;
+use crate::support::Faulty;
+use mes_part::FieldWhy;
+
+/// Faults of the member `type`, and of what is no object.
+const TYPES: [Faulty; 26] = [
+    (
+        r#"{"t\u0079pe":"REVIVE","type":"REVIVE"}"#,
+        "type",
+        FieldWhy::Twice,
+    ),
+    (r#"null"#, ".", FieldWhy::WrongKind),
+    (r#"[]"#, ".", FieldWhy::WrongKind),
+    (r#""REVIVE""#, ".", FieldWhy::WrongKind),
+    (r#"{}"#, "type", FieldWhy::Missing),
+    (r#"{"type":null}"#, "type", FieldWhy::Missing),
+    (
+        r#"{"framework_id":{"value":"F1"}}"#,
+        "type",
+        FieldWhy::Missing,
+    ),
+    (r#"{"type":7}"#, "type", FieldWhy::WrongKind),
+    (
+        r#"{"type":"REVIVE","type":"REVIVE"}"#,
+        "type",
+        FieldWhy::Twice,
+    ),
+    (r#"{"type":"REVIVE","type":null}"#, "type", FieldWhy::Twice),
+    (r#"{"type":"SUPPRESS"}"#, "type", FieldWhy::LeftOut),
+    (
+        r#"{"type":"SUPPRESS","framework_id":{"value":"F1"},"suppress":{}}"#,
+        "type",
+        FieldWhy::LeftOut,
+    ),
+    (
+        r#"{"type":"SUPPRESS","framework_id":7}"#,
+        "type",
+        FieldWhy::LeftOut,
+    ),
+    (
+        r#"{"type":"SHUTDOWN","framework_id":{"value":"F1"}}"#,
+        "type",
+        FieldWhy::LeftOut,
+    ),
+    (
+        r#"{"type":"MESSAGE","framework_id":{"value":"F1"}}"#,
+        "type",
+        FieldWhy::LeftOut,
+    ),
+    (
+        r#"{"type":"RECONCILE_OPERATIONS","framework_id":{"value":"F1"}}"#,
+        "type",
+        FieldWhy::LeftOut,
+    ),
+    (
+        r#"{"type":"ACKNOWLEDGE_OPERATION_STATUS","framework_id":{"value":"F1"}}"#,
+        "type",
+        FieldWhy::LeftOut,
+    ),
+    (
+        r#"{"type":"REQUEST","framework_id":{"value":"F1"}}"#,
+        "type",
+        FieldWhy::LeftOut,
+    ),
+    (
+        r#"{"type":"ACCEPT_INVERSE_OFFERS","framework_id":{"value":"F1"}}"#,
+        "type",
+        FieldWhy::LeftOut,
+    ),
+    (
+        r#"{"type":"DECLINE_INVERSE_OFFERS","framework_id":{"value":"F1"}}"#,
+        "type",
+        FieldWhy::LeftOut,
+    ),
+    (
+        r#"{"type":"UPDATE_FRAMEWORK","framework_id":{"value":"F1"}}"#,
+        "type",
+        FieldWhy::LeftOut,
+    ),
+    (
+        r#"{"type":"UNKNOWN","framework_id":{"value":"F1"}}"#,
+        "type",
+        FieldWhy::LeftOut,
+    ),
+    (
+        r#"{"type":"HEARTBEAT","framework_id":{"value":"F1"}}"#,
+        "type",
+        FieldWhy::LeftOut,
+    ),
+    (
+        r#"{"type":"","framework_id":{"value":"F1"}}"#,
+        "type",
+        FieldWhy::LeftOut,
+    ),
+    (
+        r#"{"type":"revive","framework_id":{"value":"F1"}}"#,
+        "type",
+        FieldWhy::LeftOut,
+    ),
+    (
+        r#"{"type":"REVIVE ","framework_id":{"value":"F1"}}"#,
+        "type",
+        FieldWhy::LeftOut,
+    ),
+];
+
+/// Faults of the framework, which are told before those of the body.
+const FRAMEWORKS: [Faulty; 17] = [
+    (r#"{"type":"TEARDOWN"}"#, "framework_id", FieldWhy::Missing),
+    (
+        r#"{"type":"TEARDOWN","framework_id":null}"#,
+        "framework_id",
+        FieldWhy::Missing,
+    ),
+    (
+        r#"{"type":"TEARDOWN","framework_id":"F1"}"#,
+        "framework_id",
+        FieldWhy::WrongKind,
+    ),
+    (
+        r#"{"type":"TEARDOWN","framework_id":{}}"#,
+        "framework_id.value",
+        FieldWhy::Missing,
+    ),
+    (
+        r#"{"type":"TEARDOWN","framework_id":{"value":"F1"},"framework_id":{"value":"F1"}}"#,
+        "framework_id",
+        FieldWhy::Twice,
+    ),
+    (
+        r#"{"type":"TEARDOWN","framework_id":null,"framework_id":{"value":"F1"}}"#,
+        "framework_id",
+        FieldWhy::Twice,
+    ),
+    (r#"{"type":"REVIVE"}"#, "framework_id", FieldWhy::Missing),
+    (
+        r#"{"type":"REVIVE","revive":{}}"#,
+        "framework_id",
+        FieldWhy::Missing,
+    ),
+    (
+        r#"{"type":"ACCEPT","accept":7}"#,
+        "framework_id",
+        FieldWhy::Missing,
+    ),
+    (
+        r#"{"type":"DECLINE","decline":{}}"#,
+        "framework_id",
+        FieldWhy::Missing,
+    ),
+    (
+        r#"{"type":"KILL","kill":{}}"#,
+        "framework_id",
+        FieldWhy::Missing,
+    ),
+    (
+        r#"{"type":"ACKNOWLEDGE","acknowledge":{}}"#,
+        "framework_id",
+        FieldWhy::Missing,
+    ),
+    (
+        r#"{"type":"RECONCILE","reconcile":{}}"#,
+        "framework_id",
+        FieldWhy::Missing,
+    ),
+    (
+        r#"{"type":"RECONCILE","reconcile":7,"framework_id":{"value":7}}"#,
+        "framework_id.value",
+        FieldWhy::WrongKind,
+    ),
+    (
+        r#"{"type":"SUBSCRIBE","framework_id":7}"#,
+        "framework_id",
+        FieldWhy::WrongKind,
+    ),
+    (
+        r#"{"type":"SUBSCRIBE","subscribe":7,"framework_id":{}}"#,
+        "framework_id.value",
+        FieldWhy::Missing,
+    ),
+    (
+        r#"{"type":"SUBSCRIBE","framework_id":{"value":"F1"},"framework_id":{"value":"F1"}}"#,
+        "framework_id",
+        FieldWhy::Twice,
+    ),
+];
+
+/// Faults of SUBSCRIBE.
+const SUBSCRIBE: [Faulty; 9] = [
+    (r#"{"type":"SUBSCRIBE"}"#, "subscribe", FieldWhy::Missing),
+    (
+        r#"{"type":"SUBSCRIBE","subscribe":null}"#,
+        "subscribe",
+        FieldWhy::Missing,
+    ),
+    (
+        r#"{"type":"SUBSCRIBE","framework_id":{"value":"F1"},"subscribe":[]}"#,
+        "subscribe",
+        FieldWhy::WrongKind,
+    ),
+    (
+        r#"{"type":"SUBSCRIBE","subscribe":{},"subscribe":{}}"#,
+        "subscribe",
+        FieldWhy::Twice,
+    ),
+    (
+        r#"{"type":"SUBSCRIBE","subscribe":{}}"#,
+        "subscribe.framework_info",
+        FieldWhy::Missing,
+    ),
+    (
+        r#"{"type":"SUBSCRIBE","subscribe":{"framework_info":"n"}}"#,
+        "subscribe.framework_info",
+        FieldWhy::WrongKind,
+    ),
+    (
+        r#"{"type":"SUBSCRIBE","subscribe":{"framework_info":{"name":"n"}}}"#,
+        "subscribe.framework_info.user",
+        FieldWhy::Missing,
+    ),
+    (
+        r#"{"type":"SUBSCRIBE","subscribe":{"framework_info":{"user":"root"}}}"#,
+        "subscribe.framework_info.name",
+        FieldWhy::Missing,
+    ),
+    (
+        r#"{"type":"SUBSCRIBE","subscribe":{"framework_info":{"user":"root","name":"n","capabilities":[{"type":7}]}}}"#,
+        "subscribe.framework_info.capabilities[0].type",
+        FieldWhy::WrongKind,
+    ),
+];
+
+/// Faults of ACCEPT.
+const ACCEPT: [Faulty; 25] = [
+    (
+        r#"{"type":"ACCEPT","framework_id":{"value":"F1"}}"#,
+        "accept",
+        FieldWhy::Missing,
+    ),
+    (
+        r#"{"type":"ACCEPT","framework_id":{"value":"F1"},"accept":null}"#,
+        "accept",
+        FieldWhy::Missing,
+    ),
+    (
+        r#"{"type":"ACCEPT","framework_id":{"value":"F1"},"accept":[]}"#,
+        "accept",
+        FieldWhy::WrongKind,
+    ),
+    (
+        r#"{"type":"ACCEPT","framework_id":{"value":"F1"},"accept":{},"accept":{}}"#,
+        "accept",
+        FieldWhy::Twice,
+    ),
+    (
+        r#"{"type":"ACCEPT","framework_id":{"value":"F1"},"accept":{"offer_ids":{"value":"O1"}}}"#,
+        "accept.offer_ids",
+        FieldWhy::WrongKind,
+    ),
+    (
+        r#"{"type":"ACCEPT","framework_id":{"value":"F1"},"accept":{"offer_ids":[null]}}"#,
+        "accept.offer_ids[0]",
+        FieldWhy::WrongKind,
+    ),
+    (
+        r#"{"type":"ACCEPT","framework_id":{"value":"F1"},"accept":{"offer_ids":[{"value":"O1"},{}]}}"#,
+        "accept.offer_ids[1].value",
+        FieldWhy::Missing,
+    ),
+    (
+        r#"{"type":"ACCEPT","framework_id":{"value":"F1"},"accept":{"offer_ids":[],"offer_ids":[]}}"#,
+        "accept.offer_ids",
+        FieldWhy::Twice,
+    ),
+    (
+        r#"{"type":"ACCEPT","framework_id":{"value":"F1"},"accept":{"operations":{}}}"#,
+        "accept.operations",
+        FieldWhy::WrongKind,
+    ),
+    (
+        r#"{"type":"ACCEPT","framework_id":{"value":"F1"},"accept":{"operations":[{}]}}"#,
+        "accept.operations[0].type",
+        FieldWhy::Missing,
+    ),
+    (
+        r#"{"type":"ACCEPT","framework_id":{"value":"F1"},"accept":{"operations":[{"type":"RESERVE","reserve":{}}]}}"#,
+        "accept.operations[0].type",
+        FieldWhy::LeftOut,
+    ),
+    (
+        r#"{"type":"ACCEPT","framework_id":{"value":"F1"},"accept":{"operations":[{"type":"LAUNCH_GROUP"}]}}"#,
+        "accept.operations[0].type",
+        FieldWhy::LeftOut,
+    ),
+    (
+        r#"{"type":"ACCEPT","framework_id":{"value":"F1"},"accept":{"operations":[{"type":"launch","launch":{}}]}}"#,
+        "accept.operations[0].type",
+        FieldWhy::LeftOut,
+    ),
+    (
+        r#"{"type":"ACCEPT","framework_id":{"value":"F1"},"accept":{"operations":[{"type":"LAUNCH","launch":{}},{"type":"CREATE"}]}}"#,
+        "accept.operations[1].type",
+        FieldWhy::LeftOut,
+    ),
+    (
+        r#"{"type":"ACCEPT","framework_id":{"value":"F1"},"accept":{"operations":[{"type":"LAUNCH"}]}}"#,
+        "accept.operations[0].launch",
+        FieldWhy::Missing,
+    ),
+    (
+        r#"{"type":"ACCEPT","framework_id":{"value":"F1"},"accept":{"operations":[{"type":"LAUNCH","launch":[]}]}}"#,
+        "accept.operations[0].launch",
+        FieldWhy::WrongKind,
+    ),
+    (
+        r#"{"type":"ACCEPT","framework_id":{"value":"F1"},"accept":{"operations":[{"type":"LAUNCH","launch":{"task_infos":{}}}]}}"#,
+        "accept.operations[0].launch.task_infos",
+        FieldWhy::WrongKind,
+    ),
+    (
+        r#"{"type":"ACCEPT","framework_id":{"value":"F1"},"accept":{"operations":[{"type":"LAUNCH","launch":{"task_infos":[{}]}}]}}"#,
+        "accept.operations[0].launch.task_infos[0].name",
+        FieldWhy::Missing,
+    ),
+    (
+        r#"{"type":"ACCEPT","framework_id":{"value":"F1"},"accept":{"operations":[{"type":"LAUNCH","launch":{"task_infos":[{"name":"t","task_id":{"value":"T1"},"agent_id":{"value":"A1"}},{"name":"t"}]}}]}}"#,
+        "accept.operations[0].launch.task_infos[1].task_id",
+        FieldWhy::Missing,
+    ),
+    (
+        r#"{"type":"ACCEPT","framework_id":{"value":"F1"},"accept":{"operations":[{"type":"LAUNCH","launch":{"task_infos":[{"name":"t","task_id":{"value":"T1"},"agent_id":{"value":"A1"},"resources":[{"name":"disk","type":"SCALAR","scalar":{"value":1},"reservations":[{"labels":{"labels":[{}]}}]}]}]}}]}}"#,
+        "accept.operations[0].launch.task_infos[0].resources[0].reservations[0].labels.labels[0].key",
+        FieldWhy::Missing,
+    ),
+    (
+        r#"{"type":"ACCEPT","framework_id":{"value":"F1"},"accept":{"operations":[{"type":"LAUNCH","launch":{"task_infos":[{"name":"t","task_id":{"value":"T1"},"agent_id":{"value":"A1"},"command":{"shell":1}}]}}]}}"#,
+        "accept.operations[0].launch.task_infos[0].command.shell",
+        FieldWhy::WrongKind,
+    ),
+    (
+        r#"{"type":"ACCEPT","framework_id":{"value":"F1"},"accept":{"filters":[]}}"#,
+        "accept.filters",
+        FieldWhy::WrongKind,
+    ),
+    (
+        r#"{"type":"ACCEPT","framework_id":{"value":"F1"},"accept":{"filters":{"refuse_seconds":"5"}}}"#,
+        "accept.filters.refuse_seconds",
+        FieldWhy::WrongKind,
+    ),
+    (
+        r#"{"type":"ACCEPT","framework_id":{"value":"F1"},"accept":{"filters":7,"operations":7,"offer_ids":7}}"#,
+        "accept.offer_ids",
+        FieldWhy::WrongKind,
+    ),
+    (
+        r#"{"type":"ACCEPT","framework_id":{"value":"F1"},"accept":{"filters":7,"operations":7}}"#,
+        "accept.operations",
+        FieldWhy::WrongKind,
+    ),
+];
+
+/// Faults of DECLINE.
+const DECLINE: [Faulty; 5] = [
+    (
+        r#"{"type":"DECLINE","framework_id":{"value":"F1"}}"#,
+        "decline",
+        FieldWhy::Missing,
+    ),
+    (
+        r#"{"type":"DECLINE","framework_id":{"value":"F1"},"decline":"O1"}"#,
+        "decline",
+        FieldWhy::WrongKind,
+    ),
+    (
+        r#"{"type":"DECLINE","framework_id":{"value":"F1"},"decline":{"offer_ids":[{"value":1}]}}"#,
+        "decline.offer_ids[0].value",
+        FieldWhy::WrongKind,
+    ),
+    (
+        r#"{"type":"DECLINE","framework_id":{"value":"F1"},"decline":{"filters":{"refuse_seconds":-1}}}"#,
+        "decline.filters.refuse_seconds",
+        FieldWhy::NumberRange,
+    ),
+    (
+        r#"{"type":"DECLINE","framework_id":{"value":"F1"},"decline":{"filters":7,"offer_ids":7}}"#,
+        "decline.offer_ids",
+        FieldWhy::WrongKind,
+    ),
+];
+
+/// Faults of REVIVE.
+const REVIVE: [Faulty; 7] = [
+    (
+        r#"{"type":"REVIVE","framework_id":{"value":"F1"},"revive":{}}"#,
+        "revive",
+        FieldWhy::LeftOut,
+    ),
+    (
+        r#"{"type":"REVIVE","framework_id":{"value":"F1"},"revive":{"roles":["a"]}}"#,
+        "revive",
+        FieldWhy::LeftOut,
+    ),
+    (
+        r#"{"type":"REVIVE","framework_id":{"value":"F1"},"revive":[]}"#,
+        "revive",
+        FieldWhy::LeftOut,
+    ),
+    (
+        r#"{"type":"REVIVE","framework_id":{"value":"F1"},"revive":false}"#,
+        "revive",
+        FieldWhy::LeftOut,
+    ),
+    (
+        r#"{"type":"REVIVE","framework_id":{"value":"F1"},"revive":0}"#,
+        "revive",
+        FieldWhy::LeftOut,
+    ),
+    (
+        r#"{"type":"REVIVE","framework_id":{"value":"F1"},"revive":""}"#,
+        "revive",
+        FieldWhy::LeftOut,
+    ),
+    (
+        r#"{"type":"REVIVE","framework_id":{"value":"F1"},"revive":null,"revive":null}"#,
+        "revive",
+        FieldWhy::Twice,
+    ),
+];
+
+/// Faults of KILL.
+const KILL: [Faulty; 6] = [
+    (
+        r#"{"type":"KILL","framework_id":{"value":"F1"}}"#,
+        "kill",
+        FieldWhy::Missing,
+    ),
+    (
+        r#"{"type":"KILL","framework_id":{"value":"F1"},"kill":[]}"#,
+        "kill",
+        FieldWhy::WrongKind,
+    ),
+    (
+        r#"{"type":"KILL","framework_id":{"value":"F1"},"kill":{}}"#,
+        "kill.task_id",
+        FieldWhy::Missing,
+    ),
+    (
+        r#"{"type":"KILL","framework_id":{"value":"F1"},"kill":{"task_id":{}}}"#,
+        "kill.task_id.value",
+        FieldWhy::Missing,
+    ),
+    (
+        r#"{"type":"KILL","framework_id":{"value":"F1"},"kill":{"task_id":{"value":"T1"},"agent_id":"A1"}}"#,
+        "kill.agent_id",
+        FieldWhy::WrongKind,
+    ),
+    (
+        r#"{"type":"KILL","framework_id":{"value":"F1"},"kill":{"agent_id":7}}"#,
+        "kill.task_id",
+        FieldWhy::Missing,
+    ),
+];
+
+/// Faults of ACKNOWLEDGE.
+const ACKNOWLEDGE: [Faulty; 11] = [
+    (
+        r#"{"type":"ACKNOWLEDGE","framework_id":{"value":"F1"}}"#,
+        "acknowledge",
+        FieldWhy::Missing,
+    ),
+    (
+        r#"{"type":"ACKNOWLEDGE","framework_id":{"value":"F1"},"acknowledge":"AA=="}"#,
+        "acknowledge",
+        FieldWhy::WrongKind,
+    ),
+    (
+        r#"{"type":"ACKNOWLEDGE","framework_id":{"value":"F1"},"acknowledge":{}}"#,
+        "acknowledge.agent_id",
+        FieldWhy::Missing,
+    ),
+    (
+        r#"{"type":"ACKNOWLEDGE","framework_id":{"value":"F1"},"acknowledge":{"task_id":{"value":"T1"},"uuid":"AA=="}}"#,
+        "acknowledge.agent_id",
+        FieldWhy::Missing,
+    ),
+    (
+        r#"{"type":"ACKNOWLEDGE","framework_id":{"value":"F1"},"acknowledge":{"agent_id":{"value":"A1"},"uuid":7}}"#,
+        "acknowledge.task_id",
+        FieldWhy::Missing,
+    ),
+    (
+        r#"{"type":"ACKNOWLEDGE","framework_id":{"value":"F1"},"acknowledge":{"agent_id":{"value":"A1"},"task_id":{"value":"T1"}}}"#,
+        "acknowledge.uuid",
+        FieldWhy::Missing,
+    ),
+    (
+        r#"{"type":"ACKNOWLEDGE","framework_id":{"value":"F1"},"acknowledge":{"agent_id":{"value":"A1"},"task_id":{"value":"T1"},"uuid":null}}"#,
+        "acknowledge.uuid",
+        FieldWhy::Missing,
+    ),
+    (
+        r#"{"type":"ACKNOWLEDGE","framework_id":{"value":"F1"},"acknowledge":{"agent_id":{"value":"A1"},"task_id":{"value":"T1"},"data":"AA=="}}"#,
+        "acknowledge.uuid",
+        FieldWhy::Missing,
+    ),
+    (
+        r#"{"type":"ACKNOWLEDGE","framework_id":{"value":"F1"},"acknowledge":{"agent_id":{"value":"A1"},"task_id":{"value":"T1"},"uuid":7}}"#,
+        "acknowledge.uuid",
+        FieldWhy::WrongKind,
+    ),
+    (
+        r#"{"type":"ACKNOWLEDGE","framework_id":{"value":"F1"},"acknowledge":{"agent_id":{"value":"A1"},"task_id":{"value":"T1"},"uuid":"AA"}}"#,
+        "acknowledge.uuid",
+        FieldWhy::BadBase64,
+    ),
+    (
+        r#"{"type":"ACKNOWLEDGE","framework_id":{"value":"F1"},"acknowledge":{"agent_id":{"value":"A1"},"task_id":{"value":"T1"},"uuid":"AA==","uuid":"AA=="}}"#,
+        "acknowledge.uuid",
+        FieldWhy::Twice,
+    ),
+];
+
+/// Faults of RECONCILE.
+const RECONCILE: [Faulty; 7] = [
+    (
+        r#"{"type":"RECONCILE","framework_id":{"value":"F1"}}"#,
+        "reconcile",
+        FieldWhy::Missing,
+    ),
+    (
+        r#"{"type":"RECONCILE","framework_id":{"value":"F1"},"reconcile":null}"#,
+        "reconcile",
+        FieldWhy::Missing,
+    ),
+    (
+        r#"{"type":"RECONCILE","framework_id":{"value":"F1"},"reconcile":[]}"#,
+        "reconcile",
+        FieldWhy::WrongKind,
+    ),
+    (
+        r#"{"type":"RECONCILE","framework_id":{"value":"F1"},"reconcile":{"tasks":{}}}"#,
+        "reconcile.tasks",
+        FieldWhy::WrongKind,
+    ),
+    (
+        r#"{"type":"RECONCILE","framework_id":{"value":"F1"},"reconcile":{"tasks":[null]}}"#,
+        "reconcile.tasks[0]",
+        FieldWhy::WrongKind,
+    ),
+    (
+        r#"{"type":"RECONCILE","framework_id":{"value":"F1"},"reconcile":{"tasks":[{"task_id":{"value":"T1"}},{"agent_id":{"value":"A1"}}]}}"#,
+        "reconcile.tasks[1].task_id",
+        FieldWhy::Missing,
+    ),
+    (
+        r#"{"type":"RECONCILE","framework_id":{"value":"F1"},"reconcile":{"tasks":[{"task_id":{"value":"T1"},"agent_id":7}]}}"#,
+        "reconcile.tasks[0].agent_id",
+        FieldWhy::WrongKind,
+    ),
+];
+
+#[test]
+fn first_faults_are_told(rt: HostRuntime) {
+    expect_faults(&rt, &TYPES);
+    expect_faults(&rt, &FRAMEWORKS);
+    expect_faults(&rt, &SUBSCRIBE);
+    expect_faults(&rt, &ACCEPT);
+    expect_faults(&rt, &DECLINE);
+    expect_faults(&rt, &REVIVE);
+    expect_faults(&rt, &KILL);
+    expect_faults(&rt, &ACKNOWLEDGE);
+    expect_faults(&rt, &RECONCILE);
+}

@@ -1,0 +1,192 @@
+//! Labels read from JSON texts, by the table of labels: the value, or the path and the reason of the first fault.
+
+use crate::support::{Faulty, Written, expect_fault, part_fault_of};
+use mes_json::{read_tape, read_text, write_text};
+use mes_part::{
+    FieldFault, FieldWhy, Label, Labels, List, Part, PartFault, Path, find_rows, left_out,
+    list_tree, read_either_list, written_again,
+};
+use std::alloc::Global;
+use std::process::Abort;
+use std::test::Fail;
+
+/// Texts that are no labels.
+const FAULTS: [Faulty; 11] = [
+    ("[]", ".", FieldWhy::WrongKind),
+    ("null", ".", FieldWhy::WrongKind),
+    ("{\"labels\":{}}", "labels", FieldWhy::WrongKind),
+    ("{\"labels\":[],\"labels\":null}", "labels", FieldWhy::Twice),
+    (
+        "{\"labels\":[{\"key\":\"a\"},null]}",
+        "labels[1]",
+        FieldWhy::WrongKind,
+    ),
+    (
+        "{\"labels\":[{\"value\":\"v\"}]}",
+        "labels[0].key",
+        FieldWhy::Missing,
+    ),
+    (
+        "{\"labels\":[{\"key\":null}]}",
+        "labels[0].key",
+        FieldWhy::Missing,
+    ),
+    (
+        "{\"labels\":[{\"key\":1}]}",
+        "labels[0].key",
+        FieldWhy::WrongKind,
+    ),
+    (
+        "{\"labels\":[{\"key\":\"a\",\"key\":\"a\"}]}",
+        "labels[0].key",
+        FieldWhy::Twice,
+    ),
+    (
+        "{\"labels\":[{\"value\":[],\"key\":true}]}",
+        "labels[0].key",
+        FieldWhy::WrongKind,
+    ),
+    (
+        "{\"labels\":[{\"key\":\"a\",\"value\":[]}]}",
+        "labels[0].value",
+        FieldWhy::WrongKind,
+    ),
+];
+
+/// Texts of labels, and what they are written as.
+const LABELS: [Written; 4] = [
+    ("{}", "{}"),
+    ("{\"labels\":null}", "{}"),
+    ("{\"x\":1,\"labels\":[],\"x\":{}}", "{}"),
+    (
+        "{\"labels\":[{\"key\":\"k\"},{\"value\":\"v\",\"key\":\"l\"},{\"key\":\"m\",\"value\":null,\"y\":[{}]}]}",
+        "{\"labels\":[{\"key\":\"k\"},{\"key\":\"l\",\"value\":\"v\"},{\"key\":\"m\"}]}",
+    ),
+];
+
+/// Texts that are no list of labels in either form.
+const EITHER_FAULTS: [Faulty; 7] = [
+    ("null", ".", FieldWhy::WrongKind),
+    ("7", ".", FieldWhy::WrongKind),
+    ("\"labels\"", ".", FieldWhy::WrongKind),
+    (
+        "[{\"key\":\"a\"},{\"key\":1}]",
+        "[1].key",
+        FieldWhy::WrongKind,
+    ),
+    (
+        "{\"labels\":{\"key\":\"a\"}}",
+        "labels",
+        FieldWhy::WrongKind,
+    ),
+    ("{\"labels\":[7]}", "labels[0]", FieldWhy::WrongKind),
+    ("{\"labels\":[],\"labels\":[]}", "labels", FieldWhy::Twice),
+];
+
+/// Texts of a list of labels in either form, and what the list is written as.
+const EITHER: [Written; 5] = [
+    ("[]", "[]"),
+    ("{}", "[]"),
+    ("{\"labels\":null,\"key\":7}", "[]"),
+    (
+        "[{\"key\":\"a\"},{\"key\":\"b\"}]",
+        "[{\"key\":\"a\"},{\"key\":\"b\"}]",
+    ),
+    (
+        "{\"labels\":[{\"key\":\"a\"},{\"key\":\"b\"}]}",
+        "[{\"key\":\"a\"},{\"key\":\"b\"}]",
+    ),
+];
+
+/// Objects with a member `x` that is left out.
+const LEFT_OUT: [(&str, FieldWhy); 5] = [
+    ("{\"x\":{}}", FieldWhy::LeftOut),
+    ("{\"x\":false}", FieldWhy::LeftOut),
+    ("{\"y\":1,\"x\":\"\"}", FieldWhy::LeftOut),
+    ("{\"x\":null,\"x\":null}", FieldWhy::Twice),
+    ("{\"x\":{},\"x\":{}}", FieldWhy::Twice),
+];
+
+/// Objects without it.
+const NOT_THERE: [&str; 3] = ["{}", "{\"x\":null}", "{\"y\":{},\"y\":{}}"];
+
+/// What is wrong with a member `x` that is left out.
+fn left_out_fault(alloc: Global, text: &str) -> Result<Option<FieldFault>, Fail> {
+    let tape = read_tape(alloc, text.as_bytes())?;
+    match find_rows(&tape.root(), &["x"], &Path::new()) {
+        Ok(rows) => Ok(left_out(rows.at(0), "x", &Path::new()).err()),
+        Err(_) => Err("an object")?,
+    }
+}
+
+/// The labels of a text, read from its tape.
+fn read(alloc: Global, text: &str) -> Result<Result<Labels, PartFault>, Fail> {
+    let tape = read_tape(alloc, text.as_bytes())?;
+    Ok(Labels::read_from(alloc, &tape.root(), &Path::new()))
+}
+
+/// The list of labels of a text, in either form.
+fn read_either(alloc: Global, text: &str) -> Result<Result<List<Label>, PartFault>, Fail> {
+    let tape = read_tape(alloc, text.as_bytes())?;
+    Ok(read_either_list(alloc, &tape.root(), "labels", &Path::new()))
+}
+
+#[test]
+fn faults_are_told(rt: HostRuntime) -> Result<(), Fail> {
+    for (text, path, why) in FAULTS {
+        expect_fault(&rt, text, part_fault_of(read(rt.alloc(), text)?), path, why);
+        let tree = read_text(rt.alloc(), text.as_bytes())?;
+        let answer = Labels::read(rt.alloc(), &tree, &Path::new());
+        expect_fault(&rt, text, part_fault_of(answer), path, why);
+    }
+    Ok(())
+}
+
+#[test]
+fn labels_are_read(rt: HostRuntime) -> Result<(), Fail> {
+    for (text, expected) in LABELS {
+        let Ok(labels) = read(rt.alloc(), text)? else {
+            return Err("they are labels")?;
+        };
+        let Ok(again) = written_again(rt.alloc(), &labels) else {
+            return Err("they are written and read")?;
+        };
+        let mut out = Vec::new(rt.alloc());
+        write_text(&again.tree(rt.alloc())?, &mut out)?;
+        assert_eq!(rt; out.as_slice(), expected.as_bytes());
+    }
+    Ok(())
+}
+
+#[test]
+fn lists_are_read_in_either_form(rt: HostRuntime) -> Result<(), Fail> {
+    for (text, expected) in EITHER {
+        let Ok(labels) = read_either(rt.alloc(), text)? else {
+            return Err("they are labels")?;
+        };
+        let mut out = Vec::new(rt.alloc());
+        write_text(&list_tree(rt.alloc(), &labels)?, &mut out)?;
+        assert_eq!(rt; out.as_slice(), expected.as_bytes());
+    }
+    for (text, path, why) in EITHER_FAULTS {
+        expect_fault(
+            &rt,
+            text,
+            part_fault_of(read_either(rt.alloc(), text)?),
+            path,
+            why,
+        );
+    }
+    Ok(())
+}
+
+#[test]
+fn what_is_left_out_is_refused(rt: HostRuntime) -> Result<(), Fail> {
+    for (text, why) in LEFT_OUT {
+        expect_fault(&rt, text, left_out_fault(rt.alloc(), text)?, "x", why);
+    }
+    for text in NOT_THERE {
+        assert!(rt; left_out_fault(rt.alloc(), text)?.is_none(), "{text}");
+    }
+    Ok(())
+}
