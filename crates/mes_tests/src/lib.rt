@@ -1,12 +1,8 @@
-//! Tests of the crates by their public calls: worked examples, rows of the standards, and streams that are cut, break off and fail.
+//! Tests of framing, messages and streams by the public calls of their crates: worked examples, rows of the formats, and streams that are cut, break off and fail.
 #![tactic(auto)]
 
 #[cfg(test)]
-mod fixed;
-#[cfg(test)]
 mod frame;
-#[cfg(test)]
-mod json;
 #[cfg(test)]
 mod model;
 #[cfg(test)]
