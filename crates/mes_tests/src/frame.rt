@@ -30,35 +30,38 @@ fn limits_have_a_range(rt: HostRuntime) {
     assert_eq!(rt; Limit::new(1).map_or(0, |limit| limit.get()), 1);
 }
 
+const BAD: RecordOut = RecordOut::Fault(FrameFault::BadSizeLine);
+
+const LONG: RecordOut = RecordOut::Fault(FrameFault::SizeLineTooLong);
+
+const LARGE: RecordOut = RecordOut::Fault(FrameFault::RecordTooLarge);
+
+const LAST: RecordOut = RecordOut::Byte { last: true };
+
+// A limit, bytes, and the first answer that ends a record or the stream with how many bytes had been taken then.
+const ENDS: [(u32, &[u8], Option<(usize, RecordOut)>); 10] = [
+    (20, b"20\n{\"type\":\"HEARTBEAT\"}", Some((23, LAST))),
+    (19, b"20\n{\"type\":\"HEARTBEAT\"}", Some((3, LARGE))),
+    (
+        20,
+        b"00000000000000000020\n{\"type\":\"HEARTBEAT\"}",
+        Some((41, LAST)),
+    ),
+    (4_194_304, b"000000000000000000020\n", Some((21, LONG))),
+    (16_777_216, b"18446744073709551636\n", Some((21, LARGE))),
+    (4_194_304, b"0\n", Some((2, RecordOut::Empty))),
+    (4_194_304, b"x", Some((1, BAD))),
+    (4_194_304, b"\n", Some((1, BAD))),
+    (4_194_304, b"12 \n", Some((3, BAD))),
+    (4_194_304, b"3\nab", None),
+];
+
 #[test]
 fn records_end_and_break_at_their_byte(rt: HostRuntime) -> Result<(), Fail> {
-    let nineteen = Limit::new(19).ok_or("19 is a limit")?;
-    let twenty = Limit::new(20).ok_or("20 is a limit")?;
-    let bad = RecordOut::Fault(FrameFault::BadSizeLine);
-    let long = RecordOut::Fault(FrameFault::SizeLineTooLong);
-    let large = RecordOut::Fault(FrameFault::RecordTooLarge);
-    let last = RecordOut::Byte { last: true };
-    let heartbeat = b"20\n{\"type\":\"HEARTBEAT\"}";
-    let padded = b"00000000000000000020\n{\"type\":\"HEARTBEAT\"}";
-    assert_eq!(rt; first_end(twenty, heartbeat), Some((23, last)));
-    assert_eq!(rt; first_end(nineteen, heartbeat), Some((3, large)));
-    assert_eq!(rt; first_end(twenty, padded), Some((41, last)));
-    assert_eq!(rt;
-        first_end(Limit::USUAL, b"000000000000000000020\n"),
-        Some((21, long))
-    );
-    assert_eq!(rt;
-        first_end(Limit::MOST, b"18446744073709551636\n"),
-        Some((21, large))
-    );
-    assert_eq!(rt;
-        first_end(Limit::USUAL, b"0\n"),
-        Some((2, RecordOut::Empty))
-    );
-    assert_eq!(rt; first_end(Limit::USUAL, b"x"), Some((1, bad)));
-    assert_eq!(rt; first_end(Limit::USUAL, b"\n"), Some((1, bad)));
-    assert_eq!(rt; first_end(Limit::USUAL, b"12 \n"), Some((3, bad)));
-    assert_eq!(rt; first_end(Limit::USUAL, b"3\nab"), None);
+    for (limit, bytes, end) in ENDS {
+        let limit = Limit::new(limit).ok_or("a limit")?;
+        assert_eq!(rt; first_end(limit, bytes), end, "{bytes:?}");
+    }
     Ok(())
 }
 
@@ -74,50 +77,45 @@ fn a_fault_is_answered_again(rt: HostRuntime) {
 #[test]
 fn data_passes_in_runs(rt: HostRuntime) {
     let mut state = RecordState::new(Limit::USUAL);
-    assert!(rt; state.between());
-    assert_eq!(rt; state.step(b'5'), RecordOut::Quiet);
-    assert!(rt; !state.between());
-    assert_eq!(rt; state.step(b'\n'), RecordOut::Quiet);
-    assert_eq!(rt; state.room(), 5);
-    assert!(rt; !state.pass(3));
-    assert_eq!(rt; state.room(), 2);
-    assert_eq!(rt; state.step(b'd'), RecordOut::Byte { last: false });
-    assert_eq!(rt; state.room(), 1);
-    assert!(rt; state.pass(1));
-    assert!(rt; state.between());
+    let before = state.between();
+    let lines = (state.step(b'5'), state.between(), state.step(b'\n'));
+    assert_eq!(rt;
+        (before, lines),
+        (true, (RecordOut::Quiet, false, RecordOut::Quiet))
+    );
+    let first = (state.room(), state.pass(3), state.room());
+    let second = (state.step(b'd'), state.room());
+    let third = (state.pass(1), state.between());
+    assert_eq!(rt; first, (5, false, 2));
+    assert_eq!(rt; second, (RecordOut::Byte { last: false }, 1));
+    assert_eq!(rt; third, (true, true));
+}
+
+// How large the buffer of each read is, and how many bytes it gives.
+const READS: [(usize, usize); 5] = [(4, 3), (1, 1), (0, 0), (4, 1), (4, 0)];
+
+#[test]
+fn a_memory_source_gives_a_few_bytes_a_read(rt: HostRuntime) -> Result<(), Fail> {
+    let mut buffer = [0; 4];
+    let mut source = MemorySource::new(b"abcde", 3);
+    for (size, given) in READS {
+        assert_eq!(rt; source.fetch(&mut buffer[..size.min(4)])?, given);
+    }
+    assert_eq!(rt; buffer, *b"ebc\x00");
+    let counts = source.counts();
+    assert_eq!(rt; (counts.calls, counts.failures, counts.idle), (4, 0, 1));
+    Ok(())
 }
 
 #[test]
-fn a_memory_source_is_slow_and_fails_where_told(rt: HostRuntime) -> Result<(), Fail> {
+fn a_memory_source_fails_where_told(rt: HostRuntime) {
     let mut buffer = [0; 4];
-    let mut source = MemorySource::new(b"abcde", 3);
-    assert_eq!(rt; source.fetch(&mut buffer)?, 3);
-    assert_eq!(rt; &buffer[..3], b"abc".as_slice());
-    assert_eq!(rt; source.fetch(&mut buffer[..1])?, 1);
-    assert_eq!(rt; source.fetch(&mut buffer[..0])?, 0);
-    assert_eq!(rt; source.fetch(&mut buffer)?, 1);
-    assert_eq!(rt; source.fetch(&mut buffer)?, 0);
-    assert_eq!(rt;
-        source.counts(),
-        Counts {
-            calls: 4,
-            failures: 0,
-            idle: 1
-        }
-    );
-    let mut failing = MemorySource::failing_after(b"abcde", 9, 2);
-    assert_eq!(rt; failing.fetch(&mut buffer)?, 2);
-    assert!(rt; failing.fetch(&mut buffer).is_err());
-    assert!(rt; failing.fetch(&mut buffer).is_err());
-    assert_eq!(rt;
-        failing.counts(),
-        Counts {
-            calls: 3,
-            failures: 2,
-            idle: 0
-        }
-    );
-    Ok(())
+    let mut source = MemorySource::failing_after(b"abcde", 9, 2);
+    for given in [Some(2), None, None] {
+        assert_eq!(rt; source.fetch(&mut buffer).ok(), given);
+    }
+    let counts = source.counts();
+    assert_eq!(rt; (counts.calls, counts.failures, counts.idle), (3, 2, 0));
 }
 
 #[test]

@@ -26,141 +26,149 @@ fn room_behind(text: &[u8]) -> u64 {
     state.room()
 }
 
-#[test]
-fn bodies_close_at_their_byte(rt: HostRuntime) {
-    let closed = ChunkOut::Closed;
-    assert_eq!(rt; first_end(b"0\r\n\r\n"), Some((5, closed)));
-    assert_eq!(rt; first_end(b"000\r\n\r\n"), Some((7, closed)));
-    assert_eq!(rt; first_end(b"0\r\nA: b\r\n\r\n"), Some((11, closed)));
-    assert_eq!(rt; first_end(b"1\r\n2\r\n00\r\n\r\n3"), Some((12, closed)));
-    assert_eq!(rt;
-        first_end(b"A;q=\"x\"\r\n\r\n0\r\n\r\n789\r\n0\r\n\r\n"),
-        Some((26, closed))
-    );
-    assert_eq!(rt; first_end(b"1\r\n2\r\n0\r\n"), None);
-    assert_eq!(rt; room_behind(b"14 ;x\r\n"), 20);
-    assert_eq!(rt; room_behind(b"aF\t\r\n"), 175);
-    assert_eq!(rt; room_behind(b"ffffffffffffffff\r\n"), u64::MAX);
-    assert_eq!(rt; room_behind(b"3\r\n45"), 1);
-    assert_eq!(rt; room_behind(b"3\r\n456"), 0);
-}
+const CLOSED: ChunkOut = ChunkOut::Closed;
+
+const BAD_LINE: ChunkOut = ChunkOut::Fault(FrameFault::BadChunkLine);
+
+const LONG_LINE: ChunkOut = ChunkOut::Fault(FrameFault::ChunkLineTooLong);
+
+const LARGE: ChunkOut = ChunkOut::Fault(FrameFault::ChunkTooLarge);
+
+const BAD_END: ChunkOut = ChunkOut::Fault(FrameFault::BadChunkEnd);
+
+const LONG_TRAILERS: ChunkOut = ChunkOut::Fault(FrameFault::TrailersTooLong);
+
+// Bodies, and the first answer that ends each with how many bytes had been taken then.
+const ENDS: [(&[u8], Option<(usize, ChunkOut)>); 22] = [
+    (b"0\r\n\r\n", Some((5, CLOSED))),
+    (b"000\r\n\r\n", Some((7, CLOSED))),
+    (b"0\r\nA: b\r\n\r\n", Some((11, CLOSED))),
+    (b"1\r\n2\r\n00\r\n\r\n3", Some((12, CLOSED))),
+    (
+        b"A;q=\"x\"\r\n\r\n0\r\n\r\n789\r\n0\r\n\r\n",
+        Some((26, CLOSED)),
+    ),
+    (b"1\r\n2\r\n0\r\n", None),
+    (b"g", Some((1, BAD_LINE))),
+    (b"1\n", Some((2, BAD_LINE))),
+    (b"\r", Some((1, BAD_LINE))),
+    (b";", Some((1, BAD_LINE))),
+    (b"1\rX", Some((3, BAD_LINE))),
+    (b"1;\x7f", Some((3, BAD_LINE))),
+    (b"1;\n", Some((3, BAD_LINE))),
+    (b"10000000000000000", Some((17, LARGE))),
+    (b"fffffffffffffffff", Some((17, LARGE))),
+    (b"0ffffffffffffffff\r\n", None),
+    (b"1\r\n2X", Some((5, BAD_END))),
+    (b"1\r\n2\rX", Some((6, BAD_END))),
+    (b"0\r\n\n", Some((4, BAD_END))),
+    (b"0\r\nA\n", Some((5, BAD_END))),
+    (b"0\r\nA\rX", Some((6, BAD_END))),
+    (b"0\r\n\rX", Some((5, BAD_END))),
+];
 
 #[test]
-fn lines_break_at_their_byte(rt: HostRuntime) {
-    let bad = ChunkOut::Fault(FrameFault::BadChunkLine);
-    let large = ChunkOut::Fault(FrameFault::ChunkTooLarge);
-    assert_eq!(rt; first_end(b"g"), Some((1, bad)));
-    assert_eq!(rt; first_end(b"1\n"), Some((2, bad)));
-    assert_eq!(rt; first_end(b"\r"), Some((1, bad)));
-    assert_eq!(rt; first_end(b";"), Some((1, bad)));
-    assert_eq!(rt; first_end(b"1\rX"), Some((3, bad)));
-    assert_eq!(rt; first_end(b"1;\x7f"), Some((3, bad)));
-    assert_eq!(rt; first_end(b"1;\n"), Some((3, bad)));
-    assert_eq!(rt; first_end(b"10000000000000000"), Some((17, large)));
-    assert_eq!(rt; first_end(b"fffffffffffffffff"), Some((17, large)));
-    assert_eq!(rt; first_end(b"0ffffffffffffffff\r\n"), None);
+fn bodies_end_and_break_at_their_byte(rt: HostRuntime) {
+    for (body, end) in ENDS {
+        assert_eq!(rt; first_end(body), end, "{body:?}");
+    }
 }
 
-#[test]
-fn ends_break_at_their_byte(rt: HostRuntime) {
-    let bad = ChunkOut::Fault(FrameFault::BadChunkEnd);
-    assert_eq!(rt; first_end(b"1\r\n2X"), Some((5, bad)));
-    assert_eq!(rt; first_end(b"1\r\n2\rX"), Some((6, bad)));
-    assert_eq!(rt; first_end(b"0\r\n\n"), Some((4, bad)));
-    assert_eq!(rt; first_end(b"0\r\nA\n"), Some((5, bad)));
-    assert_eq!(rt; first_end(b"0\r\nA\rX"), Some((6, bad)));
-    assert_eq!(rt; first_end(b"0\r\n\rX"), Some((5, bad)));
-}
+// Fronts of bodies, and how many bytes of data come next.
+const ROOMS: [(&[u8], u64); 5] = [
+    (b"14 ;x\r\n", 20),
+    (b"aF\t\r\n", 175),
+    (b"ffffffffffffffff\r\n", u64::MAX),
+    (b"3\r\n45", 1),
+    (b"3\r\n456", 0),
+];
 
 #[test]
-fn lines_have_a_limit(rt: HostRuntime) -> Result<(), Fail> {
-    let alloc = rt.alloc();
-    let long = ChunkOut::Fault(FrameFault::ChunkLineTooLong);
-    let extension = [b"1;".as_slice(), &[b'a'; 255]].concat(alloc)?;
-    assert_eq!(rt; first_end(&extension), Some((257, long)));
-    let whole = [b"1;".as_slice(), &[b'a'; 254], b"\r\n"].concat(alloc)?;
-    assert_eq!(rt; first_end(&whole), None);
-    assert_eq!(rt; room_behind(&whole), 1);
-    assert_eq!(rt; first_end(&[b'0'; 257]), Some((257, long)));
-    let zeros = [[b'0'; 256].as_slice(), b"\r\n\r\n"].concat(alloc)?;
-    assert_eq!(rt; first_end(&zeros), Some((260, ChunkOut::Closed)));
+fn chunks_have_room_for_their_data(rt: HostRuntime) {
+    for (front, room) in ROOMS {
+        assert_eq!(rt; room_behind(front), room, "{front:?}");
+    }
+}
+
+// Long bodies in parts, about the limits of lines and trailers; the answer that ends each; and how many bytes of data come next.
+const LONG: [(&[&[u8]], Option<(usize, ChunkOut)>, u64); 9] = [
+    (&[b"1;", &[b'a'; 255]], Some((257, LONG_LINE)), 0),
+    (&[b"1;", &[b'a'; 254], b"\r\n"], None, 1),
+    (&[&[b'0'; 257]], Some((257, LONG_LINE)), 0),
+    (&[&[b'0'; 256], b"\r\n\r\n"], Some((260, CLOSED)), 0),
+    (&[b"0\r\n", &[b'a'; 4097]], Some((4100, LONG_TRAILERS)), 0),
+    (
+        &[b"0\r\n", &[b'a'; 4094], b"\r\n\r\n"],
+        Some((4101, CLOSED)),
+        0,
+    ),
+    (
+        &[b"0\r\n", &[b'a'; 2046], b"\r\n", &[b'b'; 2046], b"\r\n\r\n"],
+        Some((4101, CLOSED)),
+        0,
+    ),
+    (
+        &[b"0\r\n", &[b'a'; 2046], b"\r\n", &[b'b'; 2046], b"\r\nc"],
+        Some((4100, LONG_TRAILERS)),
+        0,
+    ),
+    (
+        &[b"0\r\n", &[b'a'; 4095], b"\r\n"],
+        Some((4100, LONG_TRAILERS)),
+        0,
+    ),
+];
+
+#[test]
+fn lines_and_trailers_have_a_limit(rt: HostRuntime) -> Result<(), AllocError> {
+    for (parts, end, room) in LONG {
+        let body = parts.concat(rt.alloc())?;
+        assert_eq!(rt; (first_end(&body), room_behind(&body)), (end, room));
+    }
     Ok(())
 }
 
-#[test]
-fn trailers_have_a_limit(rt: HostRuntime) -> Result<(), Fail> {
-    let alloc = rt.alloc();
-    let long = ChunkOut::Fault(FrameFault::TrailersTooLong);
-    let begun = [b"0\r\n".as_slice(), &[b'a'; 4097]].concat(alloc)?;
-    assert_eq!(rt; first_end(&begun), Some((4100, long)));
-    let whole = [b"0\r\n".as_slice(), &[b'a'; 4094], b"\r\n\r\n"].concat(alloc)?;
-    assert_eq!(rt; first_end(&whole), Some((4101, ChunkOut::Closed)));
-    let two = [
-        b"0\r\n".as_slice(),
-        &[b'a'; 2046],
-        b"\r\n",
-        &[b'b'; 2046],
-        b"\r\n\r\n",
-    ]
-    .concat(alloc)?;
-    assert_eq!(rt; first_end(&two), Some((4101, ChunkOut::Closed)));
-    let third = [
-        b"0\r\n".as_slice(),
-        &[b'a'; 2046],
-        b"\r\n",
-        &[b'b'; 2046],
-        b"\r\nc",
-    ]
-    .concat(alloc)?;
-    assert_eq!(rt; first_end(&third), Some((4100, long)));
-    let return_only = [b"0\r\n".as_slice(), &[b'a'; 4095], b"\r\n"].concat(alloc)?;
-    assert_eq!(rt; first_end(&return_only), Some((4100, long)));
-    Ok(())
+// The answer to each byte.
+fn steps<const N: usize>(state: &mut ChunkState, bytes: &[u8; N]) -> [ChunkOut; N] {
+    let mut outs = [ChunkOut::Quiet; N];
+    for (at, byte) in bytes.iter().enumerate() {
+        outs[at] = state.step(*byte);
+    }
+    outs
 }
 
 #[test]
 fn an_end_is_answered_again(rt: HostRuntime) {
-    let bad = ChunkOut::Fault(FrameFault::BadChunkLine);
     let mut broken = ChunkState::new();
-    assert_eq!(rt; broken.step(b'g'), bad);
-    assert_eq!(rt; broken.step(b'1'), bad);
-    assert_eq!(rt; broken.step(b'\r'), bad);
+    assert_eq!(rt; steps(&mut broken, b"g1\r"), [BAD_LINE; 3]);
     assert_eq!(rt; broken.room(), 0);
     let mut closed = ChunkState::new();
-    for byte in b"0\r\n\r" {
-        assert_eq!(rt; closed.step(*byte), ChunkOut::Quiet);
-    }
-    for byte in b"\n1\r\nx" {
-        assert_eq!(rt; closed.step(*byte), ChunkOut::Closed);
-    }
+    assert_eq!(rt; steps(&mut closed, b"0\r\n\r"), [ChunkOut::Quiet; 4]);
+    assert_eq!(rt; steps(&mut closed, b"\n1\r\nx"), [CLOSED; 5]);
     assert_eq!(rt; closed.room(), 0);
 }
 
+// A chunk of five bytes, and two chunks' ends: a run of data at once is as many steps.
 #[test]
 fn data_of_chunks_passes_in_runs(rt: HostRuntime) {
     let mut run = ChunkState::new();
     run.pass(0);
-    for byte in b"5\r\n" {
-        assert_eq!(rt; run.step(*byte), ChunkOut::Quiet);
-    }
-    let mut steps = run;
-    for byte in b"\r\n0" {
-        assert_eq!(rt; steps.step(*byte), ChunkOut::Byte);
-    }
-    assert_eq!(rt; run.room(), 5);
+    assert_eq!(rt; steps(&mut run, b"5\r\n"), [ChunkOut::Quiet; 3]);
+    let mut stepped = run;
+    assert_eq!(rt; steps(&mut stepped, b"\r\n0"), [ChunkOut::Byte; 3]);
     run.pass(3);
-    assert_eq!(rt; run.room(), 2);
-    assert_eq!(rt; steps.room(), 2);
-    for byte in b"de" {
-        assert_eq!(rt; run.step(*byte), ChunkOut::Byte);
-    }
-    steps.pass(2);
-    for byte in b"\r\n0\r\n\r" {
-        assert_eq!(rt; run.step(*byte), ChunkOut::Quiet);
-        assert_eq!(rt; steps.step(*byte), ChunkOut::Quiet);
-    }
-    assert_eq!(rt; run.step(b'\n'), ChunkOut::Closed);
-    assert_eq!(rt; steps.step(b'\n'), ChunkOut::Closed);
+    assert_eq!(rt; (run.room(), stepped.room()), (2, 2));
+    assert_eq!(rt; steps(&mut run, b"de"), [ChunkOut::Byte; 2]);
+    stepped.pass(2);
+    let quiet = [ChunkOut::Quiet; 6];
+    assert_eq!(rt;
+        (
+            steps(&mut run, b"\r\n0\r\n\r"),
+            steps(&mut stepped, b"\r\n0\r\n\r")
+        ),
+        (quiet, quiet)
+    );
+    assert_eq!(rt; (run.step(b'\n'), stepped.step(b'\n')), (CLOSED, CLOSED));
 }
 
 // The bytes of the body that the pieces hold, and the answer that ends it with how many bytes had been taken then; runs of
