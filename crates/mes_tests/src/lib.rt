@@ -1,4 +1,4 @@
-//! Tests of framing, messages and streams by the public calls of their crates: worked examples, rows of the formats, and streams that are cut, break off and fail.
+//! Tests of framing, messages, streams and subcommands by the public calls of their crates: worked examples, rows of the formats, and streams that are cut, break off and fail.
 #![tactic(auto)]
 
 #[cfg(test)]
@@ -9,6 +9,8 @@ mod model;
 mod msg;
 #[cfg(test)]
 mod part;
+#[cfg(test)]
+mod run;
 #[cfg(test)]
 mod stream;
 #[cfg(test)]

@@ -1,9 +1,10 @@
 -- What became of words that name no options.
 use Rattle.std.proofs.Common.{ℕ, List, inl, inr, refl}
 use Rattle.clap.specs.Words.{Text}
+use Rattle.mes_run.specs.Printing.{Device}
 use Rattle.mesosev.specs.NamedOptions.{RefusesWords}
-use Rattle.mesosev.specs.Printing.{Device, Tells}
 use Rattle.mesosev.specs.Running.{Runs}
+use Rattle.mesosev.specs.Telling.{Tells}
 use Rattle.mesosev.specs.declared.words.WordsFault.{WordsFault}
 use Rattle.mesosev.specs.declared.words.WordsFault.TheVariants.{Clap, BadValue, NoMemory}
 

@@ -1,10 +1,6 @@
 mod CommandLemmas
-mod ConvertLemmas
-mod FewEvents
-mod FollowReads
 mod LimitLemmas
 mod OptionLemmas
 mod PlainOptions
 mod PlainWords
 mod SaidLemmas
-mod ShowLemmas

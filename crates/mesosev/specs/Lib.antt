@@ -1,6 +1,4 @@
 pub mod CommandLine
 pub mod NamedOptions
-pub mod Printing
-pub mod Converting
-pub mod Showing
+pub mod Telling
 pub mod Running

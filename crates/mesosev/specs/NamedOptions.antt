@@ -12,7 +12,7 @@ use Rattle.mesosev.specs.declared.words.Options.TheVariants.{Check, Show, Conver
 use Rattle.mesosev.specs.declared.words.WordsFault.{WordsFault}
 use Rattle.mesosev.specs.declared.words.WordsFault.TheVariants.{Clap, BadValue, NoMemory}
 use Rattle.mesosev.specs.declared.words.TheConstants.{LIMIT_DEFAULT, LIMIT_LEAST, LIMIT_MOST}
-use Rattle.mesosev.specs.declared.chunk_size.TheConstants.{CHUNK_LEAST, CHUNK_MOST}
+use Rattle.mes_run.specs.declared.chunk_size.TheConstants.{CHUNK_LEAST, CHUNK_MOST}
 
 -- the text is the number in decimal digits, after a `+` or without one
 abbrev pub Writes : Text → ℕ → Type 0

@@ -2,11 +2,12 @@
 use Rattle.std.specs.Prelude.{◌≡◌, ◌⊎◌, ℕ, List, []}
 use Rattle.clap.specs.Words.{Text, IsAmong, fault_of, kind_of}
 use Rattle.clap.specs.declared.error.Error.{Error}
+use Rattle.mes_run.specs.Converting.{Converts}
+use Rattle.mes_run.specs.Printing.{Device, Prints, Checks, LacksMemory}
+use Rattle.mes_run.specs.Showing.{Shows}
 use Rattle.mesosev.specs.CommandLine.{command_app}
 use Rattle.mesosev.specs.NamedOptions.{IsInRange, NameOptions, NameNoOptions}
-use Rattle.mesosev.specs.Converting.{Converts}
-use Rattle.mesosev.specs.Printing.{Device, Prints, Checks, LacksMemory, TellsError}
-use Rattle.mesosev.specs.Showing.{Shows}
+use Rattle.mesosev.specs.Telling.{TellsError}
 use Rattle.mesosev.specs.declared.words.Options.{Options}
 use Rattle.mesosev.specs.declared.words.Options.TheVariants.{Check, Show, Convert}
 

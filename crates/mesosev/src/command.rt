@@ -6,9 +6,9 @@ ghost use Rattle.clap.specs.declared.builder.command.Command.TheViews.{out-Comma
 ghost use Rattle.mesosev.specs.CommandLine.{bare_app, chunked_rule, limit_rule, most_rule};
 ghost use Rattle.mesosev.specs.CommandLine.{check_app, show_app, convert_app, command_app};
 
-use crate::chunk_size::{CHUNK_LEAST, CHUNK_MOST};
 use crate::words::{LIMIT_DEFAULT, LIMIT_LEAST, LIMIT_MOST, VERSION};
 use clap::{Arg, ArgAction, ArgMatches, Command, Error};
+use mes_run::{CHUNK_LEAST, CHUNK_MOST};
 use std::alloc::{AllocError, Global};
 use std::convert::AsStr;
 

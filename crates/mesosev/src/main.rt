@@ -1,19 +1,16 @@
 //! `mesosev` reads and writes the event stream of the Apache Mesos v1 scheduler API.
 #![tactic(auto)]
 
-mod chunk_size;
 mod command;
-mod convert;
-mod follow;
 mod options;
-mod print;
 mod run;
 #[cfg(test)]
 mod tests;
 mod words;
 
 use mes_frame::FromStd;
-use run::{BAD_WORDS, out_of_memory, run};
+use mes_run::out_of_memory;
+use run::{BAD_WORDS, run};
 use std::env;
 use std::io::{BufReader, ErrorKind};
 use std::process::ExitCode;

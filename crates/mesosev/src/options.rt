@@ -8,11 +8,11 @@ ghost use Rattle.mesosev.specs.NamedOptions.{IsInRange, IsLimit, IsMost, NameOpt
 ghost use Rattle.mesosev.specs.NamedOptions.{RefusesWords, SayPlainly};
 ghost use Rattle.mesosev.specs.declared.words.Options.{Options};
 
-use crate::chunk_size::ChunkSize;
 use crate::command::matches_of;
 use crate::words::{Options, WordsFault};
 use clap::ArgMatches;
 use mes_frame::Limit;
+use mes_run::ChunkSize;
 use mes_stream::Framing;
 use std::alloc::Global;
 use std::convert::AsStr;

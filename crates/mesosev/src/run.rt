@@ -1,27 +1,24 @@
 //! The command: its words, its input, and what it prints.
 
 ghost use Rattle.std.specs.Prelude.{◌≡◌, codes, ◌⊎◌, map};
+ghost use Rattle.mes_run.specs.Printing.{LacksMemory};
 ghost use Rattle.mesosev.specs.NamedOptions.{SayPlainly, IsInRange};
-ghost use Rattle.mesosev.specs.Printing.{LacksMemory, Tells, TellsError};
 ghost use Rattle.mesosev.specs.Running.{Performs, Runs};
+ghost use Rattle.mesosev.specs.Telling.{Tells, TellsError};
 ghost use Rattle.mesosev.specs.declared.words.Options.{Options as OptionsValue};
 
-use crate::chunk_size::{CHUNK_LEAST, CHUNK_MOST};
-use crate::convert::convert;
-use crate::follow::{Detail, follow};
 use crate::options::options;
-use crate::print::{GOOD, print_fault, put};
 use crate::words::{LIMIT_DEFAULT, LIMIT_LEAST, LIMIT_MOST, Options, WordsFault};
 use mes_frame::{Sink, Source};
-use mes_stream::{Fault, READ_MOST};
+use mes_run::{
+    CHUNK_LEAST, CHUNK_MOST, Detail, GOOD, READS_MOST, convert, follow, out_of_memory, print_text,
+};
+use mes_stream::READ_MOST;
 use std::alloc::{AllocGlobal, Global};
 use std::convert::AsStr;
 
 /// The status of bad words.
 pub(crate) const BAD_WORDS: u8 = 2;
-
-/// The most reads of standard input.
-pub const READS_MOST: u64 = 4_294_967_296;
 
 /// Runs the command and answers its exit status: 0 for a good run, 1 for a fault that was told in a line, or where an
 /// output failed, 2 for bad words. The first word is the program's name.
@@ -97,7 +94,7 @@ fn tell<O: Sink, E: Sink>(alloc: Global, fault: &WordsFault, out: &mut O, err: &
     match fault {
         WordsFault::Clap(error) => tell_error(alloc, error, out, err),
         WordsFault::BadValue(name) => match format!(in alloc; "bad value --{name}\n") {
-            Ok(text) => put(err, text.as_str(), BAD_WORDS),
+            Ok(text) => print_text(err, text.as_str(), BAD_WORDS),
             Err(_) => out_of_memory(out),
         },
         WordsFault::NoMemory => out_of_memory(out),
@@ -117,15 +114,8 @@ fn tell_error<O: Sink, E: Sink>(alloc: Global, error: &clap::Error, out: &mut O,
         return out_of_memory(out);
     };
     if error.use_stderr() {
-        put(err, text.as_str(), BAD_WORDS)
+        print_text(err, text.as_str(), BAD_WORDS)
     } else {
-        put(out, text.as_str(), GOOD)
+        print_text(out, text.as_str(), GOOD)
     }
-}
-
-/// Tells that memory was refused before any byte was read.
-pub(crate) fn out_of_memory<O: Sink>(out: &mut O) -> u8
-    ensures { LacksMemory (record { bytes = O.written out.old; counts = O.counts out.old }) (record { bytes = O.written out.new; counts = O.counts out.new }) result }
-{
-    print_fault(out, &Fault::NoMemory, 0)
 }

@@ -1,14 +1,12 @@
 //! The words of the command, as a user writes them.
 
-mod convert;
 mod devices;
 mod run;
-mod show;
 
-use crate::chunk_size::ChunkSize;
 use crate::options::options;
 use crate::words::{Options, WordsFault};
 use mes_frame::Limit;
+use mes_run::ChunkSize;
 use mes_stream::Framing;
 use std::test::Fail;
 

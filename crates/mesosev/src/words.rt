@@ -1,9 +1,9 @@
 //! What the words of the command name, and why words are refused.
 ghost use Rattle.mesosev.specs.NamedOptions.{IsFaultOf};
 
-use crate::chunk_size::ChunkSize;
 use clap::error::ErrorKind;
 use mes_frame::Limit;
+use mes_run::ChunkSize;
 use mes_stream::Framing;
 use thiserror::Error;
 

@@ -9,6 +9,10 @@ use std::test::Fail;
 /// A record of 20 bytes, 23 with its size line.
 pub(super) const HEARTBEAT: &str = "20\n{\"type\":\"HEARTBEAT\"}";
 
+/// The record in chunks of 7 bytes, 48 bytes with the last chunk.
+pub(super) const HEARTBEAT_BY_SEVEN: &str =
+    "7\r\n20\n{\"ty\r\n7\r\npe\":\"HE\r\n7\r\nARTBEAT\r\n2\r\n\"}\r\n0\r\n\r\n";
+
 /// How many bytes the reader gives by one call, and the writer takes.
 const READ_SIZES: [usize; 3] = [1, 7, 4096];
 

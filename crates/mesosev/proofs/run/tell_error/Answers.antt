@@ -7,7 +7,7 @@ returns g c =
       c.as_str-else-use_stderr.result.now,
       inr (
         λ mistake. let shown : c.use_stderr.result ≡ true = c.use_stderr.ensures.1 mistake in let hidden = c.if-use_stderr.false in absurd (cc),
-        c.put-else-use_stderr.ensures,
+        c.print_text-else-use_stderr.ensures,
         refl,
       ),
     )

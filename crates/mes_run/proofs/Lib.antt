@@ -1,0 +1,4 @@
+mod ConvertLemmas
+mod FewEvents
+mod FollowReads
+mod ShowLemmas

@@ -1,0 +1,26 @@
+-- What is told where words name no options.
+use Rattle.std.specs.Prelude.{◌≡◌, ◌≢◌, ℕ, ◌⊎◌, List}
+use Rattle.clap.specs.Words.{kind_of}
+use Rattle.clap.specs.declared.error.Error.{Error}
+use Rattle.clap.specs.declared.error.kind.ErrorKind.TheVariants.{DisplayHelp, DisplayVersion}
+use Rattle.mes_run.specs.Printing.{Device, Prints, LacksMemory}
+use Rattle.mesosev.specs.declared.words.WordsFault.{WordsFault}
+use Rattle.mesosev.specs.declared.words.WordsFault.TheVariants.{Clap, BadValue, NoMemory}
+
+-- the error is a mistake in the words, and no request for help
+abbrev pub IsMistake : Error → Type 0
+IsMistake error = (kind_of error ≢ DisplayHelp) × (kind_of error ≢ DisplayVersion)
+
+-- an error of clap was told: a mistake on standard error with status 2, help on standard output with status 0
+abbrev pub TellsError : Error → Device → Device → Device → Device → ℕ → Type 0
+TellsError error out printed err told status =
+    (text : List ℕ) × ((IsMistake error × Prints err told text 2 status × (printed ≡ out))
+    ⊎ (¬ (IsMistake error) × Prints out printed text 0 status × (told ≡ err)))
+
+-- why the words name no options, told
+abbrev pub Tells : WordsFault → Device → Device → Device → Device → ℕ → Type 0
+Tells (Clap error) out printed err told status =
+    TellsError error out printed err told status ⊎ (LacksMemory out printed status × (told ≡ err))
+Tells (BadValue option) out printed err told status =
+    ((text : List ℕ) × Prints err told text 2 status × (printed ≡ out)) ⊎ (LacksMemory out printed status × (told ≡ err))
+Tells NoMemory out printed err told status = LacksMemory out printed status × (told ≡ err)
