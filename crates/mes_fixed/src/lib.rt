@@ -17,4 +17,3 @@ pub use fixed_point::{Fixed, Micros, Thousandths};
 pub use laws::{automaton_reads_numbers, number_limits};
 pub use limits::{TEXT_LIMIT, UNITS_LIMIT};
 pub use whole::{read_i32, read_u64};
-
