@@ -110,11 +110,11 @@ const LEFT_OUT: [(&str, FieldWhy); 5] = [
 /// Objects without it.
 const NOT_THERE: [&str; 3] = ["{}", "{\"x\":null}", "{\"y\":{},\"y\":{}}"];
 
-/// What is wrong with a member `x` that is left out.
-fn left_out_fault(alloc: Global, text: &str) -> Result<Option<FieldFault>, Fail> {
+/// The answer to a member `x` that is left out.
+fn read_left_out(alloc: Global, text: &str) -> Result<Result<(), PartFault>, Fail> {
     let tape = read_tape(alloc, text.as_bytes())?;
-    match find_rows(&tape.root(), &["x"], &Path::new()) {
-        Ok(rows) => Ok(left_out(rows.at(0), "x", &Path::new()).err()),
+    match find_rows(alloc, &tape.root(), &["x"], &Path::new()) {
+        Ok(rows) => Ok(left_out(alloc, rows.at(0), "x", &Path::new())),
         Err(_) => Err("an object")?,
     }
 }
@@ -134,7 +134,7 @@ fn read_either(alloc: Global, text: &str) -> Result<Result<List<Label>, PartFaul
 /// The fault of an answer that tells one.
 fn fault_of<T: Drop>(answer: Result<T, PartFault>) -> Option<FieldFault> {
     match answer.err()? {
-        PartFault::Field(fault) => Some(fault),
+        PartFault::Field(fault) => Some(fault.into_fault()),
         PartFault::NoMemory => None,
     }
 }
@@ -193,10 +193,10 @@ fn lists_are_read_in_either_form(rt: HostRuntime) -> Result<(), Fail> {
 #[test]
 fn what_is_left_out_is_refused(rt: HostRuntime) -> Result<(), Fail> {
     for (text, why) in LEFT_OUT {
-        expect_fault(&rt, left_out_fault(rt.alloc(), text)?, "x", why);
+        expect_fault(&rt, fault_of(read_left_out(rt.alloc(), text)?), "x", why);
     }
     for text in NOT_THERE {
-        assert!(rt; left_out_fault(rt.alloc(), text)?.is_none(), "{text}");
+        assert!(rt; read_left_out(rt.alloc(), text)?.is_ok(), "{text}");
     }
     Ok(())
 }
