@@ -47,7 +47,7 @@ fn read<T: Part>(alloc: Global, text: &str) -> Result<Result<T, PartFault>, Fail
 /// The fault of an answer that tells one.
 fn fault_of<T: Part>(answer: Result<T, PartFault>) -> Option<FieldFault> {
     match answer.err()? {
-        PartFault::Field(fault) => Some(fault),
+        PartFault::Field(fault) => Some(fault.into_fault()),
         PartFault::NoMemory => None,
     }
 }
