@@ -1,11 +1,10 @@
 -- The state that a tree is, by the text that its place shows.
 use Rattle.std.proofs.Common.{◌≡◌, ℕ, List, refl}
-use Rattle.std.specs.Prelude.{Ok, Err}
+use Rattle.std.specs.Prelude.{Ok}
 use Rattle.mes_json.specs.Tree.{Tree}
 use Rattle.mes_part.specs.Paths.{Place}
 use Rattle.mes_part.specs.Fields.{fault}
 use Rattle.mes_part.specs.Leaves.{text_of}
-use Rattle.mes_part.specs.declared.field.FieldFault.{FieldFault}
 use Rattle.mes_part.specs.declared.field.FieldWhy.TheVariants.{UnknownName}
 use Rattle.mes_model.specs.TaskStates.{state_name, states, state_found, state_none}
 use Rattle.mes_model.specs.declared.task_state.TaskState.{TaskState}
@@ -19,7 +18,3 @@ pub states_unknown : (at : List Place) (t : Tree) (name : List ℕ) → text_of 
     → states.read at t ≡ fault at UnknownName
 unfolding states
 states_unknown at t name text none = rw (text, state_none name none) refl
-
-pub states_no_text : (at : List Place) (t : Tree) (f : FieldFault) → text_of at t ≡ Err f → states.read at t ≡ Err f
-unfolding states
-states_no_text at t f text = rw text refl

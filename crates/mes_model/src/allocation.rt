@@ -27,7 +27,7 @@ impl Part for Allocation {
         element: &Element<'_>,
         path: &Path,
     ) -> Result<Allocation, PartFault> {
-        let rows = find_rows(element, &["role"], path)?;
+        let rows = find_rows(alloc, element, &["role"], path)?;
         let role = optional(alloc, rows.at(0), "role", path)?;
         Ok(Allocation { role })
     }

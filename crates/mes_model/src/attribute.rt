@@ -14,8 +14,8 @@ use crate::text_value::TextValue;
 use crate::value::{Ranges, Scalar, Set};
 use mes_json::{Element, Json, NoMemory, Text};
 use mes_part::{
-    FieldWhy, Found, Part, PartFault, Path, find_rows, put, put_type, required, type_fault,
-    type_of, whole_object,
+    FieldWhy, Found, Part, PartFault, Path, find_rows, put, put_type, required, type_of,
+    type_refusal, whole_object,
 };
 use std::alloc::Global;
 
@@ -48,12 +48,12 @@ impl AttributeValue {
             → IsFound ranges.now (values_named (codes "ranges") ms) → IsFound set.now (values_named (codes "set") ms)
             → IsFound text.now (values_named (codes "text") ms) → Gives (row_value attribute_value_rows path.now ms) result }
     {
-        match type_of(kind, path)? {
+        match type_of(alloc, kind, path)? {
             "SCALAR" => Ok(AttributeValue::Scalar(required(alloc, scalar, "scalar", path)?)),
             "RANGES" => Ok(AttributeValue::Ranges(required(alloc, ranges, "ranges", path)?)),
             "SET" => Ok(AttributeValue::Set(required(alloc, set, "set", path)?)),
             "TEXT" => Ok(AttributeValue::Text(required(alloc, text, "text", path)?)),
-            _ => Err(PartFault::Field(type_fault(path, FieldWhy::UnknownName))),
+            _ => Err(type_refusal(alloc, path, FieldWhy::UnknownName)),
         }
     }
 
@@ -121,6 +121,7 @@ impl Part for Attribute {
         path: &Path,
     ) -> Result<Attribute, PartFault> {
         let rows = find_rows(
+            alloc,
             element,
             &["name", "type", "scalar", "ranges", "set", "text"],
             path,

@@ -30,7 +30,7 @@ impl Part for Command {
     ghost lawful = { lawful_command };
 
     fn read_from(alloc: Global, element: &Element<'_>, path: &Path) -> Result<Command, PartFault> {
-        let rows = find_rows(element, &["value", "shell", "arguments"], path)?;
+        let rows = find_rows(alloc, element, &["value", "shell", "arguments"], path)?;
         let value = optional(alloc, rows.at(0), "value", path)?;
         let shell = optional(alloc, rows.at(1), "shell", path)?;
         let arguments = repeated(alloc, rows.at(2), "arguments", path)?;

@@ -24,7 +24,7 @@ impl Part for Filters {
     ghost lawful = { lawful_filters };
 
     fn read_from(alloc: Global, element: &Element<'_>, path: &Path) -> Result<Filters, PartFault> {
-        let rows = find_rows(element, &["refuse_seconds"], path)?;
+        let rows = find_rows(alloc, element, &["refuse_seconds"], path)?;
         let refuse_seconds = optional(alloc, rows.at(0), "refuse_seconds", path)?;
         Ok(Filters { refuse_seconds })
     }

@@ -32,7 +32,7 @@ impl Part for Capability {
         element: &Element<'_>,
         path: &Path,
     ) -> Result<Capability, PartFault> {
-        let rows = find_rows(element, &["type"], path)?;
+        let rows = find_rows(alloc, element, &["type"], path)?;
         let kind = optional(alloc, rows.at(0), "type", path)?;
         Ok(Capability { kind })
     }
@@ -90,6 +90,7 @@ impl Part for FrameworkInfo {
         path: &Path,
     ) -> Result<FrameworkInfo, PartFault> {
         let rows = find_rows(
+            alloc,
             element,
             &[
                 "user",

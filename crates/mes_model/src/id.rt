@@ -23,7 +23,7 @@ impl Part for Id {
     ghost lawful = { lawful_id };
 
     fn read_from(alloc: Global, element: &Element<'_>, path: &Path) -> Result<Id, PartFault> {
-        let rows = find_rows(element, &["value"], path)?;
+        let rows = find_rows(alloc, element, &["value"], path)?;
         let value = required(alloc, rows.at(0), "value", path)?;
         Ok(Id { value })
     }

@@ -45,6 +45,7 @@ impl Part for Offer {
 
     fn read_from(alloc: Global, element: &Element<'_>, path: &Path) -> Result<Offer, PartFault> {
         let rows = find_rows(
+            alloc,
             element,
             &[
                 "id",

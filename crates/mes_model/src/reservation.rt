@@ -35,7 +35,12 @@ impl Part for Reservation {
         element: &Element<'_>,
         path: &Path,
     ) -> Result<Reservation, PartFault> {
-        let rows = find_rows(element, &["type", "role", "principal", "labels"], path)?;
+        let rows = find_rows(
+            alloc,
+            element,
+            &["type", "role", "principal", "labels"],
+            path,
+        )?;
         let kind = optional(alloc, rows.at(0), "type", path)?;
         let role = optional(alloc, rows.at(1), "role", path)?;
         let principal = optional(alloc, rows.at(2), "principal", path)?;

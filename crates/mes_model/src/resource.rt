@@ -17,8 +17,8 @@ use crate::value::{Ranges, Scalar, Set};
 use mes_json::{Element, Json, NoMemory, Text};
 use mes_part::{
     FieldWhy, Found, Kept, List, Part, PartFault, Path, copy_list, copy_some, find_rows, flagged,
-    optional, put, put_flag, put_many, put_some, put_type, repeated, required, type_fault, type_of,
-    whole_object,
+    optional, put, put_flag, put_many, put_some, put_type, repeated, required, type_of,
+    type_refusal, whole_object,
 };
 use std::alloc::Global;
 
@@ -48,11 +48,11 @@ impl ResourceValue {
             → IsFound ranges.now (values_named (codes "ranges") ms) → IsFound set.now (values_named (codes "set") ms)
             → Gives (row_value resource_value_rows path.now ms) result }
     {
-        match type_of(kind, path)? {
+        match type_of(alloc, kind, path)? {
             "SCALAR" => Ok(ResourceValue::Scalar(required(alloc, scalar, "scalar", path)?)),
             "RANGES" => Ok(ResourceValue::Ranges(required(alloc, ranges, "ranges", path)?)),
             "SET" => Ok(ResourceValue::Set(required(alloc, set, "set", path)?)),
-            _ => Err(PartFault::Field(type_fault(path, FieldWhy::UnknownName))),
+            _ => Err(type_refusal(alloc, path, FieldWhy::UnknownName)),
         }
     }
 
@@ -143,7 +143,7 @@ impl Part for Resource {
     ghost lawful = { lawful_resource };
 
     fn read_from(alloc: Global, element: &Element<'_>, path: &Path) -> Result<Resource, PartFault> {
-        let rows = find_rows(element, &ROWS, path)?;
+        let rows = find_rows(alloc, element, &ROWS, path)?;
         let name = required(alloc, rows.at(0), "name", path)?;
         let value = ResourceValue::read_rows(
             alloc,
@@ -158,8 +158,8 @@ impl Part for Resource {
         let reservation = optional(alloc, rows.at(7), "reservation", path)?;
         let reservations = repeated(alloc, rows.at(8), "reservations", path)?;
         let disk = optional(alloc, rows.at(9), "disk", path)?;
-        let revocable = flagged(rows.at(10), "revocable", path)?;
-        let shared = flagged(rows.at(11), "shared", path)?;
+        let revocable = flagged(alloc, rows.at(10), "revocable", path)?;
+        let shared = flagged(alloc, rows.at(11), "shared", path)?;
         let provider_id = optional(alloc, rows.at(12), "provider_id", path)?;
         Ok(Resource {
             name,

@@ -40,6 +40,7 @@ impl Part for TaskInfo {
 
     fn read_from(alloc: Global, element: &Element<'_>, path: &Path) -> Result<TaskInfo, PartFault> {
         let rows = find_rows(
+            alloc,
             element,
             &[
                 "name",

@@ -28,7 +28,7 @@ impl Part for TaskRef {
     ghost lawful = { lawful_task_ref };
 
     fn read_from(alloc: Global, element: &Element<'_>, path: &Path) -> Result<TaskRef, PartFault> {
-        let rows = find_rows(element, &["task_id", "agent_id"], path)?;
+        let rows = find_rows(alloc, element, &["task_id", "agent_id"], path)?;
         let task_id = required(alloc, rows.at(0), "task_id", path)?;
         let agent_id = optional(alloc, rows.at(1), "agent_id", path)?;
         Ok(TaskRef { task_id, agent_id })

@@ -4,7 +4,7 @@ ghost use Rattle.std.specs.Prelude.{◌≡◌, IfSome, IfNone};
 ghost use Rattle.mes_model.specs.TaskStates.{state_name};
 
 use mes_json::{Element, Json, NoMemory, Text};
-use mes_part::{FieldWhy, Part, PartFault, Path, fault_at, text_in};
+use mes_part::{FieldWhy, Part, PartFault, Path, refusal_at, text_in};
 use std::alloc::Global;
 
 /// The state of a task.
@@ -100,14 +100,14 @@ impl Part for TaskState {
     ghost lawful = { lawful_states };
 
     fn read_from(
-        _alloc: Global,
+        alloc: Global,
         element: &Element<'_>,
         path: &Path,
     ) -> Result<TaskState, PartFault> {
-        let name = text_in(element, path)?;
+        let name = text_in(alloc, element, path)?;
         match TaskState::of_name(name) {
             Some(state) => Ok(state),
-            None => Err(PartFault::Field(fault_at(path, FieldWhy::UnknownName))),
+            None => Err(refusal_at(alloc, path, FieldWhy::UnknownName)),
         }
     }
 

@@ -100,7 +100,7 @@ impl Part for TaskStatus {
         element: &Element<'_>,
         path: &Path,
     ) -> Result<TaskStatus, PartFault> {
-        let rows = find_rows(element, &ROWS, path)?;
+        let rows = find_rows(alloc, element, &ROWS, path)?;
         let task_id = required(alloc, rows.at(0), "task_id", path)?;
         let state = required(alloc, rows.at(1), "state", path)?;
         let message = optional(alloc, rows.at(2), "message", path)?;

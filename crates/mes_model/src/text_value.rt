@@ -27,7 +27,7 @@ impl Part for TextValue {
         element: &Element<'_>,
         path: &Path,
     ) -> Result<TextValue, PartFault> {
-        let rows = find_rows(element, &["value"], path)?;
+        let rows = find_rows(alloc, element, &["value"], path)?;
         let value = required(alloc, rows.at(0), "value", path)?;
         Ok(TextValue { value })
     }

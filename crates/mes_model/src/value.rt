@@ -27,7 +27,7 @@ impl Part for Scalar {
     ghost lawful = { lawful_scalar };
 
     fn read_from(alloc: Global, element: &Element<'_>, path: &Path) -> Result<Scalar, PartFault> {
-        let rows = find_rows(element, &["value"], path)?;
+        let rows = find_rows(alloc, element, &["value"], path)?;
         let value = required(alloc, rows.at(0), "value", path)?;
         Ok(Scalar { value })
     }
@@ -65,7 +65,7 @@ impl Part for Range {
     ghost lawful = { lawful_range };
 
     fn read_from(alloc: Global, element: &Element<'_>, path: &Path) -> Result<Range, PartFault> {
-        let rows = find_rows(element, &["begin", "end"], path)?;
+        let rows = find_rows(alloc, element, &["begin", "end"], path)?;
         let first = required(alloc, rows.at(0), "begin", path)?;
         let last = required(alloc, rows.at(1), "end", path)?;
         Ok(Range { first, last })
@@ -106,7 +106,7 @@ impl Part for Ranges {
     ghost lawful = { lawful_ranges };
 
     fn read_from(alloc: Global, element: &Element<'_>, path: &Path) -> Result<Ranges, PartFault> {
-        let rows = find_rows(element, &["range"], path)?;
+        let rows = find_rows(alloc, element, &["range"], path)?;
         let range = repeated(alloc, rows.at(0), "range", path)?;
         Ok(Ranges { range })
     }
@@ -143,7 +143,7 @@ impl Part for Set {
     ghost lawful = { lawful_set };
 
     fn read_from(alloc: Global, element: &Element<'_>, path: &Path) -> Result<Set, PartFault> {
-        let rows = find_rows(element, &["item"], path)?;
+        let rows = find_rows(alloc, element, &["item"], path)?;
         let item = repeated(alloc, rows.at(0), "item", path)?;
         Ok(Set { item })
     }

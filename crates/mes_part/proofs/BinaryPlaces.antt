@@ -13,7 +13,6 @@ use Rattle.mes_part.specs.Leaves.{text_of}
 use Rattle.mes_part.specs.Binary.{base64_bytes}
 use Rattle.mes_part.specs.BinaryLaws.{lawful_base64_bytes, no_bytes_in}
 use Rattle.mes_part.specs.KindLaws.{text_is}
-use Rattle.mes_part.specs.declared.field.FieldFault.{FieldFault}
 use Rattle.mes_part.specs.declared.field.FieldWhy.TheVariants.{BadBase64}
 
 pub bytes_given : (at : List Place) (t : Tree) (text bytes : List ℕ) → text_of at t ≡ Ok text → text ≡ encode_of standard bytes → IsBytes bytes
@@ -27,7 +26,3 @@ unfolding base64_bytes
 bytes_refused at t text e f is fails failed =
     let err : decode_of standard text ≡ Err f = subst (IsDecodeFailure standard text) failed fails in
     rw (is, no_bytes_in standard refl text f err) refl
-
-pub bytes_no_text : (at : List Place) (t : Tree) (f : FieldFault) → text_of at t ≡ Err f → base64_bytes.read at t ≡ Err f
-unfolding base64_bytes
-bytes_no_text at t f is = rw is refl

@@ -1,6 +1,6 @@
 -- What the text of a number at a place says of the value that is read there; and that what is written is a number.
-use Rattle.std.proofs.Common.{◌≡◌, ℕ, ◌<◌, ◌^◌, List, refl, sym, subst}
-use Rattle.std.specs.Prelude.{Ok, Err, ℤ, FitsSigned, decimal}
+use Rattle.std.proofs.Common.{◌≡◌, ℕ, ◌<◌, ◌^◌, List, sym, subst}
+use Rattle.std.specs.Prelude.{Ok, ℤ, FitsSigned, decimal}
 use Rattle.std.specs.Fmt.{signed_decimal}
 use Rattle.std.specs.Int.{w32}
 use Rattle.mes_fixed.specs.declared.fault.NumFault.{NumFault}
@@ -14,7 +14,6 @@ use Rattle.mes_part.specs.Numbers.{whole, signed32, fixed}
 use Rattle.mes_part.specs.KindLaws.{number_is}
 use Rattle.mes_part.specs.NumberLaws.{lawful_whole, lawful_signed32, lawful_fixed, whole_refused, signed32_refused, fixed_refused}
 use Rattle.mes_part.specs.NumberBack.{whole_returns, signed32_returns}
-use Rattle.mes_part.specs.declared.field.FieldFault.{FieldFault}
 use Rattle.mes_part.specs.declared.field.FieldWhy.TheVariants.{NumberRange}
 
 -- ---- whole numbers of 64 bits
@@ -28,10 +27,6 @@ pub whole_out_of_range : (at : List Place) (t : Tree) (text : List ℕ) (f : Num
 whole_out_of_range at t text f is refused =
     subst (λ (u : Tree). whole.read at u ≡ fault at NumberRange) (sym (number_is at t text is)) (whole_refused at text f refused)
 
-pub whole_no_number : (at : List Place) (t : Tree) (f : FieldFault) → number_of at t ≡ Err f → whole.read at t ≡ Err f
-unfolding whole
-whole_no_number at t f is = rw is refl
-
 -- ---- whole numbers of 32 bits and a sign
 
 pub signed32_given : (at : List Place) (t : Tree) (text : List ℕ) (v : ℤ) → number_of at t ≡ Ok text → Reads GivesSigned text v → signed32.read at t ≡ Ok v
@@ -42,10 +37,6 @@ pub signed32_out_of_range : (at : List Place) (t : Tree) (text : List ℕ) (f : 
     → signed32.read at t ≡ fault at NumberRange
 signed32_out_of_range at t text f is refused =
     subst (λ (u : Tree). signed32.read at u ≡ fault at NumberRange) (sym (number_is at t text is)) (signed32_refused at text f refused)
-
-pub signed32_no_number : (at : List Place) (t : Tree) (f : FieldFault) → number_of at t ≡ Err f → signed32.read at t ≡ Err f
-unfolding signed32
-signed32_no_number at t f is = rw is refl
 
 -- ---- decimal numbers
 
@@ -58,10 +49,6 @@ pub fixed_out_of_range : (places : ℕ) (at : List Place) (t : Tree) (text : Lis
     → Refuses (LacksUnits places) text f → (fixed places).read at t ≡ fault at NumberRange
 fixed_out_of_range places at t text f is refused =
     subst (λ (u : Tree). (fixed places).read at u ≡ fault at NumberRange) (sym (number_is at t text is)) (fixed_refused places at text f refused)
-
-pub fixed_no_number : (places : ℕ) (at : List Place) (t : Tree) (f : FieldFault) → number_of at t ≡ Err f → (fixed places).read at t ≡ Err f
-unfolding fixed
-fixed_no_number places at t f is = rw is refl
 
 -- ---- what is written
 

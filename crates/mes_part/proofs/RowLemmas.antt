@@ -1,7 +1,7 @@
 -- A row, by the value that was found of its member.
 --     looked_value, looked_none            the look-up
 --     required_at, optional_at, repeated_at, flagged_at      the row, where a value is there
---     gives_bound                          a fault that a `?` hands on
+--     gives_bound, gives_same              a fault that a `?` hands on
 use Rattle.std.proofs.Common.{◌≡◌, ℕ, true, List, Some, refl, sym, ◌∙◌, ap, subst}
 use Rattle.std.specs.Prelude.{Result, Ok, Err}
 use Rattle.std.specs.Result.{IsErrAnd}
@@ -13,7 +13,7 @@ use Rattle.mes_part.specs.Kinds.{Kind, ◌>>=◌}
 use Rattle.mes_part.specs.Leaves.{members_at}
 use Rattle.mes_part.specs.Lists.{list_of}
 use Rattle.mes_part.specs.Rows.{must, required, likewise, optional, listed, repeated, is_there, flagged}
-use Rattle.mes_part.specs.FieldLaws.{after}
+use Rattle.mes_part.specs.FieldLaws.{after, bound_ok}
 use Rattle.mes_part.specs.FoundRows.{IsFound, IsSole}
 use Rattle.mes_part.specs.Parts.{Gives}
 use Rattle.mes_part.specs.declared.field.FieldFault.{FieldFault}
@@ -65,6 +65,11 @@ gives_bound {V} read go e (Err x) is fails = by_fault x (subst (λ (y : PartFaul
   by_fault : (x : PartFault) → Gives {V = V} read (Err x) → Gives (read >>= go) (Err x)
   by_fault (Field f) fails = rw fails refl
   by_fault NoMemory fails = tt
+
+-- the same, where nothing is read with it
+pub gives_same : {V : Type 0} (read : Result V FieldFault) (e : PartFault) (r : Result V PartFault) → IsErrAnd r (λ x. x ≡ e) → Gives {V = V} read (Err e) → Gives read r
+gives_same {V} read e r is fails =
+    subst (λ (x : Result V FieldFault). Gives x r) (bound_ok read) (gives_bound read (λ x. Ok x) e r is fails)
 
 -- ---- one row after the other
 

@@ -18,6 +18,7 @@ pub mod NumberBack
 pub mod MembersCode
 pub mod Objects
 pub mod Parts
+pub mod Refusals
 pub mod Written
 pub mod FoundRows
 pub mod Labels

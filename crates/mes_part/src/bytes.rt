@@ -7,9 +7,10 @@ ghost use Rattle.mes_part.specs.BinaryLaws.{lawful_base64_bytes};
 ghost use Rattle.mes_part.specs.Kinds.{Returns};
 
 use crate::field::FieldWhy;
-use crate::leaf::{fault_at, text_in};
+use crate::leaf::text_in;
 use crate::part::{Part, PartFault};
 use crate::path::Path;
+use crate::refusal::refusal_at;
 use base64::DecodeAllocError;
 use base64::engine::general_purpose::STANDARD;
 use mes_json::{Element, Json, NoMemory, Text};
@@ -79,11 +80,11 @@ impl Part for Bytes {
     ghost lawful = { lawful_base64_bytes };
 
     fn read_from(alloc: Global, element: &Element<'_>, path: &Path) -> Result<Bytes, PartFault> {
-        let text = text_in(element, path)?;
+        let text = text_in(alloc, element, path)?;
         match STANDARD.decode(alloc, text.as_bytes()) {
             Ok(octets) => Ok(Bytes::new(octets)),
             Err(DecodeAllocError::DecodeError(_)) => {
-                Err(PartFault::Field(fault_at(path, FieldWhy::BadBase64)))
+                Err(refusal_at(alloc, path, FieldWhy::BadBase64))
             }
             Err(DecodeAllocError::OutOfMemory) => Err(PartFault::NoMemory),
         }

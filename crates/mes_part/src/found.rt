@@ -6,12 +6,14 @@ ghost use Rattle.mes_json.specs.Tokens.{BeginsWith};
 ghost use Rattle.mes_part.specs.FoundRows.{noted, noted_if, FindsRows};
 ghost use Rattle.mes_part.specs.declared.found.Found.TheVariants.{Nothing};
 
-use crate::field::{FieldFault, FieldWhy};
-use crate::leaf::fault_at;
+use crate::field::FieldWhy;
+use crate::part::PartFault;
 use crate::path::Path;
+use crate::refusal::refusal_at;
 use crate::rows::{ROWS_MOST, Rows};
 use arrayvec::ArrayVec;
 use mes_json::Element;
+use std::alloc::Global;
 
 /// What an object has under a name.
 #[derive(Drop)]
@@ -49,15 +51,16 @@ impl<'a> Found<'a> {
 
 /// What the object at a place has under these names. Each member is looked at once.
 pub fn find_rows<'a>(
+    alloc: Global,
     element: &Element<'a>,
     names: &[&'static str],
     path: &Path,
-) -> Result<Rows<'a>, FieldFault>
+) -> Result<Rows<'a>, PartFault>
     requires few { length names.now ≤ ROWS_MOST }
     ensures { (t : Tree) → BeginsWith element.now t → FindsRows (map (λ n. n.now) names.now) path.now t result }
 {
     let Some(mut members) = element.members() else {
-        return Err(fault_at(path, FieldWhy::WrongKind));
+        return Err(refusal_at(alloc, path, FieldWhy::WrongKind));
     };
     let mut found: ArrayVec<Found<'a>, ROWS_MOST> = nothing_found();
     while let Some((name, value)) = members.next() {

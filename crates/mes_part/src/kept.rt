@@ -7,9 +7,9 @@ ghost use Rattle.mes_part.specs.Leaves.{objects};
 ghost use Rattle.mes_part.specs.KindLaws.{lawful_objects};
 
 use crate::field::FieldWhy;
-use crate::leaf::fault_at;
 use crate::part::{Part, PartFault};
 use crate::path::Path;
+use crate::refusal::refusal_at;
 use mes_json::{Element, Json, NoMemory};
 use std::alloc::Global;
 use std::marker::Model;
@@ -68,7 +68,7 @@ impl Part for Kept {
     fn read_from(alloc: Global, element: &Element<'_>, path: &Path) -> Result<Kept, PartFault> {
         match Kept::new(element.to_json(alloc)?) {
             Ok(kept) => Ok(kept),
-            Err(_) => Err(PartFault::Field(fault_at(path, FieldWhy::WrongKind))),
+            Err(_) => Err(refusal_at(alloc, path, FieldWhy::WrongKind)),
         }
     }
 

@@ -30,7 +30,7 @@ impl Part for Label {
     ghost lawful = { lawful_label };
 
     fn read_from(alloc: Global, element: &Element<'_>, path: &Path) -> Result<Label, PartFault> {
-        let rows = find_rows(element, &["key", "value"], path)?;
+        let rows = find_rows(alloc, element, &["key", "value"], path)?;
         let key = required(alloc, rows.at(0), "key", path)?;
         let value = optional(alloc, rows.at(1), "value", path)?;
         Ok(Label { key, value })
@@ -70,7 +70,7 @@ impl Part for Labels {
     ghost lawful = { lawful_labels };
 
     fn read_from(alloc: Global, element: &Element<'_>, path: &Path) -> Result<Labels, PartFault> {
-        let rows = find_rows(element, &["labels"], path)?;
+        let rows = find_rows(alloc, element, &["labels"], path)?;
         let labels = repeated(alloc, rows.at(0), "labels", path)?;
         Ok(Labels { labels })
     }

@@ -4,7 +4,6 @@ ghost use Rattle.std.specs.Prelude.{◌≡◌};
 ghost use Rattle.mes_part.specs.Leaves.{texts, booleans};
 ghost use Rattle.mes_part.specs.KindLaws.{lawful_texts, lawful_booleans};
 
-use crate::field::FieldFault;
 use crate::leaf::{boolean_in, text_in};
 use crate::part::{Part, PartFault};
 use crate::path::Path;
@@ -22,7 +21,7 @@ impl Part for Text {
 
     #[tactic(auto, unfolding(crate::specs::Leaves::texts))]
     fn read_from(alloc: Global, element: &Element<'_>, path: &Path) -> Result<Text, PartFault> {
-        let text = text_in(element, path)?;
+        let text = text_in(alloc, element, path)?;
         Ok(Text::new(String::from_str(alloc, text)?))
     }
 
@@ -46,8 +45,8 @@ impl Part for bool {
     ghost lawful = { lawful_booleans };
 
     #[tactic(auto, unfolding(crate::specs::Leaves::booleans))]
-    fn read_from(_alloc: Global, element: &Element<'_>, path: &Path) -> Result<bool, PartFault> {
-        Ok(boolean_in(element, path)?)
+    fn read_from(alloc: Global, element: &Element<'_>, path: &Path) -> Result<bool, PartFault> {
+        boolean_in(alloc, element, path)
     }
 
     #[tactic(auto, unfolding(crate::specs::Leaves::booleans))]

@@ -1,6 +1,7 @@
 #![tactic(auto)]
 //! The rows that messages are read and written by: paths into a JSON value, faults, and tables of fields.
 
+mod boxed_fault;
 mod bytes;
 mod calls;
 mod field;
@@ -14,9 +15,11 @@ mod numbers;
 mod part;
 mod path;
 mod read_row;
+mod refusal;
 mod rows;
 mod write_row;
 
+pub use boxed_fault::BoxedFault;
 pub use bytes::Bytes;
 pub use calls::{
     either_list_returned, list_returned, one_answer, one_either_list, one_list, read_part,
@@ -26,14 +29,14 @@ pub use field::{FieldFault, FieldWhy};
 pub use found::{Found, find_rows};
 pub use kept::Kept;
 pub use label::{Label, Labels};
-pub use leaf::{fault_at, text_in};
+pub use leaf::text_in;
 pub use list::List;
 pub use part::{Part, PartFault};
 pub use path::{PATH_TEXT_MOST, Path, STEPS_MOST, Step};
 pub use read_row::{
-    flagged, left_out, optional, read_either_list, read_list, repeated, required, type_fault,
-    type_of,
+    flagged, left_out, optional, read_either_list, read_list, repeated, required, type_of,
 };
+pub use refusal::{refusal_at, type_refusal};
 pub use rows::{ROWS_MOST, Rows};
 pub use write_row::{
     copy_list, copy_some, list_tree, put, put_flag, put_many, put_some, put_type, whole_object,

@@ -9,12 +9,13 @@ ghost use Rattle.mes_json.specs.View.{view};
 ghost use Rattle.mes_part.specs.Numbers.{whole, signed32, fixed};
 ghost use Rattle.mes_part.specs.NumberLaws.{lawful_whole, lawful_signed32, lawful_fixed};
 ghost use Rattle.mes_part.specs.Kinds.{Returns};
-ghost use Rattle.mes_part.specs.Parts.{Shows};
+ghost use Rattle.mes_part.specs.Parts.{Gives};
 
-use crate::field::{FieldFault, FieldWhy};
-use crate::leaf::{fault_at, number_in};
+use crate::field::FieldWhy;
+use crate::leaf::number_in;
 use crate::part::{Part, PartFault};
 use crate::path::Path;
+use crate::refusal::refusal_at;
 use arrayvec::ArrayString;
 use itoa::Buffer;
 use mes_fixed::{Fixed, read_i32, read_u64};
@@ -30,12 +31,12 @@ impl Part for u64 {
 
     ghost lawful = { lawful_whole };
 
-    #[tactic(auto, using(crate::proofs::NumberPlaces::whole_given, crate::proofs::NumberPlaces::whole_out_of_range, crate::proofs::NumberPlaces::whole_no_number))]
-    fn read_from(_alloc: Global, element: &Element<'_>, path: &Path) -> Result<u64, PartFault> {
-        let text = number_in(element, path)?;
+    #[tactic(auto, using(crate::proofs::NumberPlaces::whole_given, crate::proofs::NumberPlaces::whole_out_of_range))]
+    fn read_from(alloc: Global, element: &Element<'_>, path: &Path) -> Result<u64, PartFault> {
+        let text = number_in(alloc, element, path)?;
         match read_u64(text.as_bytes()) {
             Ok(whole) => Ok(whole),
-            Err(_) => Err(PartFault::Field(fault_at(path, FieldWhy::NumberRange))),
+            Err(_) => Err(refusal_at(alloc, path, FieldWhy::NumberRange)),
         }
     }
 
@@ -59,12 +60,12 @@ impl Part for i32 {
 
     ghost lawful = { lawful_signed32 };
 
-    #[tactic(auto, using(crate::proofs::NumberPlaces::signed32_given, crate::proofs::NumberPlaces::signed32_out_of_range, crate::proofs::NumberPlaces::signed32_no_number))]
-    fn read_from(_alloc: Global, element: &Element<'_>, path: &Path) -> Result<i32, PartFault> {
-        let text = number_in(element, path)?;
+    #[tactic(auto, using(crate::proofs::NumberPlaces::signed32_given, crate::proofs::NumberPlaces::signed32_out_of_range))]
+    fn read_from(alloc: Global, element: &Element<'_>, path: &Path) -> Result<i32, PartFault> {
+        let text = number_in(alloc, element, path)?;
         match read_i32(text.as_bytes()) {
             Ok(signed) => Ok(signed),
-            Err(_) => Err(PartFault::Field(fault_at(path, FieldWhy::NumberRange))),
+            Err(_) => Err(refusal_at(alloc, path, FieldWhy::NumberRange)),
         }
     }
 
@@ -86,12 +87,8 @@ impl Part for Fixed<3> {
 
     ghost lawful = { lawful_fixed 3 };
 
-    fn read_from(
-        _alloc: Global,
-        element: &Element<'_>,
-        path: &Path,
-    ) -> Result<Fixed<3>, PartFault> {
-        Ok(fixed_in(element, path)?)
+    fn read_from(alloc: Global, element: &Element<'_>, path: &Path) -> Result<Fixed<3>, PartFault> {
+        fixed_in(alloc, element, path)
     }
 
     #[tactic(auto, using(crate::specs::NumberBack::fixed_returns), unfolding(crate::specs::Numbers::fixed))]
@@ -113,12 +110,8 @@ impl Part for Fixed<6> {
 
     ghost lawful = { lawful_fixed 6 };
 
-    fn read_from(
-        _alloc: Global,
-        element: &Element<'_>,
-        path: &Path,
-    ) -> Result<Fixed<6>, PartFault> {
-        Ok(fixed_in(element, path)?)
+    fn read_from(alloc: Global, element: &Element<'_>, path: &Path) -> Result<Fixed<6>, PartFault> {
+        fixed_in(alloc, element, path)
     }
 
     #[tactic(auto, using(crate::specs::NumberBack::fixed_returns), unfolding(crate::specs::Numbers::fixed))]
@@ -132,16 +125,20 @@ impl Part for Fixed<6> {
 }
 
 /// The decimal number at a place.
-#[tactic(auto, using(crate::proofs::NumberPlaces::fixed_given, crate::proofs::NumberPlaces::fixed_out_of_range, crate::proofs::NumberPlaces::fixed_no_number))]
-fn fixed_in<const P: u32>(element: &Element<'_>, path: &Path) -> Result<Fixed<P>, FieldFault>
+#[tactic(auto, using(crate::proofs::NumberPlaces::fixed_given, crate::proofs::NumberPlaces::fixed_out_of_range))]
+fn fixed_in<const P: u32>(
+    alloc: Global,
+    element: &Element<'_>,
+    path: &Path,
+) -> Result<Fixed<P>, PartFault>
     requires { (1 ≤ P) × (P ≤ 6) }
-    ensures { (t : Tree) → BeginsWith element.now t → Shows (λ v. v) ((fixed P).read path.now t) result }
+    ensures { (t : Tree) → BeginsWith element.now t → Gives ((fixed P).read path.now t) result }
 {
-    let text = number_in(element, path)?;
-    match Fixed::read(text.as_bytes()) {
-        Ok(units) => Ok(units),
-        Err(_) => Err(fault_at(path, FieldWhy::NumberRange)),
-    }
+    let text = number_in(alloc, element, path)?;
+    let Ok(units) = Fixed::read(text.as_bytes()) else {
+        return Err(refusal_at(alloc, path, FieldWhy::NumberRange));
+    };
+    Ok(units)
 }
 
 /// What a whole number with its sign is written as.

@@ -6,9 +6,9 @@ ghost use Rattle.mes_json.specs.Tokens.{BeginsWith};
 ghost use Rattle.mes_json.specs.View.{view};
 ghost use Rattle.mes_part.specs.Kinds.{Kind, Lawful, Returns};
 ghost use Rattle.mes_part.specs.Parts.{Gives};
-ghost use Rattle.mes_part.specs.declared.part.PartFault.TheVariants.{Field as field, NoMemory as no_memory};
+ghost use Rattle.mes_part.specs.declared.part.PartFault.TheVariants.{NoMemory as no_memory};
 
-use crate::field::FieldFault;
+use crate::boxed_fault::BoxedFault;
 use crate::path::Path;
 use mes_json::{Element, Json, NoMemory, Tape};
 use std::alloc::{AllocError, AllocFailed, Global};
@@ -17,17 +17,9 @@ use std::alloc::{AllocError, AllocFailed, Global};
 #[derive(Debug, Drop)]
 pub enum PartFault {
     /// The tree is no such value.
-    Field(FieldFault),
+    Field(BoxedFault),
     /// A growth was refused memory.
     NoMemory,
-}
-
-impl From<FieldFault> for PartFault {
-    ghost from_gives = { λ f e. e ≡ field f };
-
-    fn from(fault: FieldFault) -> PartFault {
-        PartFault::Field(fault)
-    }
 }
 
 impl From<NoMemory> for PartFault {

@@ -13,12 +13,12 @@ ghost use Rattle.mes_part.specs.Choices.{type_name};
 ghost use Rattle.mes_part.specs.FoundRows.{IsFound, IsSole};
 ghost use Rattle.mes_part.specs.Parts.{Gives, Shows};
 
-use crate::field::{FieldFault, FieldWhy};
+use crate::field::FieldWhy;
 use crate::found::{Found, find_rows};
-use crate::leaf::fault_at;
 use crate::list::List;
 use crate::part::{Part, PartFault};
 use crate::path::{Path, Step};
+use crate::refusal::{refusal_at, row_refusal, type_refusal};
 use mes_json::Element;
 use std::alloc::Global;
 
@@ -36,8 +36,8 @@ pub fn required<T: Part>(
 {
     match sole_value(found) {
         Sole::Present(value) => T::read_from(alloc, &value, &path.with(Step::Name(name))),
-        Sole::Absent => Err(PartFault::Field(row_fault(path, name, FieldWhy::Missing))),
-        Sole::Repeated => Err(PartFault::Field(row_fault(path, name, FieldWhy::Twice))),
+        Sole::Absent => Err(row_refusal(alloc, path, name, FieldWhy::Missing)),
+        Sole::Repeated => Err(row_refusal(alloc, path, name, FieldWhy::Twice)),
     }
 }
 
@@ -59,7 +59,7 @@ pub fn optional<T: Part>(
             Ok(Some(value))
         }
         Sole::Absent => Ok(None),
-        Sole::Repeated => Err(PartFault::Field(row_fault(path, name, FieldWhy::Twice))),
+        Sole::Repeated => Err(row_refusal(alloc, path, name, FieldWhy::Twice)),
     }
 }
 
@@ -78,62 +78,45 @@ pub fn repeated<T: Part>(
     match sole_value(found) {
         Sole::Present(value) => read_list(alloc, &value, &path.with(Step::Name(name))),
         Sole::Absent => Ok(List::new(Vec::new(alloc))),
-        Sole::Repeated => Err(PartFault::Field(row_fault(path, name, FieldWhy::Twice))),
+        Sole::Repeated => Err(row_refusal(alloc, path, name, FieldWhy::Twice)),
     }
 }
 
 /// A flag, which is set where a member has the name and its value is an object.
 #[tactic(auto, unfolding(crate::specs::Rows::flagged, crate::specs::Fields::lookup))]
-pub fn flagged(found: &Found<'_>, name: &'static str, path: &Path) -> Result<bool, FieldFault>
+pub fn flagged(
+    alloc: Global,
+    found: &Found<'_>,
+    name: &'static str,
+    path: &Path,
+) -> Result<bool, PartFault>
     requires room { length path.now < 16 }
     requires step { IsPlace (Place.name name.now) }
-    ensures { (ms : Members) → IsFound found.now (values_named name.now ms) → Shows (λ x. x) (flagged name.now path.now ms) result }
+    ensures { (ms : Members) → IsFound found.now (values_named name.now ms) → Gives (flagged name.now path.now ms) result }
 {
     match sole_value(found) {
         Sole::Present(value) => match value.members() {
             Some(_) => Ok(true),
-            None => Err(row_fault(path, name, FieldWhy::WrongKind)),
+            None => Err(row_refusal(alloc, path, name, FieldWhy::WrongKind)),
         },
         Sole::Absent => Ok(false),
-        Sole::Repeated => Err(row_fault(path, name, FieldWhy::Twice)),
+        Sole::Repeated => Err(row_refusal(alloc, path, name, FieldWhy::Twice)),
     }
 }
 
 /// The row `type`, which says what other rows there are.
 #[tactic(auto, unfolding(crate::specs::Rows::required, crate::specs::Fields::lookup, crate::specs::Leaves::texts))]
-pub fn type_of<'a>(found: &Found<'a>, path: &Path) -> Result<&'a str, FieldFault>
+pub fn type_of<'a>(alloc: Global, found: &Found<'a>, path: &Path) -> Result<&'a str, PartFault>
     requires { length path.now < 16 }
     ensures { (ms : Members) → IsFound found.now (values_named type_name ms) → Shows (λ s. s.now) (required type_name texts path.now ms) result }
 {
     match sole_value(found) {
         Sole::Present(value) => match value.as_text() {
             Some(text) => Ok(text),
-            None => Err(type_fault(path, FieldWhy::WrongKind)),
+            None => Err(type_refusal(alloc, path, FieldWhy::WrongKind)),
         },
-        Sole::Absent => Err(type_fault(path, FieldWhy::Missing)),
-        Sole::Repeated => Err(type_fault(path, FieldWhy::Twice)),
-    }
-}
-
-/// What is wrong with the type of the object at this path.
-pub fn type_fault(path: &Path, why: FieldWhy) -> FieldFault
-    requires { length path.now < 16 }
-    ensures { result ≡ record { path = below path.now type_name; why = why } }
-{
-    row_fault(path, "type", why)
-}
-
-/// What is wrong with the row of this name, in the object at this path.
-#[cold]
-#[inline(never)]
-fn row_fault(path: &Path, name: &'static str, why: FieldWhy) -> FieldFault
-    requires room { length path.now < 16 }
-    requires step { IsPlace (Place.name name.now) }
-    ensures { result ≡ record { path = below path.now name.now; why = why } }
-{
-    FieldFault {
-        path: path.with(Step::Name(name)),
-        why,
+        Sole::Absent => Err(type_refusal(alloc, path, FieldWhy::Missing)),
+        Sole::Repeated => Err(type_refusal(alloc, path, FieldWhy::Twice)),
     }
 }
 
@@ -147,7 +130,7 @@ pub fn read_list<T: Part>(
     ensures { (t : Tree) → BeginsWith element.now t → Gives ((list_of T.kind).read path.now t) result }
 {
     let Some(mut items) = element.items() else {
-        return Err(PartFault::Field(fault_at(path, FieldWhy::WrongKind)));
+        return Err(refusal_at(alloc, path, FieldWhy::WrongKind));
     };
     let mut values = Vec::new(alloc);
     while let Some(item) = items.next() {
@@ -171,7 +154,7 @@ pub fn read_either_list<T: Part>(
     if element.items().is_some() {
         return read_list(alloc, element, path);
     }
-    let rows = find_rows(element, &[name], path)?;
+    let rows = find_rows(alloc, element, &[name], path)?;
     repeated(alloc, rows.at(0), name, path)
 }
 
@@ -187,15 +170,20 @@ enum Sole<'a> {
 
 /// A row of what is not supported: it may be absent or `null`, and any other value of it is `LeftOut`.
 #[tactic(auto, unfolding(crate::specs::Rows::optional, crate::specs::Fields::lookup, crate::specs::Leaves::left_out))]
-pub fn left_out(found: &Found<'_>, name: &'static str, path: &Path) -> Result<(), FieldFault>
+pub fn left_out(
+    alloc: Global,
+    found: &Found<'_>,
+    name: &'static str,
+    path: &Path,
+) -> Result<(), PartFault>
     requires room { length path.now < 16 }
     requires step { IsPlace (Place.name name.now) }
     ensures { (ms : Members) → IsFound found.now (values_named name.now ms) → Shows (λ _. None) (optional name.now left_out path.now ms) result }
 {
     match sole_value(found) {
-        Sole::Present(_) => Err(row_fault(path, name, FieldWhy::LeftOut)),
+        Sole::Present(_) => Err(row_refusal(alloc, path, name, FieldWhy::LeftOut)),
         Sole::Absent => Ok(()),
-        Sole::Repeated => Err(row_fault(path, name, FieldWhy::Twice)),
+        Sole::Repeated => Err(row_refusal(alloc, path, name, FieldWhy::Twice)),
     }
 }
 

@@ -31,7 +31,7 @@ pub(crate) fn heartbeat_by_bytes(alloc: Global) -> Result<Vec<u8>, Fail> {
 /// The fault of an answer that tells one.
 pub(crate) fn part_fault_of<T: Drop>(answer: Result<T, PartFault>) -> Option<FieldFault> {
     match answer.err()? {
-        PartFault::Field(fault) => Some(fault),
+        PartFault::Field(fault) => Some(fault.into_fault()),
         PartFault::NoMemory => None,
     }
 }

@@ -1,57 +1,125 @@
 //! JSON texts with the trees that they spell.
 
-use mes_json::{Json, Text, read_text};
+use mes_json::{Json, Text, read_text, write_text};
 use std::test::Fail;
 
-fn string(json: Option<&Json>) -> Option<&str> {
+/// What a value is, of arrays and objects how many items or members they have.
+#[derive(Clone, Copy, Debug)]
+enum Kind {
+    Null,
+    Bool(bool),
+    Number(&'static str),
+    Text(&'static str),
+    List(usize),
+    Map(usize),
+}
+
+fn is_kind(json: &Json, kind: Kind) -> bool {
     match json {
-        Some(Json::Text(text)) => Some(text.as_str()),
+        Json::Null => matches!(kind, Kind::Null),
+        Json::Bool(truth) => matches!(kind, Kind::Bool(expected) if expected == *truth),
+        Json::Num(number) => matches!(kind, Kind::Number(digits) if digits == number.as_str()),
+        Json::Text(text) => matches!(kind, Kind::Text(characters) if characters == text.as_str()),
+        Json::List(items) => matches!(kind, Kind::List(count) if count == items.len()),
+        Json::Map(members) => matches!(kind, Kind::Map(count) if count == members.len()),
+    }
+}
+
+/// The item or member in this place.
+fn child(json: &Json, at: usize) -> Option<&Json> {
+    match json {
+        Json::List(items) => items.get(at),
+        Json::Map(members) => members.get(at).map(|member| &member.1),
         _ => None,
     }
 }
 
-fn number(json: Option<&Json>) -> Option<&str> {
+/// The value that the places lead to, each inside the one before.
+fn value_at<'a>(json: &'a Json, places: &[usize]) -> Option<&'a Json> {
+    let mut value = json;
+    for place in places {
+        value = child(value, *place)?;
+    }
+    Some(value)
+}
+
+fn name_at<'a>(json: &'a Json, at: usize) -> Option<&'a str> {
     match json {
-        Some(Json::Num(number)) => Some(number.as_str()),
+        Json::Map(members) => members.get(at).map(|member| member.0.as_str()),
         _ => None,
     }
 }
 
-// How many items or members there are.
-fn count(json: Option<&Json>) -> Option<usize> {
-    match json {
-        Some(Json::List(items)) => Some(items.len()),
-        Some(Json::Map(members)) => Some(members.len()),
-        _ => None,
-    }
-}
+const LISTED: &[u8] = b"[null,true,false,1,\"a\",[],{},[[2],{\"b\":[3]}]]";
 
-fn item(json: Option<&Json>, at: usize) -> Option<&Json> {
-    match json {
-        Some(Json::List(items)) => items.get(at),
-        _ => None,
-    }
-}
+const ORDERED: &[u8] = br#" {"a" : {"b":"c"} , "a":"d", "0":[ ] } "#;
 
-fn member(json: Option<&Json>, at: usize) -> Option<&Json> {
-    match json {
-        Some(Json::Map(members)) => members.get(at).map(|member| &member.1),
-        _ => None,
-    }
-}
+const SPACED: &[u8] = b"\t{ \"a\"\n:\r{ } , \"b\" : \"\" }\n";
 
-fn name(json: Option<&Json>, at: usize) -> Option<&str> {
-    match json {
-        Some(Json::Map(members)) => members.get(at).map(|member| member.0.as_str()),
-        _ => None,
-    }
-}
+// A text, the places that lead to a value, and what the value is.
+const VALUES: [(&[u8], &[usize], Kind); 25] = [
+    (b"null", &[], Kind::Null),
+    (b" true ", &[], Kind::Bool(true)),
+    (b"\tfalse\r\n", &[], Kind::Bool(false)),
+    (br#"{"type":"HEARTBEAT"}"#, &[], Kind::Map(1)),
+    (br#"{"type":"HEARTBEAT"}"#, &[0], Kind::Text("HEARTBEAT")),
+    (LISTED, &[], Kind::List(8)),
+    (LISTED, &[0], Kind::Null),
+    (LISTED, &[1], Kind::Bool(true)),
+    (LISTED, &[2], Kind::Bool(false)),
+    (LISTED, &[3], Kind::Number("1")),
+    (LISTED, &[4], Kind::Text("a")),
+    (LISTED, &[5], Kind::List(0)),
+    (LISTED, &[6], Kind::Map(0)),
+    (LISTED, &[7], Kind::List(2)),
+    (LISTED, &[7, 0, 0], Kind::Number("2")),
+    (LISTED, &[7, 1, 0, 0], Kind::Number("3")),
+    (ORDERED, &[], Kind::Map(3)),
+    (ORDERED, &[0], Kind::Map(1)),
+    (ORDERED, &[0, 0], Kind::Text("c")),
+    (ORDERED, &[1], Kind::Text("d")),
+    (ORDERED, &[2], Kind::List(0)),
+    (SPACED, &[], Kind::Map(2)),
+    (SPACED, &[0], Kind::Map(0)),
+    (SPACED, &[1], Kind::Text("")),
+    (b"\"\"", &[], Kind::Text("")),
+];
 
 #[test]
-fn reads_literals(rt: HostRuntime) -> Result<(), Fail> {
-    assert!(rt; matches!(read_text(rt.alloc(), b"null")?, Json::Null));
-    assert!(rt; matches!(read_text(rt.alloc(), b" true ")?, Json::Bool(true)));
-    assert!(rt; matches!(read_text(rt.alloc(), b"\tfalse\r\n")?, Json::Bool(false)));
+fn reads_each_value(rt: HostRuntime) -> Result<(), Fail> {
+    for (text, places, kind) in VALUES {
+        let json = read_text(rt.alloc(), text)?;
+        let Some(value) = value_at(&json, places) else {
+            return Err("a value")?;
+        };
+        assert!(rt; is_kind(value, kind), "{text:?} {places:?}");
+    }
+    Ok(())
+}
+
+// A text, the places that lead to an object, and the name of a member in a place of it.
+const NAMES: [(&[u8], &[usize], usize, &str); 9] = [
+    (br#"{"type":"HEARTBEAT"}"#, &[], 0, "type"),
+    (ORDERED, &[], 0, "a"),
+    (ORDERED, &[0], 0, "b"),
+    (ORDERED, &[], 1, "a"),
+    (ORDERED, &[], 2, "0"),
+    (LISTED, &[7, 1], 0, "b"),
+    (SPACED, &[], 1, "b"),
+    // A name with escapes is the text that they stand for.
+    (br#"{"\u0061\/":"","a/":""}"#, &[], 0, "a/"),
+    (br#"{"\u0061\/":"","a/":""}"#, &[], 1, "a/"),
+];
+
+#[test]
+fn reads_each_name(rt: HostRuntime) -> Result<(), Fail> {
+    for (text, places, at, name) in NAMES {
+        let json = read_text(rt.alloc(), text)?;
+        let Some(object) = value_at(&json, places) else {
+            return Err("an object")?;
+        };
+        assert_eq!(rt; name_at(object, at), Some(name), "{text:?} {places:?}");
+    }
     Ok(())
 }
 
@@ -71,96 +139,26 @@ const NUMBERS: [&str; 13] = [
     "123456789012345678901234567890.123456789012345678901234567890",
 ];
 
+// What may stand before and behind a number, and the places that lead to it.
+const AROUND: [(&str, &str, &[usize]); 4] = [
+    ("", "", &[]),
+    (" [", " , 7] ", &[0]),
+    ("[7,", "]", &[1]),
+    ("{\"a\":", "}", &[0]),
+];
+
 #[test]
 fn keeps_numbers_as_written(rt: HostRuntime) -> Result<(), Fail> {
-    for text in NUMBERS {
-        let json = read_text(rt.alloc(), text.as_bytes())?;
-        assert_eq!(rt; number(Some(&json)), Some(text));
-        let spaced = format!(in rt.alloc(); " [{text} , {text}] ")?;
-        let list = read_text(rt.alloc(), spaced.as_bytes())?;
-        assert_eq!(rt; count(Some(&list)), Some(2));
-        assert_eq!(rt; number(item(Some(&list), 0)), Some(text));
-        assert_eq!(rt; number(item(Some(&list), 1)), Some(text));
-        let named = format!(in rt.alloc(); "{{\"a\":{text}}}")?;
-        let object = read_text(rt.alloc(), named.as_bytes())?;
-        assert_eq!(rt; number(member(Some(&object), 0)), Some(text));
+    for digits in NUMBERS {
+        for (front, end, places) in AROUND {
+            let text = format!(in rt.alloc(); "{front}{digits}{end}")?;
+            let json = read_text(rt.alloc(), text.as_bytes())?;
+            let Some(Json::Num(number)) = value_at(&json, places) else {
+                return Err("a number")?;
+            };
+            assert_eq!(rt; number.as_str(), digits);
+        }
     }
-    Ok(())
-}
-
-#[test]
-fn reads_a_member(rt: HostRuntime) -> Result<(), Fail> {
-    let json = read_text(rt.alloc(), br#"{"type":"HEARTBEAT"}"#)?;
-    let json = Some(&json);
-    assert_eq!(rt; count(json), Some(1));
-    assert_eq!(rt; name(json, 0), Some("type"));
-    assert_eq!(rt; string(member(json, 0)), Some("HEARTBEAT"));
-    Ok(())
-}
-
-#[test]
-fn keeps_order_and_repeated_names(rt: HostRuntime) -> Result<(), Fail> {
-    let json = read_text(rt.alloc(), br#" {"a" : {"b":"c"} , "a":"d", "0":[ ] } "#)?;
-    let json = Some(&json);
-    assert_eq!(rt; count(json), Some(3));
-    assert_eq!(rt; name(json, 0), Some("a"));
-    assert_eq!(rt; count(member(json, 0)), Some(1));
-    assert_eq!(rt; name(member(json, 0), 0), Some("b"));
-    assert_eq!(rt; string(member(member(json, 0), 0)), Some("c"));
-    assert_eq!(rt; name(json, 1), Some("a"));
-    assert_eq!(rt; string(member(json, 1)), Some("d"));
-    assert_eq!(rt; name(json, 2), Some("0"));
-    assert!(rt; matches!(member(json, 2), Some(Json::List(_))));
-    assert_eq!(rt; count(member(json, 2)), Some(0));
-    Ok(())
-}
-
-#[test]
-fn reads_arrays(rt: HostRuntime) -> Result<(), Fail> {
-    let json = read_text(
-        rt.alloc(),
-        b"[null,true,false,1,\"a\",[],{},[[2],{\"b\":[3]}]]",
-    )?;
-    let json = Some(&json);
-    assert_eq!(rt; count(json), Some(8));
-    assert!(rt; matches!(item(json, 0), Some(Json::Null)));
-    assert!(rt; matches!(item(json, 1), Some(Json::Bool(true))));
-    assert!(rt; matches!(item(json, 2), Some(Json::Bool(false))));
-    assert_eq!(rt; number(item(json, 3)), Some("1"));
-    assert_eq!(rt; string(item(json, 4)), Some("a"));
-    assert!(rt; matches!(item(json, 5), Some(Json::List(_))));
-    assert_eq!(rt; count(item(json, 5)), Some(0));
-    assert!(rt; matches!(item(json, 6), Some(Json::Map(_))));
-    assert_eq!(rt; count(item(json, 6)), Some(0));
-    let last = item(json, 7);
-    assert_eq!(rt; count(last), Some(2));
-    assert_eq!(rt; number(item(item(last, 0), 0)), Some("2"));
-    assert_eq!(rt; name(item(last, 1), 0), Some("b"));
-    assert_eq!(rt; number(item(member(item(last, 1), 0), 0)), Some("3"));
-    Ok(())
-}
-
-#[test]
-fn reads_blanks_and_an_empty_object(rt: HostRuntime) -> Result<(), Fail> {
-    let json = read_text(rt.alloc(), b"\t{ \"a\"\n:\r{ } , \"b\" : \"\" }\n")?;
-    let json = Some(&json);
-    assert_eq!(rt; count(json), Some(2));
-    assert_eq!(rt; count(member(json, 0)), Some(0));
-    assert_eq!(rt; name(json, 1), Some("b"));
-    assert_eq!(rt; string(member(json, 1)), Some(""));
-    Ok(())
-}
-
-#[test]
-fn reads_characters_of_each_length(rt: HostRuntime) -> Result<(), Fail> {
-    let empty = read_text(rt.alloc(), b"\"\"")?;
-    assert_eq!(rt; string(Some(&empty)), Some(""));
-    // The first and the last character of each row of RFC 3629, section 4.
-    let characters =
-        "\u{20}\u{7f}\u{80}\u{7ff}\u{800}\u{fff}\u{1000}\u{cfff}\u{d000}\u{d7ff}\u{e000}\u{ffff}\u{10000}\u{3ffff}\u{40000}\u{fffff}\u{100000}\u{10ffff}";
-    let text = format!(in rt.alloc(); "\"{characters}\"")?;
-    let json = read_text(rt.alloc(), text.as_bytes())?;
-    assert_eq!(rt; string(Some(&json)), Some(characters));
     Ok(())
 }
 
@@ -182,16 +180,19 @@ const ESCAPES: [(&[u8], &str); 12] = [
     (br#""\uDbFf\uDfFf!""#, "\u{10ffff}!"),
 ];
 
+// The first and the last character of each row of RFC 3629, section 4.
+const CHARACTERS: &str =
+    "\u{20}\u{7f}\u{80}\u{7ff}\u{800}\u{fff}\u{1000}\u{cfff}\u{d000}\u{d7ff}\u{e000}\u{ffff}\u{10000}\u{3ffff}\u{40000}\u{fffff}\u{100000}\u{10ffff}";
+
 #[test]
-fn reads_escapes(rt: HostRuntime) -> Result<(), Fail> {
+fn reads_characters_and_escapes(rt: HostRuntime) -> Result<(), Fail> {
+    let characters = format!(in rt.alloc(); "\"{CHARACTERS}\"")?;
+    let json = read_text(rt.alloc(), characters.as_bytes())?;
+    assert!(rt; is_kind(&json, Kind::Text(CHARACTERS)));
     for (bytes, text) in ESCAPES {
         let json = read_text(rt.alloc(), bytes)?;
-        assert_eq!(rt; string(Some(&json)), Some(text), "{bytes:?}");
+        assert!(rt; is_kind(&json, Kind::Text(text)), "{bytes:?}");
     }
-    // A name with escapes is the text that they stand for.
-    let json = read_text(rt.alloc(), br#"{"\u0061\/":"","a/":""}"#)?;
-    assert_eq!(rt; name(Some(&json), 0), Some("a/"));
-    assert_eq!(rt; name(Some(&json), 1), Some("a/"));
     Ok(())
 }
 
@@ -206,50 +207,32 @@ fn reads_long_texts(rt: HostRuntime) -> Result<(), Fail> {
         bytes.extend_from_slice("plain text, \u{e9}\\n".as_bytes())?;
     }
     bytes.push(b'"')?;
-    let json = read_text(rt.alloc(), &bytes)?;
-    assert_eq!(rt; string(Some(&json)), Some(expected.as_str()));
+    let Json::Text(text) = read_text(rt.alloc(), &bytes)? else {
+        return Err("a text")?;
+    };
+    assert_eq!(rt; text.as_str(), expected.as_str());
     Ok(())
 }
+
+// As deep as the limit: the first of these 63 times, the second, the third 64 times.
+const DEEP: [(&[u8], &[u8], &[u8]); 2] = [(b"[", b"[", b"]"), (b"{\"a\":", b"{", b"}")];
 
 #[test]
 fn reads_as_deep_as_the_limit(rt: HostRuntime) -> Result<(), Fail> {
-    let mut bytes = Vec::new(rt.alloc());
-    for _ in 0..64 {
-        bytes.push(b'[')?;
+    for (front, inner, end) in DEEP {
+        let mut bytes = Vec::new(rt.alloc());
+        for _ in 0..63 {
+            bytes.extend_from_slice(front)?;
+        }
+        bytes.extend_from_slice(inner)?;
+        for _ in 0..64 {
+            bytes.extend_from_slice(end)?;
+        }
+        let json = read_text(rt.alloc(), &bytes)?;
+        let mut out = Vec::new(rt.alloc());
+        write_text(&json, &mut out)?;
+        assert_eq!(rt; (out.as_slice(), json.depth()), (bytes.as_slice(), 64));
     }
-    for _ in 0..64 {
-        bytes.push(b']')?;
-    }
-    let json = read_text(rt.alloc(), &bytes)?;
-    let mut value = Some(&json);
-    for _ in 0..63 {
-        assert_eq!(rt; count(value), Some(1));
-        value = item(value, 0);
-    }
-    assert!(rt; matches!(value, Some(Json::List(_))));
-    assert_eq!(rt; count(value), Some(0));
-    Ok(())
-}
-
-#[test]
-fn reads_objects_as_deep_as_the_limit(rt: HostRuntime) -> Result<(), Fail> {
-    let mut bytes = Vec::new(rt.alloc());
-    for _ in 0..63 {
-        bytes.extend_from_slice(b"{\"a\":")?;
-    }
-    bytes.extend_from_slice(b"{")?;
-    for _ in 0..64 {
-        bytes.extend_from_slice(b"}")?;
-    }
-    let json = read_text(rt.alloc(), &bytes)?;
-    let mut value = Some(&json);
-    for _ in 0..63 {
-        assert_eq!(rt; count(value), Some(1));
-        assert_eq!(rt; name(value, 0), Some("a"));
-        value = member(value, 0);
-    }
-    assert!(rt; matches!(value, Some(Json::Map(_))));
-    assert_eq!(rt; count(value), Some(0));
     Ok(())
 }
 

@@ -88,7 +88,7 @@ fn bytes_are_read_and_written(rt: HostRuntime) -> Result<(), Fail> {
 fn other_texts_are_refused(rt: HostRuntime) -> Result<(), Fail> {
     for (text, why) in REFUSED {
         match read(rt.alloc(), text)? {
-            Err(PartFault::Field(fault)) => assert_eq!(&rt; fault.why, why),
+            Err(PartFault::Field(fault)) => assert_eq!(&rt; fault.get().why, why),
             Err(PartFault::NoMemory) | Ok(_) => return Err("it is a field's fault")?,
         }
     }

@@ -3,8 +3,8 @@
 use crate::support::{Faulty, Written, expect_fault, part_fault_of};
 use mes_json::{read_tape, read_text, write_text};
 use mes_part::{
-    FieldFault, FieldWhy, Label, Labels, List, Part, PartFault, Path, find_rows, left_out,
-    list_tree, read_either_list, written_again,
+    FieldWhy, Label, Labels, List, Part, PartFault, Path, find_rows, left_out, list_tree,
+    read_either_list, written_again,
 };
 use std::alloc::Global;
 use std::process::Abort;
@@ -110,11 +110,11 @@ const LEFT_OUT: [(&str, FieldWhy); 5] = [
 /// Objects without it.
 const NOT_THERE: [&str; 3] = ["{}", "{\"x\":null}", "{\"y\":{},\"y\":{}}"];
 
-/// What is wrong with a member `x` that is left out.
-fn left_out_fault(alloc: Global, text: &str) -> Result<Option<FieldFault>, Fail> {
+/// The answer to a member `x` that is left out.
+fn read_left_out(alloc: Global, text: &str) -> Result<Result<(), PartFault>, Fail> {
     let tape = read_tape(alloc, text.as_bytes())?;
-    match find_rows(&tape.root(), &["x"], &Path::new()) {
-        Ok(rows) => Ok(left_out(rows.at(0), "x", &Path::new()).err()),
+    match find_rows(alloc, &tape.root(), &["x"], &Path::new()) {
+        Ok(rows) => Ok(left_out(alloc, rows.at(0), "x", &Path::new())),
         Err(_) => Err("an object")?,
     }
 }
@@ -183,10 +183,11 @@ fn lists_are_read_in_either_form(rt: HostRuntime) -> Result<(), Fail> {
 #[test]
 fn what_is_left_out_is_refused(rt: HostRuntime) -> Result<(), Fail> {
     for (text, why) in LEFT_OUT {
-        expect_fault(&rt, text, left_out_fault(rt.alloc(), text)?, "x", why);
+        let fault = part_fault_of(read_left_out(rt.alloc(), text)?);
+        expect_fault(&rt, text, fault, "x", why);
     }
     for text in NOT_THERE {
-        assert!(rt; left_out_fault(rt.alloc(), text)?.is_none(), "{text}");
+        assert!(rt; read_left_out(rt.alloc(), text)?.is_ok(), "{text}");
     }
     Ok(())
 }

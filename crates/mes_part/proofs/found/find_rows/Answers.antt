@@ -2,10 +2,11 @@ use Rattle.std.proofs.Common.{map, ◌∙◌, arith}
 use Rattle.std.proofs.lemmas.List.{length-map}
 use Rattle.mes_part.specs.Objects.{members_in}
 use Rattle.mes_part.proofs.FoundLemmas.{members_found, no_members_found, follow_each_first, follow_each_next, follow_each_last, finds_all}
+use Rattle.mes_part.proofs.PartLemmas.{gives_told}
 use Rattle.mes_part.proofs.found.find_rows.Goals as goal
 
 pub returns-in_default : goal.returns-in_default
-returns-in_default c = λ t b. rw c.fault_at.ensures (no_members_found c.args.path.now t (c.in_default.ensures t b))
+returns-in_default c = λ t b. gives_told _ _ _ c.refusal_at.ensures (no_members_found c.args.path.now t (c.in_default.ensures t b))
 
 pub loop-name-init : goal.loop-name-init
 loop-name-init c = (

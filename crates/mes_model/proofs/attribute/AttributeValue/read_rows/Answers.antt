@@ -1,8 +1,10 @@
 use Rattle.std.proofs.Common.{refl}
 use Rattle.std.specs.Prelude.{codes}
+use Rattle.mes_part.specs.Choices.{type_name}
+use Rattle.mes_part.specs.Leaves.{texts}
 use Rattle.mes_part.specs.NameLaws.{names_differ}
 use Rattle.mes_part.specs.Rows.{required, row_value}
-use Rattle.mes_part.proofs.PartLemmas.{gives_fault}
+use Rattle.mes_part.proofs.PartLemmas.{gives_told}
 use Rattle.mes_part.proofs.RowLemmas.{gives_bound}
 use Rattle.mes_model.specs.Values.{ranges, scalar, set, text_value}
 use Rattle.mes_model.proofs.attribute.AttributeValue.read_rows.Goals as goal
@@ -10,7 +12,7 @@ use Rattle.mes_model.proofs.attribute.AttributeValue.read_rows.Goals as goal
 pub returns-in_err-type_of : goal.returns-in_err-type_of
 unfolding row_value
 returns-in_err-type_of c = λ ms kind_found scalar_found ranges_found set_found text_found.
-    gives_fault _ c.from_residual.result _ c.from_residual.ensures.1 (rw (c.in_err-type_of.ensures ms kind_found) refl)
+    gives_bound (required type_name texts c.args.path.now ms) _ _ c.from_residual.result c.from_residual.ensures.1 (c.in_err-type_of.ensures ms kind_found)
 
 pub returns-in_err-required-in-SCALAR : goal.returns-in_err-required-in-SCALAR
 unfolding row_value
@@ -63,11 +65,12 @@ returns-in_ok-required-in-TEXT c = λ ms kind_found scalar_found ranges_found se
 pub returns-in_default : goal.returns-in_default
 unfolding row_value
 returns-in_default c = λ ms kind_found scalar_found ranges_found set_found text_found.
+    gives_told _ _ _ c.type_refusal.ensures (
     rw (
       c.in_ok-type_of.ensures ms kind_found,
       names_differ c.in_ok-type_of.field-0.now (codes "SCALAR") c.in_default.not-SCALAR,
       names_differ c.in_ok-type_of.field-0.now (codes "RANGES") c.in_default.not-RANGES,
       names_differ c.in_ok-type_of.field-0.now (codes "SET") c.in_default.not-SET,
       names_differ c.in_ok-type_of.field-0.now (codes "TEXT") c.in_default.not-TEXT,
-      c.type_fault.ensures,
     ) refl
+    )

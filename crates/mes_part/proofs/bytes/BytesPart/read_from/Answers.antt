@@ -1,10 +1,14 @@
 use Rattle.std.proofs.Common.{refl}
-use Rattle.mes_part.proofs.BinaryPlaces.{bytes_given, bytes_refused, bytes_no_text}
-use Rattle.mes_part.proofs.PartLemmas.{gives_fault}
+use Rattle.mes_part.specs.Binary.{base64_bytes}
+use Rattle.mes_part.specs.Leaves.{text_of}
+use Rattle.mes_part.proofs.BinaryPlaces.{bytes_given, bytes_refused}
+use Rattle.mes_part.proofs.PartLemmas.{gives_told}
+use Rattle.mes_part.proofs.RowLemmas.{gives_bound}
 use Rattle.mes_part.proofs.bytes.BytesPart.read_from.Goals as goal
 
 pub returns-in_err-text : goal.returns-in_err-text
-returns-in_err-text c = λ t b. gives_fault _ c.from_residual.result _ c.from_residual.ensures.1 (bytes_no_text _ t _ (c.in_err-text.ensures t b))
+unfolding base64_bytes
+returns-in_err-text c = λ t b. gives_bound (text_of c.args.path.now t) _ _ c.from_residual.result c.from_residual.ensures.1 (c.in_err-text.ensures t b)
 
 pub returns-in-Ok : goal.returns-in-Ok
 returns-in-Ok c = λ t b.
@@ -12,4 +16,4 @@ returns-in-Ok c = λ t b.
 
 pub returns-in-Err-DecodeError : goal.returns-in-Err-DecodeError
 returns-in-Err-DecodeError c = λ t b.
-    rw c.fault_at.ensures (bytes_refused c.args.path.now t _ _ _ (c.in_ok-text.ensures t b) (rw c.as_bytes.ensures.value at c.in-Err-DecodeError.ensures.err) c.in-Err-DecodeError.field-0-is)
+    gives_told _ _ _ c.refusal_at.ensures (bytes_refused c.args.path.now t _ _ _ (c.in_ok-text.ensures t b) (rw c.as_bytes.ensures.value at c.in-Err-DecodeError.ensures.err) c.in-Err-DecodeError.field-0-is)
