@@ -1,29 +1,20 @@
 -- The value of a JSON text.
 use Rattle.std.proofs.Common.{◌≡◌, ℕ, List, [], refl, sym, ◌∙◌, append-nil, subst}
-use Rattle.std.specs.Prelude.{Result, Ok, Err}
-use Rattle.std.specs.Result.{IsErrAnd}
+use Rattle.std.specs.Prelude.{Ok, Err}
 use Rattle.mes_json.specs.Tree.{Tree}
 use Rattle.mes_json.specs.Grammar.{IsText}
 use Rattle.mes_json.specs.Tokens.{Token, tokens, BeginsWith}
 use Rattle.mes_json.specs.declared.limits.TheConstants.{NESTING_LIMIT}
-use Rattle.mes_part.specs.FieldLaws.{bound_ok}
 use Rattle.mes_part.specs.Kinds.{Kind, Lawful}
 use Rattle.mes_part.specs.Parts.{Gives}
 use Rattle.mes_part.specs.Paths.{Place}
-use Rattle.mes_part.specs.declared.field.FieldFault.{FieldFault}
 use Rattle.mes_part.specs.declared.part.PartFault.{PartFault}
 use Rattle.mes_part.specs.declared.part.PartFault.TheVariants as part
-use Rattle.mes_part.proofs.RowLemmas.{gives_bound}
 use Rattle.mes_msg.specs.Events.{event, IsRecordFault}
 use Rattle.mes_msg.specs.RecordFaults.{of_part}
 use Rattle.mes_msg.specs.Texts.{IsFaultOf}
 use Rattle.mes_msg.specs.declared.event.Event.{Event}
 use Rattle.mes_msg.specs.declared.record.RecordFault.TheVariants.{NoMemory}
-
--- a fault that is handed on
-pub gives_same : {V : Type 0} (read : Result V FieldFault) (e : PartFault) (r : Result V PartFault) → IsErrAnd r (λ x. x ≡ e) → Gives {V = V} read (Err e) → Gives read r
-gives_same {V} read e r is fails =
-    subst (λ (x : Result V FieldFault). Gives x r) (bound_ok read) (gives_bound read (λ x. Ok x) e r is fails)
 
 -- a tape begins with the tree that it is of
 pub begins : (xs : List Token) (t : Tree) → xs ≡ tokens t → BeginsWith xs t

@@ -35,6 +35,7 @@ impl Part for Subscribed {
         path: &Path,
     ) -> Result<Subscribed, PartFault> {
         let rows = find_rows(
+            alloc,
             element,
             &["framework_id", "heartbeat_interval_seconds"],
             path,
@@ -94,7 +95,7 @@ impl Part for Rescind {
     ghost lawful = { lawful_rescind };
 
     fn read_from(alloc: Global, element: &Element<'_>, path: &Path) -> Result<Rescind, PartFault> {
-        let rows = find_rows(element, &["offer_id"], path)?;
+        let rows = find_rows(alloc, element, &["offer_id"], path)?;
         let offer_id = required(alloc, rows.at(0), "offer_id", path)?;
         Ok(Rescind { offer_id })
     }
@@ -131,7 +132,7 @@ impl Part for Update {
     ghost lawful = { lawful_update };
 
     fn read_from(alloc: Global, element: &Element<'_>, path: &Path) -> Result<Update, PartFault> {
-        let rows = find_rows(element, &["status"], path)?;
+        let rows = find_rows(alloc, element, &["status"], path)?;
         let status = required(alloc, rows.at(0), "status", path)?;
         Ok(Update { status })
     }
@@ -172,7 +173,7 @@ impl Part for Message {
     ghost lawful = { lawful_message_body };
 
     fn read_from(alloc: Global, element: &Element<'_>, path: &Path) -> Result<Message, PartFault> {
-        let rows = find_rows(element, &["agent_id", "executor_id", "data"], path)?;
+        let rows = find_rows(alloc, element, &["agent_id", "executor_id", "data"], path)?;
         let agent_id = required(alloc, rows.at(0), "agent_id", path)?;
         let executor_id = required(alloc, rows.at(1), "executor_id", path)?;
         let payload = required(alloc, rows.at(2), "data", path)?;
@@ -227,7 +228,7 @@ impl Part for Failure {
     ghost lawful = { lawful_failure };
 
     fn read_from(alloc: Global, element: &Element<'_>, path: &Path) -> Result<Failure, PartFault> {
-        let rows = find_rows(element, &["agent_id", "executor_id", "status"], path)?;
+        let rows = find_rows(alloc, element, &["agent_id", "executor_id", "status"], path)?;
         let agent_id = optional(alloc, rows.at(0), "agent_id", path)?;
         let executor_id = optional(alloc, rows.at(1), "executor_id", path)?;
         let status = optional(alloc, rows.at(2), "status", path)?;
@@ -282,7 +283,7 @@ impl Part for ErrorBody {
         element: &Element<'_>,
         path: &Path,
     ) -> Result<ErrorBody, PartFault> {
-        let rows = find_rows(element, &["message"], path)?;
+        let rows = find_rows(alloc, element, &["message"], path)?;
         let message = required(alloc, rows.at(0), "message", path)?;
         Ok(ErrorBody { message })
     }

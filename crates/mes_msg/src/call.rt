@@ -23,7 +23,7 @@ use mes_json::{Element, Json, NoMemory, Text};
 use mes_model::Id;
 use mes_part::{
     FieldWhy, Found, Part, PartFault, Path, copy_some, find_rows, left_out, optional, put,
-    put_some, put_type, read_part, required, type_fault, type_of, whole_object,
+    put_some, put_type, read_part, required, type_of, type_refusal, whole_object,
 };
 use std::alloc::Global;
 
@@ -185,9 +185,9 @@ impl Part for Call {
     ghost lawful = { lawful_call };
 
     fn read_from(alloc: Global, element: &Element<'_>, path: &Path) -> Result<Call, PartFault> {
-        let rows = find_rows(element, &ROWS, path)?;
+        let rows = find_rows(alloc, element, &ROWS, path)?;
         let from = rows.at(1);
-        match type_of(rows.at(0), path)? {
+        match type_of(alloc, rows.at(0), path)? {
             "SUBSCRIBE" => {
                 let framework_id = optional(alloc, from, "framework_id", path)?;
                 let body = required(alloc, rows.at(2), "subscribe", path)?;
@@ -203,7 +203,7 @@ impl Part for Call {
             }
             "REVIVE" => {
                 let framework_id = required(alloc, from, "framework_id", path)?;
-                left_out(rows.at(5), "revive", path)?;
+                left_out(alloc, rows.at(5), "revive", path)?;
                 Ok(Call::Revive { framework_id })
             }
             "KILL" => {
@@ -222,7 +222,7 @@ impl Part for Call {
                 let framework_id = required(alloc, from, "framework_id", path)?;
                 Ok(Call::Teardown { framework_id })
             }
-            _ => Err(PartFault::Field(type_fault(path, FieldWhy::LeftOut))),
+            _ => Err(type_refusal(alloc, path, FieldWhy::LeftOut)),
         }
     }
 

@@ -32,7 +32,7 @@ impl Part for Subscribe {
         element: &Element<'_>,
         path: &Path,
     ) -> Result<Subscribe, PartFault> {
-        let rows = find_rows(element, &["framework_info"], path)?;
+        let rows = find_rows(alloc, element, &["framework_info"], path)?;
         let framework_info = required(alloc, rows.at(0), "framework_info", path)?;
         Ok(Subscribe { framework_info })
     }
@@ -73,7 +73,12 @@ impl Part for Accept {
     ghost lawful = { lawful_accept };
 
     fn read_from(alloc: Global, element: &Element<'_>, path: &Path) -> Result<Accept, PartFault> {
-        let rows = find_rows(element, &["offer_ids", "operations", "filters"], path)?;
+        let rows = find_rows(
+            alloc,
+            element,
+            &["offer_ids", "operations", "filters"],
+            path,
+        )?;
         let offer_ids = repeated(alloc, rows.at(0), "offer_ids", path)?;
         let operations = repeated(alloc, rows.at(1), "operations", path)?;
         let filters = optional(alloc, rows.at(2), "filters", path)?;
@@ -126,7 +131,7 @@ impl Part for Decline {
     ghost lawful = { lawful_decline };
 
     fn read_from(alloc: Global, element: &Element<'_>, path: &Path) -> Result<Decline, PartFault> {
-        let rows = find_rows(element, &["offer_ids", "filters"], path)?;
+        let rows = find_rows(alloc, element, &["offer_ids", "filters"], path)?;
         let offer_ids = repeated(alloc, rows.at(0), "offer_ids", path)?;
         let filters = optional(alloc, rows.at(1), "filters", path)?;
         Ok(Decline { offer_ids, filters })
@@ -168,7 +173,7 @@ impl Part for Kill {
     ghost lawful = { lawful_kill };
 
     fn read_from(alloc: Global, element: &Element<'_>, path: &Path) -> Result<Kill, PartFault> {
-        let rows = find_rows(element, &["task_id", "agent_id"], path)?;
+        let rows = find_rows(alloc, element, &["task_id", "agent_id"], path)?;
         let task_id = required(alloc, rows.at(0), "task_id", path)?;
         let agent_id = optional(alloc, rows.at(1), "agent_id", path)?;
         Ok(Kill { task_id, agent_id })
@@ -216,7 +221,7 @@ impl Part for Acknowledge {
         element: &Element<'_>,
         path: &Path,
     ) -> Result<Acknowledge, PartFault> {
-        let rows = find_rows(element, &["agent_id", "task_id", "uuid"], path)?;
+        let rows = find_rows(alloc, element, &["agent_id", "task_id", "uuid"], path)?;
         let agent_id = required(alloc, rows.at(0), "agent_id", path)?;
         let task_id = required(alloc, rows.at(1), "task_id", path)?;
         let uuid = required(alloc, rows.at(2), "uuid", path)?;
@@ -271,7 +276,7 @@ impl Part for Reconcile {
         element: &Element<'_>,
         path: &Path,
     ) -> Result<Reconcile, PartFault> {
-        let rows = find_rows(element, &["tasks"], path)?;
+        let rows = find_rows(alloc, element, &["tasks"], path)?;
         let tasks = repeated(alloc, rows.at(0), "tasks", path)?;
         Ok(Reconcile { tasks })
     }

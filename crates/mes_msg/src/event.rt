@@ -84,8 +84,8 @@ impl Part for Event {
     ghost lawful = { lawful_event };
 
     fn read_from(alloc: Global, element: &Element<'_>, path: &Path) -> Result<Event, PartFault> {
-        let rows = find_rows(element, &ROWS, path)?;
-        match type_of(rows.at(0), path)? {
+        let rows = find_rows(alloc, element, &ROWS, path)?;
+        match type_of(alloc, rows.at(0), path)? {
             "SUBSCRIBED" => Ok(Event::Subscribed(required(alloc, rows.at(1), "subscribed", path)?)),
             "OFFERS" => {
                 let body: Offers = required(alloc, rows.at(2), "offers", path)?;

@@ -9,7 +9,7 @@ use mes_json::{Element, Json, NoMemory, Text};
 use mes_model::TaskInfo;
 use mes_part::{
     FieldWhy, List, Part, PartFault, Path, copy_list, find_rows, put_many, put_type, repeated,
-    required, type_fault, type_of, whole_object,
+    required, type_of, type_refusal, whole_object,
 };
 use std::alloc::Global;
 use std::marker::Model;
@@ -55,15 +55,15 @@ impl Part for Operation {
         element: &Element<'_>,
         path: &Path,
     ) -> Result<Operation, PartFault> {
-        let rows = find_rows(element, &["type", "launch"], path)?;
-        match type_of(rows.at(0), path)? {
+        let rows = find_rows(alloc, element, &["type", "launch"], path)?;
+        match type_of(alloc, rows.at(0), path)? {
             "LAUNCH" => {
                 let launch: Launch = required(alloc, rows.at(1), "launch", path)?;
                 Ok(Operation::Launch {
                     task_infos: launch.into_list(),
                 })
             }
-            _ => Err(PartFault::Field(type_fault(path, FieldWhy::LeftOut))),
+            _ => Err(type_refusal(alloc, path, FieldWhy::LeftOut)),
         }
     }
 
@@ -121,7 +121,7 @@ impl Part for Launch {
     ghost lawful = { lawful_launch };
 
     fn read_from(alloc: Global, element: &Element<'_>, path: &Path) -> Result<Launch, PartFault> {
-        let rows = find_rows(element, &["task_infos"], path)?;
+        let rows = find_rows(alloc, element, &["task_infos"], path)?;
         let task_infos = repeated(alloc, rows.at(0), "task_infos", path)?;
         Ok(Launch { task_infos })
     }

@@ -43,7 +43,7 @@ impl From<PartFault> for RecordFault {
 
     fn from(fault: PartFault) -> RecordFault {
         match fault {
-            PartFault::Field(fault) => RecordFault::Field(fault),
+            PartFault::Field(fault) => RecordFault::Field(fault.into_fault()),
             PartFault::NoMemory => RecordFault::NoMemory,
         }
     }

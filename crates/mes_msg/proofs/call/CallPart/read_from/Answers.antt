@@ -1,9 +1,10 @@
 use Rattle.std.proofs.Common.{ap, refl}
 use Rattle.std.specs.Prelude.{codes}
-use Rattle.mes_part.specs.Leaves.{members_at}
+use Rattle.mes_part.specs.Choices.{type_name}
+use Rattle.mes_part.specs.Leaves.{left_out, members_at, texts}
 use Rattle.mes_part.specs.NameLaws.{names_differ}
 use Rattle.mes_part.specs.Rows.{required, optional, row_value}
-use Rattle.mes_part.proofs.PartLemmas.{gives_fault}
+use Rattle.mes_part.proofs.PartLemmas.{gives_told}
 use Rattle.mes_part.proofs.RowLemmas.{found_as, gives_bound}
 use Rattle.mes_model.specs.Ids.{id}
 use Rattle.mes_msg.specs.CallBodies.{subscribe, accept, decline, kill, acknowledge, reconcile}
@@ -12,14 +13,15 @@ use Rattle.mes_msg.proofs.call.CallPart.read_from.Goals as goal
 
 pub returns-in_err-rows : goal.returns-in_err-rows
 unfolding call
-returns-in_err-rows c = λ t b. gives_fault _ c.from_residual.result _ c.from_residual.ensures.1 (rw (c.in_err-rows.ensures t b) refl)
+returns-in_err-rows c = λ t b. gives_bound (members_at c.args.path.now t) _ _ c.from_residual.result c.from_residual.ensures.1 (c.in_err-rows.ensures t b)
 
 pub returns-in_err-type_of : goal.returns-in_err-type_of
 unfolding call
 returns-in_err-type_of c = λ t b.
     let rows = c.in_ok-rows.ensures t b in
-    gives_fault _ c.from_residual-in_err-type_of.result _ c.from_residual-in_err-type_of.ensures.1
-    (rw (ap (members_at c.args.path.now) rows.1, c.in_err-type_of.ensures rows.0 (found_as _ _ _ c.at.ensures rows.2.0)) refl)
+    rw (ap (members_at c.args.path.now) rows.1)
+    (gives_bound (required type_name texts c.args.path.now rows.0) _ _ c.from_residual-in_err-type_of.result c.from_residual-in_err-type_of.ensures.1
+    (c.in_err-type_of.ensures rows.0 (found_as _ _ _ c.at.ensures rows.2.0)))
 
 pub returns-in_err-framework_id-in-SUBSCRIBE : goal.returns-in_err-framework_id-in-SUBSCRIBE
 unfolding call
@@ -186,8 +188,8 @@ returns-in_err-left_out-in-REVIVE c = λ t b.
       c.in_ok-type_of.ensures rows.0 (found_as _ _ _ c.at.ensures rows.2.0),
       c.in-REVIVE.is,
       c.in_ok-framework_id-in-REVIVE.ensures rows.0 (found_as _ _ _ c.at-from.ensures rows.2.1.0),
-    ) (gives_fault _ c.from_residual-in_err-left_out-in-REVIVE.result _ c.from_residual-in_err-left_out-in-REVIVE.ensures.1
-    (rw (c.in_err-left_out-in-REVIVE.ensures rows.0 (found_as _ _ _ c.at-in-REVIVE.ensures rows.2.1.1.1.1.1.0)) refl))
+    ) (gives_bound (optional (codes "revive") left_out c.args.path.now rows.0) _ _ c.from_residual-in_err-left_out-in-REVIVE.result c.from_residual-in_err-left_out-in-REVIVE.ensures.1
+    (c.in_err-left_out-in-REVIVE.ensures rows.0 (found_as _ _ _ c.at-in-REVIVE.ensures rows.2.1.1.1.1.1.0)))
 
 pub returns-in_ok-left_out-in-REVIVE : goal.returns-in_ok-left_out-in-REVIVE
 unfolding call
@@ -227,6 +229,7 @@ pub returns-in_default : goal.returns-in_default
 unfolding call
 returns-in_default c = λ t b.
     let rows = c.in_ok-rows.ensures t b in
+    gives_told _ _ _ c.type_refusal.ensures (
     rw (
       ap (members_at c.args.path.now) rows.1,
       c.in_ok-type_of.ensures rows.0 (found_as _ _ _ c.at.ensures rows.2.0),
@@ -238,5 +241,5 @@ returns-in_default c = λ t b.
       names_differ c.in_ok-type_of.field-0.now (codes "ACKNOWLEDGE") c.in_default.not-ACKNOWLEDGE,
       names_differ c.in_ok-type_of.field-0.now (codes "RECONCILE") c.in_default.not-RECONCILE,
       names_differ c.in_ok-type_of.field-0.now (codes "TEARDOWN") c.in_default.not-TEARDOWN,
-      c.type_fault.ensures,
     ) refl
+    )

@@ -1,5 +1,5 @@
 use Rattle.mes_msg.specs.Offers.{offers}
-use Rattle.mes_msg.proofs.RecordLemmas.{gives_same}
+use Rattle.mes_part.proofs.RowLemmas.{gives_same}
 use Rattle.mes_msg.proofs.offers.OffersPart.read_from.Goals as goal
 
 pub returns-in_err-offers : goal.returns-in_err-offers
