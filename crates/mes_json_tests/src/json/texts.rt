@@ -140,19 +140,19 @@ const NUMBERS: [&str; 13] = [
 ];
 
 // What may stand before and behind a number, and the places that lead to it.
-const AROUND: [(&str, &str, &[usize]); 4] = [
-    ("", "", &[]),
-    (" [", " , 7] ", &[0]),
-    ("[7,", "]", &[1]),
-    ("{\"a\":", "}", &[0]),
+const AROUND: [(&[u8], &[u8], &[usize]); 4] = [
+    (b"", b"", &[]),
+    (b" [", b" , 7] ", &[0]),
+    (b"[7,", b"]", &[1]),
+    (b"{\"a\":", b"}", &[0]),
 ];
 
 #[test]
 fn keeps_numbers_as_written(rt: HostRuntime) -> Result<(), Fail> {
     for digits in NUMBERS {
         for (front, end, places) in AROUND {
-            let text = format!(in rt.alloc(); "{front}{digits}{end}")?;
-            let json = read_text(rt.alloc(), text.as_bytes())?;
+            let text = [front, digits.as_bytes(), end].concat(rt.alloc())?;
+            let json = read_text(rt.alloc(), &text)?;
             let Some(Json::Num(number)) = value_at(&json, places) else {
                 return Err("a number")?;
             };
