@@ -77,18 +77,20 @@ fn a_fault_is_answered_again(rt: HostRuntime) {
 #[test]
 fn data_passes_in_runs(rt: HostRuntime) {
     let mut state = RecordState::new(Limit::USUAL);
-    let before = state.between();
-    let lines = (state.step(b'5'), state.between(), state.step(b'\n'));
+    assert!(rt; state.between());
     assert_eq!(rt;
-        (before, lines),
-        (true, (RecordOut::Quiet, false, RecordOut::Quiet))
+        (state.step(b'5'), state.between(), state.step(b'\n')),
+        (RecordOut::Quiet, false, RecordOut::Quiet)
     );
-    let first = (state.room(), state.pass(3), state.room());
-    let second = (state.step(b'd'), state.room());
-    let third = (state.pass(1), state.between());
-    assert_eq!(rt; first, (5, false, 2));
-    assert_eq!(rt; second, (RecordOut::Byte { last: false }, 1));
-    assert_eq!(rt; third, (true, true));
+    assert_eq!(rt; state.room(), 5);
+    assert!(rt; !state.pass(3));
+    assert_eq!(rt;
+        (state.room(), state.step(b'd')),
+        (2, RecordOut::Byte { last: false })
+    );
+    assert_eq!(rt; state.room(), 1);
+    assert!(rt; state.pass(1));
+    assert!(rt; state.between());
 }
 
 // How large the buffer of each read is, and how many bytes it gives.
