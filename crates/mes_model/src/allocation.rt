@@ -1,7 +1,7 @@
 //! The role that resources are offered to.
 
 use mes_json::{Element, Json, NoMemory, Text};
-use mes_part::{Part, PartFault, Path, copy_some, find_rows, optional, put_some, whole_object};
+use mes_part::{Part, PartFault, Trail, copy_some, find_rows, optional, put_some, whole_object};
 use std::alloc::Global;
 
 /// To which role resources are offered.
@@ -25,9 +25,9 @@ impl Part for Allocation {
     fn read_from(
         alloc: Global,
         element: &Element<'_>,
-        path: &Path,
+        path: &Trail<'_>,
     ) -> Result<Allocation, PartFault> {
-        let rows = find_rows(alloc, element, &["role"], path)?;
+        let rows = find_rows::<1>(alloc, element, &["role"], path)?;
         let role = optional(alloc, rows.at(0), "role", path)?;
         Ok(Allocation { role })
     }

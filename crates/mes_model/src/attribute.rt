@@ -13,10 +13,7 @@ ghost use Rattle.mes_model.specs.Attributes.{attribute_value_rows};
 use crate::text_value::TextValue;
 use crate::value::{Ranges, Scalar, Set};
 use mes_json::{Element, Json, NoMemory, Text};
-use mes_part::{
-    FieldWhy, Found, Part, PartFault, Path, find_rows, put, put_type, required, type_of,
-    type_refusal, whole_object,
-};
+use mes_part::{FieldWhy, Found, Part, PartFault, Trail, find_rows, put, put_type, required, type_of, type_refusal, whole_object};
 use std::alloc::Global;
 
 /// What an attribute is.
@@ -41,7 +38,7 @@ impl AttributeValue {
         ranges: &Found<'_>,
         set: &Found<'_>,
         text: &Found<'_>,
-        path: &Path,
+        path: &Trail<'_>,
     ) -> Result<AttributeValue, PartFault>
         requires { length path.now + 4 ≤ 16 }
         ensures { (ms : Members) → IsFound kind.now (values_named type_name ms) → IsFound scalar.now (values_named (codes "scalar") ms)
@@ -118,9 +115,9 @@ impl Part for Attribute {
     fn read_from(
         alloc: Global,
         element: &Element<'_>,
-        path: &Path,
+        path: &Trail<'_>,
     ) -> Result<Attribute, PartFault> {
-        let rows = find_rows(
+        let rows = find_rows::<6>(
             alloc,
             element,
             &["name", "type", "scalar", "ranges", "set", "text"],

@@ -2,7 +2,7 @@
 
 use mes_fixed::Micros;
 use mes_json::{Element, Json, NoMemory};
-use mes_part::{Part, PartFault, Path, copy_some, find_rows, optional, put_some, whole_object};
+use mes_part::{Part, PartFault, Trail, copy_some, find_rows, optional, put_some, whole_object};
 use std::alloc::Global;
 
 /// When a framework wants no offers.
@@ -23,8 +23,8 @@ impl Part for Filters {
 
     ghost lawful = { lawful_filters };
 
-    fn read_from(alloc: Global, element: &Element<'_>, path: &Path) -> Result<Filters, PartFault> {
-        let rows = find_rows(alloc, element, &["refuse_seconds"], path)?;
+    fn read_from(alloc: Global, element: &Element<'_>, path: &Trail<'_>) -> Result<Filters, PartFault> {
+        let rows = find_rows::<1>(alloc, element, &["refuse_seconds"], path)?;
         let refuse_seconds = optional(alloc, rows.at(0), "refuse_seconds", path)?;
         Ok(Filters { refuse_seconds })
     }

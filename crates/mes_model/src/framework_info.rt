@@ -3,10 +3,7 @@
 use crate::id::Id;
 use mes_fixed::Micros;
 use mes_json::{Element, Json, NoMemory, Text};
-use mes_part::{
-    List, Part, PartFault, Path, copy_list, copy_some, find_rows, optional, put, put_many,
-    put_some, repeated, required, whole_object,
-};
+use mes_part::{List, Part, PartFault, Trail, copy_list, copy_some, find_rows, optional, put, put_many, put_some, repeated, required, whole_object};
 use std::alloc::Global;
 
 /// What a framework is able to deal with.
@@ -30,9 +27,9 @@ impl Part for Capability {
     fn read_from(
         alloc: Global,
         element: &Element<'_>,
-        path: &Path,
+        path: &Trail<'_>,
     ) -> Result<Capability, PartFault> {
-        let rows = find_rows(alloc, element, &["type"], path)?;
+        let rows = find_rows::<1>(alloc, element, &["type"], path)?;
         let kind = optional(alloc, rows.at(0), "type", path)?;
         Ok(Capability { kind })
     }
@@ -87,9 +84,9 @@ impl Part for FrameworkInfo {
     fn read_from(
         alloc: Global,
         element: &Element<'_>,
-        path: &Path,
+        path: &Trail<'_>,
     ) -> Result<FrameworkInfo, PartFault> {
-        let rows = find_rows(
+        let rows = find_rows::<9>(
             alloc,
             element,
             &[

@@ -1,7 +1,7 @@
 //! An identifier.
 
 use mes_json::{Element, Json, NoMemory, Text};
-use mes_part::{Part, PartFault, Path, find_rows, put, required, whole_object};
+use mes_part::{Part, PartFault, Trail, find_rows, put, required, whole_object};
 use std::alloc::Global;
 
 /// An identifier: of an offer, a framework, an agent, an executor, a provider of resources.
@@ -22,8 +22,8 @@ impl Part for Id {
 
     ghost lawful = { lawful_id };
 
-    fn read_from(alloc: Global, element: &Element<'_>, path: &Path) -> Result<Id, PartFault> {
-        let rows = find_rows(alloc, element, &["value"], path)?;
+    fn read_from(alloc: Global, element: &Element<'_>, path: &Trail<'_>) -> Result<Id, PartFault> {
+        let rows = find_rows::<1>(alloc, element, &["value"], path)?;
         let value = required(alloc, rows.at(0), "value", path)?;
         Ok(Id { value })
     }

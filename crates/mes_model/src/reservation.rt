@@ -1,9 +1,7 @@
 //! For whom resources are reserved.
 
 use mes_json::{Element, Json, NoMemory, Text};
-use mes_part::{
-    Labels, Part, PartFault, Path, copy_some, find_rows, optional, put_some, whole_object,
-};
+use mes_part::{Labels, Part, PartFault, Trail, copy_some, find_rows, optional, put_some, whole_object};
 use std::alloc::Global;
 
 /// For whom resources are reserved, and by whom.
@@ -33,9 +31,9 @@ impl Part for Reservation {
     fn read_from(
         alloc: Global,
         element: &Element<'_>,
-        path: &Path,
+        path: &Trail<'_>,
     ) -> Result<Reservation, PartFault> {
-        let rows = find_rows(
+        let rows = find_rows::<4>(
             alloc,
             element,
             &["type", "role", "principal", "labels"],

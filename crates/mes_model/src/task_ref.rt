@@ -2,9 +2,7 @@
 
 use crate::id::Id;
 use mes_json::{Element, Json, NoMemory};
-use mes_part::{
-    Part, PartFault, Path, copy_some, find_rows, optional, put, put_some, required, whole_object,
-};
+use mes_part::{Part, PartFault, Trail, copy_some, find_rows, optional, put, put_some, required, whole_object};
 use std::alloc::Global;
 
 /// A task whose state a framework asks for.
@@ -27,8 +25,8 @@ impl Part for TaskRef {
 
     ghost lawful = { lawful_task_ref };
 
-    fn read_from(alloc: Global, element: &Element<'_>, path: &Path) -> Result<TaskRef, PartFault> {
-        let rows = find_rows(alloc, element, &["task_id", "agent_id"], path)?;
+    fn read_from(alloc: Global, element: &Element<'_>, path: &Trail<'_>) -> Result<TaskRef, PartFault> {
+        let rows = find_rows::<2>(alloc, element, &["task_id", "agent_id"], path)?;
         let task_id = required(alloc, rows.at(0), "task_id", path)?;
         let agent_id = optional(alloc, rows.at(1), "agent_id", path)?;
         Ok(TaskRef { task_id, agent_id })

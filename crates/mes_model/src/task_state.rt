@@ -4,7 +4,7 @@ ghost use Rattle.std.specs.Prelude.{◌≡◌, IfSome, IfNone};
 ghost use Rattle.mes_model.specs.TaskStates.{state_name};
 
 use mes_json::{Element, Json, NoMemory, Text};
-use mes_part::{FieldWhy, Part, PartFault, Path, refusal_at, text_in};
+use mes_part::{FieldWhy, Part, PartFault, Trail, refusal_at, text_in};
 use std::alloc::Global;
 
 /// The state of a task.
@@ -102,7 +102,7 @@ impl Part for TaskState {
     fn read_from(
         alloc: Global,
         element: &Element<'_>,
-        path: &Path,
+        path: &Trail<'_>,
     ) -> Result<TaskState, PartFault> {
         let name = text_in(alloc, element, path)?;
         match TaskState::of_name(name) {

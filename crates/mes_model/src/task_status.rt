@@ -8,10 +8,7 @@ use crate::owed_key::OwedKey;
 use crate::task_state::TaskState;
 use mes_fixed::Micros;
 use mes_json::{Element, Json, NoMemory, Text};
-use mes_part::{
-    Bytes, Part, PartFault, Path, copy_some, find_rows, optional, put, put_some, required,
-    whole_object,
-};
+use mes_part::{Bytes, Part, PartFault, Trail, copy_some, find_rows, optional, put, put_some, required, whole_object};
 use std::alloc::Global;
 
 /// The status of a task, as an update tells it.
@@ -98,9 +95,9 @@ impl Part for TaskStatus {
     fn read_from(
         alloc: Global,
         element: &Element<'_>,
-        path: &Path,
+        path: &Trail<'_>,
     ) -> Result<TaskStatus, PartFault> {
-        let rows = find_rows(alloc, element, &ROWS, path)?;
+        let rows = find_rows::<11>(alloc, element, &ROWS, path)?;
         let task_id = required(alloc, rows.at(0), "task_id", path)?;
         let state = required(alloc, rows.at(1), "state", path)?;
         let message = optional(alloc, rows.at(2), "message", path)?;

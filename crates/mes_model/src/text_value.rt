@@ -1,7 +1,7 @@
 //! A text that an attribute may be.
 
 use mes_json::{Element, Json, NoMemory, Text};
-use mes_part::{Part, PartFault, Path, find_rows, put, required, whole_object};
+use mes_part::{Part, PartFault, Trail, find_rows, put, required, whole_object};
 use std::alloc::Global;
 
 /// One text.
@@ -25,9 +25,9 @@ impl Part for TextValue {
     fn read_from(
         alloc: Global,
         element: &Element<'_>,
-        path: &Path,
+        path: &Trail<'_>,
     ) -> Result<TextValue, PartFault> {
-        let rows = find_rows(alloc, element, &["value"], path)?;
+        let rows = find_rows::<1>(alloc, element, &["value"], path)?;
         let value = required(alloc, rows.at(0), "value", path)?;
         Ok(TextValue { value })
     }

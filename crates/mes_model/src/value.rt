@@ -2,10 +2,7 @@
 
 use mes_fixed::Thousandths;
 use mes_json::{Element, Json, NoMemory, Text};
-use mes_part::{
-    List, Part, PartFault, Path, copy_list, find_rows, put, put_many, repeated, required,
-    whole_object,
-};
+use mes_part::{List, Part, PartFault, Trail, copy_list, find_rows, put, put_many, repeated, required, whole_object};
 use std::alloc::Global;
 
 /// One number, in thousandths.
@@ -26,8 +23,8 @@ impl Part for Scalar {
 
     ghost lawful = { lawful_scalar };
 
-    fn read_from(alloc: Global, element: &Element<'_>, path: &Path) -> Result<Scalar, PartFault> {
-        let rows = find_rows(alloc, element, &["value"], path)?;
+    fn read_from(alloc: Global, element: &Element<'_>, path: &Trail<'_>) -> Result<Scalar, PartFault> {
+        let rows = find_rows::<1>(alloc, element, &["value"], path)?;
         let value = required(alloc, rows.at(0), "value", path)?;
         Ok(Scalar { value })
     }
@@ -64,8 +61,8 @@ impl Part for Range {
 
     ghost lawful = { lawful_range };
 
-    fn read_from(alloc: Global, element: &Element<'_>, path: &Path) -> Result<Range, PartFault> {
-        let rows = find_rows(alloc, element, &["begin", "end"], path)?;
+    fn read_from(alloc: Global, element: &Element<'_>, path: &Trail<'_>) -> Result<Range, PartFault> {
+        let rows = find_rows::<2>(alloc, element, &["begin", "end"], path)?;
         let first = required(alloc, rows.at(0), "begin", path)?;
         let last = required(alloc, rows.at(1), "end", path)?;
         Ok(Range { first, last })
@@ -105,8 +102,8 @@ impl Part for Ranges {
 
     ghost lawful = { lawful_ranges };
 
-    fn read_from(alloc: Global, element: &Element<'_>, path: &Path) -> Result<Ranges, PartFault> {
-        let rows = find_rows(alloc, element, &["range"], path)?;
+    fn read_from(alloc: Global, element: &Element<'_>, path: &Trail<'_>) -> Result<Ranges, PartFault> {
+        let rows = find_rows::<1>(alloc, element, &["range"], path)?;
         let range = repeated(alloc, rows.at(0), "range", path)?;
         Ok(Ranges { range })
     }
@@ -142,8 +139,8 @@ impl Part for Set {
 
     ghost lawful = { lawful_set };
 
-    fn read_from(alloc: Global, element: &Element<'_>, path: &Path) -> Result<Set, PartFault> {
-        let rows = find_rows(alloc, element, &["item"], path)?;
+    fn read_from(alloc: Global, element: &Element<'_>, path: &Trail<'_>) -> Result<Set, PartFault> {
+        let rows = find_rows::<1>(alloc, element, &["item"], path)?;
         let item = repeated(alloc, rows.at(0), "item", path)?;
         Ok(Set { item })
     }

@@ -3,10 +3,7 @@
 use mes_fixed::Micros;
 use mes_json::{Element, Json, NoMemory, Text};
 use mes_model::{Id, TaskStatus};
-use mes_part::{
-    Bytes, Part, PartFault, Path, copy_some, find_rows, optional, put, put_some, required,
-    whole_object,
-};
+use mes_part::{Bytes, Part, PartFault, Trail, copy_some, find_rows, optional, put, put_some, required, whole_object};
 use std::alloc::Global;
 
 /// The framework is subscribed (scheduler.proto, `Event.Subscribed`).
@@ -32,9 +29,9 @@ impl Part for Subscribed {
     fn read_from(
         alloc: Global,
         element: &Element<'_>,
-        path: &Path,
+        path: &Trail<'_>,
     ) -> Result<Subscribed, PartFault> {
-        let rows = find_rows(
+        let rows = find_rows::<2>(
             alloc,
             element,
             &["framework_id", "heartbeat_interval_seconds"],
@@ -94,8 +91,8 @@ impl Part for Rescind {
 
     ghost lawful = { lawful_rescind };
 
-    fn read_from(alloc: Global, element: &Element<'_>, path: &Path) -> Result<Rescind, PartFault> {
-        let rows = find_rows(alloc, element, &["offer_id"], path)?;
+    fn read_from(alloc: Global, element: &Element<'_>, path: &Trail<'_>) -> Result<Rescind, PartFault> {
+        let rows = find_rows::<1>(alloc, element, &["offer_id"], path)?;
         let offer_id = required(alloc, rows.at(0), "offer_id", path)?;
         Ok(Rescind { offer_id })
     }
@@ -131,8 +128,8 @@ impl Part for Update {
 
     ghost lawful = { lawful_update };
 
-    fn read_from(alloc: Global, element: &Element<'_>, path: &Path) -> Result<Update, PartFault> {
-        let rows = find_rows(alloc, element, &["status"], path)?;
+    fn read_from(alloc: Global, element: &Element<'_>, path: &Trail<'_>) -> Result<Update, PartFault> {
+        let rows = find_rows::<1>(alloc, element, &["status"], path)?;
         let status = required(alloc, rows.at(0), "status", path)?;
         Ok(Update { status })
     }
@@ -172,8 +169,8 @@ impl Part for Message {
 
     ghost lawful = { lawful_message_body };
 
-    fn read_from(alloc: Global, element: &Element<'_>, path: &Path) -> Result<Message, PartFault> {
-        let rows = find_rows(alloc, element, &["agent_id", "executor_id", "data"], path)?;
+    fn read_from(alloc: Global, element: &Element<'_>, path: &Trail<'_>) -> Result<Message, PartFault> {
+        let rows = find_rows::<3>(alloc, element, &["agent_id", "executor_id", "data"], path)?;
         let agent_id = required(alloc, rows.at(0), "agent_id", path)?;
         let executor_id = required(alloc, rows.at(1), "executor_id", path)?;
         let payload = required(alloc, rows.at(2), "data", path)?;
@@ -227,8 +224,8 @@ impl Part for Failure {
 
     ghost lawful = { lawful_failure };
 
-    fn read_from(alloc: Global, element: &Element<'_>, path: &Path) -> Result<Failure, PartFault> {
-        let rows = find_rows(alloc, element, &["agent_id", "executor_id", "status"], path)?;
+    fn read_from(alloc: Global, element: &Element<'_>, path: &Trail<'_>) -> Result<Failure, PartFault> {
+        let rows = find_rows::<3>(alloc, element, &["agent_id", "executor_id", "status"], path)?;
         let agent_id = optional(alloc, rows.at(0), "agent_id", path)?;
         let executor_id = optional(alloc, rows.at(1), "executor_id", path)?;
         let status = optional(alloc, rows.at(2), "status", path)?;
@@ -281,9 +278,9 @@ impl Part for ErrorBody {
     fn read_from(
         alloc: Global,
         element: &Element<'_>,
-        path: &Path,
+        path: &Trail<'_>,
     ) -> Result<ErrorBody, PartFault> {
-        let rows = find_rows(alloc, element, &["message"], path)?;
+        let rows = find_rows::<1>(alloc, element, &["message"], path)?;
         let message = required(alloc, rows.at(0), "message", path)?;
         Ok(ErrorBody { message })
     }

@@ -21,10 +21,7 @@ use crate::record::{RecordFault, read_bytes};
 use mes_frame::Limit;
 use mes_json::{Element, Json, NoMemory, Text};
 use mes_model::Id;
-use mes_part::{
-    FieldWhy, Found, Part, PartFault, Path, copy_some, find_rows, left_out, optional, put,
-    put_some, put_type, read_part, required, type_of, type_refusal, whole_object,
-};
+use mes_part::{FieldWhy, Found, Part, PartFault, Path, Trail, copy_some, find_rows, left_out, optional, put, put_some, put_type, read_part, required, type_of, type_refusal, whole_object};
 use std::alloc::Global;
 
 /// A call of the scheduler API (scheduler.proto, `Call`), from the framework that it names.
@@ -184,8 +181,8 @@ impl Part for Call {
 
     ghost lawful = { lawful_call };
 
-    fn read_from(alloc: Global, element: &Element<'_>, path: &Path) -> Result<Call, PartFault> {
-        let rows = find_rows(alloc, element, &ROWS, path)?;
+    fn read_from(alloc: Global, element: &Element<'_>, path: &Trail<'_>) -> Result<Call, PartFault> {
+        let rows = find_rows::<9>(alloc, element, &ROWS, path)?;
         let from = rows.at(1);
         match type_of(alloc, rows.at(0), path)? {
             "SUBSCRIBE" => {
@@ -275,7 +272,7 @@ fn read_call<T: Part>(
     framework: &Found<'_>,
     body: &Found<'_>,
     name: &'static str,
-    path: &Path,
+    path: &Trail<'_>,
 ) -> Result<(Id, T), PartFault>
     requires framework { length path.now + 2 ≤ 16 }
     requires body { length path.now + 1 + T.STEPS ≤ 16 }

@@ -3,10 +3,7 @@
 use crate::operation::Operation;
 use mes_json::{Element, Json, NoMemory};
 use mes_model::{Filters, FrameworkInfo, Id, TaskRef};
-use mes_part::{
-    Bytes, List, Part, PartFault, Path, copy_list, copy_some, find_rows, optional, put, put_many,
-    put_some, repeated, required, whole_object,
-};
+use mes_part::{Bytes, List, Part, PartFault, Trail, copy_list, copy_some, find_rows, optional, put, put_many, put_some, repeated, required, whole_object};
 use std::alloc::Global;
 
 /// A framework subscribes (scheduler.proto, `Call.Subscribe`).
@@ -30,9 +27,9 @@ impl Part for Subscribe {
     fn read_from(
         alloc: Global,
         element: &Element<'_>,
-        path: &Path,
+        path: &Trail<'_>,
     ) -> Result<Subscribe, PartFault> {
-        let rows = find_rows(alloc, element, &["framework_info"], path)?;
+        let rows = find_rows::<1>(alloc, element, &["framework_info"], path)?;
         let framework_info = required(alloc, rows.at(0), "framework_info", path)?;
         Ok(Subscribe { framework_info })
     }
@@ -72,8 +69,8 @@ impl Part for Accept {
 
     ghost lawful = { lawful_accept };
 
-    fn read_from(alloc: Global, element: &Element<'_>, path: &Path) -> Result<Accept, PartFault> {
-        let rows = find_rows(
+    fn read_from(alloc: Global, element: &Element<'_>, path: &Trail<'_>) -> Result<Accept, PartFault> {
+        let rows = find_rows::<3>(
             alloc,
             element,
             &["offer_ids", "operations", "filters"],
@@ -130,8 +127,8 @@ impl Part for Decline {
 
     ghost lawful = { lawful_decline };
 
-    fn read_from(alloc: Global, element: &Element<'_>, path: &Path) -> Result<Decline, PartFault> {
-        let rows = find_rows(alloc, element, &["offer_ids", "filters"], path)?;
+    fn read_from(alloc: Global, element: &Element<'_>, path: &Trail<'_>) -> Result<Decline, PartFault> {
+        let rows = find_rows::<2>(alloc, element, &["offer_ids", "filters"], path)?;
         let offer_ids = repeated(alloc, rows.at(0), "offer_ids", path)?;
         let filters = optional(alloc, rows.at(1), "filters", path)?;
         Ok(Decline { offer_ids, filters })
@@ -172,8 +169,8 @@ impl Part for Kill {
 
     ghost lawful = { lawful_kill };
 
-    fn read_from(alloc: Global, element: &Element<'_>, path: &Path) -> Result<Kill, PartFault> {
-        let rows = find_rows(alloc, element, &["task_id", "agent_id"], path)?;
+    fn read_from(alloc: Global, element: &Element<'_>, path: &Trail<'_>) -> Result<Kill, PartFault> {
+        let rows = find_rows::<2>(alloc, element, &["task_id", "agent_id"], path)?;
         let task_id = required(alloc, rows.at(0), "task_id", path)?;
         let agent_id = optional(alloc, rows.at(1), "agent_id", path)?;
         Ok(Kill { task_id, agent_id })
@@ -219,9 +216,9 @@ impl Part for Acknowledge {
     fn read_from(
         alloc: Global,
         element: &Element<'_>,
-        path: &Path,
+        path: &Trail<'_>,
     ) -> Result<Acknowledge, PartFault> {
-        let rows = find_rows(alloc, element, &["agent_id", "task_id", "uuid"], path)?;
+        let rows = find_rows::<3>(alloc, element, &["agent_id", "task_id", "uuid"], path)?;
         let agent_id = required(alloc, rows.at(0), "agent_id", path)?;
         let task_id = required(alloc, rows.at(1), "task_id", path)?;
         let uuid = required(alloc, rows.at(2), "uuid", path)?;
@@ -274,9 +271,9 @@ impl Part for Reconcile {
     fn read_from(
         alloc: Global,
         element: &Element<'_>,
-        path: &Path,
+        path: &Trail<'_>,
     ) -> Result<Reconcile, PartFault> {
-        let rows = find_rows(alloc, element, &["tasks"], path)?;
+        let rows = find_rows::<1>(alloc, element, &["tasks"], path)?;
         let tasks = repeated(alloc, rows.at(0), "tasks", path)?;
         Ok(Reconcile { tasks })
     }

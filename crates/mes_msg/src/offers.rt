@@ -6,7 +6,7 @@ ghost use Rattle.mes_msg.specs.Offers.{offers};
 
 use mes_json::{Element, Json, NoMemory};
 use mes_model::Offer;
-use mes_part::{List, Part, PartFault, Path, copy_list, put_many, read_either_list, whole_object};
+use mes_part::{List, Part, PartFault, Trail, copy_list, put_many, read_either_list, whole_object};
 use std::alloc::Global;
 use std::marker::Model;
 
@@ -50,7 +50,7 @@ impl Part for Offers {
     ghost lawful = { lawful_offers };
 
     #[tactic(auto, unfolding(crate::specs::Offers::offers))]
-    fn read_from(alloc: Global, element: &Element<'_>, path: &Path) -> Result<Offers, PartFault> {
+    fn read_from(alloc: Global, element: &Element<'_>, path: &Trail<'_>) -> Result<Offers, PartFault> {
         let offers = read_either_list(alloc, element, "offers", path)?;
         Ok(Offers { offers })
     }

@@ -7,10 +7,7 @@ ghost use Rattle.mes_msg.specs.Operations.{launch, operation_rows};
 
 use mes_json::{Element, Json, NoMemory, Text};
 use mes_model::TaskInfo;
-use mes_part::{
-    FieldWhy, List, Part, PartFault, Path, copy_list, find_rows, put_many, put_type, repeated,
-    required, type_of, type_refusal, whole_object,
-};
+use mes_part::{FieldWhy, List, Part, PartFault, Trail, copy_list, find_rows, put_many, put_type, repeated, required, type_of, type_refusal, whole_object};
 use std::alloc::Global;
 use std::marker::Model;
 
@@ -53,9 +50,9 @@ impl Part for Operation {
     fn read_from(
         alloc: Global,
         element: &Element<'_>,
-        path: &Path,
+        path: &Trail<'_>,
     ) -> Result<Operation, PartFault> {
-        let rows = find_rows(alloc, element, &["type", "launch"], path)?;
+        let rows = find_rows::<2>(alloc, element, &["type", "launch"], path)?;
         match type_of(alloc, rows.at(0), path)? {
             "LAUNCH" => {
                 let launch: Launch = required(alloc, rows.at(1), "launch", path)?;
@@ -120,8 +117,8 @@ impl Part for Launch {
 
     ghost lawful = { lawful_launch };
 
-    fn read_from(alloc: Global, element: &Element<'_>, path: &Path) -> Result<Launch, PartFault> {
-        let rows = find_rows(alloc, element, &["task_infos"], path)?;
+    fn read_from(alloc: Global, element: &Element<'_>, path: &Trail<'_>) -> Result<Launch, PartFault> {
+        let rows = find_rows::<1>(alloc, element, &["task_infos"], path)?;
         let task_infos = repeated(alloc, rows.at(0), "task_infos", path)?;
         Ok(Launch { task_infos })
     }

@@ -7,7 +7,7 @@ ghost use Rattle.mes_msg.specs.Texts.{IsTextOf, IsFaultOf};
 
 use crate::event::Event;
 use mes_json::{Json, ReadFault, TextFault, read_tape};
-use mes_part::{FieldFault, Part, PartFault, Path, read_part};
+use mes_part::{BoxedFault, Part, PartFault, Path, Trail, read_part};
 use std::alloc::Global;
 
 /// Why the bytes of a record spell no event, or no call.
@@ -16,7 +16,7 @@ pub enum RecordFault {
     /// They are no JSON text.
     Text(TextFault),
     /// The JSON text is of no event, or of no call.
-    Field(FieldFault),
+    Field(BoxedFault),
     /// A growth was refused memory.
     NoMemory,
 }
@@ -43,7 +43,7 @@ impl From<PartFault> for RecordFault {
 
     fn from(fault: PartFault) -> RecordFault {
         match fault {
-            PartFault::Field(fault) => RecordFault::Field(fault.into_fault()),
+            PartFault::Field(fault) => RecordFault::Field(fault),
             PartFault::NoMemory => RecordFault::NoMemory,
         }
     }
@@ -80,5 +80,5 @@ pub(crate) fn read_bytes<T: Part>(alloc: Global, bytes: &[u8]) -> Result<T, Reco
     ensures err { IfErr result (IsFaultOf T.kind bytes.now) }
 {
     let tape = read_tape(alloc, bytes)?;
-    Ok(T::read_from(alloc, &tape.root(), &Path::new())?)
+    Ok(T::read_from(alloc, &tape.root(), &Trail::new())?)
 }

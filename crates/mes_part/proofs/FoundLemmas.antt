@@ -59,9 +59,9 @@ FollowEach fs names ms rest =
     (i : ℕ) → i < length names → Follows (get_or fs i Nothing) (values_named (get_or names i []) ms) (values_named (get_or names i []) rest)
 
 -- nothing is found before the first member
-pub follow_each_first : (fs : List Found) (names : List (List ℕ)) (ms : Members) → ((i : ℕ) → get_or fs i Nothing ≡ Nothing) → FollowEach fs names ms ms
+pub follow_each_first : (fs : List Found) (names : List (List ℕ)) (ms : Members) → ((i : ℕ) → i < length names → get_or fs i Nothing ≡ Nothing) → FollowEach fs names ms ms
 follow_each_first fs names ms none i inside =
-    subst (λ (f : Found). Follows f (values_named (get_or names i []) ms) (values_named (get_or names i []) ms)) (sym (none i)) ([], refl, refl)
+    subst (λ (f : Found). Follows f (values_named (get_or names i []) ms) (values_named (get_or names i []) ms)) (sym (none i inside)) ([], refl, refl)
 
 -- one more member
 pub follow_each_next : (fs gs : List Found) (names : List (List ℕ)) (ms rest : Members) (x : List ℕ × List Token) (behind : List Token)

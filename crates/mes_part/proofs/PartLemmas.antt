@@ -1,7 +1,7 @@
 -- What a fault that is told says of the answer.
 use Rattle.std.proofs.Common.{◌≡◌}
 use Rattle.std.specs.Prelude.{Result, Err}
-use Rattle.mes_part.specs.Parts.{Gives}
+use Rattle.mes_part.specs.Parts.{Gives, Refuses}
 use Rattle.mes_part.specs.Refusals.{Tells}
 use Rattle.mes_part.specs.declared.field.FieldFault.{FieldFault}
 use Rattle.mes_part.specs.declared.part.PartFault.{PartFault}
@@ -11,3 +11,13 @@ use Rattle.mes_part.specs.declared.part.PartFault.TheVariants.{Field, NoMemory}
 pub gives_told : {V : Type 0} (expected : Result V FieldFault) (f : FieldFault) (e : PartFault) → Tells f e → expected ≡ Err f → Gives {V = V} expected (Err e)
 gives_told expected f (Field g) told is = cc
 gives_told expected f NoMemory told is = tt
+
+-- the same, where no other memory is taken
+pub refuses_told : {V : Type 0} (expected : Result V FieldFault) (f : FieldFault) (e : PartFault) → Tells f e → expected ≡ Err f → Refuses expected e
+refuses_told expected f (Field g) told is = cc
+refuses_told expected f NoMemory told is = (f, is)
+
+-- a fault that is expected is given
+pub gives_refused : {V : Type 0} (expected : Result V FieldFault) (e : PartFault) → Refuses expected e → Gives {V = V} expected (Err e)
+gives_refused expected (Field f) refused = refused
+gives_refused expected NoMemory refused = tt

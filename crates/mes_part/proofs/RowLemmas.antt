@@ -1,7 +1,7 @@
 -- A row, by the value that was found of its member.
 --     looked_value, looked_none            the look-up
 --     required_at, optional_at, repeated_at, flagged_at      the row, where a value is there
---     gives_bound, gives_same              a fault that a `?` hands on
+--     gives_bound, gives_same              a fault that a `?` hands on; refused_bound, refused_same where it takes no other memory
 use Rattle.std.proofs.Common.{◌≡◌, ℕ, true, List, Some, refl, sym, ◌∙◌, ap, subst}
 use Rattle.std.specs.Prelude.{Result, Ok, Err}
 use Rattle.std.specs.Result.{IsErrAnd}
@@ -15,7 +15,8 @@ use Rattle.mes_part.specs.Lists.{list_of}
 use Rattle.mes_part.specs.Rows.{must, required, likewise, optional, listed, repeated, is_there, flagged}
 use Rattle.mes_part.specs.FieldLaws.{after, bound_ok}
 use Rattle.mes_part.specs.FoundRows.{IsFound, IsSole}
-use Rattle.mes_part.specs.Parts.{Gives}
+use Rattle.mes_part.specs.Parts.{Gives, Refuses}
+use Rattle.mes_part.proofs.PartLemmas.{gives_refused}
 use Rattle.mes_part.specs.declared.field.FieldFault.{FieldFault}
 use Rattle.mes_part.specs.declared.found.Found.{Found}
 use Rattle.mes_part.specs.declared.read_row.Sole.{Sole}
@@ -70,6 +71,14 @@ gives_bound {V} read go e (Err x) is fails = by_fault x (subst (λ (y : PartFaul
 pub gives_same : {V : Type 0} (read : Result V FieldFault) (e : PartFault) (r : Result V PartFault) → IsErrAnd r (λ x. x ≡ e) → Gives {V = V} read (Err e) → Gives read r
 gives_same {V} read e r is fails =
     subst (λ (x : Result V FieldFault). Gives x r) (bound_ok read) (gives_bound read (λ x. Ok x) e r is fails)
+
+-- a fault that takes no other memory
+pub refused_bound : {V W : Type 0} (read : Result V FieldFault) (go : V → Result W FieldFault) (e : PartFault) (r : Result W PartFault)
+    → IsErrAnd r (λ x. x ≡ e) → Refuses read e → Gives (read >>= go) r
+refused_bound read go e r is refused = gives_bound read go e r is (gives_refused read e refused)
+
+pub refused_same : {V : Type 0} (read : Result V FieldFault) (e : PartFault) (r : Result V PartFault) → IsErrAnd r (λ x. x ≡ e) → Refuses read e → Gives read r
+refused_same read e r is refused = gives_same read e r is (gives_refused read e refused)
 
 -- ---- one row after the other
 

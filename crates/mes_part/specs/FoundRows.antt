@@ -14,7 +14,7 @@ use Rattle.mes_part.specs.declared.read_row.Sole.{Sole}
 use Rattle.mes_part.specs.declared.read_row.Sole.TheVariants.{Absent, Present, Repeated}
 use Rattle.mes_part.specs.declared.rows.Rows.{Rows}
 use Rattle.mes_part.specs.declared.part.PartFault.{PartFault}
-use Rattle.mes_part.specs.declared.part.PartFault.TheVariants.{Field, NoMemory}
+use Rattle.mes_part.specs.Parts.{Refuses}
 
 -- these are the values of the members that were found
 abbrev pub IsFound : Found → List Tree → Type 0
@@ -38,11 +38,10 @@ abbrev pub FindsEach : ℕ → List (List ℕ) → Members → List Found → Ty
 FindsEach i [] ms fs = Unit {0}
 FindsEach i (n ∷ ns) ms fs = IsFound (slice_index_or fs i Nothing) (values_named n ms) × FindsEach (suc i) ns ms fs
 
--- the tree is an object, and the members of these names are found; or it is none, which is told, or there was no memory to tell it
-abbrev pub FindsRows : List (List ℕ) → List Place → Tree → Result Rows PartFault → Type 0
+-- the tree is an object, and the members of these names are found; or it is none, which is told
+abbrev pub FindsRows : {N : ℕ} → List (List ℕ) → List Place → Tree → Result (Rows N) PartFault → Type 0
 FindsRows names at t (Ok rows) = (ms : Members) × (t ≡ object ms) × FindsEach 0 names ms rows.found.items
-FindsRows names at t (Err (Field f)) = members_at at t ≡ Err f
-FindsRows names at t (Err NoMemory) = Unit {0}
+FindsRows names at t (Err e) = Refuses (members_at at t) e
 
 -- of what is looked up at a path: there is no value, or one at this place, or the name stands twice
 abbrev pub IsSole : List Place → Result (Option Tree) FieldFault → Sole → Type 0

@@ -1,5 +1,6 @@
 pub mod Paths
 pub mod Steps
+pub mod Trails
 pub mod Whys
 pub mod Fields
 pub mod Kinds

@@ -9,8 +9,8 @@ ghost use Rattle.mes_part.specs.Kinds.{Returns};
 use crate::field::FieldWhy;
 use crate::leaf::text_in;
 use crate::part::{Part, PartFault};
-use crate::path::Path;
 use crate::refusal::refusal_at;
+use crate::trail::Trail;
 use base64::DecodeAllocError;
 use base64::engine::general_purpose::STANDARD;
 use mes_json::{Element, Json, NoMemory, Text};
@@ -79,7 +79,11 @@ impl Part for Bytes {
 
     ghost lawful = { lawful_base64_bytes };
 
-    fn read_from(alloc: Global, element: &Element<'_>, path: &Path) -> Result<Bytes, PartFault> {
+    fn read_from(
+        alloc: Global,
+        element: &Element<'_>,
+        path: &Trail<'_>,
+    ) -> Result<Bytes, PartFault> {
         let text = text_in(alloc, element, path)?;
         match STANDARD.decode(alloc, text.as_bytes()) {
             Ok(octets) => Ok(Bytes::new(octets)),

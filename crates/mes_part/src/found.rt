@@ -8,9 +8,9 @@ ghost use Rattle.mes_part.specs.declared.found.Found.TheVariants.{Nothing};
 
 use crate::field::FieldWhy;
 use crate::part::PartFault;
-use crate::path::Path;
 use crate::refusal::refusal_at;
-use crate::rows::{ROWS_MOST, Rows};
+use crate::rows::Rows;
+use crate::trail::Trail;
 use arrayvec::ArrayVec;
 use mes_json::Element;
 use std::alloc::Global;
@@ -26,7 +26,7 @@ pub enum Found<'a> {
     More,
 }
 
-/// What fills the free room of `Rows`.
+/// What is found under a name before the first member is looked at, and what fills the free room of an `ArrayVec`.
 impl<'a> Default for Found<'a> {
     ghost use Rattle.mes_part.specs.declared.found.Found.TheVariants.{Nothing};
 
@@ -49,20 +49,20 @@ impl<'a> Found<'a> {
     }
 }
 
-/// What the object at a place has under these names. Each member is looked at once.
-pub fn find_rows<'a>(
+/// What the object at a place has under these names, at most N. Each member is looked at once.
+pub fn find_rows<'a, const N: usize>(
     alloc: Global,
     element: &Element<'a>,
     names: &[&'static str],
-    path: &Path,
-) -> Result<Rows<'a>, PartFault>
-    requires few { length names.now ≤ ROWS_MOST }
+    path: &Trail<'_>,
+) -> Result<Rows<'a, N>, PartFault>
+    requires { length names.now ≤ N }
     ensures { (t : Tree) → BeginsWith element.now t → FindsRows (map (λ n. n.now) names.now) path.now t result }
 {
     let Some(mut members) = element.members() else {
         return Err(refusal_at(alloc, path, FieldWhy::WrongKind));
     };
-    let mut found: ArrayVec<Found<'a>, ROWS_MOST> = nothing_found();
+    let mut found: ArrayVec<Found<'a>, N> = nothing_found();
     while let Some((name, value)) = members.next() {
         note_member(&mut found, names, name, &value);
     }
@@ -70,20 +70,20 @@ pub fn find_rows<'a>(
 }
 
 /// Nothing found under any name.
-fn nothing_found<'a>() -> ArrayVec<Found<'a>, ROWS_MOST>
+fn nothing_found<'a, const N: usize>() -> ArrayVec<Found<'a>, N>
     ensures none { (i : ℕ) → slice_index_or result.items i Nothing ≡ Nothing }
-    ensures all { length result.items ≡ ROWS_MOST }
+    ensures all { length result.items ≡ N }
 {
     let mut found = ArrayVec::new();
-    for _ in 0..ROWS_MOST {
+    for _ in 0..N {
         found.push(Found::Nothing);
     }
     found
 }
 
 /// Notes a member under each of these names that it has.
-fn note_member<'a>(
-    found: &mut ArrayVec<Found<'a>, ROWS_MOST>,
+fn note_member<'a, const N: usize>(
+    found: &mut ArrayVec<Found<'a>, N>,
     names: &[&'static str],
     name: &str,
     value: &Element<'a>,

@@ -8,8 +8,8 @@ ghost use Rattle.mes_part.specs.KindLaws.{lawful_objects};
 
 use crate::field::FieldWhy;
 use crate::part::{Part, PartFault};
-use crate::path::Path;
 use crate::refusal::refusal_at;
+use crate::trail::Trail;
 use mes_json::{Element, Json, NoMemory};
 use std::alloc::Global;
 use std::marker::Model;
@@ -65,7 +65,11 @@ impl Part for Kept {
     ghost lawful = { lawful_objects };
 
     #[tactic(auto, using(crate::proofs::LeafLemmas::members_at_no_object), unfolding(crate::specs::Leaves::objects))]
-    fn read_from(alloc: Global, element: &Element<'_>, path: &Path) -> Result<Kept, PartFault> {
+    fn read_from(
+        alloc: Global,
+        element: &Element<'_>,
+        path: &Trail<'_>,
+    ) -> Result<Kept, PartFault> {
         match Kept::new(element.to_json(alloc)?) {
             Ok(kept) => Ok(kept),
             Err(_) => Err(refusal_at(alloc, path, FieldWhy::WrongKind)),

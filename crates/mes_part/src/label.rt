@@ -3,8 +3,8 @@
 use crate::found::find_rows;
 use crate::list::List;
 use crate::part::{Part, PartFault};
-use crate::path::Path;
 use crate::read_row::{optional, repeated, required};
+use crate::trail::Trail;
 use crate::write_row::{copy_list, copy_some, put, put_many, put_some, whole_object};
 use mes_json::{Element, Json, NoMemory, Text};
 use std::alloc::Global;
@@ -29,8 +29,12 @@ impl Part for Label {
 
     ghost lawful = { lawful_label };
 
-    fn read_from(alloc: Global, element: &Element<'_>, path: &Path) -> Result<Label, PartFault> {
-        let rows = find_rows(alloc, element, &["key", "value"], path)?;
+    fn read_from(
+        alloc: Global,
+        element: &Element<'_>,
+        path: &Trail<'_>,
+    ) -> Result<Label, PartFault> {
+        let rows = find_rows::<2>(alloc, element, &["key", "value"], path)?;
         let key = required(alloc, rows.at(0), "key", path)?;
         let value = optional(alloc, rows.at(1), "value", path)?;
         Ok(Label { key, value })
@@ -69,8 +73,12 @@ impl Part for Labels {
 
     ghost lawful = { lawful_labels };
 
-    fn read_from(alloc: Global, element: &Element<'_>, path: &Path) -> Result<Labels, PartFault> {
-        let rows = find_rows(alloc, element, &["labels"], path)?;
+    fn read_from(
+        alloc: Global,
+        element: &Element<'_>,
+        path: &Trail<'_>,
+    ) -> Result<Labels, PartFault> {
+        let rows = find_rows::<1>(alloc, element, &["labels"], path)?;
         let labels = repeated(alloc, rows.at(0), "labels", path)?;
         Ok(Labels { labels })
     }

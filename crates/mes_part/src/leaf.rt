@@ -8,13 +8,18 @@ ghost use Rattle.mes_part.specs.Parts.{Gives, Shows};
 
 use crate::field::FieldWhy;
 use crate::part::PartFault;
-use crate::path::Path;
 use crate::refusal::refusal_at;
+use crate::trail::Trail;
 use mes_json::Element;
 use std::alloc::Global;
 
 /// The text of a string.
-pub fn text_in<'a>(alloc: Global, element: &Element<'a>, path: &Path) -> Result<&'a str, PartFault>
+#[tactic(auto, using(crate::proofs::PartLemmas::refuses_told))]
+pub fn text_in<'a>(
+    alloc: Global,
+    element: &Element<'a>,
+    path: &Trail<'_>,
+) -> Result<&'a str, PartFault>
     ensures { (t : Tree) → BeginsWith element.now t → Shows (λ s. s.now) (text_of path.now t) result }
 {
     match element.as_text() {
@@ -24,10 +29,11 @@ pub fn text_in<'a>(alloc: Global, element: &Element<'a>, path: &Path) -> Result<
 }
 
 /// The text of a number, as it is written.
+#[tactic(auto, using(crate::proofs::PartLemmas::refuses_told))]
 pub(crate) fn number_in<'a>(
     alloc: Global,
     element: &Element<'a>,
-    path: &Path,
+    path: &Trail<'_>,
 ) -> Result<&'a str, PartFault>
     ensures { (t : Tree) → BeginsWith element.now t → Shows (λ n. n.now) (number_of path.now t) result }
 {
@@ -41,7 +47,7 @@ pub(crate) fn number_in<'a>(
 pub(crate) fn boolean_in(
     alloc: Global,
     element: &Element<'_>,
-    path: &Path,
+    path: &Trail<'_>,
 ) -> Result<bool, PartFault>
     ensures { (t : Tree) → BeginsWith element.now t → Gives (boolean_of path.now t) result }
 {

@@ -6,7 +6,7 @@ ghost use Rattle.mes_part.specs.KindLaws.{lawful_texts, lawful_booleans};
 
 use crate::leaf::{boolean_in, text_in};
 use crate::part::{Part, PartFault};
-use crate::path::Path;
+use crate::trail::Trail;
 use mes_json::{Element, Json, NoMemory, Text};
 use std::alloc::Global;
 
@@ -20,7 +20,11 @@ impl Part for Text {
     ghost lawful = { lawful_texts };
 
     #[tactic(auto, unfolding(crate::specs::Leaves::texts))]
-    fn read_from(alloc: Global, element: &Element<'_>, path: &Path) -> Result<Text, PartFault> {
+    fn read_from(
+        alloc: Global,
+        element: &Element<'_>,
+        path: &Trail<'_>,
+    ) -> Result<Text, PartFault> {
         let text = text_in(alloc, element, path)?;
         Ok(Text::new(String::from_str(alloc, text)?))
     }
@@ -45,7 +49,11 @@ impl Part for bool {
     ghost lawful = { lawful_booleans };
 
     #[tactic(auto, unfolding(crate::specs::Leaves::booleans))]
-    fn read_from(alloc: Global, element: &Element<'_>, path: &Path) -> Result<bool, PartFault> {
+    fn read_from(
+        alloc: Global,
+        element: &Element<'_>,
+        path: &Trail<'_>,
+    ) -> Result<bool, PartFault> {
         boolean_in(alloc, element, path)
     }
 

@@ -17,6 +17,7 @@ mod path;
 mod read_row;
 mod refusal;
 mod rows;
+mod trail;
 mod write_row;
 
 pub use boxed_fault::BoxedFault;
@@ -37,7 +38,8 @@ pub use read_row::{
     flagged, left_out, optional, read_either_list, read_list, repeated, required, type_of,
 };
 pub use refusal::{refusal_at, type_refusal};
-pub use rows::{ROWS_MOST, Rows};
+pub use rows::Rows;
+pub use trail::Trail;
 pub use write_row::{
     copy_list, copy_some, list_tree, put, put_flag, put_many, put_some, put_type, whole_object,
 };

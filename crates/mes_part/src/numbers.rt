@@ -14,8 +14,8 @@ ghost use Rattle.mes_part.specs.Parts.{Gives};
 use crate::field::FieldWhy;
 use crate::leaf::number_in;
 use crate::part::{Part, PartFault};
-use crate::path::Path;
 use crate::refusal::refusal_at;
+use crate::trail::Trail;
 use arrayvec::ArrayString;
 use itoa::Buffer;
 use mes_fixed::{Fixed, read_i32, read_u64};
@@ -32,7 +32,7 @@ impl Part for u64 {
     ghost lawful = { lawful_whole };
 
     #[tactic(auto, using(crate::proofs::NumberPlaces::whole_given, crate::proofs::NumberPlaces::whole_out_of_range))]
-    fn read_from(alloc: Global, element: &Element<'_>, path: &Path) -> Result<u64, PartFault> {
+    fn read_from(alloc: Global, element: &Element<'_>, path: &Trail<'_>) -> Result<u64, PartFault> {
         let text = number_in(alloc, element, path)?;
         match read_u64(text.as_bytes()) {
             Ok(whole) => Ok(whole),
@@ -61,7 +61,7 @@ impl Part for i32 {
     ghost lawful = { lawful_signed32 };
 
     #[tactic(auto, using(crate::proofs::NumberPlaces::signed32_given, crate::proofs::NumberPlaces::signed32_out_of_range))]
-    fn read_from(alloc: Global, element: &Element<'_>, path: &Path) -> Result<i32, PartFault> {
+    fn read_from(alloc: Global, element: &Element<'_>, path: &Trail<'_>) -> Result<i32, PartFault> {
         let text = number_in(alloc, element, path)?;
         match read_i32(text.as_bytes()) {
             Ok(signed) => Ok(signed),
@@ -87,7 +87,11 @@ impl Part for Fixed<3> {
 
     ghost lawful = { lawful_fixed 3 };
 
-    fn read_from(alloc: Global, element: &Element<'_>, path: &Path) -> Result<Fixed<3>, PartFault> {
+    fn read_from(
+        alloc: Global,
+        element: &Element<'_>,
+        path: &Trail<'_>,
+    ) -> Result<Fixed<3>, PartFault> {
         fixed_in(alloc, element, path)
     }
 
@@ -110,7 +114,11 @@ impl Part for Fixed<6> {
 
     ghost lawful = { lawful_fixed 6 };
 
-    fn read_from(alloc: Global, element: &Element<'_>, path: &Path) -> Result<Fixed<6>, PartFault> {
+    fn read_from(
+        alloc: Global,
+        element: &Element<'_>,
+        path: &Trail<'_>,
+    ) -> Result<Fixed<6>, PartFault> {
         fixed_in(alloc, element, path)
     }
 
@@ -129,7 +137,7 @@ impl Part for Fixed<6> {
 fn fixed_in<const P: u32>(
     alloc: Global,
     element: &Element<'_>,
-    path: &Path,
+    path: &Trail<'_>,
 ) -> Result<Fixed<P>, PartFault>
     requires { (1 ≤ P) × (P ≤ 6) }
     ensures { (t : Tree) → BeginsWith element.now t → Gives ((fixed P).read path.now t) result }

@@ -10,6 +10,7 @@ ghost use Rattle.mes_part.specs.declared.part.PartFault.TheVariants.{NoMemory as
 
 use crate::boxed_fault::BoxedFault;
 use crate::path::Path;
+use crate::trail::Trail;
 use mes_json::{Element, Json, NoMemory, Tape};
 use std::alloc::{AllocError, AllocFailed, Global};
 
@@ -56,7 +57,7 @@ pub trait Part: Drop {
     const STEPS: u32;
 
     /// The value that stands at the place, whose path this is, or the first fault.
-    fn read_from(alloc: Global, element: &Element<'_>, path: &Path) -> Result<Self, PartFault>
+    fn read_from(alloc: Global, element: &Element<'_>, path: &Trail<'_>) -> Result<Self, PartFault>
         requires { length path.now + STEPS ≤ 16 }
         ensures { (t : Tree) → BeginsWith element.now t → Gives (kind.read path.now t) result };
 
@@ -66,7 +67,7 @@ pub trait Part: Drop {
         ensures { Gives (kind.read path.now (view json.now)) result }
     {
         let tape = Tape::of_json(alloc, json)?;
-        Self::read_from(alloc, &tape.root(), path)
+        Self::read_from(alloc, &tape.root(), &Trail::along(path))
     }
 
     /// What the value is written as.

@@ -17,8 +17,9 @@ use crate::field::FieldWhy;
 use crate::found::{Found, find_rows};
 use crate::list::List;
 use crate::part::{Part, PartFault};
-use crate::path::{Path, Step};
+use crate::path::Step;
 use crate::refusal::{refusal_at, row_refusal, type_refusal};
+use crate::trail::Trail;
 use mes_json::Element;
 use std::alloc::Global;
 
@@ -28,7 +29,7 @@ pub fn required<T: Part>(
     alloc: Global,
     found: &Found<'_>,
     name: &'static str,
-    path: &Path,
+    path: &Trail<'_>,
 ) -> Result<T, PartFault>
     requires room { length path.now + 1 + T.STEPS ≤ 16 }
     requires step { IsPlace (Place.name name.now) }
@@ -47,7 +48,7 @@ pub fn optional<T: Part>(
     alloc: Global,
     found: &Found<'_>,
     name: &'static str,
-    path: &Path,
+    path: &Trail<'_>,
 ) -> Result<Option<T>, PartFault>
     requires room { length path.now + 1 + T.STEPS ≤ 16 }
     requires step { IsPlace (Place.name name.now) }
@@ -69,7 +70,7 @@ pub fn repeated<T: Part>(
     alloc: Global,
     found: &Found<'_>,
     name: &'static str,
-    path: &Path,
+    path: &Trail<'_>,
 ) -> Result<List<T>, PartFault>
     requires room { length path.now + 2 + T.STEPS ≤ 16 }
     requires step { IsPlace (Place.name name.now) }
@@ -83,16 +84,16 @@ pub fn repeated<T: Part>(
 }
 
 /// A flag, which is set where a member has the name and its value is an object.
-#[tactic(auto, unfolding(crate::specs::Rows::flagged, crate::specs::Fields::lookup))]
+#[tactic(auto, using(crate::proofs::PartLemmas::refuses_told), unfolding(crate::specs::Rows::flagged, crate::specs::Fields::lookup))]
 pub fn flagged(
     alloc: Global,
     found: &Found<'_>,
     name: &'static str,
-    path: &Path,
+    path: &Trail<'_>,
 ) -> Result<bool, PartFault>
     requires room { length path.now < 16 }
     requires step { IsPlace (Place.name name.now) }
-    ensures { (ms : Members) → IsFound found.now (values_named name.now ms) → Gives (flagged name.now path.now ms) result }
+    ensures { (ms : Members) → IsFound found.now (values_named name.now ms) → Shows (λ x. x) (flagged name.now path.now ms) result }
 {
     match sole_value(found) {
         Sole::Present(value) => match value.members() {
@@ -105,8 +106,8 @@ pub fn flagged(
 }
 
 /// The row `type`, which says what other rows there are.
-#[tactic(auto, unfolding(crate::specs::Rows::required, crate::specs::Fields::lookup, crate::specs::Leaves::texts))]
-pub fn type_of<'a>(alloc: Global, found: &Found<'a>, path: &Path) -> Result<&'a str, PartFault>
+#[tactic(auto, using(crate::proofs::PartLemmas::refuses_told), unfolding(crate::specs::Rows::required, crate::specs::Fields::lookup, crate::specs::Leaves::texts))]
+pub fn type_of<'a>(alloc: Global, found: &Found<'a>, path: &Trail<'_>) -> Result<&'a str, PartFault>
     requires { length path.now < 16 }
     ensures { (ms : Members) → IsFound found.now (values_named type_name ms) → Shows (λ s. s.now) (required type_name texts path.now ms) result }
 {
@@ -124,7 +125,7 @@ pub fn type_of<'a>(alloc: Global, found: &Found<'a>, path: &Path) -> Result<&'a 
 pub fn read_list<T: Part>(
     alloc: Global,
     element: &Element<'_>,
-    path: &Path,
+    path: &Trail<'_>,
 ) -> Result<List<T>, PartFault>
     requires { length path.now + 1 + T.STEPS ≤ 16 }
     ensures { (t : Tree) → BeginsWith element.now t → Gives ((list_of T.kind).read path.now t) result }
@@ -145,7 +146,7 @@ pub fn read_either_list<T: Part>(
     alloc: Global,
     element: &Element<'_>,
     name: &'static str,
-    path: &Path,
+    path: &Trail<'_>,
 ) -> Result<List<T>, PartFault>
     requires room { length path.now + 2 + T.STEPS ≤ 16 }
     requires step { IsPlace (Place.name name.now) }
@@ -154,7 +155,7 @@ pub fn read_either_list<T: Part>(
     if element.items().is_some() {
         return read_list(alloc, element, path);
     }
-    let rows = find_rows(alloc, element, &[name], path)?;
+    let rows = find_rows::<1>(alloc, element, &[name], path)?;
     repeated(alloc, rows.at(0), name, path)
 }
 
@@ -169,12 +170,12 @@ enum Sole<'a> {
 }
 
 /// A row of what is not supported: it may be absent or `null`, and any other value of it is `LeftOut`.
-#[tactic(auto, unfolding(crate::specs::Rows::optional, crate::specs::Fields::lookup, crate::specs::Leaves::left_out))]
+#[tactic(auto, using(crate::proofs::PartLemmas::refuses_told), unfolding(crate::specs::Rows::optional, crate::specs::Fields::lookup, crate::specs::Leaves::left_out))]
 pub fn left_out(
     alloc: Global,
     found: &Found<'_>,
     name: &'static str,
-    path: &Path,
+    path: &Trail<'_>,
 ) -> Result<(), PartFault>
     requires room { length path.now < 16 }
     requires step { IsPlace (Place.name name.now) }

@@ -10,16 +10,17 @@ ghost use Rattle.mes_part.specs.Refusals.{Tells};
 use crate::boxed_fault::BoxedFault;
 use crate::field::{FieldFault, FieldWhy};
 use crate::part::PartFault;
-use crate::path::{Path, Step};
+use crate::path::Step;
+use crate::trail::Trail;
 use std::alloc::Global;
 
 /// What is wrong at the place of this path.
 #[cold]
 #[inline(never)]
-pub fn refusal_at(alloc: Global, path: &Path, why: FieldWhy) -> PartFault
+pub fn refusal_at(alloc: Global, path: &Trail<'_>, why: FieldWhy) -> PartFault
     ensures { Tells (record { path = path.now; why = why }) result }
 {
-    let path = path.copy();
+    let path = path.path();
     told(alloc, FieldFault { path, why })
 }
 
@@ -28,7 +29,7 @@ pub fn refusal_at(alloc: Global, path: &Path, why: FieldWhy) -> PartFault
 #[inline(never)]
 pub(crate) fn row_refusal(
     alloc: Global,
-    path: &Path,
+    path: &Trail<'_>,
     name: &'static str,
     why: FieldWhy,
 ) -> PartFault
@@ -36,12 +37,12 @@ pub(crate) fn row_refusal(
     requires step { IsPlace (Place.name name.now) }
     ensures { Tells (record { path = below path.now name.now; why = why }) result }
 {
-    let path = path.with(Step::Name(name));
+    let path = path.path().with(Step::Name(name));
     told(alloc, FieldFault { path, why })
 }
 
 /// What is wrong with the type of the object at this path.
-pub fn type_refusal(alloc: Global, path: &Path, why: FieldWhy) -> PartFault
+pub fn type_refusal(alloc: Global, path: &Trail<'_>, why: FieldWhy) -> PartFault
     requires { length path.now < 16 }
     ensures { Tells (record { path = below path.now type_name; why = why }) result }
 {

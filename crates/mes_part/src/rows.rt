@@ -2,25 +2,21 @@
 
 ghost use Rattle.std.specs.Prelude.{◌≡◌, ◌<◌, length, slice_index_or};
 ghost use Rattle.mes_part.specs.declared.found.Found.TheVariants.{Nothing};
-ghost use Rattle.mes_part.specs.declared.rows.TheConstants.{ROWS_MOST};
 
 use crate::found::Found;
 use arrayvec::ArrayVec;
 
-/// How many rows a message has at most.
-pub const ROWS_MOST: usize = 16;
-
-/// What an object has under some names.
+/// What an object has under some names, in the order of the names.
 #[derive(Drop)]
-pub struct Rows<'a> {
-    pub(crate) found: ArrayVec<Found<'a>, ROWS_MOST>,
-    ghost all: { length found.items ≡ ROWS_MOST },
+pub struct Rows<'a, const N: usize> {
+    pub(crate) found: ArrayVec<Found<'a>, N>,
+    ghost all: { length found.items ≡ N },
 }
 
-impl<'a> Rows<'a> {
+impl<'a, const N: usize> Rows<'a, N> {
     /// What was found under the name in this place.
     pub fn at(&self, row: usize) -> &Found<'a>
-        requires { row < ROWS_MOST }
+        requires { row < N }
         ensures { result.now ≡ slice_index_or self.now.found.items row Nothing }
     {
         &self.found.as_slice()[row]

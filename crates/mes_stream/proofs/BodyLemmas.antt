@@ -86,6 +86,12 @@ module _ {R E : Type 0} (holds : R → List ℕ → Type 0) (spells : List ℕ �
       let none : 0 ≡ n = omega arith in
       subst (λ (m : ℕ). BodyLive spells (limit_of d.records) (b ++ take m run) values) none (rw (append-nil b) (live_of d b values s))
 
+  -- within a size line the record goes on
+  pub size_live : (d : Body R) (b run r : List ℕ) (values : List E) (n limit : ℕ) (s : BodyStands holds spells d b values) → limit ≡ limit_of d.records
+      → Begun (s.x ++ take n run) r limit → BodyLive spells limit (b ++ take n run) values
+  size_live d b run r values n limit s same begun =
+      rw same (behind_on d b (take n run) values s (λ x. (r : List ℕ) × Begun x r (limit_of d.records)) (r, rw same at begun))
+
   -- within a run of data the record goes on
   pub data_on : (d : Body R) (b run : List ℕ) (values : List E) (n left : ℕ) (s : BodyStands holds spells d b values) → n < left → n ≤ length run
       → DataBegun s.x s.r left (limit_of d.records) → DataBegun (s.x ++ take n run) (s.r ++ take n run) (left - n) (limit_of d.records)

@@ -5,6 +5,7 @@ mod Grows
 mod PlainLaw
 pub mod ReadLemmas
 mod SendLemmas
+mod SizeLemmas
 mod SomeReading
 mod StreamLaw
 pub mod StreamLemmas

@@ -11,4 +11,6 @@ pub mod Sending
 pub mod Stream
 pub mod StreamReaders
 pub mod StreamReading
+pub mod RecordFaults
+pub mod SmallFaults
 pub mod Taking

@@ -1,13 +1,12 @@
 -- What a reader of a body of records holds, and what it makes of a run of the body's bytes.
 use Rattle.std.specs.Prelude.{◌≡◌, ℕ, ◌+◌, ◌-◌, ◌^◌, ◌<◌, ◌≤◌, List, [], ◌∷◌, ◌++◌, length, take, slice_index, Result, Ok, Err}
-use Rattle.mes_frame.specs.Record.{IsRecord, DataBegun, SizeShows}
+use Rattle.mes_frame.specs.Record.{IsRecord, Begun, DataBegun, SizeShows}
 use Rattle.mes_frame.specs.RecordState.{RecordStands, RecordPasses, limit_of}
 use Rattle.mes_frame.specs.declared.record.RecordState.{RecordState}
 use Rattle.mes_msg.specs.declared.record.RecordFault.{RecordFault}
-use Rattle.mes_msg.specs.declared.record.RecordFault.TheVariants as refusal
 use Rattle.mes_stream.specs.Stream.{saturated, Records, EndsRecord, BodyStops}
 use Rattle.mes_stream.specs.declared.fault.Fault.{Fault}
-use Rattle.mes_stream.specs.declared.fault.Fault.TheVariants.{Text, Field, NoMemory}
+use Rattle.mes_stream.specs.RecordFaults.{fault_at_record}
 use Rattle.mes_stream.specs.Framings.{StopsWithin}
 use Rattle.mes_stream.specs.declared.body.Body.{Body}
 use Rattle.mes_stream.specs.declared.body.Halt.{Halt}
@@ -31,14 +30,15 @@ pub record BodyStands {R E : Type 0} (holds : R → List ℕ → Type 0) (spells
 
 -- the front of a run has at least one byte, and no more than the run
 abbrev pub IsWithin : ℕ → Front → Type 0
-IsWithin len Size = Unit {0}
+IsWithin len (Size count) = (0 < count) × (count ≤ len)
 IsWithin len (Data count last) = (0 < count) × (count ≤ len)
 IsWithin len Empty = Unit {0}
 IsWithin len (Bad fault) = Unit {0}
 
 -- what the front of a run is behind x, the front of a record with the data r
 abbrev pub Fronts : RecordState → List ℕ → List ℕ → List ℕ → Front → Type 0
-Fronts new x r run Size = RecordStands new (x ++ take 1 run) r
+Fronts new x r run (Size count) =
+    RecordStands new (x ++ take count run) r × ((n : ℕ) → n < count → Begun (x ++ take n run) r (limit_of new))
 Fronts new x r run (Data count last) =
     ((left : ℕ) × DataBegun x r left (limit_of new) × (count ≤ left)) × RecordPasses new x r (take count run) last
 Fronts new x r run Empty = IsRecord (x ++ slice_index run 0 ∷ []) [] (limit_of new)
@@ -46,9 +46,7 @@ Fronts new x r run (Bad fault) = SizeShows x (slice_index run 0) (limit_of new) 
 
 -- a refusal of the record behind so many
 abbrev pub fault_of_record : ℕ → RecordFault → Fault
-fault_of_record done (refusal.Text f) = Text (saturated (done + 1)) f.byte f.why
-fault_of_record done (refusal.Field f) = Field (saturated (done + 1)) f.path f.why
-fault_of_record done refusal.NoMemory = NoMemory
+fault_of_record done why = fault_at_record (saturated (done + 1)) why
 
 -- What became of the first `used` bytes of the run: they were taken, or a record ended with them and has that value, or
 -- the last of them stopped the reading.

@@ -1,6 +1,7 @@
 //! Reads a body of records: it takes the bytes in runs, however cut, and makes a value of each record.
 
 ghost use Rattle.std.specs.Prelude.{◌≡◌, true, false, ◌+◌, ◌^◌, ◌<◌, ◌≤◌, ℕ, List, [], ◌++◌, length, IfOk, IfErr, take};
+ghost use Rattle.mes_frame.specs.Record.{Begun};
 ghost use Rattle.mes_frame.specs.RecordState.{RecordStands, limit_of};
 ghost use Rattle.mes_stream.specs.Stream.{Records, EndsInside, BodyLive};
 ghost use Rattle.mes_stream.specs.Decoders.{HoldsInBody};
@@ -8,6 +9,7 @@ ghost use Rattle.mes_stream.specs.Taking.{BodyStands, Fronts, IsWithin, Takes, E
 
 use crate::fault::Fault;
 use crate::record_reader::RecordReader;
+use crate::small_fault::SmallFault;
 use mes_frame::{FrameFault, Limit, RecordOut, RecordState};
 use mes_json::NoMemory;
 use mes_msg::RecordFault;
@@ -38,7 +40,7 @@ pub(crate) enum BodyOut<V> {
     /// The value of the record that ended with them.
     Value(V),
     /// The last of them stops the reading.
-    Fault(Fault),
+    Fault(SmallFault),
 }
 
 /// Where in a piece the reading stopped, and why.
@@ -50,11 +52,11 @@ pub struct Halt {
     pub used: usize,
 }
 
-// What the front of a run is: a byte of a size line, data of the record, the end of a record without data, or a byte that
+// What the front of a run is: bytes of a size line, data of the record, the end of a record without data, or a byte that
 // no size line has there.
 #[derive(Drop)]
 enum Front {
-    Size,
+    Size { count: usize },
     Data { count: usize, last: bool },
     Empty,
     Bad(FrameFault),
@@ -84,7 +86,7 @@ impl<R: RecordReader> Body<R> {
         self.records.between()
     }
 
-    /// Takes a byte of a size line or a run of data from the front of a run.
+    /// Takes bytes of a size line or a run of data from the front of a run.
     pub(crate) fn take(&mut self, run: &[u8]) -> Taken<R::Value>
         requires { 0 < length run.now }
         ensures takes { (b : List ℕ) (values : List R.Value) → BodyStands R.holds R.spells self.old b values
@@ -96,13 +98,13 @@ impl<R: RecordReader> Body<R> {
         ensures limit { limit_of self.new.records ≡ limit_of self.old.records }
     {
         match front_of(&mut self.records, run) {
-            Front::Size => Taken {
-                used: 1,
+            Front::Size { count } => Taken {
+                used: count,
                 out: BodyOut::More,
             },
             Front::Bad(fault) => Taken {
                 used: 1,
-                out: BodyOut::Fault(Fault::Frame(fault)),
+                out: BodyOut::Fault(SmallFault::frame(fault)),
             },
             Front::Empty => {
                 let why = self.reader.refuse_empty();
@@ -114,7 +116,7 @@ impl<R: RecordReader> Body<R> {
             Front::Data { count, last } => match self.reader.push_run(&run[..count]) {
                 Err(NoMemory) => Taken {
                     used: 1,
-                    out: BodyOut::Fault(Fault::NoMemory),
+                    out: BodyOut::Fault(SmallFault::no_memory()),
                 },
                 Ok(()) => Taken {
                     used: count,
@@ -149,7 +151,10 @@ impl<R: RecordReader> Body<R> {
                         });
                     }
                 }
-                BodyOut::Fault(fault) => return Err(Halt { fault, used: at }),
+                BodyOut::Fault(fault) => return Err(Halt {
+                    fault: fault.into_fault(),
+                    used: at,
+                }),
             }
         }
         Ok(())
@@ -180,23 +185,10 @@ impl<R: RecordReader> Body<R> {
     }
 
     // The fault of the record that has ended.
-    fn refused(&self, why: RecordFault) -> Fault
+    fn refused(&self, why: RecordFault) -> SmallFault
         ensures { result ≡ fault_of_record self.now.done why }
     {
-        let at_record = self.done.saturating_add(1);
-        match why {
-            RecordFault::Text(fault) => Fault::Text {
-                at_record,
-                byte: fault.byte,
-                why: fault.why,
-            },
-            RecordFault::Field(fault) => Fault::Field {
-                at_record,
-                path: fault.path,
-                why: fault.why,
-            },
-            RecordFault::NoMemory => Fault::NoMemory,
-        }
+        SmallFault::of_record(self.done.saturating_add(1), why)
     }
 }
 
@@ -214,11 +206,34 @@ fn front_of(records: &mut RecordState, run: &[u8]) -> Front
         return Front::Data { count, last };
     }
     match records.step(run[0]) {
-        RecordOut::Quiet => Front::Size,
+        RecordOut::Quiet => Front::Size {
+            count: 1 + size_run(records, &run[1..]),
+        },
         RecordOut::Byte { last } => Front::Data { count: 1, last },
         RecordOut::Empty => Front::Empty,
         RecordOut::Fault(fault) => Front::Bad(fault),
     }
+}
+
+// Takes the bytes of a size line that follow in a run: how many there are.
+fn size_run(records: &mut RecordState, run: &[u8]) -> usize
+    ensures stands { (x r : List ℕ) → RecordStands records.old x r → RecordStands records.new (x ++ take result run.now) r }
+    ensures begun { (x r : List ℕ) → RecordStands records.old x r
+        → (n : ℕ) → n ≤ result → Begun (x ++ take n run.now) r (limit_of records.new) }
+    ensures limit { limit_of records.new ≡ limit_of records.old }
+    ensures within { result ≤ length run.now }
+{
+    let mut count = 0;
+    while count < run.len() && records.room() == 0 {
+        let mut next = *records;
+        match next.step(run[count]) {
+            RecordOut::Quiet => {}
+            RecordOut::Byte { .. } | RecordOut::Empty | RecordOut::Fault(_) => return count,
+        }
+        *records = next;
+        count += 1;
+    }
+    count
 }
 
 // How many bytes of a run of data are given on together: white space in front of it goes alone. It takes no memory, so want of

@@ -8,7 +8,7 @@ ghost use Rattle.mes_stream.specs.EventData.{HoldsData, kept_data};
 use crate::record_reader::RecordReader;
 use mes_json::{Lexer, NoMemory, TextFault, Why, lexer_bound};
 use mes_msg::{Event, RecordFault};
-use mes_part::{Part, Path};
+use mes_part::{Part, Trail};
 use std::alloc::Global;
 use std::mem;
 
@@ -53,7 +53,7 @@ impl RecordReader for EventReader {
         let alloc = self.alloc;
         let lexer = mem::replace(&mut self.lexer, Lexer::new(alloc));
         let tape = lexer.end()?;
-        let event = Event::read_from(alloc, &tape.root(), &Path::new())?;
+        let event = Event::read_from(alloc, &tape.root(), &Trail::new())?;
         self.lexer = Lexer::reusing(alloc, tape);
         Ok(event)
     }

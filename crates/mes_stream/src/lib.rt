@@ -14,6 +14,7 @@ mod reading;
 mod record_reader;
 mod send;
 mod send_fault;
+mod small_fault;
 mod stream_reader;
 
 pub use body::{Body, Halt};

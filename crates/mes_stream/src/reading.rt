@@ -97,7 +97,7 @@ impl<R: RecordReader> Reading<R> {
             out: match taken.out {
                 BodyOut::More => Out::More,
                 BodyOut::Value(value) => Out::Event(value),
-                BodyOut::Fault(fault) => Out::Fault(fault),
+                BodyOut::Fault(fault) => Out::Fault(fault.into_fault()),
             },
         }
     }

@@ -3,14 +3,13 @@ use Rattle.mes_json.specs.Tree.{Tree, Members}
 use Rattle.mes_json.specs.Tree.Tree.{object}
 use Rattle.mes_json.specs.Tokens.{BeginsWith, BeginsMembers}
 use Rattle.mes_part.specs.Objects.{members_in}
-use Rattle.mes_part.specs.declared.rows.TheConstants.{ROWS_MOST}
 use Rattle.mes_part.proofs.FoundLemmas.{FollowEach}
 use Rattle.mes_part.proofs.found.find_rows.Given as goal
 
 abbrev pub invariant-loop-name : goal.invariant-loop-name
-invariant-loop-name l =
-    (length l.found.items ≡ ROWS_MOST) × ((t : Tree) → BeginsWith l.element t
+invariant-loop-name g l =
+    (length l.found.items ≡ g.row.N) × ((t : Tree) → BeginsWith l.element t
     → (t ≡ object (members_in t)) × ((rest : Members) × BeginsMembers l.members rest × FollowEach l.found.items (map (λ n. n.now) l.names) (members_in t) rest))
 
 abbrev pub decreases-loop-name : goal.decreases-loop-name
-decreases-loop-name l = length l.members
+decreases-loop-name g l = length l.members

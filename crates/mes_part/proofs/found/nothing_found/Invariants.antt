@@ -3,4 +3,4 @@ use Rattle.mes_part.specs.declared.found.Found.TheVariants.{Nothing}
 use Rattle.mes_part.proofs.found.nothing_found.Given as goal
 
 abbrev pub invariant-loop : goal.invariant-loop
-invariant-loop l = (length l.found.items ≡ l.counter) × ((i : ℕ) → get_or l.found.items i Nothing ≡ Nothing)
+invariant-loop g l = (length l.found.items ≡ l.counter) × ((i : ℕ) → get_or l.found.items i Nothing ≡ Nothing)

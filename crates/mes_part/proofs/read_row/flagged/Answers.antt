@@ -2,7 +2,7 @@ use Rattle.std.proofs.Common.{ap, refl}
 use Rattle.mes_part.specs.Fields.{below}
 use Rattle.mes_part.specs.Leaves.{members_at}
 use Rattle.mes_part.proofs.FoundLemmas.{members_found, no_members_found}
-use Rattle.mes_part.proofs.PartLemmas.{gives_told}
+use Rattle.mes_part.proofs.PartLemmas.{refuses_told}
 use Rattle.mes_part.proofs.RowLemmas.{looked_value, flagged_at}
 use Rattle.mes_part.proofs.read_row.flagged.Goals as goal
 
@@ -15,7 +15,7 @@ returns-in-Some c = λ ms found.
 pub returns-in-None : goal.returns-in-None
 returns-in-None c = λ ms found.
     let value = looked_value c.args.found.now c.args.path.now c.args.name.now ms c.sole_value.result c.in-Present.value c.sole_value.ensures c.in-Present.is found in
-    gives_told _ _ _ c.row_refusal.ensures (
+    refuses_told _ _ _ c.row_refusal.ensures (
     rw (
       flagged_at c.args.path.now (below c.args.path.now c.args.name.now) c.args.name.now ms value.0 refl value.1,
       no_members_found (below c.args.path.now c.args.name.now) value.0 (c.in-None.ensures value.0 value.2),

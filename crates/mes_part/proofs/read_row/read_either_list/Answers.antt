@@ -2,7 +2,7 @@ use Rattle.std.proofs.Common.{sym, ◌∙◌, ap}
 use Rattle.mes_part.specs.Leaves.{members_at}
 use Rattle.mes_part.specs.Rows.{repeated}
 use Rattle.mes_part.specs.FieldLaws.{bound_ok}
-use Rattle.mes_part.proofs.RowLemmas.{found_as, gives_bound}
+use Rattle.mes_part.proofs.RowLemmas.{found_as, refused_bound}
 use Rattle.mes_part.proofs.EitherLemmas.{gives_array, gives_object}
 use Rattle.mes_part.proofs.read_row.read_either_list.Goals as goal
 
@@ -14,7 +14,7 @@ returns-then-is_some g c = λ t b.
 pub returns-in_err-rows : goal.returns-in_err-rows
 returns-in_err-rows g c = λ t b.
     gives_object c.args.name.now g.T.Part.kind c.args.path.now t c.items.result _ (c.items.ensures t b) (sym c.is_some.ensures ∙ c.if-is_some.false)
-    (gives_bound (members_at c.args.path.now t) _ _ c.from_residual.result c.from_residual.ensures.1 (c.in_err-rows.ensures t b))
+    (refused_bound (members_at c.args.path.now t) _ _ c.from_residual.result c.from_residual.ensures.1 (c.in_err-rows.ensures t b))
 
 pub returns : goal.returns
 returns g c = λ t b.

@@ -2,7 +2,7 @@ use Rattle.std.proofs.Common.{refl}
 use Rattle.mes_part.specs.Choices.{type_name}
 use Rattle.mes_part.specs.Fields.{below}
 use Rattle.mes_part.specs.Leaves.{texts}
-use Rattle.mes_part.proofs.PartLemmas.{gives_told}
+use Rattle.mes_part.proofs.PartLemmas.{refuses_told}
 use Rattle.mes_part.proofs.RowLemmas.{looked_value, required_at}
 use Rattle.mes_part.proofs.read_row.type_of.Goals as goal
 
@@ -16,7 +16,7 @@ pub returns-in-None : goal.returns-in-None
 unfolding texts
 returns-in-None c = λ ms found.
     let value = looked_value c.args.found.now c.args.path.now type_name ms c.sole_value.result c.in-Present.value c.sole_value.ensures c.in-Present.is found in
-    gives_told _ _ _ c.type_refusal.ensures (
+    refuses_told _ _ _ c.type_refusal.ensures (
     rw (
       required_at texts c.args.path.now (below c.args.path.now type_name) type_name ms value.0 refl value.1,
       ← c.in-None.ensures value.0 value.2,

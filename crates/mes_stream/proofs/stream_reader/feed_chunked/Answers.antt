@@ -1,4 +1,4 @@
-use Rattle.std.proofs.Common.{◌≡◌, ℕ, List, [], ◌∷◌, ◌+◌, ◌-◌, ◌<◌, ◌++◌, length, take, ◌∙◌, ap, subst, inl, inr, append_assoc, arith, refl, length-drop}
+use Rattle.std.proofs.Common.{◌≡◌, ℕ, List, [], ◌∷◌, ◌-◌, ◌<◌, ◌++◌, length, take, ◌∙◌, ap, subst, inl, inr, append_assoc, arith, refl, length-drop}
 use Rattle.std.proofs.lemmas.List.{take_rest}
 use Rattle.mes_stream.specs.Chunked.{IsStream}
 use Rattle.mes_stream.specs.Decoders.{DecoderStands}

@@ -5,14 +5,14 @@ use Rattle.mes_part.specs.Leaves.{texts}
 use Rattle.mes_part.specs.NameLaws.{names_differ}
 use Rattle.mes_part.specs.Rows.{required, row_value}
 use Rattle.mes_part.proofs.PartLemmas.{gives_told}
-use Rattle.mes_part.proofs.RowLemmas.{gives_bound}
+use Rattle.mes_part.proofs.RowLemmas.{gives_bound, refused_bound}
 use Rattle.mes_model.specs.Values.{ranges, scalar, set, text_value}
 use Rattle.mes_model.proofs.attribute.AttributeValue.read_rows.Goals as goal
 
 pub returns-in_err-type_of : goal.returns-in_err-type_of
 unfolding row_value
 returns-in_err-type_of c = λ ms kind_found scalar_found ranges_found set_found text_found.
-    gives_bound (required type_name texts c.args.path.now ms) _ _ c.from_residual.result c.from_residual.ensures.1 (c.in_err-type_of.ensures ms kind_found)
+    refused_bound (required type_name texts c.args.path.now ms) _ _ c.from_residual.result c.from_residual.ensures.1 (c.in_err-type_of.ensures ms kind_found)
 
 pub returns-in_err-required-in-SCALAR : goal.returns-in_err-required-in-SCALAR
 unfolding row_value

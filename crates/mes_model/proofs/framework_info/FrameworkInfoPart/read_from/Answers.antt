@@ -1,7 +1,7 @@
 use Rattle.std.proofs.Common.{ap, refl}
 use Rattle.std.specs.Prelude.{codes}
 use Rattle.mes_part.specs.Leaves.{members_at, texts, booleans}
-use Rattle.mes_part.proofs.RowLemmas.{found_as, gives_bound}
+use Rattle.mes_part.proofs.RowLemmas.{found_as, gives_bound, refused_bound}
 use Rattle.mes_model.specs.Frameworks.{framework_info, capability}
 use Rattle.mes_part.specs.Rows.{optional, repeated, required}
 use Rattle.mes_part.specs.Numbers.{fixed}
@@ -10,7 +10,7 @@ use Rattle.mes_model.proofs.framework_info.FrameworkInfoPart.read_from.Goals as 
 
 pub returns-in_err-rows : goal.returns-in_err-rows
 unfolding framework_info
-returns-in_err-rows c = λ t b. gives_bound (members_at c.args.path.now t) _ _ c.from_residual.result c.from_residual.ensures.1 (c.in_err-rows.ensures t b)
+returns-in_err-rows c = λ t b. refused_bound (members_at c.args.path.now t) _ _ c.from_residual.result c.from_residual.ensures.1 (c.in_err-rows.ensures t b)
 
 pub returns-in_err-user : goal.returns-in_err-user
 unfolding framework_info

@@ -1,7 +1,7 @@
 use Rattle.std.proofs.Common.{ap, refl}
 use Rattle.std.specs.Prelude.{codes}
 use Rattle.mes_part.specs.Leaves.{members_at, objects, texts}
-use Rattle.mes_part.proofs.RowLemmas.{found_as, gives_bound}
+use Rattle.mes_part.proofs.RowLemmas.{found_as, gives_bound, refused_bound}
 use Rattle.mes_model.specs.Resources.{resource, resource_value_rows}
 use Rattle.mes_part.specs.Rows.{flagged, optional, repeated, required, row_value}
 use Rattle.mes_model.specs.Reservations.{allocation, reservation}
@@ -10,7 +10,7 @@ use Rattle.mes_model.proofs.resource.ResourcePart.read_from.Goals as goal
 
 pub returns-in_err-rows : goal.returns-in_err-rows
 unfolding resource
-returns-in_err-rows c = λ t b. gives_bound (members_at c.args.path.now t) _ _ c.from_residual.result c.from_residual.ensures.1 (c.in_err-rows.ensures t b)
+returns-in_err-rows c = λ t b. refused_bound (members_at c.args.path.now t) _ _ c.from_residual.result c.from_residual.ensures.1 (c.in_err-rows.ensures t b)
 
 pub returns-in_err-name : goal.returns-in_err-name
 unfolding resource
@@ -106,7 +106,7 @@ returns-in_err-revocable c = λ t b.
       c.in_ok-reservation.ensures rows.0 (found_as _ _ _ c.at-8.ensures rows.2.1.1.1.1.1.1.1.0),
       c.in_ok-reservations.ensures rows.0 (found_as _ _ _ c.at-9.ensures rows.2.1.1.1.1.1.1.1.1.0),
       c.in_ok-disk.ensures rows.0 (found_as _ _ _ c.at-10.ensures rows.2.1.1.1.1.1.1.1.1.1.0),
-    ) (gives_bound (flagged (codes "revocable") c.args.path.now rows.0) _ _ c.from_residual-in_err-revocable.result c.from_residual-in_err-revocable.ensures.1
+    ) (refused_bound (flagged (codes "revocable") c.args.path.now rows.0) _ _ c.from_residual-in_err-revocable.result c.from_residual-in_err-revocable.ensures.1
     (c.in_err-revocable.ensures rows.0 (found_as _ _ _ c.at-11.ensures rows.2.1.1.1.1.1.1.1.1.1.1.0)))
 
 pub returns-in_err-shared : goal.returns-in_err-shared
@@ -123,7 +123,7 @@ returns-in_err-shared c = λ t b.
       c.in_ok-reservations.ensures rows.0 (found_as _ _ _ c.at-9.ensures rows.2.1.1.1.1.1.1.1.1.0),
       c.in_ok-disk.ensures rows.0 (found_as _ _ _ c.at-10.ensures rows.2.1.1.1.1.1.1.1.1.1.0),
       c.in_ok-revocable.ensures rows.0 (found_as _ _ _ c.at-11.ensures rows.2.1.1.1.1.1.1.1.1.1.1.0),
-    ) (gives_bound (flagged (codes "shared") c.args.path.now rows.0) _ _ c.from_residual-in_err-shared.result c.from_residual-in_err-shared.ensures.1
+    ) (refused_bound (flagged (codes "shared") c.args.path.now rows.0) _ _ c.from_residual-in_err-shared.result c.from_residual-in_err-shared.ensures.1
     (c.in_err-shared.ensures rows.0 (found_as _ _ _ c.at-12.ensures rows.2.1.1.1.1.1.1.1.1.1.1.1.0)))
 
 pub returns-in_err-provider_id : goal.returns-in_err-provider_id

@@ -1,7 +1,7 @@
 use Rattle.std.proofs.Common.{ap, refl}
 use Rattle.std.specs.Prelude.{codes}
 use Rattle.mes_part.specs.Leaves.{members_at, texts, objects}
-use Rattle.mes_part.proofs.RowLemmas.{found_as, gives_bound}
+use Rattle.mes_part.proofs.RowLemmas.{found_as, gives_bound, refused_bound}
 use Rattle.mes_model.specs.Tasks.{task_info, command}
 use Rattle.mes_part.specs.Rows.{optional, repeated, required}
 use Rattle.mes_model.specs.Ids.{id}
@@ -10,7 +10,7 @@ use Rattle.mes_model.proofs.task_info.TaskInfoPart.read_from.Goals as goal
 
 pub returns-in_err-rows : goal.returns-in_err-rows
 unfolding task_info
-returns-in_err-rows c = λ t b. gives_bound (members_at c.args.path.now t) _ _ c.from_residual.result c.from_residual.ensures.1 (c.in_err-rows.ensures t b)
+returns-in_err-rows c = λ t b. refused_bound (members_at c.args.path.now t) _ _ c.from_residual.result c.from_residual.ensures.1 (c.in_err-rows.ensures t b)
 
 pub returns-in_err-name : goal.returns-in_err-name
 unfolding task_info

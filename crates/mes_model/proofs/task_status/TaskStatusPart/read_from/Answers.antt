@@ -3,7 +3,7 @@ use Rattle.std.specs.Prelude.{codes}
 use Rattle.mes_part.specs.Binary.{base64_bytes}
 use Rattle.mes_part.specs.Leaves.{members_at, texts, booleans}
 use Rattle.mes_part.specs.Numbers.{fixed}
-use Rattle.mes_part.proofs.RowLemmas.{found_as, gives_bound}
+use Rattle.mes_part.proofs.RowLemmas.{found_as, gives_bound, refused_bound}
 use Rattle.mes_part.specs.Rows.{optional, required}
 use Rattle.mes_model.specs.Ids.{id}
 use Rattle.mes_model.specs.TaskStates.{states}
@@ -12,7 +12,7 @@ use Rattle.mes_model.proofs.task_status.TaskStatusPart.read_from.Goals as goal
 
 pub returns-in_err-rows : goal.returns-in_err-rows
 unfolding task_status
-returns-in_err-rows c = λ t b. gives_bound (members_at c.args.path.now t) _ _ c.from_residual.result c.from_residual.ensures.1 (c.in_err-rows.ensures t b)
+returns-in_err-rows c = λ t b. refused_bound (members_at c.args.path.now t) _ _ c.from_residual.result c.from_residual.ensures.1 (c.in_err-rows.ensures t b)
 
 pub returns-in_err-task_id : goal.returns-in_err-task_id
 unfolding task_status

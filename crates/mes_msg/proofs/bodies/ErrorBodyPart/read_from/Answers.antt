@@ -2,13 +2,13 @@ use Rattle.std.proofs.Common.{ap, refl}
 use Rattle.std.specs.Prelude.{codes}
 use Rattle.mes_part.specs.Leaves.{members_at, texts}
 use Rattle.mes_part.specs.Rows.{required}
-use Rattle.mes_part.proofs.RowLemmas.{found_as, gives_bound}
+use Rattle.mes_part.proofs.RowLemmas.{found_as, gives_bound, refused_bound}
 use Rattle.mes_msg.specs.Bodies.{error_body}
 use Rattle.mes_msg.proofs.bodies.ErrorBodyPart.read_from.Goals as goal
 
 pub returns-in_err-rows : goal.returns-in_err-rows
 unfolding error_body
-returns-in_err-rows c = λ t b. gives_bound (members_at c.args.path.now t) _ _ c.from_residual.result c.from_residual.ensures.1 (c.in_err-rows.ensures t b)
+returns-in_err-rows c = λ t b. refused_bound (members_at c.args.path.now t) _ _ c.from_residual.result c.from_residual.ensures.1 (c.in_err-rows.ensures t b)
 
 pub returns-in_err-message : goal.returns-in_err-message
 unfolding error_body

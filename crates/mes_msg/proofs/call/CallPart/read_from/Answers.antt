@@ -5,7 +5,7 @@ use Rattle.mes_part.specs.Leaves.{left_out, members_at, texts}
 use Rattle.mes_part.specs.NameLaws.{names_differ}
 use Rattle.mes_part.specs.Rows.{required, optional, row_value}
 use Rattle.mes_part.proofs.PartLemmas.{gives_told}
-use Rattle.mes_part.proofs.RowLemmas.{found_as, gives_bound}
+use Rattle.mes_part.proofs.RowLemmas.{found_as, gives_bound, refused_bound}
 use Rattle.mes_model.specs.Ids.{id}
 use Rattle.mes_msg.specs.CallBodies.{subscribe, accept, decline, kill, acknowledge, reconcile}
 use Rattle.mes_msg.specs.Calls.{call, with_body}
@@ -13,14 +13,14 @@ use Rattle.mes_msg.proofs.call.CallPart.read_from.Goals as goal
 
 pub returns-in_err-rows : goal.returns-in_err-rows
 unfolding call
-returns-in_err-rows c = λ t b. gives_bound (members_at c.args.path.now t) _ _ c.from_residual.result c.from_residual.ensures.1 (c.in_err-rows.ensures t b)
+returns-in_err-rows c = λ t b. refused_bound (members_at c.args.path.now t) _ _ c.from_residual.result c.from_residual.ensures.1 (c.in_err-rows.ensures t b)
 
 pub returns-in_err-type_of : goal.returns-in_err-type_of
 unfolding call
 returns-in_err-type_of c = λ t b.
     let rows = c.in_ok-rows.ensures t b in
     rw (ap (members_at c.args.path.now) rows.1)
-    (gives_bound (required type_name texts c.args.path.now rows.0) _ _ c.from_residual-in_err-type_of.result c.from_residual-in_err-type_of.ensures.1
+    (refused_bound (required type_name texts c.args.path.now rows.0) _ _ c.from_residual-in_err-type_of.result c.from_residual-in_err-type_of.ensures.1
     (c.in_err-type_of.ensures rows.0 (found_as _ _ _ c.at.ensures rows.2.0)))
 
 pub returns-in_err-framework_id-in-SUBSCRIBE : goal.returns-in_err-framework_id-in-SUBSCRIBE
@@ -188,7 +188,7 @@ returns-in_err-left_out-in-REVIVE c = λ t b.
       c.in_ok-type_of.ensures rows.0 (found_as _ _ _ c.at.ensures rows.2.0),
       c.in-REVIVE.is,
       c.in_ok-framework_id-in-REVIVE.ensures rows.0 (found_as _ _ _ c.at-from.ensures rows.2.1.0),
-    ) (gives_bound (optional (codes "revive") left_out c.args.path.now rows.0) _ _ c.from_residual-in_err-left_out-in-REVIVE.result c.from_residual-in_err-left_out-in-REVIVE.ensures.1
+    ) (refused_bound (optional (codes "revive") left_out c.args.path.now rows.0) _ _ c.from_residual-in_err-left_out-in-REVIVE.result c.from_residual-in_err-left_out-in-REVIVE.ensures.1
     (c.in_err-left_out-in-REVIVE.ensures rows.0 (found_as _ _ _ c.at-in-REVIVE.ensures rows.2.1.1.1.1.1.0)))
 
 pub returns-in_ok-left_out-in-REVIVE : goal.returns-in_ok-left_out-in-REVIVE

@@ -4,7 +4,7 @@ use Rattle.mes_part.specs.Choices.{type_name}
 use Rattle.mes_part.specs.Leaves.{members_at, texts}
 use Rattle.mes_part.specs.NameLaws.{names_differ}
 use Rattle.mes_part.specs.Rows.{required}
-use Rattle.mes_part.proofs.RowLemmas.{found_as, gives_bound}
+use Rattle.mes_part.proofs.RowLemmas.{found_as, gives_bound, refused_bound}
 use Rattle.mes_msg.specs.Bodies.{subscribed, rescind, update, message_body, failure, error_body}
 use Rattle.mes_msg.specs.Offers.{offers}
 use Rattle.mes_msg.specs.Events.{event}
@@ -13,14 +13,14 @@ use Rattle.mes_msg.proofs.event.EventPart.read_from.Goals as goal
 
 pub returns-in_err-rows : goal.returns-in_err-rows
 unfolding event
-returns-in_err-rows c = λ t b. gives_bound (members_at c.args.path.now t) _ _ c.from_residual.result c.from_residual.ensures.1 (c.in_err-rows.ensures t b)
+returns-in_err-rows c = λ t b. refused_bound (members_at c.args.path.now t) _ _ c.from_residual.result c.from_residual.ensures.1 (c.in_err-rows.ensures t b)
 
 pub returns-in_err-name : goal.returns-in_err-name
 unfolding event
 returns-in_err-name c = λ t b.
     let rows = c.in_ok-rows.ensures t b in
     rw (ap (members_at c.args.path.now) rows.1)
-    (gives_bound (required type_name texts c.args.path.now rows.0) _ _ c.from_residual-in_err-name.result c.from_residual-in_err-name.ensures.1
+    (refused_bound (required type_name texts c.args.path.now rows.0) _ _ c.from_residual-in_err-name.result c.from_residual-in_err-name.ensures.1
     (c.in_err-name.ensures rows.0 (found_as _ _ _ c.at.ensures rows.2.0)))
 
 pub returns-in_err-required-in-SUBSCRIBED : goal.returns-in_err-required-in-SUBSCRIBED

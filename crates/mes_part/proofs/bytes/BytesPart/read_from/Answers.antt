@@ -3,12 +3,12 @@ use Rattle.mes_part.specs.Binary.{base64_bytes}
 use Rattle.mes_part.specs.Leaves.{text_of}
 use Rattle.mes_part.proofs.BinaryPlaces.{bytes_given, bytes_refused}
 use Rattle.mes_part.proofs.PartLemmas.{gives_told}
-use Rattle.mes_part.proofs.RowLemmas.{gives_bound}
+use Rattle.mes_part.proofs.RowLemmas.{refused_bound}
 use Rattle.mes_part.proofs.bytes.BytesPart.read_from.Goals as goal
 
 pub returns-in_err-text : goal.returns-in_err-text
 unfolding base64_bytes
-returns-in_err-text c = λ t b. gives_bound (text_of c.args.path.now t) _ _ c.from_residual.result c.from_residual.ensures.1 (c.in_err-text.ensures t b)
+returns-in_err-text c = λ t b. refused_bound (text_of c.args.path.now t) _ _ c.from_residual.result c.from_residual.ensures.1 (c.in_err-text.ensures t b)
 
 pub returns-in-Ok : goal.returns-in-Ok
 returns-in-Ok c = λ t b.

@@ -5,12 +5,12 @@ use Rattle.std.proofs.Math.Facts.{to_z-of_z}
 use Rattle.mes_part.specs.Leaves.{number_of}
 use Rattle.mes_part.specs.Numbers.{signed32}
 use Rattle.mes_part.proofs.NumberPlaces.{signed32_given}
-use Rattle.mes_part.proofs.RowLemmas.{gives_bound}
+use Rattle.mes_part.proofs.RowLemmas.{refused_bound}
 use Rattle.mes_part.proofs.numbers.I32Part.read_from.Goals as goal
 
 pub returns-in_err-text : goal.returns-in_err-text
 unfolding signed32
-returns-in_err-text c = λ t b. gives_bound (number_of c.args.path.now t) _ _ c.from_residual.result c.from_residual.ensures.1 (c.in_err-text.ensures t b)
+returns-in_err-text c = λ t b. refused_bound (number_of c.args.path.now t) _ _ c.from_residual.result c.from_residual.ensures.1 (c.in_err-text.ensures t b)
 
 pub returns-in-Ok : goal.returns-in-Ok
 returns-in-Ok c = λ t b.

@@ -6,4 +6,4 @@ use Rattle.mes_part.proofs.part.Part.read.Goals as goal
 
 pub returns : goal.returns
 returns g c =
-    c.read_from.ensures (view c.args.json.now) ([], c.root.ensures ∙ (c.in_ok-tape.ensures ∙ sym (append-nil (tokens (view c.args.json.now)))))
+    rw (← c.along.ensures) (c.read_from.ensures (view c.args.json.now) ([], c.root.ensures ∙ (c.in_ok-tape.ensures ∙ sym (append-nil (tokens (view c.args.json.now))))))

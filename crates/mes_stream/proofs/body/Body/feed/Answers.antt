@@ -64,7 +64,7 @@ returns-in-Fault-clause-feeds g c = λ b values s.
     let lives = c.take-taken.ensures.lives (b ++ take c.loop-at.at c.args.piece.now) (values ++ before.0) before.2 (c.take-taken.result.used - 1) (omega (arith, some)) in (
       before.0,
       before.1,
-      rw c.in-Fault.fault-is (stops_in Plain g.R.RecordReader.spells g.R.RecordReader.breaks (limit_of c.take-taken.new.self.records) b c.args.piece.now (values ++ before.0) _ c.loop-at.at c.take-taken.result.used c.loop-at.invariant.0 some
+      rw (c.into_fault.ensures, c.in-Fault.fault-is) (stops_in Plain g.R.RecordReader.spells g.R.RecordReader.breaks (limit_of c.take-taken.new.self.records) b c.args.piece.now (values ++ before.0) _ c.loop-at.at c.take-taken.result.used c.loop-at.invariant.0 some
           (omega (arith, c.take-taken.ensures.used.1, ap length rest)) (rw rest at lives) (inl (rw rest at taken))),
     )
 

@@ -2,13 +2,19 @@ use Rattle.std.proofs.Common.{◌++◌, take, ap, arith, refl, ◌∙◌}
 use Rattle.mes_frame.specs.RecordState.{limit_of}
 use Rattle.mes_frame.specs.declared.record.RecordState.{RecordState}
 use Rattle.mes_stream.specs.declared.body.Body.{Body}
-use Rattle.mes_stream.proofs.BodyLemmas.{first_live, data_live, stands_on, ends_as, whole_fits}
+use Rattle.mes_stream.proofs.BodyLemmas.{data_live, size_live, stands_on, ends_as, whole_fits}
 use Rattle.mes_stream.proofs.body.Body.take.Goals as goal
 use Rattle.mes_stream.proofs.body.Body.take.Goals.{then-last, else-last}
 
 pub returns-in-Size-clause-lives : goal.returns-in-Size-clause-lives
 returns-in-Size-clause-lives g c = λ b values s n first.
-    rw c.in-Size.ensures.limit (first_live g.R.RecordReader.holds g.R.RecordReader.spells c.args.self.now b c.args.run.now values n s first)
+    size_live g.R.RecordReader.holds g.R.RecordReader.spells c.args.self.now b c.args.run.now s.r values n (limit_of c.front_of.new.records) s c.in-Size.ensures.limit
+    ((c.in-Size.ensures.fronts s.x s.r s.state).1 n first)
+
+pub returns-in-Size-clause-takes : goal.returns-in-Size-clause-takes
+returns-in-Size-clause-takes g c = λ b values s.
+    stands_on g.R.RecordReader.holds g.R.RecordReader.spells c.args.self.now _ b (take c.in-Size.count c.args.run.now) s.r values s refl c.in-Size.ensures.limit s.kept
+    (c.in-Size.ensures.fronts s.x s.r s.state).0
 
 pub returns-after-last-clause-takes : goal.returns-after-last-clause-takes
 returns-after-last-clause-takes g c = λ b values s.

@@ -39,7 +39,7 @@ returns-clause-says g c = λ w values s.
     elim c.match-taken.branch [
       | in-More b ↦ rw b.result-is (rw b.in-More.is at says)
       | in-Value b ↦ rw (b.result-is, b.in-Value.value-is) (rw b.in-Value.is at says)
-      | in-Fault b ↦ rw (b.result-is, b.in-Fault.fault-is) (rw b.in-Fault.is at says)
+      | in-Fault b ↦ rw (b.result-is, b.into_fault.ensures, b.in-Fault.fault-is) (rw b.in-Fault.is at says)
     ]
 
 pub returns-clause-before : goal.returns-clause-before

@@ -1,0 +1,112 @@
+//! A fault in little room.
+
+ghost use Rattle.std.specs.Prelude.{◌≡◌};
+ghost use Rattle.mes_stream.specs.declared.fault.Fault.TheVariants.{Frame, NoMemory, EndsInsideRecord};
+ghost use Rattle.mes_stream.specs.RecordFaults.{fault_at_record};
+
+use crate::fault::Fault;
+use mes_frame::FrameFault;
+use mes_json::Why;
+use mes_msg::RecordFault;
+use mes_part::{BoxedFault, FieldFault};
+use std::marker::Model;
+
+/// A fault in little room, since what is answered to each byte of the framing has place for one: a path stands in memory of its
+/// own. A contract sees the fault.
+#[derive(Drop)]
+pub(crate) struct SmallFault {
+    kind: Kind,
+}
+
+#[derive(Drop)]
+enum Kind {
+    Frame(FrameFault),
+    EndsInsideRecord,
+    Text { at_record: u64, byte: u64, why: Why },
+    Field { at_record: u64, fault: BoxedFault },
+    NoMemory,
+}
+
+impl Model for SmallFault {
+    ghost use Rattle.mes_stream.specs.declared.fault.Fault.{Fault};
+
+    ghost Value = { Fault };
+
+    ghost use Rattle.mes_stream.specs.SmallFaults.{fault_in};
+
+    ghost view = { λ f. fault_in f.kind };
+}
+
+impl SmallFault {
+    /// F1 to F5 and F7 to F9.
+    pub fn frame(fault: FrameFault) -> SmallFault
+        ensures { result ≡ Frame fault }
+    {
+        SmallFault {
+            kind: Kind::Frame(fault),
+        }
+    }
+
+    /// F10.
+    pub fn ends_inside_record() -> SmallFault
+        ensures { result ≡ EndsInsideRecord }
+    {
+        SmallFault {
+            kind: Kind::EndsInsideRecord,
+        }
+    }
+
+    /// F13.
+    pub fn no_memory() -> SmallFault
+        ensures { result ≡ NoMemory }
+    {
+        SmallFault {
+            kind: Kind::NoMemory,
+        }
+    }
+
+    /// Why the record of this number has no value: F11, F12 or F13.
+    pub fn of_record(at_record: u64, why: RecordFault) -> SmallFault
+        ensures { result ≡ fault_at_record at_record why }
+    {
+        let kind = match why {
+            RecordFault::Text(fault) => Kind::Text {
+                at_record,
+                byte: fault.byte,
+                why: fault.why,
+            },
+            RecordFault::Field(fault) => Kind::Field { at_record, fault },
+            RecordFault::NoMemory => Kind::NoMemory,
+        };
+        SmallFault { kind }
+    }
+
+    /// The fault.
+    pub fn into_fault(self) -> Fault
+        ensures { result ≡ self }
+    {
+        let SmallFault { kind } = self;
+        match kind {
+            Kind::Frame(fault) => Fault::Frame(fault),
+            Kind::EndsInsideRecord => Fault::EndsInsideRecord,
+            Kind::Text {
+                at_record,
+                byte,
+                why,
+            } => Fault::Text {
+                at_record,
+                byte,
+                why,
+            },
+            Kind::Field { at_record, fault } => {
+                let FieldFault { path, why } = fault.into_fault();
+                Fault::Field {
+                    at_record,
+                    path,
+                    why,
+                }
+            }
+            Kind::NoMemory => Fault::NoMemory,
+        }
+    }
+}
