@@ -4,4 +4,4 @@
 pub const NESTING_LIMIT: usize = 64;
 
 /// How many bytes of texts, and as many of nodes, a lexer takes over from a tape; the memory of a longer one is given back.
-pub const ROOM_KEPT: usize = 64 * 1024;
+pub const ROOM_KEPT: usize = 1024 * 1024;

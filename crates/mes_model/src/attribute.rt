@@ -13,7 +13,10 @@ ghost use Rattle.mes_model.specs.Attributes.{attribute_value_rows};
 use crate::text_value::TextValue;
 use crate::value::{Ranges, Scalar, Set};
 use mes_json::{Element, Json, NoMemory, Text};
-use mes_part::{FieldWhy, Found, Part, PartFault, Trail, find_rows, put, put_type, required, type_of, type_refusal, whole_object};
+use mes_part::{
+    FieldWhy, Found, Part, PartFault, Trail, find_rows, put, put_type, required, type_of,
+    type_refusal, whole_object,
+};
 use std::alloc::Global;
 
 /// What an attribute is.

@@ -1,7 +1,10 @@
 //! What a task runs.
 
 use mes_json::{Element, Json, NoMemory, Text};
-use mes_part::{List, Part, PartFault, Trail, copy_list, copy_some, find_rows, optional, put_many, put_some, repeated, whole_object};
+use mes_part::{
+    List, Part, PartFault, Trail, copy_list, copy_some, find_rows, optional, put_many, put_some,
+    repeated, whole_object,
+};
 use std::alloc::Global;
 
 /// What a task runs.
@@ -26,7 +29,11 @@ impl Part for Command {
 
     ghost lawful = { lawful_command };
 
-    fn read_from(alloc: Global, element: &Element<'_>, path: &Trail<'_>) -> Result<Command, PartFault> {
+    fn read_from(
+        alloc: Global,
+        element: &Element<'_>,
+        path: &Trail<'_>,
+    ) -> Result<Command, PartFault> {
         let rows = find_rows::<3>(alloc, element, &["value", "shell", "arguments"], path)?;
         let value = optional(alloc, rows.at(0), "value", path)?;
         let shell = optional(alloc, rows.at(1), "shell", path)?;

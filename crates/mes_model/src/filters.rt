@@ -23,7 +23,11 @@ impl Part for Filters {
 
     ghost lawful = { lawful_filters };
 
-    fn read_from(alloc: Global, element: &Element<'_>, path: &Trail<'_>) -> Result<Filters, PartFault> {
+    fn read_from(
+        alloc: Global,
+        element: &Element<'_>,
+        path: &Trail<'_>,
+    ) -> Result<Filters, PartFault> {
         let rows = find_rows::<1>(alloc, element, &["refuse_seconds"], path)?;
         let refuse_seconds = optional(alloc, rows.at(0), "refuse_seconds", path)?;
         Ok(Filters { refuse_seconds })

@@ -3,7 +3,10 @@
 use crate::id::Id;
 use mes_fixed::Micros;
 use mes_json::{Element, Json, NoMemory, Text};
-use mes_part::{List, Part, PartFault, Trail, copy_list, copy_some, find_rows, optional, put, put_many, put_some, repeated, required, whole_object};
+use mes_part::{
+    List, Part, PartFault, Trail, copy_list, copy_some, find_rows, optional, put, put_many,
+    put_some, repeated, required, whole_object,
+};
 use std::alloc::Global;
 
 /// What a framework is able to deal with.

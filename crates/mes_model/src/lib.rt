@@ -27,8 +27,8 @@ pub use framework_info::{Capability, FrameworkInfo};
 pub use id::Id;
 pub use mes_part::{
     BoxedFault, Bytes, FieldFault, FieldWhy, Kept, Label, Labels, List, PATH_TEXT_MOST, Part,
-    PartFault, Path, STEPS_MOST, Step, copy_list, list_returned, list_tree, one_answer, one_list,
-    read_list, read_part, returned, written_again,
+    PartFault, Path, STEPS_MOST, Step, Trail, copy_list, list_returned, list_tree, one_answer,
+    one_list, read_list, read_part, returned, written_again,
 };
 pub use offer::Offer;
 pub use owed_key::OwedKey;

@@ -5,7 +5,10 @@ use crate::attribute::Attribute;
 use crate::id::Id;
 use crate::resource::Resource;
 use mes_json::{Element, Json, NoMemory, Text};
-use mes_part::{List, Part, PartFault, Trail, copy_list, copy_some, find_rows, optional, put, put_many, put_some, repeated, required, whole_object};
+use mes_part::{
+    List, Part, PartFault, Trail, copy_list, copy_some, find_rows, optional, put, put_many,
+    put_some, repeated, required, whole_object,
+};
 use std::alloc::Global;
 
 /// What an agent offers to a framework.
@@ -40,7 +43,11 @@ impl Part for Offer {
 
     ghost lawful = { lawful_offer };
 
-    fn read_from(alloc: Global, element: &Element<'_>, path: &Trail<'_>) -> Result<Offer, PartFault> {
+    fn read_from(
+        alloc: Global,
+        element: &Element<'_>,
+        path: &Trail<'_>,
+    ) -> Result<Offer, PartFault> {
         let rows = find_rows::<8>(
             alloc,
             element,

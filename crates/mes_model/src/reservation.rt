@@ -1,7 +1,9 @@
 //! For whom resources are reserved.
 
 use mes_json::{Element, Json, NoMemory, Text};
-use mes_part::{Labels, Part, PartFault, Trail, copy_some, find_rows, optional, put_some, whole_object};
+use mes_part::{
+    Labels, Part, PartFault, Trail, copy_some, find_rows, optional, put_some, whole_object,
+};
 use std::alloc::Global;
 
 /// For whom resources are reserved, and by whom.

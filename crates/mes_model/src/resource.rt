@@ -15,7 +15,11 @@ use crate::id::Id;
 use crate::reservation::Reservation;
 use crate::value::{Ranges, Scalar, Set};
 use mes_json::{Element, Json, NoMemory, Text};
-use mes_part::{FieldWhy, Found, Kept, List, Part, PartFault, Trail, copy_list, copy_some, find_rows, flagged, optional, put, put_flag, put_many, put_some, put_type, repeated, required, type_of, type_refusal, whole_object};
+use mes_part::{
+    FieldWhy, Found, Kept, List, Part, PartFault, Trail, copy_list, copy_some, find_rows, flagged,
+    optional, put, put_flag, put_many, put_some, put_type, repeated, required, type_of,
+    type_refusal, whole_object,
+};
 use std::alloc::Global;
 
 /// What there is of a resource.
@@ -138,7 +142,11 @@ impl Part for Resource {
 
     ghost lawful = { lawful_resource };
 
-    fn read_from(alloc: Global, element: &Element<'_>, path: &Trail<'_>) -> Result<Resource, PartFault> {
+    fn read_from(
+        alloc: Global,
+        element: &Element<'_>,
+        path: &Trail<'_>,
+    ) -> Result<Resource, PartFault> {
         let rows = find_rows::<13>(alloc, element, &ROWS, path)?;
         let name = required(alloc, rows.at(0), "name", path)?;
         let value = ResourceValue::read_rows(

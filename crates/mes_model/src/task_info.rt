@@ -4,7 +4,10 @@ use crate::command::Command;
 use crate::id::Id;
 use crate::resource::Resource;
 use mes_json::{Element, Json, NoMemory, Text};
-use mes_part::{Kept, List, Part, PartFault, Trail, copy_list, copy_some, find_rows, optional, put, put_many, put_some, repeated, required, whole_object};
+use mes_part::{
+    Kept, List, Part, PartFault, Trail, copy_list, copy_some, find_rows, optional, put, put_many,
+    put_some, repeated, required, whole_object,
+};
 use std::alloc::Global;
 
 /// A task that a framework launches.
@@ -35,7 +38,11 @@ impl Part for TaskInfo {
 
     ghost lawful = { lawful_task_info };
 
-    fn read_from(alloc: Global, element: &Element<'_>, path: &Trail<'_>) -> Result<TaskInfo, PartFault> {
+    fn read_from(
+        alloc: Global,
+        element: &Element<'_>,
+        path: &Trail<'_>,
+    ) -> Result<TaskInfo, PartFault> {
         let rows = find_rows::<6>(
             alloc,
             element,

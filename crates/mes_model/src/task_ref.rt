@@ -2,7 +2,9 @@
 
 use crate::id::Id;
 use mes_json::{Element, Json, NoMemory};
-use mes_part::{Part, PartFault, Trail, copy_some, find_rows, optional, put, put_some, required, whole_object};
+use mes_part::{
+    Part, PartFault, Trail, copy_some, find_rows, optional, put, put_some, required, whole_object,
+};
 use std::alloc::Global;
 
 /// A task whose state a framework asks for.
@@ -25,7 +27,11 @@ impl Part for TaskRef {
 
     ghost lawful = { lawful_task_ref };
 
-    fn read_from(alloc: Global, element: &Element<'_>, path: &Trail<'_>) -> Result<TaskRef, PartFault> {
+    fn read_from(
+        alloc: Global,
+        element: &Element<'_>,
+        path: &Trail<'_>,
+    ) -> Result<TaskRef, PartFault> {
         let rows = find_rows::<2>(alloc, element, &["task_id", "agent_id"], path)?;
         let task_id = required(alloc, rows.at(0), "task_id", path)?;
         let agent_id = optional(alloc, rows.at(1), "agent_id", path)?;

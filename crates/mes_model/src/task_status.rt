@@ -8,7 +8,10 @@ use crate::owed_key::OwedKey;
 use crate::task_state::TaskState;
 use mes_fixed::Micros;
 use mes_json::{Element, Json, NoMemory, Text};
-use mes_part::{Bytes, Part, PartFault, Trail, copy_some, find_rows, optional, put, put_some, required, whole_object};
+use mes_part::{
+    Bytes, Part, PartFault, Trail, copy_some, find_rows, optional, put, put_some, required,
+    whole_object,
+};
 use std::alloc::Global;
 
 /// The status of a task, as an update tells it.

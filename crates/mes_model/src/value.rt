@@ -2,7 +2,10 @@
 
 use mes_fixed::Thousandths;
 use mes_json::{Element, Json, NoMemory, Text};
-use mes_part::{List, Part, PartFault, Trail, copy_list, find_rows, put, put_many, repeated, required, whole_object};
+use mes_part::{
+    List, Part, PartFault, Trail, copy_list, find_rows, put, put_many, repeated, required,
+    whole_object,
+};
 use std::alloc::Global;
 
 /// One number, in thousandths.
@@ -23,7 +26,11 @@ impl Part for Scalar {
 
     ghost lawful = { lawful_scalar };
 
-    fn read_from(alloc: Global, element: &Element<'_>, path: &Trail<'_>) -> Result<Scalar, PartFault> {
+    fn read_from(
+        alloc: Global,
+        element: &Element<'_>,
+        path: &Trail<'_>,
+    ) -> Result<Scalar, PartFault> {
         let rows = find_rows::<1>(alloc, element, &["value"], path)?;
         let value = required(alloc, rows.at(0), "value", path)?;
         Ok(Scalar { value })
@@ -61,7 +68,11 @@ impl Part for Range {
 
     ghost lawful = { lawful_range };
 
-    fn read_from(alloc: Global, element: &Element<'_>, path: &Trail<'_>) -> Result<Range, PartFault> {
+    fn read_from(
+        alloc: Global,
+        element: &Element<'_>,
+        path: &Trail<'_>,
+    ) -> Result<Range, PartFault> {
         let rows = find_rows::<2>(alloc, element, &["begin", "end"], path)?;
         let first = required(alloc, rows.at(0), "begin", path)?;
         let last = required(alloc, rows.at(1), "end", path)?;
@@ -102,7 +113,11 @@ impl Part for Ranges {
 
     ghost lawful = { lawful_ranges };
 
-    fn read_from(alloc: Global, element: &Element<'_>, path: &Trail<'_>) -> Result<Ranges, PartFault> {
+    fn read_from(
+        alloc: Global,
+        element: &Element<'_>,
+        path: &Trail<'_>,
+    ) -> Result<Ranges, PartFault> {
         let rows = find_rows::<1>(alloc, element, &["range"], path)?;
         let range = repeated(alloc, rows.at(0), "range", path)?;
         Ok(Ranges { range })

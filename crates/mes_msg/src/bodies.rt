@@ -3,7 +3,10 @@
 use mes_fixed::Micros;
 use mes_json::{Element, Json, NoMemory, Text};
 use mes_model::{Id, TaskStatus};
-use mes_part::{Bytes, Part, PartFault, Trail, copy_some, find_rows, optional, put, put_some, required, whole_object};
+use mes_part::{
+    Bytes, Part, PartFault, Trail, copy_some, find_rows, optional, put, put_some, required,
+    whole_object,
+};
 use std::alloc::Global;
 
 /// The framework is subscribed (scheduler.proto, `Event.Subscribed`).
@@ -91,7 +94,11 @@ impl Part for Rescind {
 
     ghost lawful = { lawful_rescind };
 
-    fn read_from(alloc: Global, element: &Element<'_>, path: &Trail<'_>) -> Result<Rescind, PartFault> {
+    fn read_from(
+        alloc: Global,
+        element: &Element<'_>,
+        path: &Trail<'_>,
+    ) -> Result<Rescind, PartFault> {
         let rows = find_rows::<1>(alloc, element, &["offer_id"], path)?;
         let offer_id = required(alloc, rows.at(0), "offer_id", path)?;
         Ok(Rescind { offer_id })
@@ -128,7 +135,11 @@ impl Part for Update {
 
     ghost lawful = { lawful_update };
 
-    fn read_from(alloc: Global, element: &Element<'_>, path: &Trail<'_>) -> Result<Update, PartFault> {
+    fn read_from(
+        alloc: Global,
+        element: &Element<'_>,
+        path: &Trail<'_>,
+    ) -> Result<Update, PartFault> {
         let rows = find_rows::<1>(alloc, element, &["status"], path)?;
         let status = required(alloc, rows.at(0), "status", path)?;
         Ok(Update { status })
@@ -169,7 +180,11 @@ impl Part for Message {
 
     ghost lawful = { lawful_message_body };
 
-    fn read_from(alloc: Global, element: &Element<'_>, path: &Trail<'_>) -> Result<Message, PartFault> {
+    fn read_from(
+        alloc: Global,
+        element: &Element<'_>,
+        path: &Trail<'_>,
+    ) -> Result<Message, PartFault> {
         let rows = find_rows::<3>(alloc, element, &["agent_id", "executor_id", "data"], path)?;
         let agent_id = required(alloc, rows.at(0), "agent_id", path)?;
         let executor_id = required(alloc, rows.at(1), "executor_id", path)?;
@@ -224,7 +239,11 @@ impl Part for Failure {
 
     ghost lawful = { lawful_failure };
 
-    fn read_from(alloc: Global, element: &Element<'_>, path: &Trail<'_>) -> Result<Failure, PartFault> {
+    fn read_from(
+        alloc: Global,
+        element: &Element<'_>,
+        path: &Trail<'_>,
+    ) -> Result<Failure, PartFault> {
         let rows = find_rows::<3>(alloc, element, &["agent_id", "executor_id", "status"], path)?;
         let agent_id = optional(alloc, rows.at(0), "agent_id", path)?;
         let executor_id = optional(alloc, rows.at(1), "executor_id", path)?;

@@ -21,7 +21,10 @@ use crate::record::{RecordFault, read_bytes};
 use mes_frame::Limit;
 use mes_json::{Element, Json, NoMemory, Text};
 use mes_model::Id;
-use mes_part::{FieldWhy, Found, Part, PartFault, Path, Trail, copy_some, find_rows, left_out, optional, put, put_some, put_type, read_part, required, type_of, type_refusal, whole_object};
+use mes_part::{
+    FieldWhy, Found, Part, PartFault, Path, Trail, copy_some, find_rows, left_out, optional, put,
+    put_some, put_type, read_part, required, type_of, type_refusal, whole_object,
+};
 use std::alloc::Global;
 
 /// A call of the scheduler API (scheduler.proto, `Call`), from the framework that it names.
@@ -181,7 +184,11 @@ impl Part for Call {
 
     ghost lawful = { lawful_call };
 
-    fn read_from(alloc: Global, element: &Element<'_>, path: &Trail<'_>) -> Result<Call, PartFault> {
+    fn read_from(
+        alloc: Global,
+        element: &Element<'_>,
+        path: &Trail<'_>,
+    ) -> Result<Call, PartFault> {
         let rows = find_rows::<9>(alloc, element, &ROWS, path)?;
         let from = rows.at(1);
         match type_of(alloc, rows.at(0), path)? {

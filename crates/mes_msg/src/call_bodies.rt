@@ -3,7 +3,10 @@
 use crate::operation::Operation;
 use mes_json::{Element, Json, NoMemory};
 use mes_model::{Filters, FrameworkInfo, Id, TaskRef};
-use mes_part::{Bytes, List, Part, PartFault, Trail, copy_list, copy_some, find_rows, optional, put, put_many, put_some, repeated, required, whole_object};
+use mes_part::{
+    Bytes, List, Part, PartFault, Trail, copy_list, copy_some, find_rows, optional, put, put_many,
+    put_some, repeated, required, whole_object,
+};
 use std::alloc::Global;
 
 /// A framework subscribes (scheduler.proto, `Call.Subscribe`).
@@ -69,7 +72,11 @@ impl Part for Accept {
 
     ghost lawful = { lawful_accept };
 
-    fn read_from(alloc: Global, element: &Element<'_>, path: &Trail<'_>) -> Result<Accept, PartFault> {
+    fn read_from(
+        alloc: Global,
+        element: &Element<'_>,
+        path: &Trail<'_>,
+    ) -> Result<Accept, PartFault> {
         let rows = find_rows::<3>(
             alloc,
             element,
@@ -127,7 +134,11 @@ impl Part for Decline {
 
     ghost lawful = { lawful_decline };
 
-    fn read_from(alloc: Global, element: &Element<'_>, path: &Trail<'_>) -> Result<Decline, PartFault> {
+    fn read_from(
+        alloc: Global,
+        element: &Element<'_>,
+        path: &Trail<'_>,
+    ) -> Result<Decline, PartFault> {
         let rows = find_rows::<2>(alloc, element, &["offer_ids", "filters"], path)?;
         let offer_ids = repeated(alloc, rows.at(0), "offer_ids", path)?;
         let filters = optional(alloc, rows.at(1), "filters", path)?;
@@ -169,7 +180,11 @@ impl Part for Kill {
 
     ghost lawful = { lawful_kill };
 
-    fn read_from(alloc: Global, element: &Element<'_>, path: &Trail<'_>) -> Result<Kill, PartFault> {
+    fn read_from(
+        alloc: Global,
+        element: &Element<'_>,
+        path: &Trail<'_>,
+    ) -> Result<Kill, PartFault> {
         let rows = find_rows::<2>(alloc, element, &["task_id", "agent_id"], path)?;
         let task_id = required(alloc, rows.at(0), "task_id", path)?;
         let agent_id = optional(alloc, rows.at(1), "agent_id", path)?;

@@ -11,7 +11,10 @@ use crate::offers::{Offers, offers_tree};
 use crate::other_name::OtherName;
 use mes_json::{Element, Json, NoMemory, Text};
 use mes_model::Offer;
-use mes_part::{List, Part, PartFault, Trail, copy_list, find_rows, put, put_type, required, type_of, whole_object};
+use mes_part::{
+    List, Part, PartFault, Trail, copy_list, find_rows, put, put_type, required, type_of,
+    whole_object,
+};
 use std::alloc::Global;
 
 /// An event of the scheduler API (scheduler.proto, `Event`).
@@ -80,7 +83,11 @@ impl Part for Event {
 
     ghost lawful = { lawful_event };
 
-    fn read_from(alloc: Global, element: &Element<'_>, path: &Trail<'_>) -> Result<Event, PartFault> {
+    fn read_from(
+        alloc: Global,
+        element: &Element<'_>,
+        path: &Trail<'_>,
+    ) -> Result<Event, PartFault> {
         let rows = find_rows::<8>(alloc, element, &ROWS, path)?;
         match type_of(alloc, rows.at(0), path)? {
             "SUBSCRIBED" => Ok(Event::Subscribed(required(alloc, rows.at(1), "subscribed", path)?)),

@@ -50,7 +50,11 @@ impl Part for Offers {
     ghost lawful = { lawful_offers };
 
     #[tactic(auto, unfolding(crate::specs::Offers::offers))]
-    fn read_from(alloc: Global, element: &Element<'_>, path: &Trail<'_>) -> Result<Offers, PartFault> {
+    fn read_from(
+        alloc: Global,
+        element: &Element<'_>,
+        path: &Trail<'_>,
+    ) -> Result<Offers, PartFault> {
         let offers = read_either_list(alloc, element, "offers", path)?;
         Ok(Offers { offers })
     }

@@ -7,7 +7,10 @@ ghost use Rattle.mes_msg.specs.Operations.{launch, operation_rows};
 
 use mes_json::{Element, Json, NoMemory, Text};
 use mes_model::TaskInfo;
-use mes_part::{FieldWhy, List, Part, PartFault, Trail, copy_list, find_rows, put_many, put_type, repeated, required, type_of, type_refusal, whole_object};
+use mes_part::{
+    FieldWhy, List, Part, PartFault, Trail, copy_list, find_rows, put_many, put_type, repeated,
+    required, type_of, type_refusal, whole_object,
+};
 use std::alloc::Global;
 use std::marker::Model;
 
@@ -117,7 +120,11 @@ impl Part for Launch {
 
     ghost lawful = { lawful_launch };
 
-    fn read_from(alloc: Global, element: &Element<'_>, path: &Trail<'_>) -> Result<Launch, PartFault> {
+    fn read_from(
+        alloc: Global,
+        element: &Element<'_>,
+        path: &Trail<'_>,
+    ) -> Result<Launch, PartFault> {
         let rows = find_rows::<1>(alloc, element, &["task_infos"], path)?;
         let task_infos = repeated(alloc, rows.at(0), "task_infos", path)?;
         Ok(Launch { task_infos })

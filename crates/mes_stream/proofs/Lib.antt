@@ -1,6 +1,7 @@
 mod BodyLemmas
 mod ChunkLemmas
 mod DecoderLemmas
+mod FramingLemmas
 mod Grows
 mod PlainLaw
 pub mod ReadLemmas

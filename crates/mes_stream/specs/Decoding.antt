@@ -1,6 +1,8 @@
 -- What a decoder of a chunked stream stands for, and what it answers to a piece of the stream.
-use Rattle.std.specs.Prelude.{ℕ, ◌-◌, ◌<◌, List, [], ◌∷◌, ◌++◌, take, slice_index}
+use Rattle.std.specs.Prelude.{ℕ, ◌-◌, ◌<◌, ◌≤◌, List, [], ◌∷◌, ◌++◌, take, slice_index}
+use Rattle.mes_frame.specs.ChunkFront.{IsOpen}
 use Rattle.mes_frame.specs.ChunkState.{ChunkStands}
+use Rattle.mes_frame.specs.declared.chunk.ChunkState.{ChunkState}
 use Rattle.mes_frame.specs.RecordState.{limit_of}
 use Rattle.mes_msg.specs.declared.record.RecordFault.{RecordFault}
 use Rattle.mes_stream.specs.Chunked.{IsStream, Live, EndsWith, Stops}
@@ -14,6 +16,11 @@ pub record ReadingStands {R E : Type 0} (holds : R → List ℕ → Type 0) (spe
   pub content : List ℕ
   pub chunks : ChunkStands d.chunks w content
   pub body : BodyStands holds spells d.body content values
+
+-- so many bytes of the framing were taken behind w, the front of a body with these data, and it goes on behind each
+abbrev pub PassesFraming : ChunkState → List ℕ → List ℕ → List ℕ → ℕ → Type 0
+PassesFraming new w body rest count =
+    ChunkStands new (w ++ take count rest) body × ((n : ℕ) → n ≤ count → IsOpen (w ++ take n rest) body)
 
 -- the most bytes that it lets a record have
 abbrev pub reading_limit : {R : Type 0} → Reading R → ℕ

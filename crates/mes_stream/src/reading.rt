@@ -1,11 +1,11 @@
 //! Reads a chunked stream up to its end or its first fault.
 
 ghost use Rattle.std.specs.Prelude.{◌≡◌, ◌≢◌, ◌+◌, ◌<◌, ◌≤◌, ℕ, List, [], ◌∷◌, ◌++◌, length, take, IsTrue, ◌↔◌};
-ghost use Rattle.mes_frame.specs.ChunkState.{room_of};
+ghost use Rattle.mes_frame.specs.ChunkState.{ChunkStands, room_of};
 ghost use Rattle.mes_stream.specs.Taking.{BodyStands};
 ghost use Rattle.mes_stream.specs.Chunked.{Live};
 ghost use Rattle.mes_stream.specs.Decoders.{HoldsOf};
-ghost use Rattle.mes_stream.specs.Decoding.{ReadingStands, Says, LiveBefore, reading_limit};
+ghost use Rattle.mes_stream.specs.Decoding.{ReadingStands, PassesFraming, Says, LiveBefore, reading_limit};
 
 use crate::body::{Body, BodyOut};
 use crate::fault::Fault;
@@ -115,6 +115,11 @@ impl<R: RecordReader> Reading<R> {
     {
         let mut at = 0;
         while at < piece.len() {
+            let framed = frame_run(&mut self.chunks, &piece[at..]);
+            if framed > 0 {
+                at += framed;
+                continue;
+            }
             let step = self.turn(&piece[at..]);
             at += step.used;
             if !step.out.is_more() {
@@ -158,4 +163,23 @@ impl<R: RecordReader> Reading<R> {
             ChunkOut::Fault(fault) => Out::Fault(Fault::Frame(fault)),
         }
     }
+}
+
+// Takes the bytes of the framing at the front of a piece, up to one that ends the stream or stops the reading: how many there are.
+fn frame_run(chunks: &mut ChunkState, rest: &[u8]) -> usize
+    ensures passes { (w body : List ℕ) → ChunkStands chunks.old w body → PassesFraming chunks.new w body rest.now result }
+    ensures none { result ≡ 0 → chunks.new ≡ chunks.old }
+    ensures within { result ≤ length rest.now }
+{
+    let mut count = 0;
+    while count < rest.len() {
+        let mut next = *chunks;
+        match next.step(rest[count]) {
+            ChunkOut::Quiet => {}
+            ChunkOut::Byte | ChunkOut::Closed | ChunkOut::Fault(_) => return count,
+        }
+        *chunks = next;
+        count += 1;
+    }
+    count
 }

@@ -11,7 +11,7 @@ mod values;
 
 use crate::support::{Faulty, Written, expect_fault, part_fault_of};
 use mes_json::{read_tape, write_text};
-use mes_model::{Part, PartFault, Path};
+use mes_model::{Part, PartFault, Trail};
 use std::alloc::Global;
 use std::process::Abort;
 use std::test::Fail;
@@ -21,7 +21,7 @@ fn read<T: Part>(alloc: Global, text: &str) -> Result<Result<T, PartFault>, Fail
     requires { T.STEPS ≤ 16 }
 {
     let tape = read_tape(alloc, text.as_bytes())?;
-    Ok(T::read_from(alloc, &tape.root(), &Path::new()))
+    Ok(T::read_from(alloc, &tape.root(), &Trail::new()))
 }
 
 /// Each text has its first fault there.

@@ -39,7 +39,7 @@ pub(crate) fn part_fault_of<T: Drop>(answer: Result<T, PartFault>) -> Option<Fie
 /// The fault of an answer that tells one of a field.
 pub(crate) fn field_fault_of<T: Drop>(answer: Result<T, RecordFault>) -> Option<FieldFault> {
     match answer.err()? {
-        RecordFault::Field(fault) => Some(fault),
+        RecordFault::Field(fault) => Some(fault.into_fault()),
         RecordFault::Text(_) | RecordFault::NoMemory => None,
     }
 }

@@ -6,7 +6,7 @@ use crate::support::{Faulty, Written, expect_fault, field_fault_of};
 use mes_json::{Text, Why, read_tape, read_text};
 use mes_model::{Id, TaskInfo};
 use mes_msg::{Accept, Call, EncodeFault, Limit, Operation, RecordFault};
-use mes_part::{List, Part, Path};
+use mes_part::{List, Part, Trail};
 use std::alloc::{AllocGlobal, Global};
 use std::process::Abort;
 use std::test::Fail;
@@ -193,7 +193,7 @@ fn deep_task(alloc: Global, objects: usize) -> Result<TaskInfo, Fail> {
     }
     text.extend_from_slice(b"}")?;
     let tape = read_tape(alloc, text.as_slice())?;
-    match TaskInfo::read_from(alloc, &tape.root(), &Path::new()) {
+    match TaskInfo::read_from(alloc, &tape.root(), &Trail::new()) {
         Ok(task) => Ok(task),
         Err(_) => Err("a task")?,
     }

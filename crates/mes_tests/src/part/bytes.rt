@@ -1,7 +1,7 @@
 //! Bytes read from JSON strings and written as them, by the test vectors of RFC 4648 section 10.
 
 use mes_json::{read_tape, write_text};
-use mes_part::{Bytes, FieldWhy, Part, PartFault, Path, written_again};
+use mes_part::{Bytes, FieldWhy, Part, PartFault, Trail, written_again};
 use std::alloc::Global;
 use std::process::Abort;
 use std::test::Fail;
@@ -46,7 +46,7 @@ const REFUSED: [(&str, FieldWhy); 16] = [
 /// The bytes of a text, read from its tape.
 fn read(alloc: Global, text: &str) -> Result<Result<Bytes, PartFault>, Fail> {
     let tape = read_tape(alloc, text.as_bytes())?;
-    Ok(Bytes::read_from(alloc, &tape.root(), &Path::new()))
+    Ok(Bytes::read_from(alloc, &tape.root(), &Trail::new()))
 }
 
 /// The bytes are these, and are written so.

@@ -3,7 +3,7 @@
 use crate::support::{Faulty, Written, expect_fault, part_fault_of};
 use mes_json::{read_tape, read_text, write_text};
 use mes_part::{
-    FieldWhy, Label, Labels, List, Part, PartFault, Path, find_rows, left_out, list_tree,
+    FieldWhy, Label, Labels, List, Part, PartFault, Path, Trail, find_rows, left_out, list_tree,
     read_either_list, written_again,
 };
 use std::alloc::Global;
@@ -113,8 +113,8 @@ const NOT_THERE: [&str; 3] = ["{}", "{\"x\":null}", "{\"y\":{},\"y\":{}}"];
 /// The answer to a member `x` that is left out.
 fn read_left_out(alloc: Global, text: &str) -> Result<Result<(), PartFault>, Fail> {
     let tape = read_tape(alloc, text.as_bytes())?;
-    match find_rows(alloc, &tape.root(), &["x"], &Path::new()) {
-        Ok(rows) => Ok(left_out(alloc, rows.at(0), "x", &Path::new())),
+    match find_rows::<1>(alloc, &tape.root(), &["x"], &Trail::new()) {
+        Ok(rows) => Ok(left_out(alloc, rows.at(0), "x", &Trail::new())),
         Err(_) => Err("an object")?,
     }
 }
@@ -122,13 +122,13 @@ fn read_left_out(alloc: Global, text: &str) -> Result<Result<(), PartFault>, Fai
 /// The labels of a text, read from its tape.
 fn read(alloc: Global, text: &str) -> Result<Result<Labels, PartFault>, Fail> {
     let tape = read_tape(alloc, text.as_bytes())?;
-    Ok(Labels::read_from(alloc, &tape.root(), &Path::new()))
+    Ok(Labels::read_from(alloc, &tape.root(), &Trail::new()))
 }
 
 /// The list of labels of a text, in either form.
 fn read_either(alloc: Global, text: &str) -> Result<Result<List<Label>, PartFault>, Fail> {
     let tape = read_tape(alloc, text.as_bytes())?;
-    Ok(read_either_list(alloc, &tape.root(), "labels", &Path::new()))
+    Ok(read_either_list(alloc, &tape.root(), "labels", &Trail::new()))
 }
 
 #[test]
