@@ -68,7 +68,7 @@ impl<R: RecordReader> Reading<R> {
         }
     }
 
-    /// Takes a byte of the framing or a run of data from the front of a piece.
+    /// Takes bytes of the framing or a run of data from the front of a piece.
     pub fn turn(&mut self, rest: &[u8]) -> Step<R::Value>
         requires { 0 < length rest.now }
         ensures says { (w : List ℕ) (values : List R.Value) → ReadingStands R.holds R.spells self.old w values
@@ -80,6 +80,13 @@ impl<R: RecordReader> Reading<R> {
     {
         let room = self.chunks.room();
         if room == 0 {
+            let framed = frame_run(&mut self.chunks, rest);
+            if framed > 0 {
+                return Step {
+                    used: framed,
+                    out: Out::More,
+                };
+            }
             return Step {
                 used: 1,
                 out: self.frame(rest[0]),
@@ -115,11 +122,6 @@ impl<R: RecordReader> Reading<R> {
     {
         let mut at = 0;
         while at < piece.len() {
-            let framed = frame_run(&mut self.chunks, &piece[at..]);
-            if framed > 0 {
-                at += framed;
-                continue;
-            }
             let step = self.turn(&piece[at..]);
             at += step.used;
             if !step.out.is_more() {

@@ -1,32 +1,24 @@
-use Rattle.std.proofs.Common.{◌≡◌, ℕ, List, ◌+◌, ◌++◌, length, take, drop, ◌∙◌, ap, subst, arith, length-drop}
+use Rattle.std.proofs.Common.{◌≡◌, ◌+◌, ◌++◌, length, take, ◌∙◌, ap, subst, arith, length-drop}
 use Rattle.std.proofs.lemmas.List.{take_rest}
-use Rattle.mes_frame.specs.ChunkState.{ChunkStands}
-use Rattle.mes_stream.specs.Decoding.{ReadingStands, PassesFraming, Says, reading_limit}
-use Rattle.mes_stream.specs.declared.reading.Reading.{Reading}
+use Rattle.mes_stream.specs.Decoding.{ReadingStands, Says, reading_limit}
 use Rattle.mes_stream.specs.declared.reading.Out.{Out}
 use Rattle.mes_stream.specs.declared.reading.Out.TheVariants as out
-use Rattle.mes_stream.proofs.BodyLemmas.{piece_on}
 use Rattle.mes_stream.proofs.ChunkLemmas.{says_on, before_on}
-use Rattle.mes_stream.proofs.FramingLemmas.{framed_stands, framed_live, none_framed}
 use Rattle.mes_stream.proofs.reading.Reading.next.Goals as goal
 
 pub returns-then-not-is_more-clause-says : goal.returns-then-not-is_more-clause-says
 returns-then-not-is_more-clause-says g c = λ w values s.
     let rest = take_rest c.args.piece.now c.loop-at.at in
     let before = c.loop-at.invariant.2 w values s in
-    let stands = none_framed g.R.RecordReader.holds g.R.RecordReader.spells c.loop-at.self c.frame_run-framed.new.chunks (w ++ take c.loop-at.at c.args.piece.now) values
-    (c.frame_run-framed.ensures.none (omega (arith, c.if-framed-gt0.false))) before.0 in
     says_on (ReadingStands g.R.RecordReader.holds g.R.RecordReader.spells c.turn-step.new.self) g.R.RecordReader.spells g.R.RecordReader.breaks (reading_limit c.turn-step.new.self) w c.args.piece.now values c.loop-at.at c.turn-step.result.used c.turn-step.result.out c.turn-step.ensures.used.0
-    (rw rest at (c.turn-step.ensures.says (w ++ take c.loop-at.at c.args.piece.now) values stands))
+    (rw rest at (c.turn-step.ensures.says (w ++ take c.loop-at.at c.args.piece.now) values before.0))
 
 pub returns-then-not-is_more-clause-before : goal.returns-then-not-is_more-clause-before
 returns-then-not-is_more-clause-before g c = λ w values s.
     let rest = take_rest c.args.piece.now c.loop-at.at in
     let before = c.loop-at.invariant.2 w values s in
-    let stands = none_framed g.R.RecordReader.holds g.R.RecordReader.spells c.loop-at.self c.frame_run-framed.new.chunks (w ++ take c.loop-at.at c.args.piece.now) values
-    (c.frame_run-framed.ensures.none (omega (arith, c.if-framed-gt0.false))) before.0 in
     before_on (ReadingStands g.R.RecordReader.holds g.R.RecordReader.spells c.turn-step.new.self) g.R.RecordReader.spells g.R.RecordReader.breaks (reading_limit c.turn-step.new.self) w c.args.piece.now values c.loop-at.at c.turn-step.result.used (rw c.turn-step.ensures.limit before.1)
-    (rw rest at (c.turn-step.ensures.before (w ++ take c.loop-at.at c.args.piece.now) values stands))
+    (rw rest at (c.turn-step.ensures.before (w ++ take c.loop-at.at c.args.piece.now) values before.0))
 
 pub loop-at-preserved : goal.loop-at-preserved
 loop-at-preserved g c =
@@ -36,32 +28,11 @@ loop-at-preserved g c =
       c.turn-step.ensures.limit ∙ c.loop-at.invariant.1,
       λ w values s.
           let before = c.loop-at.invariant.2 w values s in
-          let stands = none_framed g.R.RecordReader.holds g.R.RecordReader.spells c.loop-at.self c.frame_run-framed.new.chunks (w ++ take c.loop-at.at c.args.piece.now) values
-          (c.frame_run-framed.ensures.none (omega (arith, c.if-framed-gt0.false))) before.0 in
           let says = says_on (ReadingStands g.R.RecordReader.holds g.R.RecordReader.spells c.turn-step.new.self) g.R.RecordReader.spells g.R.RecordReader.breaks (reading_limit c.turn-step.new.self) w c.args.piece.now values c.loop-at.at c.turn-step.result.used c.turn-step.result.out c.turn-step.ensures.used.0
-          (rw rest at (c.turn-step.ensures.says (w ++ take c.loop-at.at c.args.piece.now) values stands)) in (
+          (rw rest at (c.turn-step.ensures.says (w ++ take c.loop-at.at c.args.piece.now) values before.0)) in (
             subst (λ (o : Out g.row.R-Value.Denot). Says (ReadingStands g.R.RecordReader.holds g.R.RecordReader.spells c.turn-step.new.self) g.R.RecordReader.spells g.R.RecordReader.breaks (reading_limit c.turn-step.new.self) w values c.args.piece.now (c.loop-at.at + c.turn-step.result.used) o) more says,
             before_on (ReadingStands g.R.RecordReader.holds g.R.RecordReader.spells c.turn-step.new.self) g.R.RecordReader.spells g.R.RecordReader.breaks (reading_limit c.turn-step.new.self) w c.args.piece.now values c.loop-at.at c.turn-step.result.used (rw c.turn-step.ensures.limit before.1)
-                (rw rest at (c.turn-step.ensures.before (w ++ take c.loop-at.at c.args.piece.now) values stands)),
-          ),
-    )
-
-pub loop-at-preserved-then-framed-gt0 : goal.loop-at-preserved-then-framed-gt0
-loop-at-preserved-then-framed-gt0 g c =
-    let rest = take_rest c.args.piece.now c.loop-at.at in
-    let framed = c.frame_run-framed.result in
-    let chunks = c.frame_run-framed.new.chunks in (
-      omega (arith, c.frame_run-framed.ensures.within, c.loop-at-test.true, ap length rest, length-drop c.loop-at.at c.args.piece.now),
-      c.loop-at.invariant.1,
-      λ w values s.
-          let before = c.loop-at.invariant.2 w values s in
-          let passes : (v body : List ℕ) → ChunkStands c.loop-at.self.chunks v body → PassesFraming chunks v body (drop c.loop-at.at c.args.piece.now) framed =
-          λ v body stood. rw rest at (c.frame_run-framed.ensures.passes v body stood) in
-          let new : Reading g.row.R.Denot = record { chunks = chunks; body = c.loop-at.self.body } in (
-            subst (λ (y : List ℕ). ReadingStands g.R.RecordReader.holds g.R.RecordReader.spells new y values) (piece_on w c.args.piece.now c.loop-at.at framed)
-                (framed_stands g.R.RecordReader.holds g.R.RecordReader.spells c.loop-at.self chunks (w ++ take c.loop-at.at c.args.piece.now) (drop c.loop-at.at c.args.piece.now) values framed passes before.0),
-            before_on (ReadingStands g.R.RecordReader.holds g.R.RecordReader.spells new) g.R.RecordReader.spells g.R.RecordReader.breaks (reading_limit new) w c.args.piece.now values c.loop-at.at framed before.1
-                (framed_live g.R.RecordReader.holds g.R.RecordReader.spells c.loop-at.self chunks (w ++ take c.loop-at.at c.args.piece.now) (drop c.loop-at.at c.args.piece.now) values framed passes before.0),
+                (rw rest at (c.turn-step.ensures.before (w ++ take c.loop-at.at c.args.piece.now) values before.0)),
           ),
     )
 

@@ -5,13 +5,26 @@ use Rattle.mes_stream.specs.Decoding.{ReadingStands, reading_limit}
 use Rattle.mes_stream.specs.declared.body.Body.{Body}
 use Rattle.mes_stream.specs.declared.reading.Reading.{Reading}
 use Rattle.mes_stream.proofs.ChunkLemmas.{first_before, run_before, run_says, out_of, says_first, says_more, before_more}
+use Rattle.mes_stream.proofs.FramingLemmas.{framed_stands, framed_live, none_framed}
 use Rattle.mes_stream.proofs.reading.Reading.turn.Goals as goal
 use Rattle.mes_stream.proofs.reading.Reading.turn.Goals.{then-room-rest, else-room-rest, in-More, in-Value, in-Fault}
 
+pub returns-then-framed-gt0-clause-says : goal.returns-then-framed-gt0-clause-says
+returns-then-framed-gt0-clause-says g c = λ w values s.
+    framed_stands g.R.RecordReader.holds g.R.RecordReader.spells c.args.self.now c.frame_run-framed.new.chunks w c.args.rest.now values c.frame_run-framed.result
+    c.frame_run-framed.ensures.passes s
+
+pub returns-then-framed-gt0-clause-before : goal.returns-then-framed-gt0-clause-before
+returns-then-framed-gt0-clause-before g c = λ w values s.
+    framed_live g.R.RecordReader.holds g.R.RecordReader.spells c.args.self.now c.frame_run-framed.new.chunks w c.args.rest.now values c.frame_run-framed.result
+    c.frame_run-framed.ensures.passes s
+
 pub returns-then-room-eq0-clause-says : goal.returns-then-room-eq0-clause-says
 returns-then-room-eq0-clause-says g c = λ w values s.
+    let same = c.frame_run-framed.ensures.none (omega (arith, c.if-framed-gt0.false)) in
     says_first (ReadingStands g.R.RecordReader.holds g.R.RecordReader.spells c.frame.new.self) g.R.RecordReader.spells g.R.RecordReader.breaks (reading_limit c.frame.new.self) w c.args.rest.now values c.frame.result c.requires
-    (c.frame.ensures.says w values s (sym c.room-room.ensures ∙ c.if-room-eq0.true))
+    (c.frame.ensures.says w values (none_framed g.R.RecordReader.holds g.R.RecordReader.spells c.args.self.now c.frame_run-framed.new.chunks w values same s)
+    (ap room_of same ∙ (sym c.room-room.ensures ∙ c.if-room-eq0.true)))
 
 pub returns-then-room-eq0-clause-before : goal.returns-then-room-eq0-clause-before
 returns-then-room-eq0-clause-before g c = λ w values s n first.
