@@ -1,6 +1,6 @@
 -- What a reader of a body stands for, over the fronts of a run.
 use Rattle.std.proofs.Common.{◌≡◌, ℕ, ◌+◌, ◌-◌, ◌^◌, ◌<◌, ◌≤◌, List, [], ◌∷◌, ◌++◌, length, take, drop, get_or, sym, ◌∙◌, ap, append_assoc, append-nil, arith, refl, subst, inl, inr, ◌⊎◌, length-append, length-take-le, take-append-drop, take-add}
-use Rattle.std.specs.Prelude.{slice_index}
+use Rattle.std.specs.Prelude.{slice_index, Result, Ok, Err}
 use Rattle.std.proofs.lemmas.List.{take_more}
 use Rattle.mes_frame.proofs.Records.{begun_of, data_goes_on}
 use Rattle.mes_frame.specs.Record.{IsRecord, Begun, DataBegun}
@@ -8,14 +8,12 @@ use Rattle.mes_frame.specs.RecordState.{RecordStands, limit_of}
 use Rattle.mes_stream.specs.Stream.{saturated, Records, Behind, BodyLive, number_after, EndsRecord, InData, BodyStops}
 use Rattle.mes_stream.specs.Framings.{GoesIn, EndsRecordIn, StopsIn, StopsWithin}
 use Rattle.mes_stream.specs.declared.stream_reader.Framing.{Framing}
-use Rattle.mes_stream.specs.Taking.{BodyStands, Takes, Ends, fault_of_record}
+use Rattle.mes_stream.specs.Taking.{BodyStands, Taken, Ends, answer_of, fault_of_record}
 use Rattle.mes_msg.specs.declared.record.RecordFault.{RecordFault}
 use Rattle.mes_msg.specs.declared.record.RecordFault.TheVariants as refusal
 use Rattle.mes_stream.specs.declared.fault.Fault.{Fault}
 use Rattle.mes_stream.specs.declared.fault.Fault.TheVariants.{NoMemory}
 use Rattle.mes_stream.specs.declared.body.Body.{Body}
-use Rattle.mes_stream.specs.declared.body.BodyOut.{BodyOut}
-use Rattle.mes_stream.specs.declared.body.BodyOut.TheVariants as out
 
 -- a count that has stopped stays
 pub saturated_more : (n : ℕ) → saturated (saturated n + 1) ≡ saturated (n + 1)
@@ -132,16 +130,15 @@ module _ {R E : Type 0} (holds : R → List ℕ → Type 0) (spells : List ℕ �
     refused_with d b run r values count refusal.NoMemory s some within is h memory = inr (refl, memory refl)
 
     -- the record has ended with a run of data
-    pub ends_as : (d mid new : Body R) (b run : List ℕ) (values : List E) (count left : ℕ) (answer : BodyOut E) (s : BodyStands holds spells d b values) → 0 < count → count ≤ length run → count ≤ left
+    pub ends_as : (d mid new : Body R) (b run : List ℕ) (values : List E) (count left : ℕ) (answer : Result E Fault) (s : BodyStands holds spells d b values) → 0 < count → count ≤ length run → count ≤ left
         → DataBegun s.x s.r left (limit_of d.records) → mid.done ≡ d.done → limit_of new.records ≡ limit_of d.records
         → IsRecord (s.x ++ take count run) (s.r ++ take count run) (limit_of d.records) → RecordStands new.records [] []
-        → Ends holds spells breaks mid new (s.r ++ take count run) answer → Takes holds spells breaks new b values run count answer
-    ends_as d mid new b run values count left out.More s some within inside begun done limit is state ends = absurd ends
-    ends_as d mid new b run values count left (out.Value value) s some within inside begun done limit is state (says, ready, more) = (
+        → Ends holds spells breaks mid new (s.r ++ take count run) answer → Taken holds spells breaks new b values run count (answer_of answer)
+    ends_as d mid new b run values count left (Ok value) s some within inside begun done limit is state (says, ready, more) = (
       stands_value d new b (take count run) (s.r ++ take count run) values value s (more ∙ ap (λ (n : ℕ). saturated (n + 1)) done) limit ready is state says,
       rw limit (ends_with d b run (s.r ++ take count run) values count s (λ r. spells r value) some within is says),
     )
-    ends_as d mid new b run values count left (out.Fault fault) s some within inside begun done limit is state (why, h, eq) =
+    ends_as d mid new b run values count left (Err fault) s some within inside begun done limit is state (why, h, eq) =
         rw (eq, done, limit) (refused_with d b run (s.r ++ take count run) values count why s some within is h
         (λ none. data_next d b run values (count - 1) left s (omega (arith, some, inside)) (omega (arith, within)) begun))
 

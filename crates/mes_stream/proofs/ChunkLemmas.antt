@@ -10,12 +10,10 @@ use Rattle.mes_frame.specs.ChunkState.{ChunkStands, room_of}
 use Rattle.mes_msg.specs.declared.record.RecordFault.{RecordFault}
 use Rattle.mes_stream.specs.Stream.{BodyLive, EndsRecord, BodyShows, BodyStops}
 use Rattle.mes_stream.specs.Chunked.{IsStream, Live, AtData, EndsWith, Shows, Stops}
-use Rattle.mes_stream.specs.Taking.{Takes}
+use Rattle.mes_stream.specs.Taking.{Taken}
 use Rattle.mes_stream.specs.Decoding.{ReadingStands, Says, LiveBefore, reading_limit}
 use Rattle.mes_stream.specs.declared.fault.Fault.{Fault}
 use Rattle.mes_stream.specs.declared.fault.Fault.TheVariants.{Frame, EndsInsideChunks, EndsInsideRecord, Text, Field, NoMemory, Read, ReadsSpent, BadEntry}
-use Rattle.mes_stream.specs.declared.body.BodyOut.{BodyOut}
-use Rattle.mes_stream.specs.declared.body.BodyOut.TheVariants as body_out
 use Rattle.mes_stream.specs.declared.reading.Out.{Out}
 use Rattle.mes_stream.specs.declared.reading.Out.TheVariants as out
 use Rattle.mes_stream.specs.declared.reading.Reading.{Reading}
@@ -90,21 +88,17 @@ module _ {R E : Type 0} (holds : R → List ℕ → Type 0) (spells : List ℕ �
         stops_data spells breaks limit (w ++ take (used - 1) run) at.0 values (slice_index run (used - 1)) fault at.1 at.2 at.3
 
     -- what a body says of a run of data
-    abbrev pub out_of : BodyOut E → Out E
-    out_of body_out.More = out.More
-    out_of (body_out.Value value) = out.Event value
-    out_of (body_out.Fault fault) = out.Fault fault
-
-    pub run_says : (d new : Reading R) (w run : List ℕ) (values : List E) (used count : ℕ) (answer : BodyOut E) (s : ReadingStands holds spells d w values) → length run ≡ count → count ≤ room_of d.chunks
+    pub run_says : (d new : Reading R) (w run : List ℕ) (values : List E) (used count : ℕ) (answer : Out E) (s : ReadingStands holds spells d w values) → length run ≡ count → count ≤ room_of d.chunks
         → 0 < used → used ≤ count → ChunkStands new.chunks (w ++ take used run) (s.content ++ take used run)
-        → Takes holds spells breaks new.body s.content values run used answer → Says (ReadingStands holds spells new) spells breaks (reading_limit new) w values run used (out_of answer)
-    run_says d new w run values used count body_out.More s len room some within chunks taken =
+        → Taken holds spells breaks new.body s.content values run used answer → Says (ReadingStands holds spells new) spells breaks (reading_limit new) w values run used answer
+    run_says d new w run values used count out.More s len room some within chunks taken =
         record { content = s.content ++ take used run; chunks = chunks; body = taken }
-    run_says d new w run values used count (body_out.Value value) s len room some within chunks taken = (
+    run_says d new w run values used count (out.Event value) s len room some within chunks taken = (
       record { content = s.content ++ take used run; chunks = chunks; body = taken.0 },
       run_at d w run values used count (λ body vs. EndsRecord spells (reading_limit new) body vs (slice_index run (used - 1)) (λ r. spells r value)) s len room some within taken.1,
     )
-    run_says d new w run values used count (body_out.Fault fault) s len room some within chunks taken =
+    run_says d new w run values used count out.End s len room some within chunks taken = absurd taken
+    run_says d new w run values used count (out.Fault fault) s len room some within chunks taken =
         run_stops d (reading_limit new) w run values used count fault s len room some within taken
 
 module _ {E : Type 0} (Stands : List ℕ → List E → Type 0) (spells : List ℕ → E → Type 0) (breaks : List ℕ → RecordFault → Type 0) (limit : ℕ) where

@@ -10,3 +10,4 @@ mod SizeLemmas
 mod SomeReading
 mod StreamLaw
 pub mod StreamLemmas
+mod TurnLemmas

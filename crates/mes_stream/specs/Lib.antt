@@ -14,3 +14,4 @@ pub mod StreamReading
 pub mod RecordFaults
 pub mod SmallFaults
 pub mod Taking
+pub mod Turning

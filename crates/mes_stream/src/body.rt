@@ -25,20 +25,20 @@ pub struct Body<R> {
 
 /// What was made of the front of a run.
 #[derive(Drop)]
-pub(crate) struct Taken<V> {
+pub(crate) struct Taken {
     /// How many bytes of the run were used; with a fault the byte that shows it is the last of them.
     pub used: usize,
     /// What they were.
-    pub out: BodyOut<V>,
+    pub out: BodyOut,
 }
 
 /// What some bytes of a body were.
 #[derive(Drop)]
-pub(crate) enum BodyOut<V> {
+pub(crate) enum BodyOut {
     /// Bytes that end no record.
     More,
-    /// The value of the record that ended with them.
-    Value(V),
+    /// The last bytes of a record, whose value is to be read by `end_record`.
+    Ended,
     /// The last of them stops the reading.
     Fault(SmallFault),
 }
@@ -87,7 +87,7 @@ impl<R: RecordReader> Body<R> {
     }
 
     /// Takes bytes of a size line or a run of data from the front of a run.
-    pub(crate) fn take(&mut self, run: &[u8]) -> Taken<R::Value>
+    pub(crate) fn take(&mut self, run: &[u8]) -> Taken
         requires { 0 < length run.now }
         ensures takes { (b : List ℕ) (values : List R.Value) → BodyStands R.holds R.spells self.old b values
             → Takes R.holds R.spells R.breaks self.new b values run.now result.used result.out }
@@ -120,11 +120,7 @@ impl<R: RecordReader> Body<R> {
                 },
                 Ok(()) => Taken {
                     used: count,
-                    out: if last {
-                        self.end_record()
-                    } else {
-                        BodyOut::More
-                    },
+                    out: if last { BodyOut::Ended } else { BodyOut::More },
                 },
             },
         }
@@ -143,7 +139,14 @@ impl<R: RecordReader> Body<R> {
             at += taken.used;
             match taken.out {
                 BodyOut::More => {}
-                BodyOut::Value(value) => {
+                BodyOut::Ended => {
+                    let value = match self.end_record() {
+                        Ok(value) => value,
+                        Err(fault) => return Err(Halt {
+                            fault: fault.into_fault(),
+                            used: at,
+                        }),
+                    };
                     if let Err(_) = values.push(value) {
                         return Err(Halt {
                             fault: Fault::NoMemory,
@@ -169,8 +172,8 @@ impl<R: RecordReader> Body<R> {
         self.reader.held()
     }
 
-    // The record has ended: its value.
-    fn end_record(&mut self) -> BodyOut<R::Value>
+    /// The value of the record that has ended, or why it has none.
+    pub(crate) fn end_record(&mut self) -> Result<R::Value, SmallFault>
         ensures ends { (r : List ℕ) → R.holds self.old.reader r → length r < 2 ^ 64
             → Ends R.holds R.spells R.breaks self.old self.new r result }
         ensures records { self.new.records ≡ self.old.records }
@@ -178,9 +181,9 @@ impl<R: RecordReader> Body<R> {
         match self.reader.finish() {
             Ok(value) => {
                 self.done = self.done.saturating_add(1);
-                BodyOut::Value(value)
+                Ok(value)
             }
-            Err(why) => BodyOut::Fault(self.refused(why)),
+            Err(why) => Err(self.refused(why)),
         }
     }
 

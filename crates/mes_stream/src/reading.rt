@@ -6,10 +6,12 @@ ghost use Rattle.mes_stream.specs.Taking.{BodyStands};
 ghost use Rattle.mes_stream.specs.Chunked.{Live};
 ghost use Rattle.mes_stream.specs.Decoders.{HoldsOf};
 ghost use Rattle.mes_stream.specs.Decoding.{ReadingStands, PassesFraming, Says, LiveBefore, reading_limit};
+ghost use Rattle.mes_stream.specs.Turning.{Turns};
 
 use crate::body::{Body, BodyOut};
 use crate::fault::Fault;
 use crate::record_reader::RecordReader;
+use crate::small_fault::SmallFault;
 use mes_frame::{ChunkOut, ChunkState};
 
 /// What a decoder made of a piece.
@@ -32,6 +34,28 @@ pub enum Out<V> {
     End,
     /// The last of them stops the reading: it shows the fault, or memory was refused there.
     Fault(Fault),
+}
+
+/// What a decoder made of the front of a piece.
+#[derive(Drop)]
+pub(crate) struct Turned {
+    /// How many bytes of it were used.
+    used: usize,
+    /// What they were.
+    turn: Turn,
+}
+
+/// What the bytes that were used were, where the value of a record that ended with them is still to be read.
+#[derive(Drop)]
+pub(crate) enum Turn {
+    /// More is wanted.
+    More,
+    /// The last bytes of a record.
+    Ended,
+    /// The last of them ended the stream.
+    Closed,
+    /// The last of them stops the reading.
+    Fault(SmallFault),
 }
 
 impl<V> Out<V> {
@@ -69,10 +93,10 @@ impl<R: RecordReader> Reading<R> {
     }
 
     /// Takes bytes of the framing or a run of data from the front of a piece.
-    pub fn turn(&mut self, rest: &[u8]) -> Step<R::Value>
+    fn turn(&mut self, rest: &[u8]) -> Turned
         requires { 0 < length rest.now }
         ensures says { (w : List ℕ) (values : List R.Value) → ReadingStands R.holds R.spells self.old w values
-            → Says (ReadingStands R.holds R.spells self.new) R.spells R.breaks (reading_limit self.new) w values rest.now result.used result.out }
+            → Turns R.holds R.spells R.breaks self.new w values rest.now result.used result.turn }
         ensures before { (w : List ℕ) (values : List R.Value) → ReadingStands R.holds R.spells self.old w values
             → LiveBefore R.spells (reading_limit self.new) w values rest.now result.used }
         ensures used { (0 < result.used) × (result.used ≤ length rest.now) }
@@ -82,14 +106,14 @@ impl<R: RecordReader> Reading<R> {
         if room == 0 {
             let framed = frame_run(&mut self.chunks, rest);
             if framed > 0 {
-                return Step {
+                return Turned {
                     used: framed,
-                    out: Out::More,
+                    turn: Turn::More,
                 };
             }
-            return Step {
+            return Turned {
                 used: 1,
-                out: self.frame(rest[0]),
+                turn: self.frame(rest[0]),
             };
         }
         let count = if room < rest.len() as u64 {
@@ -99,12 +123,12 @@ impl<R: RecordReader> Reading<R> {
         };
         let taken = self.body.take(&rest[..count]);
         self.chunks.pass(taken.used as u64);
-        Step {
+        Turned {
             used: taken.used,
-            out: match taken.out {
-                BodyOut::More => Out::More,
-                BodyOut::Value(value) => Out::Event(value),
-                BodyOut::Fault(fault) => Out::Fault(fault.into_fault()),
+            turn: match taken.out {
+                BodyOut::More => Turn::More,
+                BodyOut::Ended => Turn::Ended,
+                BodyOut::Fault(fault) => Turn::Fault(fault),
             },
         }
     }
@@ -122,14 +146,18 @@ impl<R: RecordReader> Reading<R> {
     {
         let mut at = 0;
         while at < piece.len() {
-            let step = self.turn(&piece[at..]);
-            at += step.used;
-            if !step.out.is_more() {
-                return Step {
-                    used: at,
-                    out: step.out,
-                };
-            }
+            let turned = self.turn(&piece[at..]);
+            at += turned.used;
+            let out = match turned.turn {
+                Turn::More => continue,
+                Turn::Ended => match self.body.end_record() {
+                    Ok(value) => Out::Event(value),
+                    Err(fault) => Out::Fault(fault.into_fault()),
+                },
+                Turn::Closed => Out::End,
+                Turn::Fault(fault) => Out::Fault(fault.into_fault()),
+            };
+            return Step { used: at, out };
         }
         Step {
             used: at,
@@ -147,22 +175,22 @@ impl<R: RecordReader> Reading<R> {
     }
 
     // Takes a byte of the framing.
-    fn frame(&mut self, byte: u8) -> Out<R::Value>
+    fn frame(&mut self, byte: u8) -> Turn
         ensures says { (w : List ℕ) (values : List R.Value) → ReadingStands R.holds R.spells self.old w values → room_of self.old.chunks ≡ 0
-            → Says (ReadingStands R.holds R.spells self.new) R.spells R.breaks (reading_limit self.new) w values (byte ∷ []) 1 result }
+            → Turns R.holds R.spells R.breaks self.new w values (byte ∷ []) 1 result }
         ensures body { self.new.body ≡ self.old.body }
     {
         match self.chunks.step(byte) {
-            ChunkOut::Quiet => Out::More,
-            ChunkOut::Byte => Out::More,
+            ChunkOut::Quiet => Turn::More,
+            ChunkOut::Byte => Turn::More,
             ChunkOut::Closed => {
                 if self.body.between() {
-                    Out::End
+                    Turn::Closed
                 } else {
-                    Out::Fault(Fault::EndsInsideRecord)
+                    Turn::Fault(SmallFault::ends_inside_record())
                 }
             }
-            ChunkOut::Fault(fault) => Out::Fault(Fault::Frame(fault)),
+            ChunkOut::Fault(fault) => Turn::Fault(SmallFault::frame(fault)),
         }
     }
 }

@@ -26,13 +26,17 @@ returns-after-last-clause-takes g c = λ b values s.
     elim c.if-last.branch [
       | then-last w ↦
           let ended = rw w.if-last.true at h.1 in
-          let same = ap (λ (t : RecordState). limit_of t) w.end_record.ensures.records ∙ limit in
           let is = rw limit at ended.0 in
-          rw (w.self-is, w.result-is) (ends_as g.R.RecordReader.holds g.R.RecordReader.spells g.R.RecordReader.breaks c.args.self.now mid w.end_record.new.self b c.args.run.now values c.in-Data.count h.0.0 w.end_record.result
-          s within.0 within.1 h.0.2 (rw limit at h.0.1) refl same is (rw w.end_record.ensures.records ended.1)
-          (w.end_record.ensures.ends (s.r ++ take c.in-Data.count c.args.run.now) kept (whole_fits g.R.RecordReader.holds g.R.RecordReader.spells c.args.self.now b _ _ values s is)))
+          rw w.result-is (
+            s.r ++ take c.in-Data.count c.args.run.now,
+            kept,
+            whole_fits g.R.RecordReader.holds g.R.RecordReader.spells c.args.self.now b _ _ values s is,
+            λ after answer same ends.
+                ends_as g.R.RecordReader.holds g.R.RecordReader.spells g.R.RecordReader.breaks c.args.self.now mid after b c.args.run.now values c.in-Data.count h.0.0 answer
+                s within.0 within.1 h.0.2 (rw limit at h.0.1) refl (ap (λ (t : RecordState). limit_of t) same ∙ limit) is (rw same ended.1) ends,
+          )
       | else-last w ↦
-          rw (w.self-is, w.result-is) (stands_on g.R.RecordReader.holds g.R.RecordReader.spells c.args.self.now _ b (take c.in-Data.count c.args.run.now) (s.r ++ take c.in-Data.count c.args.run.now) values s refl limit kept
+          rw w.result-is (stands_on g.R.RecordReader.holds g.R.RecordReader.spells c.args.self.now _ b (take c.in-Data.count c.args.run.now) (s.r ++ take c.in-Data.count c.args.run.now) values s refl limit kept
           (rw w.if-last.false at h.1))
     ]
 
@@ -43,6 +47,6 @@ returns-after-last-clause-lives g c = λ b values s n inside.
     let within = c.in-Data.ensures.within in
     let lives = data_live g.R.RecordReader.holds g.R.RecordReader.spells c.args.self.now b c.args.run.now values n h.0.0 s (omega (arith, inside, h.0.2)) (omega (arith, inside, within.1)) (rw limit at h.0.1) in
     elim c.if-last.branch [
-      | then-last w ↦ rw (w.self-is, w.end_record.ensures.records, limit) lives
-      | else-last w ↦ rw (w.self-is, limit) lives
+      | then-last w ↦ rw limit lives
+      | else-last w ↦ rw limit lives
     ]

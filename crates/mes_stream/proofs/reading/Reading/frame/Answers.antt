@@ -4,8 +4,8 @@ use Rattle.mes_stream.proofs.reading.Reading.frame.Goals as goal
 
 pub returns-else-between-clause-says : goal.returns-else-between-clause-says
 returns-else-between-clause-says g c = λ w values s none.
-    rw append-nil (inl (s.content, (c.in-Closed.ensures.steps w s.content s.chunks).0, c.if-between.ensures.inside s.content values s.body refl))
+    rw (append-nil, c.ends_inside_record.ensures) (inl (s.content, (c.in-Closed.ensures.steps w s.content s.chunks).0, c.if-between.ensures.inside s.content values s.body refl))
 
 pub returns-in-Fault-clause-says : goal.returns-in-Fault-clause-says
 returns-in-Fault-clause-says g c = λ w values s none.
-    rw append-nil (inl (inl (s.content, (c.in-Fault.ensures.steps w s.content s.chunks).0, live_of g.R.RecordReader.holds g.R.RecordReader.spells c.args.self.now.body s.content values s.body)))
+    rw (append-nil, c.frame.ensures) (inl (inl (s.content, (c.in-Fault.ensures.steps w s.content s.chunks).0, live_of g.R.RecordReader.holds g.R.RecordReader.spells c.args.self.now.body s.content values s.body)))

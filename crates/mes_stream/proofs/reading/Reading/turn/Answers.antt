@@ -1,13 +1,15 @@
-use Rattle.std.proofs.Common.{◌≡◌, ℕ, ◌≤◌, List, length, take, ap, sym, ◌∙◌, arith, length-take-le}
+use Rattle.std.proofs.Common.{◌≡◌, ℕ, ◌≤◌, List, [], ◌∷◌, length, take, ap, sym, ◌∙◌, arith, length-take-le}
 use Rattle.mes_frame.specs.ChunkState.{room_of}
 use Rattle.mes_frame.specs.RecordState.{limit_of}
-use Rattle.mes_stream.specs.Decoding.{ReadingStands, reading_limit}
+use Rattle.mes_stream.specs.Decoding.{ReadingStands}
 use Rattle.mes_stream.specs.declared.body.Body.{Body}
 use Rattle.mes_stream.specs.declared.reading.Reading.{Reading}
-use Rattle.mes_stream.proofs.ChunkLemmas.{first_before, run_before, run_says, out_of, says_first, says_more, before_more}
+use Rattle.std.specs.Prelude.{slice_index}
+use Rattle.mes_stream.proofs.ChunkLemmas.{first_before, run_before, says_first, says_more, before_more}
+use Rattle.mes_stream.proofs.TurnLemmas.{turn_of, turns_as, run_turns}
 use Rattle.mes_stream.proofs.FramingLemmas.{framed_stands, framed_live, none_framed}
 use Rattle.mes_stream.proofs.reading.Reading.turn.Goals as goal
-use Rattle.mes_stream.proofs.reading.Reading.turn.Goals.{then-room-rest, else-room-rest, in-More, in-Value, in-Fault}
+use Rattle.mes_stream.proofs.reading.Reading.turn.Goals.{then-room-rest, else-room-rest, in-More, in-Ended, in-Fault}
 
 pub returns-then-framed-gt0-clause-says : goal.returns-then-framed-gt0-clause-says
 returns-then-framed-gt0-clause-says g c = λ w values s.
@@ -22,7 +24,8 @@ returns-then-framed-gt0-clause-before g c = λ w values s.
 pub returns-then-room-eq0-clause-says : goal.returns-then-room-eq0-clause-says
 returns-then-room-eq0-clause-says g c = λ w values s.
     let same = c.frame_run-framed.ensures.none (omega (arith, c.if-framed-gt0.false)) in
-    says_first (ReadingStands g.R.RecordReader.holds g.R.RecordReader.spells c.frame.new.self) g.R.RecordReader.spells g.R.RecordReader.breaks (reading_limit c.frame.new.self) w c.args.rest.now values c.frame.result c.requires
+    turns_as g.R.RecordReader.holds g.R.RecordReader.spells g.R.RecordReader.breaks c.frame.new.self w w (slice_index c.args.rest.now 0 ∷ []) c.args.rest.now values 1 1 c.frame.result
+    (λ Stands limit answer h. says_first Stands g.R.RecordReader.spells g.R.RecordReader.breaks limit w c.args.rest.now values answer c.requires h)
     (c.frame.ensures.says w values (none_framed g.R.RecordReader.holds g.R.RecordReader.spells c.args.self.now c.frame_run-framed.new.chunks w values same s)
     (ap room_of same ∙ (sym c.room-room.ensures ∙ c.if-room-eq0.true)))
 
@@ -45,14 +48,14 @@ returns-clause-says g c = λ w values s.
     let inside : used ≤ length run = c.take-taken.ensures.used.1 in
     let within : used ≤ c.if-room-rest.count = omega (arith, inside, len) in
     let new : Reading g.row.R.Denot = record { chunks = c.pass.new.self; body = c.take-taken.new.self } in
-    let Stands : List ℕ → List g.row.R-Value.Denot → Type 0 = ReadingStands g.R.RecordReader.holds g.R.RecordReader.spells new in
-    let says = says_more Stands g.R.RecordReader.spells g.R.RecordReader.breaks (reading_limit new) w c.args.rest.now values used c.if-room-rest.count (out_of g.R.RecordReader.holds g.R.RecordReader.spells g.R.RecordReader.breaks c.take-taken.result.out) some within
-    (run_says g.R.RecordReader.holds g.R.RecordReader.spells g.R.RecordReader.breaks c.args.self.now new w run values used c.if-room-rest.count c.take-taken.result.out s len fits.0 some within
+    let turns = turns_as g.R.RecordReader.holds g.R.RecordReader.spells g.R.RecordReader.breaks new w w run c.args.rest.now values used used (turn_of c.take-taken.result.out)
+    (λ Stands limit answer h. says_more Stands g.R.RecordReader.spells g.R.RecordReader.breaks limit w c.args.rest.now values used c.if-room-rest.count answer some within h)
+    (run_turns g.R.RecordReader.holds g.R.RecordReader.spells g.R.RecordReader.breaks c.args.self.now c.pass.new.self c.take-taken.new.self w run values used c.if-room-rest.count c.take-taken.result.out s len fits.0 some within
     (c.pass.ensures.passes w s.content (take used run) (length-take-le used run inside) s.chunks) (c.take-taken.ensures.takes s.content values s.body)) in
     elim c.match-taken.branch [
-      | in-More b ↦ rw b.result-is (rw b.in-More.is at says)
-      | in-Value b ↦ rw (b.result-is, b.in-Value.value-is) (rw b.in-Value.is at says)
-      | in-Fault b ↦ rw (b.result-is, b.into_fault.ensures, b.in-Fault.fault-is) (rw b.in-Fault.is at says)
+      | in-More b ↦ rw b.result-is (rw b.in-More.is at turns)
+      | in-Ended b ↦ rw b.result-is (rw b.in-Ended.is at turns)
+      | in-Fault b ↦ rw (b.result-is, b.in-Fault.fault-is) (rw b.in-Fault.is at turns)
     ]
 
 pub returns-clause-before : goal.returns-clause-before
