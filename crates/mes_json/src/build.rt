@@ -210,7 +210,7 @@ impl Building {
 }
 
 /// The text of a span.
-fn text_of(alloc: Global, texts: &[u8], from: usize, to: usize) -> Result<Text, NoMemory>
+fn text_of(alloc: Global, texts: &[u8], from: u32, to: u32) -> Result<Text, NoMemory>
     requires { IsSpan texts.now from to }
     ensures { IfOk result (λ text. text ≡ span texts.now from to) }
 {
@@ -218,7 +218,7 @@ fn text_of(alloc: Global, texts: &[u8], from: usize, to: usize) -> Result<Text, 
 }
 
 /// The number of a span.
-fn number_of(alloc: Global, texts: &[u8], from: usize, to: usize) -> Result<NumText, NoMemory>
+fn number_of(alloc: Global, texts: &[u8], from: u32, to: u32) -> Result<NumText, NoMemory>
     requires { IsNumberSpan texts.now from to }
     ensures { IfOk result (λ number. number ≡ span texts.now from to) }
 {

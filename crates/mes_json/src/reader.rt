@@ -17,7 +17,7 @@ use crate::memory::NoMemory;
 use crate::nesting::Open;
 use crate::plain::append_front;
 use crate::stop::Stop;
-use crate::tape::{Node, Tape};
+use crate::tape::{Node, Tape, text_place};
 use crate::utf8::Mid;
 use crate::word::{Said, Word};
 use arrayvec::ArrayVec;
@@ -502,8 +502,8 @@ impl Reader {
     fn close_string(&mut self, purpose: Purpose) -> Result<(), NoMemory>
         ensures { OnOk result (Puts self.old self.old.nesting.items (string_node purpose self.old) (behind_string purpose) self.new) }
     {
-        let from = self.start;
-        let to = self.text.len();
+        let from = text_place(self.start)?;
+        let to = text_place(self.text.len())?;
         match purpose {
             Purpose::Name => {
                 self.nodes.push(Node::Name { from, to })?;
@@ -530,8 +530,8 @@ impl Reader {
     fn end_number(&mut self) -> Result<(), NoMemory>
         ensures ok { OnOk result (Puts self.old self.old.nesting.items (Node.Number self.old.start (length self.old.text.items)) At.After self.new) }
     {
-        let from = self.start;
-        let to = self.text.len();
+        let from = text_place(self.start)?;
+        let to = text_place(self.text.len())?;
         self.nodes.push(Node::Number { from, to })?;
         self.at = At::After;
         Ok(())

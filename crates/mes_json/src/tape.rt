@@ -1,5 +1,5 @@
 //! The tape: a JSON value as one flat list of nodes over one buffer of texts.
-ghost use Rattle.std.specs.Prelude.{◌≡◌, ◌≤◌, [], vec_capacity};
+ghost use Rattle.std.specs.Prelude.{◌≡◌, ◌<◌, ◌≤◌, [], vec_capacity, IfOk, IfErr};
 ghost use Rattle.std.specs.List.{AllByRecursion};
 ghost use Rattle.mes_json.specs.Tape.{span, IsSpan, HasSpan};
 ghost use Rattle.mes_json.specs.Cursor.{tokens_held};
@@ -7,12 +7,13 @@ ghost use Rattle.mes_json.specs.Cursor.{tokens_held};
 mod spell;
 
 use crate::cursor::Element;
-use crate::limits::ROOM_KEPT;
+use crate::limits::{ROOM_KEPT, TEXTS_MOST};
+use crate::memory::NoMemory;
 use std::alloc::Global;
 use std::marker::Model;
 use std::{mem, str};
 
-/// A node of the tape. A span is the bytes of the buffer of texts from `from` up to but not including `to`.
+/// A node of the tape, of 12 bytes. A span is the bytes of the buffer of texts from `from` up to but not including `to`.
 #[derive(Clone, Copy)]
 pub(crate) enum Node {
     /// The literal `null`.
@@ -20,11 +21,11 @@ pub(crate) enum Node {
     /// The literal `false` or `true`.
     Bool(bool),
     /// A number's text.
-    Number { from: usize, to: usize },
+    Number { from: u32, to: u32 },
     /// A string's text.
-    Text { from: usize, to: usize },
+    Text { from: u32, to: u32 },
     /// The name of the member whose value follows.
-    Name { from: usize, to: usize },
+    Name { from: u32, to: u32 },
     /// An array's items follow.
     List,
     /// An object's members follow.
@@ -103,10 +104,21 @@ fn emptied<T: Drop>(alloc: Global, mut room: Vec<T>, most: usize) -> Vec<T>
     room
 }
 
+/// A place of the buffer of texts, as nodes keep it; want of memory where the buffer has more than `TEXTS_MOST` bytes.
+pub(crate) fn text_place(place: usize) -> Result<u32, NoMemory>
+    ensures ok { IfOk result (λ kept. kept ≡ place) }
+    ensures err { IfErr result (λ _. TEXTS_MOST < place) }
+{
+    if place > TEXTS_MOST {
+        return Err(NoMemory);
+    }
+    Ok(place as u32)
+}
+
 /// The text of a span.
-pub(crate) fn span_text(texts: &[u8], from: usize, to: usize) -> &str
+pub(crate) fn span_text(texts: &[u8], from: u32, to: u32) -> &str
     requires { IsSpan texts.now from to }
     ensures { result.now ≡ span texts.now from to }
 {
-    unsafe { str::from_utf8_unchecked(&texts[from..to]) }
+    unsafe { str::from_utf8_unchecked(&texts[from as usize..to as usize]) }
 }

@@ -7,7 +7,7 @@ ghost use Rattle.mes_json.specs.Spell.{HasNoText, text_token, IsTextOf};
 ghost use Rattle.mes_json.specs.View.{view, items_view, members_view};
 
 use crate::memory::NoMemory;
-use crate::tape::{Node, Tape};
+use crate::tape::{Node, Tape, text_place};
 use crate::text::Text;
 use crate::value::Json;
 use std::alloc::Global;
@@ -25,7 +25,7 @@ enum Form {
 
 impl Form {
     /// The node of the text of a span.
-    fn node(self, from: usize, to: usize) -> Node
+    fn node(self, from: u32, to: u32) -> Node
         ensures token { (texts : List ℕ) → token_of texts result ≡ text_token self (span texts from to) }
         ensures span { (texts : List ℕ) → IsSpan texts from to → IsTextOf self (span texts from to) → HasSpan texts result }
     {
@@ -104,9 +104,9 @@ impl Tape {
         requires { IsTextOf form text.now }
         ensures { OnOk result (self.new ≡ self.old ++ text_token form text.now ∷ []) }
     {
-        let from = self.texts.len();
+        let from = text_place(self.texts.len())?;
         self.texts.extend_from_slice(text.as_bytes())?;
-        let to = self.texts.len();
+        let to = text_place(self.texts.len())?;
         self.nodes.push(form.node(from, to))?;
         Ok(())
     }

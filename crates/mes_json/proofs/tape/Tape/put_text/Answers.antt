@@ -8,23 +8,28 @@ invariant_of-self-in_err-push c =
     c.in_ok-extend_from_slice.ensures.items c.self.invariant)
 
 puts : (c : goal.In_ok-push) → PutsText c.self.inside.texts.items c.args.text.now c.extend_from_slice.new.self.items c.self.inside.nodes.items c.push.new.self.items
-    c.args.form c.len-from.result c.len-to.result c.node.result
+    c.args.form c.in_ok-from.from c.in_ok-to.to c.node.result
 puts c = record {
   text = c.in_ok-extend_from_slice.ensures.items ∙ ap (λ (b : List ℕ). c.self.inside.texts.items ++ b) c.as_bytes.ensures.value;
   nodes = c.in_ok-push.ensures.items;
-  begins = omega (arith, c.len-from.ensures);
-  behind = omega (arith, c.len-to.ensures);
+  begins = omega (arith, c.in_ok-from.ensures.ok, c.len.ensures);
+  behind = omega (arith, c.in_ok-to.ensures.ok, c.len-2.ensures);
   spans = c.self.invariant;
   token = c.node.ensures.token;
   span_is = c.node.ensures.span;
 }
 
+pub invariant_of-self-in_err-to : goal.invariant_of-self-in_err-to
+invariant_of-self-in_err-to c =
+    more_spans c.self.inside.texts.items _ c.extend_from_slice.new.self.items c.self.inside.nodes.items
+    c.in_ok-extend_from_slice.ensures.items c.self.invariant
+
 pub invariant_of-self-2 : goal.invariant_of-self-2
 invariant_of-self-2 c =
     text_spans c.self.inside.texts.items c.args.text.now c.extend_from_slice.new.self.items c.self.inside.nodes.items c.push.new.self.items
-    c.args.form c.len-from.result c.len-to.result c.node.result (puts c) c.utf8.text c.requires
+    c.args.form c.in_ok-from.from c.in_ok-to.to c.node.result (puts c) c.utf8.text c.requires
 
 pub returns : goal.returns
 returns c =
     text_held c.self.inside.texts.items c.args.text.now c.extend_from_slice.new.self.items c.self.inside.nodes.items c.push.new.self.items
-    c.args.form c.len-from.result c.len-to.result c.node.result c.args.self.now (puts c) c.self.view_is
+    c.args.form c.in_ok-from.from c.in_ok-to.to c.node.result c.args.self.now (puts c) c.self.view_is
