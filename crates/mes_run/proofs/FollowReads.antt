@@ -1,5 +1,5 @@
 -- A stream followed read by read, with what was printed of its events.
-use Rattle.std.proofs.Common.{◌≡◌, ℕ, ◌+◌, ◌-◌, ◌<◌, ◌≤◌, Option, None, Some, List, [], ◌∷◌, ◌++◌, length, take, ◌∙◌, ap, sym, append_assoc, append-nil, arith, refl, inl, inr, length-append, length-take-le, take-append-drop, drop, Result, Ok, Err}
+use Rattle.std.proofs.Common.{◌≡◌, ℕ, ◌+◌, ◌-◌, ◌<◌, ◌≤◌, Option, None, Some, List, [], ◌∷◌, ◌++◌, length, take, ◌∙◌, ap, sym, append_assoc, append-nil, arith, refl, inl, inr, length-append, length-take-le, length-drop, lit≤, take-append-drop, drop, Result, Ok, Err}
 use Rattle.std.specs.Io.KnownBytes.{Consumes, IsAtEnd}
 use Rattle.std.proofs.KnownBytes.{Consumes-trans}
 use Rattle.mes_frame.specs.declared.counts.Counts.{Counts as CountsOf}
@@ -18,10 +18,10 @@ use Rattle.mes_stream.specs.declared.fault.Report.{Report}
 use Rattle.mes_stream.specs.declared.fault.Stop.{Stop}
 use Rattle.mes_stream.specs.declared.stream_reader.Framing.{Framing}
 use Rattle.mes_stream.specs.declared.stream_reader.StreamReader.{StreamReader}
-use Rattle.mes_stream.proofs.ReadLemmas.{Reads, Ended, Counted, reads_start, reads_more, reads_end, reads_halt, reads_done}
+use Rattle.mes_stream.proofs.ReadLemmas.{Reads, Ended, Counted, asked_more, reads_start, reads_more, reads_end, reads_halt, reads_done}
 use Rattle.mes_stream.proofs.StreamLemmas.{goes_of}
 use Rattle.mes_run.specs.Printing.{Device, GoesOut, Prints, outcome_line, outcome_status, finish_line, finish_status}
-use Rattle.mes_run.specs.Showing.{lines_from, printed_from, PrintsEvents, Spelt, Follows}
+use Rattle.mes_run.specs.Showing.{lines_from, printed_from, PrintsEvents, Spelt, TakesEvents, Follows}
 use Rattle.mes_run.specs.declared.limits.TheConstants.{READS_MOST}
 use Rattle.mes_run.specs.declared.following.Detail.{Detail}
 use Rattle.mes_run.specs.declared.following.Detail.TheVariants.{Counts, Lines}
@@ -44,17 +44,26 @@ feeds_on framing limit d b evs piece events old now (Ok (Some end)) none (m, is,
 feeds_on framing limit d b evs piece events old now (Err halt) none (m, is, one, s) = (m, ap (λ (l : List Event). events ++ l) (is ∙ ap (λ (l : List Event). l ++ m) none), one, s)
 
 -- however a piece was taken, a front of the bytes has the events
-spelt_of : (framing : Framing) (limit : ℕ) (d : StreamReader EventReader) (b : List ℕ) (evs : List Event) (piece : List ℕ) (old now : List Event) (r : Result (Option ℕ) Halt) → old ≡ evs
+spelt_of : (framing : Framing) (limit : ℕ) (d : StreamReader EventReader) (b : List ℕ) (evs : List Event) (piece : List ℕ) (old now : List Event) (r : Result (Option ℕ) Halt) → old ≡ evs → length piece ≤ 512
     → StreamFeeds HoldsData Spells IsRecordFault d framing limit b evs piece old now r → Spelt framing limit (b ++ piece) now
-spelt_of framing limit d b evs piece old now (Ok None) same (m, added, s) =
-    (b ++ piece, [], sym (append-nil (b ++ piece)), inl (rw (added, same) (goes_of HoldsData Spells d framing limit (b ++ piece) (evs ++ m) s)))
-spelt_of framing limit d b evs piece old now (Ok (Some end)) same (m, added, one, s) = (
+spelt_of framing limit d b evs piece old now (Ok None) same short (m, added, s) =
+    (b ++ piece, [], sym (append-nil (b ++ piece)), lit≤ tt, inl (rw (added, same) (goes_of HoldsData Spells d framing limit (b ++ piece) (evs ++ m) s)))
+spelt_of framing limit d b evs piece old now (Ok (Some end)) same short (m, added, one, s) = (
   b ++ take end piece,
   drop end piece,
   ap (λ (y : List ℕ). b ++ y) (sym (take-append-drop end piece)) ∙ sym (append_assoc b (take end piece) (drop end piece)),
+  omega (arith, short, length-drop end piece),
   inr (rw (added, same) s),
 )
-spelt_of framing limit d b evs piece old now (Err halt) same (m, added, one, s) = (s.front, s.byte ∷ s.rest, s.is, inl (rw (added, same) s.live))
+spelt_of framing limit d b evs piece old now (Err halt) same short (m, added, one, s) =
+    let whole = ap length s.is in
+    let used = s.used in (
+      s.front,
+      s.byte ∷ s.rest,
+      s.is,
+      omega (arith, short, one, whole, used, length-append b piece, length-append s.front (s.byte ∷ s.rest)),
+      inl (rw (added, same) s.live),
+    )
 
 -- what was printed of events behind others
 printed_both : (detail : Detail) (n : ℕ) (xs ys : List Event) → printed_from detail n (xs ++ ys) ≡ printed_from detail n xs ++ printed_from detail (n + length xs) ys
@@ -68,11 +77,9 @@ printed Counts number events old new next h = (rw h.0 (goes_none old), h.1)
 printed Lines number events old new next h = h
 
 -- the bytes of one more read, and the events up to them
-pub record Taken (framing : Framing) (limit : ℕ) (first next : Option (List ℕ)) (used count : ℕ) (events : List Event) : Type 0 where
+pub record Taken (framing : Framing) (limit : ℕ) (first next : Option (List ℕ)) (old later : CountsOf) (events : List Event) : Type 0 where
   pub w : List ℕ
-  pub consumes : Consumes first next w
-  pub spelt : Spelt framing limit w events
-  pub used_is : saturated (used + count) ≡ saturated (length w)
+  pub takes : TakesEvents framing limit (record { bytes = first; counts = old }) (record { bytes = next; counts = later }) w events
 
 -- the report on a stream that ended behind so many bytes of a read
 abbrev report_on : ℕ → ℕ → ℕ → List ℕ → Report
@@ -140,47 +147,52 @@ module _ (detail : Detail) (framing : Framing) (limit : ℕ) where
             (reads_end HoldsData Spells framing limit IsRecordFault first now next old new later [] s.events d reads READS_MOST used len (Err fault) (Err (record { fault = fault; used = used })) s.read few full none last counted is refl)
             s.shown line
 
-  pub taken : (first now next : Option (List ℕ)) (old new : CountsOf) (out printed : Device) (d f : StreamReader EventReader) (reads number used count : ℕ) (buffer : List ℕ) (before events : List Event) (fed : Result (Option ℕ) Halt)
-      → (s : Following detail framing limit first now old new out printed d reads number used) → count ≤ length buffer → Consumes now next (take count buffer) → before ≡ []
-      → StreamFeeds HoldsData Spells IsRecordFault f framing limit s.read.w s.read.more (take count buffer) before events fed
-      → Taken framing limit first next used count (s.events ++ events)
-  taken first now next old new out printed d f reads number used count buffer before events fed s within gives none feeds = record {
-    w = s.read.w ++ take count buffer;
-    consumes = Consumes-trans first now next s.read.w (take count buffer) s.read.consumes gives;
-    spelt = spelt_of framing limit f s.read.w s.read.more (take count buffer) s.events (s.events ++ events) fed s.read.added
-        (feeds_on framing limit f s.read.w s.read.more (take count buffer) s.events before events fed none feeds);
-    used_is = (let is = s.read.used_is in omega (arith, is, length-append s.read.w (take count buffer), length-take-le count buffer within));
-  }
+  -- the bytes of one more read, however they were taken
+  pub taken : (first now next : Option (List ℕ)) (old new later : CountsOf) (out printed : Device) (d f : StreamReader EventReader) (reads number used len count : ℕ) (buffer : List ℕ) (before events : List Event) (fed : Result (Option ℕ) Halt)
+      → (s : Following detail framing limit first now old new out printed d reads number used) → reads < READS_MOST → 0 < count → count ≤ length buffer → length buffer ≤ 512 → 0 < len → Consumes now next (take count buffer)
+      → Counted new later len count → before ≡ [] → StreamFeeds HoldsData Spells IsRecordFault f framing limit s.read.w s.read.more (take count buffer) before events fed
+      → Taken framing limit first next old later (s.events ++ events)
+  taken first now next old new later out printed d f reads number used len count buffer before events fed s few some within small full gives counted none feeds =
+      let short : length (take count buffer) ≤ 512 = omega (arith, within, small, length-take-le count buffer within) in
+      record {
+        w = s.read.w ++ take count buffer;
+        takes = (
+          Consumes-trans first now next s.read.w (take count buffer) s.read.consumes gives,
+          spelt_of framing limit f s.read.w s.read.more (take count buffer) s.events (s.events ++ events) fed s.read.added short
+              (feeds_on framing limit f s.read.w s.read.more (take count buffer) s.events before events fed none feeds),
+          (reads + 1, asked_more old new later reads READS_MOST len count s.read.w (take count buffer) s.read.asked few some short full counted),
+        );
+      }
 
   -- the lines of a read's events were cut off
-  pub follows_cut : (first next : Option (List ℕ)) (old later : CountsOf) (out mid printed : Device) (used count : ℕ) (events more : List Event)
-      → Taken framing limit first next used count (events ++ more) → GoesOut out mid (printed_from detail 1 events) → PrintsEvents detail (1 + length events) more mid printed (Err unshown.Output)
+  pub follows_cut : (first next : Option (List ℕ)) (old later : CountsOf) (out mid printed : Device) (events more : List Event)
+      → Taken framing limit first next old later (events ++ more) → GoesOut out mid (printed_from detail 1 events) → PrintsEvents detail (1 + length events) more mid printed (Err unshown.Output)
       → Follows detail framing limit (record { bytes = first; counts = old }) (record { bytes = next; counts = later }) out printed 1
-  follows_cut first next old later out mid printed used count events more t shown cut = told detail shown cut where
+  follows_cut first next old later out mid printed events more t shown cut = told detail shown cut where
     told : (kind : Detail) → GoesOut out mid (printed_from kind 1 events) → PrintsEvents kind (1 + length events) more mid printed (Err unshown.Output)
         → Follows kind framing limit (record { bytes = first; counts = old }) (record { bytes = next; counts = later }) out printed 1
     told Counts quiet none = absurd none
     told Lines lines off =
-        (t.w, events ++ more, inr (inl (t.consumes, t.spelt, rw (lines_both 1 events more) (goes_then_cut out mid printed (lines_from 1 events) (lines_from (1 + length events) more) lines off), refl)))
+        (t.w, events ++ more, inr (inl (t.takes, rw (lines_both 1 events more) (goes_then_cut out mid printed (lines_from 1 events) (lines_from (1 + length events) more) lines off), refl)))
 
   -- memory was refused for the lines of one of them
-  pub follows_lacking : (first next : Option (List ℕ)) (old later : CountsOf) (out mid late printed : Device) (used count status : ℕ) (events more : List Event)
-      → Taken framing limit first next used count (events ++ more) → GoesOut out mid (printed_from detail 1 events) → PrintsEvents detail (1 + length events) more mid late (Err unshown.NoMemory)
-      → Prints late printed (fault_text NoMemory (saturated (used + count)) ++ 10 ∷ []) 1 status
+  pub follows_lacking : (first next : Option (List ℕ)) (old later : CountsOf) (out mid late printed : Device) (status : ℕ) (events more : List Event)
+      → Taken framing limit first next old later (events ++ more) → GoesOut out mid (printed_from detail 1 events) → PrintsEvents detail (1 + length events) more mid late (Err unshown.NoMemory)
+      → Prints late printed (fault_text NoMemory 0 ++ 10 ∷ []) 1 status
       → Follows detail framing limit (record { bytes = first; counts = old }) (record { bytes = next; counts = later }) out printed status
-  follows_lacking first next old later out mid late printed used count status events more t shown lacks prints = told detail shown lacks where
+  follows_lacking first next old later out mid late printed status events more t shown lacks prints = told detail shown lacks where
     told : (kind : Detail) → GoesOut out mid (printed_from kind 1 events) → PrintsEvents kind (1 + length events) more mid late (Err unshown.NoMemory)
         → Follows kind framing limit (record { bytes = first; counts = old }) (record { bytes = next; counts = later }) out printed status
     told Counts quiet none = absurd none
-    told Lines lines (front, rest, is, some) = (
+    told Lines lines (front, event, rest, is, some) = (
       t.w,
       events ++ front,
       inr (inr (
+        event,
         rest,
-        t.consumes,
-        rw (append_assoc events front rest, ← is) t.spelt,
-        prints_behind out late printed (lines_from 1 (events ++ front)) (fault_text NoMemory (saturated (length t.w)) ++ 10 ∷ []) 1 status
-            (rw (lines_both 1 events front) (goes_both out mid late (lines_from 1 events) (lines_from (1 + length events) front) lines some)) (rw t.used_is at prints),
+        rw (append_assoc events front (event ∷ rest), ← is) t.takes,
+        prints_behind out late printed (lines_from 1 (events ++ front)) (fault_text NoMemory 0 ++ 10 ∷ []) 1 status
+            (rw (lines_both 1 events front) (goes_both out mid late (lines_from 1 events) (lines_from (1 + length events) front) lines some)) prints,
       )),
     )
 

@@ -2,7 +2,7 @@
 use Rattle.std.proofs.Common.{◌≡◌, ℕ, suc, ◌+◌, ◌<◌, List, [], ◌∷◌, ◌++◌, length, take, drop, get_or, Err, take-append-drop, length-take-le, sym, ◌∙◌, ap, append_assoc, append-nil, arith, refl, inl, inr, length-append}
 use Rattle.std.proofs.KnownBytes.{Appends-nil, Appends-trans}
 use Rattle.std.proofs.Math.Seq.{take-append-add}
-use Rattle.std.proofs.lemmas.List.{take-append-le, take_more}
+use Rattle.std.proofs.lemmas.List.{take-append-le, take_more, drop_more}
 use Rattle.mes_frame.proofs.Parts.{none_then_stops, none_then_none}
 use Rattle.mes_msg.specs.Shown.{event_lines}
 use Rattle.mes_msg.specs.declared.event.Event.{Event}
@@ -73,5 +73,10 @@ pub one_fault : (a b c : Device) (events : List Event) (x : Event) (i n number :
 one_fault a b c events x i n number Output inside is same before cut =
     rw (lines_on events (i + 1) n) (cut_more a c (lines_from n (take (i + 1) events)) (lines_from (n + length (take (i + 1) events)) (drop (i + 1) events))
     (rw (lines_to events x i n inside is) (goes_then_cut a b c (lines_from n (take i events)) (event_lines (saturated (n + i)) x) before (rw same at cut))))
-one_fault a b c events x i n number NoMemory inside is same before none =
-    (take i events, drop i events, sym (take-append-drop i events), rw (append-nil (lines_from n (take i events))) at (goes_both a b c (lines_from n (take i events)) [] before none))
+one_fault a b c events x i n number NoMemory inside is same before none = (
+  take i events,
+  x,
+  drop (i + 1) events,
+  sym (take-append-drop i events) ∙ ap (λ (es : List Event). take i events ++ es) (drop_more events i x inside ∙ ap (λ (y : Event). y ∷ drop (i + 1) events) (sym is)),
+  rw (append-nil (lines_from n (take i events))) at (goes_both a b c (lines_from n (take i events)) [] before none),
+)

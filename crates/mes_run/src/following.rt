@@ -62,9 +62,7 @@ pub fn follow<I: Source, O: Sink>(
         match print_events(alloc, detail, events.as_slice(), number, out) {
             Ok(next) => number = next,
             Err(Unshown::Output) => return FAULT,
-            Err(Unshown::NoMemory) => {
-                return print_fault(out, &Fault::NoMemory, used.saturating_add(taken as u64));
-            }
+            Err(Unshown::NoMemory) => return print_fault(out, &Fault::NoMemory, 0),
         }
         let ended = match fed {
             Ok(ended) => ended,

@@ -67,7 +67,7 @@ one_more_call : (old new later : Counts) (reads most len : ℕ) (w : List ℕ) �
 one_more_call old new later reads most len w before full counted =
     counted ∙ asked len new.calls full ∙ ap (λ (n : ℕ). up n 1) before.calls ∙ up_more old.calls reads
 
-asked_more : (old new later : Counts) (reads most len count : ℕ) (w p : List ℕ) → Asked reads old new w reads 0 0 → reads < most → 0 < count → length p ≤ 512 → 0 < len
+pub asked_more : (old new later : Counts) (reads most len count : ℕ) (w p : List ℕ) → Asked reads old new w reads 0 0 → reads < most → 0 < count → length p ≤ 512 → 0 < len
     → Counted new later len count → Asked most old later (w ++ p) (reads + 1) 0 0
 asked_more old new later reads most len count w p before left some short full counted = record {
   most = omega (arith, left);

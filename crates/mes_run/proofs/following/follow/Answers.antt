@@ -29,12 +29,13 @@ returns-in-Err-Output g c =
     (record { bytes = g.O.Sink.written c.args.out.now; counts = g.O.Sink.counts c.args.out.now })
     (record { bytes = g.O.Sink.written c.reads.out; counts = g.O.Sink.counts c.reads.out })
     (record { bytes = g.O.Sink.written c.print_events.new.out; counts = g.O.Sink.counts c.print_events.new.out })
-    c.reads.used c.in-Ok.taken s.events c.feed-fed.new.values.items
-    (taken c.args.detail c.args.framing c.args.limit (g.I.Source.left c.args.input.now) (g.I.Source.left c.reads.input) (g.I.Source.left c.fetch.new.self) (g.I.Source.counts c.args.input.now) (g.I.Source.counts c.reads.input)
+    s.events c.feed-fed.new.values.items
+    (taken c.args.detail c.args.framing c.args.limit (g.I.Source.left c.args.input.now) (g.I.Source.left c.reads.input) (g.I.Source.left c.fetch.new.self) (g.I.Source.counts c.args.input.now) (g.I.Source.counts c.reads.input) (g.I.Source.counts c.fetch.new.self)
     (record { bytes = g.O.Sink.written c.args.out.now; counts = g.O.Sink.counts c.args.out.now })
     (record { bytes = g.O.Sink.written c.reads.out; counts = g.O.Sink.counts c.reads.out })
-    c.reads.reader c.feed-fed.new.self c.reads.counter c.reads.number c.reads.used c.in-Ok.taken c.fetch.new.buffer c.reads.events.items c.feed-fed.new.values.items c.feed-fed.result
-    s c.in-Ok.ensures.within c.in-Ok.ensures.bytes.0 c.reads.invariant.1 (c.feed-fed.ensures.feeds c.args.framing c.args.limit s.read.w s.read.more s.read.stands))
+    c.reads.reader c.feed-fed.new.self c.reads.counter c.reads.number c.reads.used (length c.reads.buffer) c.in-Ok.taken c.fetch.new.buffer c.reads.events.items c.feed-fed.new.values.items c.feed-fed.result
+    s c.reads-test.true (omega (arith, c.if-taken-eq0.false)) c.in-Ok.ensures.within (omega (arith, c.fetch.auto.buffer, c.reads.invariant.0)) (omega (arith, c.reads.invariant.0)) c.in-Ok.ensures.bytes.0 c.in-Ok.ensures.counted c.reads.invariant.1
+    (c.feed-fed.ensures.feeds c.args.framing c.args.limit s.read.w s.read.more s.read.stands))
     s.shown (rw c.as_slice.ensures.value at (rw c.in-Err-Output.field-0-is at (c.in-Err-Output.ensures (1 + length s.events) s.next)))
 
 pub returns-in-Err-NoMemory : goal.returns-in-Err-NoMemory
@@ -45,14 +46,15 @@ returns-in-Err-NoMemory g c =
     (record { bytes = g.O.Sink.written c.reads.out; counts = g.O.Sink.counts c.reads.out })
     (record { bytes = g.O.Sink.written c.print_events.new.out; counts = g.O.Sink.counts c.print_events.new.out })
     (record { bytes = g.O.Sink.written c.print_fault-in-Err-NoMemory.new.out; counts = g.O.Sink.counts c.print_fault-in-Err-NoMemory.new.out })
-    c.reads.used c.in-Ok.taken c.print_fault-in-Err-NoMemory.result s.events c.feed-fed.new.values.items
-    (taken c.args.detail c.args.framing c.args.limit (g.I.Source.left c.args.input.now) (g.I.Source.left c.reads.input) (g.I.Source.left c.fetch.new.self) (g.I.Source.counts c.args.input.now) (g.I.Source.counts c.reads.input)
+    c.print_fault-in-Err-NoMemory.result s.events c.feed-fed.new.values.items
+    (taken c.args.detail c.args.framing c.args.limit (g.I.Source.left c.args.input.now) (g.I.Source.left c.reads.input) (g.I.Source.left c.fetch.new.self) (g.I.Source.counts c.args.input.now) (g.I.Source.counts c.reads.input) (g.I.Source.counts c.fetch.new.self)
     (record { bytes = g.O.Sink.written c.args.out.now; counts = g.O.Sink.counts c.args.out.now })
     (record { bytes = g.O.Sink.written c.reads.out; counts = g.O.Sink.counts c.reads.out })
-    c.reads.reader c.feed-fed.new.self c.reads.counter c.reads.number c.reads.used c.in-Ok.taken c.fetch.new.buffer c.reads.events.items c.feed-fed.new.values.items c.feed-fed.result
-    s c.in-Ok.ensures.within c.in-Ok.ensures.bytes.0 c.reads.invariant.1 (c.feed-fed.ensures.feeds c.args.framing c.args.limit s.read.w s.read.more s.read.stands))
+    c.reads.reader c.feed-fed.new.self c.reads.counter c.reads.number c.reads.used (length c.reads.buffer) c.in-Ok.taken c.fetch.new.buffer c.reads.events.items c.feed-fed.new.values.items c.feed-fed.result
+    s c.reads-test.true (omega (arith, c.if-taken-eq0.false)) c.in-Ok.ensures.within (omega (arith, c.fetch.auto.buffer, c.reads.invariant.0)) (omega (arith, c.reads.invariant.0)) c.in-Ok.ensures.bytes.0 c.in-Ok.ensures.counted c.reads.invariant.1
+    (c.feed-fed.ensures.feeds c.args.framing c.args.limit s.read.w s.read.more s.read.stands))
     s.shown (rw c.as_slice.ensures.value at (rw c.in-Err-NoMemory.field-0-is at (c.in-Err-NoMemory.ensures (1 + length s.events) s.next)))
-    (rw c.saturating_add.ensures at c.print_fault-in-Err-NoMemory.ensures)
+    c.print_fault-in-Err-NoMemory.ensures
 
 pub returns-then-taken-eq0 : goal.returns-then-taken-eq0
 returns-then-taken-eq0 g c =
