@@ -56,6 +56,7 @@ pub mod NumberLemmas
 pub mod GrownLemmas
 pub mod WriteLemmas
 pub mod LengthLemmas
+pub mod LengthsLemmas
 pub mod RunOfBytesLemmas
 pub mod SameLemmas
 pub mod PassingLemmas

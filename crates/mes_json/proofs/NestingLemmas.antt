@@ -73,8 +73,8 @@ opening_kind Object = m.Kind.opening
 opening_kind Array = m.Kind.opening_array
 
 abbrev pub first_node : Open → Node
-first_node Object = Map
-first_node Array = list
+first_node Object = Map 0
+first_node Array = list 0
 
 abbrev pub first_place : Open → at.At
 first_place Object = at.TheVariants.FirstName

@@ -28,8 +28,8 @@ length_of_node texts (Bool x) h = refl
 length_of_node texts (Number from to) h = length_of_span texts from to h.span_is
 length_of_node texts (Text from to) h = length_of_span texts from to h
 length_of_node texts (Name from to) h = length_of_span texts from to h
-length_of_node texts list h = refl
-length_of_node texts Map h = refl
+length_of_node texts (list n) h = refl
+length_of_node texts (Map n) h = refl
 length_of_node texts End h = refl
 
 bytes_of_nodes : (texts : List ℕ) (xs : List Node) → AllByRecursion (HasSpan texts) xs → of_nodes bytes texts xs ≡ spanned xs
@@ -42,8 +42,8 @@ one_of_node texts (Bool x) = refl
 one_of_node texts (Number from to) = refl
 one_of_node texts (Text from to) = refl
 one_of_node texts (Name from to) = refl
-one_of_node texts list = refl
-one_of_node texts Map = refl
+one_of_node texts (list n) = refl
+one_of_node texts (Map n) = refl
 one_of_node texts End = refl
 
 count_of_nodes : (texts : List ℕ) (xs : List Node) → of_nodes nodes texts xs ≡ length xs

@@ -56,8 +56,8 @@ depth_within (Bool b) i n now h is = omega arith
 depth_within (Number from to) i n now h is = omega arith
 depth_within (Text from to) i n now h is = omega arith
 depth_within (Name from to) i n now h is = omega arith
-depth_within list i n now h is = omega arith
-depth_within Map i n now h is = omega arith
+depth_within (list m) i n now h is = omega arith
+depth_within (Map m) i n now h is = omega arith
 depth_within End i n now h is = omega (arith, pred-le n)
 
 by_some : (n : ℕ) (xs ys : List Token) → n ≢ 0 → by_depth n xs ys ≡ ys

@@ -32,8 +32,8 @@ same_token texts (node.Bool x) h = refl
 same_token texts (node.Number from to) h = absurd h
 same_token texts (node.Text from to) h = absurd h
 same_token texts (node.Name from to) h = absurd h
-same_token texts node.List h = refl
-same_token texts node.Map h = refl
+same_token texts (node.List n) h = refl
+same_token texts (node.Map n) h = refl
 same_token texts node.End h = refl
 
 no_span : (texts : List ℕ) (x : Node) → HasNoText x → HasSpan texts x
@@ -42,8 +42,8 @@ no_span texts (node.Bool x) h = tt
 no_span texts (node.Number from to) h = absurd h
 no_span texts (node.Text from to) h = absurd h
 no_span texts (node.Name from to) h = absurd h
-no_span texts node.List h = tt
-no_span texts node.Map h = tt
+no_span texts (node.List n) h = tt
+no_span texts (node.Map n) h = tt
 no_span texts node.End h = tt
 
 pub node_held : (texts : List ℕ) (xs longer : List Node) (x : Node) (seen : List Token) → longer ≡ xs ++ x ∷ [] → HasNoText x → tokens_held texts xs ≡ seen
@@ -66,8 +66,8 @@ token_grows texts more (node.Bool x) h = refl
 token_grows texts more (node.Number from to) h = ap (λ (b : List ℕ). number b) (span_grows texts more from to h.span_is.forward h.span_is.inside)
 token_grows texts more (node.Text from to) h = ap (λ (b : List ℕ). string b) (span_grows texts more from to h.forward h.inside)
 token_grows texts more (node.Name from to) h = ap (λ (b : List ℕ). name b) (span_grows texts more from to h.forward h.inside)
-token_grows texts more node.List h = refl
-token_grows texts more node.Map h = refl
+token_grows texts more (node.List n) h = refl
+token_grows texts more (node.Map n) h = refl
 token_grows texts more node.End h = refl
 
 held_grows : (texts more : List ℕ) (xs : List Node) → AllByRecursion (HasSpan texts) xs → tokens_held (texts ++ more) xs ≡ tokens_held texts xs

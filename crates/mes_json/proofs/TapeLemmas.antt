@@ -55,8 +55,8 @@ has_span_grows texts more (Number from to) h = record {
 }
 has_span_grows texts more (Text from to) h = is_span_grows texts more from to h
 has_span_grows texts more (Name from to) h = is_span_grows texts more from to h
-has_span_grows texts more list h = tt
-has_span_grows texts more Map h = tt
+has_span_grows texts more (list n) h = tt
+has_span_grows texts more (Map n) h = tt
 has_span_grows texts more End h = tt
 
 pub spans_grow : (texts more : List ℕ) (xs : List Node) → AllByRecursion (HasSpan texts) xs → AllByRecursion (HasSpan (texts ++ more)) xs
@@ -70,8 +70,8 @@ apply_grows texts more (Number from to) s h =
     ap (λ (b : List ℕ). valued (after (number b)) (value_due s)) (span_grows texts more from to h.span_is.forward h.span_is.inside)
 apply_grows texts more (Text from to) s h = ap (λ (b : List ℕ). valued (after (string b)) (value_due s)) (span_grows texts more from to h.forward h.inside)
 apply_grows texts more (Name from to) s h = ap (λ (b : List ℕ). in_object (λ ms. named ms b) (name_due s)) (span_grows texts more from to h.forward h.inside)
-apply_grows texts more list s h = refl
-apply_grows texts more Map s h = refl
+apply_grows texts more (list n) s h = refl
+apply_grows texts more (Map n) s h = refl
 apply_grows texts more End s h = refl
 
 pub spelled_grows : (texts more : List ℕ) (s : State) (xs : List Node) → AllByRecursion (HasSpan texts) xs → spelled_from (texts ++ more) s xs ≡ spelled_from texts s xs

@@ -19,8 +19,8 @@ of_node m texts (Bool x) = m.mark
 of_node m texts (Number from to) = m.text (span texts from to)
 of_node m texts (Text from to) = m.text (span texts from to)
 of_node m texts (Name from to) = m.text (span texts from to)
-of_node m texts list = m.mark
-of_node m texts Map = m.mark
+of_node m texts (list n) = m.mark
+of_node m texts (Map n) = m.mark
 of_node m texts End = m.mark
 
 abbrev pub of_nodes : Measure → List ℕ → List Node → ℕ
@@ -88,8 +88,8 @@ apply_holds m texts (Bool x) s h = value_holds m s _ h
 apply_holds m texts (Number from to) s h = value_holds m s _ h
 apply_holds m texts (Text from to) s h = value_holds m s _ h
 apply_holds m texts (Name from to) s h = name_holds m s (span texts from to) h
-apply_holds m texts list s h = value_holds m s _ h
-apply_holds m texts Map s h = omega (arith, value_holds m s (name no_members) h)
+apply_holds m texts (list n) s h = value_holds m s _ h
+apply_holds m texts (Map n) s h = omega (arith, value_holds m s (name no_members) h)
 apply_holds m texts End s h = end_holds m s h
 
 -- ---- all of them

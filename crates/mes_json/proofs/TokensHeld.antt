@@ -40,8 +40,8 @@ apply_as texts (node.Bool x) s = refl
 apply_as texts (node.Number from to) s = refl
 apply_as texts (node.Text from to) s = refl
 apply_as texts (node.Name from to) s = refl
-apply_as texts node.List s = refl
-apply_as texts node.Map s = refl
+apply_as texts (node.List n) s = refl
+apply_as texts (node.Map n) s = refl
 apply_as texts node.End s = refl
 
 spelled_from_tokens : (texts : List ℕ) (s : State) (xs : List Node) → spelled_from texts s xs ≡ fold_tokens s (tokens_held texts xs)
@@ -167,8 +167,8 @@ held_one_more texts s (node.Bool x) (fs, is) = held_valued s fs (at.after (tree.
 held_one_more texts s (node.Number from to) (fs, is) = held_valued s fs _ is
 held_one_more texts s (node.Text from to) (fs, is) = held_valued s fs _ is
 held_one_more texts s (node.Name from to) (fs, ms, is) = held_named s fs ms _ is
-held_one_more texts s node.List (fs, is) = held_valued s fs at.first_item is
-held_one_more texts s node.Map (fs, is) = held_valued s fs (at.name no_members) is
+held_one_more texts s (node.List n) (fs, is) = held_valued s fs at.first_item is
+held_one_more texts s (node.Map n) (fs, is) = held_valued s fs (at.name no_members) is
 held_one_more texts s node.End (inl (fs, ms, is)) = held_ended_object s fs ms is
 held_one_more texts s node.End (inr h) = held_ended_array s h
 

@@ -15,8 +15,8 @@ token_of texts (node.Bool x) = Token.boolean x
 token_of texts (node.Number from to) = Token.number (span texts from to)
 token_of texts (node.Text from to) = Token.string (span texts from to)
 token_of texts (node.Name from to) = Token.name (span texts from to)
-token_of texts node.List = Token.begin_array
-token_of texts node.Map = Token.begin_object
+token_of texts (node.List n) = Token.begin_array
+token_of texts (node.Map n) = Token.begin_object
 token_of texts node.End = Token.ends
 
 abbrev pub tokens_held : List ℕ → List Node → List Token

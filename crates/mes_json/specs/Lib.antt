@@ -18,4 +18,5 @@ pub mod Tokens
 pub mod Cursor
 pub mod ValueKinds
 pub mod Passing
+pub mod Lengths
 pub mod Spell

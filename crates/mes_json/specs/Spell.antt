@@ -15,8 +15,8 @@ HasNoText (node.Bool x) = Unit {0}
 HasNoText (node.Number from to) = ⊥
 HasNoText (node.Text from to) = ⊥
 HasNoText (node.Name from to) = ⊥
-HasNoText node.List = Unit {0}
-HasNoText node.Map = Unit {0}
+HasNoText (node.List n) = Unit {0}
+HasNoText (node.Map n) = Unit {0}
 HasNoText node.End = Unit {0}
 
 -- the token of a text

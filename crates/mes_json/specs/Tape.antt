@@ -94,8 +94,8 @@ apply texts (Bool x) s = valued (after (boolean x)) (value_due s)
 apply texts (Number from to) s = valued (after (number (span texts from to))) (value_due s)
 apply texts (Text from to) s = valued (after (string (span texts from to))) (value_due s)
 apply texts (Name from to) s = in_object (λ ms. named ms (span texts from to)) (name_due s)
-apply texts list s = valued first_item (value_due s)
-apply texts Map s = valued (name no_members) (value_due s)
+apply texts (list n) s = valued first_item (value_due s)
+apply texts (Map n) s = valued (name no_members) (value_due s)
 apply texts End s = ended s
 
 -- the state behind nodes
@@ -124,8 +124,8 @@ span_length (Bool x) = 0
 span_length (Number from to) = to - from
 span_length (Text from to) = to - from
 span_length (Name from to) = to - from
-span_length list = 0
-span_length Map = 0
+span_length (list n) = 0
+span_length (Map n) = 0
 span_length End = 0
 
 -- how many bytes the spans of nodes have
@@ -140,8 +140,8 @@ HasSpan texts (Bool x) = Unit {0}
 HasSpan texts (Number from to) = IsNumberSpan texts from to
 HasSpan texts (Text from to) = IsSpan texts from to
 HasSpan texts (Name from to) = IsSpan texts from to
-HasSpan texts list = Unit {0}
-HasSpan texts Map = Unit {0}
+HasSpan texts (list n) = Unit {0}
+HasSpan texts (Map n) = Unit {0}
 HasSpan texts End = Unit {0}
 
 -- a value is due
@@ -164,8 +164,8 @@ Takes s (Bool x) = TakesValue s
 Takes s (Number from to) = TakesValue s
 Takes s (Text from to) = TakesValue s
 Takes s (Name from to) = TakesName s
-Takes s list = TakesValue s
-Takes s Map = TakesValue s
+Takes s (list n) = TakesValue s
+Takes s (Map n) = TakesValue s
 Takes s End = TakesName s ⊎ EndsItems s
 
 -- each node stands where it may

@@ -89,8 +89,8 @@ impl Building {
                 self.named(name);
                 Ok(())
             }
-            Node::List => self.open(alloc, Inner::Array(Vec::new(alloc))),
-            Node::Map => self.open(alloc, Inner::Object(Vec::new(alloc), None)),
+            Node::List { .. } => self.open(alloc, Inner::Array(Vec::new(alloc))),
+            Node::Map { .. } => self.open(alloc, Inner::Object(Vec::new(alloc), None)),
             Node::End => self.ended(),
         }
     }

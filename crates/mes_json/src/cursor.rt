@@ -6,6 +6,7 @@ ghost use Rattle.mes_json.specs.Tape.{span, IsSpan, HasSpan};
 ghost use Rattle.mes_json.specs.Tokens.{BeginsWith, BeginsItems, BeginsMembers};
 ghost use Rattle.mes_json.specs.Cursor.{tokens_held, is_null, as_bool, as_number, as_text, as_items, as_members, FindsItems, FindsMembers, NextItem, NextMember};
 ghost use Rattle.mes_json.specs.Passing.{is_end, as_name, behind};
+ghost use Rattle.mes_json.specs.Lengths.{TellLengths};
 ghost use Rattle.mes_json.specs.ValueKinds.{kind_of};
 
 mod tree;
@@ -30,6 +31,7 @@ impl<'a> Model for Element<'a> {
     ghost use Rattle.mes_json.specs.Tokens.{Token, tokens_code};
     ghost use Rattle.mes_json.specs.Tape.{HasSpan};
     ghost use Rattle.mes_json.specs.Cursor.{tokens_held};
+    ghost use Rattle.mes_json.specs.Lengths.{TellLengths};
 
     ghost Value = { List Token };
 
@@ -37,13 +39,14 @@ impl<'a> Model for Element<'a> {
 
     ghost view = { λ e. tokens_held e.texts.now e.nodes.now };
 
-    ghost invariant = { λ e. AllByRecursion (HasSpan e.texts.now) e.nodes.now };
+    ghost invariant = { λ e. AllByRecursion (HasSpan e.texts.now) e.nodes.now × TellLengths e.nodes.now };
 }
 
 impl<'a> Element<'a> {
     /// The place of the first of these nodes.
     pub(crate) fn new(texts: &'a [u8], nodes: &'a [Node]) -> Element<'a>
-        requires { AllByRecursion (HasSpan texts.now) nodes.now }
+        requires spans { AllByRecursion (HasSpan texts.now) nodes.now }
+        requires lengths { TellLengths nodes.now }
         ensures { result ≡ tokens_held texts.now nodes.now }
     {
         Element { texts, nodes }
@@ -68,8 +71,8 @@ impl<'a> Element<'a> {
             Node::Bool(_) => ValueKind::Bool,
             Node::Number { .. } => ValueKind::Number,
             Node::Text { .. } => ValueKind::Text,
-            Node::List => ValueKind::List,
-            Node::Map => ValueKind::Map,
+            Node::List { .. } => ValueKind::List,
+            Node::Map { .. } => ValueKind::Map,
             // No value begins with these.
             Node::Name { .. } | Node::End => ValueKind::Null,
         }
@@ -120,7 +123,7 @@ impl<'a> Element<'a> {
         ensures { (t : Tree) → BeginsWith self.now t → FindsItems result (as_items t) }
     {
         match first(self.nodes) {
-            Node::List => Some(Items {
+            Node::List { .. } => Some(Items {
                 next: self.inside(),
             }),
             _ => None,
@@ -132,7 +135,7 @@ impl<'a> Element<'a> {
         ensures { (t : Tree) → BeginsWith self.now t → FindsMembers result (as_members t) }
     {
         match first(self.nodes) {
-            Node::Map => Some(Members {
+            Node::Map { .. } => Some(Members {
                 next: self.inside(),
             }),
             _ => None,

@@ -15,6 +15,7 @@ mod fault;
 mod kind;
 mod laws;
 mod length;
+mod lengths;
 mod lexer;
 mod limits;
 mod memory;

@@ -241,8 +241,8 @@ impl Reader {
                 self.begin(At::Quoted(Purpose::Value, Mid::Between));
                 Ok(())
             }
-            Kind::Opening => self.enter(Open::Object, Node::Map, At::FirstName),
-            Kind::OpeningArray => self.enter(Open::Array, Node::List, At::FirstItem),
+            Kind::Opening => self.enter(Open::Object, Node::Map { length: 0 }, At::FirstName),
+            Kind::OpeningArray => self.enter(Open::Array, Node::List { length: 0 }, At::FirstItem),
             Kind::Word(word) => {
                 self.at = At::Literal(word);
                 Ok(())

@@ -2,6 +2,7 @@
 ghost use Rattle.std.specs.Prelude.{◌≡◌, ◌<◌, ◌≤◌, ℕ, List, length, drop, slice_index_or};
 ghost use Rattle.mes_json.specs.Cursor.{token_of, tokens_held};
 ghost use Rattle.mes_json.specs.Passing.{depth_behind, behind};
+ghost use Rattle.mes_json.specs.Lengths.{TellLengths};
 ghost use Rattle.mes_json.specs.declared.tape.Node.TheVariants.{End};
 
 use crate::tape::Node;
@@ -15,14 +16,31 @@ pub(crate) fn first(nodes: &[Node]) -> Node
 
 /// The nodes behind the value that the first node begins.
 pub(crate) fn behind_value(nodes: &[Node]) -> &[Node]
+    requires { TellLengths nodes.now }
     ensures held { (texts : List ℕ) → tokens_held texts result.now ≡ behind 0 (tokens_held texts nodes.now) }
     ensures rest { (n : ℕ) × (result.now ≡ drop n nodes.now) }
 {
     &nodes[nodes_of_value(nodes)..]
 }
 
-/// How many nodes the value has that the first one begins: up to the one that leaves nothing open.
+/// How many nodes the value has that the first one begins.
+#[inline(always)]
 fn nodes_of_value(nodes: &[Node]) -> usize
+    requires { TellLengths nodes.now }
+    ensures behind { (texts : List ℕ) → behind 0 (tokens_held texts nodes.now) ≡ drop result (tokens_held texts nodes.now) }
+    ensures inside { result ≤ length nodes.now }
+{
+    match nodes.first() {
+        None => 0,
+        Some(node) => match node.told() {
+            Some(length) => length + 1,
+            None => count_nodes(nodes),
+        },
+    }
+}
+
+/// The same, by counting up to the node that leaves nothing open.
+fn count_nodes(nodes: &[Node]) -> usize
     ensures behind { (texts : List ℕ) → behind 0 (tokens_held texts nodes.now) ≡ drop result (tokens_held texts nodes.now) }
     ensures inside { result ≤ length nodes.now }
 {
@@ -42,7 +60,7 @@ fn depth_behind(depth: usize, node: Node) -> usize
     ensures { (texts : List ℕ) → result ≡ depth_behind depth (token_of texts node) }
 {
     match node {
-        Node::List | Node::Map => depth + 1,
+        Node::List { .. } | Node::Map { .. } => depth + 1,
         Node::End => depth.saturating_sub(1),
         _ => depth,
     }

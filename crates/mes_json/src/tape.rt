@@ -7,6 +7,7 @@ ghost use Rattle.mes_json.specs.Cursor.{tokens_held};
 mod spell;
 
 use crate::cursor::Element;
+use crate::lengths::tell_lengths;
 use crate::limits::{ROOM_KEPT, TEXTS_MOST};
 use crate::memory::NoMemory;
 use std::alloc::Global;
@@ -26,10 +27,10 @@ pub(crate) enum Node {
     Text { from: u32, to: u32 },
     /// The name of the member whose value follows.
     Name { from: u32, to: u32 },
-    /// An array's items follow.
-    List,
-    /// An object's members follow.
-    Map,
+    /// An array's items follow: so many nodes up to its end, or 0 where that is not told.
+    List { length: u32 },
+    /// An object's members follow: so many nodes up to its end, or 0 where that is not told.
+    Map { length: u32 },
     /// The innermost array or object ends.
     End,
 }
@@ -53,18 +54,20 @@ impl Model for Tape {
 
     ghost use Rattle.mes_json.specs.Tape.{HasSpan};
     ghost use Rattle.mes_json.specs.Cursor.{tokens_held};
+    ghost use Rattle.mes_json.specs.Lengths.{TellLengths};
 
     ghost view = { λ t. tokens_held t.texts.items t.nodes.items };
 
-    ghost invariant = { λ t. AllByRecursion (HasSpan t.texts.items) t.nodes.items };
+    ghost invariant = { λ t. AllByRecursion (HasSpan t.texts.items) t.nodes.items × TellLengths t.nodes.items };
 }
 
 impl Tape {
-    /// The tape of these nodes.
-    pub(crate) fn new(texts: Vec<u8>, nodes: Vec<Node>) -> Tape
+    /// The tape of these nodes, told how long its arrays and objects are.
+    pub(crate) fn new(texts: Vec<u8>, mut nodes: Vec<Node>) -> Tape
         requires { AllByRecursion (HasSpan texts.items) nodes.items }
         ensures { result ≡ tokens_held texts.items nodes.items }
     {
+        tell_lengths(&mut nodes);
         Tape { texts, nodes }
     }
 

@@ -11,6 +11,7 @@ use crate::tape::{Node, Tape, text_place};
 use crate::text::Text;
 use crate::value::Json;
 use std::alloc::Global;
+use std::marker::Model;
 
 /// What a text on the tape is.
 #[derive(Clone, Copy)]
@@ -42,9 +43,44 @@ impl Tape {
     pub fn of_json(alloc: Global, json: &Json) -> Result<Tape, NoMemory>
         ensures { IfOk result (λ tape. tape ≡ tokens (view json.now)) }
     {
-        let mut tape = Tape::new(Vec::new(alloc), Vec::new(alloc));
-        tape.put_value(json)?;
-        Ok(tape)
+        let mut spelling = Spelling {
+            texts: Vec::new(alloc),
+            nodes: Vec::new(alloc),
+        };
+        spelling.put_value(json)?;
+        Ok(spelling.into_tape())
+    }
+}
+
+/// A tape that is laid. A contract sees it as its tokens.
+#[derive(Drop)]
+struct Spelling {
+    texts: Vec<u8>,
+    nodes: Vec<Node>,
+}
+
+impl Model for Spelling {
+    ghost use Rattle.std.specs.Prelude.{List};
+    ghost use Rattle.std.specs.List.{AllByRecursion};
+    ghost use Rattle.mes_json.specs.Tokens.{Token, tokens_code};
+    ghost use Rattle.mes_json.specs.Tape.{HasSpan};
+    ghost use Rattle.mes_json.specs.Cursor.{tokens_held};
+
+    ghost Value = { List Token };
+
+    ghost coded = { tokens_code };
+
+    ghost view = { λ s. tokens_held s.texts.items s.nodes.items };
+
+    ghost invariant = { λ s. AllByRecursion (HasSpan s.texts.items) s.nodes.items };
+}
+
+impl Spelling {
+    /// The tape, whole.
+    fn into_tape(self) -> Tape
+        ensures { result ≡ self }
+    {
+        Tape::new(self.texts, self.nodes)
     }
 
     #[cycle(spell)]
@@ -57,12 +93,12 @@ impl Tape {
             Json::Num(number) => self.put_text(Form::Number, number.as_str()),
             Json::Text(text) => self.put_text(Form::Text, text.as_str()),
             Json::List(items) => {
-                self.put(Node::List)?;
+                self.put(Node::List { length: 0 })?;
                 self.put_items(items)?;
                 self.put(Node::End)
             }
             Json::Map(members) => {
-                self.put(Node::Map)?;
+                self.put(Node::Map { length: 0 })?;
                 self.put_members(members)?;
                 self.put(Node::End)
             }

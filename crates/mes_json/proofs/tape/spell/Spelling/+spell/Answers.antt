@@ -1,7 +1,7 @@
 use Rattle.std.proofs.Common.{[], ◌∷◌, ◌++◌, ◌∙◌, ap, List, ℕ}
 use Rattle.mes_json.specs.Tokens.Token.{name}
 use Rattle.mes_json.proofs.SpellLemmas.{item_put, member_put}
-use Rattle.mes_json.proofs.tape.Tape.+spell.Goals as goal
+use Rattle.mes_json.proofs.tape.spell.Spelling.+spell.Goals as goal
 
 pub put_items-loop-item-preserved : goal.put_items-loop-item-preserved
 put_items-loop-item-preserved t c =

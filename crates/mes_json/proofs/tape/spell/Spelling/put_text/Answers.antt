@@ -1,6 +1,6 @@
 use Rattle.std.proofs.Common.{ℕ, List, ◌++◌, arith, ap, ◌∙◌}
 use Rattle.mes_json.proofs.SpellLemmas.{PutsText, more_spans, text_held, text_spans}
-use Rattle.mes_json.proofs.tape.Tape.put_text.Goals as goal
+use Rattle.mes_json.proofs.tape.spell.Spelling.put_text.Goals as goal
 
 pub invariant_of-self-in_err-push : goal.invariant_of-self-in_err-push
 invariant_of-self-in_err-push c =

@@ -1,7 +1,7 @@
 use Rattle.std.proofs.Common.{[], get_or, ◌∙◌}
 use Rattle.mes_json.specs.declared.tape.Node.TheVariants.{Null}
 use Rattle.mes_json.proofs.PassingLemmas.{depth_within, over_last, over_one, over_none}
-use Rattle.mes_json.proofs.skip.nodes_of_value.Goals as goal
+use Rattle.mes_json.proofs.skip.count_nodes.Goals as goal
 
 pub returns-then-depth-eq0-clause-behind : goal.returns-then-depth-eq0-clause-behind
 returns-then-depth-eq0-clause-behind c texts =

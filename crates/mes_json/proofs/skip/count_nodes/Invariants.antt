@@ -1,7 +1,7 @@
 use Rattle.std.proofs.Common.{◌≡◌, ◌≤◌, ℕ, List, drop}
 use Rattle.mes_json.specs.Cursor.{tokens_held}
 use Rattle.mes_json.specs.Passing.{behind}
-use Rattle.mes_json.proofs.skip.nodes_of_value.Given as goal
+use Rattle.mes_json.proofs.skip.count_nodes.Given as goal
 
 abbrev pub invariant-loop-i : goal.invariant-loop-i
 invariant-loop-i l = record {

@@ -1,5 +1,5 @@
 use Rattle.mes_json.proofs.SpellLemmas.{node_held, node_spans}
-use Rattle.mes_json.proofs.tape.Tape.put.Goals as goal
+use Rattle.mes_json.proofs.tape.spell.Spelling.put.Goals as goal
 
 pub invariant_of-self-2 : goal.invariant_of-self-2
 invariant_of-self-2 c =
