@@ -2,14 +2,16 @@
 --     no_item, next_item                none is left; the first one
 --     next_member                       the first member
 --     shorter_item, shorter_member      fewer tokens are left
-use Rattle.std.proofs.Common.{◌≡◌, ℕ, ◌<◌, true, false, List, [], ◌∷◌, ◌++◌, length, drop, Some, None, refl, ap, ◌∙◌, arith, append_assoc}
+--     counts_first, counts_next         so many items were passed over
+--     counts_all, counts_most           all of them, or as many as are counted
+use Rattle.std.proofs.Common.{◌≡◌, ℕ, ◌+◌, ◌<◌, ◌≤◌, min, true, false, List, [], ◌∷◌, ◌++◌, length, drop, Some, None, refl, ap, sym, subst, ◌∙◌, arith, append_assoc}
 use Rattle.mes_json.specs.Tree.{Tree, Items, Members}
 use Rattle.mes_json.specs.Tree.Tree.{null, boolean, number, string, array, object}
 use Rattle.mes_json.specs.Tree.Items.{no_items, item}
 use Rattle.mes_json.specs.Tree.Members.{no_members, member}
 use Rattle.mes_json.specs.Tokens.{Token, tokens, tokens_of_items, tokens_of_members, BeginsItems, BeginsMembers}
 use Rattle.mes_json.specs.Tokens.Token.{ends}
-use Rattle.mes_json.specs.Cursor.{NextItem, NextMember}
+use Rattle.mes_json.specs.Cursor.{NextItem, NextMember, count_of}
 use Rattle.mes_json.specs.Passing.{behind, is_end, as_name}
 use Rattle.mes_json.proofs.PassingLemmas.{over_value, behind_within, behind_first}
 
@@ -47,3 +49,26 @@ shorter_item (x ∷ xs) new going passed = let within = behind_first 0 x xs in o
 pub shorter_member : (xs value new : List Token) (k : List ℕ) → as_name xs ≡ Some k → value ≡ drop 1 xs → new ≡ behind 0 value → length new < length xs
 shorter_member [] value new k named here passed = cc
 shorter_member (x ∷ xs) value new k named here passed = let within = behind_within 0 xs in omega (arith, within, ap length (passed ∙ ap (behind 0) here))
+
+-- so many items were passed over, and the others are these
+abbrev pub Counted : List Token → List Token → ℕ → Type 0
+Counted xs rest n = (ts : Items) → BeginsItems xs ts → (us : Items) × BeginsItems rest us × (count_of ts ≡ n + count_of us)
+
+pub counts_first : (xs rest : List Token) → rest ≡ xs → Counted xs rest 0
+counts_first xs rest is ts begins = (ts, subst (λ (ys : List Token). BeginsItems ys ts) (sym is) begins, omega arith)
+
+pub counts_next : (xs rest next : List Token) (x : List Token) (n : ℕ) → Counted xs rest n → ((us : Items) → BeginsItems rest us → NextItem us (Some x) next) → Counted xs next (n + 1)
+counts_next xs rest next x n counted finds ts begins = on (counted ts begins) where
+  on : (us : Items) × BeginsItems rest us × (count_of ts ≡ n + count_of us) → (vs : Items) × BeginsItems next vs × (count_of ts ≡ (n + 1) + count_of vs)
+  on (no_items, here, is) = absurd (finds no_items here)
+  on (item u us, here, is) = (us, (finds (item u us) here).1, omega (arith, is))
+
+pub counts_all : (xs rest next : List Token) (n most : ℕ) → Counted xs rest n → ((us : Items) → BeginsItems rest us → NextItem us None next) → n < most
+    → (ts : Items) → BeginsItems xs ts → n ≡ min (count_of ts) most
+counts_all xs rest next n most counted finds less ts begins = on (counted ts begins) where
+  on : (us : Items) × BeginsItems rest us × (count_of ts ≡ n + count_of us) → n ≡ min (count_of ts) most
+  on (no_items, here, is) = omega (arith, is, less)
+  on (item u us, here, is) = absurd (finds (item u us) here)
+
+pub counts_most : (xs rest : List Token) (n most : ℕ) → Counted xs rest n → most ≤ n → n ≤ most → (ts : Items) → BeginsItems xs ts → most ≡ min (count_of ts) most
+counts_most xs rest n most counted all within ts begins = let counts = counted ts begins in omega (arith, counts.2, all, within)

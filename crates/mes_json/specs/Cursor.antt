@@ -1,5 +1,5 @@
 -- What a place of a tape shows, by the tree that stands there.
-use Rattle.std.specs.Prelude.{◌≡◌, ℕ, Bool, true, false, List, Option, Some, None, map}
+use Rattle.std.specs.Prelude.{◌≡◌, ℕ, suc, Bool, true, false, List, Option, Some, None, map}
 use Rattle.mes_json.specs.Tree.{Tree, Items, Members}
 use Rattle.mes_json.specs.Tree.Items.{no_items, item}
 use Rattle.mes_json.specs.Tree.Members.{no_members, member}
@@ -71,6 +71,10 @@ as_members (Tree.number n) = None
 as_members (Tree.string s) = None
 as_members (Tree.array ts) = None
 as_members (Tree.object ms) = Some ms
+
+abbrev pub count_of : Items → ℕ
+count_of no_items = 0
+count_of (item t ts) = suc (count_of ts)
 
 -- ---- what is found
 

@@ -1,10 +1,10 @@
 //! A value on a tape, read in place: no tree is made, and nothing is copied.
-ghost use Rattle.std.specs.Prelude.{◌≡◌, ◌<◌, length, drop, option_map, OnSome};
+ghost use Rattle.std.specs.Prelude.{◌≡◌, ◌<◌, length, drop, min, option_map, OnSome};
 ghost use Rattle.std.specs.List.{AllByRecursion};
 ghost use Rattle.mes_json.specs.Tree.{Tree, Items as items, Members as members};
 ghost use Rattle.mes_json.specs.Tape.{span, IsSpan, HasSpan};
 ghost use Rattle.mes_json.specs.Tokens.{BeginsWith, BeginsItems, BeginsMembers};
-ghost use Rattle.mes_json.specs.Cursor.{tokens_held, is_null, as_bool, as_number, as_text, as_items, as_members, FindsItems, FindsMembers, NextItem, NextMember};
+ghost use Rattle.mes_json.specs.Cursor.{tokens_held, is_null, as_bool, as_number, as_text, as_items, as_members, count_of, FindsItems, FindsMembers, NextItem, NextMember};
 ghost use Rattle.mes_json.specs.Passing.{is_end, as_name, behind};
 ghost use Rattle.mes_json.specs.Lengths.{TellLengths};
 ghost use Rattle.mes_json.specs.ValueKinds.{kind_of};
@@ -202,7 +202,7 @@ impl<'a> Model for Items<'a> {
 }
 
 impl<'a> Items<'a> {
-    /// The next item. Its cost is proportional to the nodes of that item, which it passes over.
+    /// The next item. Passes over it at once, as over each value on a tape that was read.
     pub fn next(&mut self) -> Option<Element<'a>>
         ensures item { (ts : items) → BeginsItems self.old ts → NextItem ts result self.new }
         ensures shorter { OnSome result (length self.new < length self.old) }
@@ -212,6 +212,22 @@ impl<'a> Items<'a> {
         }
         let behind = self.next.behind();
         Some(mem::replace(&mut self.next, behind))
+    }
+
+    /// How many items there are, counted up to `most`. Its cost is that of as many calls of `next`.
+    pub fn count(&self, most: usize) -> usize
+        ensures { (ts : items) → BeginsItems self.now ts → result ≡ min (count_of ts) most }
+    {
+        let mut rest = Items {
+            next: self.next.copy(),
+        };
+        for count in 0..most {
+            match rest.next() {
+                Some(_) => {}
+                None => return count,
+            }
+        }
+        most
     }
 }
 
@@ -233,7 +249,7 @@ impl<'a> Model for Members<'a> {
 }
 
 impl<'a> Members<'a> {
-    /// The next member: its name and its value. Its cost is proportional to the nodes of that value, which it passes over.
+    /// The next member: its name and its value. Passes over the value at once, as over each value on a tape that was read.
     pub fn next(&mut self) -> Option<(&'a str, Element<'a>)>
         ensures member { (ms : members) → BeginsMembers self.old ms → NextMember ms (option_map (λ m. (m.0.now, m.1)) result) self.new }
         ensures shorter { OnSome result (length self.new < length self.old) }

@@ -4,7 +4,7 @@
 pub const NESTING_LIMIT: usize = 64;
 
 /// How many bytes of texts, and as many of nodes, a lexer takes over from a tape; the memory of a longer one is given back.
-pub const ROOM_KEPT: usize = 1024 * 1024;
+pub const ROOM_KEPT: usize = 16 * 1024 * 1024;
 
 /// How many bytes of texts a tape has room for. A longer one is want of memory.
 pub const TEXTS_MOST: usize = u32::MAX as usize;

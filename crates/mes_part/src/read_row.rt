@@ -121,6 +121,9 @@ pub fn type_of<'a>(alloc: Global, found: &Found<'a>, path: &Trail<'_>) -> Result
     }
 }
 
+/// For how many items a list takes memory before they are read; for one that has more, it grows.
+const ROOM_FIRST: usize = 64;
+
 /// The values of an array's items, in order.
 pub fn read_list<T: Part>(
     alloc: Global,
@@ -133,7 +136,7 @@ pub fn read_list<T: Part>(
     let Some(mut items) = element.items() else {
         return Err(refusal_at(alloc, path, FieldWhy::WrongKind));
     };
-    let mut values = Vec::new(alloc);
+    let mut values = Vec::with_capacity(alloc, items.count(ROOM_FIRST))?;
     while let Some(item) = items.next() {
         let value = T::read_from(alloc, &item, &path.with(Step::Index(values.len() as u64)))?;
         values.push(value)?;
