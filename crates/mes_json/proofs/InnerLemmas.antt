@@ -1,8 +1,9 @@
--- More bytes hold no fewer inside strings and numbers.
---     inner_grows
-use Rattle.std.proofs.Common.{ℕ, ◌≤◌, List, [], ◌∷◌, ◌++◌, arith}
-use Rattle.mes_json.specs.Inner.{Stand, behind, inner_from, inner}
-use Rattle.mes_json.specs.Inner.Stand.{outside}
+-- How many bytes stand inside strings and numbers.
+--     inner_grows      of more bytes no fewer
+--     inner_within     no more than there are
+use Rattle.std.proofs.Common.{ℕ, ◌≤◌, Bool, true, false, if◌then◌else◌, ◌==◌, List, [], ◌∷◌, ◌++◌, length, arith}
+use Rattle.mes_json.specs.Inner.{Stand, is_of_number, behind, counts, inner_from, inner}
+use Rattle.mes_json.specs.Inner.Stand.{outside, inside, escaped}
 
 from_grows : (place : Stand) (p q : List ℕ) → inner_from place p ≤ inner_from place (p ++ q)
 from_grows place [] q = omega arith
@@ -11,3 +12,25 @@ from_grows place (c ∷ p) q =
 
 pub inner_grows : (p q : List ℕ) → inner p ≤ inner (p ++ q)
 inner_grows p q = from_grows outside p q
+
+one_at_most : (b : Bool) → (if b then 1 else 0) ≤ 1
+one_at_most true = omega arith
+one_at_most false = omega arith
+
+one_but : (b : Bool) → (if b then 0 else 1) ≤ 1
+one_but true = omega arith
+one_but false = omega arith
+
+counts_one : (place : Stand) (c : ℕ) → counts place c ≤ 1
+counts_one outside c = one_at_most (is_of_number c)
+counts_one inside c = one_but (c == 34)
+counts_one escaped c = omega arith
+
+from_within : (place : Stand) (p : List ℕ) → inner_from place p ≤ length p
+from_within place [] = omega arith
+from_within place (c ∷ p) =
+    let one = counts_one place c in
+    let rest : inner_from (behind place c) p ≤ length p = from_within (behind place c) p in omega (arith, one, rest)
+
+pub inner_within : (p : List ℕ) → inner p ≤ length p
+inner_within p = from_within outside p

@@ -1,5 +1,5 @@
 //! What the definitions say of any bytes, as contracts of functions that do nothing.
-ghost use Rattle.std.specs.Prelude.{◌≡◌, ◌⊎◌, ◌≤◌, ◌++◌, ℕ, List};
+ghost use Rattle.std.specs.Prelude.{◌≡◌, ◌⊎◌, ◌≤◌, ◌++◌, ℕ, List, length};
 ghost use Rattle.mes_json.specs.Tree.{Tree, depth};
 ghost use Rattle.mes_json.specs.Canonical.{canonical};
 ghost use Rattle.mes_json.specs.Writable.{IsWritable};
@@ -35,9 +35,10 @@ pub fn lexer_lets_go(lexer: &Lexer)
     ensures memory { IsOutOfMemory lexer.now → HoldsNothing lexer.now }
 {}
 
-/// More bytes hold no fewer inside strings and numbers.
+/// Of the bytes, no more stand inside strings and numbers than there are, and with more bytes no fewer.
 pub fn inner_grows()
-    ensures { (p q : List ℕ) → inner p ≤ inner (p ++ q) }
+    ensures grows { (p q : List ℕ) → inner p ≤ inner (p ++ q) }
+    ensures within { (p : List ℕ) → inner p ≤ length p }
 {}
 
 /// Arrays and objects nest at most 64 deep.
