@@ -131,3 +131,21 @@ fn goes_over_nothing(rt: HostRuntime) -> Result<(), Fail> {
     expect_members(&rt, object.members().expect(&rt, "its members"), &[]);
     Ok(())
 }
+
+#[test]
+fn counts_items(rt: HostRuntime) -> Result<(), Fail> {
+    let counted: [(&[u8], usize); 4] = [
+        (b"[]", 0),
+        (b"[[]]", 1),
+        (b"[{\"a\": [1, 2]}, [[3], 4], 5]", 3),
+        (b"[1, 2, 3, 4, 5]", 4),
+    ];
+    for (text, count) in counted {
+        let tape = read_tape(rt.alloc(), text)?;
+        let mut items = tape.root().items().expect(&rt, "items");
+        assert_eq!(rt; items.count(4), count);
+        assert_eq!(rt; items.count(0), 0);
+        assert_eq!(rt; items.next().is_some(), count > 0);
+    }
+    Ok(())
+}

@@ -86,7 +86,7 @@ fn reads_on_in_the_memory_of_a_tape(rt: HostRuntime) -> Result<(), Fail> {
 fn gives_long_memory_back(rt: HostRuntime) -> Result<(), Fail> {
     let mut text = Vec::new(rt.alloc());
     text.push(b'[')?;
-    for _ in 0..70_000 {
+    for _ in 0..1_100_000 {
         text.extend_from_slice(b"1,")?;
     }
     text.extend_from_slice(b"1]")?;
