@@ -4,7 +4,7 @@
 --     leads_nowhere, leads_on           the bytes of one
 --     stands_here                       they end with it
 --     stands_further                    more of them
-use Rattle.std.proofs.Common.{◌≡◌, ℕ, ◌+◌, ◌-◌, ◌<◌, ◌≤◌, Bool, true, List, [], ◌∷◌, ◌++◌, length, take, drop, get_or, Option, Some, None, option_map, option_and_then, IfSome, if◌then◌else◌, nat_lt, refl, ap, sym, ◌∙◌, subst, arith, append_assoc, append-nil, lt-ltb, take-suc, add-one}
+use Rattle.std.proofs.Common.{◌≡◌, ℕ, ◌+◌, ◌-◌, ◌<◌, ◌≤◌, Bool, true, List, [], ◌∷◌, ◌++◌, length, take, drop, get_or, Option, Some, None, option_map, option_and_then, IfSome, if◌then◌else◌, nat_lt, ap, sym, ◌∙◌, subst, arith, append_assoc, append-nil, lt-ltb, take-suc, add-one}
 use Rattle.std.proofs.Math.Seq.{take-add}
 use Rattle.std.specs.List.{AllByRecursion}
 use Rattle.mes_json.specs.Machine as m

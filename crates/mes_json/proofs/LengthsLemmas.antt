@@ -5,8 +5,8 @@
 --     ends_none                          none is known
 --     tell_from, spans_from              the nodes from a place on
 --     telling_none, telling_more         the lengths of the last nodes are told
-use Rattle.std.proofs.Common.{◌≡◌, ◌≢◌, ℕ, zero, suc, ◌+◌, ◌-◌, ◌<◌, ◌≤◌, List, [], ◌∷◌, ◌++◌, length, take, drop, set, get_or, reverse, Option, Some, None, refl, ap, sym, ◌∙◌, arith}
-use Rattle.std.proofs.lemmas.List.{reverse-append, append_assoc, drop-set, length-set, drop_all}
+use Rattle.std.proofs.Common.{◌≡◌, ◌≢◌, ℕ, zero, suc, ◌+◌, ◌-◌, ◌≤◌, List, [], ◌∷◌, ◌++◌, length, drop, set, get_or, reverse, Option, Some, None, refl, ap, sym, ◌∙◌, arith}
+use Rattle.std.proofs.lemmas.List.{reverse-append, drop-set, length-set, drop_all}
 use Rattle.std.proofs.Math.Seq.{map-set_same}
 use Rattle.std.specs.List.{AllByRecursion}
 use Rattle.mes_json.specs.Tokens.{Token}
@@ -63,6 +63,7 @@ over_ends texts (End ∷ xs) zero end is =
     } where
       some : {a b : ℕ} → Some a ≡ Some b → a ≡ b
       some h = cc
+
       one : (n end : ℕ) → n ≡ end → 1 ≡ suc n - end
       one n end h = omega (arith, h)
 over_ends texts (End ∷ xs) (suc k) end is = closes_more texts End xs (suc k) k end refl (over_ends texts xs k end is)

@@ -42,7 +42,7 @@ pub(crate) fn tell_lengths(nodes: &mut [Node])
     let mut place = count;
     while place > 0 {
         place -= 1;
-        nodes[place] = ends.pass(nodes[place], count - 1 - place);
+        ends.pass(&mut nodes[place], count - 1 - place);
     }
 }
 
@@ -54,27 +54,28 @@ struct Ends {
 }
 
 impl Ends {
-    /// The node that stands before so many others, with its length told where it is known.
+    /// Has the node that stands before so many others tell its length, where that is known.
     #[inline(always)]
-    fn pass(&mut self, node: Node, behind: usize) -> Node
+    fn pass(&mut self, node: &mut Node, behind: usize)
         ensures ends { (xs : List a_node) → length xs ≡ behind → AreOpenEnds self.old.behind.items (open_ends xs)
-            → AreOpenEnds self.new.behind.items (open_ends (result ∷ xs)) }
-        ensures told { (xs : List a_node) → length xs ≡ behind → AreOpenEnds self.old.behind.items (open_ends xs) → TellsTruth result xs }
-        ensures token { (texts : List ℕ) → token_of texts result ≡ token_of texts node }
-        ensures span { (texts : List ℕ) → HasSpan texts node → HasSpan texts result }
+            → AreOpenEnds self.new.behind.items (open_ends (node.new ∷ xs)) }
+        ensures told { (xs : List a_node) → length xs ≡ behind → AreOpenEnds self.old.behind.items (open_ends xs) → TellsTruth node.new xs }
+        ensures token { (texts : List ℕ) → token_of texts node.new ≡ token_of texts node.old }
+        ensures span { (texts : List ℕ) → HasSpan texts node.old → HasSpan texts node.new }
     {
         match node {
-            Node::List { .. } => Node::List {
-                length: self.begin(behind),
-            },
-            Node::Map { .. } => Node::Map {
-                length: self.begin(behind),
-            },
-            Node::End => {
-                self.end(behind);
-                node
+            Node::List { .. } => {
+                *node = Node::List {
+                    length: self.begin(behind),
+                }
             }
-            _ => node,
+            Node::Map { .. } => {
+                *node = Node::Map {
+                    length: self.begin(behind),
+                }
+            }
+            Node::End => self.end(behind),
+            _ => {}
         }
     }
 

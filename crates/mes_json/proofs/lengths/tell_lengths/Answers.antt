@@ -11,9 +11,9 @@ size c = omega (arith, length-drop c.loop-place.place c.loop-place.nodes, c.loop
 pub loop-place-preserved : goal.loop-place-preserved
 loop-place-preserved c =
     let known = c.loop-place.invariant.2 in (
-      omega (arith, length-set c.loop-place.nodes (c.loop-place.place - 1) c.pass.result, c.loop-place.invariant.0),
-      c.loop-place.invariant.1 ∙ sym (length-set c.loop-place.nodes (c.loop-place.place - 1) c.pass.result),
-      telling_more c.args.nodes.now c.loop-place.nodes c.loop-place.place (c.loop-place.place - 1) c.loop-place.ends.behind.items c.pass.new.self.behind.items c.pass.result _
+      omega (arith, length-set c.loop-place.nodes (c.loop-place.place - 1) c.pass.new.node, c.loop-place.invariant.0),
+      c.loop-place.invariant.1 ∙ sym (length-set c.loop-place.nodes (c.loop-place.place - 1) c.pass.new.node),
+      telling_more c.args.nodes.now c.loop-place.nodes c.loop-place.place (c.loop-place.place - 1) c.loop-place.ends.behind.items c.pass.new.self.behind.items c.pass.new.node _
           (omega (arith, c.loop-place-test.true)) c.loop-place.invariant.0 c.pass.ensures.token c.pass.ensures.span
           (c.pass.ensures.told (drop c.loop-place.place c.loop-place.nodes) (size c) known.are_open)
           (c.pass.ensures.ends (drop c.loop-place.place c.loop-place.nodes) (size c) known.are_open) known,

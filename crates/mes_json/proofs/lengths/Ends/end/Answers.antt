@@ -1,4 +1,4 @@
-use Rattle.std.proofs.Common.{List, ℕ, [], refl}
+use Rattle.std.proofs.Common.{List, ℕ, refl}
 use Rattle.mes_json.specs.Lengths.{AreOpenEnds}
 use Rattle.mes_json.proofs.LengthsLemmas.{ends_end}
 use Rattle.mes_json.proofs.lengths.Ends.end.Goals as goal

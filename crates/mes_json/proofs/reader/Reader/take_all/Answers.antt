@@ -1,8 +1,8 @@
-use Rattle.std.proofs.Common.{◌+◌, ◌++◌, refl, arith, take, ◌∙◌}
-use Rattle.mes_json.specs.Machine.{start, run}
+use Rattle.std.proofs.Common.{◌+◌, refl, arith, take, ◌∙◌}
+use Rattle.mes_json.specs.Machine.{run}
 use Rattle.mes_json.specs.Reader.{state_view}
 use Rattle.mes_json.specs.declared.limits.TheConstants.{NESTING_LIMIT}
-use Rattle.mes_json.proofs.RunLemmas.{run_on, run_take}
+use Rattle.mes_json.proofs.RunLemmas.{run_take}
 use Rattle.mes_json.proofs.TakenLemmas.{reached_over}
 use Rattle.mes_json.proofs.reader.Reader.take_all.Goals as goal
 
