@@ -20,3 +20,4 @@ pub mod ValueKinds
 pub mod Passing
 pub mod Lengths
 pub mod Spell
+pub mod TextForm

@@ -214,7 +214,7 @@ fn text_of(alloc: Global, texts: &[u8], from: u32, to: u32) -> Result<Text, NoMe
     requires { IsSpan texts.now from to }
     ensures { IfOk result (λ text. text ≡ span texts.now from to) }
 {
-    Ok(Text::new(String::from_str(alloc, span_text(texts, from, to))?))
+    Text::of(alloc, span_text(texts, from, to))
 }
 
 /// The number of a span.

@@ -8,3 +8,6 @@ pub const ROOM_KEPT: usize = 16 * 1024 * 1024;
 
 /// How many bytes of texts a tape has room for. A longer one is want of memory.
 pub const TEXTS_MOST: usize = u32::MAX as usize;
+
+/// How many bytes a text may have that takes no memory of its own.
+pub const SHORT_TEXT_MOST: usize = 16;

@@ -1,55 +1,90 @@
 //! A text in well-formed UTF-8.
-ghost use Rattle.std.specs.Prelude.{◌≡◌, string_bytes, IfOk, bytes_eq};
+ghost use Rattle.std.specs.Prelude.{◌≡◌, ◌<◌, ◌≤◌, length, string_bytes, IfOk, IfErr, bytes_eq};
 
+use crate::limits::SHORT_TEXT_MOST;
 use crate::memory::NoMemory;
+use arrayvec::ArrayString;
 use std::alloc::Global;
 use std::marker::Model;
 
-/// A text in well-formed UTF-8 (RFC 3629) that owns its memory. A contract sees it as its bytes.
+/// A text in well-formed UTF-8 (RFC 3629). One of at most `SHORT_TEXT_MOST` bytes, as most names and roles are, takes no memory
+/// when it is copied or read; any other owns its memory. A contract sees it as its bytes.
 #[derive(Debug, Drop)]
 pub struct Text {
-    string: String,
+    form: Form,
+}
+
+/// Where a text stands.
+#[derive(Debug, Drop)]
+enum Form {
+    /// In the value itself.
+    Short(ArrayString<SHORT_TEXT_MOST>),
+    /// In memory of its own.
+    Long(String),
 }
 
 impl Model for Text {
-    ghost use Rattle.std.specs.Prelude.{ℕ, List, string_bytes};
+    ghost use Rattle.std.specs.Prelude.{ℕ, List};
     ghost use Rattle.std.specs.Str.{IsUtf8};
+    ghost use Rattle.mes_json.specs.TextForm.{form_bytes};
 
     ghost Value = { List ℕ };
 
-    ghost view = { λ text. string_bytes text.string };
+    ghost view = { λ text. form_bytes text.form };
 
-    ghost invariant = { λ text. ∥ IsUtf8 (string_bytes text.string) ∥₁ };
+    ghost invariant = { λ text. ∥ IsUtf8 (form_bytes text.form) ∥₁ };
 }
 
 impl Text {
-    /// The text of a string. Takes no memory.
+    /// The text of a string, in the string's memory. Takes no memory.
     pub fn new(string: String) -> Text
         ensures { result ≡ string_bytes string }
     {
-        Text { string }
+        Text {
+            form: Form::Long(string),
+        }
+    }
+
+    /// A text of these bytes; takes memory only where they are more than `SHORT_TEXT_MOST`.
+    pub fn of(alloc: Global, text: &str) -> Result<Text, NoMemory>
+        ensures ok { IfOk result (λ same. same ≡ text.now) }
+        ensures err { IfErr result (λ _. SHORT_TEXT_MOST < length text.now) }
+    {
+        let form = match ArrayString::from(text) {
+            Ok(short) => Form::Short(short),
+            Err(_) => Form::Long(String::from_str(alloc, text)?),
+        };
+        Ok(Text { form })
     }
 
     /// The text, borrowed.
     pub fn as_str(&self) -> &str
         ensures { result.now ≡ self.now }
     {
-        self.string.as_str()
+        match &self.form {
+            Form::Short(short) => short.as_str(),
+            Form::Long(string) => string.as_str(),
+        }
     }
 
-    /// The string, in the memory that the text owned.
-    pub fn into_string(self) -> String
-        ensures { string_bytes result ≡ self }
+    /// The text as a string; takes memory only where it has none of its own.
+    pub fn into_string(self, alloc: Global) -> Result<String, NoMemory>
+        ensures ok { IfOk result (λ string. string_bytes string ≡ self) }
+        ensures err { IfErr result (λ _. length self ≤ SHORT_TEXT_MOST) }
     {
-        self.string
+        let Text { form } = self;
+        match form {
+            Form::Short(short) => Ok(String::from_str(alloc, short.as_str())?),
+            Form::Long(string) => Ok(string),
+        }
     }
 
-    /// A text of the same bytes, in memory of its own.
+    /// A text of the same bytes, as of `of`.
     pub fn copy(&self, alloc: Global) -> Result<Text, NoMemory>
-        ensures { IfOk result (λ text. text ≡ self.now) }
+        ensures ok { IfOk result (λ text. text ≡ self.now) }
+        ensures err { IfErr result (λ _. SHORT_TEXT_MOST < length self.now) }
     {
-        let string = String::from_str(alloc, self.as_str())?;
-        Ok(Text::new(string))
+        Text::of(alloc, self.as_str())
     }
 }
 

@@ -113,7 +113,7 @@ impl Part for TaskState {
 
     #[tactic(auto, unfolding(crate::specs::TaskStates::states))]
     fn tree(&self, alloc: Global) -> Result<Json, NoMemory> {
-        Ok(Json::Text(Text::new(String::from_str(alloc, self.name())?)))
+        Ok(Json::Text(Text::of(alloc, self.name())?))
     }
 
     fn copy(&self, _alloc: Global) -> Result<TaskState, NoMemory> {

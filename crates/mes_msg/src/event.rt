@@ -153,7 +153,7 @@ fn put_offers(
 {
     put_type(members, alloc, "OFFERS")?;
     let tree = offers_tree(alloc, list)?;
-    let name = Text::new(String::from_str(alloc, "offers")?);
+    let name = Text::of(alloc, "offers")?;
     members.push((name, tree))?;
     Ok(())
 }

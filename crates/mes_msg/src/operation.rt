@@ -33,7 +33,7 @@ impl Operation {
         let Operation::Launch { task_infos } = self;
         put_type(members, alloc, "LAUNCH")?;
         let tree = launch_tree(alloc, task_infos)?;
-        let name = Text::new(String::from_str(alloc, "launch")?);
+        let name = Text::of(alloc, "launch")?;
         members.push((name, tree))?;
         Ok(())
     }

@@ -42,7 +42,7 @@ impl OtherName {
         requires { IsOther name.now }
         ensures { IfOk result (λ other. other ≡ name.now) }
     {
-        let name = Text::new(String::from_str(alloc, name)?);
+        let name = Text::of(alloc, name)?;
         Ok(OtherName { name })
     }
 

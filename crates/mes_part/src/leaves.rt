@@ -26,7 +26,7 @@ impl Part for Text {
         path: &Trail<'_>,
     ) -> Result<Text, PartFault> {
         let text = text_in(alloc, element, path)?;
-        Ok(Text::new(String::from_str(alloc, text)?))
+        Ok(Text::of(alloc, text)?)
     }
 
     #[tactic(auto, unfolding(crate::specs::Leaves::texts))]

@@ -89,7 +89,7 @@ pub fn put_type(
     ensures members { OnOk result (pairs_view members.new.items ≡ pairs_view members.old.items ++ (type_name, string kind.now) ∷ []) }
     ensures unchanged { IfErr result (λ _. pairs_view members.new.items ≡ pairs_view members.old.items) }
 {
-    let kind = Text::new(String::from_str(alloc, kind)?);
+    let kind = Text::of(alloc, kind)?;
     push_member(members, alloc, "type", Json::Text(kind))
 }
 
@@ -146,7 +146,7 @@ fn push_member(
     ensures members { OnOk result (pairs_view members.new.items ≡ pairs_view members.old.items ++ (name.now, view tree) ∷ []) }
     ensures unchanged { IfErr result (λ _. pairs_view members.new.items ≡ pairs_view members.old.items) }
 {
-    let name = Text::new(String::from_str(alloc, name)?);
+    let name = Text::of(alloc, name)?;
     members.push((name, tree))?;
     Ok(())
 }

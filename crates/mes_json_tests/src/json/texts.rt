@@ -237,10 +237,27 @@ fn reads_as_deep_as_the_limit(rt: HostRuntime) -> Result<(), Fail> {
 }
 
 #[test]
-fn copies_a_text(rt: HostRuntime) -> Result<(), Fail> {
-    let text = Text::new(String::from_str(rt.alloc(), "a\u{e9}")?);
-    let copy = text.copy(rt.alloc())?;
-    assert!(rt; copy == text);
-    assert_eq!(rt; copy.into_string().as_str(), "a\u{e9}");
+fn keeps_texts_of_any_length(rt: HostRuntime) -> Result<(), Fail> {
+    for characters in [
+        "",
+        "*",
+        "a\u{e9}",
+        "123456789 123456",
+        "123456789 1234567",
+        "123456789 12345\u{e9}",
+    ] {
+        let text = Text::of(rt.alloc(), characters)?;
+        let copy = text.copy(rt.alloc())?;
+        let of_string = Text::new(String::from_str(rt.alloc(), characters)?);
+        assert!(rt; copy == text && of_string == text && text.as_str() == characters);
+        let strings = (
+            copy.into_string(rt.alloc())?,
+            of_string.into_string(rt.alloc())?,
+        );
+        assert_eq!(rt;
+            (strings.0.as_str(), strings.1.as_str()),
+            (characters, characters)
+        );
+    }
     Ok(())
 }

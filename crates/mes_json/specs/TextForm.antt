@@ -1,0 +1,8 @@
+-- The bytes of a text, wherever it stands.
+use Rattle.std.specs.Prelude.{ℕ, List, string_bytes}
+use Rattle.mes_json.specs.declared.text.Form.{Form}
+use Rattle.mes_json.specs.declared.text.Form.TheVariants.{Short, Long}
+
+abbrev pub form_bytes : Form → List ℕ
+form_bytes (Short short) = short.bytes
+form_bytes (Long string) = string_bytes string
