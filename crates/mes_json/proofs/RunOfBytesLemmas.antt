@@ -1,6 +1,6 @@
--- A string is written run by run: `run_goes` over a byte that stays, `run_ends` at one that is escaped.
+-- A string is written run by run: `run_goes` over a byte that stays, `run_ends` at one that is escaped, `run_done` behind the last.
 use Rattle.std.proofs.Common.{◌≡◌, ℕ, suc, length-drop, ◌+◌, ◌-◌, ◌<◌, ◌≤◌, List, [], ◌∷◌, ◌++◌, length, take, drop, get_or, ap, sym, ◌∙◌, append_assoc, add-one, take-suc, false, ◌||◌, ◌==◌, nat_lt, arith}
-use Rattle.std.proofs.lemmas.List.{append-nil, get_or-drop}
+use Rattle.std.proofs.lemmas.List.{append-nil, get_or-drop, take_all}
 use Rattle.std.proofs.lemmas.Bool.Decides.{nat_tests}
 use Rattle.mes_json.specs.Canonical.{escaped, escaped_text}
 use Rattle.mes_json.proofs.EscapedLemmas.{escaped-append}
@@ -44,3 +44,10 @@ run_ends b from at out start run new inside so_far is next =
     ∙ ap (λ (x : List ℕ). x ++ escaped (get_or b at 0)) (is ∙ so_far)
     ∙ append_assoc start (escaped_text (take at b)) (escaped (get_or b at 0))
     ∙ ap (λ (x : List ℕ). start ++ x) (sym (one_more b at inside))
+
+pub run_done : (b : List ℕ) (from at : ℕ) (out start new : List ℕ) → length b ≤ at → at ≤ length b
+    → out ++ take (at - from) (drop from b) ≡ start ++ escaped_text (take at b)
+    → new ≡ out ++ take (length b - from) (drop from b) → new ≡ start ++ escaped_text b
+run_done b from at out start new past within so_far is =
+    let end : length b ≡ at = omega arith in
+    is ∙ ap (λ (n : ℕ). out ++ take (n - from) (drop from b)) end ∙ so_far ∙ ap (λ (x : List ℕ). start ++ escaped_text x) (take_all at b past)

@@ -1,8 +1,9 @@
 -- What is written stays in front of what is written next; one more item, one more member.
-use Rattle.std.proofs.Common.{◌≡◌, ℕ, ◌+◌, ◌<◌, List, [], ◌∷◌, ◌++◌, length, take, get_or, refl, ap, sym, ◌∙◌, subst, append_assoc, Result, Ok, Err, IfOk}
-use Rattle.std.proofs.lemmas.List.{append-nil}
+use Rattle.std.proofs.Common.{◌≡◌, ℕ, ◌+◌, ◌-◌, ◌<◌, ◌≤◌, List, [], ◌∷◌, ◌++◌, length, take, drop, get_or, refl, ap, sym, ◌∙◌, subst, append_assoc, arith, Result, Ok, Err, IfOk}
+use Rattle.std.proofs.lemmas.List.{append-nil, take_all, take_rest}
 use Rattle.std.specs.Str.{IsUtf8}
-use Rattle.mes_json.specs.Canonical.{canonical, more_items, more_members}
+use Rattle.mes_json.specs.Tree.{Tree}
+use Rattle.mes_json.specs.Canonical.{canonical, canonical_items, canonical_members, more_items, more_members}
 use Rattle.mes_json.specs.View.{view, items_view, members_view}
 use Rattle.mes_json.specs.Writable.{IsWritable, AreWritable, AreWritableMembers, Extends, member_text}
 use Rattle.mes_json.specs.declared.value.Json.{Json}
@@ -26,6 +27,11 @@ pub between : (start inside : List ℕ) (first last : ℕ) (a b new : List ℕ) 
     → new ≡ start ++ first ∷ (inside ++ last ∷ [])
 between start inside first last a b new e f g =
     g ∙ ap (λ (x : List ℕ). x ++ last ∷ []) (f ∙ ap (λ (x : List ℕ). x ++ inside) e) ∙ simp append_assoc refl
+
+-- a name, a colon and a text
+pub after_colon : (start name text a b new : List ℕ) → a ≡ start ++ name → b ≡ a ++ 58 ∷ [] → new ≡ b ++ text → new ≡ start ++ (name ++ 58 ∷ text)
+after_colon start name text a b new e f g =
+    g ∙ ap (λ (x : List ℕ). x ++ text) (f ∙ ap (λ (x : List ℕ). x ++ 58 ∷ []) e) ∙ simp append_assoc refl
 
 -- ---- one more
 pub more_last : (xs : List Json) (x : Json) → more_items (items_view (xs ++ x ∷ [])) ≡ more_items (items_view xs) ++ 44 ∷ canonical (view x)
@@ -81,3 +87,70 @@ pub member_writable : (xs : List (List ℕ × Json)) (x : List ℕ × Json) (n :
     → AreWritableMembers (members_view (take n xs)) → IsUtf8 x.0 × IsWritable (view x.1) → AreWritableMembers (members_view (take (n + 1) xs))
 member_writable xs x n inside is are one =
     subst (λ (ys : List (List ℕ × Json)). AreWritableMembers (members_view ys)) (sym (members_grown xs x n inside is)) (all_members_last (take n xs) x are one)
+
+-- ---- the first, and all of the others
+others : {A : Type 0} (xs : List A) (n : ℕ) → length (take (length xs - 1) (drop 1 xs)) ≤ n → take n (take (length xs - 1) (drop 1 xs)) ≡ drop 1 xs
+others xs n all = take_all n _ all ∙ take_rest xs 1
+
+pub items_written : (xs : List Json) (x : Json) (n : ℕ) (start first new : List ℕ) → 1 ≤ length xs → x ≡ get_or xs 0 x
+    → length (take (length xs - 1) (drop 1 xs)) ≤ n → first ≡ start ++ canonical (view x)
+    → new ≡ first ++ more_items (items_view (take n (take (length xs - 1) (drop 1 xs)))) → new ≡ start ++ canonical_items (items_view xs)
+items_written [] x n start first new some is all e f = absurd (omega arith)
+items_written (y ∷ ys) x n start first new some is all e f =
+    f ∙ ap (λ (zs : List Json). first ++ more_items (items_view zs)) (others (y ∷ ys) n all)
+    ∙ ap (λ (b : List ℕ). b ++ more_items (items_view ys)) e ∙ append_assoc start (canonical (view x)) (more_items (items_view ys))
+    ∙ ap (λ (z : Json). start ++ (canonical (view z) ++ more_items (items_view ys))) is
+
+pub items_writable : (xs : List Json) (x : Json) (n : ℕ) → x ≡ get_or xs 0 x → length (take (length xs - 1) (drop 1 xs)) ≤ n
+    → IsWritable (view x) → AreWritable (items_view (take n (take (length xs - 1) (drop 1 xs)))) → AreWritable (items_view xs)
+items_writable [] x n is all one are = tt
+items_writable (y ∷ ys) x n is all one are =
+    (subst (λ (z : Json). IsWritable (view z)) is one, subst (λ (zs : List Json). AreWritable (items_view zs)) (others (y ∷ ys) n all) are)
+
+-- a and b are what `get_or` gives behind the end
+pub members_written : (xs : List (List ℕ × Json)) (a b : List ℕ × Json) (n : ℕ) (start first new : List ℕ) → 1 ≤ length xs
+    → length (take (length xs - 1) (drop 1 xs)) ≤ n → first ≡ start ++ member_text (get_or xs 0 a).0 (view (get_or xs 0 b).1)
+    → new ≡ first ++ more_members (members_view (take n (take (length xs - 1) (drop 1 xs)))) → new ≡ start ++ canonical_members (members_view xs)
+members_written [] a b n start first new some all e f = absurd (omega arith)
+members_written (y ∷ ys) a b n start first new some all e f =
+    f ∙ ap (λ (zs : List (List ℕ × Json)). first ++ more_members (members_view zs)) (others (y ∷ ys) n all)
+    ∙ ap (λ (t : List ℕ). t ++ more_members (members_view ys)) e ∙ append_assoc start (text_of y) (more_members (members_view ys))
+
+pub members_writable : (xs : List (List ℕ × Json)) (a b : List ℕ × Json) (n : ℕ) → length (take (length xs - 1) (drop 1 xs)) ≤ n
+    → IsUtf8 (get_or xs 0 a).0 × IsWritable (view (get_or xs 0 b).1) → AreWritableMembers (members_view (take n (take (length xs - 1) (drop 1 xs))))
+    → AreWritableMembers (members_view xs)
+members_writable [] a b n all one are = tt
+members_writable (y ∷ ys) a b n all one are =
+    (one.0, one.1, subst (λ (zs : List (List ℕ × Json)). AreWritableMembers (members_view zs)) (others (y ∷ ys) n all) are)
+
+-- ---- what is written of a value, from its tree
+pub tree_written : {A E : Type 0} (r : Result A E) (json : Json) (t : Tree) (start new : List ℕ) → view json ≡ t
+    → IfOk r (λ _. new ≡ start ++ canonical t) → IfOk r (λ _. new ≡ start ++ canonical (view json))
+tree_written r json t start new is h = subst (λ (u : Tree). IfOk r (λ _. new ≡ start ++ canonical u)) (sym is) h
+
+pub tree_writable : {A E : Type 0} (r : Result A E) (json : Json) (t : Tree) → view json ≡ t → IfOk r (λ _. IsWritable t) → IfOk r (λ _. IsWritable (view json))
+tree_writable r json t is h = subst (λ (u : Tree). IfOk r (λ _. IsWritable u)) (sym is) h
+
+pub always : {A E : Type 0} {P : Type 0} (r : Result A E) → P → IfOk r (λ _. P)
+always (Ok x) p = p
+always (Err e) p = tt
+
+-- ---- none at all
+pub extends_itself : (a : List ℕ) → Extends a a
+extends_itself a = extended a a [] (sym (append-nil a))
+
+pub no_items_written : (xs : List Json) (start : List ℕ) → length xs < 1 → start ≡ start ++ canonical_items (items_view xs)
+no_items_written [] start few = sym (append-nil start)
+no_items_written (x ∷ xs) start few = absurd (omega arith)
+
+pub no_items_writable : (xs : List Json) → length xs < 1 → AreWritable (items_view xs)
+no_items_writable [] few = tt
+no_items_writable (x ∷ xs) few = absurd (omega arith)
+
+pub no_members_written : (xs : List (List ℕ × Json)) (start : List ℕ) → length xs < 1 → start ≡ start ++ canonical_members (members_view xs)
+no_members_written [] start few = sym (append-nil start)
+no_members_written (x ∷ xs) start few = absurd (omega arith)
+
+pub no_members_writable : (xs : List (List ℕ × Json)) → length xs < 1 → AreWritableMembers (members_view xs)
+no_members_writable [] few = tt
+no_members_writable (x ∷ xs) few = absurd (omega arith)

@@ -1,6 +1,131 @@
-//! The subcommands over devices in memory: what they print, and their status.
+//! What `check`, `show` and `convert` do over devices in memory that give and take a few bytes at a time, or fail.
 
-mod check;
-mod convert;
-mod devices;
-mod show;
+use mes_frame::{Limit, MemorySink, MemorySource, MemoryStop};
+use mes_run::{Detail, convert, follow};
+use mes_stream::Framing;
+use std::alloc::{AllocGlobal, Global};
+use std::process::Abort;
+use std::test::Fail;
+
+/// A record of 20 bytes, 23 with its size line.
+const HEARTBEAT: &str = "20\n{\"type\":\"HEARTBEAT\"}";
+
+/// What `show` prints of it, whose second line `check` prints.
+const LINES: &str = "1 HEARTBEAT\nevents 1 bytes 23\n";
+
+/// How many bytes the writer takes by one call.
+const WRITE_SIZE: usize = 5;
+
+/// Follows plain RecordIO under the usual limit, and answers the status.
+fn followed(
+    alloc: Global,
+    detail: Detail,
+    source: &mut MemorySource<'_>,
+    out: &mut MemorySink,
+) -> u8 {
+    follow(alloc, detail, Framing::Plain, Limit::USUAL, source, out)
+}
+
+/// Follows the record, given so many bytes by one read, and asserts what is printed.
+fn expect_lines<R: Abort + AllocGlobal>(rt: &R, detail: Detail, lines: &str, size: usize) {
+    let mut source = MemorySource::new(HEARTBEAT.as_bytes(), size);
+    let mut out = MemorySink::new(rt.alloc(), WRITE_SIZE);
+    let status = followed(rt.alloc(), detail, &mut source, &mut out);
+    assert_eq!(rt; (out.bytes(), status), (lines.as_bytes(), 0));
+}
+
+#[test]
+fn records_are_read_by_pieces(rt: HostRuntime) {
+    for size in [1, 7, 4096] {
+        expect_lines(&rt, Detail::Lines, LINES, size);
+        expect_lines(&rt, Detail::Counts, &LINES[12..], size);
+    }
+}
+
+/// Follows the record, whose reader fails behind so many bytes, and asserts what is printed.
+fn expect_failed_read<R: Abort + AllocGlobal>(rt: &R, detail: Detail, taken: usize, lines: &str) {
+    let mut source = MemorySource::failing_after(HEARTBEAT.as_bytes(), 1, taken);
+    let mut out = MemorySink::new(rt.alloc(), WRITE_SIZE);
+    let status = followed(rt.alloc(), detail, &mut source, &mut out);
+    assert_eq!(rt; (out.bytes(), status), (lines.as_bytes(), 1));
+}
+
+// The reader fails behind each front of the record, and behind all of it.
+#[test]
+fn a_reader_that_fails_is_told(rt: HostRuntime) -> Result<(), Fail> {
+    for taken in 0..=HEARTBEAT.len() {
+        let line = format!(in rt.alloc(); "fault F14 Read after {taken}\n")?;
+        expect_failed_read(&rt, Detail::Counts, taken, line.as_str());
+    }
+    let lines = "1 HEARTBEAT\nfault F14 Read after 23\n";
+    expect_failed_read(&rt, Detail::Lines, 23, lines);
+    Ok(())
+}
+
+/// Follows the record, whose writer stops behind so many bytes, and asserts that those are written.
+fn expect_cut<R: Abort + AllocGlobal>(
+    rt: &R,
+    detail: Detail,
+    lines: &str,
+    good: usize,
+    stop: MemoryStop,
+) {
+    let mut source = MemorySource::new(HEARTBEAT.as_bytes(), 7);
+    let mut out = MemorySink::stopping_after(rt.alloc(), WRITE_SIZE, good, stop);
+    let status = followed(rt.alloc(), detail, &mut source, &mut out);
+    assert_eq!(rt;
+        (Some(out.bytes()), status),
+        (lines.as_bytes().get(..good), 1)
+    );
+}
+
+// The writer fails, or takes no more, behind each front of the lines.
+#[test]
+fn lines_are_cut_where_the_writer_stops(rt: HostRuntime) {
+    for good in 0..LINES.len() {
+        expect_cut(&rt, Detail::Lines, LINES, good, MemoryStop::Fails);
+        expect_cut(&rt, Detail::Lines, LINES, good, MemoryStop::TakesNone);
+    }
+    for good in 0..LINES.len() - 12 {
+        expect_cut(&rt, Detail::Counts, &LINES[12..], good, MemoryStop::Fails);
+        expect_cut(
+            &rt,
+            Detail::Counts,
+            &LINES[12..],
+            good,
+            MemoryStop::TakesNone,
+        );
+    }
+}
+
+/// Converts the record into plain RecordIO, whose writer stops behind so many bytes, and asserts what is written and told.
+fn expect_stopped<R: Abort + AllocGlobal>(rt: &R, good: usize, stop: MemoryStop, line: &str) {
+    let mut source = MemorySource::new(HEARTBEAT.as_bytes(), 7);
+    let mut out = MemorySink::stopping_after(rt.alloc(), WRITE_SIZE, good, stop);
+    let mut err = MemorySink::new(rt.alloc(), WRITE_SIZE);
+    let status = convert(
+        rt.alloc(),
+        Framing::Plain,
+        Limit::USUAL,
+        None,
+        &mut source,
+        &mut out,
+        &mut err,
+    );
+    assert_eq!(rt;
+        (Some(out.bytes()), status),
+        (HEARTBEAT.as_bytes().get(..good), 1)
+    );
+    assert_eq!(rt; err.bytes(), line.as_bytes());
+}
+
+// The writer fails, or takes no more, behind each front of the record.
+#[test]
+fn a_writer_that_stops_is_told(rt: HostRuntime) -> Result<(), Fail> {
+    for good in 0..HEARTBEAT.len() {
+        let line = format!(in rt.alloc(); "write failed after {good}\n")?;
+        expect_stopped(&rt, good, MemoryStop::Fails, line.as_str());
+        expect_stopped(&rt, good, MemoryStop::TakesNone, line.as_str());
+    }
+    Ok(())
+}

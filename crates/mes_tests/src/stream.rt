@@ -83,6 +83,12 @@ fn letter(out: &Out<Event>) -> u8 {
     }
 }
 
+// The letter of the answer to a piece, and how many bytes it used.
+fn told(decoder: &mut Decoder<EventReader>, piece: &[u8]) -> (u8, usize) {
+    let step = decoder.next(piece);
+    (letter(&step.out), step.used)
+}
+
 // Takes a piece until it is used up; adds all answers but `More`, each with the bytes used then. Answers how many were used,
 // or nothing behind the end or a fault.
 fn take_piece(
@@ -97,10 +103,10 @@ fn take_piece(
         if rest.is_empty() {
             break;
         }
-        let step = decoder.next(rest);
-        total = total.saturating_add(step.used);
-        rest = &rest[step.used..];
-        match letter(&step.out) {
+        let (answer, used) = told(decoder, rest);
+        total = total.saturating_add(used);
+        rest = rest.get(used..).ok_or("no more is used than there is")?;
+        match answer {
             b'M' => {}
             b'E' => found.push((b'E', total))?,
             last => {
@@ -201,44 +207,34 @@ fn bytes_one_by_one(rt: HostRuntime) -> Result<(), Fail> {
     assert_eq!(rt; stream.len(), 143);
     let mut decoder = decoder(rt.alloc());
     for (at, byte) in stream.iter().enumerate() {
-        let step = decoder.next(&[*byte]);
-        assert_eq!(rt; step.used, 1);
         let expected = match at {
             135 => b'E',
             142 => b'C',
             _ => b'M',
         };
-        assert_eq!(rt; letter(&step.out), expected, "{at}");
+        assert_eq!(rt; told(&mut decoder, &[*byte]), (expected, 1), "{at}");
         assert_eq!(rt; decoder.finish().is_ok(), at == 142);
     }
-    let again = decoder.next(b"more");
-    assert_eq!(rt; again.used, 0);
-    assert_eq!(rt; letter(&again.out), b'C');
+    assert_eq!(rt; told(&mut decoder, b"more"), (b'C', 0));
     Ok(())
 }
 
 #[test]
 fn a_piece_with_two_records(rt: HostRuntime) {
     let mut decoder = decoder(rt.alloc());
-    let first = decoder.next(TWO_AND_MORE);
-    assert_eq!(rt; (letter(&first.out), first.used), (b'E', 27));
-    let second = decoder.next(&TWO_AND_MORE[27..]);
-    assert_eq!(rt; (letter(&second.out), second.used), (b'E', 23));
-    let third = decoder.next(&TWO_AND_MORE[50..]);
-    assert_eq!(rt; (letter(&third.out), third.used), (b'M', 5));
+    assert_eq!(rt; told(&mut decoder, TWO_AND_MORE), (b'E', 27));
+    assert_eq!(rt; told(&mut decoder, &TWO_AND_MORE[27..]), (b'E', 23));
+    assert_eq!(rt; told(&mut decoder, &TWO_AND_MORE[50..]), (b'M', 5));
     assert!(rt; matches!(decoder.finish(), Err(Fault::EndsInsideChunks)));
 }
 
 #[test]
 fn a_fault_is_kept_and_nothing_is_held(rt: HostRuntime) {
     let mut decoder = decoder(rt.alloc());
-    let open = decoder.next(b"20\r\n40\n{\"type\":\"ERR");
-    assert_eq!(rt; letter(&open.out), b'M');
+    assert_eq!(rt; told(&mut decoder, b"20\r\n40\n{\"type\":\"ERR").0, b'M');
     assert_eq!(rt; decoder.held(), 7);
-    let long = decoder.next(b"01234567890123456X");
-    assert_eq!(rt; (letter(&long.out), long.used), (b'4', 18));
+    assert_eq!(rt; told(&mut decoder, b"01234567890123456X"), (b'4', 18));
     assert_eq!(rt; decoder.held(), 0);
-    let again = decoder.next(b"0\r\n\r\n");
-    assert_eq!(rt; (letter(&again.out), again.used), (b'4', 0));
+    assert_eq!(rt; told(&mut decoder, b"0\r\n\r\n"), (b'4', 0));
     assert!(rt; matches!(decoder.finish(), Err(Fault::Frame(FrameFault::BadChunkEnd))));
 }

@@ -4,8 +4,6 @@
 mod command;
 mod options;
 mod run;
-#[cfg(test)]
-mod tests;
 mod words;
 
 use mes_frame::FromStd;

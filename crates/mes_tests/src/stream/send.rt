@@ -35,9 +35,10 @@ fn expect_line(rt: &impl Abort, fault: &SendFault, expected: &str) {
 #[test]
 fn a_heartbeat_in_chunks_of_one_byte(rt: HostRuntime) -> Result<(), Fail> {
     let expected = heartbeat_by_bytes(rt.alloc())?;
+    let events = events_of(rt.alloc(), HEARTBEAT)?;
     assert_eq!(rt; expected.len(), 143);
     let mut sink = MemorySink::new(rt.alloc(), 64);
-    let sent = write_stream(rt.alloc(), &mut sink, &[Event::Heartbeat], Limit::USUAL, 1);
+    let sent = write_stream(rt.alloc(), &mut sink, events.as_slice(), Limit::USUAL, 1);
     assert_eq!(rt; sent, Ok(()));
     assert_eq!(rt; sink.bytes(), expected.as_slice());
     Ok(())
@@ -46,9 +47,10 @@ fn a_heartbeat_in_chunks_of_one_byte(rt: HostRuntime) -> Result<(), Fail> {
 #[test]
 fn a_writer_that_fails_after_each_byte(rt: HostRuntime) -> Result<(), Fail> {
     let whole = heartbeat_by_bytes(rt.alloc())?;
+    let events = events_of(rt.alloc(), HEARTBEAT)?;
     for good in 0..143 {
         let mut sink = MemorySink::stopping_after(rt.alloc(), 64, good, MemoryStop::Fails);
-        let sent = write_stream(rt.alloc(), &mut sink, &[Event::Heartbeat], Limit::USUAL, 1);
+        let sent = write_stream(rt.alloc(), &mut sink, events.as_slice(), Limit::USUAL, 1);
         let stopped = WriteFault {
             sent: good as u64,
             why: WriteWhy::Device,
@@ -61,25 +63,21 @@ fn a_writer_that_fails_after_each_byte(rt: HostRuntime) -> Result<(), Fail> {
 }
 
 #[test]
-fn a_writer_that_takes_none(rt: HostRuntime) {
+fn a_writer_that_takes_none(rt: HostRuntime) -> Result<(), Fail> {
     let stopped = SendFault::Write(WriteFault {
         sent: 0,
         why: WriteWhy::Zero,
     });
+    let events = events_of(rt.alloc(), HEARTBEAT)?;
     let mut chunked = MemorySink::stopping_after(rt.alloc(), 64, 0, MemoryStop::TakesNone);
-    let sent = write_stream(
-        rt.alloc(),
-        &mut chunked,
-        &[Event::Heartbeat],
-        Limit::USUAL,
-        1,
-    );
+    let sent = write_stream(rt.alloc(), &mut chunked, events.as_slice(), Limit::USUAL, 1);
     assert_eq!(rt; sent, Err(stopped));
     let mut plain = MemorySink::stopping_after(rt.alloc(), 64, 0, MemoryStop::TakesNone);
-    let sent = write_plain(rt.alloc(), &mut plain, &[Event::Heartbeat], Limit::USUAL);
+    let sent = write_plain(rt.alloc(), &mut plain, events.as_slice(), Limit::USUAL);
     assert_eq!(rt; sent, Err(stopped));
     assert_eq!(rt; plain.bytes(), b"".as_slice());
     expect_line(&rt, &stopped, "write failed after 0");
+    Ok(())
 }
 
 // The record has 98 bytes of text, the event's canonical text two more.
@@ -130,7 +128,8 @@ fn deep_event(alloc: Global) -> Result<Event, Fail> {
 // It is too large for the limit too, which is told of events that aren't too deep.
 #[test]
 fn an_event_that_nests_too_deep(rt: HostRuntime) -> Result<(), Fail> {
-    let events = [Event::Heartbeat, deep_event(rt.alloc())?];
+    let mut events = events_of(rt.alloc(), HEARTBEAT)?;
+    events.push(deep_event(rt.alloc())?)?;
     let limit = Limit::new(98).ok_or("a limit")?;
     let mut sink = MemorySink::new(rt.alloc(), 64);
     let fault = SendFault::Encode {
@@ -138,7 +137,7 @@ fn an_event_that_nests_too_deep(rt: HostRuntime) -> Result<(), Fail> {
         why: EncodeWhy::TooDeep,
     };
     assert_eq!(rt;
-        write_plain(rt.alloc(), &mut sink, &events, limit),
+        write_plain(rt.alloc(), &mut sink, events.as_slice(), limit),
         Err(fault)
     );
     assert_eq!(rt; sink.counts().calls, 0);

@@ -1,0 +1,81 @@
+//! Events and calls read from JSON texts: what is written of each, or the path and the reason of the first fault.
+
+mod calls;
+mod encode;
+mod faults;
+mod show;
+mod written;
+
+use crate::support::{expect_fault, field_fault_of, row_of};
+use mes_json::read_text;
+use mes_model::Part;
+use mes_msg::{EncodeFault, Event, Limit};
+use std::alloc::{AllocGlobal, Global};
+use std::process::Abort;
+use std::test::Fail;
+
+/// Each text has its first fault there.
+fn expect_faults<R: Abort + AllocGlobal>(rt: &R, faults: &str) -> Result<(), Fail> {
+    for line in faults.lines() {
+        let (text, fault) = row_of(line)?;
+        let answer = Event::read_record(rt.alloc(), text.as_bytes());
+        expect_fault(rt, text, field_fault_of(answer), fault)?;
+    }
+    Ok(())
+}
+
+/// The canonical text of an event that has one.
+fn canon(event: &Event, alloc: Global, limit: Limit) -> Result<Vec<u8>, Fail> {
+    match event.canon(alloc, limit) {
+        Ok(text) => Ok(text),
+        Err(_) => Err("a canonical text")?,
+    }
+}
+
+/// The event has this canonical text, within a limit of just its length.
+fn expect_canon<R: Abort + AllocGlobal>(rt: &R, event: &Event, written: &str) -> Result<(), Fail> {
+    let length = written.len().min(16_777_216) as u32;
+    let limit = Limit::new(length).ok_or("a limit")?;
+    let out = canon(event, rt.alloc(), limit)?;
+    assert_eq!(rt; out.as_slice(), written.as_bytes());
+    let below = Limit::new(length.saturating_sub(1)).ok_or("a limit")?;
+    let refused = event.canon(rt.alloc(), below);
+    assert!(rt; matches!(refused, Err(EncodeFault::TooLarge)), "{written}");
+    Ok(())
+}
+
+/// Each text is an event, whose canonical text and that of its copy is this one; its tree is the same event.
+fn expect_events<R: Abort + AllocGlobal>(rt: &R, events: &str) -> Result<(), Fail> {
+    for line in events.lines() {
+        let (text, written) = row_of(line)?;
+        expect_record(rt, text, written)?;
+        expect_tree(rt, text, written)?;
+    }
+    Ok(())
+}
+
+/// The text is an event with this canonical text, and so is its copy.
+fn expect_record<R: Abort + AllocGlobal>(rt: &R, text: &str, written: &str) -> Result<(), Fail> {
+    match Event::read_record(rt.alloc(), text.as_bytes()) {
+        Ok(event) => {
+            expect_canon(rt, &event, written)?;
+            expect_copy(rt, &event, written)
+        }
+        Err(_) => Err("an event")?,
+    }
+}
+
+/// The copy of the event has this canonical text.
+fn expect_copy<R: Abort + AllocGlobal>(rt: &R, event: &Event, written: &str) -> Result<(), Fail> {
+    let copy = event.copy(rt.alloc())?;
+    expect_canon(rt, &copy, written)
+}
+
+/// The tree of the text is an event with this canonical text.
+fn expect_tree<R: Abort + AllocGlobal>(rt: &R, text: &str, written: &str) -> Result<(), Fail> {
+    let tree = read_text(rt.alloc(), text.as_bytes())?;
+    match Event::of_tree(rt.alloc(), &tree) {
+        Ok(event) => expect_canon(rt, &event, written),
+        Err(_) => Err("an event")?,
+    }
+}

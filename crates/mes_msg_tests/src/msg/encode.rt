@@ -1,0 +1,140 @@
+//! Events that have no canonical text, and the names of other events.
+
+use super::canon;
+use mes_json::Text;
+use mes_msg::{EncodeFault, Event, Limit, OtherName};
+use std::alloc::Global;
+use std::test::Fail;
+
+/// An OFFERS in the form of the bare array, with one offer whose resource has a `disk` of so many objects inside each other.
+fn deep_offers(alloc: Global, objects: usize) -> Result<Vec<u8>, Fail> {
+    let mut text = Vec::new(alloc);
+    text.extend_from_slice(
+        br#"{"type":"OFFERS","offers":[{"id":{"value":"O1"},"framework_id":{"value":"F1"},"agent_id":{"value":"A1"},"hostname":"h","resources":[{"name":"disk","type":"SET","set":{},"disk":"#,
+    )?;
+    for _ in 1..objects {
+        text.extend_from_slice(br#"{"a":"#)?;
+    }
+    text.extend_from_slice(b"{}")?;
+    for _ in 1..objects {
+        text.extend_from_slice(b"}")?;
+    }
+    text.extend_from_slice(b"}]}]}")?;
+    Ok(text)
+}
+
+/// The event of that text.
+fn deep_event(alloc: Global, objects: usize) -> Result<Event, Fail> {
+    let text = deep_offers(alloc, objects)?;
+    match Event::read_record(alloc, text.as_slice()) {
+        Ok(event) => Ok(event),
+        Err(_) => Err("an event")?,
+    }
+}
+
+/// The canonical text of that event.
+fn deep_canon(alloc: Global, objects: usize) -> Result<Vec<u8>, Fail> {
+    let event = deep_event(alloc, objects)?;
+    canon(&event, alloc, Limit::MOST)
+}
+
+/// Why that event has no canonical text within the limit, if it has none.
+fn refused(alloc: Global, objects: usize, limit: Limit) -> Result<Option<EncodeFault>, Fail> {
+    let event = deep_event(alloc, objects)?;
+    Ok(event.canon(alloc, limit).err())
+}
+
+// The text nests 64 deep, 5 of them around `disk`; the body that is written is an object, so there it would be 65.
+#[test]
+fn deep_events_are_refused(rt: HostRuntime) -> Result<(), Fail> {
+    let smallest = Limit::new(1).ok_or("a limit")?;
+    for limit in [Limit::MOST, smallest] {
+        let why = refused(rt.alloc(), 59, limit)?;
+        assert!(rt; matches!(why, Some(EncodeFault::TooDeep)));
+    }
+    Ok(())
+}
+
+// What is written nests 64 deep, and has 11 bytes more than the text: `{"offers":` and `}`.
+#[test]
+fn events_nest_to_the_limit(rt: HostRuntime) -> Result<(), Fail> {
+    let text = deep_offers(rt.alloc(), 58)?;
+    let written = deep_canon(rt.alloc(), 58)?;
+    assert_eq!(rt; written.len(), text.len() + 11);
+    Ok(())
+}
+
+#[test]
+fn deep_events_have_their_bytes_counted(rt: HostRuntime) -> Result<(), Fail> {
+    let smallest = Limit::new(1).ok_or("a limit")?;
+    let why = refused(rt.alloc(), 58, smallest)?;
+    assert!(rt; matches!(why, Some(EncodeFault::TooLarge)));
+    Ok(())
+}
+
+/// What is written of the event of a text.
+fn rewritten(alloc: Global, text: &[u8]) -> Result<Vec<u8>, Fail> {
+    match Event::read_record(alloc, text) {
+        Ok(event) => canon(&event, alloc, Limit::MOST),
+        Err(_) => Err("an event")?,
+    }
+}
+
+#[test]
+fn what_is_written_is_read_again(rt: HostRuntime) -> Result<(), Fail> {
+    let written = deep_canon(rt.alloc(), 58)?;
+    let again = rewritten(rt.alloc(), written.as_slice())?;
+    assert_eq!(rt; again.as_slice(), written.as_slice());
+    Ok(())
+}
+
+/// The types of events whose bodies are read.
+const KNOWN: [&str; 8] = [
+    "SUBSCRIBED",
+    "OFFERS",
+    "RESCIND",
+    "UPDATE",
+    "MESSAGE",
+    "FAILURE",
+    "ERROR",
+    "HEARTBEAT",
+];
+
+/// Names of other events.
+const OTHER: [&str; 6] = [
+    "",
+    "INVERSE_OFFERS",
+    "RESCIND_INVERSE_OFFER",
+    "UPDATE_OPERATION_STATUS",
+    "offers",
+    "OFFERS ",
+];
+
+/// Whether the name is handed back, since it is known.
+fn is_handed_back(alloc: Global, name: &str) -> Result<bool, Fail> {
+    let text = Text::new(String::from_str(alloc, name)?);
+    match OtherName::new(text) {
+        Ok(_) => Ok(false),
+        Err(text) => Ok(text.as_str() == name),
+    }
+}
+
+/// Whether the name is that of another event, and so is its copy.
+fn is_other(alloc: Global, name: &str) -> Result<bool, Fail> {
+    let text = Text::new(String::from_str(alloc, name)?);
+    match OtherName::new(text) {
+        Ok(other) => Ok(other.as_str() == name && other.copy(alloc)?.as_str() == name),
+        Err(_) => Ok(false),
+    }
+}
+
+#[test]
+fn known_names_are_handed_back(rt: HostRuntime) -> Result<(), Fail> {
+    for name in KNOWN {
+        assert!(rt; is_handed_back(rt.alloc(), name)?, "{name}");
+    }
+    for name in OTHER {
+        assert!(rt; is_other(rt.alloc(), name)?, "{name}");
+    }
+    Ok(())
+}

@@ -1,0 +1,57 @@
+//! What the tests of parts and of messages ask.
+//!
+//! A table is a text with a row on each line: `TEXT => PATH WHY` for a text with a fault, `TEXT => WRITTEN` for one that is a value.
+//! A check of a table of literals takes as long as it has rows, and of one text no time. An event or a call that lives on in a
+//! function makes each later step of it dear to check, so the functions that make one are small.
+
+use arrayvec::ArrayString;
+use mes_json::Why;
+use mes_msg::RecordFault;
+use mes_part::{FieldFault, PATH_TEXT_MOST, PartFault};
+use std::process::Abort;
+use std::test::Fail;
+
+/// The two sides of a row.
+pub(crate) fn row_of(line: &str) -> Result<(&str, &str), Fail> {
+    Ok(line.split_once(" => ").ok_or("a row has two sides")?)
+}
+
+/// The fault of an answer that tells one.
+pub(crate) fn part_fault_of<T: Drop>(answer: Result<T, PartFault>) -> Option<FieldFault> {
+    match answer.err()? {
+        PartFault::Field(fault) => Some(fault.into_fault()),
+        PartFault::NoMemory => None,
+    }
+}
+
+/// The fault of an answer that tells one of a field.
+pub(crate) fn field_fault_of<T: Drop>(answer: Result<T, RecordFault>) -> Option<FieldFault> {
+    match answer.err()? {
+        RecordFault::Field(fault) => Some(fault.into_fault()),
+        RecordFault::Text(_) | RecordFault::NoMemory => None,
+    }
+}
+
+/// The byte and the reason of an answer that tells a fault of the text.
+pub(crate) fn text_fault_of<T: Drop>(answer: Result<T, RecordFault>) -> Option<(u64, Why)> {
+    match answer.err()? {
+        RecordFault::Text(fault) => Some((fault.byte, fault.why)),
+        RecordFault::Field(_) | RecordFault::NoMemory => None,
+    }
+}
+
+/// The fault is told, with this path and why.
+pub(crate) fn expect_fault<R: Abort>(
+    rt: &R,
+    text: &str,
+    fault: Option<FieldFault>,
+    expected: &str,
+) -> Result<(), Fail> {
+    let fault = fault.ok_or("a fault")?;
+    let (path, why) = expected.split_once(' ').ok_or("a path and why")?;
+    let mut path_text: ArrayString<PATH_TEXT_MOST> = ArrayString::new();
+    fault.path.text(&mut path_text);
+    assert_eq!(rt; path_text.as_str(), path, "{text}");
+    assert_eq!(rt; fault.why.name(), why, "{text}");
+    Ok(())
+}
