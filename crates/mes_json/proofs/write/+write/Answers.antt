@@ -40,7 +40,7 @@ write_value-returns-in-Bool-false t c =
 pub write_value-returns-in-Num : goal.write_value-returns-in-Num
 write_value-returns-in-Num t c = record {
   written = tree_written c.append-in-Num.result _ (number c.in-Num.number) _ _ (is_number _ _ c.in-Num.is)
-    (ok_map c.append-in-Num.result (λ _ h. h ∙ ap (λ (x : List ℕ). c.args.out.now.items ++ x) (c.as_bytes.ensures.value ∙ c.as_str.ensures.text)) c.append-in-Num.ensures.written);
+      (ok_map c.append-in-Num.result (λ _ h. h ∙ ap (λ (x : List ℕ). c.args.out.now.items ++ x) (c.as_bytes.ensures.value ∙ c.as_str.ensures.text)) c.append-in-Num.ensures.written);
   writable = tree_writable c.append-in-Num.result _ (number c.in-Num.number) (is_number _ _ c.in-Num.is) (always c.append-in-Num.result c.as_str.ensures.number);
   front = c.append-in-Num.ensures.front;
 }
@@ -138,7 +138,7 @@ write_items-returns-in_err-write_value-2 t c = record {
   written = IfOk-from_err c.from_residual-in_err-write_value-2.result _ c.from_residual-in_err-write_value-2.ensures.0;
   writable = IfOk-from_err c.from_residual-in_err-write_value-2.result _ c.from_residual-in_err-write_value-2.ensures.0;
   front = extends_then _ _ _ (extends_then _ _ _ (extends_then _ _ _ c.write_value.ensures.front (extended _ _ _ c.loop-item.invariant.0)) c.append.ensures.front)
-    c.write_value-in-loop-item.ensures.front;
+      c.write_value-in-loop-item.ensures.front;
 }
 
 pub write_items-returns-in_default : goal.write_items-returns-in_default
@@ -151,7 +151,7 @@ write_items-returns-in_default t c = record {
 pub write_items-returns-after-loop-item : goal.write_items-returns-after-loop-item
 write_items-returns-after-loop-item t c = record {
   written = items_written c.args.items.now c.first-item.result c.loop-item.item-index _ _ _
-    c.in-len1-up.len_at_least c.first-item.is c.loop-item-test.false c.in_ok-write_value.ensures.written c.loop-item.invariant.0;
+      c.in-len1-up.len_at_least c.first-item.is c.loop-item-test.false c.in_ok-write_value.ensures.written c.loop-item.invariant.0;
   writable = items_writable c.args.items.now c.first-item.result c.loop-item.item-index c.first-item.is c.loop-item-test.false c.in_ok-write_value.ensures.writable c.loop-item.invariant.1;
   front = extends_then _ _ _ c.write_value.ensures.front (extended _ _ _ c.loop-item.invariant.0);
 }
@@ -182,7 +182,7 @@ write_members-returns-in_err-write_member-2 t c = record {
   written = IfOk-from_err c.from_residual-in_err-write_member-2.result _ c.from_residual-in_err-write_member-2.ensures.0;
   writable = IfOk-from_err c.from_residual-in_err-write_member-2.result _ c.from_residual-in_err-write_member-2.ensures.0;
   front = extends_then _ _ _ (extends_then _ _ _ (extends_then _ _ _ c.write_member.ensures.front (extended _ _ _ c.loop-name.invariant.0)) c.append.ensures.front)
-    c.write_member-in-loop-name.ensures.front;
+      c.write_member-in-loop-name.ensures.front;
 }
 
 pub write_members-returns-in_default : goal.write_members-returns-in_default
@@ -195,7 +195,7 @@ write_members-returns-in_default t c = record {
 pub write_members-returns-after-loop-name : goal.write_members-returns-after-loop-name
 write_members-returns-after-loop-name t c = record {
   written = members_written c.args.members.now c.index-members-0.result c.index-members-0-2.result c.loop-name.name-index _ _ _
-    c.in-len1-up.len_at_least c.loop-name-test.false c.in_ok-write_member.ensures.written c.loop-name.invariant.0;
+      c.in-len1-up.len_at_least c.loop-name-test.false c.in_ok-write_member.ensures.written c.loop-name.invariant.0;
   writable = members_writable c.args.members.now c.index-members-0.result c.index-members-0-2.result c.loop-name.name-index c.loop-name-test.false c.in_ok-write_member.ensures.writable c.loop-name.invariant.1;
   front = extends_then _ _ _ c.write_member.ensures.front (extended _ _ _ c.loop-name.invariant.0);
 }
@@ -218,8 +218,8 @@ write_member-returns-in_err-append t c = record {
 pub write_member-returns : goal.write_member-returns
 write_member-returns t c = record {
   written =
-    ok_map c.write_value.result (λ _ h. after_colon c.args.out.now.items (quoted_text c.args.name.now) _ _ _ _ c.in_ok-write_quoted.ensures.written c.in_ok-append.ensures.written h)
-    c.write_value.ensures.written;
+      ok_map c.write_value.result (λ _ h. after_colon c.args.out.now.items (quoted_text c.args.name.now) _ _ _ _ c.in_ok-write_quoted.ensures.written c.in_ok-append.ensures.written h)
+      c.write_value.ensures.written;
   writable = ok_map c.write_value.result (λ _ h. (c.in_ok-write_quoted.ensures.utf8, h)) c.write_value.ensures.writable;
   front = extends_then _ _ _ (extends_then _ _ _ c.write_quoted.ensures.front c.append.ensures.front) c.write_value.ensures.front;
 }

@@ -23,8 +23,8 @@ loop-at-preserved c = elim c.if-is_escaped.branch [
 pub returns : goal.returns
 returns c = record {
   written =
-    ok_map c.append-2.result (λ _ h. run_done c.args.bytes.now c.loop-at.from c.loop-at.at _ _ _ c.loop-at-test.false c.loop-at.auto.at-end c.loop-at.invariant.1 h)
-    c.append-2.ensures.written;
+      ok_map c.append-2.result (λ _ h. run_done c.args.bytes.now c.loop-at.from c.loop-at.at _ _ _ c.loop-at-test.false c.loop-at.auto.at-end c.loop-at.invariant.1 h)
+      c.append-2.ensures.written;
   front = extends_then _ _ _ c.loop-at.invariant.2 c.append-2.ensures.front;
 }
 
