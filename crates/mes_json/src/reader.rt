@@ -17,7 +17,7 @@ use crate::memory::NoMemory;
 use crate::nesting::Open;
 use crate::plain::append_front;
 use crate::stop::Stop;
-use crate::tape::{Node, Tape, text_place};
+use crate::tape::{Node, Tape, text_span};
 use crate::utf8::Mid;
 use crate::word::{Said, Word};
 use arrayvec::ArrayVec;
@@ -491,6 +491,7 @@ impl Reader {
     /// The string that is read ends.
     #[inline(always)]
     fn end_string(&mut self, purpose: Purpose) -> Result<(), Stop>
+        requires { self.old.start ≤ length self.old.text.items }
         ensures ok { OnOk result (Puts self.old self.old.nesting.items (string_node purpose self.old) (behind_string purpose) self.new) }
         ensures err { IfErr result (λ e. e ≡ no_memory) }
     {
@@ -500,10 +501,10 @@ impl Reader {
     /// The same, where no byte can be refused.
     #[inline(always)]
     fn close_string(&mut self, purpose: Purpose) -> Result<(), NoMemory>
+        requires { self.old.start ≤ length self.old.text.items }
         ensures { OnOk result (Puts self.old self.old.nesting.items (string_node purpose self.old) (behind_string purpose) self.new) }
     {
-        let from = text_place(self.start)?;
-        let to = text_place(self.text.len())?;
+        let (from, to) = text_span(self.start, self.text.len())?;
         match purpose {
             Purpose::Name => {
                 self.nodes.push(Node::Name { from, to })?;
@@ -528,10 +529,10 @@ impl Reader {
 
     /// The number that is read ends.
     fn end_number(&mut self) -> Result<(), NoMemory>
+        requires { self.old.start ≤ length self.old.text.items }
         ensures ok { OnOk result (Puts self.old self.old.nesting.items (Node.Number self.old.start (length self.old.text.items)) At.After self.new) }
     {
-        let from = text_place(self.start)?;
-        let to = text_place(self.text.len())?;
+        let (from, to) = text_span(self.start, self.text.len())?;
         self.nodes.push(Node::Number { from, to })?;
         self.at = At::After;
         Ok(())

@@ -118,6 +118,16 @@ pub(crate) fn text_place(place: usize) -> Result<u32, NoMemory>
     Ok(place as u32)
 }
 
+/// Where a text begins and ends, as nodes keep it; want of memory where the buffer has more than `TEXTS_MOST` bytes up to its end.
+#[inline(always)]
+pub(crate) fn text_span(from: usize, to: usize) -> Result<(u32, u32), NoMemory>
+    requires { from ≤ to }
+    ensures { IfOk result (λ span. (span.0 ≡ from) × (span.1 ≡ to)) }
+{
+    let to = text_place(to)?;
+    Ok((from as u32, to))
+}
+
 /// The text of a span.
 pub(crate) fn span_text(texts: &[u8], from: u32, to: u32) -> &str
     requires { IsSpan texts.now from to }

@@ -1,12 +1,17 @@
 -- The rows of an object, found member by member.
-use Rattle.std.proofs.Common.{◌≡◌, ℕ, suc, ◌+◌, ◌<◌, Bool, true, false, List, [], ◌∷◌, ◌++◌, length, get_or, cond, bytes_eq, Some, None, refl, sym, ◌∙◌, ap, subst, arith, append-nil, append_assoc, length-append}
+use Rattle.std.proofs.Common.{◌≡◌, ◌||◌, ℕ, zero, suc, ◌+◌, ◌<◌, ◌≤◌, inl, inr, set, Bool, true, false, List, [], ◌∷◌, ◌++◌, length, get_or, cond, bytes_eq, Some, None, refl, sym, ◌∙◌, ap, subst, arith, append-nil, append_assoc, length-append}
+use Rattle.std.proofs.lemmas.Grind.{common_steps}
+use Rattle.std.proofs.lemmas.List.{get_or-set_same, get_or-set_other}
+use Rattle.std.proofs.lemmas.Bool.{cases_lt}
+use Rattle.std.specs.List.{refill}
 use Rattle.mes_json.specs.Tree.{Tree, Members}
 use Rattle.mes_json.specs.Tree.Tree.{null, boolean, number, string, array, object}
 use Rattle.mes_json.specs.Tree.Members.{no_members, member}
 use Rattle.mes_json.specs.Tokens.{Token, BeginsWith, BeginsMembers}
 use Rattle.mes_json.specs.Cursor.{as_members, FindsMembers, NextMember}
 use Rattle.mes_part.specs.Paths.{Place}
-use Rattle.mes_part.specs.Fields.{values_named, fault}
+use Rattle.mes_part.specs.Fields.{values_named, fault, is_in}
+use Rattle.mes_part.specs.NameLaws.{distinct, distinct_first, names_equal, names_differ, same_name}
 use Rattle.mes_part.specs.Leaves.{members_at}
 use Rattle.mes_part.specs.Objects.{members_in}
 use Rattle.mes_part.specs.FoundRows.{IsFound, noted, noted_if, FindsEach}
@@ -98,3 +103,43 @@ pub finds_all : (fs : List Found) (names : List (List ℕ)) (ms : Members)
     → ((j : ℕ) → j < length names → IsFound (get_or fs j Nothing) (values_named (get_or names j []) ms)) → FindsEach 0 names ms fs
 finds_all fs names ms each =
     finds_each 0 fs names ms (λ j inside. subst (λ (k : ℕ). IsFound (get_or fs k Nothing) (values_named (get_or names j []) ms)) (omega arith) (each j inside))
+
+-- ---- names that stand once
+names_behind : (n : List ℕ) (ns : List (List ℕ)) (k : ℕ) → is_in n ns ≡ false → k < length ns → bytes_eq (get_or ns k []) n ≡ false
+names_behind n [] k none inside = absurd (omega (arith, inside))
+names_behind n (m ∷ ms) zero none inside = by_test (bytes_eq m n) refl none where
+  by_test : (x : Bool) → bytes_eq m n ≡ x → (x || is_in n ms) ≡ false → x ≡ false
+  by_test false e h = refl
+  by_test true e h = absurd (cc)
+names_behind n (m ∷ ms) (suc k) none inside = names_behind n ms k (by_test (bytes_eq m n) none) (omega (arith, inside)) where
+  by_test : (x : Bool) → (x || is_in n ms) ≡ false → is_in n ms ≡ false
+  by_test false h = h
+  by_test true h = absurd (cc)
+
+-- a member that has one of them has none behind it
+pub named_once : (x : List ℕ) (ns : List (List ℕ)) (i k : ℕ) → distinct ns ≡ true → bytes_eq x (get_or ns i []) ≡ true → i < k → k < length ns → bytes_eq x (get_or ns k []) ≡ false
+named_once x [] i k once is less inside = absurd (omega (arith, inside))
+named_once x (n ∷ ns) i zero once is less inside = absurd (omega (arith, less))
+named_once x (n ∷ ns) zero (suc k) once is less inside =
+    let other = names_behind n ns k (distinct_first n ns once).0 (omega (arith, inside)) in
+    names_differ x (get_or ns k []) (λ e.
+    let yes : bytes_eq (get_or ns k []) n ≡ true = subst (λ (y : List ℕ). bytes_eq y n ≡ true) (sym (names_equal x n is) ∙ e) (same_name n) in absurd (cc))
+named_once x (n ∷ ns) (suc i) (suc k) once is less inside = named_once x ns i k (distinct_first n ns once).1 is (omega (arith, less)) (omega (arith, inside))
+
+-- it is noted under that one alone
+pub noted_once : (fs : List Found) (names : List (List ℕ)) (x : List ℕ) (e : List Token) (place : ℕ) → distinct names ≡ true → place < length names → length names ≤ length fs
+    → bytes_eq x (get_or names place []) ≡ true → ((k : ℕ) → k < place → bytes_eq x (get_or names k []) ≡ false)
+    → (i : ℕ) → i < length names → get_or (set fs place (noted e (get_or fs place Nothing))) i Nothing ≡ noted_if (bytes_eq x (get_or names i [])) e (get_or fs i Nothing)
+noted_once fs names x e place once here room is before i inside = elim (cases_lt i place) [
+  | inl less ↦ get_or-set_other fs place i (noted e (get_or fs place Nothing)) Nothing (λ same. absurd (omega (arith, less, same))) ∙ rw (before i less) refl
+  | inr rest ↦ elim (cases_lt place i) [
+    | inl more ↦ get_or-set_other fs place i (noted e (get_or fs place Nothing)) Nothing (λ same. absurd (omega (arith, more, same))) ∙ rw (named_once x names place i once is more inside) refl
+    | inr behind ↦
+        let at : place ≡ i = omega (arith, rest, behind) in
+        subst (λ (k : ℕ). get_or (set fs place (noted e (get_or fs place Nothing))) k Nothing ≡ noted_if (bytes_eq x (get_or names k [])) e (get_or fs k Nothing)) at
+        (get_or-set_same fs place (noted e (get_or fs place Nothing)) Nothing (omega (arith, here, room)) ∙ rw is refl)
+  ]
+]
+
+pub refilled : (fs gs : List Found) → length gs ≡ length fs → refill (length fs) fs gs ≡ gs
+refilled fs gs same = grind (arith, common_steps)

@@ -1,9 +1,10 @@
 //! The rows of an object, found in one pass over its members.
 
-ghost use Rattle.std.specs.Prelude.{◌≡◌, ℕ, ◌<◌, ◌≤◌, [], length, map, bytes_eq, slice_index_or};
+ghost use Rattle.std.specs.Prelude.{◌≡◌, true, ℕ, ◌<◌, ◌≤◌, [], length, map, bytes_eq, slice_index_or};
 ghost use Rattle.mes_json.specs.Tree.{Tree};
 ghost use Rattle.mes_json.specs.Tokens.{BeginsWith};
 ghost use Rattle.mes_part.specs.FoundRows.{noted, noted_if, FindsRows};
+ghost use Rattle.mes_part.specs.NameLaws.{distinct};
 ghost use Rattle.mes_part.specs.declared.found.Found.TheVariants.{Nothing};
 
 use crate::field::FieldWhy;
@@ -39,6 +40,7 @@ impl<'a> Default for Found<'a> {
 
 impl<'a> Found<'a> {
     /// One more member has the name.
+    #[inline(always)]
     fn note(&mut self, value: &Element<'a>)
         ensures { self.new ≡ noted value.now self.old }
     {
@@ -49,14 +51,16 @@ impl<'a> Found<'a> {
     }
 }
 
-/// What the object at a place has under these names, at most N. Each member is looked at once.
+/// What the object at a place has under these names, at most N, of which none stands twice. Each member is looked at once.
+#[inline(always)]
 pub fn find_rows<'a, const N: usize>(
     alloc: Global,
     element: &Element<'a>,
     names: &[&'static str],
     path: &Trail<'_>,
 ) -> Result<Rows<'a, N>, PartFault>
-    requires { length names.now ≤ N }
+    requires room { length names.now ≤ N }
+    requires once { distinct (map (λ n. n.now) names.now) ≡ true }
     ensures { (t : Tree) → BeginsWith element.now t → FindsRows (map (λ n. n.now) names.now) path.now t result }
 {
     let Some(mut members) = element.members() else {
@@ -70,6 +74,7 @@ pub fn find_rows<'a, const N: usize>(
 }
 
 /// Nothing found under any name.
+#[inline(always)]
 fn nothing_found<'a, const N: usize>() -> ArrayVec<Found<'a>, N>
     ensures none { (i : ℕ) → slice_index_or result.items i Nothing ≡ Nothing }
     ensures all { length result.items ≡ N }
@@ -81,14 +86,16 @@ fn nothing_found<'a, const N: usize>() -> ArrayVec<Found<'a>, N>
     found
 }
 
-/// Notes a member under each of these names that it has.
+/// Notes a member under the one of these names that it has.
+#[inline(always)]
 fn note_member<'a, const N: usize>(
     found: &mut ArrayVec<Found<'a>, N>,
     names: &[&'static str],
     name: &str,
     value: &Element<'a>,
 )
-    requires { length names.now ≤ length found.old.items }
+    requires room { length names.now ≤ length found.old.items }
+    requires once { distinct (map (λ n. n.now) names.now) ≡ true }
     ensures all { length found.new.items ≡ length found.old.items }
     ensures notes { (i : ℕ) → i < length names.now → slice_index_or found.new.items i Nothing
         ≡ noted_if (bytes_eq name.now (slice_index_or (map (λ n. n.now) names.now) i [])) value.now (slice_index_or found.old.items i Nothing) }
@@ -96,6 +103,7 @@ fn note_member<'a, const N: usize>(
     for (i, row) in names.iter().enumerate() {
         if name == *row {
             found[i].note(value);
+            return;
         }
     }
 }

@@ -68,7 +68,7 @@ pub fn follow<I: Source, O: Sink>(
             Ok(ended) => ended,
             Err(halt) => return print_fault(
                 out,
-                &halt.fault,
+                &halt.fault.into_fault(),
                 used.saturating_add(halt.used as u64),
             ),
         };

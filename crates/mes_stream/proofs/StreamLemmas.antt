@@ -1,15 +1,12 @@
 -- What a reader of a stream of either framing stands for, over the fronts of a piece.
-use Rattle.std.proofs.Common.{◌≡◌, ℕ, Option, Result, Ok, Err, List, sym, subst, refl}
+use Rattle.std.proofs.Common.{◌≡◌, ℕ, Option, Result, Ok, Err, List, sym, subst}
 use Rattle.std.specs.Result.{IsErrAnd}
 use Rattle.mes_stream.specs.Stream.{BodyLive}
 use Rattle.mes_stream.specs.Chunked.{Live}
-use Rattle.mes_stream.specs.Decoders.{StateStands, end_at, finish_of}
-use Rattle.mes_stream.specs.Framings.{GoesIn, InputEnds}
+use Rattle.mes_stream.specs.Framings.{GoesIn}
 use Rattle.mes_msg.specs.declared.record.RecordFault.{RecordFault}
 use Rattle.mes_stream.specs.StreamReaders.{StreamStands, StreamFeeds}
 use Rattle.mes_stream.specs.declared.body.Halt.{Halt}
-use Rattle.mes_stream.specs.declared.decoder.State.{State}
-use Rattle.mes_stream.specs.declared.decoder.State.TheVariants as state
 use Rattle.mes_stream.specs.declared.stream_reader.Framing.{Framing}
 use Rattle.mes_stream.specs.declared.stream_reader.Framing.TheVariants.{Plain, Chunked}
 use Rattle.mes_stream.specs.declared.stream_reader.StreamReader.{StreamReader}
@@ -18,24 +15,13 @@ use Rattle.mes_stream.proofs.BodyLemmas.{live_of}
 use Rattle.mes_stream.proofs.ChunkLemmas.{reading_live}
 
 module _ {R E : Type 0} (holds : R → List ℕ → Type 0) (spells : List ℕ → E → Type 0) where
-  -- what a decoder has taken is live
-  pub state_live : (d : State R) (limit : ℕ) (w : List ℕ) (values : List E) → StateStands holds spells d limit w values → Live spells limit w values
-  state_live (state.Going reading) limit w values (stands, same) = subst (λ (n : ℕ). Live spells n w values) same (reading_live holds spells reading w values stands)
-  state_live (state.Ended end) limit w values none = absurd none
-
-  -- the input ends before the stream does
-  pub state_finish : (d : State R) (limit : ℕ) (w : List ℕ) (values : List E) → StateStands holds spells d limit w values
-      → InputEnds Chunked spells limit w values (finish_of (end_at d))
-  state_finish (state.Going reading) limit w values stands = (state_live (state.Going reading) limit w values stands, refl)
-  state_finish (state.Ended end) limit w values none = absurd none
-
   -- what a reader has taken goes on
   pub goes_of : (d : StreamReader R) (framing : Framing) (limit : ℕ) (w : List ℕ) (values : List E) → StreamStands holds spells d framing limit w values → GoesIn framing spells limit w values
   goes_of (reader.Plain body) framing limit w values (is, stands, same) =
       let live : GoesIn Plain spells limit w values = subst (λ (n : ℕ). BodyLive spells n w values) same (live_of holds spells body w values stands) in
       subst (λ (f : Framing). GoesIn f spells limit w values) (sym is) live
-  goes_of (reader.Chunked decoder) framing limit w values (is, stands) =
-      let live : GoesIn Chunked spells limit w values = state_live decoder.state limit w values stands in
+  goes_of (reader.Chunked reading) framing limit w values (is, stands, same) =
+      let live : GoesIn Chunked spells limit w values = subst (λ (n : ℕ). Live spells n w values) same (reading_live holds spells reading w values stands) in
       subst (λ (f : Framing). GoesIn f spells limit w values) (sym is) live
 
   -- a halt that is handed on

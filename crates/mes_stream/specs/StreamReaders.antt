@@ -3,7 +3,7 @@ use Rattle.std.specs.Prelude.{◌≡◌, ℕ, ◌+◌, ◌<◌, ◌≤◌, List,
 use Rattle.mes_frame.specs.RecordState.{limit_of}
 use Rattle.mes_msg.specs.declared.record.RecordFault.{RecordFault}
 use Rattle.mes_stream.specs.Taking.{BodyStands}
-use Rattle.mes_stream.specs.Decoders.{DecoderStands}
+use Rattle.mes_stream.specs.Decoding.{ReadingStands, reading_limit}
 use Rattle.mes_stream.specs.Framings.{EndsIn, StopsWithin}
 use Rattle.mes_stream.specs.declared.body.Halt.{Halt}
 use Rattle.mes_stream.specs.declared.stream_reader.Framing.{Framing}
@@ -15,7 +15,7 @@ use Rattle.mes_stream.specs.declared.stream_reader.StreamReader.TheVariants as r
 -- fault it stands for no bytes.
 abbrev pub StreamStands : {R E : Type 0} → (R → List ℕ → Type 0) → (List ℕ → E → Type 0) → StreamReader R → Framing → ℕ → List ℕ → List E → Type 0
 StreamStands holds spells (reader.Plain body) framing limit w values = (framing ≡ Plain) × BodyStands holds spells body w values × (limit_of body.records ≡ limit)
-StreamStands holds spells (reader.Chunked decoder) framing limit w values = (framing ≡ Chunked) × DecoderStands holds spells decoder limit w values
+StreamStands holds spells (reader.Chunked reading) framing limit w values = (framing ≡ Chunked) × ReadingStands holds spells reading w values × (reading_limit reading ≡ limit)
 
 -- What became of a piece behind w: all of it was taken; or a byte of it ended the stream, or stops the reading, and so many
 -- bytes were used. The list got the values of the records that ended before.

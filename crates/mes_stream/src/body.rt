@@ -7,7 +7,6 @@ ghost use Rattle.mes_stream.specs.Stream.{Records, EndsInside, BodyLive};
 ghost use Rattle.mes_stream.specs.Decoders.{HoldsInBody};
 ghost use Rattle.mes_stream.specs.Taking.{BodyStands, Fronts, IsWithin, Takes, Ends, Feeds, fault_of_record};
 
-use crate::fault::Fault;
 use crate::record_reader::RecordReader;
 use crate::small_fault::SmallFault;
 use mes_frame::{FrameFault, Limit, RecordOut, RecordState};
@@ -47,7 +46,7 @@ pub(crate) enum BodyOut {
 #[derive(Drop)]
 pub struct Halt {
     /// Why.
-    pub fault: Fault,
+    pub fault: SmallFault,
     /// How many bytes of the piece were used, the one that stopped the reading among them.
     pub used: usize,
 }
@@ -142,22 +141,16 @@ impl<R: RecordReader> Body<R> {
                 BodyOut::Ended => {
                     let value = match self.end_record() {
                         Ok(value) => value,
-                        Err(fault) => return Err(Halt {
-                            fault: fault.into_fault(),
-                            used: at,
-                        }),
+                        Err(fault) => return Err(Halt { fault, used: at }),
                     };
                     if let Err(_) = values.push(value) {
                         return Err(Halt {
-                            fault: Fault::NoMemory,
+                            fault: SmallFault::no_memory(),
                             used: at,
                         });
                     }
                 }
-                BodyOut::Fault(fault) => return Err(Halt {
-                    fault: fault.into_fault(),
-                    used: at,
-                }),
+                BodyOut::Fault(fault) => return Err(Halt { fault, used: at }),
             }
         }
         Ok(())

@@ -108,7 +108,7 @@ fn read_records<R: RecordReader, S: Source>(
             }
             Err(halt) => {
                 let all = used.saturating_add(halt.used as u64);
-                return Err(stop(halt.fault, all));
+                return Err(stop(halt.fault.into_fault(), all));
             }
         }
     }

@@ -7,8 +7,11 @@ ghost use Rattle.mes_stream.specs.Chunked.{Live};
 ghost use Rattle.mes_stream.specs.Decoders.{HoldsOf};
 ghost use Rattle.mes_stream.specs.Decoding.{ReadingStands, PassesFraming, Says, LiveBefore, reading_limit};
 ghost use Rattle.mes_stream.specs.Turning.{Turns};
+ghost use Rattle.mes_stream.specs.StreamReaders.{StreamFeeds, UsesWithin};
+ghost use Rattle.mes_stream.specs.declared.stream_reader.Framing.TheVariants as framing;
+ghost use Rattle.mes_stream.specs.declared.stream_reader.StreamReader.TheVariants as reader;
 
-use crate::body::{Body, BodyOut};
+use crate::body::{Body, BodyOut, Halt};
 use crate::fault::Fault;
 use crate::record_reader::RecordReader;
 use crate::small_fault::SmallFault;
@@ -72,16 +75,17 @@ impl<V> Out<V> {
     }
 }
 
-/// Reads a chunked stream that has not ended.
+/// Reads a chunked stream that has not ended: it takes the stream in pieces, however cut, and adds the value of each record to a
+/// list. Behind the end or a fault no more pieces are to be taken.
 #[derive(Drop)]
-pub(crate) struct Reading<R> {
+pub struct Reading<R> {
     chunks: ChunkState,
     body: Body<R>,
 }
 
 impl<R: RecordReader> Reading<R> {
     /// Before the first byte.
-    pub fn new(body: Body<R>) -> Reading<R>
+    pub(crate) fn new(body: Body<R>) -> Reading<R>
         requires { BodyStands R.holds R.spells body [] [] }
         ensures stands { ReadingStands R.holds R.spells result [] [] }
         ensures body { result.body ≡ body }
@@ -133,8 +137,35 @@ impl<R: RecordReader> Reading<R> {
         }
     }
 
+    /// Takes a piece up to the end of a record or of the stream, or what stops the reading, or the piece's end. The value of a
+    /// record that ended is still to be read.
+    fn skim(&mut self, piece: &[u8]) -> Turned
+        ensures says { (w : List ℕ) (values : List R.Value) → ReadingStands R.holds R.spells self.old w values
+            → Turns R.holds R.spells R.breaks self.new w values piece.now result.used result.turn }
+        ensures before { (w : List ℕ) (values : List R.Value) → ReadingStands R.holds R.spells self.old w values
+            → LiveBefore R.spells (reading_limit self.new) w values piece.now result.used }
+        ensures more { result.turn ≡ Turn.More → result.used ≡ length piece.now }
+        ensures some { result.turn ≢ Turn.More → 0 < result.used }
+        ensures used { result.used ≤ length piece.now }
+        ensures limit { reading_limit self.new ≡ reading_limit self.old }
+    {
+        let mut at = 0;
+        while at < piece.len() {
+            let turned = self.turn(&piece[at..]);
+            at += turned.used;
+            match turned.turn {
+                Turn::More => {}
+                turn => return Turned { used: at, turn },
+            }
+        }
+        Turned {
+            used: at,
+            turn: Turn::More,
+        }
+    }
+
     /// Takes a piece up to the end of a record or of the stream, or a fault, or the piece's end.
-    pub fn next(&mut self, piece: &[u8]) -> Step<R::Value>
+    pub(crate) fn next(&mut self, piece: &[u8]) -> Step<R::Value>
         ensures says { (w : List ℕ) (values : List R.Value) → ReadingStands R.holds R.spells self.old w values
             → Says (ReadingStands R.holds R.spells self.new) R.spells R.breaks (reading_limit self.new) w values piece.now result.used result.out }
         ensures before { (w : List ℕ) (values : List R.Value) → ReadingStands R.holds R.spells self.old w values
@@ -144,25 +175,50 @@ impl<R: RecordReader> Reading<R> {
         ensures used { result.used ≤ length piece.now }
         ensures limit { reading_limit self.new ≡ reading_limit self.old }
     {
+        let Turned { used, turn } = self.skim(piece);
+        let out = match turn {
+            Turn::More => Out::More,
+            Turn::Ended => match self.body.end_record() {
+                Ok(value) => Out::Event(value),
+                Err(fault) => Out::Fault(fault.into_fault()),
+            },
+            Turn::Closed => Out::End,
+            Turn::Fault(fault) => Out::Fault(fault.into_fault()),
+        };
+        Step { used, out }
+    }
+
+    /// Takes a piece, and adds the values of the records that end in it. Some where a byte of it ended the stream: so many bytes
+    /// were used, that one the last of them.
+    pub fn feed(&mut self, piece: &[u8], values: &mut Vec<R::Value>) -> Result<Option<usize>, Halt>
+        ensures feeds { (w : List ℕ) (before : List R.Value) → ReadingStands R.holds R.spells self.old w before
+            → StreamFeeds R.holds R.spells R.breaks (reader.Chunked self.new) framing.Chunked (reading_limit self.new) w before piece.now values.old.items values.new.items result }
+        ensures limit { reading_limit self.new ≡ reading_limit self.old }
+        ensures within { UsesWithin (length piece.now) result }
+    {
         let mut at = 0;
         while at < piece.len() {
-            let turned = self.turn(&piece[at..]);
+            let turned = self.skim(&piece[at..]);
             at += turned.used;
-            let out = match turned.turn {
-                Turn::More => continue,
-                Turn::Ended => match self.body.end_record() {
-                    Ok(value) => Out::Event(value),
-                    Err(fault) => Out::Fault(fault.into_fault()),
-                },
-                Turn::Closed => Out::End,
-                Turn::Fault(fault) => Out::Fault(fault.into_fault()),
-            };
-            return Step { used: at, out };
+            match turned.turn {
+                Turn::More => {}
+                Turn::Ended => {
+                    let value = match self.body.end_record() {
+                        Ok(value) => value,
+                        Err(fault) => return Err(Halt { fault, used: at }),
+                    };
+                    if let Err(_) = values.push(value) {
+                        return Err(Halt {
+                            fault: SmallFault::no_memory(),
+                            used: at,
+                        });
+                    }
+                }
+                Turn::Closed => return Ok(Some(at)),
+                Turn::Fault(fault) => return Err(Halt { fault, used: at }),
+            }
         }
-        Step {
-            used: at,
-            out: Out::More,
-        }
+        Ok(None)
     }
 
     /// How many bytes of the record that has begun are kept.

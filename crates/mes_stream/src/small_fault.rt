@@ -11,10 +11,10 @@ use mes_msg::RecordFault;
 use mes_part::{BoxedFault, FieldFault};
 use std::marker::Model;
 
-/// A fault in little room, since what is answered to each byte of the framing has place for one: a path stands in memory of its
-/// own. A contract sees the fault.
+/// A fault in little room, since what is answered to each byte of the framing and to each piece has place for one: a path stands in
+/// memory of its own. A contract sees the fault.
 #[derive(Drop)]
-pub(crate) struct SmallFault {
+pub struct SmallFault {
     kind: Kind,
 }
 
@@ -39,7 +39,7 @@ impl Model for SmallFault {
 
 impl SmallFault {
     /// F1 to F5 and F7 to F9.
-    pub fn frame(fault: FrameFault) -> SmallFault
+    pub(crate) fn frame(fault: FrameFault) -> SmallFault
         ensures { result ≡ Frame fault }
     {
         SmallFault {
@@ -48,7 +48,7 @@ impl SmallFault {
     }
 
     /// F10.
-    pub fn ends_inside_record() -> SmallFault
+    pub(crate) fn ends_inside_record() -> SmallFault
         ensures { result ≡ EndsInsideRecord }
     {
         SmallFault {
@@ -57,7 +57,7 @@ impl SmallFault {
     }
 
     /// F13.
-    pub fn no_memory() -> SmallFault
+    pub(crate) fn no_memory() -> SmallFault
         ensures { result ≡ NoMemory }
     {
         SmallFault {
@@ -66,7 +66,7 @@ impl SmallFault {
     }
 
     /// Why the record of this number has no value: F11, F12 or F13.
-    pub fn of_record(at_record: u64, why: RecordFault) -> SmallFault
+    pub(crate) fn of_record(at_record: u64, why: RecordFault) -> SmallFault
         ensures { result ≡ fault_at_record at_record why }
     {
         let kind = match why {

@@ -1,15 +1,13 @@
 //! Reads a stream of either framing in pieces, however cut.
 
 ghost use Rattle.std.specs.Prelude.{ℕ, List, [], length};
-ghost use Rattle.mes_stream.specs.Decoders.{DecoderStands};
 ghost use Rattle.mes_stream.specs.Framings.{InputEnds};
 ghost use Rattle.mes_stream.specs.StreamReaders.{StreamStands, StreamFeeds, UsesWithin};
 ghost use Rattle.mes_stream.specs.declared.stream_reader.Framing.{Framing as FramingValue};
 
 use crate::body::{Body, Halt};
-use crate::decoder::Decoder;
 use crate::fault::Fault;
-use crate::reading::Out;
+use crate::reading::Reading;
 use crate::record_reader::RecordReader;
 use mes_frame::Limit;
 
@@ -28,7 +26,7 @@ pub enum StreamReader<R> {
     /// Reads plain RecordIO.
     Plain(Body<R>),
     /// Reads a chunked stream.
-    Chunked(Decoder<R>),
+    Chunked(Reading<R>),
 }
 
 impl<R: RecordReader> StreamReader<R> {
@@ -39,7 +37,7 @@ impl<R: RecordReader> StreamReader<R> {
     {
         match framing {
             Framing::Plain => StreamReader::Plain(Body::new(reader, limit)),
-            Framing::Chunked => StreamReader::Chunked(Decoder::of(reader, limit)),
+            Framing::Chunked => StreamReader::Chunked(Reading::new(Body::new(reader, limit))),
         }
     }
 
@@ -55,7 +53,7 @@ impl<R: RecordReader> StreamReader<R> {
                 body.feed(piece, values)?;
                 Ok(None)
             }
-            StreamReader::Chunked(decoder) => feed_chunked(decoder, piece, values),
+            StreamReader::Chunked(reading) => reading.feed(piece, values),
         }
     }
 
@@ -73,38 +71,7 @@ impl<R: RecordReader> StreamReader<R> {
                     Err(Fault::EndsInsideRecord)
                 }
             }
-            StreamReader::Chunked(decoder) => decoder.finish(),
+            StreamReader::Chunked(_) => Err(Fault::EndsInsideChunks),
         }
     }
-}
-
-// Takes a piece of a chunked stream.
-fn feed_chunked<R: RecordReader>(
-    decoder: &mut Decoder<R>,
-    piece: &[u8],
-    values: &mut Vec<R::Value>,
-) -> Result<Option<usize>, Halt>
-    ensures feeds { (limit : ℕ) (w : List ℕ) (before : List R.Value) → DecoderStands R.holds R.spells decoder.old limit w before
-        → StreamFeeds R.holds R.spells R.breaks (StreamReader.Chunked decoder.new) Framing.Chunked limit w before piece.now values.old.items values.new.items result }
-    ensures within { UsesWithin (length piece.now) result }
-{
-    let mut at = 0;
-    while at < piece.len() {
-        let step = decoder.next(&piece[at..]);
-        at += step.used;
-        match step.out {
-            Out::More => {}
-            Out::Event(value) => {
-                if let Err(_) = values.push(value) {
-                    return Err(Halt {
-                        fault: Fault::NoMemory,
-                        used: at,
-                    });
-                }
-            }
-            Out::End => return Ok(Some(at)),
-            Out::Fault(fault) => return Err(Halt { fault, used: at }),
-        }
-    }
-    Ok(None)
 }

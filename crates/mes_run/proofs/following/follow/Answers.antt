@@ -91,7 +91,7 @@ returns-in-Err-fed g c =
     c.reads.reader c.feed-fed.new.self c.reads.counter c.reads.number c.in-Ok-print_events.next c.reads.used (length c.reads.buffer) c.in-Ok.taken c.print_fault-in-Err-fed.result c.fetch.new.buffer c.reads.events.items c.feed-fed.new.values.items c.in-Err-fed.halt
     s c.reads-test.true (omega (arith, c.if-taken-eq0.false)) c.in-Ok.ensures.within (omega (arith, c.fetch.auto.buffer, c.reads.invariant.0)) (omega (arith, c.reads.invariant.0)) c.in-Ok.ensures.bytes.0 c.in-Ok.ensures.counted c.reads.invariant.1
     (c.in-Err-fed.ensures.feeds c.args.framing c.args.limit s.read.w s.read.more s.read.stands)
-    (rw c.as_slice.ensures.value at (c.in-Ok-print_events.ensures (1 + length s.events) s.next)) (rw c.saturating_add.ensures at c.print_fault-in-Err-fed.ensures)
+    (rw c.as_slice.ensures.value at (c.in-Ok-print_events.ensures (1 + length s.events) s.next)) (rw (c.saturating_add.ensures, c.into_fault.ensures) at c.print_fault-in-Err-fed.ensures)
 
 pub reads-preserved : goal.reads-preserved
 reads-preserved g c =

@@ -36,7 +36,7 @@ returns-in-Ok-Some g c =
 pub returns-in-Err-feed : goal.returns-in-Err-feed
 returns-in-Err-feed g c =
     let r = c.reads.invariant.1 in
-    rw (c.stop-in-Err-feed.ensures, c.saturating_add-all-in-Err-feed.ensures) (reads_halt g.R.RecordReader.holds g.R.RecordReader.spells c.args.framing c.args.limit g.R.RecordReader.breaks (g.S.Source.left c.args.reader.now) (g.S.Source.left c.reads.reader) (g.S.Source.left c.fetch.new.self)
+    rw (c.stop-in-Err-feed.ensures, c.saturating_add-all-in-Err-feed.ensures, c.into_fault.ensures) (reads_halt g.R.RecordReader.holds g.R.RecordReader.spells c.args.framing c.args.limit g.R.RecordReader.breaks (g.S.Source.left c.args.reader.now) (g.S.Source.left c.reads.reader) (g.S.Source.left c.fetch.new.self)
     (g.S.Source.counts c.args.reader.now) (g.S.Source.counts c.reads.reader) (g.S.Source.counts c.fetch.new.self) c.args.values.now.items c.reads.values.items c.feed.new.values.items c.reads.stream c.feed.new.self
     c.reads.counter c.args.max_reads c.reads.used (length c.reads.buffer) c.in-Ok.taken c.fetch.new.buffer c.in-Err-feed.halt r c.reads-test.true (omega (arith, c.if-taken-eq0.false)) c.in-Ok.ensures.within
     (omega (arith, c.fetch.auto.buffer, c.reads.invariant.0)) (omega (arith, c.reads.invariant.0)) c.in-Ok.ensures.bytes.0 c.in-Ok.ensures.counted

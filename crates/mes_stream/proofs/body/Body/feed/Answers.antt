@@ -38,7 +38,7 @@ returns-in-Err-clause-feeds g c = λ b values s.
     let lives = c.take-taken.ensures.lives (b ++ take c.loop-at.at c.args.piece.now) (values ++ before.0) before.2 (c.take-taken.result.used - 1) (omega (arith, some)) in (
       before.0,
       before.1,
-      rw (c.end_record.ensures.records, c.into_fault.ensures) (stops_in Plain g.R.RecordReader.spells g.R.RecordReader.breaks (limit_of c.take-taken.new.self.records) b c.args.piece.now (values ++ before.0) c.in-Err.fault c.loop-at.at c.take-taken.result.used c.loop-at.invariant.0 some
+      rw c.end_record.ensures.records (stops_in Plain g.R.RecordReader.spells g.R.RecordReader.breaks (limit_of c.take-taken.new.self.records) b c.args.piece.now (values ++ before.0) c.in-Err.fault c.loop-at.at c.take-taken.result.used c.loop-at.invariant.0 some
           (omega (arith, c.take-taken.ensures.used.1, ap length rest)) (rw rest at lives) (inl (rw rest at (rw c.end_record.ensures.records at refused)))),
     )
 
@@ -54,7 +54,7 @@ returns-in-Err-push-clause-feeds g c = λ b values s.
     let lives = c.take-taken.ensures.lives (b ++ take c.loop-at.at c.args.piece.now) (values ++ before.0) before.2 (c.take-taken.result.used - 1) (omega (arith, some)) in (
       before.0,
       c.in-Err-push.ensures.items ∙ before.1,
-      rw c.end_record.ensures.records (stops_in Plain g.R.RecordReader.spells g.R.RecordReader.breaks (limit_of c.take-taken.new.self.records) b c.args.piece.now (values ++ before.0) NoMemory c.loop-at.at c.take-taken.result.used c.loop-at.invariant.0 some
+      rw (c.end_record.ensures.records, c.no_memory.ensures) (stops_in Plain g.R.RecordReader.spells g.R.RecordReader.breaks (limit_of c.take-taken.new.self.records) b c.args.piece.now (values ++ before.0) NoMemory c.loop-at.at c.take-taken.result.used c.loop-at.invariant.0 some
           (omega (arith, c.take-taken.ensures.used.1, ap length rest)) (rw rest at lives) (inr (refl, (_, rw rest at (rw c.end_record.ensures.records at taken.1))))),
     )
 
@@ -85,7 +85,7 @@ returns-in-Fault-clause-feeds g c = λ b values s.
     let lives = c.take-taken.ensures.lives (b ++ take c.loop-at.at c.args.piece.now) (values ++ before.0) before.2 (c.take-taken.result.used - 1) (omega (arith, some)) in (
       before.0,
       before.1,
-      rw (c.into_fault-in-Fault.ensures, c.in-Fault.fault-is) (stops_in Plain g.R.RecordReader.spells g.R.RecordReader.breaks (limit_of c.take-taken.new.self.records) b c.args.piece.now (values ++ before.0) _ c.loop-at.at c.take-taken.result.used c.loop-at.invariant.0 some
+      rw c.in-Fault.fault-is (stops_in Plain g.R.RecordReader.spells g.R.RecordReader.breaks (limit_of c.take-taken.new.self.records) b c.args.piece.now (values ++ before.0) _ c.loop-at.at c.take-taken.result.used c.loop-at.invariant.0 some
           (omega (arith, c.take-taken.ensures.used.1, ap length rest)) (rw rest at lives) (inl (rw rest at taken))),
     )
 
