@@ -28,6 +28,7 @@ pub enum Part {
 }
 
 /// The part that `byte` leads to, or `None` where no number goes on with it.
+#[inline(always)]
 pub fn next_part(part: Part, byte: u8) -> Option<Part>
     ensures next { result ≡ number_next part (letter_of byte) }
     ensures digit { IfSome result (λ next. IsExponentDigit next byte) }
@@ -50,6 +51,7 @@ pub fn next_part(part: Part, byte: u8) -> Option<Part>
 }
 
 /// Whether a number may end behind `part`.
+#[inline(always)]
 pub fn may_end(part: Part) -> bool
     ensures { result ≡ is_final part }
 {

@@ -53,6 +53,7 @@ impl Decimal {
     }
 
     /// Takes a text of at most `TEXT_LIMIT` bytes apart.
+    #[inline(always)]
     pub fn read(text: &[u8]) -> Result<Self, NumFault>
         ensures ok { IfOk result (Reads IsDecimal text.now) }
         ensures err { IfErr result (Refuses (λ _. ⊥) text.now) }
@@ -77,6 +78,7 @@ impl Decimal {
     }
 
     /// Takes one more byte, which led to `part`.
+    #[inline(always)]
     fn gather(&mut self, part: Part, byte: u8)
         requires room { length self.old.digits.items < TEXT_LIMIT }
         requires digit { IsExponentDigit part byte }

@@ -84,4 +84,5 @@ blanks_taken r b from n fits between within few blank =
       inside = rest_length b from n within (subst (λ (x : List ℕ). n ≤ length x) same few);
       fits = fits;
       runs = λ s e. ap (run NESTING_LIMIT s) (take-add from n b) ∙ run_on NESTING_LIMIT s (state_view r) (take from b) q e ∙ run_is;
+      reached = λ h. h;
     }

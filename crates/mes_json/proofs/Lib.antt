@@ -27,6 +27,7 @@ pub mod TakenLemmas
 pub mod CharacterLemmas
 pub mod PlainLemmas
 pub mod EscapeTaken
+pub mod WholeEscapes
 pub mod BlockLemmas
 pub mod FrontLemmas
 pub mod BlankLemmas

@@ -1,11 +1,11 @@
 -- How characters of a string that stand for themselves move the reader, all at once.
 --     characters_taken    a run of them is taken
---     string_taken        and the quotation mark behind it
+--     string_taken        the quotation mark behind them
 --     runs_further        and what is taken behind that
 --     colon_taken         a colon
 use Rattle.std.proofs.Common.{◌≡◌, ℕ, ◌+◌, ◌-◌, ◌<◌, ◌≤◌, List, ◌∷◌, ◌++◌, length, take, drop, Some, Ok, get_or, ap, sym, ◌∙◌, refl, arith}
 use Rattle.mes_json.specs.Machine as m
-use Rattle.mes_json.specs.Machine.{State, step, run}
+use Rattle.mes_json.specs.Machine.{Frame, State, step, run}
 use Rattle.mes_json.specs.Machine.Frame.{frame}
 use Rattle.mes_json.specs.Machine.State.{state}
 use Rattle.mes_json.specs.Tape.{value_due}
@@ -17,41 +17,42 @@ use Rattle.mes_json.specs.declared.at.Purpose as purpose
 use Rattle.mes_json.specs.declared.at.At as at
 use Rattle.mes_json.specs.declared.reader.Reader.{Reader}
 use Rattle.mes_json.proofs.ReaderLemmas.{part, due, view_at, form_at, covered_at}
-use Rattle.mes_json.proofs.TakenLemmas.{runs_over, over, reached_over, one_more}
+use Rattle.mes_json.proofs.TakenLemmas.{runs_over, nothing_taken, one_more}
 use Rattle.mes_json.proofs.StringLemmas.{string_ends}
 
-abbrev inside : purpose.Purpose → at.At
+abbrev pub inside : purpose.Purpose → at.At
 inside p = at.TheVariants.Quoted p mid.TheVariants.Between
 
-shown_run : (p : purpose.Purpose) (n : List Open) (b q : List ℕ) (s : State) → IsAt (inside p) n s → StandAlone q
-    → run NESTING_LIMIT (with_read (inside p) b s) q ≡ Some (with_read (inside p) (b ++ q) s)
-shown_run purpose.TheVariants.Name n b q s h alone =
+-- bytes of a string between whole characters that add these bytes to it
+abbrev pub Spells : List ℕ → List ℕ → Type 0
+Spells q made = (fs : List Frame) (p : m.Purpose) (b : List ℕ)
+    → run NESTING_LIMIT (state fs (m.At.quoted p m.Mid.between b)) q ≡ Some (state fs (m.At.quoted p m.Mid.between (b ++ made)))
+
+pub spelled_run : (p : purpose.Purpose) (n : List Open) (b q made : List ℕ) (s : State) → IsAt (inside p) n s → Spells q made
+    → run NESTING_LIMIT (with_read (inside p) b s) q ≡ Some (with_read (inside p) (b ++ made) s)
+spelled_run purpose.TheVariants.Name n b q made s h spells =
     ap (λ (t : State). run NESTING_LIMIT (with_read (inside purpose.TheVariants.Name) b t) q) h.is
-    ∙ alone.runs h.frames (m.Purpose.for_name h.members) b
-    ∙ ap (λ (t : State). Some (with_read (inside purpose.TheVariants.Name) (b ++ q) t)) (sym h.is)
-shown_run purpose.TheVariants.Value n b q s h alone =
+    ∙ spells h.frames (m.Purpose.for_name h.members) b
+    ∙ ap (λ (t : State). Some (with_read (inside purpose.TheVariants.Name) (b ++ made) t)) (sym h.is)
+spelled_run purpose.TheVariants.Value n b q made s h spells =
     ap (λ (t : State). run NESTING_LIMIT (with_read (inside purpose.TheVariants.Value) b t) q) h.is
-    ∙ alone.runs h.frames m.Purpose.for_value b
-    ∙ ap (λ (t : State). Some (with_read (inside purpose.TheVariants.Value) (b ++ q) t)) (sym h.is)
+    ∙ spells h.frames m.Purpose.for_value b
+    ∙ ap (λ (t : State). Some (with_read (inside purpose.TheVariants.Value) (b ++ made) t)) (sym h.is)
 
 -- a run over the bytes behind the place, as they are cut out
 pub characters_taken : (old new : Reader) (p : purpose.Purpose) (b : List ℕ) (from n : ℕ) → Fits old → old.at ≡ inside p → from ≤ length b
     → n ≤ length (take (length b - from) (drop from b)) → StandAlone (take n (take (length b - from) (drop from b)))
     → Keeps old (take n (take (length b - from) (drop from b))) (inside p) new → RunsTo old b from (from + n) new
 characters_taken old new p b from n fits is_at within few alone keeps =
-    runs_over old new (inside p) b from n fits is_at (λ start end last. refl) within few (λ s h. shown_run p old.nesting.items (part old) (take n (take (length b - from) (drop from b))) s h alone) keeps
-
--- and the quotation mark behind them
-pub string_taken : (old mid new : Reader) (p : purpose.Purpose) (b : List ℕ) (from n : ℕ) → Puts mid mid.nesting.items (string_node p mid) (behind_string p) new
-    → Fits old → Reached old → old.at ≡ inside p → from ≤ length b → n ≤ length (take (length b - from) (drop from b))
-    → StandAlone (take n (take (length b - from) (drop from b))) → Keeps old (take n (take (length b - from) (drop from b))) (inside p) mid
-    → from + n < length b → get_or b (from + n) 0 ≡ 34 → RunsTo old b from (from + n + 1) new
-string_taken old mid new p b from n puts fits reached is_at within few alone keeps more quote =
     let q = take n (take (length b - from) (drop from b)) in
-    let runs = characters_taken old mid p b from n fits is_at within few alone keeps in
-    let known = reached_over old mid q reached (over old mid (inside p) q fits is_at (λ s h. shown_run p old.nesting.items (part old) q s h alone) keeps) in
-    let ends = string_ends {A = ℕ} p mid new (Ok 0) (get_or b (from + n) 0) runs.fits known keeps.at quote puts tt in
-    one_more old mid new b from (from + n) runs more ends.0 ends.1
+    runs_over old new (inside p) b from n fits is_at (λ start end last. refl) within few (λ s h. spelled_run p old.nesting.items (part old) q q s h alone.runs) keeps
+
+-- the quotation mark that ends a string
+pub string_taken : (old new : Reader) (p : purpose.Purpose) (b : List ℕ) (from : ℕ) → Puts old old.nesting.items (string_node p old) (behind_string p) new
+    → Fits old → Reached old → old.at ≡ inside p → from < length b → get_or b from 0 ≡ 34 → RunsTo old b from (from + 1) new
+string_taken old new p b from puts fits reached is_at more quote =
+    let ends = string_ends {A = ℕ} p old new (Ok 0) (get_or b from 0) fits reached is_at quote puts tt in
+    one_more old old new b from from (nothing_taken old b from fits (omega (arith, more))) more ends.0 ends.1
 
 pub runs_further : (old mid new : Reader) (b : List ℕ) (from place to : ℕ) → RunsTo old b from place mid → RunsTo mid b place to new → RunsTo old b from to new
 runs_further old mid new b from place to h k = record {
@@ -59,6 +60,7 @@ runs_further old mid new b from place to h k = record {
   inside = k.inside;
   fits = k.fits;
   runs = λ s e. k.runs s (h.runs s e);
+  reached = λ r. k.reached (h.reached r);
 }
 
 -- ---- a colon
@@ -69,7 +71,7 @@ pub colon_taken : (old : Reader) (b : List ℕ) (from : ℕ) → Fits old → ol
     → RunsTo old b from (from + 1) (record { at = at.TheVariants.Value; nesting = old.nesting; start = old.start; text = old.text; nodes = old.nodes })
 colon_taken old b from fits is_at inside colon =
     let h = form_at old at.TheVariants.Colon is_at fits in
-    one_more old old _ b from from (record { forward = omega arith; inside = omega (arith, inside); fits = fits; runs = λ s e. e }) inside
+    one_more old old _ b from from (nothing_taken old b from fits (omega (arith, inside))) inside
     (ap (λ (s : State). step NESTING_LIMIT s (get_or b from 0)) (view_at old at.TheVariants.Colon is_at ∙ h.is)
     ∙ ap (step NESTING_LIMIT (state h.frames (m.At.named h.members h.name))) colon ∙ ap (λ (s : State). Some (value_due s)) (sym h.is))
     (record { at = value_form old.nesting.items (due at.TheVariants.Colon old) h; tape = fits.tape; start = fits.start; covered = covered_at old at.TheVariants.Colon is_at fits })

@@ -1,10 +1,11 @@
 -- How bytes of text that leave the place as it is move the reader, all at once.
 --     runs_over               a run of them is taken
---     over                    the machine's run over them
+--     runs_to                 the same, where they make other bytes of text
+--     nothing_taken           none of them
 --     one_more                and one more byte
 --     reached_over            some bytes lead to the state behind a run
 --     rest_is, rest_length, within_rest    the bytes behind the place
-use Rattle.std.proofs.Common.{◌≡◌, ℕ, ◌+◌, ◌-◌, ◌<◌, ◌≤◌, List, ◌++◌, length, take, drop, get_or, Some, refl, ap, sym, ◌∙◌, subst, arith, length-drop}
+use Rattle.std.proofs.Common.{◌≡◌, ℕ, ◌+◌, ◌-◌, ◌<◌, ◌≤◌, List, [], ◌∷◌, ◌++◌, length, take, drop, get_or, Some, refl, ap, sym, ◌∙◌, subst, arith, length-drop}
 use Rattle.std.proofs.lemmas.Grind.{common_steps}
 use Rattle.std.proofs.Math.Seq.{take-add}
 use Rattle.mes_json.specs.Machine.{State, start, step, run}
@@ -13,22 +14,30 @@ use Rattle.mes_json.specs.declared.limits.TheConstants.{NESTING_LIMIT}
 use Rattle.mes_json.specs.declared.nesting.Open.{Open}
 use Rattle.mes_json.specs.declared.at.At as at
 use Rattle.mes_json.specs.declared.reader.Reader.{Reader}
-use Rattle.mes_json.proofs.RunLemmas.{run_on, run_take}
+use Rattle.mes_json.proofs.RunLemmas.{run_on, run_one, run_take}
 use Rattle.mes_json.proofs.ReaderLemmas.{due, part, view_at, form_at, SameText, kept_fits, kept_view}
 
--- the bytes q leave this place as it is, behind the bytes b of a text
-abbrev pub Leaves : at.At → List Open → List ℕ → List ℕ → Type 0
-Leaves there n b q = (s : State) → IsAt there n s → run NESTING_LIMIT (with_read there b s) q ≡ Some (with_read there (b ++ q) s)
+-- the bytes q leave this place as it is, behind the bytes b of a text, and add these bytes to it
+abbrev pub Adds : at.At → List Open → List ℕ → List ℕ → List ℕ → Type 0
+Adds there n b q made = (s : State) → IsAt there n s → run NESTING_LIMIT (with_read there b s) q ≡ Some (with_read there (b ++ made) s)
 
-pub over : (old new : Reader) (there : at.At) (q : List ℕ) → Fits old → old.at ≡ there → Leaves there old.nesting.items (part old) q → Keeps old q there new
+-- the same, where they add themselves
+abbrev pub Leaves : at.At → List Open → List ℕ → List ℕ → Type 0
+Leaves there n b q = Adds there n b q q
+
+over : (old new : Reader) (there : at.At) (q made : List ℕ) → Fits old → old.at ≡ there → Adds there old.nesting.items (part old) q made → Keeps old made there new
     → run NESTING_LIMIT (state_view old) q ≡ Some (state_view new)
-over old new there q fits is_at leaves keeps =
+over old new there q made fits is_at adds keeps =
     ap (λ (s : State). run NESTING_LIMIT s q) (view_at old there is_at)
-    ∙ leaves (due there old) (form_at old there is_at fits)
-    ∙ ap (λ (s : State). Some s) (sym (kept_view old new q there there fits (λ s. refl) keeps))
+    ∙ adds (due there old) (form_at old there is_at fits)
+    ∙ ap (λ (s : State). Some s) (sym (kept_view old new made there there fits (λ s. refl) keeps))
 
 pub reached_over : (old new : Reader) (q : List ℕ) → Reached old → run NESTING_LIMIT (state_view old) q ≡ Some (state_view new) → Reached new
 reached_over old new q reached runs = (reached.0 ++ q, run_on NESTING_LIMIT start (state_view old) reached.0 q reached.1 ∙ runs)
+
+-- none of them
+pub nothing_taken : (r : Reader) (b : List ℕ) (from : ℕ) → Fits r → from ≤ length b → RunsTo r b from from r
+nothing_taken r b from fits within = record { forward = omega arith; inside = within; fits = fits; runs = λ s e. e; reached = λ r. r }
 
 pub one_more : (old mid new : Reader) (b : List ℕ) (from to : ℕ) → RunsTo old b from to mid → to < length b
     → step NESTING_LIMIT (state_view mid) (get_or b to 0) ≡ Some (state_view new) → Fits new → RunsTo old b from (to + 1) new
@@ -37,18 +46,20 @@ one_more old mid new b from to h inside gives fits = record {
   inside = omega (arith, inside);
   fits = fits;
   runs = λ s e. run_take NESTING_LIMIT s (state_view mid) b to inside (h.runs s e) ∙ gives;
+  reached = λ r. reached_over mid new (get_or b to 0 ∷ []) (h.reached r) (run_one NESTING_LIMIT (state_view mid) (get_or b to 0) ∙ gives);
 }
 
-runs_to : (old new : Reader) (there : at.At) (b : List ℕ) (from n : ℕ) → Fits old → old.at ≡ there → SameText there there → from + n ≤ length b
-    → Leaves there old.nesting.items (part old) (take n (drop from b)) → Keeps old (take n (drop from b)) there new → RunsTo old b from (from + n) new
-runs_to old new there b from n fits is_at same_text within leaves keeps =
+pub runs_to : (old new : Reader) (there : at.At) (b made : List ℕ) (from n : ℕ) → Fits old → old.at ≡ there → SameText there there → from + n ≤ length b
+    → Adds there old.nesting.items (part old) (take n (drop from b)) made → Keeps old made there new → RunsTo old b from (from + n) new
+runs_to old new there b made from n fits is_at same_text within adds keeps =
     let q = take n (drop from b) in
-    let run_is = over old new there q fits is_at leaves keeps in
+    let run_is = over old new there q made fits is_at adds keeps in
     record {
       forward = omega arith;
       inside = within;
-      fits = kept_fits old new q there there fits is_at (λ n s h. h) same_text keeps;
+      fits = kept_fits old new made there there fits is_at (λ n s h. h) same_text keeps;
       runs = λ s e. ap (run NESTING_LIMIT s) (take-add from n b) ∙ run_on NESTING_LIMIT s (state_view old) (take from b) q e ∙ run_is;
+      reached = λ r. reached_over old new q r run_is;
     }
 
 pub rest_is : (b : List ℕ) (from : ℕ) → from ≤ length b → take (length b - from) (drop from b) ≡ drop from b
@@ -66,5 +77,5 @@ pub runs_over : (old new : Reader) (there : at.At) (b : List ℕ) (from n : ℕ)
     → Keeps old (take n (take (length b - from) (drop from b))) there new → RunsTo old b from (from + n) new
 runs_over old new there b from n fits is_at same_text within few leaves keeps =
     let same = rest_is b from within in
-    runs_to old new there b from n fits is_at same_text (within_rest b from n within few)
+    runs_to old new there b (take n (drop from b)) from n fits is_at same_text (within_rest b from n within few)
     (subst (λ (x : List ℕ). Leaves there old.nesting.items (part old) (take n x)) same leaves) (subst (λ (x : List ℕ). Keeps old (take n x) there new) same keeps)

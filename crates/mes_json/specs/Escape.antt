@@ -1,5 +1,5 @@
 -- The states within an escape (RFC 8259, section 7), one byte at a time. Private clauses alone cite it.
-use Rattle.std.specs.Prelude.{ℕ, ◌+◌, ◌-◌, ◌*◌, ◌<◌, ◌≤◌, ◌⊎◌, ◌&&◌, Option, Some, None, if◌then◌else◌, ◌==◌, nat_le}
+use Rattle.std.specs.Prelude.{ℕ, List, [], ◌∷◌, ◌+◌, ◌-◌, ◌*◌, ◌<◌, ◌≤◌, ◌⊎◌, ◌&&◌, Option, Some, None, if◌then◌else◌, ◌==◌, nat_le}
 
 -- What is read of an escape: the backslash; the u and so many digits, with their value; the same of the second half of a
 -- pair, whose first half is `high`.
@@ -79,3 +79,11 @@ HasBounds (low0 h) = (0xD800 ≤ h) × (h ≤ 0xDBFF)
 HasBounds (low1 h) = (0xD800 ≤ h) × (h ≤ 0xDBFF)
 HasBounds (low2 h v) = (0xD800 ≤ h) × (h ≤ 0xDBFF) × (0xDC ≤ v) × (v ≤ 0xDF)
 HasBounds (low3 h v) = (0xD800 ≤ h) × (h ≤ 0xDBFF) × (0xDC0 ≤ v) × (v ≤ 0xDFF)
+
+-- the character that a move and the bytes behind it make, taken one by one, where the last of them ends the escape
+abbrev pub made_of : Move → List ℕ → Option ℕ
+made_of (on e) [] = None
+made_of (on e) (c ∷ q) = made_of (escape_step e c) q
+made_of (makes v) [] = Some v
+made_of (makes v) (c ∷ q) = None
+made_of refused q = None

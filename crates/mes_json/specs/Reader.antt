@@ -6,7 +6,7 @@ use Rattle.mes_json.specs.Tree.{Tree, Members}
 use Rattle.mes_json.specs.Tree.Tree.{null, boolean}
 use Rattle.mes_json.specs.Tree.Members.{no_members, member}
 use Rattle.mes_json.specs.Machine as m
-use Rattle.mes_json.specs.Machine.{Frame, Token, State, step, run, start, on_quoted}
+use Rattle.mes_json.specs.Machine.{Frame, Token, State, step, run, start}
 use Rattle.mes_json.specs.Machine.Frame.{frame, array_frame}
 use Rattle.mes_json.specs.Machine.Token.{literal, digits}
 use Rattle.mes_json.specs.Machine.State.{state}
@@ -209,14 +209,11 @@ pub record RunsTo (old : Reader) (b : List ℕ) (from to : ℕ) (new : Reader) :
   pub inside : to ≤ length b
   pub fits : Fits new
   pub runs : (s : State) → run NESTING_LIMIT s (take from b) ≡ Some (state_view old) → run NESTING_LIMIT s (take to b) ≡ Some (state_view new)
+  pub reached : Reached old → Reached new
 
 -- a character that stands for itself in a string and takes no other byte
 abbrev pub IsPlain : ℕ → Type 0
 IsPlain c = (32 ≤ c) × (c < 128) × (c ≢ 34) × (c ≢ 92)
-
--- a byte of a string that is kept as it is, and where it leads within a character
-pub record Follows (from : mid.Mid) (c : ℕ) (to : mid.Mid) : Type 0 where
-  pub keeps : (fs : List Frame) (p : m.Purpose) (b : List ℕ) → on_quoted fs p (mid_view from) b c ≡ Some (state fs (m.At.quoted p (mid_view to) (b ++ c ∷ [])))
 
 -- bytes of a string behind a whole character that are kept as they are, and where they lead within one
 pub record LeadsTo (q : List ℕ) (to : m.Mid) : Type 0 where

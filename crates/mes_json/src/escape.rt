@@ -1,6 +1,9 @@
 //! Where a reader stands within an escape of a string (RFC 8259, section 7).
-ghost use Rattle.std.specs.Prelude.{◌≡◌, ◌<◌, ◌≤◌, ◌⊎◌, IfSome};
-ghost use Rattle.mes_json.specs.Escape.{HasBounds, hex_of, short_of, two_digits, four_digits, pair_of, escape_step};
+ghost use Rattle.std.specs.Prelude.{◌≡◌, ◌<◌, ◌≤◌, ◌⊎◌, Some, length, take, slice_index, IfSome};
+ghost use Rattle.std.specs.Option.{OnSome};
+ghost use Rattle.mes_json.specs.Escape.{HasBounds, hex_of, short_of, two_digits, four_digits, pair_of, escape_step, made_of};
+ghost use Rattle.mes_json.specs.Escape.Escape.{backslash};
+ghost use Rattle.mes_json.specs.Escape.Move.{on};
 ghost use Rattle.mes_json.specs.EscapeView.{escape_view, move_view};
 
 /// What of an escape is read.
@@ -97,6 +100,40 @@ fn pair(high: u16, low: u16) -> char
 {
     let code = 0x1_0000 + (u32::from(high) - 0xD800) * 0x400 + (u32::from(low) - 0xDC00);
     unsafe { char::from_u32_unchecked(code) }
+}
+
+/// The character of a whole escape that the bytes behind its backslash begin with, and how many of them it takes: one letter, or
+/// `u` and four digits of a character that is no surrogate.
+#[inline(always)]
+pub(crate) fn whole_escape(bytes: &[u8]) -> Option<(char, usize)>
+    ensures inside { IfSome result (λ e. e.1 ≤ length bytes.now) }
+    ensures makes { IfSome result (λ e. made_of (on backslash) (take e.1 bytes.now) ≡ Some e.0) }
+{
+    if bytes.is_empty() {
+        return None;
+    }
+    if bytes[0] == b'u' {
+        return Some((unit(bytes)?, 5));
+    }
+    match short(bytes[0]) {
+        Move::Makes(character) => Some((character, 1)),
+        Move::On(_) | Move::Refused => None,
+    }
+}
+
+/// The character of `u` and four digits that the bytes begin with, where it is no surrogate.
+#[inline(always)]
+fn unit(bytes: &[u8]) -> Option<char>
+    requires begins { (0 < length bytes.now) × (slice_index bytes.now 0 ≡ 117) }
+    ensures inside { OnSome result (5 ≤ length bytes.now) }
+    ensures makes { IfSome result (λ c. made_of (on backslash) (take 5 bytes.now) ≡ Some c) }
+{
+    if bytes.len() < 5 {
+        return None;
+    }
+    let front = hex(bytes[1])? * 16 + hex(bytes[2])?;
+    let back = hex(bytes[3])? * 16 + hex(bytes[4])?;
+    char::from_u32(u32::from(front) * 256 + u32::from(back))
 }
 
 impl Escape {

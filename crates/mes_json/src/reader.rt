@@ -1,5 +1,5 @@
 //! The reader: takes a JSON text a byte at a time and keeps it as a tape.
-ghost use Rattle.std.specs.Prelude.{◌≡◌, ◌+◌, ◌<◌, ◌≤◌, [], ◌∷◌, length, option_map, encode_utf8, IfOk, IfErr, OnOk};
+ghost use Rattle.std.specs.Prelude.{◌≡◌, ◌+◌, ◌<◌, ◌≤◌, [], ◌∷◌, length, option_map, slice_index, encode_utf8, IfOk, IfErr, OnOk};
 ghost use Rattle.mes_json.specs.declared.stop.Stop.TheVariants.{NoMemory as no_memory};
 ghost use Rattle.mes_json.specs.Machine.{start, finish};
 ghost use Rattle.mes_json.specs.Tokens.{tokens};
@@ -9,7 +9,7 @@ use crate::at::{At, Purpose};
 use crate::blank::blank_run;
 use crate::characters::character_run;
 use crate::digits::{digit_run, keeps_on};
-use crate::escape::{Escape, Move};
+use crate::escape::{Escape, Move, whole_escape};
 use crate::fault::Why;
 use crate::kind::Kind;
 use crate::limits::NESTING_LIMIT;
@@ -116,8 +116,7 @@ impl Reader {
         }
     }
 
-    /// Takes the characters of a string from this place that stand for themselves, the quotation mark behind them, and the colon
-    /// behind a name.
+    /// Takes the characters of a string from this place, the quotation mark behind them, and the colon behind a name.
     #[inline(always)]
     fn take_string(
         &mut self,
@@ -131,15 +130,78 @@ impl Reader {
         requires reached { Reached self.old }
         ensures { IfOk result (λ to. RunsTo self.old bytes.now from to self.new) }
     {
+        let end = self.take_characters(purpose, bytes, from)?;
+        if end == bytes.len() {
+            return Ok(end);
+        }
+        match bytes[end] {
+            b'"' => self.take_end(purpose, bytes, end),
+            b'\\' => self.take_escapes(purpose, bytes, end),
+            _ => Ok(end),
+        }
+    }
+
+    /// Takes the characters of a string from this place that stand for themselves.
+    #[inline(always)]
+    fn take_characters(
+        &mut self,
+        purpose: Purpose,
+        bytes: &[u8],
+        from: usize,
+    ) -> Result<usize, NoMemory>
+        requires at { self.old.at ≡ At.Quoted purpose Mid.Between }
+        requires inside { from ≤ length bytes.now }
+        requires fits { Fits self.old }
+        ensures runs { IfOk result (λ to. RunsTo self.old bytes.now from to self.new) }
+        ensures at { OnOk result (self.new.at ≡ At.Quoted purpose Mid.Between) }
+    {
         let rest = &bytes[from..];
         let run = character_run(rest);
         append_front(&mut self.text, rest, run)?;
-        let end = from + run;
-        if end == bytes.len() || bytes[end] != b'"' {
-            return Ok(end);
-        }
+        Ok(from + run)
+    }
+
+    /// Takes the quotation mark at this place, which ends the string, and the colon behind a name.
+    #[inline(always)]
+    fn take_end(&mut self, purpose: Purpose, bytes: &[u8], from: usize) -> Result<usize, NoMemory>
+        requires at { self.old.at ≡ At.Quoted purpose Mid.Between }
+        requires inside { from < length bytes.now }
+        requires quote { slice_index bytes.now from ≡ 34 }
+        requires fits { Fits self.old }
+        requires reached { Reached self.old }
+        ensures { IfOk result (λ to. RunsTo self.old bytes.now from to self.new) }
+    {
         self.close_string(purpose)?;
-        Ok(self.take_colon(bytes, end + 1))
+        Ok(self.take_colon(bytes, from + 1))
+    }
+
+    /// Takes the escapes from this place that are whole, the characters between and behind them, the quotation mark, and the
+    /// colon behind a name. Not inlined, since most strings have no escape.
+    #[inline(never)]
+    fn take_escapes(
+        &mut self,
+        purpose: Purpose,
+        bytes: &[u8],
+        from: usize,
+    ) -> Result<usize, NoMemory>
+        requires at { self.old.at ≡ At.Quoted purpose Mid.Between }
+        requires inside { from ≤ length bytes.now }
+        requires fits { Fits self.old }
+        requires reached { Reached self.old }
+        ensures { IfOk result (λ to. RunsTo self.old bytes.now from to self.new) }
+    {
+        let mut place = from;
+        while place < bytes.len() && bytes[place] == b'\\' {
+            let Some((character, taken)) = whole_escape(&bytes[place + 1..]) else {
+                return Ok(place);
+            };
+            self.append_character(character, At::Quoted(purpose, Mid::Between))?;
+            place = self.take_characters(purpose, bytes, place + 1 + taken)?;
+        }
+        if place == bytes.len() || bytes[place] != b'"' {
+            return Ok(place);
+        }
+        self.take_end(purpose, bytes, place)
     }
 
     /// Takes the rest of an escape from this place, and what follows it in the string. A byte that leads nowhere is left.

@@ -6,7 +6,7 @@ ghost use Rattle.mes_run.specs.Printing.{Device};
 ghost use Rattle.mes_run.specs.Showing.{ShowsOne, ShowsFrom, PrintsEvents, Follows};
 
 use crate::limits::READS_MOST;
-use crate::print::{FAULT, print_count, print_fault, print_finish};
+use crate::print::{FAULT, print_count, print_fault, print_finish, print_halt};
 use mes_frame::{Limit, Sink, Source, write_all};
 use mes_msg::Event;
 use mes_stream::{EventReader, Fault, Framing, READ_MOST, StreamReader};
@@ -66,11 +66,7 @@ pub fn follow<I: Source, O: Sink>(
         }
         let ended = match fed {
             Ok(ended) => ended,
-            Err(halt) => return print_fault(
-                out,
-                &halt.fault.into_fault(),
-                used.saturating_add(halt.used as u64),
-            ),
+            Err(halt) => return print_halt(out, halt, used),
         };
         match ended {
             Some(end) => return print_count(out, number - 1, used.saturating_add(end as u64)),

@@ -1,13 +1,14 @@
 //! Texts and lines that are printed, and the exit status.
 
-ghost use Rattle.std.specs.Prelude.{◌≡◌, ◌≤◌, [], ◌∷◌, ◌++◌, length};
+ghost use Rattle.std.specs.Prelude.{◌≡◌, ◌+◌, ◌≤◌, [], ◌∷◌, ◌++◌, length};
 ghost use Rattle.mes_stream.specs.Lines.{fault_text, count_text};
+ghost use Rattle.mes_stream.specs.Stream.{saturated};
 ghost use Rattle.mes_stream.specs.SendLines.{send_text};
 ghost use Rattle.mes_run.specs.Printing.{LacksMemory, Prints, finish_line, finish_status};
 
 use arrayvec::ArrayString;
 use mes_frame::{Sink, write_all};
-use mes_stream::{FAULT_LINE_MOST, Fault, SendFault, count_line, fault_line, send_line};
+use mes_stream::{FAULT_LINE_MOST, Fault, Halt, SendFault, count_line, fault_line, send_line};
 
 /// The status of a good run.
 pub const GOOD: u8 = 0;
@@ -70,6 +71,17 @@ pub(crate) fn print_fault<O: Sink>(out: &mut O, fault: &Fault, used: u64) -> u8
     let mut line = ArrayString::new();
     fault_line(fault, used, &mut line);
     print(out, line.as_str(), FAULT)
+}
+
+/// Prints the line of what stopped the reading of a piece that stands behind so many bytes. Answers the status. Out of line, since
+/// a fault is large and seldom told.
+#[inline(never)]
+pub(crate) fn print_halt<O: Sink>(out: &mut O, halt: Halt, before: u64) -> u8
+    ensures { Prints (record { bytes = O.written out.old; counts = O.counts out.old }) (record { bytes = O.written out.new; counts = O.counts out.new })
+        (fault_text halt.fault (saturated (before + halt.used)) ++ 10 ∷ []) 1 result }
+{
+    let used = before.saturating_add(halt.used as u64);
+    print_fault(out, &halt.fault.into_fault(), used)
 }
 
 /// Prints the line of what stopped the sending of events. Answers the status.

@@ -78,7 +78,7 @@ returns-in-Some g c =
     c.reads.reader c.feed-fed.new.self c.reads.counter c.reads.number c.in-Ok-print_events.next c.reads.used (length c.reads.buffer) c.in-Ok.taken c.in-Some.end c.print_count.result c.fetch.new.buffer c.reads.events.items c.feed-fed.new.values.items
     s c.reads-test.true (omega (arith, c.if-taken-eq0.false)) c.in-Ok.ensures.within (omega (arith, c.fetch.auto.buffer, c.reads.invariant.0)) (omega (arith, c.reads.invariant.0)) c.in-Ok.ensures.bytes.0 c.in-Ok.ensures.counted c.reads.invariant.1
     (rw c.in-Some.is at (c.in-Ok-fed.ensures.feeds c.args.framing c.args.limit s.read.w s.read.more s.read.stands)) (rw c.in-Some.is at c.in-Ok-fed.ensures.within)
-    (rw c.as_slice.ensures.value at (c.in-Ok-print_events.ensures (1 + length s.events) s.next)) (rw c.saturating_add-in-Some.ensures at c.print_count.ensures)
+    (rw c.as_slice.ensures.value at (c.in-Ok-print_events.ensures (1 + length s.events) s.next)) (rw c.saturating_add.ensures at c.print_count.ensures)
 
 pub returns-in-Err-fed : goal.returns-in-Err-fed
 returns-in-Err-fed g c =
@@ -87,11 +87,11 @@ returns-in-Err-fed g c =
     (record { bytes = g.O.Sink.written c.args.out.now; counts = g.O.Sink.counts c.args.out.now })
     (record { bytes = g.O.Sink.written c.reads.out; counts = g.O.Sink.counts c.reads.out })
     (record { bytes = g.O.Sink.written c.print_events.new.out; counts = g.O.Sink.counts c.print_events.new.out })
-    (record { bytes = g.O.Sink.written c.print_fault-in-Err-fed.new.out; counts = g.O.Sink.counts c.print_fault-in-Err-fed.new.out })
-    c.reads.reader c.feed-fed.new.self c.reads.counter c.reads.number c.in-Ok-print_events.next c.reads.used (length c.reads.buffer) c.in-Ok.taken c.print_fault-in-Err-fed.result c.fetch.new.buffer c.reads.events.items c.feed-fed.new.values.items c.in-Err-fed.halt
+    (record { bytes = g.O.Sink.written c.print_halt.new.out; counts = g.O.Sink.counts c.print_halt.new.out })
+    c.reads.reader c.feed-fed.new.self c.reads.counter c.reads.number c.in-Ok-print_events.next c.reads.used (length c.reads.buffer) c.in-Ok.taken c.print_halt.result c.fetch.new.buffer c.reads.events.items c.feed-fed.new.values.items c.in-Err-fed.halt
     s c.reads-test.true (omega (arith, c.if-taken-eq0.false)) c.in-Ok.ensures.within (omega (arith, c.fetch.auto.buffer, c.reads.invariant.0)) (omega (arith, c.reads.invariant.0)) c.in-Ok.ensures.bytes.0 c.in-Ok.ensures.counted c.reads.invariant.1
     (c.in-Err-fed.ensures.feeds c.args.framing c.args.limit s.read.w s.read.more s.read.stands)
-    (rw c.as_slice.ensures.value at (c.in-Ok-print_events.ensures (1 + length s.events) s.next)) (rw (c.saturating_add.ensures, c.into_fault.ensures) at c.print_fault-in-Err-fed.ensures)
+    (rw c.as_slice.ensures.value at (c.in-Ok-print_events.ensures (1 + length s.events) s.next)) c.print_halt.ensures
 
 pub reads-preserved : goal.reads-preserved
 reads-preserved g c =
