@@ -17,7 +17,7 @@ use crate::memory::NoMemory;
 use crate::nesting::Open;
 use crate::plain::append_front;
 use crate::stop::Stop;
-use crate::tape::{Node, Tape, text_span};
+use crate::tape::{Node, Tape, put_node, text_span};
 use crate::utf8::Mid;
 use crate::word::{Said, Word};
 use arrayvec::ArrayVec;
@@ -569,11 +569,11 @@ impl Reader {
         let (from, to) = text_span(self.start, self.text.len())?;
         match purpose {
             Purpose::Name => {
-                self.nodes.push(Node::Name { from, to })?;
+                put_node(&mut self.nodes, Node::Name { from, to })?;
                 self.at = At::Colon;
             }
             Purpose::Value => {
-                self.nodes.push(Node::Text { from, to })?;
+                put_node(&mut self.nodes, Node::Text { from, to })?;
                 self.at = At::After;
             }
         }
@@ -595,7 +595,7 @@ impl Reader {
         ensures ok { OnOk result (Puts self.old self.old.nesting.items (Node.Number self.old.start (length self.old.text.items)) At.After self.new) }
     {
         let (from, to) = text_span(self.start, self.text.len())?;
-        self.nodes.push(Node::Number { from, to })?;
+        put_node(&mut self.nodes, Node::Number { from, to })?;
         self.at = At::After;
         Ok(())
     }
@@ -638,7 +638,7 @@ impl Reader {
         ensures ok { OnOk result (Puts self.old self.old.nesting.items node at self.new) }
         ensures err { IfErr result (λ e. e ≡ no_memory) }
     {
-        self.nodes.push(node)?;
+        put_node(&mut self.nodes, node)?;
         self.at = at;
         Ok(())
     }

@@ -1,5 +1,5 @@
 //! The tape: a JSON value as one flat list of nodes over one buffer of texts.
-ghost use Rattle.std.specs.Prelude.{◌≡◌, ◌<◌, ◌≤◌, [], vec_capacity, IfOk, IfErr};
+ghost use Rattle.std.specs.Prelude.{◌≡◌, ◌<◌, ◌≤◌, [], ◌∷◌, ◌++◌, vec_len, vec_capacity, IfOk, IfErr, OnOk};
 ghost use Rattle.std.specs.List.{AllByRecursion};
 ghost use Rattle.mes_json.specs.Tape.{span, IsSpan, HasSpan};
 ghost use Rattle.mes_json.specs.Cursor.{tokens_held};
@@ -126,6 +126,28 @@ pub(crate) fn text_span(from: usize, to: usize) -> Result<(u32, u32), NoMemory>
 {
     let to = text_place(to)?;
     Ok((from as u32, to))
+}
+
+/// Puts a node behind the others. Only the growth is out of line, so a node costs a few instructions wherever one is put.
+#[inline(always)]
+pub(crate) fn put_node(nodes: &mut Vec<Node>, node: Node) -> Result<(), NoMemory>
+    ensures { OnOk result (nodes.new.items ≡ nodes.old.items ++ node ∷ []) }
+{
+    if nodes.len() >= nodes.capacity() {
+        make_room(nodes)?;
+    }
+    nodes.push_reserved(node);
+    Ok(())
+}
+
+/// Makes room for one more node.
+#[cold]
+#[inline(never)]
+fn make_room(nodes: &mut Vec<Node>) -> Result<(), NoMemory>
+    ensures items { nodes.new.items ≡ nodes.old.items }
+    ensures room { OnOk result (vec_len nodes.new < vec_capacity nodes.new) }
+{
+    Ok(nodes.reserve(1)?)
 }
 
 /// The text of a span.
