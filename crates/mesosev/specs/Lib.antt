@@ -1,4 +1,5 @@
 pub mod CommandLine
+pub mod Devices
 pub mod NamedOptions
 pub mod Telling
 pub mod Running
