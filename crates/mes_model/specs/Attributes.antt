@@ -1,12 +1,13 @@
 -- An attribute of an agent: its name, and its value by its type.
-use Rattle.std.specs.Prelude.{◌≡◌, ◌⊎◌, codes}
+use Rattle.std.specs.Prelude.{◌≡◌, ◌⊎◌, ℕ, List, [], ◌∷◌, codes}
 use Rattle.std.proofs.Common.{inl, inr, refl}
 use Rattle.mes_part.specs.Kinds.{Kind, Lawful, Returns}
 use Rattle.mes_part.specs.Leaves.{texts}
-use Rattle.mes_part.specs.Rows.{Row, need, ◌⨾◌, mapped, joined, message}
+use Rattle.mes_part.specs.Rows.{Table, need, mapped}
+use Rattle.mes_part.specs.Layouts.{Layout, needs, rows_of, no_more, ◌⨾⨾◌, laid_out, kind_of, lawful_kind, returns_kind}
 use Rattle.mes_part.specs.Choices.{no_other, case, typed}
 use Rattle.mes_part.specs.KindLaws.{lawful_texts}
-use Rattle.mes_part.specs.RowLaws.{LawfulRow, lawful_need, ◌⨾⨾◌, lawful_mapped, lawful_joined, lawful_message, message_returns}
+use Rattle.mes_part.specs.RowLaws.{LawfulTable, lawful_need, lawful_mapped}
 use Rattle.mes_part.specs.ChoiceLaws.{lawful_no_other, lawful_case, lawful_typed}
 use Rattle.mes_part.specs.declared.field.FieldWhy.TheVariants.{UnknownName}
 use Rattle.mes_model.specs.Values.{scalar, ranges, set, text_value, lawful_scalar, lawful_ranges, lawful_set, lawful_text_value}
@@ -33,7 +34,7 @@ from_attribute_value (OfSet v) = inr (inr (inl v))
 from_attribute_value (OfText v) = inr (inr (inr (inl v)))
 
 -- type !, and by it scalar !, ranges !, set ! or text !
-abbrev pub attribute_value_rows : Row AttributeValue
+abbrev pub attribute_value_rows : Table AttributeValue
 attribute_value_rows =
     mapped (typed (
     case (codes "SCALAR") (need (codes "scalar") scalar) (
@@ -47,19 +48,9 @@ attribute_value_rows =
     )
     )) to_attribute_value from_attribute_value
 
--- name !, its value
-abbrev pub attribute_rows : Row Attribute
-attribute_rows =
-    mapped (
-    need (codes "name") texts
-    ⨾ joined attribute_value_rows
-    ) (λ x. record { name = x.0; value = x.1 })
-    (λ v. (v.name, v.value))
-
-unfoldable pub attribute : Kind Attribute
-attribute = message attribute_rows
-
--- ---- their laws
+-- the names of their rows
+abbrev pub attribute_value_names : List (List ℕ)
+attribute_value_names = codes "type" ∷ codes "scalar" ∷ codes "ranges" ∷ codes "set" ∷ codes "text" ∷ []
 
 to_from_attribute_value : (v : AttributeValue) → to_attribute_value (from_attribute_value v) ≡ v
 to_from_attribute_value (OfScalar v) = refl
@@ -67,7 +58,7 @@ to_from_attribute_value (OfRanges v) = refl
 to_from_attribute_value (OfSet v) = refl
 to_from_attribute_value (OfText v) = refl
 
-lawful_attribute_value_rows : LawfulRow attribute_value_rows
+pub lawful_attribute_value_rows : LawfulTable attribute_value_rows
 lawful_attribute_value_rows =
     lawful_mapped _ _ (lawful_typed (
     lawful_case (lawful_need lawful_scalar) (lawful_case (lawful_need lawful_ranges) (
@@ -75,13 +66,22 @@ lawful_attribute_value_rows =
     ))
     ) refl) to_from_attribute_value
 
-lawful_attribute_rows : LawfulRow attribute_rows
-lawful_attribute_rows = lawful_mapped _ _ (lawful_need lawful_texts ⨾⨾ lawful_joined lawful_attribute_value_rows) (λ v. refl)
+-- name !, its value
+abbrev pub attribute_layout : Layout Attribute
+attribute_layout =
+    laid_out (
+    needs (codes "name") texts lawful_texts
+    ⨾⨾ rows_of attribute_value_rows lawful_attribute_value_rows
+    ⨾⨾ no_more
+    ) (λ x. record { name = x.0; value = x.1.0 }) (λ v. (v.name, (v.value, tt))) (λ v. refl)
+
+unfoldable pub attribute : Kind Attribute
+attribute = kind_of attribute_layout
 
 pub lawful_attribute : Lawful attribute
 unfolding attribute
-lawful_attribute = lawful_message lawful_attribute_rows
+lawful_attribute = lawful_kind attribute_layout
 
-pub attribute_back : (v : Attribute) → attribute_rows.Back v → Returns attribute v
+pub attribute_back : (v : Attribute) → attribute_layout.rows.table.Back (attribute_layout.from v) → Returns attribute v
 unfolding attribute
-attribute_back v back = message_returns lawful_attribute_rows refl v back
+attribute_back v back = returns_kind attribute_layout refl v back

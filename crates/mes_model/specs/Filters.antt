@@ -4,24 +4,24 @@ use Rattle.std.proofs.Common.{refl}
 use Rattle.mes_part.specs.Kinds.{Kind, Lawful, Returns}
 use Rattle.mes_part.specs.Numbers.{fixed}
 use Rattle.mes_part.specs.NumberLaws.{lawful_fixed}
-use Rattle.mes_part.specs.Rows.{Row, maybe, mapped, message}
-use Rattle.mes_part.specs.RowLaws.{LawfulRow, lawful_maybe, lawful_mapped, lawful_message, message_returns}
+use Rattle.mes_part.specs.Layouts.{Layout, may_have, no_more, ◌⨾⨾◌, laid_out, kind_of, lawful_kind, returns_kind}
 use Rattle.mes_model.specs.declared.filters.Filters.{Filters}
 
 -- refuse_seconds ?, in millionths
-abbrev pub filters_rows : Row Filters
-filters_rows = mapped (maybe (codes "refuse_seconds") (fixed 6)) (λ x. record { refuse_seconds = x }) (λ v. v.refuse_seconds)
+abbrev pub filters_layout : Layout Filters
+filters_layout =
+    laid_out (
+    may_have (codes "refuse_seconds") (fixed 6) (lawful_fixed 6)
+    ⨾⨾ no_more
+    ) (λ x. record { refuse_seconds = x.0 }) (λ v. (v.refuse_seconds, tt)) (λ v. refl)
 
 unfoldable pub filters : Kind Filters
-filters = message filters_rows
-
-lawful_filters_rows : LawfulRow filters_rows
-lawful_filters_rows = lawful_mapped _ _ (lawful_maybe (lawful_fixed 6)) (λ v. refl)
+filters = kind_of filters_layout
 
 pub lawful_filters : Lawful filters
 unfolding filters
-lawful_filters = lawful_message lawful_filters_rows
+lawful_filters = lawful_kind filters_layout
 
-pub filters_back : (v : Filters) → filters_rows.Back v → Returns filters v
+pub filters_back : (v : Filters) → filters_layout.rows.table.Back (filters_layout.from v) → Returns filters v
 unfolding filters
-filters_back v back = message_returns lawful_filters_rows refl v back
+filters_back v back = returns_kind filters_layout refl v back

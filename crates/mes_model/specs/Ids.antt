@@ -3,25 +3,25 @@ use Rattle.std.specs.Prelude.{codes}
 use Rattle.std.proofs.Common.{refl}
 use Rattle.mes_part.specs.Kinds.{Kind, Lawful, Returns}
 use Rattle.mes_part.specs.Leaves.{texts}
-use Rattle.mes_part.specs.Rows.{Row, need, mapped, message}
+use Rattle.mes_part.specs.Layouts.{Layout, needs, no_more, ◌⨾⨾◌, laid_out, kind_of, lawful_kind, returns_kind}
 use Rattle.mes_part.specs.KindLaws.{lawful_texts}
-use Rattle.mes_part.specs.RowLaws.{LawfulRow, lawful_need, lawful_mapped, lawful_message, message_returns}
 use Rattle.mes_model.specs.declared.id.Id.{Id}
 
 -- value !
-abbrev pub id_rows : Row Id
-id_rows = mapped (need (codes "value") texts) (λ x. record { value = x }) (λ v. v.value)
+abbrev pub id_layout : Layout Id
+id_layout =
+    laid_out (
+    needs (codes "value") texts lawful_texts
+    ⨾⨾ no_more
+    ) (λ x. record { value = x.0 }) (λ v. (v.value, tt)) (λ v. refl)
 
 unfoldable pub id : Kind Id
-id = message id_rows
-
-lawful_id_rows : LawfulRow id_rows
-lawful_id_rows = lawful_mapped _ _ (lawful_need lawful_texts) (λ v. refl)
+id = kind_of id_layout
 
 pub lawful_id : Lawful id
 unfolding id
-lawful_id = lawful_message lawful_id_rows
+lawful_id = lawful_kind id_layout
 
-pub id_back : (v : Id) → id_rows.Back v → Returns id v
+pub id_back : (v : Id) → id_layout.rows.table.Back (id_layout.from v) → Returns id v
 unfolding id
-id_back v back = message_returns lawful_id_rows refl v back
+id_back v back = returns_kind id_layout refl v back

@@ -3,9 +3,8 @@ use Rattle.std.specs.Prelude.{codes}
 use Rattle.std.proofs.Common.{refl}
 use Rattle.mes_part.specs.Kinds.{Kind, Lawful, Returns}
 use Rattle.mes_part.specs.Leaves.{texts}
-use Rattle.mes_part.specs.Rows.{Row, need, maybe, many, ◌⨾◌, mapped, message}
+use Rattle.mes_part.specs.Layouts.{Layout, needs, may_have, lists, no_more, ◌⨾⨾◌, laid_out, kind_of, lawful_kind, returns_kind}
 use Rattle.mes_part.specs.KindLaws.{lawful_texts}
-use Rattle.mes_part.specs.RowLaws.{LawfulRow, lawful_need, lawful_maybe, lawful_many, ◌⨾⨾◌, lawful_mapped, lawful_message, message_returns}
 use Rattle.mes_model.specs.Ids.{id, lawful_id}
 use Rattle.mes_model.specs.Reservations.{allocation, lawful_allocation}
 use Rattle.mes_model.specs.Resources.{resource, lawful_resource}
@@ -13,17 +12,18 @@ use Rattle.mes_model.specs.Attributes.{attribute, lawful_attribute}
 use Rattle.mes_model.specs.declared.offer.Offer.{Offer}
 
 -- id !, framework_id !, agent_id !, hostname !, resources *, attributes *, executor_ids *, allocation_info ?
-abbrev pub offer_rows : Row Offer
-offer_rows =
-    mapped (
-    need (codes "id") id
-    ⨾ need (codes "framework_id") id
-    ⨾ need (codes "agent_id") id
-    ⨾ need (codes "hostname") texts
-    ⨾ many (codes "resources") resource
-    ⨾ many (codes "attributes") attribute
-    ⨾ many (codes "executor_ids") id
-    ⨾ maybe (codes "allocation_info") allocation
+abbrev pub offer_layout : Layout Offer
+offer_layout =
+    laid_out (
+    needs (codes "id") id lawful_id
+    ⨾⨾ needs (codes "framework_id") id lawful_id
+    ⨾⨾ needs (codes "agent_id") id lawful_id
+    ⨾⨾ needs (codes "hostname") texts lawful_texts
+    ⨾⨾ lists (codes "resources") resource lawful_resource
+    ⨾⨾ lists (codes "attributes") attribute lawful_attribute
+    ⨾⨾ lists (codes "executor_ids") id lawful_id
+    ⨾⨾ may_have (codes "allocation_info") allocation lawful_allocation
+    ⨾⨾ no_more
     ) (λ x. record {
       id = x.0;
       framework_id = x.1.0;
@@ -32,29 +32,16 @@ offer_rows =
       resources = x.1.1.1.1.0;
       attributes = x.1.1.1.1.1.0;
       executor_ids = x.1.1.1.1.1.1.0;
-      allocation_info = x.1.1.1.1.1.1.1;
-    }) (λ v. (v.id, (v.framework_id, (v.agent_id, (v.hostname, (v.resources, (v.attributes, (v.executor_ids, v.allocation_info))))))))
+      allocation_info = x.1.1.1.1.1.1.1.0;
+    }) (λ v. (v.id, (v.framework_id, (v.agent_id, (v.hostname, (v.resources, (v.attributes, (v.executor_ids, (v.allocation_info, tt))))))))) (λ v. refl)
 
 unfoldable pub offer : Kind Offer
-offer = message offer_rows
-
-lawful_offer_rows : LawfulRow offer_rows
-lawful_offer_rows =
-    lawful_mapped _ _ (
-    lawful_need lawful_id
-    ⨾⨾ lawful_need lawful_id
-    ⨾⨾ lawful_need lawful_id
-    ⨾⨾ lawful_need lawful_texts
-    ⨾⨾ lawful_many lawful_resource
-    ⨾⨾ lawful_many lawful_attribute
-    ⨾⨾ lawful_many lawful_id
-    ⨾⨾ lawful_maybe lawful_allocation
-    ) (λ v. refl)
+offer = kind_of offer_layout
 
 pub lawful_offer : Lawful offer
 unfolding offer
-lawful_offer = lawful_message lawful_offer_rows
+lawful_offer = lawful_kind offer_layout
 
-pub offer_back : (v : Offer) → offer_rows.Back v → Returns offer v
+pub offer_back : (v : Offer) → offer_layout.rows.table.Back (offer_layout.from v) → Returns offer v
 unfolding offer
-offer_back v back = message_returns lawful_offer_rows refl v back
+offer_back v back = returns_kind offer_layout refl v back

@@ -4,52 +4,48 @@ use Rattle.std.proofs.Common.{refl}
 use Rattle.mes_part.specs.Kinds.{Kind, Lawful, Returns}
 use Rattle.mes_part.specs.Labels.{labels, lawful_labels}
 use Rattle.mes_part.specs.Leaves.{texts}
-use Rattle.mes_part.specs.Rows.{Row, maybe, ◌⨾◌, mapped, message}
+use Rattle.mes_part.specs.Layouts.{Layout, may_have, no_more, ◌⨾⨾◌, laid_out, kind_of, lawful_kind, returns_kind}
 use Rattle.mes_part.specs.KindLaws.{lawful_texts}
-use Rattle.mes_part.specs.RowLaws.{LawfulRow, lawful_maybe, ◌⨾⨾◌, lawful_mapped, lawful_message, message_returns}
 use Rattle.mes_model.specs.declared.allocation.Allocation.{Allocation}
 use Rattle.mes_model.specs.declared.reservation.Reservation.{Reservation}
 
 -- role ?
-abbrev pub allocation_rows : Row Allocation
-allocation_rows = mapped (maybe (codes "role") texts) (λ x. record { role = x }) (λ v. v.role)
+abbrev pub allocation_layout : Layout Allocation
+allocation_layout =
+    laid_out (
+    may_have (codes "role") texts lawful_texts
+    ⨾⨾ no_more
+    ) (λ x. record { role = x.0 }) (λ v. (v.role, tt)) (λ v. refl)
 
 unfoldable pub allocation : Kind Allocation
-allocation = message allocation_rows
-
--- type ?, role ?, principal ?, labels ?
-abbrev pub reservation_rows : Row Reservation
-reservation_rows =
-    mapped (
-    maybe (codes "type") texts
-    ⨾ maybe (codes "role") texts
-    ⨾ maybe (codes "principal") texts
-    ⨾ maybe (codes "labels") labels
-    ) (λ x. record { kind = x.0; role = x.1.0; principal = x.1.1.0; labels = x.1.1.1 })
-    (λ v. (v.kind, (v.role, (v.principal, v.labels))))
-
-unfoldable pub reservation : Kind Reservation
-reservation = message reservation_rows
-
-lawful_allocation_rows : LawfulRow allocation_rows
-lawful_allocation_rows = lawful_mapped _ _ (lawful_maybe lawful_texts) (λ v. refl)
+allocation = kind_of allocation_layout
 
 pub lawful_allocation : Lawful allocation
 unfolding allocation
-lawful_allocation = lawful_message lawful_allocation_rows
+lawful_allocation = lawful_kind allocation_layout
 
-pub allocation_back : (v : Allocation) → allocation_rows.Back v → Returns allocation v
+pub allocation_back : (v : Allocation) → allocation_layout.rows.table.Back (allocation_layout.from v) → Returns allocation v
 unfolding allocation
-allocation_back v back = message_returns lawful_allocation_rows refl v back
+allocation_back v back = returns_kind allocation_layout refl v back
 
-lawful_reservation_rows : LawfulRow reservation_rows
-lawful_reservation_rows =
-    lawful_mapped _ _ (lawful_maybe lawful_texts ⨾⨾ lawful_maybe lawful_texts ⨾⨾ lawful_maybe lawful_texts ⨾⨾ lawful_maybe lawful_labels) (λ v. refl)
+-- type ?, role ?, principal ?, labels ?
+abbrev pub reservation_layout : Layout Reservation
+reservation_layout =
+    laid_out (
+    may_have (codes "type") texts lawful_texts
+    ⨾⨾ may_have (codes "role") texts lawful_texts
+    ⨾⨾ may_have (codes "principal") texts lawful_texts
+    ⨾⨾ may_have (codes "labels") labels lawful_labels
+    ⨾⨾ no_more
+    ) (λ x. record { kind = x.0; role = x.1.0; principal = x.1.1.0; labels = x.1.1.1.0 }) (λ v. (v.kind, (v.role, (v.principal, (v.labels, tt))))) (λ v. refl)
+
+unfoldable pub reservation : Kind Reservation
+reservation = kind_of reservation_layout
 
 pub lawful_reservation : Lawful reservation
 unfolding reservation
-lawful_reservation = lawful_message lawful_reservation_rows
+lawful_reservation = lawful_kind reservation_layout
 
-pub reservation_back : (v : Reservation) → reservation_rows.Back v → Returns reservation v
+pub reservation_back : (v : Reservation) → reservation_layout.rows.table.Back (reservation_layout.from v) → Returns reservation v
 unfolding reservation
-reservation_back v back = message_returns lawful_reservation_rows refl v back
+reservation_back v back = returns_kind reservation_layout refl v back

@@ -1,12 +1,13 @@
 -- A resource of an agent: its name, its value by its type, and for whom it is.
-use Rattle.std.specs.Prelude.{◌≡◌, ◌⊎◌, codes}
+use Rattle.std.specs.Prelude.{◌≡◌, ◌⊎◌, ℕ, List, [], ◌∷◌, codes}
 use Rattle.std.proofs.Common.{inl, inr, refl}
 use Rattle.mes_part.specs.Kinds.{Kind, Lawful, Returns}
 use Rattle.mes_part.specs.Leaves.{texts, objects}
-use Rattle.mes_part.specs.Rows.{Row, need, maybe, many, flag, ◌⨾◌, mapped, joined, message}
+use Rattle.mes_part.specs.Rows.{Table, need, mapped}
+use Rattle.mes_part.specs.Layouts.{Layout, needs, may_have, lists, flags, rows_of, no_more, ◌⨾⨾◌, laid_out, kind_of, lawful_kind, returns_kind}
 use Rattle.mes_part.specs.Choices.{no_other, case, typed}
 use Rattle.mes_part.specs.KindLaws.{lawful_texts, lawful_objects}
-use Rattle.mes_part.specs.RowLaws.{LawfulRow, lawful_need, lawful_maybe, lawful_many, lawful_flag, ◌⨾⨾◌, lawful_mapped, lawful_joined, lawful_message, message_returns}
+use Rattle.mes_part.specs.RowLaws.{LawfulTable, lawful_need, lawful_mapped}
 use Rattle.mes_part.specs.ChoiceLaws.{lawful_no_other, lawful_case, lawful_typed}
 use Rattle.mes_part.specs.declared.field.FieldWhy.TheVariants.{UnknownName}
 use Rattle.mes_model.specs.Ids.{id, lawful_id}
@@ -32,7 +33,7 @@ from_resource_value (OfRanges v) = inr (inl v)
 from_resource_value (OfSet v) = inr (inr (inl v))
 
 -- type !, and by it scalar !, ranges ! or set !
-abbrev pub resource_value_rows : Row ResourceValue
+abbrev pub resource_value_rows : Table ResourceValue
 resource_value_rows =
     mapped (typed (
     case (codes "SCALAR") (need (codes "scalar") scalar) (
@@ -44,20 +45,36 @@ resource_value_rows =
     )
     )) to_resource_value from_resource_value
 
+-- the names of their rows
+abbrev pub resource_value_names : List (List ℕ)
+resource_value_names = codes "type" ∷ codes "scalar" ∷ codes "ranges" ∷ codes "set" ∷ []
+
+to_from_resource_value : (v : ResourceValue) → to_resource_value (from_resource_value v) ≡ v
+to_from_resource_value (OfScalar v) = refl
+to_from_resource_value (OfRanges v) = refl
+to_from_resource_value (OfSet v) = refl
+
+pub lawful_resource_value_rows : LawfulTable resource_value_rows
+lawful_resource_value_rows =
+    lawful_mapped _ _ (lawful_typed (
+    lawful_case (lawful_need lawful_scalar) (lawful_case (lawful_need lawful_ranges) (lawful_case (lawful_need lawful_set) lawful_no_other))
+    ) refl) to_from_resource_value
+
 -- name !, its value, role ?, allocation_info ?, reservation ?, reservations *, disk ?, revocable, shared, provider_id ?
-abbrev pub resource_rows : Row Resource
-resource_rows =
-    mapped (
-    need (codes "name") texts
-    ⨾ joined resource_value_rows
-    ⨾ maybe (codes "role") texts
-    ⨾ maybe (codes "allocation_info") allocation
-    ⨾ maybe (codes "reservation") reservation
-    ⨾ many (codes "reservations") reservation
-    ⨾ maybe (codes "disk") objects
-    ⨾ flag (codes "revocable")
-    ⨾ flag (codes "shared")
-    ⨾ maybe (codes "provider_id") id
+abbrev pub resource_layout : Layout Resource
+resource_layout =
+    laid_out (
+    needs (codes "name") texts lawful_texts
+    ⨾⨾ rows_of resource_value_rows lawful_resource_value_rows
+    ⨾⨾ may_have (codes "role") texts lawful_texts
+    ⨾⨾ may_have (codes "allocation_info") allocation lawful_allocation
+    ⨾⨾ may_have (codes "reservation") reservation lawful_reservation
+    ⨾⨾ lists (codes "reservations") reservation lawful_reservation
+    ⨾⨾ may_have (codes "disk") objects lawful_objects
+    ⨾⨾ flags (codes "revocable")
+    ⨾⨾ flags (codes "shared")
+    ⨾⨾ may_have (codes "provider_id") id lawful_id
+    ⨾⨾ no_more
     ) (λ x. record {
       name = x.0;
       value = x.1.0;
@@ -68,44 +85,16 @@ resource_rows =
       disk = x.1.1.1.1.1.1.0;
       revocable = x.1.1.1.1.1.1.1.0;
       shared = x.1.1.1.1.1.1.1.1.0;
-      provider_id = x.1.1.1.1.1.1.1.1.1;
-    }) (λ v. (v.name, (v.value, (v.role, (v.allocation_info, (v.reservation, (v.reservations, (v.disk, (v.revocable, (v.shared, v.provider_id))))))))))
+      provider_id = x.1.1.1.1.1.1.1.1.1.0;
+    }) (λ v. (v.name, (v.value, (v.role, (v.allocation_info, (v.reservation, (v.reservations, (v.disk, (v.revocable, (v.shared, (v.provider_id, tt))))))))))) (λ v. refl)
 
 unfoldable pub resource : Kind Resource
-resource = message resource_rows
-
--- ---- their laws
-
-to_from_resource_value : (v : ResourceValue) → to_resource_value (from_resource_value v) ≡ v
-to_from_resource_value (OfScalar v) = refl
-to_from_resource_value (OfRanges v) = refl
-to_from_resource_value (OfSet v) = refl
-
-lawful_resource_value_rows : LawfulRow resource_value_rows
-lawful_resource_value_rows =
-    lawful_mapped _ _ (lawful_typed (
-    lawful_case (lawful_need lawful_scalar) (lawful_case (lawful_need lawful_ranges) (lawful_case (lawful_need lawful_set) lawful_no_other))
-    ) refl) to_from_resource_value
-
-lawful_resource_rows : LawfulRow resource_rows
-lawful_resource_rows =
-    lawful_mapped _ _ (
-    lawful_need lawful_texts
-    ⨾⨾ lawful_joined lawful_resource_value_rows
-    ⨾⨾ lawful_maybe lawful_texts
-    ⨾⨾ lawful_maybe lawful_allocation
-    ⨾⨾ lawful_maybe lawful_reservation
-    ⨾⨾ lawful_many lawful_reservation
-    ⨾⨾ lawful_maybe lawful_objects
-    ⨾⨾ lawful_flag
-    ⨾⨾ lawful_flag
-    ⨾⨾ lawful_maybe lawful_id
-    ) (λ v. refl)
+resource = kind_of resource_layout
 
 pub lawful_resource : Lawful resource
 unfolding resource
-lawful_resource = lawful_message lawful_resource_rows
+lawful_resource = lawful_kind resource_layout
 
-pub resource_back : (v : Resource) → resource_rows.Back v → Returns resource v
+pub resource_back : (v : Resource) → resource_layout.rows.table.Back (resource_layout.from v) → Returns resource v
 unfolding resource
-resource_back v back = message_returns lawful_resource_rows refl v back
+resource_back v back = returns_kind resource_layout refl v back

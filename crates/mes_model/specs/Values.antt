@@ -5,9 +5,8 @@ use Rattle.mes_part.specs.Kinds.{Kind, Lawful, Returns}
 use Rattle.mes_part.specs.Leaves.{texts}
 use Rattle.mes_part.specs.Numbers.{whole, fixed}
 use Rattle.mes_part.specs.NumberLaws.{lawful_whole, lawful_fixed}
-use Rattle.mes_part.specs.Rows.{Row, need, many, ◌⨾◌, mapped, message}
+use Rattle.mes_part.specs.Layouts.{Layout, needs, lists, no_more, ◌⨾⨾◌, laid_out, kind_of, lawful_kind, returns_kind}
 use Rattle.mes_part.specs.KindLaws.{lawful_texts}
-use Rattle.mes_part.specs.RowLaws.{LawfulRow, lawful_need, lawful_many, ◌⨾⨾◌, lawful_mapped, lawful_message, message_returns}
 use Rattle.mes_model.specs.declared.value.Scalar.{Scalar}
 use Rattle.mes_model.specs.declared.value.Range.{Range}
 use Rattle.mes_model.specs.declared.value.Ranges.{Ranges}
@@ -15,98 +14,97 @@ use Rattle.mes_model.specs.declared.value.Set.{Set}
 use Rattle.mes_model.specs.declared.text_value.TextValue.{TextValue}
 
 -- value !, in thousandths
-abbrev pub scalar_rows : Row Scalar
-scalar_rows = mapped (need (codes "value") (fixed 3)) (λ x. record { value = x }) (λ v. v.value)
+abbrev pub scalar_layout : Layout Scalar
+scalar_layout =
+    laid_out (
+    needs (codes "value") (fixed 3) (lawful_fixed 3)
+    ⨾⨾ no_more
+    ) (λ x. record { value = x.0 }) (λ v. (v.value, tt)) (λ v. refl)
 
 unfoldable pub scalar : Kind Scalar
-scalar = message scalar_rows
-
--- begin !, end !
-abbrev pub range_rows : Row Range
-range_rows =
-    mapped (
-    need (codes "begin") whole
-    ⨾ need (codes "end") whole
-    ) (λ x. record { first = x.0; last = x.1 })
-    (λ v. (v.first, v.last))
-
-unfoldable pub range : Kind Range
-range = message range_rows
-
--- range *
-abbrev pub ranges_rows : Row Ranges
-ranges_rows = mapped (many (codes "range") range) (λ x. record { range = x }) (λ v. v.range)
-
-unfoldable pub ranges : Kind Ranges
-ranges = message ranges_rows
-
--- item *
-abbrev pub set_rows : Row Set
-set_rows = mapped (many (codes "item") texts) (λ x. record { item = x }) (λ v. v.item)
-
-unfoldable pub set : Kind Set
-set = message set_rows
-
--- value !
-abbrev pub text_value_rows : Row TextValue
-text_value_rows = mapped (need (codes "value") texts) (λ x. record { value = x }) (λ v. v.value)
-
-unfoldable pub text_value : Kind TextValue
-text_value = message text_value_rows
-
--- ---- their laws
-
-lawful_scalar_rows : LawfulRow scalar_rows
-lawful_scalar_rows = lawful_mapped _ _ (lawful_need (lawful_fixed 3)) (λ v. refl)
+scalar = kind_of scalar_layout
 
 pub lawful_scalar : Lawful scalar
 unfolding scalar
-lawful_scalar = lawful_message lawful_scalar_rows
+lawful_scalar = lawful_kind scalar_layout
 
-pub scalar_back : (v : Scalar) → scalar_rows.Back v → Returns scalar v
+pub scalar_back : (v : Scalar) → scalar_layout.rows.table.Back (scalar_layout.from v) → Returns scalar v
 unfolding scalar
-scalar_back v back = message_returns lawful_scalar_rows refl v back
+scalar_back v back = returns_kind scalar_layout refl v back
 
-lawful_range_rows : LawfulRow range_rows
-lawful_range_rows = lawful_mapped _ _ (lawful_need lawful_whole ⨾⨾ lawful_need lawful_whole) (λ v. refl)
+-- begin !, end !
+abbrev pub range_layout : Layout Range
+range_layout =
+    laid_out (
+    needs (codes "begin") whole lawful_whole
+    ⨾⨾ needs (codes "end") whole lawful_whole
+    ⨾⨾ no_more
+    ) (λ x. record { first = x.0; last = x.1.0 }) (λ v. (v.first, (v.last, tt))) (λ v. refl)
+
+unfoldable pub range : Kind Range
+range = kind_of range_layout
 
 pub lawful_range : Lawful range
 unfolding range
-lawful_range = lawful_message lawful_range_rows
+lawful_range = lawful_kind range_layout
 
-pub range_back : (v : Range) → range_rows.Back v → Returns range v
+pub range_back : (v : Range) → range_layout.rows.table.Back (range_layout.from v) → Returns range v
 unfolding range
-range_back v back = message_returns lawful_range_rows refl v back
+range_back v back = returns_kind range_layout refl v back
 
-lawful_ranges_rows : LawfulRow ranges_rows
-lawful_ranges_rows = lawful_mapped _ _ (lawful_many lawful_range) (λ v. refl)
+-- range *
+abbrev pub ranges_layout : Layout Ranges
+ranges_layout =
+    laid_out (
+    lists (codes "range") range lawful_range
+    ⨾⨾ no_more
+    ) (λ x. record { range = x.0 }) (λ v. (v.range, tt)) (λ v. refl)
+
+unfoldable pub ranges : Kind Ranges
+ranges = kind_of ranges_layout
 
 pub lawful_ranges : Lawful ranges
 unfolding ranges
-lawful_ranges = lawful_message lawful_ranges_rows
+lawful_ranges = lawful_kind ranges_layout
 
-pub ranges_back : (v : Ranges) → ranges_rows.Back v → Returns ranges v
+pub ranges_back : (v : Ranges) → ranges_layout.rows.table.Back (ranges_layout.from v) → Returns ranges v
 unfolding ranges
-ranges_back v back = message_returns lawful_ranges_rows refl v back
+ranges_back v back = returns_kind ranges_layout refl v back
 
-lawful_set_rows : LawfulRow set_rows
-lawful_set_rows = lawful_mapped _ _ (lawful_many lawful_texts) (λ v. refl)
+-- item *
+abbrev pub set_layout : Layout Set
+set_layout =
+    laid_out (
+    lists (codes "item") texts lawful_texts
+    ⨾⨾ no_more
+    ) (λ x. record { item = x.0 }) (λ v. (v.item, tt)) (λ v. refl)
+
+unfoldable pub set : Kind Set
+set = kind_of set_layout
 
 pub lawful_set : Lawful set
 unfolding set
-lawful_set = lawful_message lawful_set_rows
+lawful_set = lawful_kind set_layout
 
-pub set_back : (v : Set) → set_rows.Back v → Returns set v
+pub set_back : (v : Set) → set_layout.rows.table.Back (set_layout.from v) → Returns set v
 unfolding set
-set_back v back = message_returns lawful_set_rows refl v back
+set_back v back = returns_kind set_layout refl v back
 
-lawful_text_value_rows : LawfulRow text_value_rows
-lawful_text_value_rows = lawful_mapped _ _ (lawful_need lawful_texts) (λ v. refl)
+-- value !
+abbrev pub text_value_layout : Layout TextValue
+text_value_layout =
+    laid_out (
+    needs (codes "value") texts lawful_texts
+    ⨾⨾ no_more
+    ) (λ x. record { value = x.0 }) (λ v. (v.value, tt)) (λ v. refl)
+
+unfoldable pub text_value : Kind TextValue
+text_value = kind_of text_value_layout
 
 pub lawful_text_value : Lawful text_value
 unfolding text_value
-lawful_text_value = lawful_message lawful_text_value_rows
+lawful_text_value = lawful_kind text_value_layout
 
-pub text_value_back : (v : TextValue) → text_value_rows.Back v → Returns text_value v
+pub text_value_back : (v : TextValue) → text_value_layout.rows.table.Back (text_value_layout.from v) → Returns text_value v
 unfolding text_value
-text_value_back v back = message_returns lawful_text_value_rows refl v back
+text_value_back v back = returns_kind text_value_layout refl v back

@@ -1,21 +1,14 @@
 //! An attribute of an agent.
 
-ghost use Rattle.std.specs.Prelude.{◌≡◌, ◌+◌, ◌≤◌, ◌++◌, codes, length, IfOk, OnOk};
-ghost use Rattle.mes_json.specs.Tree.{Members};
-ghost use Rattle.mes_part.specs.Choices.{type_name};
-ghost use Rattle.mes_part.specs.Fields.{values_named};
-ghost use Rattle.mes_part.specs.FoundRows.{IsFound};
-ghost use Rattle.mes_part.specs.Parts.{Gives};
-ghost use Rattle.mes_part.specs.Rows.{row_value};
-ghost use Rattle.mes_part.specs.Written.{pairs_view};
-ghost use Rattle.mes_model.specs.Attributes.{attribute_value_rows};
+ghost use Rattle.std.specs.Prelude.{◌≡◌, IfOk};
 
 use crate::text_value::TextValue;
 use crate::value::{Ranges, Scalar, Set};
 use mes_json::{Element, Json, NoMemory, Text};
 use mes_part::{
-    FieldWhy, Found, Part, PartFault, Trail, find_rows, put, put_type, required, type_of,
-    type_refusal, whole_object,
+    Choice, FieldWhy, Found, MadeOf, Must, MustRef, Part, PartFault, RowList, RowRefs, Trail,
+    Typed, TypedRef, made, message_tree, pairs, put, put_type, read_message, required, type_of,
+    type_refusal,
 };
 use std::alloc::Global;
 
@@ -33,35 +26,51 @@ pub enum AttributeValue {
 }
 
 impl AttributeValue {
-    /// The value of the member `type` and of the one that belongs to the type.
-    fn read_rows(
-        alloc: Global,
-        kind: &Found<'_>,
-        scalar: &Found<'_>,
-        ranges: &Found<'_>,
-        set: &Found<'_>,
-        text: &Found<'_>,
-        path: &Trail<'_>,
-    ) -> Result<AttributeValue, PartFault>
-        requires { length path.now + 4 ≤ 16 }
-        ensures { (ms : Members) → IsFound kind.now (values_named type_name ms) → IsFound scalar.now (values_named (codes "scalar") ms)
-            → IsFound ranges.now (values_named (codes "ranges") ms) → IsFound set.now (values_named (codes "set") ms)
-            → IsFound text.now (values_named (codes "text") ms) → Gives (row_value attribute_value_rows path.now ms) result }
+    /// The same value, in memory of its own.
+    pub fn copy(&self, alloc: Global) -> Result<AttributeValue, NoMemory>
+        ensures { IfOk result (λ v. v ≡ self.now) }
     {
-        match type_of(alloc, kind, path)? {
-            "SCALAR" => Ok(AttributeValue::Scalar(required(alloc, scalar, "scalar", path)?)),
-            "RANGES" => Ok(AttributeValue::Ranges(required(alloc, ranges, "ranges", path)?)),
-            "SET" => Ok(AttributeValue::Set(required(alloc, set, "set", path)?)),
-            "TEXT" => Ok(AttributeValue::Text(required(alloc, text, "text", path)?)),
+        match self {
+            AttributeValue::Scalar(scalar) => Ok(AttributeValue::Scalar(scalar.copy(alloc)?)),
+            AttributeValue::Ranges(ranges) => Ok(AttributeValue::Ranges(ranges.copy(alloc)?)),
+            AttributeValue::Set(set) => Ok(AttributeValue::Set(set.copy(alloc)?)),
+            AttributeValue::Text(text) => Ok(AttributeValue::Text(text.copy(alloc)?)),
+        }
+    }
+}
+
+impl Choice for AttributeValue {
+    ghost use Rattle.mes_model.specs.Attributes.{attribute_value_names, attribute_value_rows};
+    ghost use Rattle.std.specs.Prelude.{refl};
+
+    ghost names = { attribute_value_names };
+
+    ghost table = { attribute_value_rows };
+
+    ghost STEPS = { 4 };
+
+    ghost COUNT = { 5 };
+
+    const COUNT: usize = 5;
+
+    ghost counted = { refl };
+
+    #[tactic(auto, using(mes_part::specs::NameLaws::names_differ))]
+    fn read_choice(
+        alloc: Global,
+        found: &[Found<'_>],
+        path: &Trail<'_>,
+    ) -> Result<AttributeValue, PartFault> {
+        match type_of(alloc, &found[0], path)? {
+            "SCALAR" => Ok(AttributeValue::Scalar(required(alloc, &found[1], "scalar", path)?)),
+            "RANGES" => Ok(AttributeValue::Ranges(required(alloc, &found[2], "ranges", path)?)),
+            "SET" => Ok(AttributeValue::Set(required(alloc, &found[3], "set", path)?)),
+            "TEXT" => Ok(AttributeValue::Text(required(alloc, &found[4], "text", path)?)),
             _ => Err(type_refusal(alloc, path, FieldWhy::UnknownName)),
         }
     }
 
-    /// Appends the row `type` and the one that belongs to the type.
-    fn put_rows(&self, members: &mut Vec<(Text, Json)>, alloc: Global) -> Result<(), NoMemory>
-        ensures members { OnOk result (pairs_view members.new.items ≡ pairs_view members.old.items ++ attribute_value_rows.members self.now) }
-        ensures back { OnOk result (attribute_value_rows.Back self.now) }
-    {
+    fn put_choice(&self, members: &mut Vec<(Text, Json)>, alloc: Global) -> Result<(), NoMemory> {
         match self {
             AttributeValue::Scalar(scalar) => {
                 put_type(members, alloc, "SCALAR")?;
@@ -82,16 +91,8 @@ impl AttributeValue {
         }
     }
 
-    /// The same value, in memory of its own.
-    pub fn copy(&self, alloc: Global) -> Result<AttributeValue, NoMemory>
-        ensures { IfOk result (λ v. v ≡ self.now) }
-    {
-        match self {
-            AttributeValue::Scalar(scalar) => Ok(AttributeValue::Scalar(scalar.copy(alloc)?)),
-            AttributeValue::Ranges(ranges) => Ok(AttributeValue::Ranges(ranges.copy(alloc)?)),
-            AttributeValue::Set(set) => Ok(AttributeValue::Set(set.copy(alloc)?)),
-            AttributeValue::Text(text) => Ok(AttributeValue::Text(text.copy(alloc)?)),
-        }
+    fn copy_choice(&self, alloc: Global) -> Result<AttributeValue, NoMemory> {
+        self.copy(alloc)
     }
 }
 
@@ -102,6 +103,28 @@ pub struct Attribute {
     pub name: Text,
     /// What it is: the member `type` and the one that belongs to it.
     pub value: AttributeValue,
+}
+
+/// The names of the rows of an attribute, in the order of the table.
+const ATTRIBUTE_NAMES: [&str; 6] = ["name", "type", "scalar", "ranges", "set", "text"];
+
+type AttributeRows = (Must<Text>, Typed<AttributeValue, ()>);
+
+impl MadeOf<<AttributeRows as RowList>::Values> for Attribute {
+    ghost use Rattle.mes_model.specs.Attributes.{attribute_layout};
+
+    ghost to = { attribute_layout.to };
+
+    fn made_of(values: <AttributeRows as RowList>::Values) -> Attribute {
+        made!(values => Attribute { name, value })
+    }
+}
+
+/// What the rows of an attribute hold.
+macro_rules! attribute_rows {
+    ($of:ident) => {
+        (MustRef(&$of.name), TypedRef(&$of.value, ()))
+    };
 }
 
 impl Part for Attribute {
@@ -115,41 +138,22 @@ impl Part for Attribute {
 
     ghost lawful = { lawful_attribute };
 
+    #[tactic(auto, unfolding(crate::specs::Attributes::attribute))]
     fn read_from(
         alloc: Global,
         element: &Element<'_>,
         path: &Trail<'_>,
     ) -> Result<Attribute, PartFault> {
-        let rows = find_rows::<6>(
-            alloc,
-            element,
-            &["name", "type", "scalar", "ranges", "set", "text"],
-            path,
-        )?;
-        let name = required(alloc, rows.at(0), "name", path)?;
-        let value = AttributeValue::read_rows(
-            alloc,
-            rows.at(1),
-            rows.at(2),
-            rows.at(3),
-            rows.at(4),
-            rows.at(5),
-            path,
-        )?;
-        Ok(Attribute { name, value })
+        read_message::<AttributeRows, Attribute, 6>(alloc, element, &ATTRIBUTE_NAMES, path)
     }
 
     #[tactic(auto, using(crate::specs::Attributes::attribute_back), unfolding(crate::specs::Attributes::attribute))]
     fn tree(&self, alloc: Global) -> Result<Json, NoMemory> {
-        let mut members = Vec::new(alloc);
-        put(&mut members, alloc, "name", &self.name)?;
-        self.value.put_rows(&mut members, alloc)?;
-        Ok(whole_object(members))
+        message_tree(alloc, &ATTRIBUTE_NAMES, &attribute_rows!(self))
     }
 
     fn copy(&self, alloc: Global) -> Result<Attribute, NoMemory> {
-        let name = self.name.copy(alloc)?;
-        let value = self.value.copy(alloc)?;
-        Ok(Attribute { name, value })
+        let values = attribute_rows!(self).copy_rows(alloc)?;
+        Ok(Attribute::made_of(values))
     }
 }

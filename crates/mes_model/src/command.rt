@@ -2,8 +2,8 @@
 
 use mes_json::{Element, Json, NoMemory, Text};
 use mes_part::{
-    List, Part, PartFault, Trail, copy_list, copy_some, find_rows, optional, put_many, put_some,
-    repeated, whole_object,
+    List, MadeOf, Many, Maybe, Part, PartFault, RowList, RowRefs, Rows3, Trail, made, message_tree,
+    pairs, read_message,
 };
 use std::alloc::Global;
 
@@ -18,6 +18,32 @@ pub struct Command {
     pub arguments: List<Text>,
 }
 
+/// The names of the rows of a command, in the order of the table.
+const COMMAND_NAMES: [&str; 3] = ["value", "shell", "arguments"];
+
+type CommandRows = Rows3<Maybe<Text>, Maybe<bool>, Many<Text>>;
+
+impl MadeOf<<CommandRows as RowList>::Values> for Command {
+    ghost use Rattle.mes_model.specs.Tasks.{command_layout};
+
+    ghost to = { command_layout.to };
+
+    fn made_of(values: <CommandRows as RowList>::Values) -> Command {
+        made!(values => Command { value, shell, arguments })
+    }
+}
+
+/// What the rows of a command hold.
+macro_rules! command_rows {
+    ($of:ident) => {
+        pairs!(
+            &$of.value,
+            &$of.shell,
+            &$of.arguments,
+        )
+    };
+}
+
 impl Part for Command {
     ghost use Rattle.mes_model.specs.Tasks.{command, lawful_command};
 
@@ -29,39 +55,22 @@ impl Part for Command {
 
     ghost lawful = { lawful_command };
 
+    #[tactic(auto, unfolding(crate::specs::Tasks::command))]
     fn read_from(
         alloc: Global,
         element: &Element<'_>,
         path: &Trail<'_>,
     ) -> Result<Command, PartFault> {
-        let rows = find_rows::<3>(alloc, element, &["value", "shell", "arguments"], path)?;
-        let value = optional(alloc, rows.at(0), "value", path)?;
-        let shell = optional(alloc, rows.at(1), "shell", path)?;
-        let arguments = repeated(alloc, rows.at(2), "arguments", path)?;
-        Ok(Command {
-            value,
-            shell,
-            arguments,
-        })
+        read_message::<CommandRows, Command, 3>(alloc, element, &COMMAND_NAMES, path)
     }
 
     #[tactic(auto, using(crate::specs::Tasks::command_back), unfolding(crate::specs::Tasks::command))]
     fn tree(&self, alloc: Global) -> Result<Json, NoMemory> {
-        let mut members = Vec::new(alloc);
-        put_some(&mut members, alloc, "value", &self.value)?;
-        put_some(&mut members, alloc, "shell", &self.shell)?;
-        put_many(&mut members, alloc, "arguments", &self.arguments)?;
-        Ok(whole_object(members))
+        message_tree(alloc, &COMMAND_NAMES, &command_rows!(self))
     }
 
     fn copy(&self, alloc: Global) -> Result<Command, NoMemory> {
-        let value = copy_some(alloc, &self.value)?;
-        let shell = copy_some(alloc, &self.shell)?;
-        let arguments = copy_list(alloc, &self.arguments)?;
-        Ok(Command {
-            value,
-            shell,
-            arguments,
-        })
+        let values = command_rows!(self).copy_rows(alloc)?;
+        Ok(Command::made_of(values))
     }
 }

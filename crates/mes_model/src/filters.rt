@@ -2,7 +2,10 @@
 
 use mes_fixed::Micros;
 use mes_json::{Element, Json, NoMemory};
-use mes_part::{Part, PartFault, Trail, copy_some, find_rows, optional, put_some, whole_object};
+use mes_part::{
+    MadeOf, Maybe, Part, PartFault, RowList, RowRefs, Rows1, Trail, made, message_tree, pairs,
+    read_message,
+};
 use std::alloc::Global;
 
 /// When a framework wants no offers.
@@ -10,6 +13,28 @@ use std::alloc::Global;
 pub struct Filters {
     /// For how long what it refuses is not offered to it again, in seconds to six places.
     pub refuse_seconds: Option<Micros>,
+}
+
+/// The names of the rows of filters, in the order of the table.
+const FILTERS_NAMES: [&str; 1] = ["refuse_seconds"];
+
+type FiltersRows = Rows1<Maybe<Micros>>;
+
+impl MadeOf<<FiltersRows as RowList>::Values> for Filters {
+    ghost use Rattle.mes_model.specs.Filters.{filters_layout};
+
+    ghost to = { filters_layout.to };
+
+    fn made_of(values: <FiltersRows as RowList>::Values) -> Filters {
+        made!(values => Filters { refuse_seconds })
+    }
+}
+
+/// What the rows of filters hold.
+macro_rules! filters_rows {
+    ($of:ident) => {
+        pairs!(&$of.refuse_seconds)
+    };
 }
 
 impl Part for Filters {
@@ -23,25 +48,22 @@ impl Part for Filters {
 
     ghost lawful = { lawful_filters };
 
+    #[tactic(auto, unfolding(crate::specs::Filters::filters))]
     fn read_from(
         alloc: Global,
         element: &Element<'_>,
         path: &Trail<'_>,
     ) -> Result<Filters, PartFault> {
-        let rows = find_rows::<1>(alloc, element, &["refuse_seconds"], path)?;
-        let refuse_seconds = optional(alloc, rows.at(0), "refuse_seconds", path)?;
-        Ok(Filters { refuse_seconds })
+        read_message::<FiltersRows, Filters, 1>(alloc, element, &FILTERS_NAMES, path)
     }
 
     #[tactic(auto, using(crate::specs::Filters::filters_back), unfolding(crate::specs::Filters::filters))]
     fn tree(&self, alloc: Global) -> Result<Json, NoMemory> {
-        let mut members = Vec::new(alloc);
-        put_some(&mut members, alloc, "refuse_seconds", &self.refuse_seconds)?;
-        Ok(whole_object(members))
+        message_tree(alloc, &FILTERS_NAMES, &filters_rows!(self))
     }
 
     fn copy(&self, alloc: Global) -> Result<Filters, NoMemory> {
-        let refuse_seconds = copy_some(alloc, &self.refuse_seconds)?;
-        Ok(Filters { refuse_seconds })
+        let values = filters_rows!(self).copy_rows(alloc)?;
+        Ok(Filters::made_of(values))
     }
 }

@@ -4,8 +4,8 @@ use crate::id::Id;
 use mes_fixed::Micros;
 use mes_json::{Element, Json, NoMemory, Text};
 use mes_part::{
-    List, Part, PartFault, Trail, copy_list, copy_some, find_rows, optional, put, put_many,
-    put_some, repeated, required, whole_object,
+    List, MadeOf, Many, Maybe, Must, MustRef, Part, PartFault, RowList, RowRefs, Rows1, Rows9,
+    Trail, made, message_tree, pairs, read_message,
 };
 use std::alloc::Global;
 
@@ -14,6 +14,28 @@ use std::alloc::Global;
 pub struct Capability {
     /// The member `type`: its name.
     pub kind: Option<Text>,
+}
+
+/// The names of the rows of a capability, in the order of the table.
+const CAPABILITY_NAMES: [&str; 1] = ["type"];
+
+type CapabilityRows = Rows1<Maybe<Text>>;
+
+impl MadeOf<<CapabilityRows as RowList>::Values> for Capability {
+    ghost use Rattle.mes_model.specs.Frameworks.{capability_layout};
+
+    ghost to = { capability_layout.to };
+
+    fn made_of(values: <CapabilityRows as RowList>::Values) -> Capability {
+        made!(values => Capability { kind })
+    }
+}
+
+/// What the rows of a capability hold.
+macro_rules! capability_rows {
+    ($of:ident) => {
+        pairs!(&$of.kind)
+    };
 }
 
 impl Part for Capability {
@@ -27,26 +49,23 @@ impl Part for Capability {
 
     ghost lawful = { lawful_capability };
 
+    #[tactic(auto, unfolding(crate::specs::Frameworks::capability))]
     fn read_from(
         alloc: Global,
         element: &Element<'_>,
         path: &Trail<'_>,
     ) -> Result<Capability, PartFault> {
-        let rows = find_rows::<1>(alloc, element, &["type"], path)?;
-        let kind = optional(alloc, rows.at(0), "type", path)?;
-        Ok(Capability { kind })
+        read_message::<CapabilityRows, Capability, 1>(alloc, element, &CAPABILITY_NAMES, path)
     }
 
     #[tactic(auto, using(crate::specs::Frameworks::capability_back), unfolding(crate::specs::Frameworks::capability))]
     fn tree(&self, alloc: Global) -> Result<Json, NoMemory> {
-        let mut members = Vec::new(alloc);
-        put_some(&mut members, alloc, "type", &self.kind)?;
-        Ok(whole_object(members))
+        message_tree(alloc, &CAPABILITY_NAMES, &capability_rows!(self))
     }
 
     fn copy(&self, alloc: Global) -> Result<Capability, NoMemory> {
-        let kind = copy_some(alloc, &self.kind)?;
-        Ok(Capability { kind })
+        let values = capability_rows!(self).copy_rows(alloc)?;
+        Ok(Capability::made_of(values))
     }
 }
 
@@ -73,6 +92,68 @@ pub struct FrameworkInfo {
     pub capabilities: List<Capability>,
 }
 
+/// The names of the rows of a framework, in the order of the table.
+const FRAMEWORK_INFO_NAMES: [&str; 9] = [
+    "user",
+    "name",
+    "id",
+    "failover_timeout",
+    "checkpoint",
+    "roles",
+    "hostname",
+    "principal",
+    "capabilities",
+];
+
+type FrameworkInfoRows = Rows9<
+    Must<Text>,
+    Must<Text>,
+    Maybe<Id>,
+    Maybe<Micros>,
+    Maybe<bool>,
+    Many<Text>,
+    Maybe<Text>,
+    Maybe<Text>,
+    Many<Capability>,
+>;
+
+impl MadeOf<<FrameworkInfoRows as RowList>::Values> for FrameworkInfo {
+    ghost use Rattle.mes_model.specs.Frameworks.{framework_info_layout};
+
+    ghost to = { framework_info_layout.to };
+
+    fn made_of(values: <FrameworkInfoRows as RowList>::Values) -> FrameworkInfo {
+        made!(values => FrameworkInfo {
+            user,
+            name,
+            id,
+            failover_timeout,
+            checkpoint,
+            roles,
+            hostname,
+            principal,
+            capabilities,
+        })
+    }
+}
+
+/// What the rows of a framework hold.
+macro_rules! framework_info_rows {
+    ($of:ident) => {
+        pairs!(
+            MustRef(&$of.user),
+            MustRef(&$of.name),
+            &$of.id,
+            &$of.failover_timeout,
+            &$of.checkpoint,
+            &$of.roles,
+            &$of.hostname,
+            &$of.principal,
+            &$of.capabilities,
+        )
+    };
+}
+
 impl Part for FrameworkInfo {
     ghost use Rattle.mes_model.specs.Frameworks.{framework_info, lawful_framework_info};
 
@@ -84,89 +165,27 @@ impl Part for FrameworkInfo {
 
     ghost lawful = { lawful_framework_info };
 
+    #[tactic(auto, unfolding(crate::specs::Frameworks::framework_info))]
     fn read_from(
         alloc: Global,
         element: &Element<'_>,
         path: &Trail<'_>,
     ) -> Result<FrameworkInfo, PartFault> {
-        let rows = find_rows::<9>(
+        read_message::<FrameworkInfoRows, FrameworkInfo, 9>(
             alloc,
             element,
-            &[
-                "user",
-                "name",
-                "id",
-                "failover_timeout",
-                "checkpoint",
-                "roles",
-                "hostname",
-                "principal",
-                "capabilities",
-            ],
+            &FRAMEWORK_INFO_NAMES,
             path,
-        )?;
-        let user = required(alloc, rows.at(0), "user", path)?;
-        let name = required(alloc, rows.at(1), "name", path)?;
-        let id = optional(alloc, rows.at(2), "id", path)?;
-        let failover_timeout = optional(alloc, rows.at(3), "failover_timeout", path)?;
-        let checkpoint = optional(alloc, rows.at(4), "checkpoint", path)?;
-        let roles = repeated(alloc, rows.at(5), "roles", path)?;
-        let hostname = optional(alloc, rows.at(6), "hostname", path)?;
-        let principal = optional(alloc, rows.at(7), "principal", path)?;
-        let capabilities = repeated(alloc, rows.at(8), "capabilities", path)?;
-        Ok(FrameworkInfo {
-            user,
-            name,
-            id,
-            failover_timeout,
-            checkpoint,
-            roles,
-            hostname,
-            principal,
-            capabilities,
-        })
+        )
     }
 
     #[tactic(auto, using(crate::specs::Frameworks::framework_info_back), unfolding(crate::specs::Frameworks::framework_info))]
     fn tree(&self, alloc: Global) -> Result<Json, NoMemory> {
-        let mut members = Vec::new(alloc);
-        put(&mut members, alloc, "user", &self.user)?;
-        put(&mut members, alloc, "name", &self.name)?;
-        put_some(&mut members, alloc, "id", &self.id)?;
-        put_some(
-            &mut members,
-            alloc,
-            "failover_timeout",
-            &self.failover_timeout,
-        )?;
-        put_some(&mut members, alloc, "checkpoint", &self.checkpoint)?;
-        put_many(&mut members, alloc, "roles", &self.roles)?;
-        put_some(&mut members, alloc, "hostname", &self.hostname)?;
-        put_some(&mut members, alloc, "principal", &self.principal)?;
-        put_many(&mut members, alloc, "capabilities", &self.capabilities)?;
-        Ok(whole_object(members))
+        message_tree(alloc, &FRAMEWORK_INFO_NAMES, &framework_info_rows!(self))
     }
 
     fn copy(&self, alloc: Global) -> Result<FrameworkInfo, NoMemory> {
-        let user = self.user.copy(alloc)?;
-        let name = self.name.copy(alloc)?;
-        let id = copy_some(alloc, &self.id)?;
-        let failover_timeout = copy_some(alloc, &self.failover_timeout)?;
-        let checkpoint = copy_some(alloc, &self.checkpoint)?;
-        let roles = copy_list(alloc, &self.roles)?;
-        let hostname = copy_some(alloc, &self.hostname)?;
-        let principal = copy_some(alloc, &self.principal)?;
-        let capabilities = copy_list(alloc, &self.capabilities)?;
-        Ok(FrameworkInfo {
-            user,
-            name,
-            id,
-            failover_timeout,
-            checkpoint,
-            roles,
-            hostname,
-            principal,
-            capabilities,
-        })
+        let values = framework_info_rows!(self).copy_rows(alloc)?;
+        Ok(FrameworkInfo::made_of(values))
     }
 }

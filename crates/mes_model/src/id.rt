@@ -1,7 +1,10 @@
 //! An identifier.
 
 use mes_json::{Element, Json, NoMemory, Text};
-use mes_part::{Part, PartFault, Trail, find_rows, put, required, whole_object};
+use mes_part::{
+    MadeOf, Must, MustRef, Part, PartFault, RowList, RowRefs, Rows1, Trail, made, message_tree,
+    pairs, read_message,
+};
 use std::alloc::Global;
 
 /// An identifier: of an offer, a framework, an agent, an executor, a provider of resources.
@@ -9,6 +12,28 @@ use std::alloc::Global;
 pub struct Id {
     /// The identifier.
     pub value: Text,
+}
+
+/// The names of the rows of an identifier, in the order of the table.
+const ID_NAMES: [&str; 1] = ["value"];
+
+type IdRows = Rows1<Must<Text>>;
+
+impl MadeOf<<IdRows as RowList>::Values> for Id {
+    ghost use Rattle.mes_model.specs.Ids.{id_layout};
+
+    ghost to = { id_layout.to };
+
+    fn made_of(values: <IdRows as RowList>::Values) -> Id {
+        made!(values => Id { value })
+    }
+}
+
+/// What the rows of an identifier hold.
+macro_rules! id_rows {
+    ($of:ident) => {
+        pairs!(MustRef(&$of.value))
+    };
 }
 
 impl Part for Id {
@@ -22,21 +47,18 @@ impl Part for Id {
 
     ghost lawful = { lawful_id };
 
+    #[tactic(auto, unfolding(crate::specs::Ids::id))]
     fn read_from(alloc: Global, element: &Element<'_>, path: &Trail<'_>) -> Result<Id, PartFault> {
-        let rows = find_rows::<1>(alloc, element, &["value"], path)?;
-        let value = required(alloc, rows.at(0), "value", path)?;
-        Ok(Id { value })
+        read_message::<IdRows, Id, 1>(alloc, element, &ID_NAMES, path)
     }
 
     #[tactic(auto, using(crate::specs::Ids::id_back), unfolding(crate::specs::Ids::id))]
     fn tree(&self, alloc: Global) -> Result<Json, NoMemory> {
-        let mut members = Vec::new(alloc);
-        put(&mut members, alloc, "value", &self.value)?;
-        Ok(whole_object(members))
+        message_tree(alloc, &ID_NAMES, &id_rows!(self))
     }
 
     fn copy(&self, alloc: Global) -> Result<Id, NoMemory> {
-        let value = self.value.copy(alloc)?;
-        Ok(Id { value })
+        let values = id_rows!(self).copy_rows(alloc)?;
+        Ok(Id::made_of(values))
     }
 }

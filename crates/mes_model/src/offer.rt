@@ -6,8 +6,8 @@ use crate::id::Id;
 use crate::resource::Resource;
 use mes_json::{Element, Json, NoMemory, Text};
 use mes_part::{
-    List, Part, PartFault, Trail, copy_list, copy_some, find_rows, optional, put, put_many,
-    put_some, repeated, required, whole_object,
+    List, MadeOf, Many, Maybe, Must, MustRef, Part, PartFault, RowList, RowRefs, Rows8, Trail,
+    made, message_tree, pairs, read_message,
 };
 use std::alloc::Global;
 
@@ -32,6 +32,64 @@ pub struct Offer {
     pub allocation_info: Option<Allocation>,
 }
 
+/// The names of the rows of an offer, in the order of the table.
+const OFFER_NAMES: [&str; 8] = [
+    "id",
+    "framework_id",
+    "agent_id",
+    "hostname",
+    "resources",
+    "attributes",
+    "executor_ids",
+    "allocation_info",
+];
+
+type OfferRows = Rows8<
+    Must<Id>,
+    Must<Id>,
+    Must<Id>,
+    Must<Text>,
+    Many<Resource>,
+    Many<Attribute>,
+    Many<Id>,
+    Maybe<Allocation>,
+>;
+
+impl MadeOf<<OfferRows as RowList>::Values> for Offer {
+    ghost use Rattle.mes_model.specs.Offers.{offer_layout};
+
+    ghost to = { offer_layout.to };
+
+    fn made_of(values: <OfferRows as RowList>::Values) -> Offer {
+        made!(values => Offer {
+            id,
+            framework_id,
+            agent_id,
+            hostname,
+            resources,
+            attributes,
+            executor_ids,
+            allocation_info,
+        })
+    }
+}
+
+/// What the rows of an offer hold.
+macro_rules! offer_rows {
+    ($of:ident) => {
+        pairs!(
+            MustRef(&$of.id),
+            MustRef(&$of.framework_id),
+            MustRef(&$of.agent_id),
+            MustRef(&$of.hostname),
+            &$of.resources,
+            &$of.attributes,
+            &$of.executor_ids,
+            &$of.allocation_info,
+        )
+    };
+}
+
 impl Part for Offer {
     ghost use Rattle.mes_model.specs.Offers.{offer, lawful_offer};
 
@@ -43,83 +101,22 @@ impl Part for Offer {
 
     ghost lawful = { lawful_offer };
 
+    #[tactic(auto, unfolding(crate::specs::Offers::offer))]
     fn read_from(
         alloc: Global,
         element: &Element<'_>,
         path: &Trail<'_>,
     ) -> Result<Offer, PartFault> {
-        let rows = find_rows::<8>(
-            alloc,
-            element,
-            &[
-                "id",
-                "framework_id",
-                "agent_id",
-                "hostname",
-                "resources",
-                "attributes",
-                "executor_ids",
-                "allocation_info",
-            ],
-            path,
-        )?;
-        let id = required(alloc, rows.at(0), "id", path)?;
-        let framework_id = required(alloc, rows.at(1), "framework_id", path)?;
-        let agent_id = required(alloc, rows.at(2), "agent_id", path)?;
-        let hostname = required(alloc, rows.at(3), "hostname", path)?;
-        let resources = repeated(alloc, rows.at(4), "resources", path)?;
-        let attributes = repeated(alloc, rows.at(5), "attributes", path)?;
-        let executor_ids = repeated(alloc, rows.at(6), "executor_ids", path)?;
-        let allocation_info = optional(alloc, rows.at(7), "allocation_info", path)?;
-        Ok(Offer {
-            id,
-            framework_id,
-            agent_id,
-            hostname,
-            resources,
-            attributes,
-            executor_ids,
-            allocation_info,
-        })
+        read_message::<OfferRows, Offer, 8>(alloc, element, &OFFER_NAMES, path)
     }
 
     #[tactic(auto, using(crate::specs::Offers::offer_back), unfolding(crate::specs::Offers::offer))]
     fn tree(&self, alloc: Global) -> Result<Json, NoMemory> {
-        let mut members = Vec::new(alloc);
-        put(&mut members, alloc, "id", &self.id)?;
-        put(&mut members, alloc, "framework_id", &self.framework_id)?;
-        put(&mut members, alloc, "agent_id", &self.agent_id)?;
-        put(&mut members, alloc, "hostname", &self.hostname)?;
-        put_many(&mut members, alloc, "resources", &self.resources)?;
-        put_many(&mut members, alloc, "attributes", &self.attributes)?;
-        put_many(&mut members, alloc, "executor_ids", &self.executor_ids)?;
-        put_some(
-            &mut members,
-            alloc,
-            "allocation_info",
-            &self.allocation_info,
-        )?;
-        Ok(whole_object(members))
+        message_tree(alloc, &OFFER_NAMES, &offer_rows!(self))
     }
 
     fn copy(&self, alloc: Global) -> Result<Offer, NoMemory> {
-        let id = self.id.copy(alloc)?;
-        let framework_id = self.framework_id.copy(alloc)?;
-        let agent_id = self.agent_id.copy(alloc)?;
-        let hostname = self.hostname.copy(alloc)?;
-        let resources = copy_list(alloc, &self.resources)?;
-        let attributes = copy_list(alloc, &self.attributes)?;
-        let executor_ids = copy_list(alloc, &self.executor_ids)?;
-        let allocation_info = copy_some(alloc, &self.allocation_info)?;
-        Ok(Offer {
-            id,
-            framework_id,
-            agent_id,
-            hostname,
-            resources,
-            attributes,
-            executor_ids,
-            allocation_info,
-        })
+        let values = offer_rows!(self).copy_rows(alloc)?;
+        Ok(Offer::made_of(values))
     }
 }

@@ -2,7 +2,8 @@
 
 use mes_json::{Element, Json, NoMemory, Text};
 use mes_part::{
-    Labels, Part, PartFault, Trail, copy_some, find_rows, optional, put_some, whole_object,
+    Labels, MadeOf, Maybe, Part, PartFault, RowList, RowRefs, Rows4, Trail, made, message_tree,
+    pairs, read_message,
 };
 use std::alloc::Global;
 
@@ -19,6 +20,33 @@ pub struct Reservation {
     pub labels: Option<Labels>,
 }
 
+/// The names of the rows of a reservation, in the order of the table.
+const RESERVATION_NAMES: [&str; 4] = ["type", "role", "principal", "labels"];
+
+type ReservationRows = Rows4<Maybe<Text>, Maybe<Text>, Maybe<Text>, Maybe<Labels>>;
+
+impl MadeOf<<ReservationRows as RowList>::Values> for Reservation {
+    ghost use Rattle.mes_model.specs.Reservations.{reservation_layout};
+
+    ghost to = { reservation_layout.to };
+
+    fn made_of(values: <ReservationRows as RowList>::Values) -> Reservation {
+        made!(values => Reservation { kind, role, principal, labels })
+    }
+}
+
+/// What the rows of a reservation hold.
+macro_rules! reservation_rows {
+    ($of:ident) => {
+        pairs!(
+            &$of.kind,
+            &$of.role,
+            &$of.principal,
+            &$of.labels,
+        )
+    };
+}
+
 impl Part for Reservation {
     ghost use Rattle.mes_model.specs.Reservations.{reservation, lawful_reservation};
 
@@ -30,49 +58,22 @@ impl Part for Reservation {
 
     ghost lawful = { lawful_reservation };
 
+    #[tactic(auto, unfolding(crate::specs::Reservations::reservation))]
     fn read_from(
         alloc: Global,
         element: &Element<'_>,
         path: &Trail<'_>,
     ) -> Result<Reservation, PartFault> {
-        let rows = find_rows::<4>(
-            alloc,
-            element,
-            &["type", "role", "principal", "labels"],
-            path,
-        )?;
-        let kind = optional(alloc, rows.at(0), "type", path)?;
-        let role = optional(alloc, rows.at(1), "role", path)?;
-        let principal = optional(alloc, rows.at(2), "principal", path)?;
-        let labels = optional(alloc, rows.at(3), "labels", path)?;
-        Ok(Reservation {
-            kind,
-            role,
-            principal,
-            labels,
-        })
+        read_message::<ReservationRows, Reservation, 4>(alloc, element, &RESERVATION_NAMES, path)
     }
 
     #[tactic(auto, using(crate::specs::Reservations::reservation_back), unfolding(crate::specs::Reservations::reservation))]
     fn tree(&self, alloc: Global) -> Result<Json, NoMemory> {
-        let mut members = Vec::new(alloc);
-        put_some(&mut members, alloc, "type", &self.kind)?;
-        put_some(&mut members, alloc, "role", &self.role)?;
-        put_some(&mut members, alloc, "principal", &self.principal)?;
-        put_some(&mut members, alloc, "labels", &self.labels)?;
-        Ok(whole_object(members))
+        message_tree(alloc, &RESERVATION_NAMES, &reservation_rows!(self))
     }
 
     fn copy(&self, alloc: Global) -> Result<Reservation, NoMemory> {
-        let kind = copy_some(alloc, &self.kind)?;
-        let role = copy_some(alloc, &self.role)?;
-        let principal = copy_some(alloc, &self.principal)?;
-        let labels = copy_some(alloc, &self.labels)?;
-        Ok(Reservation {
-            kind,
-            role,
-            principal,
-            labels,
-        })
+        let values = reservation_rows!(self).copy_rows(alloc)?;
+        Ok(Reservation::made_of(values))
     }
 }

@@ -1,14 +1,6 @@
 //! A resource of an agent.
 
-ghost use Rattle.std.specs.Prelude.{◌≡◌, ◌+◌, ◌≤◌, ◌++◌, codes, length, IfOk, OnOk};
-ghost use Rattle.mes_json.specs.Tree.{Members};
-ghost use Rattle.mes_part.specs.Choices.{type_name};
-ghost use Rattle.mes_part.specs.Fields.{values_named};
-ghost use Rattle.mes_part.specs.FoundRows.{IsFound};
-ghost use Rattle.mes_part.specs.Parts.{Gives};
-ghost use Rattle.mes_part.specs.Rows.{row_value};
-ghost use Rattle.mes_part.specs.Written.{pairs_view};
-ghost use Rattle.mes_model.specs.Resources.{resource_value_rows};
+ghost use Rattle.std.specs.Prelude.{◌≡◌, IfOk};
 
 use crate::allocation::Allocation;
 use crate::id::Id;
@@ -16,9 +8,9 @@ use crate::reservation::Reservation;
 use crate::value::{Ranges, Scalar, Set};
 use mes_json::{Element, Json, NoMemory, Text};
 use mes_part::{
-    FieldWhy, Found, Kept, List, Part, PartFault, Trail, copy_list, copy_some, find_rows, flagged,
-    optional, put, put_flag, put_many, put_some, put_type, repeated, required, type_of,
-    type_refusal, whole_object,
+    Choice, FieldWhy, Flag, Found, Kept, List, MadeOf, Many, Maybe, Must, MustRef, Part, PartFault,
+    RowList, RowRefs, Rows8, Trail, Typed, TypedRef, made, message_tree, pairs, put, put_type,
+    read_message, required, type_of, type_refusal,
 };
 use std::alloc::Global;
 
@@ -34,33 +26,49 @@ pub enum ResourceValue {
 }
 
 impl ResourceValue {
-    /// The value of the member `type` and of the one that belongs to the type.
-    fn read_rows(
-        alloc: Global,
-        kind: &Found<'_>,
-        scalar: &Found<'_>,
-        ranges: &Found<'_>,
-        set: &Found<'_>,
-        path: &Trail<'_>,
-    ) -> Result<ResourceValue, PartFault>
-        requires { length path.now + 4 ≤ 16 }
-        ensures { (ms : Members) → IsFound kind.now (values_named type_name ms) → IsFound scalar.now (values_named (codes "scalar") ms)
-            → IsFound ranges.now (values_named (codes "ranges") ms) → IsFound set.now (values_named (codes "set") ms)
-            → Gives (row_value resource_value_rows path.now ms) result }
+    /// The same value, in memory of its own.
+    pub fn copy(&self, alloc: Global) -> Result<ResourceValue, NoMemory>
+        ensures { IfOk result (λ v. v ≡ self.now) }
     {
-        match type_of(alloc, kind, path)? {
-            "SCALAR" => Ok(ResourceValue::Scalar(required(alloc, scalar, "scalar", path)?)),
-            "RANGES" => Ok(ResourceValue::Ranges(required(alloc, ranges, "ranges", path)?)),
-            "SET" => Ok(ResourceValue::Set(required(alloc, set, "set", path)?)),
+        match self {
+            ResourceValue::Scalar(scalar) => Ok(ResourceValue::Scalar(scalar.copy(alloc)?)),
+            ResourceValue::Ranges(ranges) => Ok(ResourceValue::Ranges(ranges.copy(alloc)?)),
+            ResourceValue::Set(set) => Ok(ResourceValue::Set(set.copy(alloc)?)),
+        }
+    }
+}
+
+impl Choice for ResourceValue {
+    ghost use Rattle.mes_model.specs.Resources.{resource_value_names, resource_value_rows};
+    ghost use Rattle.std.specs.Prelude.{refl};
+
+    ghost names = { resource_value_names };
+
+    ghost table = { resource_value_rows };
+
+    ghost STEPS = { 4 };
+
+    ghost COUNT = { 4 };
+
+    const COUNT: usize = 4;
+
+    ghost counted = { refl };
+
+    #[tactic(auto, using(mes_part::specs::NameLaws::names_differ))]
+    fn read_choice(
+        alloc: Global,
+        found: &[Found<'_>],
+        path: &Trail<'_>,
+    ) -> Result<ResourceValue, PartFault> {
+        match type_of(alloc, &found[0], path)? {
+            "SCALAR" => Ok(ResourceValue::Scalar(required(alloc, &found[1], "scalar", path)?)),
+            "RANGES" => Ok(ResourceValue::Ranges(required(alloc, &found[2], "ranges", path)?)),
+            "SET" => Ok(ResourceValue::Set(required(alloc, &found[3], "set", path)?)),
             _ => Err(type_refusal(alloc, path, FieldWhy::UnknownName)),
         }
     }
 
-    /// Appends the row `type` and the one that belongs to the type.
-    fn put_rows(&self, members: &mut Vec<(Text, Json)>, alloc: Global) -> Result<(), NoMemory>
-        ensures members { OnOk result (pairs_view members.new.items ≡ pairs_view members.old.items ++ resource_value_rows.members self.now) }
-        ensures back { OnOk result (resource_value_rows.Back self.now) }
-    {
+    fn put_choice(&self, members: &mut Vec<(Text, Json)>, alloc: Global) -> Result<(), NoMemory> {
         match self {
             ResourceValue::Scalar(scalar) => {
                 put_type(members, alloc, "SCALAR")?;
@@ -77,15 +85,8 @@ impl ResourceValue {
         }
     }
 
-    /// The same value, in memory of its own.
-    pub fn copy(&self, alloc: Global) -> Result<ResourceValue, NoMemory>
-        ensures { IfOk result (λ v. v ≡ self.now) }
-    {
-        match self {
-            ResourceValue::Scalar(scalar) => Ok(ResourceValue::Scalar(scalar.copy(alloc)?)),
-            ResourceValue::Ranges(ranges) => Ok(ResourceValue::Ranges(ranges.copy(alloc)?)),
-            ResourceValue::Set(set) => Ok(ResourceValue::Set(set.copy(alloc)?)),
-        }
+    fn copy_choice(&self, alloc: Global) -> Result<ResourceValue, NoMemory> {
+        self.copy(alloc)
     }
 }
 
@@ -114,8 +115,8 @@ pub struct Resource {
     pub provider_id: Option<Id>,
 }
 
-/// The names of the rows, in the order of the table.
-const ROWS: [&str; 13] = [
+/// The names of the rows of a resource, in the order of the table.
+const RESOURCE_NAMES: [&str; 13] = [
     "name",
     "type",
     "scalar",
@@ -131,41 +132,30 @@ const ROWS: [&str; 13] = [
     "provider_id",
 ];
 
-impl Part for Resource {
-    ghost use Rattle.mes_model.specs.Resources.{resource, lawful_resource};
+type ResourceRows = (
+    Must<Text>,
+    Typed<
+        ResourceValue,
+        Rows8<
+            Maybe<Text>,
+            Maybe<Allocation>,
+            Maybe<Reservation>,
+            Many<Reservation>,
+            Maybe<Kept>,
+            Flag,
+            Flag,
+            Maybe<Id>,
+        >,
+    >,
+);
 
-    ghost kind = { resource };
+impl MadeOf<<ResourceRows as RowList>::Values> for Resource {
+    ghost use Rattle.mes_model.specs.Resources.{resource_layout};
 
-    ghost STEPS = { 6 };
+    ghost to = { resource_layout.to };
 
-    const STEPS: u32 = 6;
-
-    ghost lawful = { lawful_resource };
-
-    fn read_from(
-        alloc: Global,
-        element: &Element<'_>,
-        path: &Trail<'_>,
-    ) -> Result<Resource, PartFault> {
-        let rows = find_rows::<13>(alloc, element, &ROWS, path)?;
-        let name = required(alloc, rows.at(0), "name", path)?;
-        let value = ResourceValue::read_rows(
-            alloc,
-            rows.at(1),
-            rows.at(2),
-            rows.at(3),
-            rows.at(4),
-            path,
-        )?;
-        let role = optional(alloc, rows.at(5), "role", path)?;
-        let allocation_info = optional(alloc, rows.at(6), "allocation_info", path)?;
-        let reservation = optional(alloc, rows.at(7), "reservation", path)?;
-        let reservations = repeated(alloc, rows.at(8), "reservations", path)?;
-        let disk = optional(alloc, rows.at(9), "disk", path)?;
-        let revocable = flagged(alloc, rows.at(10), "revocable", path)?;
-        let shared = flagged(alloc, rows.at(11), "shared", path)?;
-        let provider_id = optional(alloc, rows.at(12), "provider_id", path)?;
-        Ok(Resource {
+    fn made_of(values: <ResourceRows as RowList>::Values) -> Resource {
+        made!(values => Resource {
             name,
             value,
             role,
@@ -178,48 +168,57 @@ impl Part for Resource {
             provider_id,
         })
     }
+}
+
+/// What the rows of a resource hold.
+macro_rules! resource_rows {
+    ($of:ident) => {
+        (
+            MustRef(&$of.name),
+            TypedRef(
+                &$of.value,
+                pairs!(
+                    &$of.role,
+                    &$of.allocation_info,
+                    &$of.reservation,
+                    &$of.reservations,
+                    &$of.disk,
+                    $of.revocable,
+                    $of.shared,
+                    &$of.provider_id,
+                ),
+            ),
+        )
+    };
+}
+
+impl Part for Resource {
+    ghost use Rattle.mes_model.specs.Resources.{resource, lawful_resource};
+
+    ghost kind = { resource };
+
+    ghost STEPS = { 6 };
+
+    const STEPS: u32 = 6;
+
+    ghost lawful = { lawful_resource };
+
+    #[tactic(auto, unfolding(crate::specs::Resources::resource))]
+    fn read_from(
+        alloc: Global,
+        element: &Element<'_>,
+        path: &Trail<'_>,
+    ) -> Result<Resource, PartFault> {
+        read_message::<ResourceRows, Resource, 13>(alloc, element, &RESOURCE_NAMES, path)
+    }
 
     #[tactic(auto, using(crate::specs::Resources::resource_back), unfolding(crate::specs::Resources::resource))]
     fn tree(&self, alloc: Global) -> Result<Json, NoMemory> {
-        let mut members = Vec::new(alloc);
-        put(&mut members, alloc, "name", &self.name)?;
-        self.value.put_rows(&mut members, alloc)?;
-        put_some(&mut members, alloc, "role", &self.role)?;
-        put_some(
-            &mut members,
-            alloc,
-            "allocation_info",
-            &self.allocation_info,
-        )?;
-        put_some(&mut members, alloc, "reservation", &self.reservation)?;
-        put_many(&mut members, alloc, "reservations", &self.reservations)?;
-        put_some(&mut members, alloc, "disk", &self.disk)?;
-        put_flag(&mut members, alloc, "revocable", self.revocable)?;
-        put_flag(&mut members, alloc, "shared", self.shared)?;
-        put_some(&mut members, alloc, "provider_id", &self.provider_id)?;
-        Ok(whole_object(members))
+        message_tree(alloc, &RESOURCE_NAMES, &resource_rows!(self))
     }
 
     fn copy(&self, alloc: Global) -> Result<Resource, NoMemory> {
-        let name = self.name.copy(alloc)?;
-        let value = self.value.copy(alloc)?;
-        let role = copy_some(alloc, &self.role)?;
-        let allocation_info = copy_some(alloc, &self.allocation_info)?;
-        let reservation = copy_some(alloc, &self.reservation)?;
-        let reservations = copy_list(alloc, &self.reservations)?;
-        let disk = copy_some(alloc, &self.disk)?;
-        let provider_id = copy_some(alloc, &self.provider_id)?;
-        Ok(Resource {
-            name,
-            value,
-            role,
-            allocation_info,
-            reservation,
-            reservations,
-            disk,
-            revocable: self.revocable,
-            shared: self.shared,
-            provider_id,
-        })
+        let values = resource_rows!(self).copy_rows(alloc)?;
+        Ok(Resource::made_of(values))
     }
 }

@@ -5,8 +5,8 @@ use crate::id::Id;
 use crate::resource::Resource;
 use mes_json::{Element, Json, NoMemory, Text};
 use mes_part::{
-    Kept, List, Part, PartFault, Trail, copy_list, copy_some, find_rows, optional, put, put_many,
-    put_some, repeated, required, whole_object,
+    Kept, List, MadeOf, Many, Maybe, Must, MustRef, Part, PartFault, RowList, RowRefs, Rows6,
+    Trail, made, message_tree, pairs, read_message,
 };
 use std::alloc::Global;
 
@@ -27,6 +27,49 @@ pub struct TaskInfo {
     pub executor: Option<Kept>,
 }
 
+/// The names of the rows of a task, in the order of the table.
+const TASK_INFO_NAMES: [&str; 6] = [
+    "name",
+    "task_id",
+    "agent_id",
+    "resources",
+    "command",
+    "executor",
+];
+
+type TaskInfoRows = Rows6<
+    Must<Text>,
+    Must<Id>,
+    Must<Id>,
+    Many<Resource>,
+    Maybe<Command>,
+    Maybe<Kept>,
+>;
+
+impl MadeOf<<TaskInfoRows as RowList>::Values> for TaskInfo {
+    ghost use Rattle.mes_model.specs.Tasks.{task_info_layout};
+
+    ghost to = { task_info_layout.to };
+
+    fn made_of(values: <TaskInfoRows as RowList>::Values) -> TaskInfo {
+        made!(values => TaskInfo { name, task_id, agent_id, resources, command, executor })
+    }
+}
+
+/// What the rows of a task hold.
+macro_rules! task_info_rows {
+    ($of:ident) => {
+        pairs!(
+            MustRef(&$of.name),
+            MustRef(&$of.task_id),
+            MustRef(&$of.agent_id),
+            &$of.resources,
+            &$of.command,
+            &$of.executor,
+        )
+    };
+}
+
 impl Part for TaskInfo {
     ghost use Rattle.mes_model.specs.Tasks.{task_info, lawful_task_info};
 
@@ -38,66 +81,22 @@ impl Part for TaskInfo {
 
     ghost lawful = { lawful_task_info };
 
+    #[tactic(auto, unfolding(crate::specs::Tasks::task_info))]
     fn read_from(
         alloc: Global,
         element: &Element<'_>,
         path: &Trail<'_>,
     ) -> Result<TaskInfo, PartFault> {
-        let rows = find_rows::<6>(
-            alloc,
-            element,
-            &[
-                "name",
-                "task_id",
-                "agent_id",
-                "resources",
-                "command",
-                "executor",
-            ],
-            path,
-        )?;
-        let name = required(alloc, rows.at(0), "name", path)?;
-        let task_id = required(alloc, rows.at(1), "task_id", path)?;
-        let agent_id = required(alloc, rows.at(2), "agent_id", path)?;
-        let resources = repeated(alloc, rows.at(3), "resources", path)?;
-        let command = optional(alloc, rows.at(4), "command", path)?;
-        let executor = optional(alloc, rows.at(5), "executor", path)?;
-        Ok(TaskInfo {
-            name,
-            task_id,
-            agent_id,
-            resources,
-            command,
-            executor,
-        })
+        read_message::<TaskInfoRows, TaskInfo, 6>(alloc, element, &TASK_INFO_NAMES, path)
     }
 
     #[tactic(auto, using(crate::specs::Tasks::task_info_back), unfolding(crate::specs::Tasks::task_info))]
     fn tree(&self, alloc: Global) -> Result<Json, NoMemory> {
-        let mut members = Vec::new(alloc);
-        put(&mut members, alloc, "name", &self.name)?;
-        put(&mut members, alloc, "task_id", &self.task_id)?;
-        put(&mut members, alloc, "agent_id", &self.agent_id)?;
-        put_many(&mut members, alloc, "resources", &self.resources)?;
-        put_some(&mut members, alloc, "command", &self.command)?;
-        put_some(&mut members, alloc, "executor", &self.executor)?;
-        Ok(whole_object(members))
+        message_tree(alloc, &TASK_INFO_NAMES, &task_info_rows!(self))
     }
 
     fn copy(&self, alloc: Global) -> Result<TaskInfo, NoMemory> {
-        let name = self.name.copy(alloc)?;
-        let task_id = self.task_id.copy(alloc)?;
-        let agent_id = self.agent_id.copy(alloc)?;
-        let resources = copy_list(alloc, &self.resources)?;
-        let command = copy_some(alloc, &self.command)?;
-        let executor = copy_some(alloc, &self.executor)?;
-        Ok(TaskInfo {
-            name,
-            task_id,
-            agent_id,
-            resources,
-            command,
-            executor,
-        })
+        let values = task_info_rows!(self).copy_rows(alloc)?;
+        Ok(TaskInfo::made_of(values))
     }
 }

@@ -3,7 +3,8 @@
 use crate::id::Id;
 use mes_json::{Element, Json, NoMemory};
 use mes_part::{
-    Part, PartFault, Trail, copy_some, find_rows, optional, put, put_some, required, whole_object,
+    MadeOf, Maybe, Must, MustRef, Part, PartFault, RowList, RowRefs, Rows2, Trail, made,
+    message_tree, pairs, read_message,
 };
 use std::alloc::Global;
 
@@ -14,6 +15,31 @@ pub struct TaskRef {
     pub task_id: Id,
     /// The agent that it runs on, where that is known.
     pub agent_id: Option<Id>,
+}
+
+/// The names of the rows of a task that is asked about, in the order of the table.
+const TASK_REF_NAMES: [&str; 2] = ["task_id", "agent_id"];
+
+type TaskRefRows = Rows2<Must<Id>, Maybe<Id>>;
+
+impl MadeOf<<TaskRefRows as RowList>::Values> for TaskRef {
+    ghost use Rattle.mes_model.specs.Tasks.{task_ref_layout};
+
+    ghost to = { task_ref_layout.to };
+
+    fn made_of(values: <TaskRefRows as RowList>::Values) -> TaskRef {
+        made!(values => TaskRef { task_id, agent_id })
+    }
+}
+
+/// What the rows of a task that is asked about hold.
+macro_rules! task_ref_rows {
+    ($of:ident) => {
+        pairs!(
+            MustRef(&$of.task_id),
+            &$of.agent_id,
+        )
+    };
 }
 
 impl Part for TaskRef {
@@ -27,28 +53,22 @@ impl Part for TaskRef {
 
     ghost lawful = { lawful_task_ref };
 
+    #[tactic(auto, unfolding(crate::specs::Tasks::task_ref))]
     fn read_from(
         alloc: Global,
         element: &Element<'_>,
         path: &Trail<'_>,
     ) -> Result<TaskRef, PartFault> {
-        let rows = find_rows::<2>(alloc, element, &["task_id", "agent_id"], path)?;
-        let task_id = required(alloc, rows.at(0), "task_id", path)?;
-        let agent_id = optional(alloc, rows.at(1), "agent_id", path)?;
-        Ok(TaskRef { task_id, agent_id })
+        read_message::<TaskRefRows, TaskRef, 2>(alloc, element, &TASK_REF_NAMES, path)
     }
 
     #[tactic(auto, using(crate::specs::Tasks::task_ref_back), unfolding(crate::specs::Tasks::task_ref))]
     fn tree(&self, alloc: Global) -> Result<Json, NoMemory> {
-        let mut members = Vec::new(alloc);
-        put(&mut members, alloc, "task_id", &self.task_id)?;
-        put_some(&mut members, alloc, "agent_id", &self.agent_id)?;
-        Ok(whole_object(members))
+        message_tree(alloc, &TASK_REF_NAMES, &task_ref_rows!(self))
     }
 
     fn copy(&self, alloc: Global) -> Result<TaskRef, NoMemory> {
-        let task_id = self.task_id.copy(alloc)?;
-        let agent_id = copy_some(alloc, &self.agent_id)?;
-        Ok(TaskRef { task_id, agent_id })
+        let values = task_ref_rows!(self).copy_rows(alloc)?;
+        Ok(TaskRef::made_of(values))
     }
 }

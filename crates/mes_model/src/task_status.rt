@@ -9,8 +9,8 @@ use crate::task_state::TaskState;
 use mes_fixed::Micros;
 use mes_json::{Element, Json, NoMemory, Text};
 use mes_part::{
-    Bytes, Part, PartFault, Trail, copy_some, find_rows, optional, put, put_some, required,
-    whole_object,
+    Bytes, MadeOf, Maybe, Must, MustRef, Part, PartFault, RowList, RowRefs, Rows11, Trail, made,
+    message_tree, pairs, read_message,
 };
 use std::alloc::Global;
 
@@ -69,8 +69,8 @@ impl TaskStatus {
     }
 }
 
-/// The names of the rows, in the order of the table.
-const ROWS: [&str; 11] = [
+/// The names of the rows of a status, in the order of the table.
+const TASK_STATUS_NAMES: [&str; 11] = [
     "task_id",
     "state",
     "message",
@@ -84,35 +84,27 @@ const ROWS: [&str; 11] = [
     "healthy",
 ];
 
-impl Part for TaskStatus {
-    ghost use Rattle.mes_model.specs.TaskStatuses.{task_status, lawful_task_status};
+type TaskStatusRows = Rows11<
+    Must<Id>,
+    Must<TaskState>,
+    Maybe<Text>,
+    Maybe<Text>,
+    Maybe<Text>,
+    Maybe<Bytes>,
+    Maybe<Id>,
+    Maybe<Id>,
+    Maybe<Micros>,
+    Maybe<Bytes>,
+    Maybe<bool>,
+>;
 
-    ghost kind = { task_status };
+impl MadeOf<<TaskStatusRows as RowList>::Values> for TaskStatus {
+    ghost use Rattle.mes_model.specs.TaskStatuses.{task_status_layout};
 
-    ghost STEPS = { 2 };
+    ghost to = { task_status_layout.to };
 
-    const STEPS: u32 = 2;
-
-    ghost lawful = { lawful_task_status };
-
-    fn read_from(
-        alloc: Global,
-        element: &Element<'_>,
-        path: &Trail<'_>,
-    ) -> Result<TaskStatus, PartFault> {
-        let rows = find_rows::<11>(alloc, element, &ROWS, path)?;
-        let task_id = required(alloc, rows.at(0), "task_id", path)?;
-        let state = required(alloc, rows.at(1), "state", path)?;
-        let message = optional(alloc, rows.at(2), "message", path)?;
-        let source = optional(alloc, rows.at(3), "source", path)?;
-        let reason = optional(alloc, rows.at(4), "reason", path)?;
-        let payload = optional(alloc, rows.at(5), "data", path)?;
-        let agent_id = optional(alloc, rows.at(6), "agent_id", path)?;
-        let executor_id = optional(alloc, rows.at(7), "executor_id", path)?;
-        let timestamp = optional(alloc, rows.at(8), "timestamp", path)?;
-        let uuid = optional(alloc, rows.at(9), "uuid", path)?;
-        let healthy = optional(alloc, rows.at(10), "healthy", path)?;
-        Ok(TaskStatus {
+    fn made_of(values: <TaskStatusRows as RowList>::Values) -> TaskStatus {
+        made!(values => TaskStatus {
             task_id,
             state,
             message,
@@ -126,45 +118,54 @@ impl Part for TaskStatus {
             healthy,
         })
     }
+}
+
+/// What the rows of a status hold.
+macro_rules! task_status_rows {
+    ($of:ident) => {
+        pairs!(
+            MustRef(&$of.task_id),
+            MustRef(&$of.state),
+            &$of.message,
+            &$of.source,
+            &$of.reason,
+            &$of.payload,
+            &$of.agent_id,
+            &$of.executor_id,
+            &$of.timestamp,
+            &$of.uuid,
+            &$of.healthy,
+        )
+    };
+}
+
+impl Part for TaskStatus {
+    ghost use Rattle.mes_model.specs.TaskStatuses.{task_status, lawful_task_status};
+
+    ghost kind = { task_status };
+
+    ghost STEPS = { 2 };
+
+    const STEPS: u32 = 2;
+
+    ghost lawful = { lawful_task_status };
+
+    #[tactic(auto, unfolding(crate::specs::TaskStatuses::task_status))]
+    fn read_from(
+        alloc: Global,
+        element: &Element<'_>,
+        path: &Trail<'_>,
+    ) -> Result<TaskStatus, PartFault> {
+        read_message::<TaskStatusRows, TaskStatus, 11>(alloc, element, &TASK_STATUS_NAMES, path)
+    }
 
     #[tactic(auto, using(crate::specs::TaskStatuses::task_status_back), unfolding(crate::specs::TaskStatuses::task_status))]
     fn tree(&self, alloc: Global) -> Result<Json, NoMemory> {
-        let mut members = Vec::new(alloc);
-        put(&mut members, alloc, "task_id", &self.task_id)?;
-        put(&mut members, alloc, "state", &self.state)?;
-        put_some(&mut members, alloc, "message", &self.message)?;
-        put_some(&mut members, alloc, "source", &self.source)?;
-        put_some(&mut members, alloc, "reason", &self.reason)?;
-        put_some(&mut members, alloc, "data", &self.payload)?;
-        put_some(&mut members, alloc, "agent_id", &self.agent_id)?;
-        put_some(&mut members, alloc, "executor_id", &self.executor_id)?;
-        put_some(&mut members, alloc, "timestamp", &self.timestamp)?;
-        put_some(&mut members, alloc, "uuid", &self.uuid)?;
-        put_some(&mut members, alloc, "healthy", &self.healthy)?;
-        Ok(whole_object(members))
+        message_tree(alloc, &TASK_STATUS_NAMES, &task_status_rows!(self))
     }
 
     fn copy(&self, alloc: Global) -> Result<TaskStatus, NoMemory> {
-        let task_id = self.task_id.copy(alloc)?;
-        let message = copy_some(alloc, &self.message)?;
-        let source = copy_some(alloc, &self.source)?;
-        let reason = copy_some(alloc, &self.reason)?;
-        let payload = copy_some(alloc, &self.payload)?;
-        let agent_id = copy_some(alloc, &self.agent_id)?;
-        let executor_id = copy_some(alloc, &self.executor_id)?;
-        let uuid = copy_some(alloc, &self.uuid)?;
-        Ok(TaskStatus {
-            task_id,
-            state: self.state,
-            message,
-            source,
-            reason,
-            payload,
-            agent_id,
-            executor_id,
-            timestamp: self.timestamp,
-            uuid,
-            healthy: self.healthy,
-        })
+        let values = task_status_rows!(self).copy_rows(alloc)?;
+        Ok(TaskStatus::made_of(values))
     }
 }

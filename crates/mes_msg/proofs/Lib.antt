@@ -3,3 +3,4 @@ mod NameLemmas
 mod CallLemmas
 pub mod RecordLemmas
 mod TextLaw
+mod ChoiceLemmas

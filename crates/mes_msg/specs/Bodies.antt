@@ -7,9 +7,9 @@ use Rattle.mes_part.specs.Kinds.{Kind, Lawful, Returns}
 use Rattle.mes_part.specs.Leaves.{texts}
 use Rattle.mes_part.specs.Numbers.{signed32, fixed}
 use Rattle.mes_part.specs.NumberLaws.{lawful_signed32, lawful_fixed}
-use Rattle.mes_part.specs.Rows.{Row, need, maybe, ◌⨾◌, mapped, message}
+use Rattle.mes_part.specs.Rows.{message}
+use Rattle.mes_part.specs.Layouts.{Layout, needs, may_have, no_more, ◌⨾⨾◌, laid_out, kind_of, lawful_kind, returns_kind}
 use Rattle.mes_part.specs.KindLaws.{lawful_texts}
-use Rattle.mes_part.specs.RowLaws.{LawfulRow, lawful_need, lawful_maybe, ◌⨾⨾◌, lawful_mapped, lawful_message, message_returns}
 use Rattle.mes_model.specs.Ids.{id, lawful_id}
 use Rattle.mes_model.specs.TaskStatuses.{task_status, lawful_task_status}
 use Rattle.mes_msg.specs.declared.bodies.Subscribed.{Subscribed}
@@ -20,134 +20,120 @@ use Rattle.mes_msg.specs.declared.bodies.Failure.{Failure}
 use Rattle.mes_msg.specs.declared.bodies.ErrorBody.{ErrorBody}
 
 -- framework_id !, heartbeat_interval_seconds ?, in millionths
-abbrev pub subscribed_rows : Row Subscribed
-subscribed_rows =
-    mapped (
-    need (codes "framework_id") id
-    ⨾ maybe (codes "heartbeat_interval_seconds") (fixed 6)
-    ) (λ x. record { framework_id = x.0; heartbeat_interval_seconds = x.1 }) (λ v. (v.framework_id, v.heartbeat_interval_seconds))
+abbrev pub subscribed_layout : Layout Subscribed
+subscribed_layout =
+    laid_out (
+    needs (codes "framework_id") id lawful_id
+    ⨾⨾ may_have (codes "heartbeat_interval_seconds") (fixed 6) (lawful_fixed 6)
+    ⨾⨾ no_more
+    ) (λ x. record { framework_id = x.0; heartbeat_interval_seconds = x.1.0 }) (λ v. (v.framework_id, (v.heartbeat_interval_seconds, tt))) (λ v. refl)
 
 unfoldable pub subscribed : Kind Subscribed
-subscribed = message subscribed_rows
-
--- offer_id !
-abbrev pub rescind_rows : Row Rescind
-rescind_rows =
-    mapped (
-    need (codes "offer_id") id
-    ) (λ x. record { offer_id = x }) (λ v. v.offer_id)
-
-unfoldable pub rescind : Kind Rescind
-rescind = message rescind_rows
-
--- status !
-abbrev pub update_rows : Row Update
-update_rows =
-    mapped (
-    need (codes "status") task_status
-    ) (λ x. record { status = x }) (λ v. v.status)
-
-unfoldable pub update : Kind Update
-update = message update_rows
-
--- agent_id !, executor_id !, data !
-abbrev pub message_body_rows : Row Message
-message_body_rows =
-    mapped (
-    need (codes "agent_id") id
-    ⨾ need (codes "executor_id") id
-    ⨾ need (codes "data") base64_bytes
-    ) (λ x. record { agent_id = x.0; executor_id = x.1.0; payload = x.1.1 }) (λ v. (v.agent_id, (v.executor_id, v.payload)))
-
-unfoldable pub message_body : Kind Message
-message_body = message message_body_rows
-
--- agent_id ?, executor_id ?, status ?
-abbrev pub failure_rows : Row Failure
-failure_rows =
-    mapped (
-    maybe (codes "agent_id") id
-    ⨾ maybe (codes "executor_id") id
-    ⨾ maybe (codes "status") signed32
-    ) (λ x. record { agent_id = x.0; executor_id = x.1.0; status = x.1.1 }) (λ v. (v.agent_id, (v.executor_id, v.status)))
-
-unfoldable pub failure : Kind Failure
-failure = message failure_rows
-
--- message !
-abbrev pub error_body_rows : Row ErrorBody
-error_body_rows =
-    mapped (
-    need (codes "message") texts
-    ) (λ x. record { message = x }) (λ v. v.message)
-
-unfoldable pub error_body : Kind ErrorBody
-error_body = message error_body_rows
-
--- ---- their laws
-
-lawful_subscribed_rows : LawfulRow subscribed_rows
-lawful_subscribed_rows = lawful_mapped _ _ (lawful_need lawful_id ⨾⨾ lawful_maybe (lawful_fixed 6)) (λ v. refl)
+subscribed = kind_of subscribed_layout
 
 pub lawful_subscribed : Lawful subscribed
 unfolding subscribed
-lawful_subscribed = lawful_message lawful_subscribed_rows
+lawful_subscribed = lawful_kind subscribed_layout
 
-pub subscribed_back : (v : Subscribed) → subscribed_rows.Back v → Returns subscribed v
+pub subscribed_back : (v : Subscribed) → subscribed_layout.rows.table.Back (subscribed_layout.from v) → Returns subscribed v
 unfolding subscribed
-subscribed_back v back = message_returns lawful_subscribed_rows refl v back
+subscribed_back v back = returns_kind subscribed_layout refl v back
 
-lawful_rescind_rows : LawfulRow rescind_rows
-lawful_rescind_rows = lawful_mapped _ _ (lawful_need lawful_id) (λ v. refl)
+-- offer_id !
+abbrev pub rescind_layout : Layout Rescind
+rescind_layout =
+    laid_out (
+    needs (codes "offer_id") id lawful_id
+    ⨾⨾ no_more
+    ) (λ x. record { offer_id = x.0 }) (λ v. (v.offer_id, tt)) (λ v. refl)
+
+unfoldable pub rescind : Kind Rescind
+rescind = kind_of rescind_layout
 
 pub lawful_rescind : Lawful rescind
 unfolding rescind
-lawful_rescind = lawful_message lawful_rescind_rows
+lawful_rescind = lawful_kind rescind_layout
 
-pub rescind_back : (v : Rescind) → rescind_rows.Back v → Returns rescind v
+pub rescind_back : (v : Rescind) → rescind_layout.rows.table.Back (rescind_layout.from v) → Returns rescind v
 unfolding rescind
-rescind_back v back = message_returns lawful_rescind_rows refl v back
+rescind_back v back = returns_kind rescind_layout refl v back
 
-lawful_update_rows : LawfulRow update_rows
-lawful_update_rows = lawful_mapped _ _ (lawful_need lawful_task_status) (λ v. refl)
+-- status !
+abbrev pub update_layout : Layout Update
+update_layout =
+    laid_out (
+    needs (codes "status") task_status lawful_task_status
+    ⨾⨾ no_more
+    ) (λ x. record { status = x.0 }) (λ v. (v.status, tt)) (λ v. refl)
+
+unfoldable pub update : Kind Update
+update = kind_of update_layout
 
 pub lawful_update : Lawful update
 unfolding update
-lawful_update = lawful_message lawful_update_rows
+lawful_update = lawful_kind update_layout
 
-pub update_back : (v : Update) → update_rows.Back v → Returns update v
+pub update_back : (v : Update) → update_layout.rows.table.Back (update_layout.from v) → Returns update v
 unfolding update
-update_back v back = message_returns lawful_update_rows refl v back
+update_back v back = returns_kind update_layout refl v back
 
-lawful_message_body_rows : LawfulRow message_body_rows
-lawful_message_body_rows = lawful_mapped _ _ (lawful_need lawful_id ⨾⨾ lawful_need lawful_id ⨾⨾ lawful_need lawful_base64_bytes) (λ v. refl)
+-- agent_id !, executor_id !, data !
+abbrev pub message_body_layout : Layout Message
+message_body_layout =
+    laid_out (
+    needs (codes "agent_id") id lawful_id
+    ⨾⨾ needs (codes "executor_id") id lawful_id
+    ⨾⨾ needs (codes "data") base64_bytes lawful_base64_bytes
+    ⨾⨾ no_more
+    ) (λ x. record { agent_id = x.0; executor_id = x.1.0; payload = x.1.1.0 }) (λ v. (v.agent_id, (v.executor_id, (v.payload, tt)))) (λ v. refl)
+
+unfoldable pub message_body : Kind Message
+message_body = kind_of message_body_layout
 
 pub lawful_message_body : Lawful message_body
 unfolding message_body
-lawful_message_body = lawful_message lawful_message_body_rows
+lawful_message_body = lawful_kind message_body_layout
 
-pub message_body_back : (v : Message) → message_body_rows.Back v → Returns message_body v
+pub message_body_back : (v : Message) → message_body_layout.rows.table.Back (message_body_layout.from v) → Returns message_body v
 unfolding message_body
-message_body_back v back = message_returns lawful_message_body_rows refl v back
+message_body_back v back = returns_kind message_body_layout refl v back
 
-lawful_failure_rows : LawfulRow failure_rows
-lawful_failure_rows = lawful_mapped _ _ (lawful_maybe lawful_id ⨾⨾ lawful_maybe lawful_id ⨾⨾ lawful_maybe lawful_signed32) (λ v. refl)
+-- agent_id ?, executor_id ?, status ?
+abbrev pub failure_layout : Layout Failure
+failure_layout =
+    laid_out (
+    may_have (codes "agent_id") id lawful_id
+    ⨾⨾ may_have (codes "executor_id") id lawful_id
+    ⨾⨾ may_have (codes "status") signed32 lawful_signed32
+    ⨾⨾ no_more
+    ) (λ x. record { agent_id = x.0; executor_id = x.1.0; status = x.1.1.0 }) (λ v. (v.agent_id, (v.executor_id, (v.status, tt)))) (λ v. refl)
+
+unfoldable pub failure : Kind Failure
+failure = kind_of failure_layout
 
 pub lawful_failure : Lawful failure
 unfolding failure
-lawful_failure = lawful_message lawful_failure_rows
+lawful_failure = lawful_kind failure_layout
 
-pub failure_back : (v : Failure) → failure_rows.Back v → Returns failure v
+pub failure_back : (v : Failure) → failure_layout.rows.table.Back (failure_layout.from v) → Returns failure v
 unfolding failure
-failure_back v back = message_returns lawful_failure_rows refl v back
+failure_back v back = returns_kind failure_layout refl v back
 
-lawful_error_body_rows : LawfulRow error_body_rows
-lawful_error_body_rows = lawful_mapped _ _ (lawful_need lawful_texts) (λ v. refl)
+-- message !
+abbrev pub error_body_layout : Layout ErrorBody
+error_body_layout =
+    laid_out (
+    needs (codes "message") texts lawful_texts
+    ⨾⨾ no_more
+    ) (λ x. record { message = x.0 }) (λ v. (v.message, tt)) (λ v. refl)
+
+unfoldable pub error_body : Kind ErrorBody
+error_body = kind_of error_body_layout
 
 pub lawful_error_body : Lawful error_body
 unfolding error_body
-lawful_error_body = lawful_message lawful_error_body_rows
+lawful_error_body = lawful_kind error_body_layout
 
-pub error_body_back : (v : ErrorBody) → error_body_rows.Back v → Returns error_body v
+pub error_body_back : (v : ErrorBody) → error_body_layout.rows.table.Back (error_body_layout.from v) → Returns error_body v
 unfolding error_body
-error_body_back v back = message_returns lawful_error_body_rows refl v back
+error_body_back v back = returns_kind error_body_layout refl v back

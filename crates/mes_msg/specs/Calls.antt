@@ -1,12 +1,12 @@
 -- The calls of the scheduler API (scheduler.proto, `Call`) in their JSON form.
-use Rattle.std.specs.Prelude.{◌≡◌, ◌⊎◌, ℕ, List, Option, None, codes}
+use Rattle.std.specs.Prelude.{◌≡◌, ◌⊎◌, ℕ, List, [], ◌∷◌, Option, None, codes}
 use Rattle.std.proofs.Common.{inl, inr, refl}
 use Rattle.mes_part.specs.Kinds.{Kind, Lawful, Returns}
 use Rattle.mes_part.specs.Leaves.{left_out}
-use Rattle.mes_part.specs.Rows.{Row, need, maybe, ◌⨾◌, mapped, joined, message}
+use Rattle.mes_part.specs.Rows.{Table, need, maybe, ◌⨾◌, mapped, message}
 use Rattle.mes_part.specs.Choices.{no_other, case, typed}
 use Rattle.mes_part.specs.KindLaws.{lawful_left_out}
-use Rattle.mes_part.specs.RowLaws.{LawfulRow, lawful_need, lawful_maybe, ◌⨾⨾◌, lawful_mapped, lawful_joined, lawful_message, message_returns}
+use Rattle.mes_part.specs.RowLaws.{LawfulTable, lawful_need, lawful_maybe, lawful_both, lawful_mapped, lawful_message, message_returns}
 use Rattle.mes_part.specs.ChoiceLaws.{lawful_no_other, lawful_case, lawful_typed}
 use Rattle.mes_part.specs.declared.field.FieldWhy.TheVariants.{LeftOut}
 use Rattle.mes_model.specs.Ids.{id, lawful_id}
@@ -22,7 +22,7 @@ use Rattle.mes_msg.specs.declared.call.Call.{Call}
 use Rattle.mes_msg.specs.declared.call.Call.TheVariants as of
 
 -- framework_id !, and the row of a body !
-abbrev pub with_body : {V : Type 0} → List ℕ → Kind V → Row (Id × V)
+abbrev pub with_body : {V : Type 0} → List ℕ → Kind V → Table (Id × V)
 with_body n k = need (codes "framework_id") id ⨾ need n k
 
 -- a call by its type
@@ -51,16 +51,16 @@ from_call (of.Reconcile framework body) = inr (inr (inr (inr (inr (inr (inl (fra
 from_call (of.Teardown framework) = inr (inr (inr (inr (inr (inr (inr (inl framework)))))))
 
 -- type !, and by it framework_id, ? under SUBSCRIBE and else !, and the one row of its body; another type is left out
-abbrev pub call_rows : Row Call
+abbrev pub call_rows : Table Call
 call_rows =
     mapped (typed (
     case (codes "SUBSCRIBE") (maybe (codes "framework_id") id ⨾ need (codes "subscribe") subscribe) (
-    case (codes "ACCEPT") (joined (with_body (codes "accept") accept)) (
-    case (codes "DECLINE") (joined (with_body (codes "decline") decline)) (
+    case (codes "ACCEPT") (with_body (codes "accept") accept) (
+    case (codes "DECLINE") (with_body (codes "decline") decline) (
     case (codes "REVIVE") (need (codes "framework_id") id ⨾ maybe (codes "revive") left_out) (
-    case (codes "KILL") (joined (with_body (codes "kill") kill)) (
-    case (codes "ACKNOWLEDGE") (joined (with_body (codes "acknowledge") acknowledge)) (
-    case (codes "RECONCILE") (joined (with_body (codes "reconcile") reconcile)) (
+    case (codes "KILL") (with_body (codes "kill") kill) (
+    case (codes "ACKNOWLEDGE") (with_body (codes "acknowledge") acknowledge) (
+    case (codes "RECONCILE") (with_body (codes "reconcile") reconcile) (
     case (codes "TEARDOWN") (need (codes "framework_id") id) (
     no_other LeftOut
     )
@@ -72,6 +72,11 @@ call_rows =
     )
     )
     )) to_call from_call
+
+-- the names of their members
+abbrev pub call_names : List (List ℕ)
+call_names =
+    codes "type" ∷ codes "framework_id" ∷ codes "subscribe" ∷ codes "accept" ∷ codes "decline" ∷ codes "revive" ∷ codes "kill" ∷ codes "acknowledge" ∷ codes "reconcile" ∷ []
 
 unfoldable pub call : Kind Call
 call = message call_rows
@@ -88,16 +93,16 @@ to_from_call (of.Acknowledge framework body) = refl
 to_from_call (of.Reconcile framework body) = refl
 to_from_call (of.Teardown framework) = refl
 
-lawful_with_body : {V : Type 0} {n : List ℕ} {k : Kind V} → Lawful k → LawfulRow (joined (with_body n k))
-lawful_with_body lawful = lawful_joined (lawful_need lawful_id ⨾⨾ lawful_need lawful)
+lawful_with_body : {V : Type 0} {n : List ℕ} {k : Kind V} → Lawful k → LawfulTable (with_body n k)
+lawful_with_body lawful = lawful_both (lawful_need lawful_id) (lawful_need lawful)
 
-lawful_call_rows : LawfulRow call_rows
+lawful_call_rows : LawfulTable call_rows
 lawful_call_rows =
     lawful_mapped _ _ (lawful_typed (
-    lawful_case (lawful_maybe lawful_id ⨾⨾ lawful_need lawful_subscribe) (
+    lawful_case (lawful_both (lawful_maybe lawful_id) (lawful_need lawful_subscribe)) (
     lawful_case (lawful_with_body lawful_accept) (
     lawful_case (lawful_with_body lawful_decline) (
-    lawful_case (lawful_need lawful_id ⨾⨾ lawful_maybe lawful_left_out) (
+    lawful_case (lawful_both (lawful_need lawful_id) (lawful_maybe lawful_left_out)) (
     lawful_case (lawful_with_body lawful_kill) (
     lawful_case (lawful_with_body lawful_acknowledge) (
     lawful_case (lawful_with_body lawful_reconcile) (

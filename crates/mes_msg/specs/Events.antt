@@ -1,10 +1,10 @@
 -- The events of the scheduler API (scheduler.proto, `Event`) in their JSON form.
-use Rattle.std.specs.Prelude.{◌≡◌, ◌⊎◌, ℕ, List, codes}
+use Rattle.std.specs.Prelude.{◌≡◌, ◌⊎◌, ℕ, List, [], ◌∷◌, codes}
 use Rattle.std.proofs.Common.{inl, inr, refl}
 use Rattle.mes_part.specs.Kinds.{Kind, Lawful, Returns}
-use Rattle.mes_part.specs.Rows.{Row, need, no_rows, mapped, message}
+use Rattle.mes_part.specs.Rows.{Table, need, no_rows, mapped, message}
 use Rattle.mes_part.specs.Choices.{others, case, typed}
-use Rattle.mes_part.specs.RowLaws.{LawfulRow, lawful_need, lawful_no_rows, lawful_mapped, lawful_message, message_returns}
+use Rattle.mes_part.specs.RowLaws.{LawfulTable, lawful_need, lawful_no_rows, lawful_mapped, lawful_message, message_returns}
 use Rattle.mes_part.specs.ChoiceLaws.{lawful_others, lawful_case, lawful_typed}
 use Rattle.mes_model.specs.declared.offer.Offer.{Offer}
 use Rattle.mes_msg.specs.Bodies.{subscribed, rescind, update, message_body, failure, error_body, lawful_subscribed, lawful_rescind, lawful_update, lawful_message_body, lawful_failure, lawful_error_body}
@@ -48,7 +48,7 @@ from_event of.Heartbeat = inr (inr (inr (inr (inr (inr (inr (inl tt)))))))
 from_event (of.Other name) = inr (inr (inr (inr (inr (inr (inr (inr name)))))))
 
 -- type !, and by it the one row of its body; another type is kept by its name, and no further member is read
-abbrev pub event_rows : Row Event
+abbrev pub event_rows : Table Event
 event_rows =
     mapped (typed (
     case (codes "SUBSCRIBED") (need (codes "subscribed") subscribed) (
@@ -69,6 +69,11 @@ event_rows =
     )
     )
     )) to_event from_event
+
+-- the names of their members
+abbrev pub event_members : List (List ℕ)
+event_members =
+    codes "type" ∷ codes "subscribed" ∷ codes "offers" ∷ codes "rescind" ∷ codes "update" ∷ codes "message" ∷ codes "failure" ∷ codes "error" ∷ []
 
 unfoldable pub event : Kind Event
 event = message event_rows
@@ -96,7 +101,7 @@ to_from_event (of.Error v) = refl
 to_from_event of.Heartbeat = refl
 to_from_event (of.Other name) = refl
 
-lawful_event_rows : LawfulRow event_rows
+lawful_event_rows : LawfulTable event_rows
 lawful_event_rows =
     lawful_mapped _ _ (lawful_typed (
     lawful_case (lawful_need lawful_subscribed) (

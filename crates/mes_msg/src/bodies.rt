@@ -4,8 +4,8 @@ use mes_fixed::Micros;
 use mes_json::{Element, Json, NoMemory, Text};
 use mes_model::{Id, TaskStatus};
 use mes_part::{
-    Bytes, Part, PartFault, Trail, copy_some, find_rows, optional, put, put_some, required,
-    whole_object,
+    Bytes, MadeOf, Maybe, Must, MustRef, Part, PartFault, RowList, RowRefs, Rows1, Rows2, Rows3,
+    Trail, made, message_tree, pairs, read_message,
 };
 use std::alloc::Global;
 
@@ -16,6 +16,31 @@ pub struct Subscribed {
     pub framework_id: Id,
     /// How long the master waits between two heartbeats, in seconds.
     pub heartbeat_interval_seconds: Option<Micros>,
+}
+
+/// The names of the rows of the body of SUBSCRIBED, in the order of the table.
+const SUBSCRIBED_NAMES: [&str; 2] = ["framework_id", "heartbeat_interval_seconds"];
+
+type SubscribedRows = Rows2<Must<Id>, Maybe<Micros>>;
+
+impl MadeOf<<SubscribedRows as RowList>::Values> for Subscribed {
+    ghost use Rattle.mes_msg.specs.Bodies.{subscribed_layout};
+
+    ghost to = { subscribed_layout.to };
+
+    fn made_of(values: <SubscribedRows as RowList>::Values) -> Subscribed {
+        made!(values => Subscribed { framework_id, heartbeat_interval_seconds })
+    }
+}
+
+/// What the rows of the body of SUBSCRIBED hold.
+macro_rules! subscribed_rows {
+    ($of:ident) => {
+        pairs!(
+            MustRef(&$of.framework_id),
+            &$of.heartbeat_interval_seconds,
+        )
+    };
 }
 
 impl Part for Subscribed {
@@ -29,50 +54,23 @@ impl Part for Subscribed {
 
     ghost lawful = { lawful_subscribed };
 
+    #[tactic(auto, unfolding(crate::specs::Bodies::subscribed))]
     fn read_from(
         alloc: Global,
         element: &Element<'_>,
         path: &Trail<'_>,
     ) -> Result<Subscribed, PartFault> {
-        let rows = find_rows::<2>(
-            alloc,
-            element,
-            &["framework_id", "heartbeat_interval_seconds"],
-            path,
-        )?;
-        let framework_id = required(alloc, rows.at(0), "framework_id", path)?;
-        let heartbeat_interval_seconds = optional(
-            alloc,
-            rows.at(1),
-            "heartbeat_interval_seconds",
-            path,
-        )?;
-        Ok(Subscribed {
-            framework_id,
-            heartbeat_interval_seconds,
-        })
+        read_message::<SubscribedRows, Subscribed, 2>(alloc, element, &SUBSCRIBED_NAMES, path)
     }
 
     #[tactic(auto, using(crate::specs::Bodies::subscribed_back), unfolding(crate::specs::Bodies::subscribed))]
     fn tree(&self, alloc: Global) -> Result<Json, NoMemory> {
-        let mut members = Vec::new(alloc);
-        put(&mut members, alloc, "framework_id", &self.framework_id)?;
-        put_some(
-            &mut members,
-            alloc,
-            "heartbeat_interval_seconds",
-            &self.heartbeat_interval_seconds,
-        )?;
-        Ok(whole_object(members))
+        message_tree(alloc, &SUBSCRIBED_NAMES, &subscribed_rows!(self))
     }
 
     fn copy(&self, alloc: Global) -> Result<Subscribed, NoMemory> {
-        let framework_id = self.framework_id.copy(alloc)?;
-        let heartbeat_interval_seconds = copy_some(alloc, &self.heartbeat_interval_seconds)?;
-        Ok(Subscribed {
-            framework_id,
-            heartbeat_interval_seconds,
-        })
+        let values = subscribed_rows!(self).copy_rows(alloc)?;
+        Ok(Subscribed::made_of(values))
     }
 }
 
@@ -81,6 +79,28 @@ impl Part for Subscribed {
 pub struct Rescind {
     /// The offer.
     pub offer_id: Id,
+}
+
+/// The names of the rows of the body of RESCIND, in the order of the table.
+const RESCIND_NAMES: [&str; 1] = ["offer_id"];
+
+type RescindRows = Rows1<Must<Id>>;
+
+impl MadeOf<<RescindRows as RowList>::Values> for Rescind {
+    ghost use Rattle.mes_msg.specs.Bodies.{rescind_layout};
+
+    ghost to = { rescind_layout.to };
+
+    fn made_of(values: <RescindRows as RowList>::Values) -> Rescind {
+        made!(values => Rescind { offer_id })
+    }
+}
+
+/// What the rows of the body of RESCIND hold.
+macro_rules! rescind_rows {
+    ($of:ident) => {
+        pairs!(MustRef(&$of.offer_id))
+    };
 }
 
 impl Part for Rescind {
@@ -94,26 +114,23 @@ impl Part for Rescind {
 
     ghost lawful = { lawful_rescind };
 
+    #[tactic(auto, unfolding(crate::specs::Bodies::rescind))]
     fn read_from(
         alloc: Global,
         element: &Element<'_>,
         path: &Trail<'_>,
     ) -> Result<Rescind, PartFault> {
-        let rows = find_rows::<1>(alloc, element, &["offer_id"], path)?;
-        let offer_id = required(alloc, rows.at(0), "offer_id", path)?;
-        Ok(Rescind { offer_id })
+        read_message::<RescindRows, Rescind, 1>(alloc, element, &RESCIND_NAMES, path)
     }
 
     #[tactic(auto, using(crate::specs::Bodies::rescind_back), unfolding(crate::specs::Bodies::rescind))]
     fn tree(&self, alloc: Global) -> Result<Json, NoMemory> {
-        let mut members = Vec::new(alloc);
-        put(&mut members, alloc, "offer_id", &self.offer_id)?;
-        Ok(whole_object(members))
+        message_tree(alloc, &RESCIND_NAMES, &rescind_rows!(self))
     }
 
     fn copy(&self, alloc: Global) -> Result<Rescind, NoMemory> {
-        let offer_id = self.offer_id.copy(alloc)?;
-        Ok(Rescind { offer_id })
+        let values = rescind_rows!(self).copy_rows(alloc)?;
+        Ok(Rescind::made_of(values))
     }
 }
 
@@ -122,6 +139,28 @@ impl Part for Rescind {
 pub struct Update {
     /// The state, with what is known of it.
     pub status: TaskStatus,
+}
+
+/// The names of the rows of the body of UPDATE, in the order of the table.
+const UPDATE_NAMES: [&str; 1] = ["status"];
+
+type UpdateRows = Rows1<Must<TaskStatus>>;
+
+impl MadeOf<<UpdateRows as RowList>::Values> for Update {
+    ghost use Rattle.mes_msg.specs.Bodies.{update_layout};
+
+    ghost to = { update_layout.to };
+
+    fn made_of(values: <UpdateRows as RowList>::Values) -> Update {
+        made!(values => Update { status })
+    }
+}
+
+/// What the rows of the body of UPDATE hold.
+macro_rules! update_rows {
+    ($of:ident) => {
+        pairs!(MustRef(&$of.status))
+    };
 }
 
 impl Part for Update {
@@ -135,26 +174,23 @@ impl Part for Update {
 
     ghost lawful = { lawful_update };
 
+    #[tactic(auto, unfolding(crate::specs::Bodies::update))]
     fn read_from(
         alloc: Global,
         element: &Element<'_>,
         path: &Trail<'_>,
     ) -> Result<Update, PartFault> {
-        let rows = find_rows::<1>(alloc, element, &["status"], path)?;
-        let status = required(alloc, rows.at(0), "status", path)?;
-        Ok(Update { status })
+        read_message::<UpdateRows, Update, 1>(alloc, element, &UPDATE_NAMES, path)
     }
 
     #[tactic(auto, using(crate::specs::Bodies::update_back), unfolding(crate::specs::Bodies::update))]
     fn tree(&self, alloc: Global) -> Result<Json, NoMemory> {
-        let mut members = Vec::new(alloc);
-        put(&mut members, alloc, "status", &self.status)?;
-        Ok(whole_object(members))
+        message_tree(alloc, &UPDATE_NAMES, &update_rows!(self))
     }
 
     fn copy(&self, alloc: Global) -> Result<Update, NoMemory> {
-        let status = self.status.copy(alloc)?;
-        Ok(Update { status })
+        let values = update_rows!(self).copy_rows(alloc)?;
+        Ok(Update::made_of(values))
     }
 }
 
@@ -169,6 +205,32 @@ pub struct Message {
     pub payload: Bytes,
 }
 
+/// The names of the rows of the body of MESSAGE, in the order of the table.
+const MESSAGE_NAMES: [&str; 3] = ["agent_id", "executor_id", "data"];
+
+type MessageRows = Rows3<Must<Id>, Must<Id>, Must<Bytes>>;
+
+impl MadeOf<<MessageRows as RowList>::Values> for Message {
+    ghost use Rattle.mes_msg.specs.Bodies.{message_body_layout};
+
+    ghost to = { message_body_layout.to };
+
+    fn made_of(values: <MessageRows as RowList>::Values) -> Message {
+        made!(values => Message { agent_id, executor_id, payload })
+    }
+}
+
+/// What the rows of the body of MESSAGE hold.
+macro_rules! message_rows {
+    ($of:ident) => {
+        pairs!(
+            MustRef(&$of.agent_id),
+            MustRef(&$of.executor_id),
+            MustRef(&$of.payload),
+        )
+    };
+}
+
 impl Part for Message {
     ghost use Rattle.mes_msg.specs.Bodies.{message_body, lawful_message_body};
 
@@ -180,40 +242,23 @@ impl Part for Message {
 
     ghost lawful = { lawful_message_body };
 
+    #[tactic(auto, unfolding(crate::specs::Bodies::message_body))]
     fn read_from(
         alloc: Global,
         element: &Element<'_>,
         path: &Trail<'_>,
     ) -> Result<Message, PartFault> {
-        let rows = find_rows::<3>(alloc, element, &["agent_id", "executor_id", "data"], path)?;
-        let agent_id = required(alloc, rows.at(0), "agent_id", path)?;
-        let executor_id = required(alloc, rows.at(1), "executor_id", path)?;
-        let payload = required(alloc, rows.at(2), "data", path)?;
-        Ok(Message {
-            agent_id,
-            executor_id,
-            payload,
-        })
+        read_message::<MessageRows, Message, 3>(alloc, element, &MESSAGE_NAMES, path)
     }
 
     #[tactic(auto, using(crate::specs::Bodies::message_body_back), unfolding(crate::specs::Bodies::message_body))]
     fn tree(&self, alloc: Global) -> Result<Json, NoMemory> {
-        let mut members = Vec::new(alloc);
-        put(&mut members, alloc, "agent_id", &self.agent_id)?;
-        put(&mut members, alloc, "executor_id", &self.executor_id)?;
-        put(&mut members, alloc, "data", &self.payload)?;
-        Ok(whole_object(members))
+        message_tree(alloc, &MESSAGE_NAMES, &message_rows!(self))
     }
 
     fn copy(&self, alloc: Global) -> Result<Message, NoMemory> {
-        let agent_id = self.agent_id.copy(alloc)?;
-        let executor_id = self.executor_id.copy(alloc)?;
-        let payload = self.payload.copy(alloc)?;
-        Ok(Message {
-            agent_id,
-            executor_id,
-            payload,
-        })
+        let values = message_rows!(self).copy_rows(alloc)?;
+        Ok(Message::made_of(values))
     }
 }
 
@@ -228,6 +273,32 @@ pub struct Failure {
     pub status: Option<i32>,
 }
 
+/// The names of the rows of the body of FAILURE, in the order of the table.
+const FAILURE_NAMES: [&str; 3] = ["agent_id", "executor_id", "status"];
+
+type FailureRows = Rows3<Maybe<Id>, Maybe<Id>, Maybe<i32>>;
+
+impl MadeOf<<FailureRows as RowList>::Values> for Failure {
+    ghost use Rattle.mes_msg.specs.Bodies.{failure_layout};
+
+    ghost to = { failure_layout.to };
+
+    fn made_of(values: <FailureRows as RowList>::Values) -> Failure {
+        made!(values => Failure { agent_id, executor_id, status })
+    }
+}
+
+/// What the rows of the body of FAILURE hold.
+macro_rules! failure_rows {
+    ($of:ident) => {
+        pairs!(
+            &$of.agent_id,
+            &$of.executor_id,
+            &$of.status,
+        )
+    };
+}
+
 impl Part for Failure {
     ghost use Rattle.mes_msg.specs.Bodies.{failure, lawful_failure};
 
@@ -239,40 +310,23 @@ impl Part for Failure {
 
     ghost lawful = { lawful_failure };
 
+    #[tactic(auto, unfolding(crate::specs::Bodies::failure))]
     fn read_from(
         alloc: Global,
         element: &Element<'_>,
         path: &Trail<'_>,
     ) -> Result<Failure, PartFault> {
-        let rows = find_rows::<3>(alloc, element, &["agent_id", "executor_id", "status"], path)?;
-        let agent_id = optional(alloc, rows.at(0), "agent_id", path)?;
-        let executor_id = optional(alloc, rows.at(1), "executor_id", path)?;
-        let status = optional(alloc, rows.at(2), "status", path)?;
-        Ok(Failure {
-            agent_id,
-            executor_id,
-            status,
-        })
+        read_message::<FailureRows, Failure, 3>(alloc, element, &FAILURE_NAMES, path)
     }
 
     #[tactic(auto, using(crate::specs::Bodies::failure_back), unfolding(crate::specs::Bodies::failure))]
     fn tree(&self, alloc: Global) -> Result<Json, NoMemory> {
-        let mut members = Vec::new(alloc);
-        put_some(&mut members, alloc, "agent_id", &self.agent_id)?;
-        put_some(&mut members, alloc, "executor_id", &self.executor_id)?;
-        put_some(&mut members, alloc, "status", &self.status)?;
-        Ok(whole_object(members))
+        message_tree(alloc, &FAILURE_NAMES, &failure_rows!(self))
     }
 
     fn copy(&self, alloc: Global) -> Result<Failure, NoMemory> {
-        let agent_id = copy_some(alloc, &self.agent_id)?;
-        let executor_id = copy_some(alloc, &self.executor_id)?;
-        let status = copy_some(alloc, &self.status)?;
-        Ok(Failure {
-            agent_id,
-            executor_id,
-            status,
-        })
+        let values = failure_rows!(self).copy_rows(alloc)?;
+        Ok(Failure::made_of(values))
     }
 }
 
@@ -281,6 +335,28 @@ impl Part for Failure {
 pub struct ErrorBody {
     /// Why.
     pub message: Text,
+}
+
+/// The names of the rows of the body of ERROR, in the order of the table.
+const ERROR_BODY_NAMES: [&str; 1] = ["message"];
+
+type ErrorBodyRows = Rows1<Must<Text>>;
+
+impl MadeOf<<ErrorBodyRows as RowList>::Values> for ErrorBody {
+    ghost use Rattle.mes_msg.specs.Bodies.{error_body_layout};
+
+    ghost to = { error_body_layout.to };
+
+    fn made_of(values: <ErrorBodyRows as RowList>::Values) -> ErrorBody {
+        made!(values => ErrorBody { message })
+    }
+}
+
+/// What the rows of the body of ERROR hold.
+macro_rules! error_body_rows {
+    ($of:ident) => {
+        pairs!(MustRef(&$of.message))
+    };
 }
 
 impl Part for ErrorBody {
@@ -294,25 +370,22 @@ impl Part for ErrorBody {
 
     ghost lawful = { lawful_error_body };
 
+    #[tactic(auto, unfolding(crate::specs::Bodies::error_body))]
     fn read_from(
         alloc: Global,
         element: &Element<'_>,
         path: &Trail<'_>,
     ) -> Result<ErrorBody, PartFault> {
-        let rows = find_rows::<1>(alloc, element, &["message"], path)?;
-        let message = required(alloc, rows.at(0), "message", path)?;
-        Ok(ErrorBody { message })
+        read_message::<ErrorBodyRows, ErrorBody, 1>(alloc, element, &ERROR_BODY_NAMES, path)
     }
 
     #[tactic(auto, using(crate::specs::Bodies::error_body_back), unfolding(crate::specs::Bodies::error_body))]
     fn tree(&self, alloc: Global) -> Result<Json, NoMemory> {
-        let mut members = Vec::new(alloc);
-        put(&mut members, alloc, "message", &self.message)?;
-        Ok(whole_object(members))
+        message_tree(alloc, &ERROR_BODY_NAMES, &error_body_rows!(self))
     }
 
     fn copy(&self, alloc: Global) -> Result<ErrorBody, NoMemory> {
-        let message = self.message.copy(alloc)?;
-        Ok(ErrorBody { message })
+        let values = error_body_rows!(self).copy_rows(alloc)?;
+        Ok(ErrorBody::made_of(values))
     }
 }

@@ -9,7 +9,6 @@ ghost use Rattle.mes_part.specs.FoundRows.{IsFound};
 ghost use Rattle.mes_part.specs.Kinds.{Returns};
 ghost use Rattle.mes_part.specs.Parts.{Gives, IsFirstFault};
 ghost use Rattle.mes_part.specs.Paths.{Place, IsPlace};
-ghost use Rattle.mes_part.specs.Rows.{row_value};
 ghost use Rattle.mes_part.specs.Written.{pairs_view};
 ghost use Rattle.mes_model.specs.Ids.{id};
 ghost use Rattle.mes_msg.specs.Calls.{call, call_rows, with_body};
@@ -22,8 +21,8 @@ use mes_frame::Limit;
 use mes_json::{Element, Json, NoMemory, Text};
 use mes_model::Id;
 use mes_part::{
-    FieldWhy, Found, Part, PartFault, Path, Trail, copy_some, find_rows, left_out, optional, put,
-    put_some, put_type, read_part, required, type_of, type_refusal, whole_object,
+    Choice, FieldWhy, Found, Part, PartFault, Path, Trail, copy_some, left_out, optional, put,
+    put_some, put_type, read_part, read_typed, required, type_of, type_refusal, typed_tree,
 };
 use std::alloc::Global;
 
@@ -84,8 +83,8 @@ pub enum Call {
     },
 }
 
-/// The names of the rows, in the order of the table.
-const ROWS: [&str; 9] = [
+/// The names of a call's members, in the order of the table.
+const CALL_NAMES: [&str; 9] = [
     "type",
     "framework_id",
     "subscribe",
@@ -133,12 +132,71 @@ impl Call {
     {
         canonical_bytes(self, alloc, limit)
     }
+}
 
-    /// Appends the row `type`, the one of the framework and the one of the body.
-    fn put_rows(&self, members: &mut Vec<(Text, Json)>, alloc: Global) -> Result<(), NoMemory>
-        ensures members { OnOk result (pairs_view members.new.items ≡ pairs_view members.old.items ++ call_rows.members self.now) }
-        ensures back { OnOk result (call_rows.Back self.now) }
-    {
+impl Choice for Call {
+    ghost use Rattle.mes_msg.specs.Calls.{call_names, call_rows};
+    ghost use Rattle.std.specs.Prelude.{refl};
+
+    ghost names = { call_names };
+
+    ghost table = { call_rows };
+
+    ghost STEPS = { 14 };
+
+    ghost COUNT = { 9 };
+
+    const COUNT: usize = 9;
+
+    ghost counted = { refl };
+
+    #[tactic(auto, using(mes_part::specs::NameLaws::names_differ))]
+    fn read_choice(
+        alloc: Global,
+        found: &[Found<'_>],
+        path: &Trail<'_>,
+    ) -> Result<Call, PartFault> {
+        let from = &found[1];
+        match type_of(alloc, &found[0], path)? {
+            "SUBSCRIBE" => {
+                let framework_id = optional(alloc, from, "framework_id", path)?;
+                let body = required(alloc, &found[2], "subscribe", path)?;
+                Ok(Call::Subscribe { framework_id, body })
+            }
+            "ACCEPT" => {
+                let (framework_id, body) = read_call(alloc, from, &found[3], "accept", path)?;
+                Ok(Call::Accept { framework_id, body })
+            }
+            "DECLINE" => {
+                let (framework_id, body) = read_call(alloc, from, &found[4], "decline", path)?;
+                Ok(Call::Decline { framework_id, body })
+            }
+            "REVIVE" => {
+                let framework_id = required(alloc, from, "framework_id", path)?;
+                left_out(alloc, &found[5], "revive", path)?;
+                Ok(Call::Revive { framework_id })
+            }
+            "KILL" => {
+                let (framework_id, body) = read_call(alloc, from, &found[6], "kill", path)?;
+                Ok(Call::Kill { framework_id, body })
+            }
+            "ACKNOWLEDGE" => {
+                let (framework_id, body) = read_call(alloc, from, &found[7], "acknowledge", path)?;
+                Ok(Call::Acknowledge { framework_id, body })
+            }
+            "RECONCILE" => {
+                let (framework_id, body) = read_call(alloc, from, &found[8], "reconcile", path)?;
+                Ok(Call::Reconcile { framework_id, body })
+            }
+            "TEARDOWN" => {
+                let framework_id = required(alloc, from, "framework_id", path)?;
+                Ok(Call::Teardown { framework_id })
+            }
+            _ => Err(type_refusal(alloc, path, FieldWhy::LeftOut)),
+        }
+    }
+
+    fn put_choice(&self, members: &mut Vec<(Text, Json)>, alloc: Global) -> Result<(), NoMemory> {
         match self {
             Call::Subscribe { framework_id, body } => {
                 put_type(members, alloc, "SUBSCRIBE")?;
@@ -171,73 +229,8 @@ impl Call {
             Call::Teardown { framework_id } => put_head(members, alloc, "TEARDOWN", framework_id),
         }
     }
-}
 
-impl Part for Call {
-    ghost use Rattle.mes_msg.specs.Calls.{call, lawful_call};
-
-    ghost kind = { call };
-
-    ghost STEPS = { 14 };
-
-    const STEPS: u32 = 14;
-
-    ghost lawful = { lawful_call };
-
-    fn read_from(
-        alloc: Global,
-        element: &Element<'_>,
-        path: &Trail<'_>,
-    ) -> Result<Call, PartFault> {
-        let rows = find_rows::<9>(alloc, element, &ROWS, path)?;
-        let from = rows.at(1);
-        match type_of(alloc, rows.at(0), path)? {
-            "SUBSCRIBE" => {
-                let framework_id = optional(alloc, from, "framework_id", path)?;
-                let body = required(alloc, rows.at(2), "subscribe", path)?;
-                Ok(Call::Subscribe { framework_id, body })
-            }
-            "ACCEPT" => {
-                let (framework_id, body) = read_call(alloc, from, rows.at(3), "accept", path)?;
-                Ok(Call::Accept { framework_id, body })
-            }
-            "DECLINE" => {
-                let (framework_id, body) = read_call(alloc, from, rows.at(4), "decline", path)?;
-                Ok(Call::Decline { framework_id, body })
-            }
-            "REVIVE" => {
-                let framework_id = required(alloc, from, "framework_id", path)?;
-                left_out(alloc, rows.at(5), "revive", path)?;
-                Ok(Call::Revive { framework_id })
-            }
-            "KILL" => {
-                let (framework_id, body) = read_call(alloc, from, rows.at(6), "kill", path)?;
-                Ok(Call::Kill { framework_id, body })
-            }
-            "ACKNOWLEDGE" => {
-                let (framework_id, body) = read_call(alloc, from, rows.at(7), "acknowledge", path)?;
-                Ok(Call::Acknowledge { framework_id, body })
-            }
-            "RECONCILE" => {
-                let (framework_id, body) = read_call(alloc, from, rows.at(8), "reconcile", path)?;
-                Ok(Call::Reconcile { framework_id, body })
-            }
-            "TEARDOWN" => {
-                let framework_id = required(alloc, from, "framework_id", path)?;
-                Ok(Call::Teardown { framework_id })
-            }
-            _ => Err(type_refusal(alloc, path, FieldWhy::LeftOut)),
-        }
-    }
-
-    #[tactic(auto, using(crate::specs::Calls::call_back), unfolding(crate::specs::Calls::call))]
-    fn tree(&self, alloc: Global) -> Result<Json, NoMemory> {
-        let mut members = Vec::new(alloc);
-        self.put_rows(&mut members, alloc)?;
-        Ok(whole_object(members))
-    }
-
-    fn copy(&self, alloc: Global) -> Result<Call, NoMemory> {
+    fn copy_choice(&self, alloc: Global) -> Result<Call, NoMemory> {
         match self {
             Call::Subscribe { framework_id, body } => Ok(Call::Subscribe {
                 framework_id: copy_some(alloc, framework_id)?,
@@ -273,6 +266,36 @@ impl Part for Call {
     }
 }
 
+impl Part for Call {
+    ghost use Rattle.mes_msg.specs.Calls.{call, lawful_call};
+
+    ghost kind = { call };
+
+    ghost STEPS = { 14 };
+
+    const STEPS: u32 = 14;
+
+    ghost lawful = { lawful_call };
+
+    #[tactic(auto, unfolding(crate::specs::Calls::call))]
+    fn read_from(
+        alloc: Global,
+        element: &Element<'_>,
+        path: &Trail<'_>,
+    ) -> Result<Call, PartFault> {
+        read_typed::<Call, 9>(alloc, element, &CALL_NAMES, path)
+    }
+
+    #[tactic(auto, using(crate::specs::Calls::call_back), unfolding(crate::specs::Calls::call))]
+    fn tree(&self, alloc: Global) -> Result<Json, NoMemory> {
+        typed_tree(alloc, self)
+    }
+
+    fn copy(&self, alloc: Global) -> Result<Call, NoMemory> {
+        self.copy_choice(alloc)
+    }
+}
+
 /// The framework that calls, and the body of this name.
 fn read_call<T: Part>(
     alloc: Global,
@@ -285,7 +308,7 @@ fn read_call<T: Part>(
     requires body { length path.now + 1 + T.STEPS ≤ 16 }
     requires step { IsPlace (Place.name name.now) }
     ensures { (ms : Members) → IsFound framework.now (values_named (codes "framework_id") ms) → IsFound body.now (values_named name.now ms)
-        → Gives (row_value (with_body name.now T.kind) path.now ms) result }
+        → Gives ((with_body name.now T.kind).read path.now ms) result }
 {
     let framework_id = required(alloc, framework, "framework_id", path)?;
     let body = required(alloc, body, name, path)?;

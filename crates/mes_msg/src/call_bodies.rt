@@ -4,8 +4,8 @@ use crate::operation::Operation;
 use mes_json::{Element, Json, NoMemory};
 use mes_model::{Filters, FrameworkInfo, Id, TaskRef};
 use mes_part::{
-    Bytes, List, Part, PartFault, Trail, copy_list, copy_some, find_rows, optional, put, put_many,
-    put_some, repeated, required, whole_object,
+    Bytes, List, MadeOf, Many, Maybe, Must, MustRef, Part, PartFault, RowList, RowRefs, Rows1,
+    Rows2, Rows3, Trail, made, message_tree, pairs, read_message,
 };
 use std::alloc::Global;
 
@@ -14,6 +14,28 @@ use std::alloc::Global;
 pub struct Subscribe {
     /// What the framework tells of itself.
     pub framework_info: FrameworkInfo,
+}
+
+/// The names of the rows of the body of SUBSCRIBE, in the order of the table.
+const SUBSCRIBE_NAMES: [&str; 1] = ["framework_info"];
+
+type SubscribeRows = Rows1<Must<FrameworkInfo>>;
+
+impl MadeOf<<SubscribeRows as RowList>::Values> for Subscribe {
+    ghost use Rattle.mes_msg.specs.CallBodies.{subscribe_layout};
+
+    ghost to = { subscribe_layout.to };
+
+    fn made_of(values: <SubscribeRows as RowList>::Values) -> Subscribe {
+        made!(values => Subscribe { framework_info })
+    }
+}
+
+/// What the rows of the body of SUBSCRIBE hold.
+macro_rules! subscribe_rows {
+    ($of:ident) => {
+        pairs!(MustRef(&$of.framework_info))
+    };
 }
 
 impl Part for Subscribe {
@@ -27,26 +49,23 @@ impl Part for Subscribe {
 
     ghost lawful = { lawful_subscribe };
 
+    #[tactic(auto, unfolding(crate::specs::CallBodies::subscribe))]
     fn read_from(
         alloc: Global,
         element: &Element<'_>,
         path: &Trail<'_>,
     ) -> Result<Subscribe, PartFault> {
-        let rows = find_rows::<1>(alloc, element, &["framework_info"], path)?;
-        let framework_info = required(alloc, rows.at(0), "framework_info", path)?;
-        Ok(Subscribe { framework_info })
+        read_message::<SubscribeRows, Subscribe, 1>(alloc, element, &SUBSCRIBE_NAMES, path)
     }
 
     #[tactic(auto, using(crate::specs::CallBodies::subscribe_back), unfolding(crate::specs::CallBodies::subscribe))]
     fn tree(&self, alloc: Global) -> Result<Json, NoMemory> {
-        let mut members = Vec::new(alloc);
-        put(&mut members, alloc, "framework_info", &self.framework_info)?;
-        Ok(whole_object(members))
+        message_tree(alloc, &SUBSCRIBE_NAMES, &subscribe_rows!(self))
     }
 
     fn copy(&self, alloc: Global) -> Result<Subscribe, NoMemory> {
-        let framework_info = self.framework_info.copy(alloc)?;
-        Ok(Subscribe { framework_info })
+        let values = subscribe_rows!(self).copy_rows(alloc)?;
+        Ok(Subscribe::made_of(values))
     }
 }
 
@@ -61,6 +80,32 @@ pub struct Accept {
     pub filters: Option<Filters>,
 }
 
+/// The names of the rows of the body of ACCEPT, in the order of the table.
+const ACCEPT_NAMES: [&str; 3] = ["offer_ids", "operations", "filters"];
+
+type AcceptRows = Rows3<Many<Id>, Many<Operation>, Maybe<Filters>>;
+
+impl MadeOf<<AcceptRows as RowList>::Values> for Accept {
+    ghost use Rattle.mes_msg.specs.CallBodies.{accept_layout};
+
+    ghost to = { accept_layout.to };
+
+    fn made_of(values: <AcceptRows as RowList>::Values) -> Accept {
+        made!(values => Accept { offer_ids, operations, filters })
+    }
+}
+
+/// What the rows of the body of ACCEPT hold.
+macro_rules! accept_rows {
+    ($of:ident) => {
+        pairs!(
+            &$of.offer_ids,
+            &$of.operations,
+            &$of.filters,
+        )
+    };
+}
+
 impl Part for Accept {
     ghost use Rattle.mes_msg.specs.CallBodies.{accept, lawful_accept};
 
@@ -72,45 +117,23 @@ impl Part for Accept {
 
     ghost lawful = { lawful_accept };
 
+    #[tactic(auto, unfolding(crate::specs::CallBodies::accept))]
     fn read_from(
         alloc: Global,
         element: &Element<'_>,
         path: &Trail<'_>,
     ) -> Result<Accept, PartFault> {
-        let rows = find_rows::<3>(
-            alloc,
-            element,
-            &["offer_ids", "operations", "filters"],
-            path,
-        )?;
-        let offer_ids = repeated(alloc, rows.at(0), "offer_ids", path)?;
-        let operations = repeated(alloc, rows.at(1), "operations", path)?;
-        let filters = optional(alloc, rows.at(2), "filters", path)?;
-        Ok(Accept {
-            offer_ids,
-            operations,
-            filters,
-        })
+        read_message::<AcceptRows, Accept, 3>(alloc, element, &ACCEPT_NAMES, path)
     }
 
     #[tactic(auto, using(crate::specs::CallBodies::accept_back), unfolding(crate::specs::CallBodies::accept))]
     fn tree(&self, alloc: Global) -> Result<Json, NoMemory> {
-        let mut members = Vec::new(alloc);
-        put_many(&mut members, alloc, "offer_ids", &self.offer_ids)?;
-        put_many(&mut members, alloc, "operations", &self.operations)?;
-        put_some(&mut members, alloc, "filters", &self.filters)?;
-        Ok(whole_object(members))
+        message_tree(alloc, &ACCEPT_NAMES, &accept_rows!(self))
     }
 
     fn copy(&self, alloc: Global) -> Result<Accept, NoMemory> {
-        let offer_ids = copy_list(alloc, &self.offer_ids)?;
-        let operations = copy_list(alloc, &self.operations)?;
-        let filters = copy_some(alloc, &self.filters)?;
-        Ok(Accept {
-            offer_ids,
-            operations,
-            filters,
-        })
+        let values = accept_rows!(self).copy_rows(alloc)?;
+        Ok(Accept::made_of(values))
     }
 }
 
@@ -121,6 +144,31 @@ pub struct Decline {
     pub offer_ids: List<Id>,
     /// When the framework wants their resources again.
     pub filters: Option<Filters>,
+}
+
+/// The names of the rows of the body of DECLINE, in the order of the table.
+const DECLINE_NAMES: [&str; 2] = ["offer_ids", "filters"];
+
+type DeclineRows = Rows2<Many<Id>, Maybe<Filters>>;
+
+impl MadeOf<<DeclineRows as RowList>::Values> for Decline {
+    ghost use Rattle.mes_msg.specs.CallBodies.{decline_layout};
+
+    ghost to = { decline_layout.to };
+
+    fn made_of(values: <DeclineRows as RowList>::Values) -> Decline {
+        made!(values => Decline { offer_ids, filters })
+    }
+}
+
+/// What the rows of the body of DECLINE hold.
+macro_rules! decline_rows {
+    ($of:ident) => {
+        pairs!(
+            &$of.offer_ids,
+            &$of.filters,
+        )
+    };
 }
 
 impl Part for Decline {
@@ -134,29 +182,23 @@ impl Part for Decline {
 
     ghost lawful = { lawful_decline };
 
+    #[tactic(auto, unfolding(crate::specs::CallBodies::decline))]
     fn read_from(
         alloc: Global,
         element: &Element<'_>,
         path: &Trail<'_>,
     ) -> Result<Decline, PartFault> {
-        let rows = find_rows::<2>(alloc, element, &["offer_ids", "filters"], path)?;
-        let offer_ids = repeated(alloc, rows.at(0), "offer_ids", path)?;
-        let filters = optional(alloc, rows.at(1), "filters", path)?;
-        Ok(Decline { offer_ids, filters })
+        read_message::<DeclineRows, Decline, 2>(alloc, element, &DECLINE_NAMES, path)
     }
 
     #[tactic(auto, using(crate::specs::CallBodies::decline_back), unfolding(crate::specs::CallBodies::decline))]
     fn tree(&self, alloc: Global) -> Result<Json, NoMemory> {
-        let mut members = Vec::new(alloc);
-        put_many(&mut members, alloc, "offer_ids", &self.offer_ids)?;
-        put_some(&mut members, alloc, "filters", &self.filters)?;
-        Ok(whole_object(members))
+        message_tree(alloc, &DECLINE_NAMES, &decline_rows!(self))
     }
 
     fn copy(&self, alloc: Global) -> Result<Decline, NoMemory> {
-        let offer_ids = copy_list(alloc, &self.offer_ids)?;
-        let filters = copy_some(alloc, &self.filters)?;
-        Ok(Decline { offer_ids, filters })
+        let values = decline_rows!(self).copy_rows(alloc)?;
+        Ok(Decline::made_of(values))
     }
 }
 
@@ -167,6 +209,31 @@ pub struct Kill {
     pub task_id: Id,
     /// The agent that it runs on, where that is known.
     pub agent_id: Option<Id>,
+}
+
+/// The names of the rows of the body of KILL, in the order of the table.
+const KILL_NAMES: [&str; 2] = ["task_id", "agent_id"];
+
+type KillRows = Rows2<Must<Id>, Maybe<Id>>;
+
+impl MadeOf<<KillRows as RowList>::Values> for Kill {
+    ghost use Rattle.mes_msg.specs.CallBodies.{kill_layout};
+
+    ghost to = { kill_layout.to };
+
+    fn made_of(values: <KillRows as RowList>::Values) -> Kill {
+        made!(values => Kill { task_id, agent_id })
+    }
+}
+
+/// What the rows of the body of KILL hold.
+macro_rules! kill_rows {
+    ($of:ident) => {
+        pairs!(
+            MustRef(&$of.task_id),
+            &$of.agent_id,
+        )
+    };
 }
 
 impl Part for Kill {
@@ -180,29 +247,23 @@ impl Part for Kill {
 
     ghost lawful = { lawful_kill };
 
+    #[tactic(auto, unfolding(crate::specs::CallBodies::kill))]
     fn read_from(
         alloc: Global,
         element: &Element<'_>,
         path: &Trail<'_>,
     ) -> Result<Kill, PartFault> {
-        let rows = find_rows::<2>(alloc, element, &["task_id", "agent_id"], path)?;
-        let task_id = required(alloc, rows.at(0), "task_id", path)?;
-        let agent_id = optional(alloc, rows.at(1), "agent_id", path)?;
-        Ok(Kill { task_id, agent_id })
+        read_message::<KillRows, Kill, 2>(alloc, element, &KILL_NAMES, path)
     }
 
     #[tactic(auto, using(crate::specs::CallBodies::kill_back), unfolding(crate::specs::CallBodies::kill))]
     fn tree(&self, alloc: Global) -> Result<Json, NoMemory> {
-        let mut members = Vec::new(alloc);
-        put(&mut members, alloc, "task_id", &self.task_id)?;
-        put_some(&mut members, alloc, "agent_id", &self.agent_id)?;
-        Ok(whole_object(members))
+        message_tree(alloc, &KILL_NAMES, &kill_rows!(self))
     }
 
     fn copy(&self, alloc: Global) -> Result<Kill, NoMemory> {
-        let task_id = self.task_id.copy(alloc)?;
-        let agent_id = copy_some(alloc, &self.agent_id)?;
-        Ok(Kill { task_id, agent_id })
+        let values = kill_rows!(self).copy_rows(alloc)?;
+        Ok(Kill::made_of(values))
     }
 }
 
@@ -217,6 +278,32 @@ pub struct Acknowledge {
     pub uuid: Bytes,
 }
 
+/// The names of the rows of the body of ACKNOWLEDGE, in the order of the table.
+const ACKNOWLEDGE_NAMES: [&str; 3] = ["agent_id", "task_id", "uuid"];
+
+type AcknowledgeRows = Rows3<Must<Id>, Must<Id>, Must<Bytes>>;
+
+impl MadeOf<<AcknowledgeRows as RowList>::Values> for Acknowledge {
+    ghost use Rattle.mes_msg.specs.CallBodies.{acknowledge_layout};
+
+    ghost to = { acknowledge_layout.to };
+
+    fn made_of(values: <AcknowledgeRows as RowList>::Values) -> Acknowledge {
+        made!(values => Acknowledge { agent_id, task_id, uuid })
+    }
+}
+
+/// What the rows of the body of ACKNOWLEDGE hold.
+macro_rules! acknowledge_rows {
+    ($of:ident) => {
+        pairs!(
+            MustRef(&$of.agent_id),
+            MustRef(&$of.task_id),
+            MustRef(&$of.uuid),
+        )
+    };
+}
+
 impl Part for Acknowledge {
     ghost use Rattle.mes_msg.specs.CallBodies.{acknowledge, lawful_acknowledge};
 
@@ -228,40 +315,23 @@ impl Part for Acknowledge {
 
     ghost lawful = { lawful_acknowledge };
 
+    #[tactic(auto, unfolding(crate::specs::CallBodies::acknowledge))]
     fn read_from(
         alloc: Global,
         element: &Element<'_>,
         path: &Trail<'_>,
     ) -> Result<Acknowledge, PartFault> {
-        let rows = find_rows::<3>(alloc, element, &["agent_id", "task_id", "uuid"], path)?;
-        let agent_id = required(alloc, rows.at(0), "agent_id", path)?;
-        let task_id = required(alloc, rows.at(1), "task_id", path)?;
-        let uuid = required(alloc, rows.at(2), "uuid", path)?;
-        Ok(Acknowledge {
-            agent_id,
-            task_id,
-            uuid,
-        })
+        read_message::<AcknowledgeRows, Acknowledge, 3>(alloc, element, &ACKNOWLEDGE_NAMES, path)
     }
 
     #[tactic(auto, using(crate::specs::CallBodies::acknowledge_back), unfolding(crate::specs::CallBodies::acknowledge))]
     fn tree(&self, alloc: Global) -> Result<Json, NoMemory> {
-        let mut members = Vec::new(alloc);
-        put(&mut members, alloc, "agent_id", &self.agent_id)?;
-        put(&mut members, alloc, "task_id", &self.task_id)?;
-        put(&mut members, alloc, "uuid", &self.uuid)?;
-        Ok(whole_object(members))
+        message_tree(alloc, &ACKNOWLEDGE_NAMES, &acknowledge_rows!(self))
     }
 
     fn copy(&self, alloc: Global) -> Result<Acknowledge, NoMemory> {
-        let agent_id = self.agent_id.copy(alloc)?;
-        let task_id = self.task_id.copy(alloc)?;
-        let uuid = self.uuid.copy(alloc)?;
-        Ok(Acknowledge {
-            agent_id,
-            task_id,
-            uuid,
-        })
+        let values = acknowledge_rows!(self).copy_rows(alloc)?;
+        Ok(Acknowledge::made_of(values))
     }
 }
 
@@ -270,6 +340,28 @@ impl Part for Acknowledge {
 pub struct Reconcile {
     /// The tasks; none asks for all that the framework has.
     pub tasks: List<TaskRef>,
+}
+
+/// The names of the rows of the body of RECONCILE, in the order of the table.
+const RECONCILE_NAMES: [&str; 1] = ["tasks"];
+
+type ReconcileRows = Rows1<Many<TaskRef>>;
+
+impl MadeOf<<ReconcileRows as RowList>::Values> for Reconcile {
+    ghost use Rattle.mes_msg.specs.CallBodies.{reconcile_layout};
+
+    ghost to = { reconcile_layout.to };
+
+    fn made_of(values: <ReconcileRows as RowList>::Values) -> Reconcile {
+        made!(values => Reconcile { tasks })
+    }
+}
+
+/// What the rows of the body of RECONCILE hold.
+macro_rules! reconcile_rows {
+    ($of:ident) => {
+        pairs!(&$of.tasks)
+    };
 }
 
 impl Part for Reconcile {
@@ -283,25 +375,22 @@ impl Part for Reconcile {
 
     ghost lawful = { lawful_reconcile };
 
+    #[tactic(auto, unfolding(crate::specs::CallBodies::reconcile))]
     fn read_from(
         alloc: Global,
         element: &Element<'_>,
         path: &Trail<'_>,
     ) -> Result<Reconcile, PartFault> {
-        let rows = find_rows::<1>(alloc, element, &["tasks"], path)?;
-        let tasks = repeated(alloc, rows.at(0), "tasks", path)?;
-        Ok(Reconcile { tasks })
+        read_message::<ReconcileRows, Reconcile, 1>(alloc, element, &RECONCILE_NAMES, path)
     }
 
     #[tactic(auto, using(crate::specs::CallBodies::reconcile_back), unfolding(crate::specs::CallBodies::reconcile))]
     fn tree(&self, alloc: Global) -> Result<Json, NoMemory> {
-        let mut members = Vec::new(alloc);
-        put_many(&mut members, alloc, "tasks", &self.tasks)?;
-        Ok(whole_object(members))
+        message_tree(alloc, &RECONCILE_NAMES, &reconcile_rows!(self))
     }
 
     fn copy(&self, alloc: Global) -> Result<Reconcile, NoMemory> {
-        let tasks = copy_list(alloc, &self.tasks)?;
-        Ok(Reconcile { tasks })
+        let values = reconcile_rows!(self).copy_rows(alloc)?;
+        Ok(Reconcile::made_of(values))
     }
 }

@@ -12,8 +12,8 @@ use crate::other_name::OtherName;
 use mes_json::{Element, Json, NoMemory, Text};
 use mes_model::Offer;
 use mes_part::{
-    List, Part, PartFault, Trail, copy_list, find_rows, put, put_type, required, type_of,
-    whole_object,
+    Choice, Found, List, Part, PartFault, Trail, copy_list, put, put_type, read_typed, required,
+    type_of, typed_tree,
 };
 use std::alloc::Global;
 
@@ -40,8 +40,8 @@ pub enum Event {
     Other(OtherName),
 }
 
-/// The names of the rows, in the order of the table.
-const ROWS: [&str; 8] = [
+/// The names of an event's members, in the order of the table.
+const EVENT_NAMES: [&str; 8] = [
     "type",
     "subscribed",
     "offers",
@@ -52,12 +52,45 @@ const ROWS: [&str; 8] = [
     "error",
 ];
 
-impl Event {
-    /// Appends the row `type` and the one of the body.
-    fn put_rows(&self, members: &mut Vec<(Text, Json)>, alloc: Global) -> Result<(), NoMemory>
-        ensures members { OnOk result (pairs_view members.new.items ≡ pairs_view members.old.items ++ event_rows.members self.now) }
-        ensures back { OnOk result (event_rows.Back self.now) }
-    {
+impl Choice for Event {
+    ghost use Rattle.mes_msg.specs.Events.{event_members, event_rows};
+    ghost use Rattle.std.specs.Prelude.{refl};
+
+    ghost names = { event_members };
+
+    ghost table = { event_rows };
+
+    ghost STEPS = { 11 };
+
+    ghost COUNT = { 8 };
+
+    const COUNT: usize = 8;
+
+    ghost counted = { refl };
+
+    #[tactic(auto, using(mes_part::specs::NameLaws::names_differ))]
+    fn read_choice(
+        alloc: Global,
+        found: &[Found<'_>],
+        path: &Trail<'_>,
+    ) -> Result<Event, PartFault> {
+        match type_of(alloc, &found[0], path)? {
+            "SUBSCRIBED" => Ok(Event::Subscribed(required(alloc, &found[1], "subscribed", path)?)),
+            "OFFERS" => {
+                let body: Offers = required(alloc, &found[2], "offers", path)?;
+                Ok(Event::Offers(body.into_list()))
+            }
+            "RESCIND" => Ok(Event::Rescind(required(alloc, &found[3], "rescind", path)?)),
+            "UPDATE" => Ok(Event::Update(required(alloc, &found[4], "update", path)?)),
+            "MESSAGE" => Ok(Event::Message(required(alloc, &found[5], "message", path)?)),
+            "FAILURE" => Ok(Event::Failure(required(alloc, &found[6], "failure", path)?)),
+            "ERROR" => Ok(Event::Error(required(alloc, &found[7], "error", path)?)),
+            "HEARTBEAT" => Ok(Event::Heartbeat),
+            name => Ok(Event::Other(OtherName::of_type(alloc, name)?)),
+        }
+    }
+
+    fn put_choice(&self, members: &mut Vec<(Text, Json)>, alloc: Global) -> Result<(), NoMemory> {
         match self {
             Event::Subscribed(body) => put_body(members, alloc, "SUBSCRIBED", "subscribed", body),
             Event::Offers(list) => put_offers(members, alloc, list),
@@ -68,6 +101,20 @@ impl Event {
             Event::Error(body) => put_body(members, alloc, "ERROR", "error", body),
             Event::Heartbeat => put_type(members, alloc, "HEARTBEAT"),
             Event::Other(name) => put(members, alloc, "type", name.text()),
+        }
+    }
+
+    fn copy_choice(&self, alloc: Global) -> Result<Event, NoMemory> {
+        match self {
+            Event::Subscribed(body) => Ok(Event::Subscribed(body.copy(alloc)?)),
+            Event::Offers(list) => Ok(Event::Offers(copy_list(alloc, list)?)),
+            Event::Rescind(body) => Ok(Event::Rescind(body.copy(alloc)?)),
+            Event::Update(body) => Ok(Event::Update(body.copy(alloc)?)),
+            Event::Message(body) => Ok(Event::Message(body.copy(alloc)?)),
+            Event::Failure(body) => Ok(Event::Failure(body.copy(alloc)?)),
+            Event::Error(body) => Ok(Event::Error(body.copy(alloc)?)),
+            Event::Heartbeat => Ok(Event::Heartbeat),
+            Event::Other(name) => Ok(Event::Other(name.copy(alloc)?)),
         }
     }
 }
@@ -83,47 +130,22 @@ impl Part for Event {
 
     ghost lawful = { lawful_event };
 
+    #[tactic(auto, unfolding(crate::specs::Events::event))]
     fn read_from(
         alloc: Global,
         element: &Element<'_>,
         path: &Trail<'_>,
     ) -> Result<Event, PartFault> {
-        let rows = find_rows::<8>(alloc, element, &ROWS, path)?;
-        match type_of(alloc, rows.at(0), path)? {
-            "SUBSCRIBED" => Ok(Event::Subscribed(required(alloc, rows.at(1), "subscribed", path)?)),
-            "OFFERS" => {
-                let body: Offers = required(alloc, rows.at(2), "offers", path)?;
-                Ok(Event::Offers(body.into_list()))
-            }
-            "RESCIND" => Ok(Event::Rescind(required(alloc, rows.at(3), "rescind", path)?)),
-            "UPDATE" => Ok(Event::Update(required(alloc, rows.at(4), "update", path)?)),
-            "MESSAGE" => Ok(Event::Message(required(alloc, rows.at(5), "message", path)?)),
-            "FAILURE" => Ok(Event::Failure(required(alloc, rows.at(6), "failure", path)?)),
-            "ERROR" => Ok(Event::Error(required(alloc, rows.at(7), "error", path)?)),
-            "HEARTBEAT" => Ok(Event::Heartbeat),
-            name => Ok(Event::Other(OtherName::of_type(alloc, name)?)),
-        }
+        read_typed::<Event, 8>(alloc, element, &EVENT_NAMES, path)
     }
 
     #[tactic(auto, using(crate::specs::Events::event_back), unfolding(crate::specs::Events::event))]
     fn tree(&self, alloc: Global) -> Result<Json, NoMemory> {
-        let mut members = Vec::new(alloc);
-        self.put_rows(&mut members, alloc)?;
-        Ok(whole_object(members))
+        typed_tree(alloc, self)
     }
 
     fn copy(&self, alloc: Global) -> Result<Event, NoMemory> {
-        match self {
-            Event::Subscribed(body) => Ok(Event::Subscribed(body.copy(alloc)?)),
-            Event::Offers(list) => Ok(Event::Offers(copy_list(alloc, list)?)),
-            Event::Rescind(body) => Ok(Event::Rescind(body.copy(alloc)?)),
-            Event::Update(body) => Ok(Event::Update(body.copy(alloc)?)),
-            Event::Message(body) => Ok(Event::Message(body.copy(alloc)?)),
-            Event::Failure(body) => Ok(Event::Failure(body.copy(alloc)?)),
-            Event::Error(body) => Ok(Event::Error(body.copy(alloc)?)),
-            Event::Heartbeat => Ok(Event::Heartbeat),
-            Event::Other(name) => Ok(Event::Other(name.copy(alloc)?)),
-        }
+        self.copy_choice(alloc)
     }
 }
 

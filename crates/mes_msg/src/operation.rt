@@ -1,15 +1,15 @@
 //! What is done with offers that are accepted.
-ghost use Rattle.std.specs.Prelude.{◌≡◌, ◌++◌, IfOk, OnOk};
+ghost use Rattle.std.specs.Prelude.{◌≡◌, IfOk, OnOk};
 ghost use Rattle.mes_json.specs.View.{view};
 ghost use Rattle.mes_part.specs.Kinds.{Returns};
-ghost use Rattle.mes_part.specs.Written.{pairs_view};
-ghost use Rattle.mes_msg.specs.Operations.{launch, operation_rows};
+ghost use Rattle.mes_msg.specs.Operations.{launch};
 
 use mes_json::{Element, Json, NoMemory, Text};
 use mes_model::TaskInfo;
 use mes_part::{
-    FieldWhy, List, Part, PartFault, Trail, copy_list, find_rows, put_many, put_type, repeated,
-    required, type_of, type_refusal, whole_object,
+    Choice, FieldWhy, Found, List, MadeOf, Many, Part, PartFault, RowList, Rows1, Trail, copy_list,
+    made, message_tree, pairs, put_type, read_message, read_typed, required, type_of, type_refusal,
+    typed_tree,
 };
 use std::alloc::Global;
 use std::marker::Model;
@@ -24,18 +24,55 @@ pub enum Operation {
     },
 }
 
-impl Operation {
-    /// Appends the row `type` and the one of the body.
-    fn put_rows(&self, members: &mut Vec<(Text, Json)>, alloc: Global) -> Result<(), NoMemory>
-        ensures members { OnOk result (pairs_view members.new.items ≡ pairs_view members.old.items ++ operation_rows.members self.now) }
-        ensures back { OnOk result (operation_rows.Back self.now) }
-    {
+/// The names of an operation's members, in the order of the table.
+const OPERATION_NAMES: [&str; 2] = ["type", "launch"];
+
+impl Choice for Operation {
+    ghost use Rattle.mes_msg.specs.Operations.{operation_names, operation_rows};
+    ghost use Rattle.std.specs.Prelude.{refl};
+
+    ghost names = { operation_names };
+
+    ghost table = { operation_rows };
+
+    ghost STEPS = { 11 };
+
+    ghost COUNT = { 2 };
+
+    const COUNT: usize = 2;
+
+    ghost counted = { refl };
+
+    #[tactic(auto, using(mes_part::specs::NameLaws::names_differ))]
+    fn read_choice(
+        alloc: Global,
+        found: &[Found<'_>],
+        path: &Trail<'_>,
+    ) -> Result<Operation, PartFault> {
+        match type_of(alloc, &found[0], path)? {
+            "LAUNCH" => {
+                let launch: Launch = required(alloc, &found[1], "launch", path)?;
+                Ok(Operation::Launch {
+                    task_infos: launch.into_list(),
+                })
+            }
+            _ => Err(type_refusal(alloc, path, FieldWhy::LeftOut)),
+        }
+    }
+
+    fn put_choice(&self, members: &mut Vec<(Text, Json)>, alloc: Global) -> Result<(), NoMemory> {
         let Operation::Launch { task_infos } = self;
         put_type(members, alloc, "LAUNCH")?;
         let tree = launch_tree(alloc, task_infos)?;
         let name = Text::of(alloc, "launch")?;
         members.push((name, tree))?;
         Ok(())
+    }
+
+    fn copy_choice(&self, alloc: Global) -> Result<Operation, NoMemory> {
+        let Operation::Launch { task_infos } = self;
+        let task_infos = copy_list(alloc, task_infos)?;
+        Ok(Operation::Launch { task_infos })
     }
 }
 
@@ -50,34 +87,22 @@ impl Part for Operation {
 
     ghost lawful = { lawful_operation };
 
+    #[tactic(auto, unfolding(crate::specs::Operations::operation))]
     fn read_from(
         alloc: Global,
         element: &Element<'_>,
         path: &Trail<'_>,
     ) -> Result<Operation, PartFault> {
-        let rows = find_rows::<2>(alloc, element, &["type", "launch"], path)?;
-        match type_of(alloc, rows.at(0), path)? {
-            "LAUNCH" => {
-                let launch: Launch = required(alloc, rows.at(1), "launch", path)?;
-                Ok(Operation::Launch {
-                    task_infos: launch.into_list(),
-                })
-            }
-            _ => Err(type_refusal(alloc, path, FieldWhy::LeftOut)),
-        }
+        read_typed::<Operation, 2>(alloc, element, &OPERATION_NAMES, path)
     }
 
     #[tactic(auto, using(crate::specs::Operations::operation_back), unfolding(crate::specs::Operations::operation))]
     fn tree(&self, alloc: Global) -> Result<Json, NoMemory> {
-        let mut members = Vec::new(alloc);
-        self.put_rows(&mut members, alloc)?;
-        Ok(whole_object(members))
+        typed_tree(alloc, self)
     }
 
     fn copy(&self, alloc: Global) -> Result<Operation, NoMemory> {
-        let Operation::Launch { task_infos } = self;
-        let task_infos = copy_list(alloc, task_infos)?;
-        Ok(Operation::Launch { task_infos })
+        self.copy_choice(alloc)
     }
 }
 
@@ -109,6 +134,21 @@ impl Launch {
     }
 }
 
+/// The names of the rows of a launch, in the order of the table.
+const LAUNCH_NAMES: [&str; 1] = ["task_infos"];
+
+type LaunchRows = Rows1<Many<TaskInfo>>;
+
+impl MadeOf<<LaunchRows as RowList>::Values> for Launch {
+    ghost use Rattle.mes_msg.specs.Operations.{launch_layout};
+
+    ghost to = { launch_layout.to };
+
+    fn made_of(values: <LaunchRows as RowList>::Values) -> Launch {
+        made!(values => Launch { task_infos })
+    }
+}
+
 impl Part for Launch {
     ghost use Rattle.mes_msg.specs.Operations.{launch, lawful_launch};
 
@@ -120,14 +160,13 @@ impl Part for Launch {
 
     ghost lawful = { lawful_launch };
 
+    #[tactic(auto, unfolding(crate::specs::Operations::launch))]
     fn read_from(
         alloc: Global,
         element: &Element<'_>,
         path: &Trail<'_>,
     ) -> Result<Launch, PartFault> {
-        let rows = find_rows::<1>(alloc, element, &["task_infos"], path)?;
-        let task_infos = repeated(alloc, rows.at(0), "task_infos", path)?;
-        Ok(Launch { task_infos })
+        read_message::<LaunchRows, Launch, 1>(alloc, element, &LAUNCH_NAMES, path)
     }
 
     fn tree(&self, alloc: Global) -> Result<Json, NoMemory> {
@@ -147,7 +186,5 @@ fn launch_tree(alloc: Global, task_infos: &List<TaskInfo>) -> Result<Json, NoMem
     // It is read back.
     ensures back { OnOk result (Returns launch task_infos.now) }
 {
-    let mut members = Vec::new(alloc);
-    put_many(&mut members, alloc, "task_infos", task_infos)?;
-    Ok(whole_object(members))
+    message_tree(alloc, &LAUNCH_NAMES, &pairs!(task_infos))
 }

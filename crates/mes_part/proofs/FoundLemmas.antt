@@ -14,7 +14,7 @@ use Rattle.mes_part.specs.Fields.{values_named, fault, is_in}
 use Rattle.mes_part.specs.NameLaws.{distinct, distinct_first, names_equal, names_differ, same_name}
 use Rattle.mes_part.specs.Leaves.{members_at}
 use Rattle.mes_part.specs.Objects.{members_in}
-use Rattle.mes_part.specs.FoundRows.{IsFound, noted, noted_if, FindsEach}
+use Rattle.mes_part.specs.FoundRows.{IsFound, noted, noted_if}
 use Rattle.mes_part.specs.declared.field.FieldWhy.TheVariants.{WrongKind}
 use Rattle.mes_part.specs.declared.found.Found.{Found}
 use Rattle.mes_part.specs.declared.found.Found.TheVariants.{Nothing, One, More}
@@ -88,21 +88,6 @@ pub follow_each_last : (fs : List Found) (names : List (List ℕ)) (ms rest : Me
     → NextMember rest None behind → FollowEach fs names ms rest → (i : ℕ) → i < length names → IsFound (get_or fs i Nothing) (values_named (get_or names i []) ms)
 follow_each_last fs names ms no_members behind next each i inside = follows_end (get_or fs i Nothing) _ (each i inside)
 follow_each_last fs names ms (member m t others) behind next each i inside = absurd next
-
--- one by one
-pub finds_each : (i : ℕ) (fs : List Found) (names : List (List ℕ)) (ms : Members)
-    → ((j : ℕ) → j < length names → IsFound (get_or fs (i + j) Nothing) (values_named (get_or names j []) ms)) → FindsEach i names ms fs
-finds_each i fs [] ms each = tt
-finds_each i fs (n ∷ ns) ms each = (
-  subst (λ (k : ℕ). IsFound (get_or fs k Nothing) (values_named n ms)) (omega arith) (each 0 (omega arith)),
-  finds_each (suc i) fs ns ms (λ j inside.
-      subst (λ (k : ℕ). IsFound (get_or fs k Nothing) (values_named (get_or ns j []) ms)) (omega arith) (each (suc j) (omega (arith, inside)))),
-)
-
-pub finds_all : (fs : List Found) (names : List (List ℕ)) (ms : Members)
-    → ((j : ℕ) → j < length names → IsFound (get_or fs j Nothing) (values_named (get_or names j []) ms)) → FindsEach 0 names ms fs
-finds_all fs names ms each =
-    finds_each 0 fs names ms (λ j inside. subst (λ (k : ℕ). IsFound (get_or fs k Nothing) (values_named (get_or names j []) ms)) (omega arith) (each j inside))
 
 -- ---- names that stand once
 names_behind : (n : List ℕ) (ns : List (List ℕ)) (k : ℕ) → is_in n ns ≡ false → k < length ns → bytes_eq (get_or ns k []) n ≡ false

@@ -10,3 +10,4 @@ pub mod ValueLemmas
 pub mod RowLemmas
 pub mod ReadListLemmas
 pub mod EitherLemmas
+pub mod RowListLemmas

@@ -8,22 +8,19 @@ use Rattle.mes_part.specs.Paths.{Place}
 use Rattle.mes_part.specs.Fields.{values_named, is_in, Has, below, lookup}
 use Rattle.mes_part.specs.Kinds.{◌>>=◌}
 use Rattle.mes_part.specs.Leaves.{texts}
-use Rattle.mes_part.specs.Rows.{Row, must, required}
-use Rattle.mes_part.specs.Choices.{Choice, type_name, no_other, others, refused, case, typed}
+use Rattle.mes_part.specs.Rows.{Table, must, required}
+use Rattle.mes_part.specs.Choices.{Choice, type_name, no_other, others, case, typed}
 use Rattle.mes_part.specs.FieldLaws.{bound, after, has_looked, looked}
 use Rattle.mes_part.specs.NameLaws.{distinct, distinct_first, Agrees, names_equal, names_differ, same_name, in_back, in_neither, united, united_front, united_back, united_neither, not_only, named_this, named_other}
 use Rattle.mes_part.specs.KindLaws.{text_is}
-use Rattle.mes_part.specs.RowLaws.{LawfulRow}
+use Rattle.mes_part.specs.RowLaws.{LawfulTable}
 use Rattle.mes_part.specs.declared.field.FieldFault.{FieldFault}
 use Rattle.mes_part.specs.declared.field.FieldWhy.{FieldWhy}
 
-pub record LawfulChoice {F : Type 0} (c : Choice F) : Type 1 where
+pub record LawfulChoice {F : Type 0} (c : Choice F) : Type 0 where
   -- what is read is what the relation says, wherever the object stands
-  pub sound : (at : List Place) (kind : List ℕ) (ms : Members) (x : F) → c.walk at kind ms (λ y. Ok y) ≡ Ok x → c.Reads kind ms x
-  pub complete : (at : List Place) (kind : List ℕ) (ms : Members) (x : F) → c.Reads kind ms x → c.walk at kind ms (λ y. Ok y) ≡ Ok x
-  -- to go on is to read, and then to go on
-  pub goes_on : {B : Type 0} → (at : List Place) (kind : List ℕ) (ms : Members) (go : F → Result B FieldFault)
-      → c.walk at kind ms go ≡ (c.walk at kind ms (λ y. Ok y) >>= go)
+  pub sound : (at : List Place) (kind : List ℕ) (ms : Members) (x : F) → c.read at kind ms ≡ Ok x → c.Reads kind ms x
+  pub complete : (at : List Place) (kind : List ℕ) (ms : Members) (x : F) → c.Reads kind ms x → c.read at kind ms ≡ Ok x
   -- what was written is read back from any members that hold it under these names, if no type stands twice, and under none a name
   pub back : (ms : Members) (x : F) → c.told_apart ≡ true → Agrees c.names ms (c.members x) → c.Back x → c.Reads (c.type_of x) ms x
   -- nothing is written under other names
@@ -35,7 +32,6 @@ pub lawful_no_other : {why : FieldWhy} → LawfulChoice (no_other why)
 lawful_no_other {why = why} = record {
   sound = λ at kind ms x e. absurd x;
   complete = λ at kind ms x h. absurd x;
-  goes_on = λ at kind ms go. refl;
   back = λ ms x once agrees returns. absurd x;
   only = λ n x other. absurd x;
   known = λ x. absurd x;
@@ -45,19 +41,9 @@ pub lawful_others : (known : List (List ℕ)) → LawfulChoice (others known)
 lawful_others known = record {
   sound = λ at kind ms x e. cc;
   complete = λ at kind ms x h. ap (λ (n : List ℕ). Ok n) h;
-  goes_on = λ at kind ms go. refl;
   back = λ ms x once agrees returns. refl;
   only = λ n x other. refl;
   known = λ x returns. ap not returns;
-}
-
-pub lawful_refused : {why : FieldWhy} → LawfulRow (refused why)
-lawful_refused {why = why} = record {
-  sound = λ at ms x e. absurd x;
-  complete = λ at ms x h. absurd x;
-  goes_on = λ at ms go. refl;
-  back = λ ms x once agrees returns. absurd x;
-  only = λ n x other. absurd x;
 }
 
 not_both : (a b : Bool) → (not a && b) ≡ true → (a ≡ false) × (b ≡ true)
@@ -72,54 +58,34 @@ or_back : (a b : Bool) → b ≡ true → (a || b) ≡ true
 or_back true b e = refl
 or_back false b e = e
 
-pub lawful_case : {F G : Type 0} {this : List ℕ} {r : Row F} {rest : Choice G} → LawfulRow r → LawfulChoice rest → LawfulChoice (case this r rest)
+pub lawful_case : {F G : Type 0} {this : List ℕ} {r : Table F} {rest : Choice G} → LawfulTable r → LawfulChoice rest → LawfulChoice (case this r rest)
 lawful_case {F = F} {G = G} {this = this} {r = r} {rest = rest} lr lrest = record {
   sound = λ at kind ms x e. sound at kind ms x (bytes_eq kind this) refl e;
   complete = complete;
-  goes_on = λ {B} at kind ms go. goes_on at kind ms go (bytes_eq kind this);
   back = back;
   only = only;
   known = known;
 } where
   sound : (at : List Place) (kind : List ℕ) (ms : Members) (x : F ⊎ G) (b : Bool) → bytes_eq kind this ≡ b
-      → cond b (r.walk at ms (λ a. Ok (inl a))) (rest.walk at kind ms (λ a. Ok (inr a))) ≡ Ok x → (case this r rest).Reads kind ms x
+      → cond b (r.read at ms >>= λ a. Ok (inl a)) (rest.read at kind ms >>= λ a. Ok (inr a)) ≡ Ok x → (case this r rest).Reads kind ms x
   sound at kind ms (inl x) true is e =
-      let one = bound (r.walk at ms (λ a. Ok a)) _ _ (sym (lr.goes_on at ms (λ a. Ok (inl a))) ∙ e) in
+      let one = bound (r.read at ms) _ _ e in
       let same = one.2 in (names_equal kind this is, lr.sound at ms x (one.1 ∙ cc))
   sound at kind ms (inr y) true is e =
-      let one = bound (r.walk at ms (λ a. Ok a)) _ _ (sym (lr.goes_on at ms (λ a. Ok (inl a))) ∙ e) in
+      let one = bound (r.read at ms) _ _ e in
       let bad = one.2 in absurd (cc)
   sound at kind ms (inl x) false is e =
-      let one = bound (rest.walk at kind ms (λ a. Ok a)) _ _ (sym (lrest.goes_on at kind ms (λ a. Ok (inr a))) ∙ e) in
+      let one = bound (rest.read at kind ms) _ _ e in
       let bad = one.2 in absurd (cc)
   sound at kind ms (inr y) false is e =
-      let one = bound (rest.walk at kind ms (λ a. Ok a)) _ _ (sym (lrest.goes_on at kind ms (λ a. Ok (inr a))) ∙ e) in
+      let one = bound (rest.read at kind ms) _ _ e in
       let same = one.2 in (differ is, lrest.sound at kind ms y (one.1 ∙ cc)) where
         differ : bytes_eq kind this ≡ false → kind ≢ this
         differ is e = let yes_same : bytes_eq kind this ≡ true = subst (λ (n : List ℕ). bytes_eq kind n ≡ true) e (same_name kind) in absurd (cc)
 
-  complete : (at : List Place) (kind : List ℕ) (ms : Members) (x : F ⊎ G) → (case this r rest).Reads kind ms x
-      → (case this r rest).walk at kind ms (λ a. Ok a) ≡ Ok x
-  complete at kind ms (inl x) h =
-      rw (h.0, same_name this) (lr.goes_on at ms (λ a. Ok (inl a)) ∙ after _ _ x (lr.complete at ms x h.1))
-  complete at kind ms (inr y) h =
-      rw (names_differ kind this h.0) (lrest.goes_on at kind ms (λ a. Ok (inr a)) ∙ after _ _ y (lrest.complete at kind ms y h.1))
-
-  goes_on : {B : Type 0} → (at : List Place) (kind : List ℕ) (ms : Members) (go : F ⊎ G → Result B FieldFault) (b : Bool)
-      → cond b (r.walk at ms (λ a. go (inl a))) (rest.walk at kind ms (λ a. go (inr a)))
-      ≡ (cond b (r.walk at ms (λ a. Ok (inl a))) (rest.walk at kind ms (λ a. Ok (inr a))) >>= go)
-  goes_on {B} at kind ms go true =
-      lr.goes_on at ms (λ a. go (inl a)) ∙ by_row (r.walk at ms (λ a. Ok a))
-      ∙ sym (ap (λ (x : Result (F ⊎ G) FieldFault). x >>= go) (lr.goes_on at ms (λ a. Ok (inl a)))) where
-        by_row : (x : Result F FieldFault) → (x >>= (λ a. go (inl a))) ≡ (x >>= (λ a. Ok (inl a)) >>= go)
-        by_row (Ok a) = refl
-        by_row (Err f) = refl
-  goes_on {B} at kind ms go false =
-      lrest.goes_on at kind ms (λ a. go (inr a)) ∙ by_rest (rest.walk at kind ms (λ a. Ok a))
-      ∙ sym (ap (λ (x : Result (F ⊎ G) FieldFault). x >>= go) (lrest.goes_on at kind ms (λ a. Ok (inr a)))) where
-        by_rest : (x : Result G FieldFault) → (x >>= (λ a. go (inr a))) ≡ (x >>= (λ a. Ok (inr a)) >>= go)
-        by_rest (Ok a) = refl
-        by_rest (Err f) = refl
+  complete : (at : List Place) (kind : List ℕ) (ms : Members) (x : F ⊎ G) → (case this r rest).Reads kind ms x → (case this r rest).read at kind ms ≡ Ok x
+  complete at kind ms (inl x) h = rw (h.0, same_name this) (after _ _ x (lr.complete at ms x h.1))
+  complete at kind ms (inr y) h = rw (names_differ kind this h.0) (after _ _ y (lrest.complete at kind ms y h.1))
 
   back : (ms : Members) (x : F ⊎ G) → (not (rest.takes this) && (distinct r.names && rest.told_apart)) ≡ true
       → Agrees (united r.names rest.names) ms ((case this r rest).members x) → (case this r rest).Back x
@@ -144,14 +110,13 @@ lawful_case {F = F} {G = G} {this = this} {r = r} {rest = rest} lr lrest = recor
   known (inr y) returns = or_back (bytes_eq this (rest.type_of y)) (rest.takes (rest.type_of y)) (lrest.known y returns)
 
 -- no type stands twice, and under none of them does a name
-pub lawful_typed : {F : Type 0} {c : Choice F} → LawfulChoice c → c.told_apart ≡ true → LawfulRow (typed c)
+pub lawful_typed : {F : Type 0} {c : Choice F} → LawfulChoice c → c.told_apart ≡ true → LawfulTable (typed c)
 unfolding texts required
 lawful_typed {F = F} {c = c} lc once_each = record {
   sound = λ at ms x e.
-      let one = bound (lookup at type_name ms >>= must texts (below at type_name)) (λ kind. c.walk at kind ms (λ y. Ok y)) x e in
+      let one = bound (lookup at type_name ms >>= must texts (below at type_name)) (λ kind. c.read at kind ms) x e in
       (one.0, has_type at ms one.0 one.1, lc.sound at one.0 ms x one.2);
   complete = λ at ms x h. rw (has_looked at type_name ms (string h.0) h.1) (lc.complete at h.0 ms x h.2);
-  goes_on = λ {B} at ms go. goes_on at ms go (lookup at type_name ms >>= must texts (below at type_name));
   back = λ ms x once agrees returns. let names = distinct_first type_name c.names once in (
     c.type_of x,
     (
@@ -172,11 +137,6 @@ lawful_typed {F = F} {c = c} lc once_each = record {
     | inl h ↦ let bad = h.1 in absurd (cc)
     | inr h ↦ subst (λ (t : Tree). Has ms type_name t) (text_is (below at type_name) h.0 kind h.2) h.1
   ]
-
-  goes_on : {B : Type 0} → (at : List Place) (ms : Members) (go : F → Result B FieldFault) (r : Result (List ℕ) FieldFault)
-      → (r >>= (λ kind. c.walk at kind ms go)) ≡ (r >>= (λ kind. c.walk at kind ms (λ y. Ok y)) >>= go)
-  goes_on at ms go (Ok kind) = lc.goes_on at kind ms go
-  goes_on at ms go (Err f) = refl
 
   not_type : (n : List ℕ) → is_in type_name c.names ≡ false → is_in n c.names ≡ true → bytes_eq type_name n ≡ false
   not_type n new named = names_differ type_name n (λ e. let bad : is_in n c.names ≡ false = subst (λ (m : List ℕ). is_in m c.names ≡ false) e new in absurd (cc))

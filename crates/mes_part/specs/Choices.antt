@@ -1,5 +1,5 @@
 -- The member `type`, and the rows that depend on it.
-use Rattle.std.specs.Prelude.{◌≡◌, ◌≢◌, ◌⊎◌, ℕ, Bool, true, false, ◌||◌, ◌&&◌, not, List, [], ◌∷◌, bytes_eq, codes, if◌then◌else◌, Result}
+use Rattle.std.specs.Prelude.{◌≡◌, ◌≢◌, ◌⊎◌, ℕ, Bool, true, false, ◌||◌, ◌&&◌, not, List, [], ◌∷◌, bytes_eq, codes, if◌then◌else◌, Result, Ok}
 use Rattle.std.proofs.Common.{inl, inr}
 use Rattle.mes_json.specs.Tree.{Tree, Members}
 use Rattle.mes_json.specs.Tree.Tree.{string}
@@ -8,7 +8,7 @@ use Rattle.mes_part.specs.Fields.{is_in, Has, below, fault}
 use Rattle.mes_part.specs.Kinds.{◌>>=◌}
 use Rattle.mes_part.specs.Leaves.{texts}
 use Rattle.mes_part.specs.NameLaws.{distinct, united}
-use Rattle.mes_part.specs.Rows.{Row, required}
+use Rattle.mes_part.specs.Rows.{Table, required}
 use Rattle.mes_part.specs.declared.field.FieldFault.{FieldFault}
 use Rattle.mes_part.specs.declared.field.FieldWhy.{FieldWhy}
 
@@ -22,8 +22,8 @@ pub record Choice (F : Type 0) : Type 1 where
   pub names : List (List ℕ)
   -- under a type, the members hold x
   pub Reads : List ℕ → Members → F → Type 0
-  -- under a type, what the members of an object at a path hold, and then what is read with it
-  pub walk : {B : Type 0} → List Place → List ℕ → Members → (F → Result B FieldFault) → Result B FieldFault
+  -- under a type, what the members of an object at a path hold, or the first fault
+  pub read : List Place → List ℕ → Members → Result F FieldFault
   -- the type of x, and the members beside it that x is written as
   pub type_of : F → List ℕ
   pub members : F → List (List ℕ × Tree)
@@ -40,7 +40,7 @@ no_other why = record {
   told_apart = true;
   names = [];
   Reads = λ kind ms x. ⊥;
-  walk = λ at kind ms go. fault (below at type_name) why;
+  read = λ at kind ms. fault (below at type_name) why;
   type_of = λ x. [];
   members = λ x. [];
   Back = λ x. ⊥;
@@ -53,30 +53,20 @@ others known = record {
   told_apart = true;
   names = [];
   Reads = λ kind ms x. kind ≡ x;
-  walk = λ at kind ms go. go kind;
+  read = λ at kind ms. Ok kind;
   type_of = λ x. x;
   members = λ x. [];
   Back = λ x. is_in x known ≡ false;
 }
 
--- the rows of a type that is known and refused
-abbrev pub refused : FieldWhy → Row ⊥
-refused why = record {
-  names = [];
-  Reads = λ ms x. ⊥;
-  walk = λ at ms go. fault (below at type_name) why;
-  members = λ x. [];
-  Back = λ x. ⊥;
-}
-
 -- under this type these rows, and else the rest; a name may stand under several types, each with a row of its own
-abbrev pub case : {F G : Type 0} → List ℕ → Row F → Choice G → Choice (F ⊎ G)
+abbrev pub case : {F G : Type 0} → List ℕ → Table F → Choice G → Choice (F ⊎ G)
 case {F} {G} this r rest = record {
   takes = λ kind. bytes_eq this kind || rest.takes kind;
   told_apart = not (rest.takes this) && (distinct r.names && rest.told_apart);
   names = united r.names rest.names;
   Reads = CaseReads;
-  walk = λ at kind ms go. if bytes_eq kind this then r.walk at ms (λ x. go (inl x)) else rest.walk at kind ms (λ y. go (inr y));
+  read = λ at kind ms. if bytes_eq kind this then (r.read at ms >>= λ x. Ok (inl x)) else (rest.read at kind ms >>= λ y. Ok (inr y));
   type_of = case_type;
   members = case_members;
   Back = CaseBack;
@@ -98,11 +88,11 @@ case {F} {G} this r rest = record {
   CaseBack (inr y) = rest.Back y
 
 -- the row `type`, which must be there, and the rows of the type
-abbrev pub typed : {F : Type 0} → Choice F → Row F
+abbrev pub typed : {F : Type 0} → Choice F → Table F
 typed c = record {
   names = type_name ∷ c.names;
   Reads = λ ms x. (kind : List ℕ) × Has ms type_name (string kind) × c.Reads kind ms x;
-  walk = λ at ms go. required type_name texts at ms >>= λ kind. c.walk at kind ms go;
+  read = λ at ms. required type_name texts at ms >>= λ kind. c.read at kind ms;
   members = λ x. (type_name, string (c.type_of x)) ∷ c.members x;
   Back = c.Back;
 }

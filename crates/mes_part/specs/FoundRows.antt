@@ -1,5 +1,5 @@
 -- What is found of the rows of an object: of each name no member, one, or more.
-use Rattle.std.specs.Prelude.{◌≡◌, ℕ, suc, ◌≤◌, Bool, true, false, List, [], ◌∷◌, length, slice_index_or, Option, Some, None, Result, Ok, Err}
+use Rattle.std.specs.Prelude.{◌≡◌, ℕ, suc, ◌<◌, ◌≤◌, Bool, true, false, List, [], ◌∷◌, length, slice_index_or, Option, Some, None, Result, Ok, Err}
 use Rattle.mes_json.specs.Tree.{Tree, Members}
 use Rattle.mes_json.specs.Tree.Tree.{object}
 use Rattle.mes_json.specs.Tokens.{Token, BeginsWith}
@@ -15,6 +15,7 @@ use Rattle.mes_part.specs.declared.read_row.Sole.TheVariants.{Absent, Present, R
 use Rattle.mes_part.specs.declared.rows.Rows.{Rows}
 use Rattle.mes_part.specs.declared.part.PartFault.{PartFault}
 use Rattle.mes_part.specs.Parts.{Refuses}
+use Rattle.mes_part.specs.RowNames.{name_at}
 
 -- these are the values of the members that were found
 abbrev pub IsFound : Found → List Tree → Type 0
@@ -38,9 +39,13 @@ abbrev pub FindsEach : ℕ → List (List ℕ) → Members → List Found → Ty
 FindsEach i [] ms fs = Unit {0}
 FindsEach i (n ∷ ns) ms fs = IsFound (slice_index_or fs i Nothing) (values_named n ms) × FindsEach (suc i) ns ms fs
 
+-- of each of these names the values of its members are found, in the place where the name stands
+abbrev pub FindsAll : List (List ℕ) → Members → List Found → Type 0
+FindsAll names ms fs = (i : ℕ) → i < length names → IsFound (slice_index_or fs i Nothing) (values_named (name_at names i) ms)
+
 -- the tree is an object, and the members of these names are found; or it is none, which is told
 abbrev pub FindsRows : {N : ℕ} → List (List ℕ) → List Place → Tree → Result (Rows N) PartFault → Type 0
-FindsRows names at t (Ok rows) = (ms : Members) × (t ≡ object ms) × FindsEach 0 names ms rows.found.items
+FindsRows names at t (Ok rows) = (ms : Members) × (t ≡ object ms) × FindsAll names ms rows.found.items
 FindsRows names at t (Err e) = Refuses (members_at at t) e
 
 -- of what is looked up at a path: there is no value, or one at this place, or the name stands twice

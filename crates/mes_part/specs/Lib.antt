@@ -7,6 +7,8 @@ pub mod Kinds
 pub mod Leaves
 pub mod Lists
 pub mod Rows
+pub mod RowNames
+pub mod Layouts
 pub mod Choices
 pub mod FieldLaws
 pub mod NameLaws

@@ -10,19 +10,16 @@ use Rattle.mes_part.specs.Fields.{values_named, is_in, Has, Lacks, below, lookup
 use Rattle.mes_part.specs.Kinds.{Kind, Lawful, Returns, ◌>>=◌}
 use Rattle.mes_part.specs.Leaves.{members_at}
 use Rattle.mes_part.specs.Lists.{list_of}
-use Rattle.mes_part.specs.Rows.{Row, must, required, need, HasSome, likewise, optional, some_member, ReturnsSome, maybe, listed, repeated, list_member, ReturnsEach, many, IsFlag, is_there, flagged, flag_member, flag, no_rows, ◌⨾◌, mapped, row_value, joined, message}
-use Rattle.mes_part.specs.FieldLaws.{bound, after, same_bound, bound_ok, has_looked, lacks_looked, looked_ok}
+use Rattle.mes_part.specs.Rows.{Table, must, required, need, HasSome, likewise, optional, some_member, ReturnsSome, maybe, listed, repeated, list_member, ReturnsEach, many, IsFlag, is_there, flagged, flag_member, flag, no_rows, ◌⨾◌, mapped, message}
+use Rattle.mes_part.specs.FieldLaws.{bound, after, has_looked, lacks_looked, looked}
 use Rattle.mes_part.specs.NameLaws.{distinct, distinct_both, Agrees, in_front, in_back, in_neither, apart_in, apart_back, named_append, named_this, named_other, not_only, is_only}
 use Rattle.mes_part.specs.KindLaws.{members_are, lawful_list, list_returns}
 use Rattle.mes_part.specs.declared.field.FieldFault.{FieldFault}
 
-pub record LawfulRow {F : Type 0} (r : Row F) : Type 1 where
+pub record LawfulTable {F : Type 0} (r : Table F) : Type 0 where
   -- what is read is what the relation says, wherever the object stands
-  pub sound : (at : List Place) (ms : Members) (x : F) → r.walk at ms (λ y. Ok y) ≡ Ok x → r.Reads ms x
-  pub complete : (at : List Place) (ms : Members) (x : F) → r.Reads ms x → r.walk at ms (λ y. Ok y) ≡ Ok x
-  -- to go on is to read, and then to go on
-  pub goes_on : {B : Type 0} → (at : List Place) (ms : Members) (go : F → Result B FieldFault)
-      → r.walk at ms go ≡ (r.walk at ms (λ y. Ok y) >>= go)
+  pub sound : (at : List Place) (ms : Members) (x : F) → r.read at ms ≡ Ok x → r.Reads ms x
+  pub complete : (at : List Place) (ms : Members) (x : F) → r.Reads ms x → r.read at ms ≡ Ok x
   -- what was written is read back from any members that hold it under these names, if none stands twice
   pub back : (ms : Members) (x : F) → distinct r.names ≡ true → Agrees r.names ms (r.members x) → r.Back x → r.Reads ms x
   -- nothing is written under other names
@@ -42,27 +39,25 @@ held k lawful n ms v agrees returns = (
 free : (n : List ℕ) (ms : Members) → Agrees (n ∷ []) ms [] → Lacks ms n
 free n ms agrees = inl (agrees n (is_only n))
 
-pub lawful_need : {A : Type 0} {n : List ℕ} {k : Kind A} → Lawful k → LawfulRow (need n k)
+pub lawful_need : {A : Type 0} {n : List ℕ} {k : Kind A} → Lawful k → LawfulTable (need n k)
 unfolding required
 lawful_need {A = A} {n = n} {k = k} lawful = record {
   sound = λ at ms v e. sound at ms v e;
   complete = λ at ms v h. rw (has_looked at n ms h.0 h.1) (rw (lawful.complete (below at n) h.0 v h.2) refl);
-  goes_on = λ at ms go. same_bound (lookup at n ms >>= must k (below at n)) go;
   back = λ ms v once agrees returns. (k.tree v, held k lawful n ms v agrees returns, returns);
   only = λ m v other. named_other n m (k.tree v) [] (not_only n m other);
 } where
-  sound : (at : List Place) (ms : Members) (v : A) → (lookup at n ms >>= must k (below at n) >>= (λ y. Ok y)) ≡ Ok v → (t : Tree) × Has ms n t × k.Reads t v
-  sound at ms v e = elim (looked_ok at n ms (must k (below at n)) v e) [
+  sound : (at : List Place) (ms : Members) (v : A) → (lookup at n ms >>= must k (below at n)) ≡ Ok v → (t : Tree) × Has ms n t × k.Reads t v
+  sound at ms v e = elim (looked at n ms (must k (below at n)) v e) [
     | inl h ↦ let bad = h.1 in absurd (cc)
     | inr h ↦ (h.0, h.1, lawful.sound (below at n) h.0 v h.2)
   ]
 
-pub lawful_maybe : {A : Type 0} {n : List ℕ} {k : Kind A} → Lawful k → LawfulRow (maybe n k)
+pub lawful_maybe : {A : Type 0} {n : List ℕ} {k : Kind A} → Lawful k → LawfulTable (maybe n k)
 unfolding optional
 lawful_maybe {A = A} {n = n} {k = k} lawful = record {
-  sound = λ at ms o e. sound at ms o (looked_ok at n ms (likewise k (below at n)) o e);
+  sound = λ at ms o e. sound at ms o (looked at n ms (likewise k (below at n)) o e);
   complete = complete;
-  goes_on = λ at ms go. same_bound (lookup at n ms >>= likewise k (below at n)) go;
   back = λ ms x once agrees returns. back ms x agrees returns;
   only = only;
 } where
@@ -76,7 +71,7 @@ lawful_maybe {A = A} {n = n} {k = k} lawful = record {
       let same = one.2 in
       (h.0, h.1, lawful.sound (below at n) h.0 v (one.1 ∙ cc))
 
-  complete : (at : List Place) (ms : Members) (o : Option A) → HasSome n k ms o → (lookup at n ms >>= likewise k (below at n) >>= (λ y. Ok y)) ≡ Ok o
+  complete : (at : List Place) (ms : Members) (o : Option A) → HasSome n k ms o → (lookup at n ms >>= likewise k (below at n)) ≡ Ok o
   complete at ms None h = rw (lacks_looked at n ms h) refl
   complete at ms (Some v) h = rw (has_looked at n ms h.0 h.1) (rw (lawful.complete (below at n) h.0 v h.2) refl)
 
@@ -88,12 +83,11 @@ lawful_maybe {A = A} {n = n} {k = k} lawful = record {
   only m None other = refl
   only m (Some v) other = named_other n m (k.tree v) [] (not_only n m other)
 
-pub lawful_many : {A : Type 0} {n : List ℕ} {k : Kind A} → Lawful k → LawfulRow (many n k)
+pub lawful_many : {A : Type 0} {n : List ℕ} {k : Kind A} → Lawful k → LawfulTable (many n k)
 unfolding repeated
 lawful_many {A = A} {n = n} {k = k} lawful = record {
-  sound = λ at ms vs e. sound at ms vs (looked_ok at n ms (listed k (below at n)) vs e);
+  sound = λ at ms vs e. sound at ms vs (looked at n ms (listed k (below at n)) vs e);
   complete = complete;
-  goes_on = λ at ms go. same_bound (lookup at n ms >>= listed k (below at n)) go;
   back = λ ms x once agrees returns. back ms x agrees returns;
   only = only;
 } where
@@ -104,10 +98,10 @@ lawful_many {A = A} {n = n} {k = k} lawful = record {
   sound at ms vs (inr h) = inr (h.0, h.1, (lawful_list lawful).sound (below at n) h.0 vs h.2)
 
   complete : (at : List Place) (ms : Members) (vs : List A) → (Lacks ms n × (vs ≡ [])) ⊎ ((t : Tree) × Has ms n t × (list_of k).Reads t vs)
-      → (lookup at n ms >>= listed k (below at n) >>= (λ y. Ok y)) ≡ Ok vs
+      → (lookup at n ms >>= listed k (below at n)) ≡ Ok vs
   complete at ms vs (inl h) = let none = h.1 in rw (lacks_looked at n ms h.0) (cc)
   complete at ms vs (inr h) =
-      rw (has_looked at n ms h.0 h.1) (bound_ok ((list_of k).read (below at n) h.0) ∙ (lawful_list lawful).complete (below at n) h.0 vs h.2)
+      rw (has_looked at n ms h.0 h.1) ((lawful_list lawful).complete (below at n) h.0 vs h.2)
 
   back : (ms : Members) (vs : List A) → Agrees (n ∷ []) ms (list_member n k vs) → ReturnsEach k vs
       → (Lacks ms n × (vs ≡ [])) ⊎ ((t : Tree) × Has ms n t × (list_of k).Reads t vs)
@@ -120,12 +114,11 @@ lawful_many {A = A} {n = n} {k = k} lawful = record {
   only m [] other = refl
   only m (v ∷ vs) other = named_other n m ((list_of k).tree (v ∷ vs)) [] (not_only n m other)
 
-pub lawful_flag : {n : List ℕ} → LawfulRow (flag n)
+pub lawful_flag : {n : List ℕ} → LawfulTable (flag n)
 unfolding flagged
 lawful_flag {n = n} = record {
-  sound = λ at ms x e. sound at ms x (looked_ok at n ms (is_there (below at n)) x e);
+  sound = λ at ms x e. sound at ms x (looked at n ms (is_there (below at n)) x e);
   complete = complete;
-  goes_on = λ at ms go. same_bound (lookup at n ms >>= is_there (below at n)) go;
   back = λ ms x once agrees returns. back ms x agrees returns;
   only = only;
 } where
@@ -138,7 +131,7 @@ lawful_flag {n = n} = record {
       let one = bound (members_at (below at n) h.0) _ _ h.2 in
       (one.0, subst (λ (t : Tree). Has ms n t) (members_are (below at n) h.0 one.0 one.1) h.1)
 
-  complete : (at : List Place) (ms : Members) (x : Bool) → IsFlag n ms x → (lookup at n ms >>= is_there (below at n) >>= (λ y. Ok y)) ≡ Ok x
+  complete : (at : List Place) (ms : Members) (x : Bool) → IsFlag n ms x → (lookup at n ms >>= is_there (below at n)) ≡ Ok x
   complete at ms false h = rw (lacks_looked at n ms h) refl
   complete at ms true h = rw (has_looked at n ms (object h.0) h.1) refl
 
@@ -152,30 +145,24 @@ lawful_flag {n = n} = record {
 
 -- ---- rows together
 
-pub lawful_no_rows : LawfulRow no_rows
+pub lawful_no_rows : LawfulTable no_rows
 lawful_no_rows = record {
   sound = λ at ms x e. tt;
   complete = λ at ms x h. refl;
-  goes_on = λ at ms go. refl;
   back = λ ms x once agrees returns. tt;
   only = λ n x other. refl;
 }
 
--- the one, and then the other: a table of laws reads as its table of rows
-infixr 4 ◌⨾⨾◌
-pub ◌⨾⨾◌ : {F G : Type 0} {r : Row F} {s : Row G} → LawfulRow r → LawfulRow s → LawfulRow (r ⨾ s)
-◌⨾⨾◌ {F = F} {G = G} {r = r} {s = s} lr ls = record {
+pub lawful_both : {F G : Type 0} {r : Table F} {s : Table G} → LawfulTable r → LawfulTable s → LawfulTable (r ⨾ s)
+lawful_both {F = F} {G = G} {r = r} {s = s} lr ls = record {
   sound = λ at ms x e.
-      let first = bound (r.walk at ms (λ a. Ok a)) _ _ (sym (lr.goes_on at ms (λ a. s.walk at ms (λ b. Ok (a, b)))) ∙ e) in
-      let second = bound (s.walk at ms (λ b. Ok b)) _ _ (sym (ls.goes_on at ms (λ b. Ok (first.0, b))) ∙ first.2) in
+      let first = bound (r.read at ms) _ _ e in
+      let second = bound (s.read at ms) _ _ first.2 in
       let same = second.2 in
       let x0 : first.0 ≡ x.0 = cc in
       let x1 : second.0 ≡ x.1 = cc in
       (lr.sound at ms x.0 (first.1 ∙ ap (λ (a : F). Ok a) x0), ls.sound at ms x.1 (second.1 ∙ ap (λ (b : G). Ok b) x1));
-  complete = λ at ms x h.
-      lr.goes_on at ms (λ a. s.walk at ms (λ b. Ok (a, b))) ∙ after _ _ x.0 (lr.complete at ms x.0 h.0)
-      ∙ ls.goes_on at ms (λ b. Ok (x.0, b)) ∙ after _ _ x.1 (ls.complete at ms x.1 h.1);
-  goes_on = λ {B} at ms go. goes_on at ms go;
+  complete = λ at ms x h. after _ _ x.0 (lr.complete at ms x.0 h.0) ∙ after _ _ x.1 (ls.complete at ms x.1 h.1);
   back = λ ms x once agrees returns. let apart_names = distinct_both r.names s.names once in (
     lr.back ms x.0 apart_names.0 (λ n named. agrees n (in_front n r.names s.names named)
         ∙ named_append n (r.members x.0) (s.members x.1)
@@ -189,54 +176,20 @@ pub ◌⨾⨾◌ : {F G : Type 0} {r : Row F} {s : Row G} → LawfulRow r → La
       let neither = in_neither n r.names s.names other in
       named_append n (r.members x.0) (s.members x.1)
       ∙ ap (λ (ts : List Tree). ts ++ values_named n (members_of (s.members x.1))) (lr.only n x.0 neither.0) ∙ ls.only n x.1 neither.1;
-} where
-  goes_on : {B : Type 0} → (at : List Place) (ms : Members) (go : F × G → Result B FieldFault)
-      → r.walk at ms (λ a. s.walk at ms (λ b. go (a, b))) ≡ (r.walk at ms (λ a. s.walk at ms (λ b. Ok (a, b))) >>= go)
-  goes_on {B} at ms go =
-      lr.goes_on at ms (λ a. s.walk at ms (λ b. go (a, b))) ∙ by_first (r.walk at ms (λ a. Ok a))
-      ∙ sym (ap (λ (x : Result (F × G) FieldFault). x >>= go) (lr.goes_on at ms (λ a. s.walk at ms (λ b. Ok (a, b))))) where
-        by_second : (a : F) (y : Result G FieldFault) → (y >>= (λ b. go (a, b))) ≡ (y >>= (λ b. Ok (a, b)) >>= go)
-        by_second a (Ok b) = refl
-        by_second a (Err f) = refl
-
-        by_first : (x : Result F FieldFault) → (x >>= (λ a. s.walk at ms (λ b. go (a, b)))) ≡ (x >>= (λ a. s.walk at ms (λ b. Ok (a, b))) >>= go)
-        by_first (Ok a) =
-            ls.goes_on at ms (λ b. go (a, b)) ∙ by_second a (s.walk at ms (λ b. Ok b))
-            ∙ sym (ap (λ (x : Result (F × G) FieldFault). x >>= go) (ls.goes_on at ms (λ b. Ok (a, b))))
-        by_first (Err f) = refl
+}
 
 -- what was made from the rows gives back what it was made from
-pub lawful_mapped : {F G : Type 0} {r : Row F} (to : F → G) (from : G → F) → LawfulRow r → ((y : G) → to (from y) ≡ y) → LawfulRow (mapped r to from)
+pub lawful_mapped : {F G : Type 0} {r : Table F} (to : F → G) (from : G → F) → LawfulTable r → ((y : G) → to (from y) ≡ y) → LawfulTable (mapped r to from)
 lawful_mapped {F = F} {G = G} {r = r} to from lr inverse = record {
-  sound = λ at ms y e.
-      let one = bound (r.walk at ms (λ a. Ok a)) _ _ (sym (lr.goes_on at ms (λ a. Ok (to a))) ∙ e) in
-      let same = one.2 in (one.0, lr.sound at ms one.0 one.1, cc);
-  complete = λ at ms y h.
-      lr.goes_on at ms (λ a. Ok (to a)) ∙ after _ _ h.0 (lr.complete at ms h.0 h.1) ∙ ap (λ (z : G). Ok z) h.2;
-  goes_on = λ {B} at ms go.
-      lr.goes_on at ms (λ a. go (to a)) ∙ by_first go (r.walk at ms (λ a. Ok a))
-      ∙ sym (ap (λ (x : Result G FieldFault). x >>= go) (lr.goes_on at ms (λ a. Ok (to a))));
+  sound = λ at ms y e. let one = bound (r.read at ms) _ _ e in let same = one.2 in (one.0, lr.sound at ms one.0 one.1, cc);
+  complete = λ at ms y h. after _ _ h.0 (lr.complete at ms h.0 h.1) ∙ ap (λ (z : G). Ok z) h.2;
   back = λ ms y once agrees returns. (from y, lr.back ms (from y) once agrees returns, inverse y);
   only = λ n y other. lr.only n (from y) other;
-} where
-  by_first : {B : Type 0} (go : G → Result B FieldFault) (x : Result F FieldFault) → (x >>= (λ a. go (to a))) ≡ (x >>= (λ a. Ok (to a)) >>= go)
-  by_first go (Ok a) = refl
-  by_first go (Err f) = refl
-
--- rows read as one
-pub lawful_joined : {F : Type 0} {r : Row F} → LawfulRow r → LawfulRow (joined r)
-unfolding row_value
-lawful_joined {r = r} lr = record {
-  sound = λ at ms x e. lr.sound at ms x (sym (bound_ok (r.walk at ms (λ y. Ok y))) ∙ e);
-  complete = λ at ms x h. bound_ok (r.walk at ms (λ y. Ok y)) ∙ lr.complete at ms x h;
-  goes_on = λ at ms go. same_bound (r.walk at ms (λ y. Ok y)) go;
-  back = lr.back;
-  only = lr.only;
 }
 
 -- ---- messages
 
-pub lawful_message : {A : Type 0} {r : Row A} → LawfulRow r → Lawful (message r)
+pub lawful_message : {A : Type 0} {r : Table A} → LawfulTable r → Lawful (message r)
 lawful_message {A = A} {r = r} lr = record {
   sound = λ at t v e. let h = bound (members_at at t) _ _ e in (h.0, members_are at t h.0 h.1, lr.sound at h.0 v h.2);
   complete = λ at t v h. rw (h.1) (lr.complete at h.0 v h.2);
@@ -244,5 +197,5 @@ lawful_message {A = A} {r = r} lr = record {
 }
 
 -- a message whose rows have distinct names is read back where each value in it is
-pub message_returns : {A : Type 0} {r : Row A} → LawfulRow r → distinct r.names ≡ true → (v : A) → r.Back v → Returns (message r) v
+pub message_returns : {A : Type 0} {r : Table A} → LawfulTable r → distinct r.names ≡ true → (v : A) → r.Back v → Returns (message r) v
 message_returns {r = r} lr once v returns = (members_of (r.members v), refl, lr.back (members_of (r.members v)) v once (λ n named. refl) returns)

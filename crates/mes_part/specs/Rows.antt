@@ -13,13 +13,13 @@ use Rattle.mes_part.specs.declared.field.FieldFault.{FieldFault}
 use Rattle.mes_part.specs.declared.field.FieldWhy.TheVariants.{Missing}
 
 -- Rows that hold an F.
-pub record Row (F : Type 0) : Type 1 where
+pub record Table (F : Type 0) : Type 1 where
   -- the names of the members that they read
   pub names : List (List ℕ)
   -- the members hold x
   pub Reads : Members → F → Type 0
-  -- what the members of an object at a path hold, and then what is read with it; the first fault stands
-  pub walk : {B : Type 0} → List Place → Members → (F → Result B FieldFault) → Result B FieldFault
+  -- what the members of an object at a path hold, or the first fault
+  pub read : List Place → Members → Result F FieldFault
   -- the members that x is written as
   pub members : F → List (List ℕ × Tree)
   -- each value in x is read back from its own tree
@@ -34,11 +34,11 @@ must k at (Some t) = k.read at t
 unfoldable pub required : {V : Type 0} → List ℕ → Kind V → List Place → Members → Result V FieldFault
 required n k at ms = lookup at n ms >>= must k (below at n)
 
-abbrev pub need : {V : Type 0} → List ℕ → Kind V → Row V
+abbrev pub need : {V : Type 0} → List ℕ → Kind V → Table V
 need {V} n k = record {
   names = n ∷ [];
   Reads = λ ms v. (t : Tree) × Has ms n t × k.Reads t v;
-  walk = λ at ms go. required n k at ms >>= go;
+  read = required n k;
   members = λ v. (n, k.tree v) ∷ [];
   Back = λ v. Returns k v;
 }
@@ -64,11 +64,11 @@ abbrev pub ReturnsSome : {V : Type 0} → Kind V → Option V → Type 0
 ReturnsSome k None = Unit {0}
 ReturnsSome k (Some v) = Returns k v
 
-abbrev pub maybe : {V : Type 0} → List ℕ → Kind V → Row (Option V)
+abbrev pub maybe : {V : Type 0} → List ℕ → Kind V → Table (Option V)
 maybe {V} n k = record {
   names = n ∷ [];
   Reads = HasSome n k;
-  walk = λ at ms go. optional n k at ms >>= go;
+  read = optional n k;
   members = some_member n k;
   Back = ReturnsSome k;
 }
@@ -90,11 +90,11 @@ abbrev pub ReturnsEach : {V : Type 0} → Kind V → List V → Type 0
 ReturnsEach k [] = Unit {0}
 ReturnsEach k (v ∷ vs) = Returns k v × ReturnsEach k vs
 
-abbrev pub many : {V : Type 0} → List ℕ → Kind V → Row (List V)
+abbrev pub many : {V : Type 0} → List ℕ → Kind V → Table (List V)
 many {V} n k = record {
   names = n ∷ [];
   Reads = λ ms vs. (Lacks ms n × (vs ≡ [])) ⊎ ((t : Tree) × Has ms n t × (list_of k).Reads t vs);
-  walk = λ at ms go. repeated n k at ms >>= go;
+  read = repeated n k;
   members = list_member n k;
   Back = ReturnsEach k;
 }
@@ -116,11 +116,11 @@ abbrev pub flag_member : List ℕ → Bool → List (List ℕ × Tree)
 flag_member n false = []
 flag_member n true = (n, object no_members) ∷ []
 
-abbrev pub flag : List ℕ → Row Bool
+abbrev pub flag : List ℕ → Table Bool
 flag n = record {
   names = n ∷ [];
   Reads = IsFlag n;
-  walk = λ at ms go. flagged n at ms >>= go;
+  read = flagged n;
   members = flag_member n;
   Back = λ x. Unit {0};
 }
@@ -128,48 +128,34 @@ flag n = record {
 -- ---- rows together
 
 -- no row
-abbrev pub no_rows : Row (Unit {0})
-no_rows = record { names = []; Reads = λ ms x. Unit {0}; walk = λ at ms go. go tt; members = λ x. []; Back = λ x. Unit {0} }
+abbrev pub no_rows : Table (Unit {0})
+no_rows = record { names = []; Reads = λ ms x. Unit {0}; read = λ at ms. Ok tt; members = λ x. []; Back = λ x. Unit {0} }
 
 -- the one, and then the other
 infixr 4 ◌⨾◌
-abbrev pub ◌⨾◌ : {F G : Type 0} → Row F → Row G → Row (F × G)
+abbrev pub ◌⨾◌ : {F G : Type 0} → Table F → Table G → Table (F × G)
 r ⨾ s = record {
   names = r.names ++ s.names;
   Reads = λ ms x. r.Reads ms x.0 × s.Reads ms x.1;
-  walk = λ at ms go. r.walk at ms (λ x. s.walk at ms (λ y. go (x, y)));
+  read = λ at ms. r.read at ms >>= λ x. s.read at ms >>= λ y. Ok (x, y);
   members = λ x. r.members x.0 ++ s.members x.1;
   Back = λ x. r.Back x.0 × s.Back x.1;
 }
 
 -- the same rows, which hold a G made from an F
-abbrev pub mapped : {F G : Type 0} → Row F → (F → G) → (G → F) → Row G
+abbrev pub mapped : {F G : Type 0} → Table F → (F → G) → (G → F) → Table G
 mapped {F} r to from = record {
   names = r.names;
   Reads = λ ms y. (x : F) × r.Reads ms x × (to x ≡ y);
-  walk = λ at ms go. r.walk at ms (λ x. go (to x));
+  read = λ at ms. r.read at ms >>= λ x. Ok (to x);
   members = λ y. r.members (from y);
   Back = λ y. r.Back (from y);
 }
 
--- what the members of an object at a path hold by these rows
-unfoldable pub row_value : {F : Type 0} → Row F → List Place → Members → Result F FieldFault
-row_value r at ms = r.walk at ms (λ x. Ok x)
-
--- the same rows, read as one
-abbrev pub joined : {F : Type 0} → Row F → Row F
-joined r = record {
-  names = r.names;
-  Reads = r.Reads;
-  walk = λ at ms go. row_value r at ms >>= go;
-  members = r.members;
-  Back = r.Back;
-}
-
 -- an object that holds what its rows say; members of other names are dropped
-abbrev pub message : {V : Type 0} → Row V → Kind V
+abbrev pub message : {V : Type 0} → Table V → Kind V
 message r = record {
   Reads = λ t v. (ms : Members) × (t ≡ object ms) × r.Reads ms v;
-  read = λ at t. members_at at t >>= λ ms. r.walk at ms (λ v. Ok v);
+  read = λ at t. members_at at t >>= λ ms. r.read at ms;
   tree = λ v. object (members_of (r.members v));
 }

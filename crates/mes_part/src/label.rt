@@ -1,11 +1,15 @@
 //! Labels: a key, and the value that may stand beside it.
 
-use crate::found::find_rows;
 use crate::list::List;
+use crate::message::{MadeOf, message_tree, read_message};
+use crate::pairs::{Rows1, Rows2};
 use crate::part::{Part, PartFault};
-use crate::read_row::{optional, repeated, required};
+use crate::row::{Many, Maybe, Must};
+use crate::row_list::RowList;
+use crate::row_ref::MustRef;
+use crate::row_refs::RowRefs;
 use crate::trail::Trail;
-use crate::write_row::{copy_list, copy_some, put, put_many, put_some, whole_object};
+use crate::{made, pairs};
 use mes_json::{Element, Json, NoMemory, Text};
 use std::alloc::Global;
 
@@ -16,6 +20,21 @@ pub struct Label {
     pub key: Text,
     /// The value.
     pub value: Option<Text>,
+}
+
+/// The names of a label's rows.
+const LABEL_NAMES: [&str; 2] = ["key", "value"];
+
+type LabelRows = Rows2<Must<Text>, Maybe<Text>>;
+
+impl MadeOf<<LabelRows as RowList>::Values> for Label {
+    ghost use Rattle.mes_part.specs.Labels.{label_layout};
+
+    ghost to = { label_layout.to };
+
+    fn made_of(values: <LabelRows as RowList>::Values) -> Label {
+        made!(values => Label { key, value })
+    }
 }
 
 impl Part for Label {
@@ -29,29 +48,27 @@ impl Part for Label {
 
     ghost lawful = { lawful_label };
 
+    #[tactic(auto, unfolding(crate::specs::Labels::label))]
     fn read_from(
         alloc: Global,
         element: &Element<'_>,
         path: &Trail<'_>,
     ) -> Result<Label, PartFault> {
-        let rows = find_rows::<2>(alloc, element, &["key", "value"], path)?;
-        let key = required(alloc, rows.at(0), "key", path)?;
-        let value = optional(alloc, rows.at(1), "value", path)?;
-        Ok(Label { key, value })
+        read_message::<LabelRows, Label, 2>(alloc, element, &LABEL_NAMES, path)
     }
 
     #[tactic(auto, using(crate::specs::Labels::label_back), unfolding(crate::specs::Labels::label))]
     fn tree(&self, alloc: Global) -> Result<Json, NoMemory> {
-        let mut members = Vec::new(alloc);
-        put(&mut members, alloc, "key", &self.key)?;
-        put_some(&mut members, alloc, "value", &self.value)?;
-        Ok(whole_object(members))
+        message_tree(
+            alloc,
+            &LABEL_NAMES,
+            &pairs!(MustRef(&self.key), &self.value),
+        )
     }
 
     fn copy(&self, alloc: Global) -> Result<Label, NoMemory> {
-        let key = self.key.copy(alloc)?;
-        let value = copy_some(alloc, &self.value)?;
-        Ok(Label { key, value })
+        let values = pairs!(MustRef(&self.key), &self.value).copy_rows(alloc)?;
+        Ok(Label::made_of(values))
     }
 }
 
@@ -60,6 +77,21 @@ impl Part for Label {
 pub struct Labels {
     /// The labels.
     pub labels: List<Label>,
+}
+
+/// The names of the rows of labels.
+const LABELS_NAMES: [&str; 1] = ["labels"];
+
+type LabelsRows = Rows1<Many<Label>>;
+
+impl MadeOf<<LabelsRows as RowList>::Values> for Labels {
+    ghost use Rattle.mes_part.specs.Labels.{labels_layout};
+
+    ghost to = { labels_layout.to };
+
+    fn made_of(values: <LabelsRows as RowList>::Values) -> Labels {
+        made!(values => Labels { labels })
+    }
 }
 
 impl Part for Labels {
@@ -73,25 +105,22 @@ impl Part for Labels {
 
     ghost lawful = { lawful_labels };
 
+    #[tactic(auto, unfolding(crate::specs::Labels::labels))]
     fn read_from(
         alloc: Global,
         element: &Element<'_>,
         path: &Trail<'_>,
     ) -> Result<Labels, PartFault> {
-        let rows = find_rows::<1>(alloc, element, &["labels"], path)?;
-        let labels = repeated(alloc, rows.at(0), "labels", path)?;
-        Ok(Labels { labels })
+        read_message::<LabelsRows, Labels, 1>(alloc, element, &LABELS_NAMES, path)
     }
 
     #[tactic(auto, using(crate::specs::Labels::labels_back), unfolding(crate::specs::Labels::labels))]
     fn tree(&self, alloc: Global) -> Result<Json, NoMemory> {
-        let mut members = Vec::new(alloc);
-        put_many(&mut members, alloc, "labels", &self.labels)?;
-        Ok(whole_object(members))
+        message_tree(alloc, &LABELS_NAMES, &pairs!(&self.labels))
     }
 
     fn copy(&self, alloc: Global) -> Result<Labels, NoMemory> {
-        let labels = copy_list(alloc, &self.labels)?;
-        Ok(Labels { labels })
+        let values = pairs!(&self.labels).copy_rows(alloc)?;
+        Ok(Labels::made_of(values))
     }
 }

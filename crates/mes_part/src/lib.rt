@@ -4,6 +4,7 @@
 mod boxed_fault;
 mod bytes;
 mod calls;
+mod choice;
 mod field;
 mod found;
 mod kept;
@@ -11,13 +12,20 @@ mod label;
 mod leaf;
 mod leaves;
 mod list;
+mod message;
 mod numbers;
+mod pairs;
 mod part;
 mod path;
 mod read_row;
 mod refusal;
+mod row;
+mod row_list;
+mod row_ref;
+mod row_refs;
 mod rows;
 mod trail;
+mod typed;
 mod write_row;
 
 pub use boxed_fault::BoxedFault;
@@ -26,20 +34,28 @@ pub use calls::{
     either_list_returned, list_returned, one_answer, one_either_list, one_list, read_part,
     returned, written_again,
 };
+pub use choice::Choice;
 pub use field::{FieldFault, FieldWhy};
 pub use found::{Found, find_rows};
 pub use kept::Kept;
 pub use label::{Label, Labels};
 pub use leaf::text_in;
 pub use list::List;
+pub use message::{MadeOf, message_tree, read_message, read_typed, typed_tree};
+pub use pairs::{Rows1, Rows10, Rows11, Rows12, Rows13, Rows14, Rows15, Rows16, Rows2, Rows3, Rows4, Rows5, Rows6, Rows7, Rows8, Rows9};
 pub use part::{Part, PartFault};
 pub use path::{PATH_TEXT_MOST, Path, STEPS_MOST, Step};
 pub use read_row::{
     flagged, left_out, optional, read_either_list, read_list, repeated, required, type_of,
 };
 pub use refusal::{refusal_at, type_refusal};
+pub use row::{Flag, Many, Maybe, Must, Row};
+pub use row_list::RowList;
+pub use row_ref::{MustRef, RowRef};
+pub use row_refs::RowRefs;
 pub use rows::Rows;
 pub use trail::Trail;
+pub use typed::{Typed, TypedRef};
 pub use write_row::{
     copy_list, copy_some, list_tree, put, put_flag, put_many, put_some, put_type, whole_object,
 };

@@ -21,4 +21,12 @@ impl<'a, const N: usize> Rows<'a, N> {
     {
         &self.found.as_slice()[row]
     }
+
+    /// What was found under each name.
+    pub fn as_slice(&self) -> &[Found<'a>]
+        ensures found { result.now ≡ self.now.found.items }
+        ensures all { length result.now ≡ N }
+    {
+        self.found.as_slice()
+    }
 }

@@ -17,7 +17,7 @@ use std::alloc::Global;
 pub fn put<T: Part>(
     members: &mut Vec<(Text, Json)>,
     alloc: Global,
-    name: &'static str,
+    name: &str,
     value: &T,
 ) -> Result<(), NoMemory>
     ensures members { OnOk result (pairs_view members.new.items ≡ pairs_view members.old.items ++ (need name.now T.kind).members value.now) }
@@ -32,7 +32,7 @@ pub fn put<T: Part>(
 pub fn put_some<T: Part>(
     members: &mut Vec<(Text, Json)>,
     alloc: Global,
-    name: &'static str,
+    name: &str,
     value: &Option<T>,
 ) -> Result<(), NoMemory>
     ensures members { OnOk result (pairs_view members.new.items ≡ pairs_view members.old.items ++ (maybe name.now T.kind).members value.now) }
@@ -49,7 +49,7 @@ pub fn put_some<T: Part>(
 pub fn put_many<T: Part>(
     members: &mut Vec<(Text, Json)>,
     alloc: Global,
-    name: &'static str,
+    name: &str,
     values: &List<T>,
 ) -> Result<(), NoMemory>
     ensures members { OnOk result (pairs_view members.new.items ≡ pairs_view members.old.items ++ (many name.now T.kind).members values.now) }
@@ -67,7 +67,7 @@ pub fn put_many<T: Part>(
 pub fn put_flag(
     members: &mut Vec<(Text, Json)>,
     alloc: Global,
-    name: &'static str,
+    name: &str,
     set: bool,
 ) -> Result<(), NoMemory>
     ensures members { OnOk result (pairs_view members.new.items ≡ pairs_view members.old.items ++ (flag name.now).members set) }
@@ -81,11 +81,7 @@ pub fn put_flag(
 }
 
 /// Appends the row `type`, which says what other rows there are.
-pub fn put_type(
-    members: &mut Vec<(Text, Json)>,
-    alloc: Global,
-    kind: &'static str,
-) -> Result<(), NoMemory>
+pub fn put_type(members: &mut Vec<(Text, Json)>, alloc: Global, kind: &str) -> Result<(), NoMemory>
     ensures members { OnOk result (pairs_view members.new.items ≡ pairs_view members.old.items ++ (type_name, string kind.now) ∷ []) }
     ensures unchanged { IfErr result (λ _. pairs_view members.new.items ≡ pairs_view members.old.items) }
 {
@@ -140,7 +136,7 @@ pub fn copy_some<T: Part>(alloc: Global, value: &Option<T>) -> Result<Option<T>,
 fn push_member(
     members: &mut Vec<(Text, Json)>,
     alloc: Global,
-    name: &'static str,
+    name: &str,
     tree: Json,
 ) -> Result<(), NoMemory>
     ensures members { OnOk result (pairs_view members.new.items ≡ pairs_view members.old.items ++ (name.now, view tree) ∷ []) }

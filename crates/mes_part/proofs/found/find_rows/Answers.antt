@@ -1,7 +1,7 @@
 use Rattle.std.proofs.Common.{map, ◌∙◌, arith}
 use Rattle.std.proofs.lemmas.List.{length-map}
 use Rattle.mes_part.specs.Objects.{members_in}
-use Rattle.mes_part.proofs.FoundLemmas.{members_found, no_members_found, follow_each_first, follow_each_next, follow_each_last, finds_all}
+use Rattle.mes_part.proofs.FoundLemmas.{members_found, no_members_found, follow_each_first, follow_each_next, follow_each_last}
 use Rattle.mes_part.proofs.PartLemmas.{refuses_told}
 use Rattle.mes_part.proofs.found.find_rows.Goals as goal
 
@@ -34,7 +34,6 @@ returns g c = λ t b.
     let before = c.loop-name.invariant.1 t b in (
       members_in t,
       before.0,
-      finds_all c.loop-name.found.items (map (λ n. n.now) c.args.names.now) (members_in t)
-          (follow_each_last c.loop-name.found.items (map (λ n. n.now) c.args.names.now) (members_in t) before.1.0 _
-          (c.in_default-next.ensures.member before.1.0 before.1.1) before.1.2),
+      follow_each_last c.loop-name.found.items (map (λ n. n.now) c.args.names.now) (members_in t) before.1.0 _
+          (c.in_default-next.ensures.member before.1.0 before.1.1) before.1.2,
     )

@@ -1,7 +1,5 @@
-use Rattle.std.proofs.Common.{sym, ◌∙◌, ap}
+use Rattle.std.proofs.Common.{sym, ◌∙◌, ap, lit<}
 use Rattle.mes_part.specs.Leaves.{members_at}
-use Rattle.mes_part.specs.Rows.{repeated}
-use Rattle.mes_part.specs.FieldLaws.{bound_ok}
 use Rattle.mes_part.proofs.RowLemmas.{found_as, refused_bound}
 use Rattle.mes_part.proofs.EitherLemmas.{gives_array, gives_object}
 use Rattle.mes_part.proofs.read_row.read_either_list.Goals as goal
@@ -20,5 +18,5 @@ pub returns : goal.returns
 returns g c = λ t b.
     let rows = c.in_ok-rows.ensures t b in
     gives_object c.args.name.now g.T.Part.kind c.args.path.now t c.items.result _ (c.items.ensures t b) (sym c.is_some.ensures ∙ c.if-is_some.false)
-    (rw (ap (members_at c.args.path.now) rows.1, bound_ok (repeated c.args.name.now g.T.Part.kind c.args.path.now rows.0))
-    (c.repeated.ensures rows.0 (found_as _ _ _ c.at.ensures rows.2.0)))
+    (rw (ap (members_at c.args.path.now) rows.1)
+    (c.repeated.ensures rows.0 (found_as _ _ _ c.at.ensures (rows.2 0 (lit< tt)))))

@@ -1,0 +1,45 @@
+//! Values that a member `type` tells apart: the rows of a value depend on its type.
+
+ghost use Rattle.std.specs.Prelude.{◌≡◌, ℕ, ◌+◌, ◌≤◌, ◌++◌, List as list, length, IfOk, OnOk};
+ghost use Rattle.mes_json.specs.Tree.{Members};
+ghost use Rattle.mes_part.specs.FoundRows.{FindsEach};
+ghost use Rattle.mes_part.specs.Parts.{Gives};
+ghost use Rattle.mes_part.specs.Rows.{Table};
+ghost use Rattle.mes_part.specs.Written.{pairs_view};
+
+use crate::found::Found;
+use crate::part::PartFault;
+use crate::trail::Trail;
+use mes_json::{Json, NoMemory, Text};
+use std::alloc::Global;
+
+/// A value that has a type, and the rows of that type.
+pub trait Choice: Drop {
+    ghost names: { list (list ℕ) };
+
+    ghost table: { Table Self };
+
+    ghost STEPS: { ℕ };
+
+    ghost COUNT: { ℕ };
+
+    /// How many names its rows have under all types, `type` among them.
+    const COUNT: usize;
+
+    /// The value, or the first fault, where so much was found under each of its names, of which `type` is the first.
+    fn read_choice(alloc: Global, found: &[Found<'_>], path: &Trail<'_>) -> Result<Self, PartFault>
+        requires room { length path.now + STEPS ≤ 16 }
+        requires all { COUNT ≤ length found.now }
+        ensures { (ms : Members) → FindsEach 0 names ms found.now → Gives (table.read path.now ms) result };
+
+    /// Appends the row `type` and the rows of the type.
+    fn put_choice(&self, members: &mut Vec<(Text, Json)>, alloc: Global) -> Result<(), NoMemory>
+        ensures members { OnOk result (pairs_view members.new.items ≡ pairs_view members.old.items ++ table.members self.now) }
+        ensures back { OnOk result (table.Back self.now) };
+
+    /// The same value, in memory of its own.
+    fn copy_choice(&self, alloc: Global) -> Result<Self, NoMemory>
+        ensures { IfOk result (λ v. v ≡ self.now) };
+
+    ghost counted: { length names ≡ COUNT };
+}

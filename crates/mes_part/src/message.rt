@@ -1,0 +1,92 @@
+//! A message whose rows are a table: read, written and copied by its rows.
+
+ghost use Rattle.std.specs.Prelude.{◌≡◌, true, ℕ, ◌+◌, ◌≤◌, length, map, IfOk, OnOk};
+ghost use Rattle.mes_json.specs.Tree.{Tree};
+ghost use Rattle.mes_json.specs.Tree.Tree.{object};
+ghost use Rattle.mes_json.specs.Tokens.{BeginsWith};
+ghost use Rattle.mes_json.specs.View.{view, members_of};
+ghost use Rattle.mes_part.specs.Layouts.{message_of};
+ghost use Rattle.mes_part.specs.Rows.{message};
+ghost use Rattle.mes_part.specs.Parts.{Gives};
+ghost use Rattle.mes_part.specs.RowNames.{are_names};
+
+use crate::choice::Choice;
+use crate::found::find_rows;
+use crate::part::PartFault;
+use crate::row_list::RowList;
+use crate::row_refs::RowRefs;
+use crate::trail::Trail;
+use crate::write_row::whole_object;
+use mes_json::{Element, Json, NoMemory};
+use std::alloc::Global;
+
+/// A value that is made of the values of its rows.
+pub trait MadeOf<V>: Drop {
+    ghost to: { V → Self };
+
+    /// The value that these make. Takes no memory.
+    fn made_of(values: V) -> Self
+        ensures { result ≡ to values };
+}
+
+/// The message that stands at the place, by its rows, whose names are these; or the first fault.
+pub fn read_message<R: RowList, M: MadeOf<R::Values>, const N: usize>(
+    alloc: Global,
+    element: &Element<'_>,
+    names: &[&'static str],
+    path: &Trail<'_>,
+) -> Result<M, PartFault>
+    requires room { length path.now + R.STEPS ≤ 16 }
+    requires most { N ≤ 64 }
+    requires all { length names.now ≤ N }
+    requires rows { R.COUNT ≤ length names.now }
+    requires names { are_names (map (λ n. n.now) names.now) ≡ true }
+    requires fits { R.fits (map (λ n. n.now) names.now) 0 ≡ true }
+    ensures { (t : Tree) → BeginsWith element.now t
+        → Gives (message_of (R.table (map (λ n. n.now) names.now) 0) M.to path.now t) result }
+{
+    let rows = find_rows::<N>(alloc, element, names, path)?;
+    let values = R::read_rows(alloc, rows.as_slice(), names, 0, path)?;
+    Ok(M::made_of(values))
+}
+
+/// What a message is written as whose rows hold these values.
+pub fn message_tree<R: RowRefs>(alloc: Global, names: &[&str], rows: &R) -> Result<Json, NoMemory>
+    requires { R.COUNT ≤ length names.now }
+    ensures tree { IfOk result (λ t. view t
+        ≡ object (members_of ((R.table (map (λ n. n.now) names.now) 0).members (R.values rows.now)))) }
+    ensures back { OnOk result ((R.table (map (λ n. n.now) names.now) 0).Back (R.values rows.now)) }
+{
+    let mut members = Vec::new(alloc);
+    rows.put_rows(&mut members, alloc, names, 0)?;
+    Ok(whole_object(members))
+}
+
+/// The value with a type that stands at the place, whose rows are the whole message; or the first fault.
+pub fn read_typed<C: Choice, const N: usize>(
+    alloc: Global,
+    element: &Element<'_>,
+    names: &[&'static str],
+    path: &Trail<'_>,
+) -> Result<C, PartFault>
+    requires room { length path.now + C.STEPS ≤ 16 }
+    requires most { N ≤ 64 }
+    requires all { length names.now ≤ N }
+    requires rows { C.COUNT ≤ length names.now }
+    requires names { are_names (map (λ n. n.now) names.now) ≡ true }
+    requires fits { map (λ n. n.now) names.now ≡ C.names }
+    ensures { (t : Tree) → BeginsWith element.now t → Gives ((message C.table).read path.now t) result }
+{
+    let rows = find_rows::<N>(alloc, element, names, path)?;
+    C::read_choice(alloc, rows.as_slice(), path)
+}
+
+/// What a value with a type is written as whose rows are the whole message.
+pub fn typed_tree<C: Choice>(alloc: Global, value: &C) -> Result<Json, NoMemory>
+    ensures tree { IfOk result (λ t. view t ≡ (message C.table).tree value.now) }
+    ensures back { OnOk result (C.table.Back value.now) }
+{
+    let mut members = Vec::new(alloc);
+    value.put_choice(&mut members, alloc)?;
+    Ok(whole_object(members))
+}

@@ -1,0 +1,90 @@
+//! The rows of a message, read one after the other.
+
+ghost use Rattle.std.specs.Prelude.{◌≡◌, Bool, true, ℕ, ◌+◌, ◌≤◌, max, List as list, length, map};
+ghost use Rattle.mes_json.specs.Tree.{Members};
+ghost use Rattle.mes_part.specs.FoundRows.{FindsAll};
+ghost use Rattle.mes_part.specs.Parts.{Gives};
+ghost use Rattle.mes_part.specs.RowNames.{are_short, name_at};
+ghost use Rattle.mes_part.specs.Rows.{Table, no_rows, ◌⨾◌};
+
+use crate::found::Found;
+use crate::part::PartFault;
+use crate::row::Row;
+use crate::trail::Trail;
+use std::alloc::Global;
+
+/// Rows in order: `()`, or a row and those behind it.
+pub trait RowList {
+    /// What the rows hold, one behind the other.
+    type Values: Drop;
+
+    ghost table: { list (list ℕ) → ℕ → Table Self.Values };
+
+    ghost COUNT: { ℕ };
+
+    ghost STEPS: { ℕ };
+
+    ghost fits: { list (list ℕ) → ℕ → Bool };
+
+    /// What the rows hold whose names stand from a place on, of which so much was found; or the first fault.
+    fn read_rows(
+        alloc: Global,
+        found: &[Found<'_>],
+        names: &[&'static str],
+        first: usize,
+        path: &Trail<'_>,
+    ) -> Result<Self::Values, PartFault>
+        requires room { length path.now + STEPS ≤ 16 }
+        requires rows { first + COUNT ≤ length names.now }
+        requires all { length names.now ≤ length found.now }
+        requires names { are_short (map (λ n. n.now) names.now) ≡ true }
+        requires fits { fits (map (λ n. n.now) names.now) first ≡ true }
+        ensures { (ms : Members) → FindsAll (map (λ n. n.now) names.now) ms found.now
+            → Gives ((table (map (λ n. n.now) names.now) first).read path.now ms) result };
+}
+
+impl RowList for () {
+    type Values = ();
+
+    ghost table = { λ ns i. no_rows };
+
+    ghost COUNT = { 0 };
+
+    ghost STEPS = { 0 };
+
+    ghost fits = { λ ns i. true };
+
+    fn read_rows(
+        _alloc: Global,
+        _found: &[Found<'_>],
+        _names: &[&'static str],
+        _first: usize,
+        _path: &Trail<'_>,
+    ) -> Result<(), PartFault> {
+        Ok(())
+    }
+}
+
+impl<H: Row, T: RowList> RowList for (H, T) {
+    type Values = (H::Value, T::Values);
+
+    ghost table = { λ ns i. H.table (name_at ns i) ⨾ T.table ns (i + 1) };
+
+    ghost COUNT = { 1 + T.COUNT };
+
+    ghost STEPS = { max H.STEPS T.STEPS };
+
+    ghost fits = { λ ns i. T.fits ns (i + 1) };
+
+    fn read_rows(
+        alloc: Global,
+        found: &[Found<'_>],
+        names: &[&'static str],
+        first: usize,
+        path: &Trail<'_>,
+    ) -> Result<(H::Value, T::Values), PartFault> {
+        let head = H::read_row(alloc, &found[first], names[first], path)?;
+        let rest = T::read_rows(alloc, found, names, first + 1, path)?;
+        Ok((head, rest))
+    }
+}

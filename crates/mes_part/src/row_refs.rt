@@ -1,0 +1,90 @@
+//! What all rows of a message hold, borrowed: written one behind the other, and copied.
+
+ghost use Rattle.std.specs.Prelude.{◌≡◌, ℕ, ◌+◌, ◌≤◌, ◌++◌, List as list, length, map, IfOk, OnOk};
+ghost use Rattle.mes_part.specs.RowNames.{name_at};
+ghost use Rattle.mes_part.specs.Rows.{Table, no_rows, ◌⨾◌};
+ghost use Rattle.mes_part.specs.Written.{pairs_view};
+
+use crate::row_ref::RowRef;
+use mes_json::{Json, NoMemory, Text};
+use std::alloc::Global;
+
+/// What rows hold, in order: `()`, or what a row holds and those behind it.
+pub trait RowRefs {
+    /// The same in memory of its own.
+    type Values: Drop;
+
+    ghost table: { list (list ℕ) → ℕ → Table Self.Values };
+
+    ghost COUNT: { ℕ };
+
+    ghost values: { Self → Self.Values };
+
+    /// Appends the members that they are written as, under the names that stand from a place on.
+    fn put_rows(
+        &self,
+        members: &mut Vec<(Text, Json)>,
+        alloc: Global,
+        names: &[&str],
+        first: usize,
+    ) -> Result<(), NoMemory>
+        requires { first + COUNT ≤ length names.now }
+        ensures members { OnOk result (pairs_view members.new.items
+            ≡ pairs_view members.old.items ++ (table (map (λ n. n.now) names.now) first).members (values self.now)) }
+        ensures back { OnOk result ((table (map (λ n. n.now) names.now) first).Back (values self.now)) };
+
+    /// The same values, in memory of their own.
+    fn copy_rows(&self, alloc: Global) -> Result<Self::Values, NoMemory>
+        ensures { IfOk result (λ v. v ≡ values self.now) };
+}
+
+impl RowRefs for () {
+    type Values = ();
+
+    ghost table = { λ ns i. no_rows };
+
+    ghost COUNT = { 0 };
+
+    ghost values = { λ r. r };
+
+    fn put_rows(
+        &self,
+        _members: &mut Vec<(Text, Json)>,
+        _alloc: Global,
+        _names: &[&str],
+        _first: usize,
+    ) -> Result<(), NoMemory> {
+        Ok(())
+    }
+
+    fn copy_rows(&self, _alloc: Global) -> Result<(), NoMemory> {
+        Ok(())
+    }
+}
+
+impl<H: RowRef, T: RowRefs> RowRefs for (H, T) {
+    type Values = (H::Value, T::Values);
+
+    ghost table = { λ ns i. H.table (name_at ns i) ⨾ T.table ns (i + 1) };
+
+    ghost COUNT = { 1 + T.COUNT };
+
+    ghost values = { λ r. (H.value r.0, T.values r.1) };
+
+    fn put_rows(
+        &self,
+        members: &mut Vec<(Text, Json)>,
+        alloc: Global,
+        names: &[&str],
+        first: usize,
+    ) -> Result<(), NoMemory> {
+        self.0.put_row(members, alloc, names[first])?;
+        self.1.put_rows(members, alloc, names, first + 1)
+    }
+
+    fn copy_rows(&self, alloc: Global) -> Result<(H::Value, T::Values), NoMemory> {
+        let head = self.0.copy_row(alloc)?;
+        let rest = self.1.copy_rows(alloc)?;
+        Ok((head, rest))
+    }
+}
