@@ -1,5 +1,5 @@
 -- What the words that name a flag or give an option its value come to in clap's model.
-use Rattle.std.proofs.Common.{◌≡◌, ◌≤◌, ◌==◌, ◌∙◌, ap, ℕ, List, [], ◌∷◌, Option, Some, None, Bool, true, false, inl, inr, refl, sym, subst, arith}
+use Rattle.std.proofs.Common.{◌≡◌, ◌≤◌, ◌==◌, ◌∙◌, ℕ, List, [], ◌∷◌, Option, Some, None, Bool, true, false, inl, inr, refl, sym, subst, arith}
 use Rattle.std.specs.Prelude.{IsSomeAnd, codes, option_map, pos}
 use Rattle.std.specs.Str.Parse.{IsNumeral, without_leading_plus}
 use Rattle.std.proofs.lemmas.Bool.{eqb-true, ne_eqb}
@@ -14,7 +14,7 @@ use Rattle.clap.specs.declared.builder.value_parser.ValueParser.{ValueParser}
 use Rattle.clap.specs.declared.builder.value_parser.ValueParser.TheVariants as vp
 use Rattle.clap.proofs.KindLemmas.{value_kinds-ok}
 use Rattle.mesosev.specs.CommandLine.{chunked_rule, limit_rule}
-use Rattle.mesosev.specs.NamedOptions.{HasFraming, HasLimit, HasMost, IsLimit, IsMost, SayFraming, SayLimit, SayMost, SayNumber, Writes}
+use Rattle.mesosev.specs.NamedOptions.{HasFraming, HasMost, IsLimit, IsMost, SayFraming, SayLimit, SayMost, SayNumber, Writes}
 use Rattle.mes_stream.specs.declared.stream_reader.Framing.{Framing}
 use Rattle.mes_stream.specs.declared.stream_reader.Framing.TheVariants.{Plain, Chunked}
 use Rattle.mesosev.proofs.Walks.{Given, IsFlag, IsNoFlag, IsOption, IsUsable, Reaches, absent, apart, given_value, given_words, joined, reaches_flag, reaches_start, used_value}

@@ -1,5 +1,5 @@
 -- The words of the subcommands that have `--chunked` and `--limit` alone: `check` and `show`.
-use Rattle.std.proofs.Common.{◌≡◌, ◌++◌, ◌∙◌, ap, subst, sym, ℕ, List, [], ◌∷◌, Option, Some, None, false, refl}
+use Rattle.std.proofs.Common.{◌≡◌, ◌++◌, ◌∙◌, ap, subst, sym, ℕ, List, [], ◌∷◌, Option, Some, None, refl}
 use Rattle.std.specs.Prelude.{codes, fold}
 use Rattle.clap.specs.Words.{Row, Rule, Text, one_of}
 use Rattle.clap.specs.Simple.{Shape, built, filled, filled_from, help_rule}

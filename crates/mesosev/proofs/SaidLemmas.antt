@@ -1,5 +1,5 @@
 -- Words that say options plainly name just them, and are taken.
-use Rattle.std.proofs.Common.{◌≡◌, List, [], Some, Result, Ok, Err, refl, sym, subst}
+use Rattle.std.proofs.Common.{◌≡◌, List, [], Result, Ok, Err, refl, sym, subst}
 use Rattle.std.specs.Prelude.{IfErr, IfOk, IsSomeAnd, MatchResult, codes}
 use Rattle.clap.specs.Words.{IsAmong, Row, Text, fault_of, kind_of, subcommand_of}
 use Rattle.clap.specs.Simple.{built}

@@ -1,9 +1,9 @@
 -- What clap's model makes of the words up to a subcommand's name: the words behind it are the subcommand's own.
-use Rattle.std.proofs.Common.{◌≡◌, ◌++◌, ◌∙◌, ap, append_assoc, append-nil, sym, List, [], ◌∷◌, Option, Some, None, false, true, refl}
+use Rattle.std.proofs.Common.{◌≡◌, ◌++◌, ◌∙◌, ap, append_assoc, append-nil, sym, List, [], ◌∷◌, Some, false, true, refl}
 use Rattle.std.specs.Prelude.{◌&&◌, codes, find, fold, not}
 use Rattle.std.specs.Str.{bytes_eq}
-use Rattle.clap.specs.Words.{App, Rule, Row, Text}
-use Rattle.clap.specs.Faults.{built_fault, check_fault, defaults_fault, entered_fault, level_fault, walk_fault}
+use Rattle.clap.specs.Words.{App, Rule, Text}
+use Rattle.clap.specs.Faults.{built_fault, check_fault, defaults_fault, level_fault, walk_fault}
 use Rattle.clap.specs.Kinds.{Kinds, or_else}
 use Rattle.clap.specs.Simple.{Shape, entered, label_of, names_of, new_shape}
 use Rattle.clap.specs.Walk.{Names, Walk, answers_to, idle, nothing_held, rows_after, subcommand_met, walk, walk_from, walked, with_default}

@@ -1,5 +1,5 @@
 -- What clap's model makes of options in the usual spelling behind one another, wherever they stand.
-use Rattle.std.proofs.Common.{◌≡◌, ◌++◌, ◌==◌, ◌∙◌, ap, sym, subst, ℕ, List, [], ◌∷◌, Option, Some, None, Bool, true, false, refl}
+use Rattle.std.proofs.Common.{◌≡◌, ◌++◌, ◌==◌, ◌∙◌, ap, ℕ, List, [], ◌∷◌, Option, Some, None, Bool, true, false, refl}
 use Rattle.std.specs.Prelude.{fold}
 use Rattle.std.specs.Str.{bytes_eq}
 use Rattle.clap.specs.Words.{Row, Rule, Text}

@@ -9,7 +9,7 @@ use Rattle.clap.specs.declared.builder.value_parser.ValueParser.TheVariants as v
 use Rattle.mesosev.specs.declared.words.TheConstants.{LIMIT_DEFAULT, LIMIT_LEAST, LIMIT_MOST}
 use Rattle.mes_run.specs.declared.chunk_size.TheConstants.{CHUNK_LEAST, CHUNK_MOST}
 
--- the command is this one, and no argument of it is one of its subcommands too
+-- the command is this one, and has no argument that its subcommands share
 abbrev pub IsCommand : App → Command → Type 0
 IsCommand app c = (app_of c ≡ app) × ((out-Command c).has_globals ≡ false)
 

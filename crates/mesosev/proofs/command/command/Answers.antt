@@ -2,7 +2,7 @@ use Rattle.std.proofs.Common.{◌≡◌, ◌∙◌, IfOk, Result, ap, subst}
 use Rattle.std.specs.declared.alloc.AllocError.{AllocError}
 use Rattle.clap.specs.Words.{App, Shape, app_of, with_subcommand}
 use Rattle.clap.specs.declared.builder.command.Command.{Command}
-use Rattle.mesosev.specs.CommandLine.{bare_app, check_app, convert_app, show_app}
+use Rattle.mesosev.specs.CommandLine.{check_app, convert_app, show_app}
 use Rattle.mesosev.proofs.command.command.Goals as goal
 
 -- a command with one subcommand more than the one before it
