@@ -2,7 +2,6 @@
 
 ghost use Rattle.std.specs.Prelude.{◌≡◌, codes, ◌⊎◌, map};
 ghost use Rattle.mes_run.specs.Printing.{LacksMemory};
-ghost use Rattle.mesosev.specs.Devices.{device_of};
 ghost use Rattle.mesosev.specs.NamedOptions.{SayPlainly, IsInRange};
 ghost use Rattle.mesosev.specs.Running.{Performs, Runs};
 ghost use Rattle.mesosev.specs.Telling.{Tells, TellsError};
@@ -31,19 +30,19 @@ pub fn run<R: AllocGlobal, W: AsStr, I: Source, O: Sink, E: Sink>(
     err: &mut E,
 ) -> u8
     ensures runs { Runs (map W.text words.now)
-        (device_of I.left I.counts input.old) (device_of I.left I.counts input.new)
-        (device_of O.written O.counts out.old) (device_of O.written O.counts out.new)
-        (device_of E.written E.counts err.old) (device_of E.written E.counts err.new)
+        (record { bytes = I.left input.old; counts = I.counts input.old }) (record { bytes = I.left input.new; counts = I.counts input.new })
+        (record { bytes = O.written out.old; counts = O.counts out.old }) (record { bytes = O.written out.new; counts = O.counts out.new })
+        (record { bytes = E.written err.old; counts = E.counts err.old }) (record { bytes = E.written err.new; counts = E.counts err.new })
         result }
 
     // Words that name options plainly: they are performed, unless memory was refused.
     ensures plain { (said : OptionsValue) → SayPlainly (map W.text words.now) said → IsInRange said
         → Performs said
-        (device_of I.left I.counts input.old) (device_of I.left I.counts input.new)
-        (device_of O.written O.counts out.old) (device_of O.written O.counts out.new)
-        (device_of E.written E.counts err.old) (device_of E.written E.counts err.new)
+        (record { bytes = I.left input.old; counts = I.counts input.old }) (record { bytes = I.left input.new; counts = I.counts input.new })
+        (record { bytes = O.written out.old; counts = O.counts out.old }) (record { bytes = O.written out.new; counts = O.counts out.new })
+        (record { bytes = E.written err.old; counts = E.counts err.old }) (record { bytes = E.written err.new; counts = E.counts err.new })
         result
-        ⊎ LacksMemory (device_of O.written O.counts out.old) (device_of O.written O.counts out.new) result }
+        ⊎ LacksMemory (record { bytes = O.written out.old; counts = O.counts out.old }) (record { bytes = O.written out.new; counts = O.counts out.new }) result }
 
     // The limits that the clauses name.
     ensures limits { (LIMIT_LEAST ≡ 1) × (LIMIT_MOST ≡ 16777216) × (LIMIT_DEFAULT.now ≡ codes "4194304")
@@ -65,9 +64,9 @@ fn perform<I: Source, O: Sink, E: Sink>(
     err: &mut E,
 ) -> u8
     ensures { Performs options.now
-        (device_of I.left I.counts input.old) (device_of I.left I.counts input.new)
-        (device_of O.written O.counts out.old) (device_of O.written O.counts out.new)
-        (device_of E.written E.counts err.old) (device_of E.written E.counts err.new)
+        (record { bytes = I.left input.old; counts = I.counts input.old }) (record { bytes = I.left input.new; counts = I.counts input.new })
+        (record { bytes = O.written out.old; counts = O.counts out.old }) (record { bytes = O.written out.new; counts = O.counts out.new })
+        (record { bytes = E.written err.old; counts = E.counts err.old }) (record { bytes = E.written err.new; counts = E.counts err.new })
         result }
 {
     match options {
@@ -88,8 +87,8 @@ fn perform<I: Source, O: Sink, E: Sink>(
 /// Tells why the words name no options.
 fn tell<O: Sink, E: Sink>(alloc: Global, fault: &WordsFault, out: &mut O, err: &mut E) -> u8
     ensures { Tells fault.now
-        (device_of O.written O.counts out.old) (device_of O.written O.counts out.new)
-        (device_of E.written E.counts err.old) (device_of E.written E.counts err.new)
+        (record { bytes = O.written out.old; counts = O.counts out.old }) (record { bytes = O.written out.new; counts = O.counts out.new })
+        (record { bytes = E.written err.old; counts = E.counts err.old }) (record { bytes = E.written err.new; counts = E.counts err.new })
         result }
 {
     match fault {
@@ -105,10 +104,10 @@ fn tell<O: Sink, E: Sink>(alloc: Global, fault: &WordsFault, out: &mut O, err: &
 /// Tells an error of clap: help on standard output, a mistake on standard error.
 fn tell_error<O: Sink, E: Sink>(alloc: Global, error: &clap::Error, out: &mut O, err: &mut E) -> u8
     ensures { TellsError error.now
-        (device_of O.written O.counts out.old) (device_of O.written O.counts out.new)
-        (device_of E.written E.counts err.old) (device_of E.written E.counts err.new)
+        (record { bytes = O.written out.old; counts = O.counts out.old }) (record { bytes = O.written out.new; counts = O.counts out.new })
+        (record { bytes = E.written err.old; counts = E.counts err.old }) (record { bytes = E.written err.new; counts = E.counts err.new })
         result
-        ⊎ (LacksMemory (device_of O.written O.counts out.old) (device_of O.written O.counts out.new) result
+        ⊎ (LacksMemory (record { bytes = O.written out.old; counts = O.counts out.old }) (record { bytes = O.written out.new; counts = O.counts out.new }) result
         × (err.new ≡ err.old)) }
 {
     let Ok(text) = format!(in alloc; "{error}") else {
