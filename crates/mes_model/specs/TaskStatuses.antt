@@ -7,7 +7,6 @@ use Rattle.mes_part.specs.Kinds.{Kind, Lawful, Returns}
 use Rattle.mes_part.specs.Leaves.{texts, booleans}
 use Rattle.mes_part.specs.Numbers.{fixed}
 use Rattle.mes_part.specs.NumberLaws.{lawful_fixed}
-use Rattle.mes_part.specs.Rows.{message}
 use Rattle.mes_part.specs.Layouts.{Layout, needs, may_have, no_more, ◌⨾⨾◌, laid_out, kind_of, lawful_kind, returns_kind}
 use Rattle.mes_part.specs.KindLaws.{lawful_texts, lawful_booleans}
 use Rattle.mes_model.specs.Ids.{id, lawful_id}

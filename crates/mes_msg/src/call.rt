@@ -1,5 +1,5 @@
 //! A call of the scheduler API.
-ghost use Rattle.std.specs.Prelude.{◌≡◌, ℕ, ◌+◌, ◌≤◌, [], ◌∷◌, ◌++◌, Ok, length, codes, IfOk, IfErr, OnOk, MatchResult};
+ghost use Rattle.std.specs.Prelude.{◌≡◌, ◌+◌, ◌≤◌, [], ◌∷◌, ◌++◌, Ok, length, codes, IfOk, IfErr, OnOk, MatchResult};
 ghost use Rattle.mes_json.specs.Tree.{Members};
 ghost use Rattle.mes_json.specs.Tree.Tree.{string};
 ghost use Rattle.mes_json.specs.View.{view};

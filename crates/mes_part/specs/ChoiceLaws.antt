@@ -1,6 +1,6 @@
 -- The laws of the row `type` and of the rows that depend on it.
-use Rattle.std.proofs.Common.{◌≡◌, ◌≢◌, ◌⊎◌, inl, inr, ℕ, Bool, true, false, List, [], ◌∷◌, refl, sym, ◌∙◌, ap, subst, cond, bytes_eq}
-use Rattle.std.specs.Prelude.{◌||◌, ◌&&◌, not, Result, Ok, Err}
+use Rattle.std.proofs.Common.{◌≡◌, ◌≢◌, ◌⊎◌, inl, inr, ℕ, Bool, true, false, List, [], ◌∷◌, refl, ◌∙◌, ap, subst, cond, bytes_eq}
+use Rattle.std.specs.Prelude.{◌||◌, ◌&&◌, not, Ok}
 use Rattle.mes_json.specs.Tree.{Tree, Members}
 use Rattle.mes_json.specs.Tree.Tree.{string}
 use Rattle.mes_json.specs.View.{members_of}
@@ -14,7 +14,6 @@ use Rattle.mes_part.specs.FieldLaws.{bound, after, has_looked, looked}
 use Rattle.mes_part.specs.NameLaws.{distinct, distinct_first, Agrees, names_equal, names_differ, same_name, in_back, in_neither, united, united_front, united_back, united_neither, not_only, named_this, named_other}
 use Rattle.mes_part.specs.KindLaws.{text_is}
 use Rattle.mes_part.specs.RowLaws.{LawfulTable}
-use Rattle.mes_part.specs.declared.field.FieldFault.{FieldFault}
 use Rattle.mes_part.specs.declared.field.FieldWhy.{FieldWhy}
 
 pub record LawfulChoice {F : Type 0} (c : Choice F) : Type 0 where

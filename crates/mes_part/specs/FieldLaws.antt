@@ -18,10 +18,6 @@ bound {A} {B} (Err f) go w e = let h : Err f ≡ Ok w = e in absurd (cc)
 pub after : {A B : Type 0} (r : Result A FieldFault) (go : A → Result B FieldFault) (v : A) → r ≡ Ok v → (r >>= go) ≡ go v
 after {A} r go v e = ap (λ (x : Result A FieldFault). x >>= go) e
 
-pub same_bound : {A B : Type 0} (r : Result A FieldFault) (go : A → Result B FieldFault) → (r >>= go) ≡ (r >>= (λ x. Ok x) >>= go)
-same_bound (Ok v) go = refl
-same_bound (Err f) go = refl
-
 pub bound_ok : {A : Type 0} (r : Result A FieldFault) → (r >>= (λ x. Ok x)) ≡ r
 bound_ok (Ok v) = refl
 bound_ok (Err f) = refl
@@ -80,8 +76,3 @@ one_value ms n t u p q = let e : t ∷ [] ≡ u ∷ [] = sym p.0 ∙ q.0 in cc
 pub has_or_lacks : (ms : Members) (n : List ℕ) (t : Tree) → Has ms n t → Lacks ms n → ⊥
 has_or_lacks ms n t p (inl q) = let e : t ∷ [] ≡ [] = sym p.0 ∙ q in absurd (cc)
 has_or_lacks ms n t p (inr q) = let e : t ∷ [] ≡ null ∷ [] = sym p.0 ∙ q in p.1 (cc)
-
--- the same, where nothing is read with it
-pub looked_ok : {F : Type 0} (at : List Place) (n : List ℕ) (ms : Members) (value : Option Tree → Result F FieldFault) (x : F)
-    → (lookup at n ms >>= value >>= (λ y. Ok y)) ≡ Ok x → (Lacks ms n × (value None ≡ Ok x)) ⊎ ((t : Tree) × Has ms n t × (value (Some t) ≡ Ok x))
-looked_ok at n ms value x e = looked at n ms value x (sym (bound_ok (lookup at n ms >>= value)) ∙ e)

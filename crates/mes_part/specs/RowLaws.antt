@@ -1,6 +1,6 @@
 -- The laws of the rows: what is read is what the relation says, and what was written is read back.
-use Rattle.std.proofs.Common.{◌≡◌, ◌⊎◌, inl, inr, ℕ, Bool, true, false, List, [], ◌∷◌, ◌++◌, Option, Some, None, refl, sym, ◌∙◌, ap, subst, append-nil}
-use Rattle.std.specs.Prelude.{Result, Ok, Err}
+use Rattle.std.proofs.Common.{◌≡◌, ◌⊎◌, inl, inr, ℕ, Bool, true, false, List, [], ◌∷◌, ◌++◌, Option, Some, None, refl, ◌∙◌, ap, subst, append-nil}
+use Rattle.std.specs.Prelude.{Ok}
 use Rattle.mes_json.specs.Tree.{Tree, Members}
 use Rattle.mes_json.specs.Tree.Tree.{object}
 use Rattle.mes_json.specs.Tree.Members.{no_members}
@@ -14,7 +14,6 @@ use Rattle.mes_part.specs.Rows.{Table, must, required, need, HasSome, likewise, 
 use Rattle.mes_part.specs.FieldLaws.{bound, after, has_looked, lacks_looked, looked}
 use Rattle.mes_part.specs.NameLaws.{distinct, distinct_both, Agrees, in_front, in_back, in_neither, apart_in, apart_back, named_append, named_this, named_other, not_only, is_only}
 use Rattle.mes_part.specs.KindLaws.{members_are, lawful_list, list_returns}
-use Rattle.mes_part.specs.declared.field.FieldFault.{FieldFault}
 
 pub record LawfulTable {F : Type 0} (r : Table F) : Type 0 where
   -- what is read is what the relation says, wherever the object stands

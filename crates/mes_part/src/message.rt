@@ -1,6 +1,6 @@
 //! A message whose rows are a table: read, written and copied by its rows.
 
-ghost use Rattle.std.specs.Prelude.{◌≡◌, true, ℕ, ◌+◌, ◌≤◌, length, map, IfOk, OnOk};
+ghost use Rattle.std.specs.Prelude.{◌≡◌, true, ◌+◌, ◌≤◌, length, map, IfOk, OnOk};
 ghost use Rattle.mes_json.specs.Tree.{Tree};
 ghost use Rattle.mes_json.specs.Tree.Tree.{object};
 ghost use Rattle.mes_json.specs.Tokens.{BeginsWith};

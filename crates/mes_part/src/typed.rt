@@ -1,6 +1,6 @@
 //! A value with a type among the rows of a message, before the rows behind it.
 
-ghost use Rattle.std.specs.Prelude.{ℕ, ◌+◌, ◌&&◌, max, List as list};
+ghost use Rattle.std.specs.Prelude.{◌+◌, ◌&&◌, max};
 ghost use Rattle.mes_part.specs.RowNames.{stand_at};
 ghost use Rattle.mes_part.specs.Rows.{◌⨾◌};
 

@@ -1,6 +1,12 @@
 mod CommandLemmas
+mod ConvertWords
 mod LimitLemmas
+mod NamedOnce
 mod OptionLemmas
-mod PlainOptions
-mod PlainWords
+mod OptionWords
+mod ReadLemmas
+mod ReadingWords
 mod SaidLemmas
+mod Subcommands
+mod TakenWords
+mod Walks

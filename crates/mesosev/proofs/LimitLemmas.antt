@@ -1,6 +1,6 @@
 -- What `get_one` reads of `--limit`, as the number that its text writes.
-use Rattle.std.proofs.Common.{◌≡◌, ◌<◌, ◌^◌, ◌∙◌, ℕ, List, Option, Some, None, Result, refl, sym, subst}
-use Rattle.std.specs.Prelude.{IsSomeAnd, IfNone, IfSome, SomeIff, ◌≤◌, codes}
+use Rattle.std.proofs.Common.{◌≡◌, ◌<◌, ◌^◌, ◌∙◌, ℕ, List, Option, Some, None, Result, refl, sym, subst, arith}
+use Rattle.std.specs.Prelude.{IsSomeAnd, ◌≤◌, codes}
 use Rattle.mesosev.specs.NamedOptions.{IsLimit}
 use Rattle.std.specs.Str.Parse.{ExplainsUnsignedError, HasUnsignedDigitsIfOk, ParsesUnsigned}
 use Rattle.std.specs.declared.num.ParseIntError.{ParseIntError}
@@ -48,7 +48,7 @@ HasLimit-of_some f r none value n is =
     subst (IsWritten n) (one_text-rows f (codes "limit"))
     (written_of_some (one_text f (codes "limit")) r none value n is)
 
-pub HasLimit-of_none : (f : Found) (r : Option ℕ) → ((t : Text) → one_text f (codes "limit") ≡ Some t → ReadsOne FromStr t r)
+HasLimit-of_none : (f : Found) (r : Option ℕ) → ((t : Text) → one_text f (codes "limit") ≡ Some t → ReadsOne FromStr t r)
     → r ≡ None → (n : ℕ) → HasLimit (rows_of f) n → n < 2 ^ 32 → ⊥
 HasLimit-of_none f r value is n h fits =
     written_of_none (one_text f (codes "limit")) r value is n
@@ -57,13 +57,14 @@ HasLimit-of_none f r value is n h fits =
 pub HasLimit-once : (rows : List Row) (m n : ℕ) → HasLimit rows m → HasLimit rows n → m ≡ n
 HasLimit-once rows m n h k = written_once (one_of (codes "limit") rows) m n h k
 
--- no limit was made of a value that is out of range
-pub limit_none : (r : Option ℕ) (v : ℕ) (Is : ℕ → Type 0) → SomeIff r ((1 ≤ v) × (v ≤ 16777216)) v → ((n : ℕ) → Is n → n ≡ v)
-    → IfNone r (¬ ((n : ℕ) × Is n × IsLimit n))
-limit_none None v Is made once = λ h. let same : h.0 ≡ v = once h.0 h.1 in made (rw (← same) h.2)
-limit_none (Some n) v Is made once = tt
+-- a value that is a number out of range is no limit
+pub limit_out : (f : Found) (r : Option ℕ) → (one_text f (codes "limit") ≡ None → r ≡ None)
+    → ((t : Text) → one_text f (codes "limit") ≡ Some t → ReadsOne FromStr t r) → (n : ℕ) → r ≡ Some n → (((1 ≤ n) × (n ≤ 16777216)) → ⊥)
+    → ((limit : ℕ) × HasLimit (rows_of f) limit × IsLimit limit) → ⊥
+limit_out f r none value n is not (limit, has, range) =
+    let same : limit ≡ n = HasLimit-once (rows_of f) limit n has (HasLimit-of_some f r none value n is) in not (subst IsLimit same range)
 
--- the limit that was made is the value
-pub limit_some : (r : Option ℕ) (v : ℕ) (Is : ℕ → Type 0) → SomeIff r ((1 ≤ v) × (v ≤ 16777216)) v → Is v → IfSome r Is
-limit_some None v Is made has = tt
-limit_some (Some n) v Is made has = subst Is (sym made.1) has
+-- nor is a value that is no number
+pub limit_unread : (f : Found) (r : Option ℕ) → ((t : Text) → one_text f (codes "limit") ≡ Some t → ReadsOne FromStr t r) → r ≡ None
+    → ((limit : ℕ) × HasLimit (rows_of f) limit × IsLimit limit) → ⊥
+limit_unread f r value is (limit, has, range) = HasLimit-of_none f r value is limit has (omega (arith, range.1))

@@ -1,11 +1,17 @@
 -- The command line of `mesosev`, in the words of clap's model.
-use Rattle.std.specs.Prelude.{[], ◌∷◌, Some, pos, true, codes}
-use Rattle.clap.specs.Words.{App, Rule, new_app, new_rule, with_rule, with_subcommand}
+use Rattle.std.specs.Prelude.{◌≡◌, [], ◌∷◌, Some, pos, true, false, codes}
+use Rattle.clap.specs.Words.{App, Rule, Text, app_of, new_app, new_rule, with_rule, with_subcommand}
 use Rattle.clap.specs.Simple.{on_top}
 use Rattle.clap.specs.declared.builder.action.ArgAction.TheVariants.{SetTrue}
+use Rattle.clap.specs.declared.builder.command.Command.{Command}
+use Rattle.clap.specs.declared.builder.command.Command.TheViews.{out-Command}
 use Rattle.clap.specs.declared.builder.value_parser.ValueParser.TheVariants as vp
 use Rattle.mesosev.specs.declared.words.TheConstants.{LIMIT_DEFAULT, LIMIT_LEAST, LIMIT_MOST}
 use Rattle.mes_run.specs.declared.chunk_size.TheConstants.{CHUNK_LEAST, CHUNK_MOST}
+
+-- the command is this one, and has no argument that its subcommands share
+abbrev pub IsCommand : App → Command → Type 0
+IsCommand app c = (app_of c ≡ app) × ((out-Command c).has_globals ≡ false)
 
 -- `--chunked`: a flag
 abbrev pub chunked_rule : Rule
@@ -28,17 +34,21 @@ most_rule = record (new_rule (codes "most")) {
   parser = Some (vp.Signed (pos CHUNK_LEAST) (pos CHUNK_MOST));
 }
 
+-- `NAME [--chunked] [--limit N]`: a subcommand that reads a stream
+abbrev pub reading_app : Text → App
+reading_app name = with_rule (with_rule (new_app name) chunked_rule) limit_rule
+
 -- `check [--chunked] [--limit N]`
 abbrev pub check_app : App
-check_app = with_rule (with_rule (new_app (codes "check")) chunked_rule) limit_rule
+check_app = reading_app (codes "check")
 
 -- `show [--chunked] [--limit N]`
 abbrev pub show_app : App
-show_app = with_rule (with_rule (new_app (codes "show")) chunked_rule) limit_rule
+show_app = reading_app (codes "show")
 
 -- `convert [--chunked] [--limit N] [--most M]`
 abbrev pub convert_app : App
-convert_app = with_rule (with_rule (with_rule (new_app (codes "convert")) chunked_rule) limit_rule) most_rule
+convert_app = with_rule (reading_app (codes "convert")) most_rule
 
 -- `mesosev` before its subcommands, of which one is wanted; `--version`
 abbrev pub bare_app : App

@@ -1,5 +1,5 @@
 -- Which options the words name, and when they are refused.
-use Rattle.std.specs.Prelude.{◌≡◌, ◌≢◌, ◌≤◌, ◌⊎◌, ◌++◌, ℕ, List, [], ◌∷◌, Option, Some, None, IsSomeAnd, codes}
+use Rattle.std.specs.Prelude.{◌≡◌, ◌≢◌, ◌≤◌, ◌⊎◌, ◌++◌, ℕ, List, [], ◌∷◌, Option, Some, None, Result, Ok, Err, IsSomeAnd, codes}
 use Rattle.std.specs.Str.Parse.{IsNumeral, digits_value, without_leading_plus}
 use Rattle.clap.specs.Words.{Text, Row, IsAmong, fault_of, kind_of, one_of, subcommand_of}
 use Rattle.clap.specs.declared.error.Error.{Error}
@@ -76,6 +76,11 @@ IsBadValue (Clap error) = ⊥
 IsBadValue (BadValue option) = Unit {0}
 IsBadValue NoMemory = ⊥
 
+-- what was read of a subcommand's name and its matches: options that they have, each in range; or a fault, and they have none
+abbrev pub Reads : Text × List Row → Result Options WordsFault → Type 0
+Reads read (Ok o) = IsReadAs read o × IsInRange o
+Reads read (Err fault) = IsBadValue fault × ¬ ((o : Options) × IsReadAs read o × IsInRange o)
+
 -- the fault is clap's error, but for want of memory, which has a variant of its own
 abbrev pub IsFaultOf : Error → WordsFault → Type 0
 IsFaultOf error (Clap same) = (same ≡ error) × (kind_of error ≢ OutOfMemory)
@@ -101,14 +106,20 @@ abbrev pub SayMost : List Text → Option ℕ → Type 0
 SayMost words None = words ≡ []
 SayMost words (Some most) = SayNumber (codes "--most") words most
 
--- the words are the program's name, the subcommand, and its options in their order, each given at most once
-abbrev pub SayPlainly : List Text → Options → Type 0
-SayPlainly words (Check framing limit) =
+-- the words are the program's name, this subcommand, `--chunked` and `--limit`, in that order, each given at most once
+abbrev pub SayReading : Text → List Text → Framing → ℕ → Type 0
+SayReading name words framing limit =
     (program : Text) × (flags : List Text) × (limits : List Text) × SayFraming flags framing × SayLimit limits limit
-    × (words ≡ program ∷ codes "check" ∷ (flags ++ limits))
-SayPlainly words (Show framing limit) =
-    (program : Text) × (flags : List Text) × (limits : List Text) × SayFraming flags framing × SayLimit limits limit
-    × (words ≡ program ∷ codes "show" ∷ (flags ++ limits))
-SayPlainly words (Convert framing limit most) =
+    × (words ≡ program ∷ name ∷ (flags ++ limits))
+
+-- the same for `convert`, with `--most` behind them
+abbrev pub SayConvert : List Text → Framing → ℕ → Option ℕ → Type 0
+SayConvert words framing limit most =
     (program : Text) × (flags : List Text) × (limits : List Text) × (sizes : List Text) × SayFraming flags framing
     × SayLimit limits limit × SayMost sizes most × (words ≡ program ∷ codes "convert" ∷ (flags ++ (limits ++ sizes)))
+
+-- the words are the program's name, the subcommand, and its options in their order, each given at most once
+abbrev pub SayPlainly : List Text → Options → Type 0
+SayPlainly words (Check framing limit) = SayReading (codes "check") words framing limit
+SayPlainly words (Show framing limit) = SayReading (codes "show") words framing limit
+SayPlainly words (Convert framing limit most) = SayConvert words framing limit most

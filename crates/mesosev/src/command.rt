@@ -1,12 +1,12 @@
 //! The command line of `mesosev`, as `clap` is given it.
 ghost use Rattle.std.specs.Prelude.{◌≡◌, false, true, map, IfOk, MatchResult, IfErr, []};
-ghost use Rattle.clap.specs.Words.{HasKind, app_of, fault_of, rule_of, subcommand_of};
-ghost use Rattle.clap.specs.Words.{subcommand_rows_of};
-ghost use Rattle.clap.specs.declared.builder.command.Command.TheViews.{out-Command};
+ghost use Rattle.clap.specs.Words.{App, HasKind, app_of, fault_of, rule_of, subcommand_of};
+ghost use Rattle.clap.specs.Words.{subcommand_rows_of, with_subcommand};
 ghost use Rattle.mesosev.specs.CommandLine.{bare_app, chunked_rule, limit_rule, most_rule};
-ghost use Rattle.mesosev.specs.CommandLine.{check_app, show_app, convert_app, command_app};
+ghost use Rattle.mesosev.specs.CommandLine.{IsCommand, command_app, reading_app};
 
 use crate::words::{LIMIT_DEFAULT, LIMIT_LEAST, LIMIT_MOST, VERSION};
+use crate::{check, convert, show};
 use clap::{Arg, ArgAction, ArgMatches, Command, Error};
 use mes_run::{CHUNK_LEAST, CHUNK_MOST};
 use std::alloc::{AllocError, Global};
@@ -32,10 +32,21 @@ pub fn matches_of<'a, S: AsStr>(alloc: Global, words: &'a [S]) -> Result<ArgMatc
 fn command<'a>(alloc: Global) -> Result<Command<'a>, AllocError>
     ensures { IfOk result (λ c. app_of c ≡ command_app) }
 {
-    bare_command(alloc)
-        .subcommand(check_command(alloc)?)?
-        .subcommand(show_command(alloc)?)?
-        .subcommand(convert_command(alloc)?)
+    let command = bare_command(alloc);
+    let command = with(command, check::command(alloc))?;
+    let command = with(command, show::command(alloc))?;
+    with(command, convert::command(alloc))
+}
+
+// The command with this subcommand behind its others.
+fn with<'a>(
+    command: Command<'a>,
+    subcommand: Result<Command<'a>, AllocError>,
+) -> Result<Command<'a>, AllocError>
+    ensures { (app : App) → IfOk subcommand.entry (IsCommand app)
+        → IfOk result (λ c. app_of c ≡ with_subcommand (app_of command.entry) app.top) }
+{
+    command.subcommand(subcommand?)
 }
 
 // `mesosev` before its subcommands, of which one is wanted; `--version`
@@ -49,38 +60,18 @@ fn bare_command<'a>(alloc: Global) -> Command<'a>
         .subcommand_required(true)
 }
 
-// `check [--chunked] [--limit N]`
-fn check_command<'a>(alloc: Global) -> Result<Command<'a>, AllocError>
-    ensures app { IfOk result (λ c. app_of c ≡ check_app) }
-    ensures local { IfOk result (λ c. (out-Command c).has_globals ≡ false) }
+/// `NAME [--chunked] [--limit N]`: a subcommand that reads a stream.
+pub fn reading_command<'a>(
+    alloc: Global,
+    name: &'a str,
+    about: &'a str,
+) -> Result<Command<'a>, AllocError>
+    ensures { IfOk result (IsCommand (reading_app name.entry.now)) }
 {
-    Command::new(alloc, "check")
-        .about("Check that each record of standard input is an event, and count them")
+    Command::new(alloc, name)
+        .about(about)
         .arg(chunked_option(alloc))?
         .arg(limit_option(alloc))
-}
-
-// `show [--chunked] [--limit N]`
-fn show_command<'a>(alloc: Global) -> Result<Command<'a>, AllocError>
-    ensures app { IfOk result (λ c. app_of c ≡ show_app) }
-    ensures local { IfOk result (λ c. (out-Command c).has_globals ≡ false) }
-{
-    Command::new(alloc, "show")
-        .about("Print each event of standard input as it comes")
-        .arg(chunked_option(alloc))?
-        .arg(limit_option(alloc))
-}
-
-// `convert [--chunked] [--limit N] [--most M]`
-fn convert_command<'a>(alloc: Global) -> Result<Command<'a>, AllocError>
-    ensures app { IfOk result (λ c. app_of c ≡ convert_app) }
-    ensures local { IfOk result (λ c. (out-Command c).has_globals ≡ false) }
-{
-    Command::new(alloc, "convert")
-        .about("Read all events of standard input, and write them again in canonical form")
-        .arg(chunked_option(alloc))?
-        .arg(limit_option(alloc))?
-        .arg(most_option(alloc))
 }
 
 // `--chunked`
@@ -108,8 +99,8 @@ fn limit_option<'a>(alloc: Global) -> Arg<'a>
         .help("Largest record in bytes, 1 to 16777216")
 }
 
-// `--most M`, whose range clap tests too.
-fn most_option<'a>(alloc: Global) -> Arg<'a>
+/// `--most M`, whose range clap tests too.
+pub fn most_option<'a>(alloc: Global) -> Arg<'a>
     ensures rule { rule_of result ≡ most_rule }
     ensures local { result.global ≡ false }
 {

@@ -1,9 +1,13 @@
 //! `mesosev` reads and writes the event stream of the Apache Mesos v1 scheduler API.
 #![tactic(auto)]
 
+mod check;
 mod command;
+mod convert;
 mod options;
 mod run;
+mod show;
+mod values;
 mod words;
 
 use mes_frame::FromStd;

@@ -1,5 +1,5 @@
 use Rattle.std.proofs.Common.{List, sym, ap, subst}
-use Rattle.mes_part.specs.FoundRows.{FindsAll, FindsEach}
+use Rattle.mes_part.specs.FoundRows.{FindsAll}
 use Rattle.mes_part.specs.Leaves.{members_at}
 use Rattle.mes_part.specs.declared.found.Found.{Found}
 use Rattle.mes_part.proofs.RowLemmas.{refused_bound}

@@ -1,6 +1,8 @@
-use Rattle.std.proofs.Common.{map, rules, Ok, Err}
-use Rattle.mesosev.specs.declared.words.Options.TheVariants.{Check, Show, Convert}
+use Rattle.std.proofs.Common.{◌≡◌, ◌∙◌, List, Some, map, rules, sym, Err}
+use Rattle.clap.specs.Words.{Row, Text, found_of, rows_of, subcommand_of}
+use Rattle.mesosev.specs.CommandLine.{command_app}
 use Rattle.mesosev.specs.declared.words.WordsFault.TheVariants.{BadValue}
+use Rattle.mesosev.proofs.ReadLemmas.{read_named, read_refused, subcommand_read}
 use Rattle.mesosev.proofs.SaidLemmas.{plain_answer}
 use Rattle.mesosev.proofs.options.options.Goals as goal
 
@@ -8,38 +10,14 @@ pub returns-in_err-matches-clause-plain : goal.returns-in_err-matches-clause-pla
 returns-in_err-matches-clause-plain g c =
     plain_answer (map g.S.AsStr.text c.args.words.now) c.from_residual.result (search rules) (search rules)
 
-pub returns-in_err-limit-in-Some-check-default-clause-plain :
-    goal.returns-in_err-limit-in-Some-check-default-clause-plain
-returns-in_err-limit-in-Some-check-default-clause-plain g c =
-    plain_answer (map g.S.AsStr.text c.args.words.now) c.from_residual-in_err-limit-in-Some-check-default.result (search rules) (search rules)
-
-pub returns-in-Some-check-default-clause-plain : goal.returns-in-Some-check-default-clause-plain
-returns-in-Some-check-default-clause-plain g c =
-    plain_answer (map g.S.AsStr.text c.args.words.now) (Ok (Check c.framing_of-framing.result c.in_ok-limit-in-Some-check-default.limit)) (search rules) (search rules)
-
-pub returns-in_err-limit-in-Some-show-default-clause-plain :
-    goal.returns-in_err-limit-in-Some-show-default-clause-plain
-returns-in_err-limit-in-Some-show-default-clause-plain g c =
-    plain_answer (map g.S.AsStr.text c.args.words.now) c.from_residual-in_err-limit-in-Some-show-default.result (search rules) (search rules)
-
-pub returns-in-Some-show-default-clause-plain : goal.returns-in-Some-show-default-clause-plain
-returns-in-Some-show-default-clause-plain g c =
-    plain_answer (map g.S.AsStr.text c.args.words.now) (Ok (Show c.framing_of-framing-in-Some-show-default.result c.in_ok-limit-in-Some-show-default.limit)) (search rules) (search rules)
-
-pub returns-in_err-limit-in-Some-convert-default-clause-plain :
-    goal.returns-in_err-limit-in-Some-convert-default-clause-plain
-returns-in_err-limit-in-Some-convert-default-clause-plain g c =
-    plain_answer (map g.S.AsStr.text c.args.words.now) c.from_residual-in_err-limit-in-Some-convert-default.result (search rules) (search rules)
-
-pub returns-in_err-most-in-Some-convert-default-clause-plain :
-    goal.returns-in_err-most-in-Some-convert-default-clause-plain
-returns-in_err-most-in-Some-convert-default-clause-plain g c =
-    plain_answer (map g.S.AsStr.text c.args.words.now) c.from_residual-in_err-most-in-Some-convert-default.result (search rules) (search rules)
-
-pub returns-in-Some-convert-default-clause-plain : goal.returns-in-Some-convert-default-clause-plain
-returns-in-Some-convert-default-clause-plain g c =
-    plain_answer (map g.S.AsStr.text c.args.words.now)
-    (Ok (Convert c.framing_of-framing-in-Some-convert-default.result c.in_ok-limit-in-Some-convert-default.limit c.in_ok-most-in-Some-convert-default.most)) (search rules) (search rules)
+pub returns-in-Some-clause-plain : goal.returns-in-Some-clause-plain
+returns-in-Some-clause-plain g c =
+    let words : List Text = map g.S.AsStr.text c.args.words.now in
+    let read : Text × List Row = (c.in-Some.name.now, rows_of (found_of c.in-Some.found.now)) in
+    let is : subcommand_of command_app words ≡ Some read =
+    sym c.in_ok-matches.ensures.named ∙ subcommand_read c.in_ok-matches.matches read.0 read.1 c.in-Some.ensures.name c.in-Some.ensures.rows in
+    plain_answer words c.read.result (read_named words read is c.read.result c.read.ensures)
+    (read_refused words read is c.read.result c.read.ensures c.in_ok-matches.ensures.ok)
 
 pub returns-clause-plain : goal.returns-clause-plain
 returns-clause-plain g c =

@@ -1,4 +1,4 @@
-use Rattle.std.proofs.Common.{ℕ, ◌<◌, length, refl, arith}
+use Rattle.std.proofs.Common.{◌<◌, length, arith}
 use Rattle.mes_part.proofs.RowLemmas.{gives_bound}
 use Rattle.mes_part.proofs.RowListLemmas.{no_text, named_at, short_name, found_at}
 use Rattle.mes_part.proofs.row_list.Tuple2RowList.read_rows.Goals as goal

@@ -1,7 +1,7 @@
 use Rattle.std.proofs.Common.{rules}
 use Rattle.clap.specs.Words.{found_of}
 use Rattle.mesosev.proofs.OptionLemmas.{flag_set, flag_unset}
-use Rattle.mesosev.proofs.options.framing_of.Goals as goal
+use Rattle.mesosev.proofs.values.framing_of.Goals as goal
 
 pub returns-in-Some-true : goal.returns-in-Some-true
 returns-in-Some-true c =

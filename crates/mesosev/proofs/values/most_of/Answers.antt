@@ -1,7 +1,7 @@
 use Rattle.std.proofs.Common.{rules}
 use Rattle.clap.specs.Words.{found_of}
 use Rattle.mesosev.proofs.OptionLemmas.{most_absent, most_given, most_out, most_unread}
-use Rattle.mesosev.proofs.options.most_of.Goals as goal
+use Rattle.mesosev.proofs.values.most_of.Goals as goal
 
 pub returns-in-Ok-None-clause-ok : goal.returns-in-Ok-None-clause-ok
 returns-in-Ok-None-clause-ok c =

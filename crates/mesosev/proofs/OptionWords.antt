@@ -1,0 +1,173 @@
+-- What the words that name a flag or give an option its value come to in clap's model.
+use Rattle.std.proofs.Common.{◌≡◌, ◌≤◌, ◌==◌, ◌∙◌, ℕ, List, [], ◌∷◌, Option, Some, None, Bool, true, false, inl, inr, refl, sym, subst, arith}
+use Rattle.std.specs.Prelude.{IsSomeAnd, codes, option_map, pos}
+use Rattle.std.specs.Str.Parse.{IsNumeral, without_leading_plus}
+use Rattle.std.proofs.lemmas.Bool.{eqb-true, ne_eqb}
+use Rattle.std.proofs.lemmas.Int.{ints}
+use Rattle.std.proofs.lemmas.Str.Parse.{digit_from_value}
+use Rattle.clap.specs.Words.{Accepts, Row, Rule, Text, one_of}
+use Rattle.clap.specs.Kinds.{value_kinds}
+use Rattle.clap.specs.Lexer.{without_minus}
+use Rattle.clap.specs.Simple.{Shape, filled}
+use Rattle.clap.specs.Walk.{arg_by_id, arg_by_long, used}
+use Rattle.clap.specs.declared.builder.value_parser.ValueParser.{ValueParser}
+use Rattle.clap.specs.declared.builder.value_parser.ValueParser.TheVariants as vp
+use Rattle.clap.proofs.KindLemmas.{value_kinds-ok}
+use Rattle.mesosev.specs.CommandLine.{chunked_rule, limit_rule}
+use Rattle.mesosev.specs.NamedOptions.{HasFraming, HasMost, IsLimit, IsMost, SayFraming, SayLimit, SayMost, SayNumber, Writes}
+use Rattle.mes_stream.specs.declared.stream_reader.Framing.{Framing}
+use Rattle.mes_stream.specs.declared.stream_reader.Framing.TheVariants.{Plain, Chunked}
+use Rattle.mesosev.proofs.Walks.{Given, IsFlag, IsNoFlag, IsOption, IsUsable, Reaches, absent, apart, given_value, given_words, joined, reaches_flag, reaches_start, used_value}
+
+-- ---- a number in a range
+
+abbrev pub number_parser : ℕ → ℕ → ValueParser
+number_parser least most = vp.Signed (pos least) (pos most)
+
+-- the parser takes the value, where there is one
+abbrev pub Fits : ValueParser → Option Text → Type 0
+Fits parser None = Unit {0}
+Fits parser (Some v) = value_kinds false parser v ≡ []
+
+-- the value, and a default where it is not given
+abbrev pub value_or : Option Text → Option Text → Option Text
+value_or usual None = usual
+value_or usual (Some v) = Some v
+
+-- the value as a number is read of it, without a first hyphen
+abbrev pub read_value : Option Text → Option Text
+read_value = option_map without_minus
+
+pub read_plain : (v : Option Text) → IsNoFlag v → read_value v ≡ v
+read_plain None plain = refl
+read_plain (Some []) plain = absurd plain
+read_plain (Some (x ∷ xs)) plain = simp plain refl
+
+no_hyphen : (x : ℕ) (xs : Text) → IsNumeral 10 (without_leading_plus (x ∷ xs)) → (x == 45) ≡ false
+no_hyphen x xs h = go (x == 43) refl
+  where
+    go : (b : Bool) → (x == 43) ≡ b → (x == 45) ≡ false
+    go true is =
+        let plus : x ≡ 43 = eqb-true x 43 is in
+        ne_eqb _ _ (λ e. omega (arith, plus, e))
+    go false is =
+        let numeral : IsNumeral 10 (x ∷ xs) = rw is at h in
+        ne_eqb _ _ (λ e. omega (arith, digit_from_value x numeral.1.0, e))
+
+-- the words give the option, or leave it out, and then its text writes the number
+pub record Says (option : Text) (usual : Option Text) (parser : ValueParser) (words : List Text) (n : ℕ) : Type 0 where
+  pub given : Given
+  pub is : words ≡ given_words option given
+  pub plain : IsNoFlag (given_value given)
+  pub fits : Fits parser (given_value given)
+  pub text : Text
+  pub text_is : value_or usual (given_value given) ≡ Some text
+  pub writes : Writes text n
+
+-- a range of numbers of 32 bits
+module _ (least most : ℕ) (small : most ≤ 4294967295) where
+  accepted : (x : ℕ) (xs : Text) (n : ℕ) → (x == 45) ≡ false → Writes (x ∷ xs) n → (least ≤ n) × (n ≤ most) → Accepts false (number_parser least most) (x ∷ xs)
+  accepted x xs n plain writes range = rw plain (writes.0, omega (arith, ints, writes.1, range.0, range.1), omega (arith, ints, writes.1, range.0, range.1), omega (arith, ints, writes.1, range.0, range.1))
+
+  passes : (x : ℕ) (xs : Text) (n : ℕ) → Writes (x ∷ xs) n → (least ≤ n) × (n ≤ most) → value_kinds false (number_parser least most) (x ∷ xs) ≡ []
+  passes x xs n writes range = value_kinds-ok false (number_parser least most) (x ∷ xs) (accepted x xs n (no_hyphen x xs writes.0) writes range)
+
+  pub says_number : (option : Text) (usual : Option Text) (words : List Text) (n : ℕ) → SayNumber option words n → (least ≤ n) × (n ≤ most)
+      → Says option usual (number_parser least most) words n
+  says_number option usual words n ([], writes, side) range = absurd (omega (arith, writes.0.0))
+  says_number option usual words n (x ∷ xs, writes, inl is) range =
+      record { given = apart x xs; is = is; plain = no_hyphen x xs writes.0; fits = passes x xs n writes range; text = x ∷ xs; text_is = refl; writes = writes }
+  says_number option usual words n (x ∷ xs, writes, inr is) range =
+      record { given = joined x xs; is = is; plain = no_hyphen x xs writes.0; fits = passes x xs n writes range; text = x ∷ xs; text_is = refl; writes = writes }
+
+-- the text that an option has in the rows, as the number that it writes
+pub has_number : (held : Option Text) (option : Text) (usual : Option Text) (parser : ValueParser) (words : List Text) (n : ℕ)
+    → (s : Says option usual parser words n) → held ≡ value_or usual (given_value s.given) → IsSomeAnd held (λ text. Writes text n)
+has_number held option usual parser words n s is = subst (λ h. IsSomeAnd h (λ text. Writes text n)) (sym (is ∙ s.text_is)) s.writes
+
+-- ---- `--chunked`
+
+abbrev pub flag_words : Framing → List Text
+flag_words Plain = []
+flag_words Chunked = codes "--chunked" ∷ []
+
+abbrev pub flag_text : Framing → Option Text
+flag_text Plain = Some (codes "false")
+flag_text Chunked = Some (codes "true")
+
+abbrev pub rows_flag : Framing → List Row
+rows_flag Plain = []
+rows_flag Chunked = used (filled chunked_rule) [] []
+
+pub flag_is : (framing : Framing) (words : List Text) → SayFraming words framing → words ≡ flag_words framing
+flag_is Plain words is = is
+flag_is Chunked words is = is
+
+pub chunked_is : (c : List Rule) → arg_by_long c (codes "chunked") ≡ Some (filled chunked_rule) → IsFlag c (filled chunked_rule) (codes "--chunked") (codes "chunked")
+chunked_is c by_long = record { dashes = refl; long = refl; by_long = by_long; takes = refl }
+
+-- the flag in front of all other options
+pub reaches_framing : (s : Shape) → IsFlag s.rules (filled chunked_rule) (codes "--chunked") (codes "chunked") → (framing : Framing)
+    → Reaches s (flag_words framing) (rows_flag framing)
+reaches_framing s is Plain = reaches_start s
+reaches_framing s is Chunked = reaches_flag s (filled chunked_rule) (codes "--chunked") (codes "chunked") is [] [] (reaches_start s) refl
+
+pub has_framing : (framing : Framing) (rows : List Row) → one_of (codes "chunked") rows ≡ flag_text framing → HasFraming rows framing
+has_framing Plain rows is = λ set. let other : Some (codes "false") ≡ Some (codes "true") = sym is ∙ set in absurd (cc)
+has_framing Chunked rows is = is
+
+-- ---- `--limit`
+
+abbrev pub usual_limit : Option Text
+usual_limit = Some (codes "4194304")
+
+pub limit_is : (c : List Rule) → arg_by_long c (codes "limit") ≡ Some (filled limit_rule) → arg_by_id c (codes "limit") ≡ Some (filled limit_rule)
+    → IsOption c (filled limit_rule) (codes "--limit") (codes "limit")
+limit_is c by_long by_id =
+    record { dashes = refl; long = refl; dashes_joined = λ v. refl; long_joined = λ v. refl; by_long = by_long; by_id = by_id; same = refl; takes = refl; one = refl }
+
+-- the rows behind `--chunked` and `--limit`
+abbrev pub rows_limit : Framing → Option Text → List Row
+rows_limit framing v = used_value (filled limit_rule) v (rows_flag framing)
+
+pub limit_usable : (framing : Framing) (v : Option Text) → Fits (number_parser 1 16777216) v → IsUsable false (filled limit_rule) v (rows_flag framing)
+limit_usable framing None fits = tt
+limit_usable Plain (Some v) fits = simp fits refl
+limit_usable Chunked (Some v) fits = simp fits refl
+
+-- the words that give the limit
+abbrev pub SaysLimit : List Text → ℕ → Type 0
+SaysLimit = Says (codes "--limit") usual_limit (number_parser 1 16777216)
+
+pub says_limit : (words : List Text) (limit : ℕ) → SayLimit words limit → IsLimit limit → SaysLimit words limit
+says_limit words limit (inl (is, writes)) range = record { given = absent; is = is; plain = tt; fits = tt; text = codes "4194304"; text_is = refl; writes = writes }
+says_limit words limit (inr says) range = says_number 1 16777216 (omega arith) (codes "--limit") usual_limit words limit says range
+
+-- ---- `--most`
+
+-- the text of `--most` is the size, or there is none
+abbrev IsSize : Option Text → Option ℕ → Type 0
+IsSize held None = held ≡ None
+IsSize held (Some most) = IsSomeAnd held (λ text. Writes text most)
+
+-- the words that give the size, or leave it out
+pub record SaysMost (words : List Text) (most : Option ℕ) : Type 0 where
+  pub given : Given
+  pub is : words ≡ given_words (codes "--most") given
+  pub plain : IsNoFlag (given_value given)
+  pub fits : Fits (number_parser 1 16777216) (given_value given)
+  pub size : IsSize (given_value given) most
+
+pub says_most : (words : List Text) (most : Option ℕ) → SayMost words most → IsMost most → SaysMost words most
+says_most words None is range = record { given = absent; is = is; plain = tt; fits = tt; size = refl }
+says_most words (Some most) says range =
+    let s : Says (codes "--most") None (number_parser 1 16777216) words most = says_number 1 16777216 (omega arith) (codes "--most") None words most says range in
+    record { given = s.given; is = s.is; plain = s.plain; fits = s.fits; size = has_number (given_value s.given) (codes "--most") None (number_parser 1 16777216) words most s (value_of (given_value s.given)) }
+  where
+    value_of : (v : Option Text) → v ≡ value_or None v
+    value_of None = refl
+    value_of (Some v) = refl
+
+pub has_most : (rows : List Row) (held : Option Text) (most : Option ℕ) → one_of (codes "most") rows ≡ held → IsSize held most → HasMost rows most
+has_most rows held None is size = is ∙ size
+has_most rows held (Some most) is size = subst (λ h. IsSomeAnd h (λ text. Writes text most)) (sym is) size
