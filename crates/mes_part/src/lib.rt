@@ -42,7 +42,10 @@ pub use label::{Label, Labels};
 pub use leaf::text_in;
 pub use list::List;
 pub use message::{MadeOf, message_tree, read_message, read_typed, typed_tree};
-pub use pairs::{Rows1, Rows10, Rows11, Rows12, Rows13, Rows14, Rows15, Rows16, Rows2, Rows3, Rows4, Rows5, Rows6, Rows7, Rows8, Rows9};
+pub use pairs::{
+    Rows1, Rows2, Rows3, Rows4, Rows5, Rows6, Rows7, Rows8, Rows9, Rows10, Rows11, Rows12, Rows13,
+    Rows14, Rows15, Rows16,
+};
 pub use part::{Part, PartFault};
 pub use path::{PATH_TEXT_MOST, Path, STEPS_MOST, Step};
 pub use read_row::{

@@ -60,13 +60,25 @@ pub type Rows11<A, B, C, D, E, F, G, H, I, J, K> = (A, Rows10<B, C, D, E, F, G, 
 pub type Rows12<A, B, C, D, E, F, G, H, I, J, K, L> = (A, Rows11<B, C, D, E, F, G, H, I, J, K, L>);
 
 /// Thirteen rows.
-pub type Rows13<A, B, C, D, E, F, G, H, I, J, K, L, M> = (A, Rows12<B, C, D, E, F, G, H, I, J, K, L, M>);
+pub type Rows13<A, B, C, D, E, F, G, H, I, J, K, L, M> = (
+    A,
+    Rows12<B, C, D, E, F, G, H, I, J, K, L, M>,
+);
 
 /// Fourteen rows.
-pub type Rows14<A, B, C, D, E, F, G, H, I, J, K, L, M, N> = (A, Rows13<B, C, D, E, F, G, H, I, J, K, L, M, N>);
+pub type Rows14<A, B, C, D, E, F, G, H, I, J, K, L, M, N> = (
+    A,
+    Rows13<B, C, D, E, F, G, H, I, J, K, L, M, N>,
+);
 
 /// Fifteen rows.
-pub type Rows15<A, B, C, D, E, F, G, H, I, J, K, L, M, N, O> = (A, Rows14<B, C, D, E, F, G, H, I, J, K, L, M, N, O>);
+pub type Rows15<A, B, C, D, E, F, G, H, I, J, K, L, M, N, O> = (
+    A,
+    Rows14<B, C, D, E, F, G, H, I, J, K, L, M, N, O>,
+);
 
 /// Sixteen rows.
-pub type Rows16<A, B, C, D, E, F, G, H, I, J, K, L, M, N, O, P> = (A, Rows15<B, C, D, E, F, G, H, I, J, K, L, M, N, O, P>);
+pub type Rows16<A, B, C, D, E, F, G, H, I, J, K, L, M, N, O, P> = (
+    A,
+    Rows15<B, C, D, E, F, G, H, I, J, K, L, M, N, O, P>,
+);
