@@ -63,6 +63,7 @@ pub fn message_tree<R: RowRefs>(alloc: Global, names: &[&str], rows: &R) -> Resu
 }
 
 /// The value with a type that stands at the place, whose rows are the whole message; or the first fault.
+#[inline(always)]
 pub fn read_typed<C: Choice, const N: usize>(
     alloc: Global,
     element: &Element<'_>,
