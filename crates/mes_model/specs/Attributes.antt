@@ -48,7 +48,7 @@ attribute_value_rows =
     )
     )) to_attribute_value from_attribute_value
 
--- the names of their rows
+-- the names of their members
 abbrev pub attribute_value_names : List (List ℕ)
 attribute_value_names = codes "type" ∷ codes "scalar" ∷ codes "ranges" ∷ codes "set" ∷ codes "text" ∷ []
 

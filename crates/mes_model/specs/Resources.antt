@@ -45,7 +45,7 @@ resource_value_rows =
     )
     )) to_resource_value from_resource_value
 
--- the names of their rows
+-- the names of their members
 abbrev pub resource_value_names : List (List ℕ)
 resource_value_names = codes "type" ∷ codes "scalar" ∷ codes "ranges" ∷ codes "set" ∷ []
 

@@ -7,7 +7,7 @@ use crate::value::{Ranges, Scalar, Set};
 use mes_json::{Element, Json, NoMemory, Text};
 use mes_part::{
     Choice, FieldWhy, Found, MadeOf, Must, MustRef, Part, PartFault, RowList, RowRefs, Trail,
-    Typed, TypedRef, made, message_tree, pairs, put, put_type, read_message, required, type_of,
+    Typed, TypedRef, made, message_tree, put, put_type, read_message, required, type_of,
     type_refusal,
 };
 use std::alloc::Global;

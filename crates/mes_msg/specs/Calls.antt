@@ -74,8 +74,8 @@ call_rows =
     )) to_call from_call
 
 -- the names of their members
-abbrev pub call_names : List (List ℕ)
-call_names =
+abbrev pub call_members : List (List ℕ)
+call_members =
     codes "type" ∷ codes "framework_id" ∷ codes "subscribe" ∷ codes "accept" ∷ codes "decline" ∷ codes "revive" ∷ codes "kill" ∷ codes "acknowledge" ∷ codes "reconcile" ∷ []
 
 unfoldable pub call : Kind Call

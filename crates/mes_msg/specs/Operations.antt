@@ -1,4 +1,4 @@
--- What is done with accepted offers, as tables (scheduler.proto, `Offer.Operation`): ! must be there, * is a list.
+-- What is done with accepted offers, as tables (mesos.proto, `Offer.Operation`): ! must be there, * is a list.
 use Rattle.std.specs.Prelude.{◌≡◌, ◌⊎◌, ℕ, List, [], ◌∷◌, codes}
 use Rattle.std.proofs.Common.{inl, inr, refl}
 use Rattle.mes_part.specs.Kinds.{Kind, Lawful, Returns}
@@ -50,8 +50,8 @@ operation_rows =
     )) to_operation from_operation
 
 -- the names of their members
-abbrev pub operation_names : List (List ℕ)
-operation_names = codes "type" ∷ codes "launch" ∷ []
+abbrev pub operation_members : List (List ℕ)
+operation_members = codes "type" ∷ codes "launch" ∷ []
 
 unfoldable pub operation : Kind Operation
 operation = message operation_rows

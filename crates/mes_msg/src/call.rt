@@ -84,7 +84,7 @@ pub enum Call {
 }
 
 /// The names of a call's members, in the order of the table.
-const CALL_NAMES: [&str; 9] = [
+const CALL_MEMBERS: [&str; 9] = [
     "type",
     "framework_id",
     "subscribe",
@@ -135,10 +135,10 @@ impl Call {
 }
 
 impl Choice for Call {
-    ghost use Rattle.mes_msg.specs.Calls.{call_names, call_rows};
+    ghost use Rattle.mes_msg.specs.Calls.{call_members, call_rows};
     ghost use Rattle.std.specs.Prelude.{refl};
 
-    ghost names = { call_names };
+    ghost names = { call_members };
 
     ghost table = { call_rows };
 
@@ -283,7 +283,7 @@ impl Part for Call {
         element: &Element<'_>,
         path: &Trail<'_>,
     ) -> Result<Call, PartFault> {
-        read_typed::<Call, 9>(alloc, element, &CALL_NAMES, path)
+        read_typed::<Call, 9>(alloc, element, &CALL_MEMBERS, path)
     }
 
     #[tactic(auto, using(crate::specs::Calls::call_back), unfolding(crate::specs::Calls::call))]

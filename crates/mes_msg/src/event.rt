@@ -41,7 +41,7 @@ pub enum Event {
 }
 
 /// The names of an event's members, in the order of the table.
-const EVENT_NAMES: [&str; 8] = [
+const EVENT_MEMBERS: [&str; 8] = [
     "type",
     "subscribed",
     "offers",
@@ -136,7 +136,7 @@ impl Part for Event {
         element: &Element<'_>,
         path: &Trail<'_>,
     ) -> Result<Event, PartFault> {
-        read_typed::<Event, 8>(alloc, element, &EVENT_NAMES, path)
+        read_typed::<Event, 8>(alloc, element, &EVENT_MEMBERS, path)
     }
 
     #[tactic(auto, using(crate::specs::Events::event_back), unfolding(crate::specs::Events::event))]

@@ -25,13 +25,13 @@ pub enum Operation {
 }
 
 /// The names of an operation's members, in the order of the table.
-const OPERATION_NAMES: [&str; 2] = ["type", "launch"];
+const OPERATION_MEMBERS: [&str; 2] = ["type", "launch"];
 
 impl Choice for Operation {
-    ghost use Rattle.mes_msg.specs.Operations.{operation_names, operation_rows};
+    ghost use Rattle.mes_msg.specs.Operations.{operation_members, operation_rows};
     ghost use Rattle.std.specs.Prelude.{refl};
 
-    ghost names = { operation_names };
+    ghost names = { operation_members };
 
     ghost table = { operation_rows };
 
@@ -93,7 +93,7 @@ impl Part for Operation {
         element: &Element<'_>,
         path: &Trail<'_>,
     ) -> Result<Operation, PartFault> {
-        read_typed::<Operation, 2>(alloc, element, &OPERATION_NAMES, path)
+        read_typed::<Operation, 2>(alloc, element, &OPERATION_MEMBERS, path)
     }
 
     #[tactic(auto, using(crate::specs::Operations::operation_back), unfolding(crate::specs::Operations::operation))]

@@ -10,48 +10,48 @@ use Rattle.mes_part.specs.NameLaws.{distinct}
 use Rattle.mes_part.specs.RowLaws.{LawfulTable, lawful_need, lawful_maybe, lawful_many, lawful_flag, lawful_no_rows, lawful_both, lawful_mapped, lawful_message, message_returns}
 
 -- rows that hold an F, and what holds of them
-pub record Rows (F : Type 0) : Type 1 where
+pub record LawfulRows (F : Type 0) : Type 1 where
   pub table : Table F
   pub lawful : LawfulTable table
 
 -- a member that must be there
-abbrev pub needs : {V : Type 0} → List ℕ → (k : Kind V) → Lawful k → Rows V
+abbrev pub needs : {V : Type 0} → List ℕ → (k : Kind V) → Lawful k → LawfulRows V
 needs n k lawful = record { table = need n k; lawful = lawful_need lawful }
 
 -- a member that may be there
-abbrev pub may_have : {V : Type 0} → List ℕ → (k : Kind V) → Lawful k → Rows (Option V)
+abbrev pub may_have : {V : Type 0} → List ℕ → (k : Kind V) → Lawful k → LawfulRows (Option V)
 may_have n k lawful = record { table = maybe n k; lawful = lawful_maybe lawful }
 
 -- a list, which is empty where its member isn't there
-abbrev pub lists : {V : Type 0} → List ℕ → (k : Kind V) → Lawful k → Rows (List V)
+abbrev pub lists : {V : Type 0} → List ℕ → (k : Kind V) → Lawful k → LawfulRows (List V)
 lists n k lawful = record { table = many n k; lawful = lawful_many lawful }
 
 -- an object that is there or isn't, and whose members are dropped
-abbrev pub flags : List ℕ → Rows Bool
+abbrev pub flags : List ℕ → LawfulRows Bool
 flags n = record { table = flag n; lawful = lawful_flag }
 
 -- the rows of a table that has a law
-abbrev pub rows_of : {F : Type 0} (r : Table F) → LawfulTable r → Rows F
+abbrev pub rows_of : {F : Type 0} (r : Table F) → LawfulTable r → LawfulRows F
 rows_of r lawful = record { table = r; lawful = lawful }
 
 -- no further row
-abbrev pub no_more : Rows (Unit {0})
+abbrev pub no_more : LawfulRows (Unit {0})
 no_more = record { table = no_rows; lawful = lawful_no_rows }
 
 -- the one, and then the others
 infixr 4 ◌⨾⨾◌
-abbrev pub ◌⨾⨾◌ : {F G : Type 0} → Rows F → Rows G → Rows (F × G)
+abbrev pub ◌⨾⨾◌ : {F G : Type 0} → LawfulRows F → LawfulRows G → LawfulRows (F × G)
 r ⨾⨾ s = record { table = r.table ⨾ s.table; lawful = lawful_both r.lawful s.lawful }
 
 -- A message: its rows, what is made of their values, and the values of what was made.
 pub record Layout (V : Type 0) : Type 1 where
   pub Values : Type 0
-  pub rows : Rows Values
+  pub rows : LawfulRows Values
   pub to : Values → V
   pub from : V → Values
   pub inverse : (v : V) → to (from v) ≡ v
 
-abbrev pub laid_out : {F V : Type 0} → Rows F → (to : F → V) → (from : V → F) → ((v : V) → to (from v) ≡ v) → Layout V
+abbrev pub laid_out : {F V : Type 0} → LawfulRows F → (to : F → V) → (from : V → F) → ((v : V) → to (from v) ≡ v) → Layout V
 laid_out {F} rows to from inverse = record { Values = F; rows = rows; to = to; from = from; inverse = inverse }
 
 -- what a tree at a path is read as by these rows, of whose values a V is made

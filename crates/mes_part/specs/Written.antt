@@ -1,5 +1,5 @@
 -- What is written so far: the members of an object in the making.
-use Rattle.std.specs.Prelude.{ℕ, List, map}
+use Rattle.std.specs.Prelude.{◌≡◌, ◌++◌, ℕ, List, map}
 use Rattle.mes_json.specs.Tree.{Tree}
 use Rattle.mes_json.specs.View.{view}
 use Rattle.mes_json.specs.declared.value.Json.{Json}
@@ -10,3 +10,7 @@ member_view m = (m.0, view m.1)
 
 abbrev pub pairs_view : List (List ℕ × Json) → List (List ℕ × Tree)
 pairs_view ms = map member_view ms
+
+-- what stood there stands in front
+abbrev pub Continues : List (List ℕ × Tree) → List (List ℕ × Tree) → Type 0
+Continues old new = (more : List (List ℕ × Tree)) × (new ≡ old ++ more)

@@ -1,11 +1,11 @@
 //! Values that a member `type` tells apart: the rows of a value depend on its type.
 
-ghost use Rattle.std.specs.Prelude.{◌≡◌, ℕ, ◌+◌, ◌≤◌, ◌++◌, List as list, length, IfOk, OnOk};
+ghost use Rattle.std.specs.Prelude.{◌≡◌, ℕ, ◌+◌, ◌≤◌, ◌++◌, List as list, length, IfOk, IfErr, OnOk};
 ghost use Rattle.mes_json.specs.Tree.{Members};
 ghost use Rattle.mes_part.specs.FoundRows.{FindsEach};
 ghost use Rattle.mes_part.specs.Parts.{Gives};
 ghost use Rattle.mes_part.specs.Rows.{Table};
-ghost use Rattle.mes_part.specs.Written.{pairs_view};
+ghost use Rattle.mes_part.specs.Written.{pairs_view, Continues};
 
 use crate::found::Found;
 use crate::part::PartFault;
@@ -32,9 +32,10 @@ pub trait Choice: Drop {
         requires all { COUNT ≤ length found.now }
         ensures { (ms : Members) → FindsEach 0 names ms found.now → Gives (table.read path.now ms) result };
 
-    /// Appends the row `type` and the rows of the type.
+    /// Appends the row `type` and the rows of the type. After want of memory some of them may stand behind the members that stood there.
     fn put_choice(&self, members: &mut Vec<(Text, Json)>, alloc: Global) -> Result<(), NoMemory>
         ensures members { OnOk result (pairs_view members.new.items ≡ pairs_view members.old.items ++ table.members self.now) }
+        ensures front { IfErr result (λ _. Continues (pairs_view members.old.items) (pairs_view members.new.items)) }
         ensures back { OnOk result (table.Back self.now) };
 
     /// The same value, in memory of its own.

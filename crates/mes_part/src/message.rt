@@ -37,9 +37,10 @@ pub fn read_message<R: RowList, M: MadeOf<R::Values>, const N: usize>(
     path: &Trail<'_>,
 ) -> Result<M, PartFault>
     requires room { length path.now + R.STEPS ≤ 16 }
+    // So few that what is found of them has room in memory.
     requires most { N ≤ 64 }
-    requires all { length names.now ≤ N }
-    requires rows { R.COUNT ≤ length names.now }
+    requires each { length names.now ≡ N }
+    requires rows { R.COUNT ≡ length names.now }
     requires names { are_names (map (λ n. n.now) names.now) ≡ true }
     requires fits { R.fits (map (λ n. n.now) names.now) 0 ≡ true }
     ensures { (t : Tree) → BeginsWith element.now t
@@ -52,7 +53,7 @@ pub fn read_message<R: RowList, M: MadeOf<R::Values>, const N: usize>(
 
 /// What a message is written as whose rows hold these values.
 pub fn message_tree<R: RowRefs>(alloc: Global, names: &[&str], rows: &R) -> Result<Json, NoMemory>
-    requires { R.COUNT ≤ length names.now }
+    requires { R.COUNT ≡ length names.now }
     ensures tree { IfOk result (λ t. view t
         ≡ object (members_of ((R.table (map (λ n. n.now) names.now) 0).members (R.values rows.now)))) }
     ensures back { OnOk result ((R.table (map (λ n. n.now) names.now) 0).Back (R.values rows.now)) }
@@ -71,9 +72,9 @@ pub fn read_typed<C: Choice, const N: usize>(
     path: &Trail<'_>,
 ) -> Result<C, PartFault>
     requires room { length path.now + C.STEPS ≤ 16 }
+    // So few that what is found of them has room in memory.
     requires most { N ≤ 64 }
-    requires all { length names.now ≤ N }
-    requires rows { C.COUNT ≤ length names.now }
+    requires each { length names.now ≡ N }
     requires names { are_names (map (λ n. n.now) names.now) ≡ true }
     requires fits { map (λ n. n.now) names.now ≡ C.names }
     ensures { (t : Tree) → BeginsWith element.now t → Gives ((message C.table).read path.now t) result }

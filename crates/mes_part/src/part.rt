@@ -62,7 +62,7 @@ pub trait Part: Drop {
         ensures { (t : Tree) → BeginsWith element.now t → Gives (kind.read path.now t) result };
 
     /// The value that a tree is, where it stands at the path, or the first fault. The tree is laid on a tape.
-    fn read(alloc: Global, json: &Json, path: &Path) -> Result<Self, PartFault>
+    final fn read(alloc: Global, json: &Json, path: &Path) -> Result<Self, PartFault>
         requires { length path.now + STEPS ≤ 16 }
         ensures { Gives (kind.read path.now (view json.now)) result }
     {

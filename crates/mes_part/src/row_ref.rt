@@ -1,6 +1,6 @@
 //! What the rows of a message hold, borrowed: each is written under its name, and copied.
 
-ghost use Rattle.std.specs.Prelude.{◌≡◌, ℕ, ◌++◌, List as list, IfOk, OnOk};
+ghost use Rattle.std.specs.Prelude.{◌≡◌, ℕ, ◌++◌, List as list, IfOk, IfErr, OnOk};
 ghost use Rattle.mes_part.specs.Rows.{Table, need, maybe, many, flag};
 ghost use Rattle.mes_part.specs.Written.{pairs_view};
 
@@ -19,7 +19,7 @@ pub trait RowRef {
 
     ghost value: { Self → Self.Value };
 
-    /// Appends the member that it is written as, if it is written.
+    /// Appends the member that it is written as, if it is written. After want of memory the members are as they were.
     fn put_row(
         &self,
         members: &mut Vec<(Text, Json)>,
@@ -27,6 +27,7 @@ pub trait RowRef {
         name: &str,
     ) -> Result<(), NoMemory>
         ensures members { OnOk result (pairs_view members.new.items ≡ pairs_view members.old.items ++ (table name.now).members (value self.now)) }
+        ensures unchanged { IfErr result (λ _. pairs_view members.new.items ≡ pairs_view members.old.items) }
         ensures back { OnOk result ((table name.now).Back (value self.now)) };
 
     /// The same value, in memory of its own.

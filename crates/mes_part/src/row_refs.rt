@@ -1,9 +1,9 @@
 //! What all rows of a message hold, borrowed: written one behind the other, and copied.
 
-ghost use Rattle.std.specs.Prelude.{◌≡◌, ℕ, ◌+◌, ◌≤◌, ◌++◌, List as list, length, map, IfOk, OnOk};
+ghost use Rattle.std.specs.Prelude.{◌≡◌, ℕ, ◌+◌, ◌≤◌, ◌++◌, List as list, length, map, IfOk, IfErr, OnOk};
 ghost use Rattle.mes_part.specs.RowNames.{name_at};
 ghost use Rattle.mes_part.specs.Rows.{Table, no_rows, ◌⨾◌};
-ghost use Rattle.mes_part.specs.Written.{pairs_view};
+ghost use Rattle.mes_part.specs.Written.{pairs_view, Continues};
 
 use crate::row_ref::RowRef;
 use mes_json::{Json, NoMemory, Text};
@@ -20,7 +20,8 @@ pub trait RowRefs {
 
     ghost values: { Self → Self.Values };
 
-    /// Appends the members that they are written as, under the names that stand from a place on.
+    /// Appends the members that they are written as, under the names that stand from a place on. After want of memory
+    /// some of them may stand behind those that stood there.
     fn put_rows(
         &self,
         members: &mut Vec<(Text, Json)>,
@@ -31,6 +32,7 @@ pub trait RowRefs {
         requires { first + COUNT ≤ length names.now }
         ensures members { OnOk result (pairs_view members.new.items
             ≡ pairs_view members.old.items ++ (table (map (λ n. n.now) names.now) first).members (values self.now)) }
+        ensures front { IfErr result (λ _. Continues (pairs_view members.old.items) (pairs_view members.new.items)) }
         ensures back { OnOk result ((table (map (λ n. n.now) names.now) first).Back (values self.now)) };
 
     /// The same values, in memory of their own.
