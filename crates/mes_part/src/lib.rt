@@ -1,5 +1,5 @@
 #![tactic(auto)]
-//! The rows that messages are read and written by: paths into a JSON value, faults, and tables of fields.
+//! Messages as tables of rows, each read, written and copied by its rows; the kinds of values, paths into a JSON value, and faults.
 
 mod boxed_fault;
 mod bytes;
