@@ -9,7 +9,7 @@ ghost use Rattle.mes_part.specs.FoundRows.{IsFound};
 ghost use Rattle.mes_part.specs.Kinds.{Returns};
 ghost use Rattle.mes_part.specs.Parts.{Gives, IsFirstFault};
 ghost use Rattle.mes_part.specs.Paths.{Place, IsPlace};
-ghost use Rattle.mes_part.specs.Written.{pairs_view};
+ghost use Rattle.mes_part.specs.Written.{pairs_view, Continues};
 ghost use Rattle.mes_model.specs.Ids.{id};
 ghost use Rattle.mes_msg.specs.Calls.{call, call_rows, with_body};
 ghost use Rattle.mes_msg.specs.Texts.{IsTextOf, IsFaultOf, canonical_of, Fits, IsRefusalOf};
@@ -324,6 +324,7 @@ fn put_head(
 ) -> Result<(), NoMemory>
     ensures members { OnOk result (pairs_view members.new.items
         ≡ pairs_view members.old.items ++ (type_name, string kind.now) ∷ (codes "framework_id", id.tree framework_id.now) ∷ []) }
+    ensures front { IfErr result (λ _. Continues (pairs_view members.old.items) (pairs_view members.new.items)) }
     ensures back { OnOk result (Returns id framework_id.now) }
 {
     put_type(members, alloc, kind)?;
@@ -341,6 +342,7 @@ fn put_call<T: Part>(
 ) -> Result<(), NoMemory>
     ensures members { OnOk result (pairs_view members.new.items
         ≡ pairs_view members.old.items ++ (type_name, string kind.now) ∷ (codes "framework_id", id.tree framework_id.now) ∷ (name.now, T.kind.tree body.now) ∷ []) }
+    ensures front { IfErr result (λ _. Continues (pairs_view members.old.items) (pairs_view members.new.items)) }
     ensures framework { OnOk result (Returns id framework_id.now) }
     ensures back { OnOk result (Returns T.kind body.now) }
 {

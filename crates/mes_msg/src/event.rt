@@ -1,9 +1,9 @@
 //! An event of the scheduler API.
-ghost use Rattle.std.specs.Prelude.{◌≡◌, [], ◌∷◌, ◌++◌, OnOk};
+ghost use Rattle.std.specs.Prelude.{◌≡◌, [], ◌∷◌, ◌++◌, IfErr, OnOk};
 ghost use Rattle.mes_json.specs.Tree.Tree.{string};
 ghost use Rattle.mes_part.specs.Choices.{type_name};
 ghost use Rattle.mes_part.specs.Kinds.{Returns};
-ghost use Rattle.mes_part.specs.Written.{pairs_view};
+ghost use Rattle.mes_part.specs.Written.{pairs_view, Continues};
 ghost use Rattle.mes_msg.specs.Events.{event_rows};
 
 use crate::bodies::{ErrorBody, Failure, Message, Rescind, Subscribed, Update};
@@ -158,6 +158,7 @@ fn put_body<T: Part>(
     body: &T,
 ) -> Result<(), NoMemory>
     ensures members { OnOk result (pairs_view members.new.items ≡ pairs_view members.old.items ++ (type_name, string kind.now) ∷ (name.now, T.kind.tree body.now) ∷ []) }
+    ensures front { IfErr result (λ _. Continues (pairs_view members.old.items) (pairs_view members.new.items)) }
     ensures back { OnOk result (Returns T.kind body.now) }
 {
     put_type(members, alloc, kind)?;
@@ -171,6 +172,7 @@ fn put_offers(
     list: &List<Offer>,
 ) -> Result<(), NoMemory>
     ensures members { OnOk result (pairs_view members.new.items ≡ pairs_view members.old.items ++ event_rows.members (Event.Offers list.now)) }
+    ensures front { IfErr result (λ _. Continues (pairs_view members.old.items) (pairs_view members.new.items)) }
     ensures back { OnOk result (event_rows.Back (Event.Offers list.now)) }
 {
     put_type(members, alloc, "OFFERS")?;
