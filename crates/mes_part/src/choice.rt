@@ -15,10 +15,13 @@ use std::alloc::Global;
 
 /// A value that has a type, and the rows of that type.
 pub trait Choice: Drop {
+    // The names of the members that are read under one type or more, `type` first.
     ghost names: { list (list ℕ) };
 
+    // The row `type` and the rows of each type.
     ghost table: { Table Self };
 
+    // The most steps from the message to a place in the value.
     ghost STEPS: { ℕ };
 
     ghost COUNT: { ℕ };

@@ -22,6 +22,7 @@ use std::alloc::Global;
 
 /// A value that is made of the values of its rows.
 pub trait MadeOf<V>: Drop {
+    // What the values make.
     ghost to: { V → Self };
 
     /// The value that these make. Takes no memory.

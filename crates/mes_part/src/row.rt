@@ -21,8 +21,10 @@ pub trait Row {
     /// What a row of this kind holds.
     type Value: Drop;
 
+    // The row of this name, as a table.
     ghost table: { list ℕ → Table Self.Value };
 
+    // The most steps from the message to a place in the row.
     ghost STEPS: { ℕ };
 
     /// What the member of this name, of which so much was found, holds; or the first fault.

@@ -18,12 +18,16 @@ pub trait RowList {
     /// What the rows hold, one behind the other.
     type Values: Drop;
 
+    // The table of the rows whose names stand from a place on.
     ghost table: { list (list ℕ) → ℕ → Table Self.Values };
 
+    // How many names the rows have.
     ghost COUNT: { ℕ };
 
+    // The most steps from the message to a place in its rows.
     ghost STEPS: { ℕ };
 
+    // The names of each value with a type stand in its places.
     ghost fits: { list (list ℕ) → ℕ → Bool };
 
     /// What the rows hold whose names stand from a place on, of which so much was found; or the first fault.

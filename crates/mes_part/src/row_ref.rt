@@ -15,8 +15,10 @@ pub trait RowRef {
     /// The same in memory of its own.
     type Value: Drop;
 
+    // The row of this name, as a table.
     ghost table: { list ℕ → Table Self.Value };
 
+    // The value that is borrowed.
     ghost value: { Self → Self.Value };
 
     /// Appends the member that it is written as, if it is written. After want of memory the members are as they were.

@@ -14,10 +14,13 @@ pub trait RowRefs {
     /// The same in memory of its own.
     type Values: Drop;
 
+    // The table of the rows whose names stand from a place on.
     ghost table: { list (list ℕ) → ℕ → Table Self.Values };
 
+    // How many names the rows have.
     ghost COUNT: { ℕ };
 
+    // The values that are borrowed.
     ghost values: { Self → Self.Values };
 
     /// Appends the members that they are written as, under the names that stand from a place on. After want of memory
