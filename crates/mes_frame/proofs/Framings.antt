@@ -1,12 +1,10 @@
 -- What is written for a body is one list of bytes, and is read back as that body; so for records.
-use Rattle.std.proofs.Common.{◌≡◌, ℕ, zero, suc, ◌+◌, ◌*◌, ◌/◌, ◌%◌, ◌^◌, ◌<◌, ◌≤◌, Bool, true, false, cond, ◌==◌, List, [], ◌∷◌, ◌++◌, length, take, drop, map, refl, ap, sym, ◌∙◌, subst, append_assoc, arith, length-append, take-append-drop}
+use Rattle.std.proofs.Common.{◌≡◌, ℕ, zero, suc, ◌+◌, ◌/◌, ◌%◌, ◌^◌, ◌<◌, ◌≤◌, Bool, true, false, cond, ◌==◌, List, [], ◌∷◌, ◌++◌, length, take, drop, map, refl, ap, sym, ◌∙◌, arith, take-append-drop}
 use Rattle.std.proofs.lemmas.Fmt.{digits_is_IsNumeral, decimal_is_IsNumeral, length-decimal-le}
 use Rattle.std.proofs.lemmas.List.{append-nil, length-take}
-use Rattle.std.specs.Char.{digit_value}
 use Rattle.std.specs.Fmt.{digits, digits_onto, digit_glyph}
 use Rattle.std.specs.List.{AllByRecursion, flat_map}
-use Rattle.std.specs.Str.Parse.{AllDigits, digits_value}
-use Rattle.mes_frame.specs.Chunk.{Line, Chunk, IsLine, IsChunk, IsEnding, IsChunked, chunk_bytes, chunks_bytes, data_of, ending}
+use Rattle.mes_frame.specs.Chunk.{Line, Chunk, IsChunk, IsEnding, IsChunked, chunk_bytes, chunks_bytes, data_of}
 use Rattle.mes_frame.specs.Frames.{record_bytes, IsCut, IsFrames, piece_bytes}
 use Rattle.mes_frame.specs.Record.{IsRecord}
 use Rattle.mes_frame.proofs.Chunking.{some_cut}

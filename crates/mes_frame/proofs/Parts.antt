@@ -1,10 +1,9 @@
 -- Writes in parts: what went out and what was counted by two of them, one behind the other.
-use Rattle.std.proofs.Common.{◌≡◌, ℕ, ◌+◌, ◌-◌, ◌^◌, ◌<◌, ◌≤◌, min, List, [], ◌∷◌, ◌++◌, Option, length, take, refl, ap, sym, ◌∙◌, subst, append_assoc, arith, length-append}
+use Rattle.std.proofs.Common.{◌≡◌, ℕ, ◌+◌, ◌<◌, List, [], ◌++◌, Option, length, take, refl, sym, subst, arith, length-append}
 use Rattle.std.proofs.KnownBytes.{Appends-nil, Appends-trans}
 use Rattle.std.proofs.lemmas.Grind.{common_steps}
 use Rattle.std.proofs.Math.Seq.{take-append-add}
 use Rattle.std.specs.Io.KnownBytes.{Appends}
-use Rattle.mes_frame.specs.Counts.{up}
 use Rattle.mes_frame.specs.Write.{NoneFails, StopsWrite, CallsFor}
 use Rattle.mes_frame.specs.Written.{told, WroteFront, WrotePart}
 use Rattle.mes_frame.specs.declared.counts.Counts.{Counts}

@@ -1,10 +1,7 @@
 -- Bodies cut into pieces, and the chunks that are written of them.
-use Rattle.std.proofs.Common.{◌≡◌, ℕ, zero, suc, ◌+◌, ◌-◌, ◌^◌, ◌<◌, ◌≤◌, min, false, Result, Ok, Err, Option, List, [], ◌∷◌, ◌++◌, length, take, drop, refl, ap, sym, ◌∙◌, subst, append_assoc, arith, length-append, length-drop, IfErr}
-use Rattle.std.proofs.lemmas.Grind.{common_steps}
-use Rattle.std.proofs.lemmas.List.{append-nil}
+use Rattle.std.proofs.Common.{◌≡◌, ℕ, false, Result, Ok, Err, Option, List, [], ◌∷◌, ◌++◌, length, ap, ◌∙◌, subst, append_assoc, IfErr}
 use Rattle.std.specs.Fmt.{digits}
-use Rattle.std.specs.List.{flat_map}
-use Rattle.mes_frame.specs.Frames.{IsCut, IsFrames, piece_bytes}
+use Rattle.mes_frame.specs.Frames.{piece_bytes}
 use Rattle.mes_frame.specs.Written.{WrotePart}
 use Rattle.mes_frame.specs.declared.counts.Counts.{Counts}
 use Rattle.mes_frame.specs.declared.write.WriteFault.{WriteFault}

@@ -4,7 +4,6 @@ use Rattle.std.specs.Str.Parse.{digits_value}
 use Rattle.mes_frame.specs.Chunk.{Line, size_of, Chunk, IsChunk, chunk_bytes, trailers_bytes, IsChunked}
 use Rattle.mes_frame.specs.ChunkFront.{InSize, InExtension, AfterLine, InData, AfterData, InTrailer, AfterTrailer, AfterEnding, After}
 use Rattle.mes_frame.specs.ChunkFaults.{PartShows, ChunkShows}
-use Rattle.mes_frame.specs.declared.fault.FrameFault.{FrameFault}
 use Rattle.mes_frame.specs.declared.chunk.Place.{Place}
 use Rattle.mes_frame.specs.declared.chunk.Place.TheVariants.{Size, Extension, LineEnd, Data, DataEnd, Trailer, TrailerEnd, End, Closed, Failed}
 use Rattle.mes_frame.specs.declared.chunk.ChunkOut as out

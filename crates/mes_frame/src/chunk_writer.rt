@@ -6,6 +6,7 @@ ghost use Rattle.mes_frame.specs.Write.{NoneFails, CallsFor, StopsWrite};
 ghost use Rattle.mes_frame.specs.Written.{told, WroteFront, WrotePart};
 
 use crate::device::Sink;
+use crate::limits::{CHUNK_LEAST, CHUNK_MOST};
 use crate::part_writer::write_part;
 use crate::size_line::{CHUNK_LINE_LENGTH, chunk_line};
 use crate::write::WriteFault;
@@ -13,8 +14,8 @@ use crate::write::WriteFault;
 /// Writes a chunked body with this data: chunks of `most` bytes, the last one with what is left, each size in lower-case
 /// hexadecimal digits without leading zeros, and then the last chunk, `0`, without trailer lines. It takes no memory.
 pub fn write_chunked<W: Sink>(writer: &mut W, body: &[u8], most: u32) -> Result<(), WriteFault>
-    requires least { 1 ≤ most }
-    requires greatest { most ≤ 16777216 }
+    requires least { CHUNK_LEAST ≤ most }
+    requires greatest { most ≤ CHUNK_MOST }
     // Ok: the whole chunked body went out, and no call failed or took none.
     ensures ok { OnOk result ((w : List ℕ) × IsFrames body.now most w × Appends (W.written writer.old) (W.written writer.new) w) }
     ensures ok_counts { OnOk result (NoneFails (W.counts writer.old) (W.counts writer.new)) }

@@ -11,7 +11,10 @@ ghost use Rattle.mes_frame.specs.RecordState.{RecordStands, limit_of, fault_of};
 ghost use Rattle.mes_frame.specs.declared.chunk.ChunkState.{ChunkState};
 ghost use Rattle.mes_frame.specs.declared.record.RecordState.{RecordState};
 
-use crate::limits::{CHUNK_LINE_LIMIT, TRAILERS_LIMIT};
+use crate::limits::{
+    CHUNK_LEAST, CHUNK_LINE_LIMIT, CHUNK_MOST, RECORD_LIMIT_LEAST, RECORD_LIMIT_MOST,
+    RECORD_LIMIT_USUAL, SIZE_DIGITS, TRAILERS_LIMIT,
+};
 
 /// Bytes begin with one record at most, whatever the limit, and it has one list of data.
 pub fn one_record()
@@ -53,10 +56,13 @@ pub fn one_chunk_state()
         → (s ≡ t) × (body ≡ other) }
 {}
 
-/// The limits of a chunked body.
-pub fn chunk_limits()
+/// The limits of records, of chunked bodies that are read, and of chunks that are written.
+pub fn frame_limits()
+    ensures records { (RECORD_LIMIT_LEAST ≡ 1) × (RECORD_LIMIT_USUAL ≡ 4194304) × (RECORD_LIMIT_MOST ≡ 67108864) }
+    ensures digits { SIZE_DIGITS ≡ 20 }
     ensures line { CHUNK_LINE_LIMIT ≡ 256 }
     ensures trailers { TRAILERS_LIMIT ≡ 4096 }
+    ensures chunks { (CHUNK_LEAST ≡ 1) × (CHUNK_MOST ≡ 16777216) }
 {}
 
 /// A body in chunks of a size is written in exactly one way.

@@ -24,11 +24,14 @@ pub use crate::counts::Counts;
 pub use crate::device::{Sink, Source};
 pub use crate::fault::FrameFault;
 pub use crate::laws::{
-    chunk_limits, one_chunk_reading, one_chunk_state, one_framing, one_record, one_record_reading,
+    frame_limits, one_chunk_reading, one_chunk_state, one_framing, one_record, one_record_reading,
     one_record_state, written_is_read,
 };
 pub use crate::limit::Limit;
-pub use crate::limits::{CHUNK_LINE_LIMIT, TRAILERS_LIMIT};
+pub use crate::limits::{
+    CHUNK_LEAST, CHUNK_LINE_LIMIT, CHUNK_MOST, RECORD_LIMIT_LEAST, RECORD_LIMIT_MOST,
+    RECORD_LIMIT_USUAL, SIZE_DIGITS, TRAILERS_LIMIT,
+};
 pub use crate::memory_sink::{MemorySink, MemoryStop};
 pub use crate::memory_source::MemorySource;
 pub use crate::record::{RecordOut, RecordState};

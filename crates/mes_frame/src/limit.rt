@@ -1,40 +1,45 @@
-//! How many bytes a record may have, and how many digits its size line.
-ghost use Rattle.std.specs.Prelude.{◌≡◌, ℕ, ◌≤◌};
+//! How many bytes a record may have.
+ghost use Rattle.std.specs.Prelude.{◌≡◌, ◌≤◌};
 ghost use Rattle.std.specs.Option.{SomeIff};
 
+use crate::limits::{RECORD_LIMIT_LEAST, RECORD_LIMIT_MOST, RECORD_LIMIT_USUAL};
 use std::marker::Model;
 
-// As many digits as the largest number of 64 bits has, `18446744073709551615`.
-pub(crate) const SIZE_DIGITS: u8 = 20;
-
-/// The most bytes that the data of one record may have: 1 to 16,777,216 (16 MiB).
+/// The most bytes that the data of one record may have: `RECORD_LIMIT_LEAST` to `RECORD_LIMIT_MOST`.
 #[derive(Clone, Copy, Debug, PartialEq, Eq)]
 pub struct Limit {
     bytes: u32,
 }
 
 impl Model for Limit {
+    ghost use Rattle.std.specs.Prelude.{ℕ, ◌≤◌};
+    ghost use Rattle.mes_frame.specs.declared.limits.TheConstants.{RECORD_LIMIT_LEAST, RECORD_LIMIT_MOST};
+
     ghost Value = { ℕ };
 
     ghost view = { λ l. l.bytes };
 
-    ghost invariant = { λ l. (1 ≤ l.bytes) × (l.bytes ≤ 16777216) };
+    ghost invariant = { λ l. (RECORD_LIMIT_LEAST ≤ l.bytes) × (l.bytes ≤ RECORD_LIMIT_MOST) };
 
     ghost inverse = { λ n. record { bytes = n } };
 }
 
 impl Limit {
-    /// The limit that serves where nobody chose one: 4 MiB.
-    pub const USUAL: Limit = Limit { bytes: 4_194_304 };
+    /// The limit that serves where nobody chose one.
+    pub const USUAL: Limit = Limit {
+        bytes: RECORD_LIMIT_USUAL,
+    };
 
-    /// The largest limit: 16 MiB.
-    pub const MOST: Limit = Limit { bytes: 16_777_216 };
+    /// The largest limit.
+    pub const MOST: Limit = Limit {
+        bytes: RECORD_LIMIT_MOST,
+    };
 
     /// A limit of so many bytes, if a limit may be that.
     pub fn new(bytes: u32) -> Option<Limit>
-        ensures { SomeIff result ((1 ≤ bytes) × (bytes ≤ 16777216)) bytes }
+        ensures { SomeIff result ((RECORD_LIMIT_LEAST ≤ bytes) × (bytes ≤ RECORD_LIMIT_MOST)) bytes }
     {
-        if 1 <= bytes && bytes <= Limit::MOST.bytes {
+        if RECORD_LIMIT_LEAST <= bytes && bytes <= RECORD_LIMIT_MOST {
             Some(Limit { bytes })
         } else {
             None

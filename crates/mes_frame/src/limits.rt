@@ -1,7 +1,57 @@
-//! The limits of a chunked body. Those of a record are `Limit` and the digits of its size line.
+//! The limits of records and of chunked bodies. A number that a text names too, as one of `--help` does, is a macro that
+//! hands it on, as a literal, to another: `record_limit_most!(concat "up to ")` is the text.
 
-/// The most bytes of a chunk's line before its CRLF.
+/// Hands on the record limit where nobody chose one, in bytes: 4 MiB.
+#[macro_export]
+macro_rules! record_limit_usual {
+    ($told:ident $($front:literal)?) => {
+        $told!($($front,)? 4_194_304)
+    };
+}
+
+/// Hands on the largest record limit, in bytes: 64 MiB.
+#[macro_export]
+macro_rules! record_limit_most {
+    ($told:ident $($front:literal)?) => {
+        $told!($($front,)? 67_108_864)
+    };
+}
+
+/// Hands on the most bytes of a chunk that is written: 16 MiB.
+#[macro_export]
+macro_rules! chunk_most {
+    ($told:ident $($front:literal)?) => {
+        $told!($($front,)? 16_777_216)
+    };
+}
+
+/// The number that a limit's macro hands on.
+macro_rules! number {
+    ($number:literal) => {
+        $number
+    };
+}
+
+/// The least record limit, in bytes.
+pub const RECORD_LIMIT_LEAST: u32 = 1;
+
+/// The record limit where nobody chose one, in bytes: 4 MiB.
+pub const RECORD_LIMIT_USUAL: u32 = record_limit_usual!(number);
+
+/// The largest record limit, in bytes: 64 MiB.
+pub const RECORD_LIMIT_MOST: u32 = record_limit_most!(number);
+
+/// The most digits of a record's size line: as many as the largest number of 64 bits has, `18446744073709551615`.
+pub const SIZE_DIGITS: u8 = 20;
+
+/// The most bytes of a chunk's line before its CRLF, of a chunked body that is read.
 pub const CHUNK_LINE_LIMIT: u16 = 256;
 
 /// The most bytes of all trailer lines with their CRLFs; the empty line that ends the body is not counted.
 pub const TRAILERS_LIMIT: u16 = 4096;
+
+/// The least bytes of a chunk that is written.
+pub const CHUNK_LEAST: u32 = 1;
+
+/// The most bytes of a chunk that is written: 16 MiB.
+pub const CHUNK_MOST: u32 = chunk_most!(number);

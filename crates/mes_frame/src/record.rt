@@ -7,7 +7,8 @@ ghost use Rattle.mes_frame.specs.Record.{Begun, DataBegun, SizeBegun};
 ghost use Rattle.mes_frame.specs.RecordState.{SizeKept, PlaceStands, RecordStands, RecordSteps, RecordPasses, OutWith, state_at, limit_of, fault_at, fault_of, room_at, room_of};
 
 use crate::fault::FrameFault;
-use crate::limit::{Limit, SIZE_DIGITS};
+use crate::limit::Limit;
+use crate::limits::SIZE_DIGITS;
 
 /// What a byte was to the reader of records.
 #[derive(Clone, Copy, Debug, PartialEq, Eq)]

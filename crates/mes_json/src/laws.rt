@@ -10,7 +10,7 @@ ghost use Rattle.mes_json.specs.Lexer.{HasLexed, IsOutOfMemory, IsBounded, Holds
 ghost use Rattle.mes_json.specs.declared.fault.TextFault.{TextFault as Fault};
 
 use crate::lexer::Lexer;
-use crate::limits::NESTING_LIMIT;
+use crate::limits::{NESTING_LIMIT, ROOM_KEPT, SHORT_TEXT_MOST, TEXTS_MOST};
 
 /// Bytes are a JSON text or have a fault; the text is of one tree, and there is one fault.
 pub fn one_text_reading()
@@ -41,7 +41,8 @@ pub fn inner_grows()
     ensures within { (p : List ℕ) → inner p ≤ length p }
 {}
 
-/// Arrays and objects nest at most 64 deep.
-pub fn nesting_limit()
-    ensures { NESTING_LIMIT ≡ 64 }
+/// Arrays and objects nest at most 128 deep; and how much memory a text or a tape has without more, or at most.
+pub fn json_limits()
+    ensures nesting { NESTING_LIMIT ≡ 128 }
+    ensures memory { (SHORT_TEXT_MOST ≡ 16) × (TEXTS_MOST ≡ 4294967295) × (ROOM_KEPT ≡ 16777216) }
 {}

@@ -49,8 +49,8 @@ pub(crate) fn tell_lengths(nodes: &mut [Node])
 /// The ends of the arrays and objects that begin before a place.
 #[derive(Drop)]
 struct Ends {
-    /// How many nodes stand behind each, the nearest end last.
-    behind: ArrayVec<usize, NESTING_LIMIT>,
+    /// How many nodes stand behind each, the nearest end last: in 32 bits, since the room is cleared for each record.
+    behind: ArrayVec<u32, NESTING_LIMIT>,
 }
 
 impl Ends {
@@ -79,15 +79,19 @@ impl Ends {
         }
     }
 
-    /// An end that stands before so many nodes. Of more than can be open, only the nearest is kept.
+    /// An end that stands before so many nodes. Of more than can be open, only the nearest is kept, and none where the count has no
+    /// room.
     #[inline(always)]
     fn end(&mut self, behind: usize)
         ensures { (found : List ℕ) → AreOpenEnds self.old.behind.items found → AreOpenEnds self.new.behind.items (behind ∷ found) }
     {
+        if behind > u32::MAX as usize {
+            return self.behind.clear();
+        }
         if self.behind.is_full() {
             self.behind.clear();
         }
-        self.behind.push(behind);
+        self.behind.push(behind as u32);
     }
 
     /// How many of so many nodes an array or an object has that begins before them; 0 where that is not known.
@@ -97,7 +101,7 @@ impl Ends {
         ensures length { (found : List ℕ) → AreOpenEnds self.old.behind.items found → IsRestOf result behind found }
     {
         match self.behind.pop() {
-            Some(end) => kept_length(behind.saturating_sub(end)),
+            Some(end) => kept_length(behind.saturating_sub(end as usize)),
             None => 0,
         }
     }

@@ -40,7 +40,7 @@ mod write_string;
 pub use cursor::{Element, Items, Members};
 pub use fault::{ReadFault, TextFault, Why};
 pub use laws::{
-    canonical_text, inner_grows, lexer_bound, lexer_lets_go, nesting_limit, one_text_reading,
+    canonical_text, inner_grows, json_limits, lexer_bound, lexer_lets_go, one_text_reading,
 };
 pub use length::text_length;
 pub use lexer::Lexer;

@@ -1,7 +1,7 @@
 //! The limits that this crate keeps to.
 
 /// How deep the arrays and objects of a JSON text may nest (RFC 8259, section 9, lets a reader set this limit).
-pub const NESTING_LIMIT: usize = 64;
+pub const NESTING_LIMIT: usize = 128;
 
 /// How many bytes of texts, and as many of nodes, a lexer takes over from a tape; the memory of a longer one is given back.
 pub const ROOM_KEPT: usize = 16 * 1024 * 1024;

@@ -5,6 +5,7 @@ use crate::limits::SHORT_TEXT_MOST;
 use crate::memory::NoMemory;
 use arrayvec::ArrayString;
 use std::alloc::Global;
+use std::hash::{Hash, Hasher};
 use std::marker::Model;
 
 /// A text in well-formed UTF-8 (RFC 3629). One of at most `SHORT_TEXT_MOST` bytes, as most names and roles are, takes no memory
@@ -106,4 +107,18 @@ impl Eq for Text {
     ghost use Rattle.std.specs.Cmp.Rules.{comparing};
 
     ghost laws = { Prim.search (comparing, rules) };
+}
+
+impl Hash for Text {
+    ghost use Rattle.std.proofs.Common.{rules};
+    ghost use Rattle.std.specs.Cmp.Rules.{hashing};
+    ghost use Rattle.std.specs.Hash as fed;
+
+    ghost hash_input = { fed.str };
+
+    ghost respects_eq = { Prim.search (hashing, rules) };
+
+    fn hash<H: Hasher>(&self, state: &mut H) {
+        self.as_str().hash(state);
+    }
 }

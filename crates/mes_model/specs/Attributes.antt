@@ -7,7 +7,8 @@ use Rattle.mes_part.specs.Rows.{Table, need, mapped}
 use Rattle.mes_part.specs.Layouts.{Layout, needs, rows_of, no_more, ◌⨾⨾◌, laid_out, kind_of, lawful_kind, returns_kind}
 use Rattle.mes_part.specs.Choices.{no_other, case, typed}
 use Rattle.mes_part.specs.KindLaws.{lawful_texts}
-use Rattle.mes_part.specs.RowLaws.{LawfulTable, lawful_need, lawful_mapped}
+use Rattle.mes_part.specs.RowLaws.{LawfulTable, lawful_need}
+use Rattle.mes_part.specs.MessageLaws.{lawful_mapped}
 use Rattle.mes_part.specs.ChoiceLaws.{lawful_no_other, lawful_case, lawful_typed}
 use Rattle.mes_part.specs.declared.field.FieldWhy.TheVariants.{UnknownName}
 use Rattle.mes_model.specs.Values.{scalar, ranges, set, text_value, lawful_scalar, lawful_ranges, lawful_set, lawful_text_value}
@@ -58,13 +59,13 @@ to_from_attribute_value (OfRanges v) = refl
 to_from_attribute_value (OfSet v) = refl
 to_from_attribute_value (OfText v) = refl
 
-pub lawful_attribute_value_rows : LawfulTable attribute_value_rows
+pub lawful_attribute_value_rows : LawfulTable attribute_value_rows 4
 lawful_attribute_value_rows =
-    lawful_mapped _ _ (lawful_typed (
-    lawful_case (lawful_need lawful_scalar) (lawful_case (lawful_need lawful_ranges) (
-    lawful_case (lawful_need lawful_set) (lawful_case (lawful_need lawful_text_value) lawful_no_other)
-    ))
-    ) refl) to_from_attribute_value
+    lawful_mapped _ _ (
+    lawful_typed (lawful_need lawful_scalar) (
+    lawful_case (lawful_need lawful_ranges) (lawful_case (lawful_need lawful_set) (lawful_case (lawful_need lawful_text_value) lawful_no_other))
+    ) refl
+    ) to_from_attribute_value
 
 -- name !, its value
 abbrev pub attribute_layout : Layout Attribute
@@ -78,9 +79,9 @@ attribute_layout =
 unfoldable pub attribute : Kind Attribute
 attribute = kind_of attribute_layout
 
-pub lawful_attribute : Lawful attribute
+pub lawful_attribute : Lawful attribute attribute_layout.rows.steps
 unfolding attribute
-lawful_attribute = lawful_kind attribute_layout
+lawful_attribute = lawful_kind attribute_layout refl
 
 pub attribute_back : (v : Attribute) → attribute_layout.rows.table.Back (attribute_layout.from v) → Returns attribute v
 unfolding attribute

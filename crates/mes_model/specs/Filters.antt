@@ -18,9 +18,9 @@ filters_layout =
 unfoldable pub filters : Kind Filters
 filters = kind_of filters_layout
 
-pub lawful_filters : Lawful filters
+pub lawful_filters : Lawful filters filters_layout.rows.steps
 unfolding filters
-lawful_filters = lawful_kind filters_layout
+lawful_filters = lawful_kind filters_layout refl
 
 pub filters_back : (v : Filters) → filters_layout.rows.table.Back (filters_layout.from v) → Returns filters v
 unfolding filters

@@ -22,9 +22,9 @@ capability_layout =
 unfoldable pub capability : Kind Capability
 capability = kind_of capability_layout
 
-pub lawful_capability : Lawful capability
+pub lawful_capability : Lawful capability capability_layout.rows.steps
 unfolding capability
-lawful_capability = lawful_kind capability_layout
+lawful_capability = lawful_kind capability_layout refl
 
 pub capability_back : (v : Capability) → capability_layout.rows.table.Back (capability_layout.from v) → Returns capability v
 unfolding capability
@@ -59,9 +59,9 @@ framework_info_layout =
 unfoldable pub framework_info : Kind FrameworkInfo
 framework_info = kind_of framework_info_layout
 
-pub lawful_framework_info : Lawful framework_info
+pub lawful_framework_info : Lawful framework_info framework_info_layout.rows.steps
 unfolding framework_info
-lawful_framework_info = lawful_kind framework_info_layout
+lawful_framework_info = lawful_kind framework_info_layout refl
 
 pub framework_info_back : (v : FrameworkInfo) → framework_info_layout.rows.table.Back (framework_info_layout.from v) → Returns framework_info v
 unfolding framework_info

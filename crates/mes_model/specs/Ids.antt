@@ -18,9 +18,9 @@ id_layout =
 unfoldable pub id : Kind Id
 id = kind_of id_layout
 
-pub lawful_id : Lawful id
+pub lawful_id : Lawful id id_layout.rows.steps
 unfolding id
-lawful_id = lawful_kind id_layout
+lawful_id = lawful_kind id_layout refl
 
 pub id_back : (v : Id) → id_layout.rows.table.Back (id_layout.from v) → Returns id v
 unfolding id

@@ -8,5 +8,6 @@ pub mod Tasks
 pub mod Frameworks
 pub mod Filters
 pub mod TaskStates
+pub mod Times
 pub mod TaskStatuses
 pub mod Owed

@@ -38,9 +38,9 @@ offer_layout =
 unfoldable pub offer : Kind Offer
 offer = kind_of offer_layout
 
-pub lawful_offer : Lawful offer
+pub lawful_offer : Lawful offer offer_layout.rows.steps
 unfolding offer
-lawful_offer = lawful_kind offer_layout
+lawful_offer = lawful_kind offer_layout refl
 
 pub offer_back : (v : Offer) → offer_layout.rows.table.Back (offer_layout.from v) → Returns offer v
 unfolding offer

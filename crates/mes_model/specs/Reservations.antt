@@ -20,9 +20,9 @@ allocation_layout =
 unfoldable pub allocation : Kind Allocation
 allocation = kind_of allocation_layout
 
-pub lawful_allocation : Lawful allocation
+pub lawful_allocation : Lawful allocation allocation_layout.rows.steps
 unfolding allocation
-lawful_allocation = lawful_kind allocation_layout
+lawful_allocation = lawful_kind allocation_layout refl
 
 pub allocation_back : (v : Allocation) → allocation_layout.rows.table.Back (allocation_layout.from v) → Returns allocation v
 unfolding allocation
@@ -42,9 +42,9 @@ reservation_layout =
 unfoldable pub reservation : Kind Reservation
 reservation = kind_of reservation_layout
 
-pub lawful_reservation : Lawful reservation
+pub lawful_reservation : Lawful reservation reservation_layout.rows.steps
 unfolding reservation
-lawful_reservation = lawful_kind reservation_layout
+lawful_reservation = lawful_kind reservation_layout refl
 
 pub reservation_back : (v : Reservation) → reservation_layout.rows.table.Back (reservation_layout.from v) → Returns reservation v
 unfolding reservation

@@ -7,7 +7,8 @@ use Rattle.mes_part.specs.Rows.{Table, need, mapped}
 use Rattle.mes_part.specs.Layouts.{Layout, needs, may_have, lists, flags, rows_of, no_more, ◌⨾⨾◌, laid_out, kind_of, lawful_kind, returns_kind}
 use Rattle.mes_part.specs.Choices.{no_other, case, typed}
 use Rattle.mes_part.specs.KindLaws.{lawful_texts, lawful_objects}
-use Rattle.mes_part.specs.RowLaws.{LawfulTable, lawful_need, lawful_mapped}
+use Rattle.mes_part.specs.RowLaws.{LawfulTable, lawful_need}
+use Rattle.mes_part.specs.MessageLaws.{lawful_mapped}
 use Rattle.mes_part.specs.ChoiceLaws.{lawful_no_other, lawful_case, lawful_typed}
 use Rattle.mes_part.specs.declared.field.FieldWhy.TheVariants.{UnknownName}
 use Rattle.mes_model.specs.Ids.{id, lawful_id}
@@ -54,11 +55,11 @@ to_from_resource_value (OfScalar v) = refl
 to_from_resource_value (OfRanges v) = refl
 to_from_resource_value (OfSet v) = refl
 
-pub lawful_resource_value_rows : LawfulTable resource_value_rows
+pub lawful_resource_value_rows : LawfulTable resource_value_rows 4
 lawful_resource_value_rows =
-    lawful_mapped _ _ (lawful_typed (
-    lawful_case (lawful_need lawful_scalar) (lawful_case (lawful_need lawful_ranges) (lawful_case (lawful_need lawful_set) lawful_no_other))
-    ) refl) to_from_resource_value
+    lawful_mapped _ _ (
+    lawful_typed (lawful_need lawful_scalar) (lawful_case (lawful_need lawful_ranges) (lawful_case (lawful_need lawful_set) lawful_no_other)) refl
+    ) to_from_resource_value
 
 -- name !, its value, role ?, allocation_info ?, reservation ?, reservations *, disk ?, revocable, shared, provider_id ?
 abbrev pub resource_layout : Layout Resource
@@ -91,9 +92,9 @@ resource_layout =
 unfoldable pub resource : Kind Resource
 resource = kind_of resource_layout
 
-pub lawful_resource : Lawful resource
+pub lawful_resource : Lawful resource resource_layout.rows.steps
 unfolding resource
-lawful_resource = lawful_kind resource_layout
+lawful_resource = lawful_kind resource_layout refl
 
 pub resource_back : (v : Resource) → resource_layout.rows.table.Back (resource_layout.from v) → Returns resource v
 unfolding resource

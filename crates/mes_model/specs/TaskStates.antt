@@ -1,16 +1,19 @@
 -- The states of a task and their names.
 use Rattle.std.specs.Prelude.{◌≡◌, ℕ, List, [], ◌∷◌, bytes_eq, codes, if◌then◌else◌, Option, Some, None, Result, Ok}
-use Rattle.std.proofs.Common.{Bool, true, false, refl, sym, ◌∙◌, ap}
-use Rattle.mes_json.specs.Tree.Tree.{string}
+use Rattle.std.proofs.Common.{inl, inr, Bool, true, false, length, refl, sym, ◌∙◌, ap, arith}
+use Rattle.std.specs.Prelude.{Err}
+use Rattle.mes_json.specs.Tree.Tree.{boolean, string}
+use Rattle.mes_json.specs.Cursor.{as_text}
 use Rattle.mes_part.specs.Paths.{Place}
 use Rattle.mes_part.specs.Fields.{fault}
-use Rattle.mes_part.specs.Kinds.{Kind, Lawful, ◌>>=◌}
+use Rattle.mes_part.specs.Kinds.{Kind, Lawful, Within, ◌>>=◌}
 use Rattle.mes_part.specs.Leaves.{text_of}
 use Rattle.mes_part.specs.KindLaws.{text_is}
-use Rattle.mes_part.specs.FieldLaws.{bound}
+use Rattle.mes_part.specs.FieldLaws.{bound, broken}
+use Rattle.mes_part.specs.StepLaws.{fault_there, expected_there, breaks_there}
 use Rattle.mes_part.specs.NameLaws.{names_equal}
 use Rattle.mes_part.specs.declared.field.FieldFault.{FieldFault}
-use Rattle.mes_part.specs.declared.field.FieldWhy.TheVariants.{UnknownName}
+use Rattle.mes_part.specs.declared.field.FieldWhy.TheVariants.{WrongKind, UnknownName}
 use Rattle.mes_model.specs.declared.task_state.TaskState.{TaskState}
 use Rattle.mes_model.specs.declared.task_state.TaskState.TheVariants.{Staging, Starting, Running, Killing, Finished, Failed, Killed, Error, Lost, Dropped, Unreachable, Gone, GoneByOperator, Unknown}
 
@@ -102,7 +105,11 @@ known_only : (at : List Place) (found : Option TaskState) (state : TaskState) �
 known_only at (Some other) state e = cc
 known_only at None state e = absurd (cc)
 
-pub lawful_states : Lawful states
+known_there : (at : List Place) (found : Option TaskState) (f : FieldFault) → known_state at found ≡ Err f → length f.path ≡ length at
+known_there at (Some state) f e = absurd (cc)
+known_there at None f e = fault_there at UnknownName f e
+
+pub lawful_states : Lawful states 0
 unfolding states
 lawful_states = record {
   sound = λ at t state e.
@@ -110,4 +117,12 @@ lawful_states = record {
       text_is at t named.0 named.1 ∙ ap (λ (name : List ℕ). string name) (sym (state_named named.0 state (known_only at (state_of named.0) state named.2)));
   complete = λ at t state e. rw e (rw (found_by_name state) refl);
   no_null = λ state e. absurd (cc);
-}
+  sample = (string (state_name Unknown), Unknown, refl);
+  within = within;
+  reached = breaks_there states (boolean true) WrongKind (λ e. absurd (cc)) (λ at. refl);
+} where
+  within : Within states 0
+  within at t f e = elim (broken (text_of at t) _ f e) [
+    | inl h ↦ omega (arith, expected_there at (as_text t) f h)
+    | inr h ↦ omega (arith, known_there at (state_of h.0) f h.2)
+  ]

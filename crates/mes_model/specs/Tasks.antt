@@ -24,9 +24,9 @@ command_layout =
 unfoldable pub command : Kind Command
 command = kind_of command_layout
 
-pub lawful_command : Lawful command
+pub lawful_command : Lawful command command_layout.rows.steps
 unfolding command
-lawful_command = lawful_kind command_layout
+lawful_command = lawful_kind command_layout refl
 
 pub command_back : (v : Command) → command_layout.rows.table.Back (command_layout.from v) → Returns command v
 unfolding command
@@ -55,9 +55,9 @@ task_info_layout =
 unfoldable pub task_info : Kind TaskInfo
 task_info = kind_of task_info_layout
 
-pub lawful_task_info : Lawful task_info
+pub lawful_task_info : Lawful task_info task_info_layout.rows.steps
 unfolding task_info
-lawful_task_info = lawful_kind task_info_layout
+lawful_task_info = lawful_kind task_info_layout refl
 
 pub task_info_back : (v : TaskInfo) → task_info_layout.rows.table.Back (task_info_layout.from v) → Returns task_info v
 unfolding task_info
@@ -75,9 +75,9 @@ task_ref_layout =
 unfoldable pub task_ref : Kind TaskRef
 task_ref = kind_of task_ref_layout
 
-pub lawful_task_ref : Lawful task_ref
+pub lawful_task_ref : Lawful task_ref task_ref_layout.rows.steps
 unfolding task_ref
-lawful_task_ref = lawful_kind task_ref_layout
+lawful_task_ref = lawful_kind task_ref_layout refl
 
 pub task_ref_back : (v : TaskRef) → task_ref_layout.rows.table.Back (task_ref_layout.from v) → Returns task_ref v
 unfolding task_ref

@@ -24,9 +24,9 @@ scalar_layout =
 unfoldable pub scalar : Kind Scalar
 scalar = kind_of scalar_layout
 
-pub lawful_scalar : Lawful scalar
+pub lawful_scalar : Lawful scalar scalar_layout.rows.steps
 unfolding scalar
-lawful_scalar = lawful_kind scalar_layout
+lawful_scalar = lawful_kind scalar_layout refl
 
 pub scalar_back : (v : Scalar) → scalar_layout.rows.table.Back (scalar_layout.from v) → Returns scalar v
 unfolding scalar
@@ -44,9 +44,9 @@ range_layout =
 unfoldable pub range : Kind Range
 range = kind_of range_layout
 
-pub lawful_range : Lawful range
+pub lawful_range : Lawful range range_layout.rows.steps
 unfolding range
-lawful_range = lawful_kind range_layout
+lawful_range = lawful_kind range_layout refl
 
 pub range_back : (v : Range) → range_layout.rows.table.Back (range_layout.from v) → Returns range v
 unfolding range
@@ -63,9 +63,9 @@ ranges_layout =
 unfoldable pub ranges : Kind Ranges
 ranges = kind_of ranges_layout
 
-pub lawful_ranges : Lawful ranges
+pub lawful_ranges : Lawful ranges ranges_layout.rows.steps
 unfolding ranges
-lawful_ranges = lawful_kind ranges_layout
+lawful_ranges = lawful_kind ranges_layout refl
 
 pub ranges_back : (v : Ranges) → ranges_layout.rows.table.Back (ranges_layout.from v) → Returns ranges v
 unfolding ranges
@@ -82,9 +82,9 @@ set_layout =
 unfoldable pub set : Kind Set
 set = kind_of set_layout
 
-pub lawful_set : Lawful set
+pub lawful_set : Lawful set set_layout.rows.steps
 unfolding set
-lawful_set = lawful_kind set_layout
+lawful_set = lawful_kind set_layout refl
 
 pub set_back : (v : Set) → set_layout.rows.table.Back (set_layout.from v) → Returns set v
 unfolding set
@@ -101,9 +101,9 @@ text_value_layout =
 unfoldable pub text_value : Kind TextValue
 text_value = kind_of text_value_layout
 
-pub lawful_text_value : Lawful text_value
+pub lawful_text_value : Lawful text_value text_value_layout.rows.steps
 unfolding text_value
-lawful_text_value = lawful_kind text_value_layout
+lawful_text_value = lawful_kind text_value_layout refl
 
 pub text_value_back : (v : TextValue) → text_value_layout.rows.table.Back (text_value_layout.from v) → Returns text_value v
 unfolding text_value

@@ -40,7 +40,7 @@ impl AttributeValue {
 }
 
 impl Choice for AttributeValue {
-    ghost use Rattle.mes_model.specs.Attributes.{attribute_value_names, attribute_value_rows};
+    ghost use Rattle.mes_model.specs.Attributes.{attribute_value_names, attribute_value_rows, lawful_attribute_value_rows};
     ghost use Rattle.std.specs.Prelude.{refl};
 
     ghost names = { attribute_value_names };
@@ -54,6 +54,8 @@ impl Choice for AttributeValue {
     const COUNT: usize = 5;
 
     ghost counted = { refl };
+
+    ghost lawful = { lawful_attribute_value_rows };
 
     #[tactic(auto, using(mes_part::specs::NameLaws::names_differ))]
     fn read_choice(

@@ -8,7 +8,7 @@ use mes_part::{
 use std::alloc::Global;
 
 /// An identifier: of an offer, a framework, an agent, an executor, a provider of resources.
-#[derive(Debug, Drop)]
+#[derive(Debug, Drop, PartialEq, Eq, Hash)]
 pub struct Id {
     /// The identifier.
     pub value: Text,

@@ -17,6 +17,7 @@ mod task_ref;
 mod task_state;
 mod task_status;
 mod text_value;
+mod time_info;
 mod value;
 
 pub use allocation::Allocation;
@@ -26,9 +27,9 @@ pub use filters::Filters;
 pub use framework_info::{Capability, FrameworkInfo};
 pub use id::Id;
 pub use mes_part::{
-    BoxedFault, Bytes, FieldFault, FieldWhy, Kept, Label, Labels, List, PATH_TEXT_MOST, Part,
-    PartFault, Path, STEPS_MOST, Step, Trail, copy_list, list_returned, list_tree, one_answer,
-    one_list, read_list, read_part, returned, written_again,
+    BoxedFault, Bytes, FieldFault, FieldWhy, Kept, Label, Labels, List, NAME_MOST, PATH_TEXT_MOST,
+    Part, PartFault, Path, STEPS_MOST, Step, Trail, copy_list, list_returned, list_tree,
+    most_steps, one_answer, one_list, read_list, read_part, returned, written_again,
 };
 pub use offer::Offer;
 pub use owed_key::OwedKey;
@@ -39,4 +40,5 @@ pub use task_ref::TaskRef;
 pub use task_state::TaskState;
 pub use task_status::TaskStatus;
 pub use text_value::TextValue;
+pub use time_info::TimeInfo;
 pub use value::{Range, Ranges, Scalar, Set};

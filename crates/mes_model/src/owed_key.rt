@@ -1,14 +1,14 @@
 //! What names an acknowledgement that is owed.
 
-ghost use Rattle.std.specs.Prelude.{◌≡◌, IsTrue, ◌↔◌, IfOk};
+ghost use Rattle.std.specs.Prelude.{◌≡◌, IfOk};
 
 use crate::id::Id;
 use mes_json::NoMemory;
 use mes_part::{Bytes, Part};
 use std::alloc::Global;
 
-/// What names an acknowledgement that is owed for an update of a task's status.
-#[derive(Debug, Drop)]
+/// What names an acknowledgement that is owed for an update of a task's status. Two keys are equal where all three are.
+#[derive(Debug, Drop, PartialEq, Eq, Hash)]
 pub struct OwedKey {
     /// The task's agent.
     pub agent: Id,
@@ -27,14 +27,5 @@ impl OwedKey {
         let task = self.task.copy(alloc)?;
         let uuid = self.uuid.copy(alloc)?;
         Ok(OwedKey { agent, task, uuid })
-    }
-
-    /// Whether the other key is the same. Takes no memory.
-    pub fn same(&self, other: &OwedKey) -> bool
-        ensures { IsTrue result ↔ self.now ≡ other.now }
-    {
-        self.agent.value == other.agent.value
-            && self.task.value == other.task.value
-            && self.uuid.as_slice() == other.uuid.as_slice()
     }
 }

@@ -39,7 +39,7 @@ impl ResourceValue {
 }
 
 impl Choice for ResourceValue {
-    ghost use Rattle.mes_model.specs.Resources.{resource_value_names, resource_value_rows};
+    ghost use Rattle.mes_model.specs.Resources.{resource_value_names, resource_value_rows, lawful_resource_value_rows};
     ghost use Rattle.std.specs.Prelude.{refl};
 
     ghost names = { resource_value_names };
@@ -53,6 +53,8 @@ impl Choice for ResourceValue {
     const COUNT: usize = 4;
 
     ghost counted = { refl };
+
+    ghost lawful = { lawful_resource_value_rows };
 
     #[tactic(auto, using(mes_part::specs::NameLaws::names_differ))]
     fn read_choice(

@@ -6,11 +6,12 @@ ghost use Rattle.mes_model.specs.Owed.{Owes, owed_key_of};
 use crate::id::Id;
 use crate::owed_key::OwedKey;
 use crate::task_state::TaskState;
+use crate::time_info::TimeInfo;
 use mes_fixed::Micros;
 use mes_json::{Element, Json, NoMemory, Text};
 use mes_part::{
-    Bytes, MadeOf, Maybe, Must, MustRef, Part, PartFault, RowList, RowRefs, Rows11, Trail, made,
-    message_tree, pairs, read_message,
+    Bytes, Labels, MadeOf, Maybe, Must, MustRef, Part, PartFault, RowList, RowRefs, Rows13, Trail,
+    made, message_tree, pairs, read_message,
 };
 use std::alloc::Global;
 
@@ -39,6 +40,10 @@ pub struct TaskStatus {
     pub uuid: Option<Bytes>,
     /// Whether the task's health check holds.
     pub healthy: Option<bool>,
+    /// Keys and values that were given for the task; nothing acts on them.
+    pub labels: Option<Labels>,
+    /// Since when the agent of the task is not reached.
+    pub unreachable_time: Option<TimeInfo>,
 }
 
 impl TaskStatus {
@@ -70,7 +75,7 @@ impl TaskStatus {
 }
 
 /// The names of the rows of a status, in the order of the table.
-const TASK_STATUS_NAMES: [&str; 11] = [
+const TASK_STATUS_NAMES: [&str; 13] = [
     "task_id",
     "state",
     "message",
@@ -82,9 +87,11 @@ const TASK_STATUS_NAMES: [&str; 11] = [
     "timestamp",
     "uuid",
     "healthy",
+    "labels",
+    "unreachable_time",
 ];
 
-type TaskStatusRows = Rows11<
+type TaskStatusRows = Rows13<
     Must<Id>,
     Must<TaskState>,
     Maybe<Text>,
@@ -96,6 +103,8 @@ type TaskStatusRows = Rows11<
     Maybe<Micros>,
     Maybe<Bytes>,
     Maybe<bool>,
+    Maybe<Labels>,
+    Maybe<TimeInfo>,
 >;
 
 impl MadeOf<<TaskStatusRows as RowList>::Values> for TaskStatus {
@@ -116,6 +125,8 @@ impl MadeOf<<TaskStatusRows as RowList>::Values> for TaskStatus {
             timestamp,
             uuid,
             healthy,
+            labels,
+            unreachable_time,
         })
     }
 }
@@ -135,6 +146,8 @@ macro_rules! task_status_rows {
             &$of.timestamp,
             &$of.uuid,
             &$of.healthy,
+            &$of.labels,
+            &$of.unreachable_time,
         )
     };
 }
@@ -144,9 +157,9 @@ impl Part for TaskStatus {
 
     ghost kind = { task_status };
 
-    ghost STEPS = { 2 };
+    ghost STEPS = { 4 };
 
-    const STEPS: u32 = 2;
+    const STEPS: u32 = 4;
 
     ghost lawful = { lawful_task_status };
 
@@ -156,7 +169,7 @@ impl Part for TaskStatus {
         element: &Element<'_>,
         path: &Trail<'_>,
     ) -> Result<TaskStatus, PartFault> {
-        read_message::<TaskStatusRows, TaskStatus, 11>(alloc, element, &TASK_STATUS_NAMES, path)
+        read_message::<TaskStatusRows, TaskStatus, 13>(alloc, element, &TASK_STATUS_NAMES, path)
     }
 
     #[tactic(auto, using(crate::specs::TaskStatuses::task_status_back), unfolding(crate::specs::TaskStatuses::task_status))]

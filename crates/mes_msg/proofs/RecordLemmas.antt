@@ -21,12 +21,12 @@ pub begins : (xs : List Token) (t : Tree) → xs ≡ tokens t → BeginsWith xs 
 begins xs t is = ([], is ∙ sym (append-nil (tokens t)))
 
 -- what is read of a value's tree is that value, or there was no memory
-pub read_only : {V : Type 0} (k : Kind V) → Lawful k → (at : List Place) (t : Tree) (v : V) (fault : PartFault)
+pub read_only : {V : Type 0} {steps : ℕ} (k : Kind V) → Lawful k steps → (at : List Place) (t : Tree) (v : V) (fault : PartFault)
     → k.Reads t v → Gives {V = V} (k.read at t) (Err fault) → of_part fault ≡ NoMemory
 read_only k lawful at t v (part.Field f) reads gives = let e = lawful.complete at t v reads in absurd (cc)
 read_only k lawful at t v part.NoMemory reads gives = refl
 
-pub read_same : {V : Type 0} (k : Kind V) → Lawful k → (at : List Place) (t : Tree) (v got : V) → k.Reads t v → k.read at t ≡ Ok got → got ≡ v
+pub read_same : {V : Type 0} {steps : ℕ} (k : Kind V) → Lawful k steps → (at : List Place) (t : Tree) (v got : V) → k.Reads t v → k.read at t ≡ Ok got → got ≡ v
 read_same k lawful at t v got reads gives = let e = lawful.complete at t v reads in cc
 
 -- why the text of a tree is of no such value

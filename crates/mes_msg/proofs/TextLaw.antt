@@ -11,7 +11,7 @@ use Rattle.mes_msg.specs.Texts.{IsTextOf, BreaksText, IsFaultOf}
 use Rattle.mes_msg.specs.declared.record.RecordFault.{RecordFault}
 use Rattle.mes_msg.specs.declared.record.RecordFault.TheVariants.{Text, Field, NoMemory}
 
-module _ {V : Type 0} (k : Kind V) (lawful : Lawful k) (one_text : (d : ℕ) (b : List ℕ) (t u : Tree) → IsText d b t → IsText d b u → t ≡ u) (one_fault : (d : ℕ) (b : List ℕ) (f g : TextFault) → IsFault d b f → IsFault d b g → f ≡ g) where
+module _ {V : Type 0} {steps : ℕ} (k : Kind V) (lawful : Lawful k steps) (one_text : (d : ℕ) (b : List ℕ) (t u : Tree) → IsText d b t → IsText d b u → t ≡ u) (one_fault : (d : ℕ) (b : List ℕ) (f g : TextFault) → IsFault d b f → IsFault d b g → f ≡ g) where
   pub one_value : (r : List ℕ) (a b : V) → IsTextOf k r a → IsTextOf k r b → a ≡ b
   one_value r a b (t, is, reads) (u, too, others) =
       let same : t ≡ u = one_text NESTING_LIMIT r t u is too in
@@ -46,7 +46,7 @@ module _ {V : Type 0} (k : Kind V) (lawful : Lawful k) (one_text : (d : ℕ) (b 
       absurd (cc)
   no_both r a NoMemory known spells is = absurd (known refl)
 
-module _ {V : Type 0} (k : Kind V) (lawful : Lawful k) (some_text : (d : ℕ) (b : List ℕ) → ((t : Tree) × IsText d b t) ⊎ ((f : TextFault) × IsFault d b f)) where
+module _ {V : Type 0} {steps : ℕ} (k : Kind V) (lawful : Lawful k steps) (some_text : (d : ℕ) (b : List ℕ) → ((t : Tree) × IsText d b t) ⊎ ((f : TextFault) × IsFault d b f)) where
   pub one_or_why : (r : List ℕ) → ((v : V) × IsTextOf k r v) ⊎ ((why : RecordFault) × (why ≢ NoMemory) × IsFaultOf k r why)
   one_or_why r = elim (some_text NESTING_LIMIT r) [
     | inl h ↦ by h.0 h.1 (k.read [] h.0) refl

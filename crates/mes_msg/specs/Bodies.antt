@@ -30,9 +30,9 @@ subscribed_layout =
 unfoldable pub subscribed : Kind Subscribed
 subscribed = kind_of subscribed_layout
 
-pub lawful_subscribed : Lawful subscribed
+pub lawful_subscribed : Lawful subscribed subscribed_layout.rows.steps
 unfolding subscribed
-lawful_subscribed = lawful_kind subscribed_layout
+lawful_subscribed = lawful_kind subscribed_layout refl
 
 pub subscribed_back : (v : Subscribed) → subscribed_layout.rows.table.Back (subscribed_layout.from v) → Returns subscribed v
 unfolding subscribed
@@ -49,9 +49,9 @@ rescind_layout =
 unfoldable pub rescind : Kind Rescind
 rescind = kind_of rescind_layout
 
-pub lawful_rescind : Lawful rescind
+pub lawful_rescind : Lawful rescind rescind_layout.rows.steps
 unfolding rescind
-lawful_rescind = lawful_kind rescind_layout
+lawful_rescind = lawful_kind rescind_layout refl
 
 pub rescind_back : (v : Rescind) → rescind_layout.rows.table.Back (rescind_layout.from v) → Returns rescind v
 unfolding rescind
@@ -68,9 +68,9 @@ update_layout =
 unfoldable pub update : Kind Update
 update = kind_of update_layout
 
-pub lawful_update : Lawful update
+pub lawful_update : Lawful update update_layout.rows.steps
 unfolding update
-lawful_update = lawful_kind update_layout
+lawful_update = lawful_kind update_layout refl
 
 pub update_back : (v : Update) → update_layout.rows.table.Back (update_layout.from v) → Returns update v
 unfolding update
@@ -89,9 +89,9 @@ message_body_layout =
 unfoldable pub message_body : Kind Message
 message_body = kind_of message_body_layout
 
-pub lawful_message_body : Lawful message_body
+pub lawful_message_body : Lawful message_body message_body_layout.rows.steps
 unfolding message_body
-lawful_message_body = lawful_kind message_body_layout
+lawful_message_body = lawful_kind message_body_layout refl
 
 pub message_body_back : (v : Message) → message_body_layout.rows.table.Back (message_body_layout.from v) → Returns message_body v
 unfolding message_body
@@ -110,9 +110,9 @@ failure_layout =
 unfoldable pub failure : Kind Failure
 failure = kind_of failure_layout
 
-pub lawful_failure : Lawful failure
+pub lawful_failure : Lawful failure failure_layout.rows.steps
 unfolding failure
-lawful_failure = lawful_kind failure_layout
+lawful_failure = lawful_kind failure_layout refl
 
 pub failure_back : (v : Failure) → failure_layout.rows.table.Back (failure_layout.from v) → Returns failure v
 unfolding failure
@@ -129,9 +129,9 @@ error_body_layout =
 unfoldable pub error_body : Kind ErrorBody
 error_body = kind_of error_body_layout
 
-pub lawful_error_body : Lawful error_body
+pub lawful_error_body : Lawful error_body error_body_layout.rows.steps
 unfolding error_body
-lawful_error_body = lawful_kind error_body_layout
+lawful_error_body = lawful_kind error_body_layout refl
 
 pub error_body_back : (v : ErrorBody) → error_body_layout.rows.table.Back (error_body_layout.from v) → Returns error_body v
 unfolding error_body

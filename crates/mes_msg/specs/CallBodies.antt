@@ -16,6 +16,7 @@ use Rattle.mes_msg.specs.declared.call_bodies.Decline.{Decline}
 use Rattle.mes_msg.specs.declared.call_bodies.Kill.{Kill}
 use Rattle.mes_msg.specs.declared.call_bodies.Acknowledge.{Acknowledge}
 use Rattle.mes_msg.specs.declared.call_bodies.Reconcile.{Reconcile}
+use Rattle.mes_msg.specs.declared.call_bodies.Shutdown.{Shutdown}
 
 -- framework_info !
 abbrev pub subscribe_layout : Layout Subscribe
@@ -28,9 +29,9 @@ subscribe_layout =
 unfoldable pub subscribe : Kind Subscribe
 subscribe = kind_of subscribe_layout
 
-pub lawful_subscribe : Lawful subscribe
+pub lawful_subscribe : Lawful subscribe subscribe_layout.rows.steps
 unfolding subscribe
-lawful_subscribe = lawful_kind subscribe_layout
+lawful_subscribe = lawful_kind subscribe_layout refl
 
 pub subscribe_back : (v : Subscribe) → subscribe_layout.rows.table.Back (subscribe_layout.from v) → Returns subscribe v
 unfolding subscribe
@@ -49,9 +50,9 @@ accept_layout =
 unfoldable pub accept : Kind Accept
 accept = kind_of accept_layout
 
-pub lawful_accept : Lawful accept
+pub lawful_accept : Lawful accept accept_layout.rows.steps
 unfolding accept
-lawful_accept = lawful_kind accept_layout
+lawful_accept = lawful_kind accept_layout refl
 
 pub accept_back : (v : Accept) → accept_layout.rows.table.Back (accept_layout.from v) → Returns accept v
 unfolding accept
@@ -69,9 +70,9 @@ decline_layout =
 unfoldable pub decline : Kind Decline
 decline = kind_of decline_layout
 
-pub lawful_decline : Lawful decline
+pub lawful_decline : Lawful decline decline_layout.rows.steps
 unfolding decline
-lawful_decline = lawful_kind decline_layout
+lawful_decline = lawful_kind decline_layout refl
 
 pub decline_back : (v : Decline) → decline_layout.rows.table.Back (decline_layout.from v) → Returns decline v
 unfolding decline
@@ -89,9 +90,9 @@ kill_layout =
 unfoldable pub kill : Kind Kill
 kill = kind_of kill_layout
 
-pub lawful_kill : Lawful kill
+pub lawful_kill : Lawful kill kill_layout.rows.steps
 unfolding kill
-lawful_kill = lawful_kind kill_layout
+lawful_kill = lawful_kind kill_layout refl
 
 pub kill_back : (v : Kill) → kill_layout.rows.table.Back (kill_layout.from v) → Returns kill v
 unfolding kill
@@ -110,9 +111,9 @@ acknowledge_layout =
 unfoldable pub acknowledge : Kind Acknowledge
 acknowledge = kind_of acknowledge_layout
 
-pub lawful_acknowledge : Lawful acknowledge
+pub lawful_acknowledge : Lawful acknowledge acknowledge_layout.rows.steps
 unfolding acknowledge
-lawful_acknowledge = lawful_kind acknowledge_layout
+lawful_acknowledge = lawful_kind acknowledge_layout refl
 
 pub acknowledge_back : (v : Acknowledge) → acknowledge_layout.rows.table.Back (acknowledge_layout.from v) → Returns acknowledge v
 unfolding acknowledge
@@ -129,10 +130,30 @@ reconcile_layout =
 unfoldable pub reconcile : Kind Reconcile
 reconcile = kind_of reconcile_layout
 
-pub lawful_reconcile : Lawful reconcile
+pub lawful_reconcile : Lawful reconcile reconcile_layout.rows.steps
 unfolding reconcile
-lawful_reconcile = lawful_kind reconcile_layout
+lawful_reconcile = lawful_kind reconcile_layout refl
 
 pub reconcile_back : (v : Reconcile) → reconcile_layout.rows.table.Back (reconcile_layout.from v) → Returns reconcile v
 unfolding reconcile
 reconcile_back v back = returns_kind reconcile_layout refl v back
+
+-- executor_id !, agent_id !
+abbrev pub shutdown_layout : Layout Shutdown
+shutdown_layout =
+    laid_out (
+    needs (codes "executor_id") id lawful_id
+    ⨾⨾ needs (codes "agent_id") id lawful_id
+    ⨾⨾ no_more
+    ) (λ x. record { executor_id = x.0; agent_id = x.1.0 }) (λ v. (v.executor_id, (v.agent_id, tt))) (λ v. refl)
+
+unfoldable pub shutdown : Kind Shutdown
+shutdown = kind_of shutdown_layout
+
+pub lawful_shutdown : Lawful shutdown shutdown_layout.rows.steps
+unfolding shutdown
+lawful_shutdown = lawful_kind shutdown_layout refl
+
+pub shutdown_back : (v : Shutdown) → shutdown_layout.rows.table.Back (shutdown_layout.from v) → Returns shutdown v
+unfolding shutdown
+shutdown_back v back = returns_kind shutdown_layout refl v back

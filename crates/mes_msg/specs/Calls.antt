@@ -1,23 +1,26 @@
 -- The calls of the scheduler API (scheduler.proto, `Call`) in their JSON form.
-use Rattle.std.specs.Prelude.{◌≡◌, ◌⊎◌, ℕ, List, [], ◌∷◌, Option, None, codes}
+use Rattle.std.specs.Prelude.{◌≡◌, ◌⊎◌, ℕ, ◌+◌, max, List, [], ◌∷◌, Option, None, codes}
 use Rattle.std.proofs.Common.{inl, inr, refl}
 use Rattle.mes_part.specs.Kinds.{Kind, Lawful, Returns}
 use Rattle.mes_part.specs.Leaves.{left_out}
 use Rattle.mes_part.specs.Rows.{Table, need, maybe, ◌⨾◌, mapped, message}
 use Rattle.mes_part.specs.Choices.{no_other, case, typed}
-use Rattle.mes_part.specs.KindLaws.{lawful_left_out}
-use Rattle.mes_part.specs.RowLaws.{LawfulTable, lawful_need, lawful_maybe, lawful_both, lawful_mapped, lawful_message, message_returns}
+use Rattle.mes_part.specs.RowLaws.{LawfulTable, lawful_need, lawful_maybe, lawful_left_out}
+use Rattle.mes_part.specs.MessageLaws.{lawful_both, lawful_mapped, lawful_message, message_returns}
 use Rattle.mes_part.specs.ChoiceLaws.{lawful_no_other, lawful_case, lawful_typed}
 use Rattle.mes_part.specs.declared.field.FieldWhy.TheVariants.{LeftOut}
 use Rattle.mes_model.specs.Ids.{id, lawful_id}
 use Rattle.mes_model.specs.declared.id.Id.{Id}
-use Rattle.mes_msg.specs.CallBodies.{subscribe, accept, decline, kill, acknowledge, reconcile, lawful_subscribe, lawful_accept, lawful_decline, lawful_kill, lawful_acknowledge, lawful_reconcile}
+use Rattle.mes_msg.specs.Bodies.{message_body, lawful_message_body}
+use Rattle.mes_msg.specs.CallBodies.{subscribe, accept, decline, kill, acknowledge, reconcile, shutdown, lawful_subscribe, lawful_accept, lawful_decline, lawful_kill, lawful_acknowledge, lawful_reconcile, lawful_shutdown}
+use Rattle.mes_msg.specs.declared.bodies.Message.{Message}
 use Rattle.mes_msg.specs.declared.call_bodies.Subscribe.{Subscribe}
 use Rattle.mes_msg.specs.declared.call_bodies.Accept.{Accept}
 use Rattle.mes_msg.specs.declared.call_bodies.Decline.{Decline}
 use Rattle.mes_msg.specs.declared.call_bodies.Kill.{Kill}
 use Rattle.mes_msg.specs.declared.call_bodies.Acknowledge.{Acknowledge}
 use Rattle.mes_msg.specs.declared.call_bodies.Reconcile.{Reconcile}
+use Rattle.mes_msg.specs.declared.call_bodies.Shutdown.{Shutdown}
 use Rattle.mes_msg.specs.declared.call.Call.{Call}
 use Rattle.mes_msg.specs.declared.call.Call.TheVariants as of
 
@@ -25,9 +28,13 @@ use Rattle.mes_msg.specs.declared.call.Call.TheVariants as of
 abbrev pub with_body : {V : Type 0} → List ℕ → Kind V → Table (Id × V)
 with_body n k = need (codes "framework_id") id ⨾ need n k
 
+-- framework_id !; a body is left out
+abbrev pub without_body : List ℕ → Table (Id × Option ⊥)
+without_body n = need (codes "framework_id") id ⨾ maybe n left_out
+
 -- a call by its type
 abbrev pub CallRows : Type 0
-CallRows = (Option Id × Subscribe) ⊎ (Id × Accept) ⊎ (Id × Decline) ⊎ (Id × Option ⊥) ⊎ (Id × Kill) ⊎ (Id × Acknowledge) ⊎ (Id × Reconcile) ⊎ Id ⊎ ⊥
+CallRows = (Option Id × Subscribe) ⊎ (Id × Accept) ⊎ (Id × Decline) ⊎ (Id × Option ⊥) ⊎ (Id × Kill) ⊎ (Id × Acknowledge) ⊎ (Id × Reconcile) ⊎ Id ⊎ (Id × Option ⊥) ⊎ (Id × Shutdown) ⊎ (Id × Message) ⊎ ⊥
 
 abbrev pub to_call : CallRows → Call
 to_call (inl x) = of.Subscribe x.0 x.1
@@ -38,7 +45,10 @@ to_call (inr (inr (inr (inr (inl x))))) = of.Kill x.0 x.1
 to_call (inr (inr (inr (inr (inr (inl x)))))) = of.Acknowledge x.0 x.1
 to_call (inr (inr (inr (inr (inr (inr (inl x))))))) = of.Reconcile x.0 x.1
 to_call (inr (inr (inr (inr (inr (inr (inr (inl x)))))))) = of.Teardown x
-to_call (inr (inr (inr (inr (inr (inr (inr (inr v)))))))) = absurd v
+to_call (inr (inr (inr (inr (inr (inr (inr (inr (inl x))))))))) = of.Suppress x.0
+to_call (inr (inr (inr (inr (inr (inr (inr (inr (inr (inl x)))))))))) = of.Shutdown x.0 x.1
+to_call (inr (inr (inr (inr (inr (inr (inr (inr (inr (inr (inl x))))))))))) = of.Message x.0 x.1
+to_call (inr (inr (inr (inr (inr (inr (inr (inr (inr (inr (inr v))))))))))) = absurd v
 
 abbrev pub from_call : Call → CallRows
 from_call (of.Subscribe framework body) = inl (framework, body)
@@ -49,6 +59,9 @@ from_call (of.Kill framework body) = inr (inr (inr (inr (inl (framework, body)))
 from_call (of.Acknowledge framework body) = inr (inr (inr (inr (inr (inl (framework, body))))))
 from_call (of.Reconcile framework body) = inr (inr (inr (inr (inr (inr (inl (framework, body)))))))
 from_call (of.Teardown framework) = inr (inr (inr (inr (inr (inr (inr (inl framework)))))))
+from_call (of.Suppress framework) = inr (inr (inr (inr (inr (inr (inr (inr (inl (framework, None)))))))))
+from_call (of.Shutdown framework body) = inr (inr (inr (inr (inr (inr (inr (inr (inr (inl (framework, body))))))))))
+from_call (of.Message framework body) = inr (inr (inr (inr (inr (inr (inr (inr (inr (inr (inl (framework, body)))))))))))
 
 -- type !, and by it framework_id, ? under SUBSCRIBE and else !, and the one row of its body; another type is left out
 abbrev pub call_rows : Table Call
@@ -57,12 +70,18 @@ call_rows =
     case (codes "SUBSCRIBE") (maybe (codes "framework_id") id ⨾ need (codes "subscribe") subscribe) (
     case (codes "ACCEPT") (with_body (codes "accept") accept) (
     case (codes "DECLINE") (with_body (codes "decline") decline) (
-    case (codes "REVIVE") (need (codes "framework_id") id ⨾ maybe (codes "revive") left_out) (
+    case (codes "REVIVE") (without_body (codes "revive")) (
     case (codes "KILL") (with_body (codes "kill") kill) (
     case (codes "ACKNOWLEDGE") (with_body (codes "acknowledge") acknowledge) (
     case (codes "RECONCILE") (with_body (codes "reconcile") reconcile) (
     case (codes "TEARDOWN") (need (codes "framework_id") id) (
+    case (codes "SUPPRESS") (without_body (codes "suppress")) (
+    case (codes "SHUTDOWN") (with_body (codes "shutdown") shutdown) (
+    case (codes "MESSAGE") (with_body (codes "message") message_body) (
     no_other LeftOut
+    )
+    )
+    )
     )
     )
     )
@@ -76,7 +95,8 @@ call_rows =
 -- the names of their members
 abbrev pub call_members : List (List ℕ)
 call_members =
-    codes "type" ∷ codes "framework_id" ∷ codes "subscribe" ∷ codes "accept" ∷ codes "decline" ∷ codes "revive" ∷ codes "kill" ∷ codes "acknowledge" ∷ codes "reconcile" ∷ []
+    codes "type" ∷ codes "framework_id" ∷ codes "subscribe" ∷ codes "accept" ∷ codes "decline" ∷ codes "revive" ∷ codes "kill" ∷ codes "acknowledge" ∷ codes "reconcile"
+    ∷ codes "suppress" ∷ codes "shutdown" ∷ codes "message" ∷ []
 
 unfoldable pub call : Kind Call
 call = message call_rows
@@ -92,21 +112,31 @@ to_from_call (of.Kill framework body) = refl
 to_from_call (of.Acknowledge framework body) = refl
 to_from_call (of.Reconcile framework body) = refl
 to_from_call (of.Teardown framework) = refl
+to_from_call (of.Suppress framework) = refl
+to_from_call (of.Shutdown framework body) = refl
+to_from_call (of.Message framework body) = refl
 
-lawful_with_body : {V : Type 0} {n : List ℕ} {k : Kind V} → Lawful k → LawfulTable (with_body n k)
+-- the body is the deeper row, or as deep as the other
+lawful_with_body : {V : Type 0} {n : List ℕ} {k : Kind V} {steps : ℕ} → Lawful k steps → LawfulTable (with_body n k) (max 2 (1 + steps))
 lawful_with_body lawful = lawful_both (lawful_need lawful_id) (lawful_need lawful)
 
-lawful_call_rows : LawfulTable call_rows
+lawful_without_body : {n : List ℕ} → LawfulTable (without_body n) 2
+lawful_without_body = lawful_both (lawful_need lawful_id) lawful_left_out
+
+pub lawful_call_rows : LawfulTable call_rows 14
 lawful_call_rows =
-    lawful_mapped _ _ (lawful_typed (
-    lawful_case (lawful_both (lawful_maybe lawful_id) (lawful_need lawful_subscribe)) (
+    lawful_mapped _ _ (
+    lawful_typed (lawful_both (lawful_maybe lawful_id) (lawful_need lawful_subscribe)) (
     lawful_case (lawful_with_body lawful_accept) (
     lawful_case (lawful_with_body lawful_decline) (
-    lawful_case (lawful_both (lawful_need lawful_id) (lawful_maybe lawful_left_out)) (
+    lawful_case lawful_without_body (
     lawful_case (lawful_with_body lawful_kill) (
     lawful_case (lawful_with_body lawful_acknowledge) (
     lawful_case (lawful_with_body lawful_reconcile) (
-    lawful_case (lawful_need lawful_id) lawful_no_other
+    lawful_case (lawful_need lawful_id) (
+    lawful_case lawful_without_body (
+    lawful_case (lawful_with_body lawful_shutdown) (
+    lawful_case (lawful_with_body lawful_message_body) lawful_no_other
     )
     )
     )
@@ -114,11 +144,14 @@ lawful_call_rows =
     )
     )
     )
-    ) refl) to_from_call
+    )
+    )
+    ) refl
+    ) to_from_call
 
-pub lawful_call : Lawful call
+pub lawful_call : Lawful call 14
 unfolding call
-lawful_call = lawful_message lawful_call_rows
+lawful_call = lawful_message lawful_call_rows refl
 
 pub call_back : (v : Call) → call_rows.Back v → Returns call v
 unfolding call

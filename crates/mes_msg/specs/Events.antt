@@ -4,7 +4,8 @@ use Rattle.std.proofs.Common.{inl, inr, refl}
 use Rattle.mes_part.specs.Kinds.{Kind, Lawful, Returns}
 use Rattle.mes_part.specs.Rows.{Table, need, no_rows, mapped, message}
 use Rattle.mes_part.specs.Choices.{others, case, typed}
-use Rattle.mes_part.specs.RowLaws.{LawfulTable, lawful_need, lawful_no_rows, lawful_mapped, lawful_message, message_returns}
+use Rattle.mes_part.specs.RowLaws.{LawfulTable, lawful_need}
+use Rattle.mes_part.specs.MessageLaws.{lawful_no_rows, lawful_mapped, lawful_message, message_returns}
 use Rattle.mes_part.specs.ChoiceLaws.{lawful_others, lawful_case, lawful_typed}
 use Rattle.mes_model.specs.declared.offer.Offer.{Offer}
 use Rattle.mes_msg.specs.Bodies.{subscribed, rescind, update, message_body, failure, error_body, lawful_subscribed, lawful_rescind, lawful_update, lawful_message_body, lawful_failure, lawful_error_body}
@@ -101,10 +102,10 @@ to_from_event (of.Error v) = refl
 to_from_event of.Heartbeat = refl
 to_from_event (of.Other name) = refl
 
-lawful_event_rows : LawfulTable event_rows
+pub lawful_event_rows : LawfulTable event_rows 11
 lawful_event_rows =
-    lawful_mapped _ _ (lawful_typed (
-    lawful_case (lawful_need lawful_subscribed) (
+    lawful_mapped _ _ (
+    lawful_typed (lawful_need lawful_subscribed) (
     lawful_case (lawful_need lawful_offers) (
     lawful_case (lawful_need lawful_rescind) (
     lawful_case (lawful_need lawful_update) (
@@ -118,12 +119,12 @@ lawful_event_rows =
     )
     )
     )
-    )
-    ) refl) to_from_event
+    ) refl
+    ) to_from_event
 
-pub lawful_event : Lawful event
+pub lawful_event : Lawful event 11
 unfolding event
-lawful_event = lawful_message lawful_event_rows
+lawful_event = lawful_message lawful_event_rows refl
 
 pub event_back : (v : Event) → event_rows.Back v → Returns event v
 unfolding event

@@ -9,3 +9,4 @@ pub mod Calls
 pub mod RecordFaults
 pub mod Shown
 pub mod Canon
+pub mod EncodeWhys

@@ -13,7 +13,7 @@ offers = either_list (codes "offers") offer
 
 -- ---- its laws
 
-pub lawful_offers : Lawful offers
+pub lawful_offers : Lawful offers 10
 unfolding offers
 lawful_offers = lawful_either_list lawful_offer
 

@@ -5,8 +5,9 @@ use Rattle.mes_part.specs.Kinds.{Kind, Lawful, Returns}
 use Rattle.mes_part.specs.Rows.{Table, need, mapped, message}
 use Rattle.mes_part.specs.Layouts.{Layout, lists, no_more, ◌⨾⨾◌, laid_out, kind_of, lawful_kind, returns_kind}
 use Rattle.mes_part.specs.Choices.{no_other, case, typed}
-use Rattle.mes_part.specs.RowLaws.{LawfulTable, lawful_need, lawful_mapped, lawful_message, message_returns}
-use Rattle.mes_part.specs.ChoiceLaws.{lawful_no_other, lawful_case, lawful_typed}
+use Rattle.mes_part.specs.RowLaws.{LawfulTable, lawful_need}
+use Rattle.mes_part.specs.MessageLaws.{lawful_mapped, lawful_message, message_returns}
+use Rattle.mes_part.specs.ChoiceLaws.{lawful_no_other, lawful_typed}
 use Rattle.mes_part.specs.declared.field.FieldWhy.TheVariants.{LeftOut}
 use Rattle.mes_model.specs.Tasks.{task_info, lawful_task_info}
 use Rattle.mes_model.specs.declared.task_info.TaskInfo.{TaskInfo}
@@ -24,9 +25,9 @@ launch_layout =
 unfoldable pub launch : Kind (List TaskInfo)
 launch = kind_of launch_layout
 
-pub lawful_launch : Lawful launch
+pub lawful_launch : Lawful launch launch_layout.rows.steps
 unfolding launch
-lawful_launch = lawful_kind launch_layout
+lawful_launch = lawful_kind launch_layout refl
 
 pub launch_back : (v : List TaskInfo) → launch_layout.rows.table.Back (launch_layout.from v) → Returns launch v
 unfolding launch
@@ -61,12 +62,12 @@ operation = message operation_rows
 to_from_operation : (v : Operation) → to_operation (from_operation v) ≡ v
 to_from_operation (of.Launch tasks) = refl
 
-lawful_operation_rows : LawfulTable operation_rows
-lawful_operation_rows = lawful_mapped _ _ (lawful_typed (lawful_case (lawful_need lawful_launch) lawful_no_other) refl) to_from_operation
+pub lawful_operation_rows : LawfulTable operation_rows 11
+lawful_operation_rows = lawful_mapped _ _ (lawful_typed (lawful_need lawful_launch) lawful_no_other refl) to_from_operation
 
-pub lawful_operation : Lawful operation
+pub lawful_operation : Lawful operation 11
 unfolding operation
-lawful_operation = lawful_message lawful_operation_rows
+lawful_operation = lawful_message lawful_operation_rows refl
 
 pub operation_back : (v : Operation) → operation_rows.Back v → Returns operation v
 unfolding operation

@@ -168,9 +168,9 @@ impl Part for Update {
 
     ghost kind = { update };
 
-    ghost STEPS = { 3 };
+    ghost STEPS = { 5 };
 
-    const STEPS: u32 = 3;
+    const STEPS: u32 = 5;
 
     ghost lawful = { lawful_update };
 

@@ -1,5 +1,5 @@
 //! A call of the scheduler API.
-ghost use Rattle.std.specs.Prelude.{◌≡◌, ◌+◌, ◌≤◌, [], ◌∷◌, ◌++◌, Ok, length, codes, IfOk, IfErr, OnOk, MatchResult};
+ghost use Rattle.std.specs.Prelude.{◌≡◌, ◌+◌, ◌≤◌, [], ◌∷◌, ◌++◌, None, Ok, Err, length, codes, IfOk, IfErr, OnOk, MatchResult};
 ghost use Rattle.mes_json.specs.Tree.{Members};
 ghost use Rattle.mes_json.specs.Tree.Tree.{string};
 ghost use Rattle.mes_json.specs.View.{view};
@@ -11,18 +11,20 @@ ghost use Rattle.mes_part.specs.Parts.{Gives, IsFirstFault};
 ghost use Rattle.mes_part.specs.Paths.{Place, IsPlace};
 ghost use Rattle.mes_part.specs.Written.{pairs_view, Continues};
 ghost use Rattle.mes_model.specs.Ids.{id};
-ghost use Rattle.mes_msg.specs.Calls.{call, call_rows, with_body};
+ghost use Rattle.mes_msg.specs.Calls.{call, call_rows, with_body, without_body};
 ghost use Rattle.mes_msg.specs.Texts.{IsTextOf, IsFaultOf, canonical_of, Fits, IsRefusalOf};
 
-use crate::call_bodies::{Accept, Acknowledge, Decline, Kill, Reconcile, Subscribe};
+use crate::bodies::Message;
+use crate::call_bodies::{Accept, Acknowledge, Decline, Kill, Reconcile, Shutdown, Subscribe};
 use crate::canon::{EncodeFault, canonical_bytes};
 use crate::record::{RecordFault, read_bytes};
 use mes_frame::Limit;
 use mes_json::{Element, Json, NoMemory, Text};
 use mes_model::Id;
 use mes_part::{
-    Choice, FieldWhy, Found, Part, PartFault, Path, Trail, copy_some, left_out, optional, put,
-    put_some, put_type, read_part, read_typed, required, type_of, type_refusal, typed_tree,
+    Choice, FieldWhy, Found, Part, PartFault, Path, STEPS_MOST, Trail, copy_some, left_out,
+    optional, put, put_some, put_type, read_part, read_typed, required, type_of, type_refusal,
+    typed_tree,
 };
 use std::alloc::Global;
 
@@ -81,10 +83,29 @@ pub enum Call {
         /// The framework.
         framework_id: Id,
     },
+    /// SUPPRESS: the framework wants no offers, until it revives them.
+    Suppress {
+        /// The framework.
+        framework_id: Id,
+    },
+    /// SHUTDOWN: an executor is to end, and its tasks with it.
+    Shutdown {
+        /// The framework.
+        framework_id: Id,
+        /// The executor.
+        body: Shutdown,
+    },
+    /// MESSAGE: bytes for an executor of the framework.
+    Message {
+        /// The framework.
+        framework_id: Id,
+        /// The executor, and the bytes.
+        body: Message,
+    },
 }
 
 /// The names of a call's members, in the order of the table.
-const CALL_MEMBERS: [&str; 9] = [
+const CALL_MEMBERS: [&str; 12] = [
     "type",
     "framework_id",
     "subscribe",
@@ -94,6 +115,9 @@ const CALL_MEMBERS: [&str; 9] = [
     "kill",
     "acknowledge",
     "reconcile",
+    "suppress",
+    "shutdown",
+    "message",
 ];
 
 impl Call {
@@ -135,7 +159,7 @@ impl Call {
 }
 
 impl Choice for Call {
-    ghost use Rattle.mes_msg.specs.Calls.{call_members, call_rows};
+    ghost use Rattle.mes_msg.specs.Calls.{call_members, call_rows, lawful_call_rows};
     ghost use Rattle.std.specs.Prelude.{refl};
 
     ghost names = { call_members };
@@ -144,11 +168,13 @@ impl Choice for Call {
 
     ghost STEPS = { 14 };
 
-    ghost COUNT = { 9 };
+    ghost COUNT = { 12 };
 
-    const COUNT: usize = 9;
+    const COUNT: usize = 12;
 
     ghost counted = { refl };
+
+    ghost lawful = { lawful_call_rows };
 
     #[tactic(auto, using(mes_part::specs::NameLaws::names_differ))]
     fn read_choice(
@@ -172,8 +198,7 @@ impl Choice for Call {
                 Ok(Call::Decline { framework_id, body })
             }
             "REVIVE" => {
-                let framework_id = required(alloc, from, "framework_id", path)?;
-                left_out(alloc, &found[5], "revive", path)?;
+                let framework_id = read_bare(alloc, from, &found[5], "revive", path)?;
                 Ok(Call::Revive { framework_id })
             }
             "KILL" => {
@@ -191,6 +216,18 @@ impl Choice for Call {
             "TEARDOWN" => {
                 let framework_id = required(alloc, from, "framework_id", path)?;
                 Ok(Call::Teardown { framework_id })
+            }
+            "SUPPRESS" => {
+                let framework_id = read_bare(alloc, from, &found[9], "suppress", path)?;
+                Ok(Call::Suppress { framework_id })
+            }
+            "SHUTDOWN" => {
+                let (framework_id, body) = read_call(alloc, from, &found[10], "shutdown", path)?;
+                Ok(Call::Shutdown { framework_id, body })
+            }
+            "MESSAGE" => {
+                let (framework_id, body) = read_call(alloc, from, &found[11], "message", path)?;
+                Ok(Call::Message { framework_id, body })
             }
             _ => Err(type_refusal(alloc, path, FieldWhy::LeftOut)),
         }
@@ -227,6 +264,13 @@ impl Choice for Call {
                 put_call(members, alloc, "RECONCILE", framework_id, "reconcile", body)
             }
             Call::Teardown { framework_id } => put_head(members, alloc, "TEARDOWN", framework_id),
+            Call::Suppress { framework_id } => put_head(members, alloc, "SUPPRESS", framework_id),
+            Call::Shutdown { framework_id, body } => {
+                put_call(members, alloc, "SHUTDOWN", framework_id, "shutdown", body)
+            }
+            Call::Message { framework_id, body } => {
+                put_call(members, alloc, "MESSAGE", framework_id, "message", body)
+            }
         }
     }
 
@@ -262,6 +306,17 @@ impl Choice for Call {
             Call::Teardown { framework_id } => Ok(Call::Teardown {
                 framework_id: framework_id.copy(alloc)?,
             }),
+            Call::Suppress { framework_id } => Ok(Call::Suppress {
+                framework_id: framework_id.copy(alloc)?,
+            }),
+            Call::Shutdown { framework_id, body } => Ok(Call::Shutdown {
+                framework_id: framework_id.copy(alloc)?,
+                body: body.copy(alloc)?,
+            }),
+            Call::Message { framework_id, body } => Ok(Call::Message {
+                framework_id: framework_id.copy(alloc)?,
+                body: body.copy(alloc)?,
+            }),
         }
     }
 }
@@ -283,7 +338,7 @@ impl Part for Call {
         element: &Element<'_>,
         path: &Trail<'_>,
     ) -> Result<Call, PartFault> {
-        read_typed::<Call, 9>(alloc, element, &CALL_MEMBERS, path)
+        read_typed::<Call, 12>(alloc, element, &CALL_MEMBERS, path)
     }
 
     #[tactic(auto, using(crate::specs::Calls::call_back), unfolding(crate::specs::Calls::call))]
@@ -304,8 +359,8 @@ fn read_call<T: Part>(
     name: &'static str,
     path: &Trail<'_>,
 ) -> Result<(Id, T), PartFault>
-    requires framework { length path.now + 2 ≤ 16 }
-    requires body { length path.now + 1 + T.STEPS ≤ 16 }
+    requires framework { length path.now + 2 ≤ STEPS_MOST }
+    requires body { length path.now + 1 + T.STEPS ≤ STEPS_MOST }
     requires step { IsPlace (Place.name name.now) }
     ensures { (ms : Members) → IsFound framework.now (values_named (codes "framework_id") ms) → IsFound body.now (values_named name.now ms)
         → Gives ((with_body name.now T.kind).read path.now ms) result }
@@ -313,6 +368,26 @@ fn read_call<T: Part>(
     let framework_id = required(alloc, framework, "framework_id", path)?;
     let body = required(alloc, body, name, path)?;
     Ok((framework_id, body))
+}
+
+/// The framework that calls; a body of this name is left out.
+fn read_bare(
+    alloc: Global,
+    framework: &Found<'_>,
+    body: &Found<'_>,
+    name: &'static str,
+    path: &Trail<'_>,
+) -> Result<Id, PartFault>
+    requires room { length path.now + 2 ≤ STEPS_MOST }
+    requires step { IsPlace (Place.name name.now) }
+    ensures ok { (ms : Members) → IsFound framework.now (values_named (codes "framework_id") ms) → IsFound body.now (values_named name.now ms)
+        → IfOk result (λ framework_id. (without_body name.now).read path.now ms ≡ Ok (framework_id, None)) }
+    ensures err { (ms : Members) → IsFound framework.now (values_named (codes "framework_id") ms) → IsFound body.now (values_named name.now ms)
+        → IfErr result (λ e. Gives ((without_body name.now).read path.now ms) (Err e)) }
+{
+    let framework_id = required(alloc, framework, "framework_id", path)?;
+    left_out(alloc, body, name, path)?;
+    Ok(framework_id)
 }
 
 /// Appends the row `type` and the one of the framework.

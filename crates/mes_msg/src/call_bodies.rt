@@ -394,3 +394,65 @@ impl Part for Reconcile {
         Ok(Reconcile::made_of(values))
     }
 }
+
+/// An executor is to end (`Call.Shutdown`).
+#[derive(Debug, Drop)]
+pub struct Shutdown {
+    /// The executor.
+    pub executor_id: Id,
+    /// The executor's agent.
+    pub agent_id: Id,
+}
+
+/// The names of the rows of the body of SHUTDOWN, in the order of the table.
+const SHUTDOWN_NAMES: [&str; 2] = ["executor_id", "agent_id"];
+
+type ShutdownRows = Rows2<Must<Id>, Must<Id>>;
+
+impl MadeOf<<ShutdownRows as RowList>::Values> for Shutdown {
+    ghost use Rattle.mes_msg.specs.CallBodies.{shutdown_layout};
+
+    ghost to = { shutdown_layout.to };
+
+    fn made_of(values: <ShutdownRows as RowList>::Values) -> Shutdown {
+        made!(values => Shutdown { executor_id, agent_id })
+    }
+}
+
+/// What the rows of the body of SHUTDOWN hold.
+macro_rules! shutdown_rows {
+    ($of:ident) => {
+        pairs!(MustRef(&$of.executor_id), MustRef(&$of.agent_id))
+    };
+}
+
+impl Part for Shutdown {
+    ghost use Rattle.mes_msg.specs.CallBodies.{shutdown, lawful_shutdown};
+
+    ghost kind = { shutdown };
+
+    ghost STEPS = { 2 };
+
+    const STEPS: u32 = 2;
+
+    ghost lawful = { lawful_shutdown };
+
+    #[tactic(auto, unfolding(crate::specs::CallBodies::shutdown))]
+    fn read_from(
+        alloc: Global,
+        element: &Element<'_>,
+        path: &Trail<'_>,
+    ) -> Result<Shutdown, PartFault> {
+        read_message::<ShutdownRows, Shutdown, 2>(alloc, element, &SHUTDOWN_NAMES, path)
+    }
+
+    #[tactic(auto, using(crate::specs::CallBodies::shutdown_back), unfolding(crate::specs::CallBodies::shutdown))]
+    fn tree(&self, alloc: Global) -> Result<Json, NoMemory> {
+        message_tree(alloc, &SHUTDOWN_NAMES, &shutdown_rows!(self))
+    }
+
+    fn copy(&self, alloc: Global) -> Result<Shutdown, NoMemory> {
+        let values = shutdown_rows!(self).copy_rows(alloc)?;
+        Ok(Shutdown::made_of(values))
+    }
+}

@@ -53,7 +53,7 @@ const EVENT_MEMBERS: [&str; 8] = [
 ];
 
 impl Choice for Event {
-    ghost use Rattle.mes_msg.specs.Events.{event_members, event_rows};
+    ghost use Rattle.mes_msg.specs.Events.{event_members, event_rows, lawful_event_rows};
     ghost use Rattle.std.specs.Prelude.{refl};
 
     ghost names = { event_members };
@@ -67,6 +67,8 @@ impl Choice for Event {
     const COUNT: usize = 8;
 
     ghost counted = { refl };
+
+    ghost lawful = { lawful_event_rows };
 
     #[tactic(auto, using(mes_part::specs::NameLaws::names_differ))]
     fn read_choice(

@@ -28,7 +28,7 @@ pub enum Operation {
 const OPERATION_MEMBERS: [&str; 2] = ["type", "launch"];
 
 impl Choice for Operation {
-    ghost use Rattle.mes_msg.specs.Operations.{operation_members, operation_rows};
+    ghost use Rattle.mes_msg.specs.Operations.{operation_members, operation_rows, lawful_operation_rows};
     ghost use Rattle.std.specs.Prelude.{refl};
 
     ghost names = { operation_members };
@@ -42,6 +42,8 @@ impl Choice for Operation {
     const COUNT: usize = 2;
 
     ghost counted = { refl };
+
+    ghost lawful = { lawful_operation_rows };
 
     #[tactic(auto, using(mes_part::specs::NameLaws::names_differ))]
     fn read_choice(

@@ -7,7 +7,7 @@ ghost use Rattle.mes_msg.specs.Texts.{IsTextOf, IsFaultOf};
 
 use crate::event::Event;
 use mes_json::{Json, ReadFault, TextFault, read_tape};
-use mes_part::{BoxedFault, Part, PartFault, Path, Trail, read_part};
+use mes_part::{BoxedFault, Part, PartFault, Path, STEPS_MOST, Trail, read_part};
 use std::alloc::Global;
 
 /// Why the bytes of a record spell no event, or no call.
@@ -74,7 +74,7 @@ impl Event {
 
 /// The value that the bytes of a record spell.
 pub(crate) fn read_bytes<T: Part>(alloc: Global, bytes: &[u8]) -> Result<T, RecordFault>
-    requires { T.STEPS ≤ 16 }
+    requires { T.STEPS ≤ STEPS_MOST }
     ensures ok { IfOk result (IsTextOf T.kind bytes.now) }
     ensures only { (v : T) → IsTextOf T.kind bytes.now v → MatchResult result (λ r. r ≡ v) (λ e. e ≡ RecordFault.NoMemory) }
     ensures err { IfErr result (IsFaultOf T.kind bytes.now) }

@@ -24,9 +24,9 @@ fn first_end(limit: Limit, text: &[u8]) -> Option<(usize, RecordOut)> {
 #[test]
 fn limits_have_a_range(rt: HostRuntime) {
     assert_eq!(rt; Limit::new(0), None);
-    assert_eq!(rt; Limit::new(16_777_217), None);
-    assert_eq!(rt; Limit::new(16_777_216), Some(Limit::MOST));
-    assert_eq!(rt; Limit::new(4_194_304), Some(Limit::USUAL));
+    assert_eq!(rt; Limit::new(RECORD_LIMIT_MOST + 1), None);
+    assert_eq!(rt; Limit::new(RECORD_LIMIT_MOST), Some(Limit::MOST));
+    assert_eq!(rt; Limit::new(RECORD_LIMIT_USUAL), Some(Limit::USUAL));
     assert_eq!(rt; Limit::new(1).map_or(0, |limit| limit.get()), 1);
 }
 
@@ -47,13 +47,21 @@ const ENDS: [(u32, &[u8], Option<(usize, RecordOut)>); 10] = [
         b"00000000000000000020\n{\"type\":\"HEARTBEAT\"}",
         Some((41, LAST)),
     ),
-    (4_194_304, b"000000000000000000020\n", Some((21, LONG))),
-    (16_777_216, b"18446744073709551636\n", Some((21, LARGE))),
-    (4_194_304, b"0\n", Some((2, RecordOut::Empty))),
-    (4_194_304, b"x", Some((1, BAD))),
-    (4_194_304, b"\n", Some((1, BAD))),
-    (4_194_304, b"12 \n", Some((3, BAD))),
-    (4_194_304, b"3\nab", None),
+    (
+        RECORD_LIMIT_USUAL,
+        b"000000000000000000020\n",
+        Some((21, LONG)),
+    ),
+    (
+        RECORD_LIMIT_MOST,
+        b"18446744073709551636\n",
+        Some((21, LARGE)),
+    ),
+    (RECORD_LIMIT_USUAL, b"0\n", Some((2, RecordOut::Empty))),
+    (RECORD_LIMIT_USUAL, b"x", Some((1, BAD))),
+    (RECORD_LIMIT_USUAL, b"\n", Some((1, BAD))),
+    (RECORD_LIMIT_USUAL, b"12 \n", Some((3, BAD))),
+    (RECORD_LIMIT_USUAL, b"3\nab", None),
 ];
 
 #[test]

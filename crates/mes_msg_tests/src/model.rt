@@ -11,14 +11,14 @@ mod values;
 
 use crate::support::{expect_fault, part_fault_of, row_of};
 use mes_json::{read_tape, write_text};
-use mes_model::{Part, PartFault, Trail};
+use mes_model::{Part, PartFault, STEPS_MOST, Trail};
 use std::alloc::Global;
 use std::process::Abort;
 use std::test::Fail;
 
 /// What a text is read as, from its tape.
 fn read<T: Part>(alloc: Global, text: &str) -> Result<Result<T, PartFault>, Fail>
-    requires { T.STEPS ≤ 16 }
+    requires { T.STEPS ≤ STEPS_MOST }
 {
     let tape = read_tape(alloc, text.as_bytes())?;
     Ok(T::read_from(alloc, &tape.root(), &Trail::new()))
@@ -26,7 +26,7 @@ fn read<T: Part>(alloc: Global, text: &str) -> Result<Result<T, PartFault>, Fail
 
 /// Each text has its first fault there.
 fn expect_faults<T: Part, R: Abort + AllocGlobal>(rt: &R, faults: &str) -> Result<(), Fail>
-    requires { T.STEPS ≤ 16 }
+    requires { T.STEPS ≤ STEPS_MOST }
 {
     for line in faults.lines() {
         let (text, fault) = row_of(line)?;
@@ -38,7 +38,7 @@ fn expect_faults<T: Part, R: Abort + AllocGlobal>(rt: &R, faults: &str) -> Resul
 
 /// Each text is a value, and its copy is written so.
 fn expect_values<T: Part, R: Abort + AllocGlobal>(rt: &R, values: &str) -> Result<(), Fail>
-    requires { T.STEPS ≤ 16 }
+    requires { T.STEPS ≤ STEPS_MOST }
 {
     for line in values.lines() {
         let (text, written) = row_of(line)?;

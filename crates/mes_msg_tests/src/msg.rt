@@ -7,6 +7,7 @@ mod show;
 mod written;
 
 use crate::support::{expect_fault, field_fault_of, row_of};
+use mes_frame::RECORD_LIMIT_MOST;
 use mes_json::read_text;
 use mes_model::Part;
 use mes_msg::{EncodeFault, Event, Limit};
@@ -34,7 +35,7 @@ fn canon(event: &Event, alloc: Global, limit: Limit) -> Result<Vec<u8>, Fail> {
 
 /// The event has this canonical text, within a limit of just its length.
 fn expect_canon<R: Abort + AllocGlobal>(rt: &R, event: &Event, written: &str) -> Result<(), Fail> {
-    let length = written.len().min(16_777_216) as u32;
+    let length = written.len().min(RECORD_LIMIT_MOST as usize) as u32;
     let limit = Limit::new(length).ok_or("a limit")?;
     let out = canon(event, rt.alloc(), limit)?;
     assert_eq!(rt; out.as_slice(), written.as_bytes());

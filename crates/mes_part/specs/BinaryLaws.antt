@@ -1,5 +1,5 @@
 -- The laws of bytes as base64 texts.
-use Rattle.std.proofs.Common.{◌≡◌, ℕ, zero, suc, Bool, true, false, List, [], ◌∷◌, bytes_eq, Option, Some, None, refl, sym, ◌∙◌, ap, subst, lit<}
+use Rattle.std.proofs.Common.{◌≡◌, inl, inr, ℕ, zero, suc, Bool, true, false, List, [], ◌∷◌, length, bytes_eq, Option, Some, None, refl, sym, ◌∙◌, ap, subst, arith, lit<}
 use Rattle.std.specs.Prelude.{nat_lt, ◌&&◌, Ok, Err}
 use Rattle.std.specs.List.{list_all}
 use Rattle.base64.specs.declared.decode.DecodeError.{DecodeError}
@@ -8,15 +8,20 @@ use Rattle.base64.specs.Decode.{decode_outcome}
 use Rattle.base64.specs.GeneralPurpose.{IsBytes, IsConsistent, encode_of, decode_of, decoded_bytes_of}
 use Rattle.base64.specs.Engines.{standard}
 use Rattle.base64.proofs.EngineFacts.{decode_of-encode_of}
+use Rattle.mes_json.specs.Tree.Tree.{boolean, string}
+use Rattle.mes_json.specs.Cursor.{as_text}
 use Rattle.mes_part.specs.Paths.{Place}
-use Rattle.mes_part.specs.Kinds.{Lawful, Returns}
+use Rattle.mes_part.specs.Kinds.{Lawful, Within, Returns}
 use Rattle.mes_part.specs.Leaves.{text_of}
 use Rattle.mes_part.specs.Numbers.{when}
 use Rattle.mes_part.specs.Binary.{Encodes, encodes, bytes_in, or_base64, encoded_by, base64_bytes}
-use Rattle.mes_part.specs.FieldLaws.{bound}
+use Rattle.mes_part.specs.FieldLaws.{bound, broken}
 use Rattle.mes_part.specs.NameLaws.{same_name, names_equal}
+use Rattle.mes_part.specs.StepLaws.{fault_there, expected_there, breaks_there}
 use Rattle.mes_part.specs.KindLaws.{text_is}
 use Rattle.mes_part.specs.NumberLaws.{when_some, less, less_test}
+use Rattle.mes_part.specs.declared.field.FieldFault.{FieldFault}
+use Rattle.mes_part.specs.declared.field.FieldWhy.TheVariants.{WrongKind, BadBase64}
 
 -- ---- numbers below 256
 
@@ -75,16 +80,28 @@ or_base64_ok : (at : List Place) (o : Option (List ℕ)) (bytes : List ℕ) → 
 or_base64_ok at None bytes e = absurd (cc)
 or_base64_ok at (Some bs) bytes e = cc
 
-lawful_encoded : (engine : GeneralPurpose) → IsConsistent engine → Lawful (encoded_by engine)
+base64_there : (at : List Place) (o : Option (List ℕ)) (f : FieldFault) → or_base64 at o ≡ Err f → length f.path ≡ length at
+base64_there at None f e = fault_there at BadBase64 f e
+base64_there at (Some bytes) f e = absurd (cc)
+
+lawful_encoded : (engine : GeneralPurpose) → IsConsistent engine → Lawful (encoded_by engine) 0
 lawful_encoded engine consistent = record {
   sound = λ at t bytes e.
       let h = bound (text_of at t) _ _ e in
       (h.0, text_is at t h.0 h.1, bytes_in_sound engine h.0 bytes (or_base64_ok at (bytes_in engine h.0) bytes h.2));
   complete = λ at t bytes h. rw (h.1, bytes_in_complete engine consistent h.0 bytes h.2) refl;
   no_null = λ bytes h. let e = h.1 in absurd (cc);
-}
+  sample = (string (encode_of engine []), [], (encode_of engine [], refl, (refl, are_bytes [] refl)));
+  within = within;
+  reached = breaks_there (encoded_by engine) (boolean true) WrongKind (λ e. absurd (cc)) (λ at. refl);
+} where
+  within : Within (encoded_by engine) 0
+  within at t f e = elim (broken (text_of at t) _ f e) [
+    | inl h ↦ omega (arith, expected_there at (as_text t) f h)
+    | inr h ↦ omega (arith, base64_there at (bytes_in engine h.0) f h.2)
+  ]
 
-pub lawful_base64_bytes : Lawful base64_bytes
+pub lawful_base64_bytes : Lawful base64_bytes 0
 unfolding base64_bytes
 lawful_base64_bytes = lawful_encoded standard refl
 

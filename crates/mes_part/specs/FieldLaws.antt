@@ -18,6 +18,16 @@ bound {A} {B} (Err f) go w e = let h : Err f ≡ Ok w = e in absurd (cc)
 pub after : {A B : Type 0} (r : Result A FieldFault) (go : A → Result B FieldFault) (v : A) → r ≡ Ok v → (r >>= go) ≡ go v
 after {A} r go v e = ap (λ (x : Result A FieldFault). x >>= go) e
 
+-- a fault is that of the first, or that of what is read with its value
+pub broken : {A B : Type 0} (r : Result A FieldFault) (go : A → Result B FieldFault) (f : FieldFault) → (r >>= go) ≡ Err f
+    → (r ≡ Err f) ⊎ ((v : A) × (r ≡ Ok v) × (go v ≡ Err f))
+broken (Ok v) go f e = inr (v, refl, e)
+broken {A} {B} (Err g) go f e = let h : Err g ≡ Err f = e in inl (cc)
+
+-- the fault of the first stands
+pub breaks_first : {A B : Type 0} (r : Result A FieldFault) (go : A → Result B FieldFault) (f : FieldFault) → r ≡ Err f → (r >>= go) ≡ Err f
+breaks_first {A} r go f e = ap (λ (x : Result A FieldFault). x >>= go) e
+
 pub bound_ok : {A : Type 0} (r : Result A FieldFault) → (r >>= (λ x. Ok x)) ≡ r
 bound_ok (Ok v) = refl
 bound_ok (Err f) = refl

@@ -1,12 +1,11 @@
 -- A label: a key, and the value that may stand beside it; and several labels.
-use Rattle.std.specs.Prelude.{codes}
+use Rattle.std.specs.Prelude.{List, codes}
 use Rattle.std.proofs.Common.{refl}
 use Rattle.mes_part.specs.Kinds.{Kind, Lawful, Returns}
 use Rattle.mes_part.specs.Leaves.{texts}
 use Rattle.mes_part.specs.KindLaws.{lawful_texts}
 use Rattle.mes_part.specs.Layouts.{Layout, needs, may_have, lists, no_more, ◌⨾⨾◌, laid_out, kind_of, lawful_kind, returns_kind}
 use Rattle.mes_part.specs.declared.label.Label.{Label}
-use Rattle.mes_part.specs.declared.label.Labels.{Labels}
 
 -- key !, value ?
 abbrev pub label_layout : Layout Label
@@ -20,25 +19,25 @@ label_layout =
 unfoldable pub label : Kind Label
 label = kind_of label_layout
 
-pub lawful_label : Lawful label
+pub lawful_label : Lawful label label_layout.rows.steps
 unfolding label
-lawful_label = lawful_kind label_layout
+lawful_label = lawful_kind label_layout refl
 
 pub label_back : (v : Label) → label_layout.rows.table.Back (label_layout.from v) → Returns label v
 unfolding label
 label_back v back = returns_kind label_layout refl v back
 
 -- labels *
-abbrev pub labels_layout : Layout Labels
-labels_layout = laid_out (lists (codes "labels") label lawful_label ⨾⨾ no_more) (λ x. record { labels = x.0 }) (λ v. (v.labels, tt)) (λ v. refl)
+abbrev pub labels_layout : Layout (List Label)
+labels_layout = laid_out (lists (codes "labels") label lawful_label ⨾⨾ no_more) (λ x. x.0) (λ v. (v, tt)) (λ v. refl)
 
-unfoldable pub labels : Kind Labels
+unfoldable pub labels : Kind (List Label)
 labels = kind_of labels_layout
 
-pub lawful_labels : Lawful labels
+pub lawful_labels : Lawful labels labels_layout.rows.steps
 unfolding labels
-lawful_labels = lawful_kind labels_layout
+lawful_labels = lawful_kind labels_layout refl
 
-pub labels_back : (v : Labels) → labels_layout.rows.table.Back (labels_layout.from v) → Returns labels v
+pub labels_back : (v : List Label) → labels_layout.rows.table.Back (labels_layout.from v) → Returns labels v
 unfolding labels
 labels_back v back = returns_kind labels_layout refl v back

@@ -12,8 +12,10 @@ pub mod Layouts
 pub mod Choices
 pub mod FieldLaws
 pub mod NameLaws
+pub mod StepLaws
 pub mod KindLaws
 pub mod RowLaws
+pub mod MessageLaws
 pub mod ChoiceLaws
 pub mod Numbers
 pub mod NumberLaws

@@ -1,10 +1,11 @@
 -- Names of members: which names a list has, and the members that were written under them.
-use Rattle.std.proofs.Common.{◌≡◌, ◌≢◌, ℕ, Bool, true, false, List, [], ◌∷◌, ◌++◌, refl, ap, subst, cond, bytes_eq}
+use Rattle.std.proofs.Common.{◌≡◌, ◌≢◌, ℕ, Bool, true, false, List, [], ◌∷◌, ◌++◌, refl, ◌∙◌, ap, subst, cond, bytes_eq, append-nil}
 use Rattle.std.specs.Prelude.{◌||◌, ◌&&◌, not, if◌then◌else◌}
 use Rattle.std.proofs.lemmas.Slice.Eq.{bytes_eq-Decides}
 use Rattle.mes_json.specs.Tree.{Tree, Members}
+use Rattle.mes_json.specs.Tree.Tree.{null}
 use Rattle.mes_json.specs.View.{members_of}
-use Rattle.mes_part.specs.Fields.{values_named, is_in}
+use Rattle.mes_part.specs.Fields.{values_named, is_in, Has}
 
 -- no name is in both
 abbrev pub apart : List (List ℕ) → List (List ℕ) → Bool
@@ -24,6 +25,10 @@ united (m ∷ ms) ns = if is_in m ns then united ms ns else m ∷ united ms ns
 -- under each of these names the members hold what was written, and no more
 abbrev pub Agrees : List (List ℕ) → Members → List (List ℕ × Tree) → Type 0
 Agrees names ms own = (n : List ℕ) → is_in n names ≡ true → values_named n ms ≡ values_named n (members_of own)
+
+-- nothing stands under other names
+abbrev pub Under : List (List ℕ) → List (List ℕ × Tree) → Type 0
+Under names own = (n : List ℕ) → is_in n names ≡ false → values_named n (members_of own) ≡ []
 
 pub same_name : (n : List ℕ) → bytes_eq n n ≡ true
 same_name n = (bytes_eq-Decides n n).1 refl
@@ -149,3 +154,32 @@ not_only m n e = by_test (bytes_eq m n) e where
 
 pub is_only : (n : List ℕ) → is_in n (n ∷ []) ≡ true
 is_only n = rw (same_name n) refl
+
+-- ---- members that were written under names
+
+-- one member stands under its name alone
+pub under_one : (n : List ℕ) (t : Tree) → Under (n ∷ []) ((n, t) ∷ [])
+under_one n t = λ m other. named_other n m t [] (not_only n m other)
+
+-- where it was written, it is there
+pub has_one : (n : List ℕ) (ms : Members) (t : Tree) → t ≢ null → Agrees (n ∷ []) ms ((n, t) ∷ []) → Has ms n t
+has_one n ms t there agrees = (agrees n (is_only n) ∙ named_this n t [], there)
+
+-- the members of two lists of names stand under the names of both
+pub under_both : (xs ys : List (List ℕ)) (a b : Pairs) → Under xs a → Under ys b → Under (xs ++ ys) (a ++ b)
+under_both xs ys a b of_xs of_ys = λ n other.
+    let neither = in_neither n xs ys other in
+    named_append n a b ∙ ap (λ (ts : List Tree). ts ++ values_named n (members_of b)) (of_xs n neither.0) ∙ of_ys n neither.1
+
+-- where they were written one behind the other, each was written
+pub agrees_each : (xs ys : List (List ℕ)) (ms : Members) (a b : Pairs) → apart xs ys ≡ true → Under xs a → Under ys b → Agrees (xs ++ ys) ms (a ++ b)
+    → Agrees xs ms a × Agrees ys ms b
+agrees_each xs ys ms a b differ of_xs of_ys agrees = (
+  (λ n named. agrees n (in_front n xs ys named)
+      ∙ named_append n a b
+      ∙ ap (λ (ts : List Tree). values_named n (members_of a) ++ ts) (of_ys n (apart_in n xs ys differ named))
+      ∙ append-nil _),
+  (λ n named. agrees n (in_back n xs ys named)
+      ∙ named_append n a b
+      ∙ ap (λ (ts : List Tree). ts ++ values_named n (members_of b)) (of_xs n (apart_back n xs ys differ named))),
+)

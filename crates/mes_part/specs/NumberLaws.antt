@@ -1,5 +1,5 @@
 -- The laws of the kinds of numbers.
-use Rattle.std.proofs.Common.{◌≡◌, inl, inr, ℕ, suc, ◌+◌, ◌*◌, ◌^◌, ◌<◌, ◌≤◌, Bool, true, false, ◌==◌, List, length, Option, Some, None, refl, sym, ◌∙◌, ap, subst, arith, lit<, ℤ, pos, negsuc, ◌+ℤ◌, if◌then◌else◌}
+use Rattle.std.proofs.Common.{◌≡◌, inl, inr, ℕ, suc, ◌+◌, ◌*◌, ◌^◌, ◌<◌, ◌≤◌, Bool, true, false, ◌==◌, List, [], ◌∷◌, length, Option, Some, None, refl, sym, ◌∙◌, ap, subst, arith, zero-mul, lit<, lit≤, ℤ, pos, negsuc, ◌+ℤ◌, if◌then◌else◌}
 use Rattle.std.specs.Prelude.{◌/◌, ◌%◌, nat_lt, nat_le, Ok, Err, FitsSigned, decimal}
 use Rattle.std.specs.Fmt.{signed_decimal}
 use Rattle.std.specs.Int.{w32}
@@ -11,7 +11,7 @@ use Rattle.std.proofs.Math.Nat.{one-le-pow, mul-div_cancel, mul-mod_left}
 use Rattle.mes_fixed.specs.declared.limits.TheConstants.{TEXT_LIMIT, UNITS_LIMIT}
 use Rattle.mes_fixed.specs.declared.automaton.Part.TheVariants.{AtStart}
 use Rattle.mes_fixed.specs.declared.fault.NumFault.{NumFault}
-use Rattle.mes_fixed.specs.Number.{Numeral}
+use Rattle.mes_fixed.specs.Number.{Numeral, Spells}
 use Rattle.mes_fixed.specs.Gathering.{blank, run}
 use Rattle.mes_fixed.specs.Value.{mantissa, exponent, signed, HalfUp, Nearest, Whole, GivesUnits, GivesWhole, GivesSigned, LacksUnits, LacksWhole, LacksSigned, Refuses}
 use Rattle.mes_fixed.specs.Value.{Reads as ReadsNumber}
@@ -20,15 +20,18 @@ use Rattle.mes_fixed.proofs.Grammar.{spelt_from_run}
 use Rattle.mes_fixed.proofs.Scales.{half_up_once}
 use Rattle.mes_fixed.proofs.Readings.{whole_only, signed_only, units_only}
 use Rattle.mes_fixed.specs.Text.{text_of}
-use Rattle.mes_json.specs.Tree.Tree.{number}
+use Rattle.mes_json.specs.Tree.Tree.{boolean, number}
+use Rattle.mes_json.specs.Cursor.{as_number}
 use Rattle.mes_part.specs.Paths.{Place}
 use Rattle.mes_part.specs.Fields.{fault}
-use Rattle.mes_part.specs.Kinds.{Lawful}
+use Rattle.mes_part.specs.Kinds.{Lawful, Within}
 use Rattle.mes_part.specs.Leaves.{number_of}
 use Rattle.mes_part.specs.Numbers.{when, exact, nearest, is_unsigned, whole_value, signed_value, units_of, units_value, value_of, or_range, numbers, whole, signed32, fixed}
-use Rattle.mes_part.specs.FieldLaws.{bound}
+use Rattle.mes_part.specs.FieldLaws.{bound, broken}
+use Rattle.mes_part.specs.StepLaws.{fault_there, expected_there, breaks_there}
 use Rattle.mes_part.specs.KindLaws.{number_is}
-use Rattle.mes_part.specs.declared.field.FieldWhy.TheVariants.{NumberRange}
+use Rattle.mes_part.specs.declared.field.FieldFault.{FieldFault}
+use Rattle.mes_part.specs.declared.field.FieldWhy.TheVariants.{WrongKind, NumberRange}
 
 -- ---- options
 
@@ -86,16 +89,41 @@ range_some : {X : Type 0} (at : List Place) (o : Option X) (x : X) → or_range 
 range_some at None x e = absurd (cc)
 range_some at (Some y) x e = cc
 
+range_there : {X : Type 0} (at : List Place) (o : Option X) (f : FieldFault) → or_range at o ≡ Err f → length f.path ≡ length at
+range_there at None f e = fault_there at NumberRange f e
+range_there at (Some x) f e = absurd (cc)
+
+-- the parts of the text `0`
+pub zero_parts : Numeral
+zero_parts = record { negative = false; whole = 48 ∷ []; fraction = []; lowers = false; power = [] }
+
+zero_spelt : Spells (48 ∷ []) zero_parts
+unfolding zero_parts
+zero_spelt = record { minus = []; frac = []; exp = []; is = refl; is_minus = refl; is_int = inl (refl, refl); is_frac = refl; is_exp = (refl, refl) }
+
+-- numbers, one of which is written `0`
 pub lawful_numbers : {X : Type 0} (Gives : Numeral → X → Type 0) (value : Numeral → Option X) (write : X → List ℕ)
     → ((n : Numeral) (x : X) → value n ≡ Some x → Gives n x) → ((n : Numeral) (x : X) → Gives n x → value n ≡ Some x)
-    → Lawful (numbers Gives value write)
-lawful_numbers {X} Gives value write gives says = record {
+    → (x : X) × Gives zero_parts x → Lawful (numbers Gives value write) 0
+lawful_numbers {X} Gives value write gives says some = record {
   sound = λ at t x e.
       let h = bound (number_of at t) _ _ e in
       (h.0, number_is at t h.0 h.1, value_sound Gives value gives h.0 x (range_some at (value_of value h.0) x h.2));
   complete = λ at t x h. rw (h.1, value_complete Gives value says h.0 x h.2) refl;
   no_null = λ x h. let e = h.1 in absurd (cc);
-}
+  sample = (
+    number (48 ∷ []),
+    some.0,
+    (48 ∷ [], refl, record { short = lit≤ tt; numeral = zero_parts; spells = zero_spelt; gives = some.1 }),
+  );
+  within = within;
+  reached = breaks_there (numbers Gives value write) (boolean true) WrongKind (λ e. absurd (cc)) (λ at. refl);
+} where
+  within : Within (numbers Gives value write) 0
+  within at t f e = elim (broken (number_of at t) _ f e) [
+    | inl h ↦ omega (arith, expected_there at (as_number t) f h)
+    | inr h ↦ omega (arith, range_there at (value_of value h.0) f h.2)
+  ]
 
 -- ---- the parts' value
 
@@ -167,9 +195,13 @@ whole_says : (n : Numeral) (v : ℕ) → GivesWhole n v → whole_value n ≡ So
 whole_says n v h =
     rw (unsigned_complete n h.unsigned, exact_complete (mantissa n) (exponent n) v h.whole, less_test v (2 ^ 64) h.fits) refl
 
-pub lawful_whole : Lawful whole
+whole_zero : GivesWhole zero_parts 0
+unfolding zero_parts
+whole_zero = record { unsigned = λ e. absurd (cc); whole = refl; fits = lit< tt }
+
+pub lawful_whole : Lawful whole 0
 unfolding whole
-lawful_whole = lawful_numbers GivesWhole whole_value decimal whole_gives whole_says
+lawful_whole = lawful_numbers GivesWhole whole_value decimal whole_gives whole_says (0, whole_zero)
 
 -- ---- whole numbers with a sign
 
@@ -190,9 +222,13 @@ signed_says n z h =
     rw (exact_complete (mantissa n) (exponent n) h.size h.whole, less_test (mag (signed n.negative h.size)) (2 ^ 31) small)
     (ap (λ (x : ℤ). Some x) (sym h.is))
 
-pub lawful_signed32 : Lawful signed32
+signed_zero : GivesSigned zero_parts (pos 0)
+unfolding zero_parts
+signed_zero = record { size = 0; whole = refl; is = refl; fits = record { sfits = lit< tt } }
+
+pub lawful_signed32 : Lawful signed32 0
 unfolding signed32
-lawful_signed32 = lawful_numbers GivesSigned signed_value signed_decimal signed_gives signed_says
+lawful_signed32 = lawful_numbers GivesSigned signed_value signed_decimal signed_gives signed_says (pos 0, signed_zero)
 
 -- ---- decimal numbers
 
@@ -214,9 +250,13 @@ units_say places n u h =
     let same : units_of places n ≡ u = nearest_complete (mantissa n) (exponent n +ℤ pos places) u h.rounds in
     rw (unsigned_complete n h.unsigned, same, at_most_test u UNITS_LIMIT h.fits) refl
 
-pub lawful_fixed : (places : ℕ) → Lawful (fixed places)
+units_zero : (places : ℕ) → GivesUnits places zero_parts 0
+unfolding zero_parts
+units_zero places = record { unsigned = λ e. absurd (cc); rounds = sym (zero-mul _); fits = omega arith }
+
+pub lawful_fixed : (places : ℕ) → Lawful (fixed places) 0
 unfolding fixed
-lawful_fixed places = lawful_numbers (GivesUnits places) (units_value places) (text_of places) (units_give places) (units_say places)
+lawful_fixed places = lawful_numbers (GivesUnits places) (units_value places) (text_of places) (units_give places) (units_say places) (0, units_zero places)
 
 -- ---- what `mes_fixed` refuses is out of range
 

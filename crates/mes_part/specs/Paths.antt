@@ -1,6 +1,7 @@
 -- Where in a JSON value a fault lies, and how that is printed: `a.b[0].c`, or `.` for the value itself.
 use Rattle.std.specs.Prelude.{ℕ, ◌<◌, ◌≤◌, ◌^◌, List, [], ◌∷◌, ◌++◌, length, All, codes, decimal}
 use Rattle.std.specs.List.{flat_map}
+use Rattle.mes_part.specs.declared.limits.TheConstants.{NAME_MOST, STEPS_MOST}
 
 -- a member, by its name, or an element, by its index
 pub data Place : Type 0 where
@@ -9,12 +10,12 @@ pub data Place : Type 0 where
 
 -- a name has 1 to 31 bytes, an index is a 64-bit number
 abbrev pub IsPlace : Place → Type 0
-IsPlace (name n) = (1 ≤ length n) × (length n ≤ 31)
+IsPlace (name n) = (1 ≤ length n) × (length n ≤ NAME_MOST)
 IsPlace (index i) = i < 2 ^ 64
 
 -- a path has at most 16 steps
 pub record IsPath (at : List Place) : Type 0 where
-  pub few : length at ≤ 16
+  pub few : length at ≤ STEPS_MOST
   pub each : All IsPlace at
 
 -- a step that stands behind another

@@ -1,11 +1,12 @@
 -- The names of a message's rows, in their order.
 use Rattle.std.specs.Prelude.{ℕ, ◌+◌, Bool, true, leb, ◌&&◌, List, [], ◌∷◌, length, bytes_eq, slice_index_or}
 use Rattle.mes_part.specs.NameLaws.{distinct}
+use Rattle.mes_part.specs.declared.limits.TheConstants.{NAME_MOST}
 
 -- each name has 1 to 31 bytes
 abbrev pub are_short : List (List ℕ) → Bool
 are_short [] = true
-are_short (n ∷ ns) = (leb 1 (length n) && leb (length n) 31) && are_short ns
+are_short (n ∷ ns) = (leb 1 (length n) && leb (length n) NAME_MOST) && are_short ns
 
 -- each name has 1 to 31 bytes, and none stands twice
 abbrev pub are_names : List (List ℕ) → Bool

@@ -4,6 +4,7 @@ use Rattle.mes_part.specs.Paths.{Place, IsPlace}
 use Rattle.mes_part.specs.Steps.{place_of}
 use Rattle.mes_part.specs.declared.trail.Link.{Link}
 use Rattle.mes_part.specs.declared.trail.Link.TheVariants.{Start, Along, Below}
+use Rattle.mes_part.specs.declared.limits.TheConstants.{STEPS_MOST}
 
 abbrev pub places : Link → List Place
 places Start = []
@@ -14,4 +15,4 @@ places (Below above step) = above.now ++ place_of step ∷ []
 abbrev pub HasRoom : Link → Type 0
 HasRoom Start = Unit {0}
 HasRoom (Along path) = Unit {0}
-HasRoom (Below above step) = (length above.now < 16) × IsPlace (place_of step)
+HasRoom (Below above step) = (length above.now < STEPS_MOST) × IsPlace (place_of step)

@@ -4,10 +4,12 @@ ghost use Rattle.std.specs.Prelude.{◌≡◌, ℕ, ◌+◌, ◌≤◌, ◌++◌
 ghost use Rattle.mes_json.specs.Tree.{Members};
 ghost use Rattle.mes_part.specs.FoundRows.{FindsEach};
 ghost use Rattle.mes_part.specs.Parts.{Gives};
+ghost use Rattle.mes_part.specs.RowLaws.{LawfulTable};
 ghost use Rattle.mes_part.specs.Rows.{Table};
 ghost use Rattle.mes_part.specs.Written.{pairs_view, Continues};
 
 use crate::found::Found;
+use crate::limits::STEPS_MOST;
 use crate::part::PartFault;
 use crate::trail::Trail;
 use mes_json::{Json, NoMemory, Text};
@@ -21,7 +23,7 @@ pub trait Choice: Drop {
     // The row `type` and the rows of each type.
     ghost table: { Table Self };
 
-    // The most steps from the message to a place in the value.
+    // The most steps from the message to the place of a fault in the value.
     ghost STEPS: { ℕ };
 
     ghost COUNT: { ℕ };
@@ -31,7 +33,7 @@ pub trait Choice: Drop {
 
     /// The value, or the first fault, where so much was found under each of its names, of which `type` is the first.
     fn read_choice(alloc: Global, found: &[Found<'_>], path: &Trail<'_>) -> Result<Self, PartFault>
-        requires room { length path.now + STEPS ≤ 16 }
+        requires room { length path.now + STEPS ≤ STEPS_MOST }
         requires all { COUNT ≤ length found.now }
         ensures { (ms : Members) → FindsEach 0 names ms found.now → Gives (table.read path.now ms) result };
 
@@ -46,4 +48,6 @@ pub trait Choice: Drop {
         ensures { IfOk result (λ v. v ≡ self.now) };
 
     ghost counted: { length names ≡ COUNT };
+
+    ghost lawful: { LawfulTable table STEPS };
 }

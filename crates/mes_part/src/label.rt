@@ -1,4 +1,8 @@
 //! Labels: a key, and the value that may stand beside it.
+ghost use Rattle.std.specs.Prelude.{◌≡◌, IfOk, OnOk};
+ghost use Rattle.mes_json.specs.View.{view};
+ghost use Rattle.mes_part.specs.Kinds.{Returns};
+ghost use Rattle.mes_part.specs.Labels.{labels};
 
 use crate::list::List;
 use crate::message::{MadeOf, message_tree, read_message};
@@ -9,9 +13,11 @@ use crate::row_list::RowList;
 use crate::row_ref::MustRef;
 use crate::row_refs::RowRefs;
 use crate::trail::Trail;
+use crate::write_row::copy_list;
 use crate::{made, pairs};
 use mes_json::{Element, Json, NoMemory, Text};
 use std::alloc::Global;
+use std::marker::Model;
 
 /// A key, and the value that may stand beside it.
 #[derive(Debug, Drop)]
@@ -72,11 +78,42 @@ impl Part for Label {
     }
 }
 
-/// Labels in order.
+/// Labels in order. A contract sees the list of them.
 #[derive(Debug, Drop)]
 pub struct Labels {
-    /// The labels.
-    pub labels: List<Label>,
+    labels: List<Label>,
+}
+
+impl Model for Labels {
+    ghost use Rattle.std.specs.Prelude.{List as list};
+    ghost use Rattle.mes_part.specs.declared.label.Label.{Label as LabelValue};
+
+    ghost Value = { list LabelValue };
+
+    ghost view = { λ body. body.labels };
+}
+
+impl Labels {
+    /// These labels. Takes no memory.
+    pub fn new(labels: List<Label>) -> Labels
+        ensures { result ≡ labels }
+    {
+        Labels { labels }
+    }
+
+    /// The labels in order, borrowed.
+    pub fn as_slice(&self) -> &[Label]
+        ensures { result.now ≡ self.now }
+    {
+        self.labels.as_slice()
+    }
+
+    /// The labels, in the memory that they own.
+    pub fn into_list(self) -> List<Label>
+        ensures { result ≡ self }
+    {
+        self.labels
+    }
 }
 
 /// The names of the rows of labels.
@@ -114,13 +151,22 @@ impl Part for Labels {
         read_message::<LabelsRows, Labels, 1>(alloc, element, &LABELS_NAMES, path)
     }
 
-    #[tactic(auto, using(crate::specs::Labels::labels_back), unfolding(crate::specs::Labels::labels))]
     fn tree(&self, alloc: Global) -> Result<Json, NoMemory> {
-        message_tree(alloc, &LABELS_NAMES, &pairs!(&self.labels))
+        labels_tree(alloc, &self.labels)
     }
 
     fn copy(&self, alloc: Global) -> Result<Labels, NoMemory> {
-        let values = pairs!(&self.labels).copy_rows(alloc)?;
-        Ok(Labels::made_of(values))
+        let labels = copy_list(alloc, &self.labels)?;
+        Ok(Labels { labels })
     }
+}
+
+/// What labels are written as.
+#[tactic(auto, using(crate::specs::Labels::labels_back), unfolding(crate::specs::Labels::labels))]
+fn labels_tree(alloc: Global, list: &List<Label>) -> Result<Json, NoMemory>
+    ensures tree { IfOk result (λ t. view t ≡ labels.tree list.now) }
+    // It is read back.
+    ensures back { OnOk result (Returns labels list.now) }
+{
+    message_tree(alloc, &LABELS_NAMES, &pairs!(list))
 }

@@ -11,6 +11,7 @@ mod kept;
 mod label;
 mod leaf;
 mod leaves;
+mod limits;
 mod list;
 mod message;
 mod numbers;
@@ -31,8 +32,8 @@ mod write_row;
 pub use boxed_fault::BoxedFault;
 pub use bytes::Bytes;
 pub use calls::{
-    either_list_returned, list_returned, one_answer, one_either_list, one_list, read_part,
-    returned, written_again,
+    either_list_returned, list_returned, most_steps, one_answer, one_either_list, one_list,
+    part_limits, read_list, read_part, returned, written_again,
 };
 pub use choice::Choice;
 pub use field::{FieldFault, FieldWhy};
@@ -40,6 +41,7 @@ pub use found::{Found, find_rows};
 pub use kept::Kept;
 pub use label::{Label, Labels};
 pub use leaf::text_in;
+pub use limits::{NAME_MOST, PATH_TEXT_MOST, STEPS_MOST};
 pub use list::List;
 pub use message::{MadeOf, message_tree, read_message, read_typed, typed_tree};
 pub use pairs::{
@@ -47,9 +49,9 @@ pub use pairs::{
     Rows14, Rows15, Rows16,
 };
 pub use part::{Part, PartFault};
-pub use path::{PATH_TEXT_MOST, Path, STEPS_MOST, Step};
+pub use path::{Path, Step};
 pub use read_row::{
-    flagged, left_out, optional, read_either_list, read_list, repeated, required, type_of,
+    flagged, left_out, optional, read_either_list, read_items, repeated, required, type_of,
 };
 pub use refusal::{refusal_at, type_refusal};
 pub use row::{Flag, Many, Maybe, Must, Row};

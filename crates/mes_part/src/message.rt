@@ -12,6 +12,7 @@ ghost use Rattle.mes_part.specs.RowNames.{are_names};
 
 use crate::choice::Choice;
 use crate::found::find_rows;
+use crate::limits::STEPS_MOST;
 use crate::part::PartFault;
 use crate::row_list::RowList;
 use crate::row_refs::RowRefs;
@@ -37,7 +38,7 @@ pub fn read_message<R: RowList, M: MadeOf<R::Values>, const N: usize>(
     names: &[&'static str],
     path: &Trail<'_>,
 ) -> Result<M, PartFault>
-    requires room { length path.now + R.STEPS ≤ 16 }
+    requires room { length path.now + R.STEPS ≤ STEPS_MOST }
     // So few that what is found of them has room in memory.
     requires most { N ≤ 64 }
     requires each { length names.now ≡ N }
@@ -72,7 +73,7 @@ pub fn read_typed<C: Choice, const N: usize>(
     names: &[&'static str],
     path: &Trail<'_>,
 ) -> Result<C, PartFault>
-    requires room { length path.now + C.STEPS ≤ 16 }
+    requires room { length path.now + C.STEPS ≤ STEPS_MOST }
     // So few that what is found of them has room in memory.
     requires most { N ≤ 64 }
     requires each { length names.now ≡ N }

@@ -9,6 +9,7 @@ ghost use Rattle.mes_part.specs.Parts.{Gives};
 ghost use Rattle.mes_part.specs.declared.part.PartFault.TheVariants.{NoMemory as no_memory};
 
 use crate::boxed_fault::BoxedFault;
+use crate::limits::STEPS_MOST;
 use crate::path::Path;
 use crate::trail::Trail;
 use mes_json::{Element, Json, NoMemory, Tape};
@@ -53,17 +54,17 @@ pub trait Part: Drop {
 
     ghost STEPS: { ℕ };
 
-    /// The most steps from a value of this type to a place in it.
+    /// The most steps from a value of this type to the place of a fault in it.
     const STEPS: u32;
 
     /// The value that stands at the place, whose path this is, or the first fault.
     fn read_from(alloc: Global, element: &Element<'_>, path: &Trail<'_>) -> Result<Self, PartFault>
-        requires { length path.now + STEPS ≤ 16 }
+        requires { length path.now + STEPS ≤ STEPS_MOST }
         ensures { (t : Tree) → BeginsWith element.now t → Gives (kind.read path.now t) result };
 
     /// The value that a tree is, where it stands at the path, or the first fault. The tree is laid on a tape.
     final fn read(alloc: Global, json: &Json, path: &Path) -> Result<Self, PartFault>
-        requires { length path.now + STEPS ≤ 16 }
+        requires { length path.now + STEPS ≤ STEPS_MOST }
         ensures { Gives (kind.read path.now (view json.now)) result }
     {
         let tape = Tape::of_json(alloc, json)?;
@@ -80,5 +81,5 @@ pub trait Part: Drop {
     fn copy(&self, alloc: Global) -> Result<Self, NoMemory>
         ensures { IfOk result (λ v. v ≡ self.now) };
 
-    ghost lawful: { Lawful kind };
+    ghost lawful: { Lawful kind STEPS };
 }

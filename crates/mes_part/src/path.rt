@@ -5,20 +5,15 @@ ghost use Rattle.arrayvec.specs.ArrayString.{array_string_len};
 ghost use Rattle.mes_part.specs.Paths.{Place, IsPlace, step_text, path_text};
 ghost use Rattle.mes_part.specs.Steps.{place_of};
 
+use crate::limits::{NAME_MOST, PATH_TEXT_MOST, STEPS_MOST};
 use arrayvec::ArrayString;
 use itoa::Buffer;
 use std::marker::Model;
 
-/// How many steps a path has at most.
-pub const STEPS_MOST: usize = 16;
-
-/// How many bytes the text of a path has at most: 16 steps of a dot and 31 bytes.
-pub const PATH_TEXT_MOST: usize = 512;
-
 /// One step into a JSON value.
 #[derive(Clone, Copy, Debug)]
 pub enum Step {
-    /// To the member of this name, of 1 to 31 bytes.
+    /// To the member of this name, of 1 to `NAME_MOST` bytes.
     Name(&'static str),
     /// To the element at this index, from 0.
     Index(u64),
@@ -35,7 +30,7 @@ impl Default for Step {
     }
 }
 
-/// The steps from a JSON value to the place of a fault, at most 16.
+/// The steps from a JSON value to the place of a fault, at most `STEPS_MOST`.
 #[derive(Debug, Drop)]
 pub struct Path {
     /// The steps in order, and behind them free room.
@@ -47,12 +42,13 @@ impl Model for Path {
     ghost use Rattle.std.specs.Prelude.{◌≡◌, ◌≤◌, List, length, map, take};
     ghost use Rattle.mes_part.specs.Paths.{Place, IsPath};
     ghost use Rattle.mes_part.specs.Steps.{place_of};
+    ghost use Rattle.mes_part.specs.declared.limits.TheConstants.{STEPS_MOST};
 
     ghost Value = { List Place };
 
     ghost view = { λ p. map place_of (take p.len p.steps) };
 
-    ghost invariant = { λ p. (length p.steps ≡ 16) × (p.len ≤ 16) × IsPath (map place_of (take p.len p.steps)) };
+    ghost invariant = { λ p. (length p.steps ≡ STEPS_MOST) × (p.len ≤ STEPS_MOST) × IsPath (map place_of (take p.len p.steps)) };
 }
 
 impl Path {
@@ -111,7 +107,7 @@ impl Path {
 /// Appends a step that stands behind another.
 fn push_step(text: &mut ArrayString<PATH_TEXT_MOST>, step: Step)
     requires place { IsPlace (place_of step) }
-    requires room { array_string_len text.old + 32 ≤ PATH_TEXT_MOST }
+    requires room { array_string_len text.old + NAME_MOST + 1 ≤ PATH_TEXT_MOST }
     ensures { text.new.bytes ≡ text.old.bytes ++ step_text (place_of step) }
 {
     match step {

@@ -15,6 +15,7 @@ ghost use Rattle.mes_part.specs.Parts.{Gives, Shows};
 
 use crate::field::FieldWhy;
 use crate::found::{Found, find_rows};
+use crate::limits::STEPS_MOST;
 use crate::list::List;
 use crate::part::{Part, PartFault};
 use crate::path::Step;
@@ -31,7 +32,7 @@ pub fn required<T: Part>(
     name: &'static str,
     path: &Trail<'_>,
 ) -> Result<T, PartFault>
-    requires room { length path.now + 1 + T.STEPS ≤ 16 }
+    requires room { length path.now + 1 + T.STEPS ≤ STEPS_MOST }
     requires step { IsPlace (Place.name name.now) }
     ensures { (ms : Members) → IsFound found.now (values_named name.now ms) → Gives (required name.now T.kind path.now ms) result }
 {
@@ -50,7 +51,7 @@ pub fn optional<T: Part>(
     name: &'static str,
     path: &Trail<'_>,
 ) -> Result<Option<T>, PartFault>
-    requires room { length path.now + 1 + T.STEPS ≤ 16 }
+    requires room { length path.now + 1 + T.STEPS ≤ STEPS_MOST }
     requires step { IsPlace (Place.name name.now) }
     ensures { (ms : Members) → IsFound found.now (values_named name.now ms) → Gives (optional name.now T.kind path.now ms) result }
 {
@@ -72,12 +73,12 @@ pub fn repeated<T: Part>(
     name: &'static str,
     path: &Trail<'_>,
 ) -> Result<List<T>, PartFault>
-    requires room { length path.now + 2 + T.STEPS ≤ 16 }
+    requires room { length path.now + 2 + T.STEPS ≤ STEPS_MOST }
     requires step { IsPlace (Place.name name.now) }
     ensures { (ms : Members) → IsFound found.now (values_named name.now ms) → Gives (repeated name.now T.kind path.now ms) result }
 {
     match sole_value(found) {
-        Sole::Present(value) => read_list(alloc, &value, &path.with(Step::Name(name))),
+        Sole::Present(value) => read_items(alloc, &value, &path.with(Step::Name(name))),
         Sole::Absent => Ok(List::new(Vec::new(alloc))),
         Sole::Repeated => Err(row_refusal(alloc, path, name, FieldWhy::Twice)),
     }
@@ -91,7 +92,7 @@ pub fn flagged(
     name: &'static str,
     path: &Trail<'_>,
 ) -> Result<bool, PartFault>
-    requires room { length path.now < 16 }
+    requires room { length path.now < STEPS_MOST }
     requires step { IsPlace (Place.name name.now) }
     ensures { (ms : Members) → IsFound found.now (values_named name.now ms) → Shows (λ x. x) (flagged name.now path.now ms) result }
 {
@@ -108,7 +109,7 @@ pub fn flagged(
 /// The row `type`, which says what other rows there are.
 #[tactic(auto, using(crate::proofs::PartLemmas::refuses_told), unfolding(crate::specs::Rows::required, crate::specs::Fields::lookup, crate::specs::Leaves::texts))]
 pub fn type_of<'a>(alloc: Global, found: &Found<'a>, path: &Trail<'_>) -> Result<&'a str, PartFault>
-    requires { length path.now < 16 }
+    requires { length path.now < STEPS_MOST }
     ensures { (ms : Members) → IsFound found.now (values_named type_name ms) → Shows (λ s. s.now) (required type_name texts path.now ms) result }
 {
     match sole_value(found) {
@@ -125,12 +126,12 @@ pub fn type_of<'a>(alloc: Global, found: &Found<'a>, path: &Trail<'_>) -> Result
 const ROOM_FIRST: usize = 64;
 
 /// The values of an array's items, in order.
-pub fn read_list<T: Part>(
+pub fn read_items<T: Part>(
     alloc: Global,
     element: &Element<'_>,
     path: &Trail<'_>,
 ) -> Result<List<T>, PartFault>
-    requires { length path.now + 1 + T.STEPS ≤ 16 }
+    requires { length path.now + 1 + T.STEPS ≤ STEPS_MOST }
     ensures { (t : Tree) → BeginsWith element.now t → Gives ((list_of T.kind).read path.now t) result }
 {
     let Some(mut items) = element.items() else {
@@ -151,12 +152,12 @@ pub fn read_either_list<T: Part>(
     name: &'static str,
     path: &Trail<'_>,
 ) -> Result<List<T>, PartFault>
-    requires room { length path.now + 2 + T.STEPS ≤ 16 }
+    requires room { length path.now + 2 + T.STEPS ≤ STEPS_MOST }
     requires step { IsPlace (Place.name name.now) }
     ensures { (t : Tree) → BeginsWith element.now t → Gives ((either_list name.now T.kind).read path.now t) result }
 {
     if element.items().is_some() {
-        return read_list(alloc, element, path);
+        return read_items(alloc, element, path);
     }
     let rows = find_rows::<1>(alloc, element, &[name], path)?;
     repeated(alloc, rows.at(0), name, path)
@@ -180,7 +181,7 @@ pub fn left_out(
     name: &'static str,
     path: &Trail<'_>,
 ) -> Result<(), PartFault>
-    requires room { length path.now < 16 }
+    requires room { length path.now < STEPS_MOST }
     requires step { IsPlace (Place.name name.now) }
     ensures { (ms : Members) → IsFound found.now (values_named name.now ms) → Shows (λ _. None) (optional name.now left_out path.now ms) result }
 {

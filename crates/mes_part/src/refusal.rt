@@ -9,6 +9,7 @@ ghost use Rattle.mes_part.specs.Refusals.{Tells};
 
 use crate::boxed_fault::BoxedFault;
 use crate::field::{FieldFault, FieldWhy};
+use crate::limits::STEPS_MOST;
 use crate::part::PartFault;
 use crate::path::Step;
 use crate::trail::Trail;
@@ -33,7 +34,7 @@ pub(crate) fn row_refusal(
     name: &'static str,
     why: FieldWhy,
 ) -> PartFault
-    requires room { length path.now < 16 }
+    requires room { length path.now < STEPS_MOST }
     requires step { IsPlace (Place.name name.now) }
     ensures { Tells (record { path = below path.now name.now; why = why }) result }
 {
@@ -43,7 +44,7 @@ pub(crate) fn row_refusal(
 
 /// What is wrong with the type of the object at this path.
 pub fn type_refusal(alloc: Global, path: &Trail<'_>, why: FieldWhy) -> PartFault
-    requires { length path.now < 16 }
+    requires { length path.now < STEPS_MOST }
     ensures { Tells (record { path = below path.now type_name; why = why }) result }
 {
     row_refusal(alloc, path, "type", why)

@@ -9,6 +9,7 @@ ghost use Rattle.mes_part.specs.Paths.{Place, IsPlace};
 ghost use Rattle.mes_part.specs.Rows.{Table, need, maybe, many, flag};
 
 use crate::found::Found;
+use crate::limits::STEPS_MOST;
 use crate::list::List;
 use crate::part::{Part, PartFault};
 use crate::read_row::{flagged, optional, repeated, required};
@@ -34,7 +35,7 @@ pub trait Row {
         name: &'static str,
         path: &Trail<'_>,
     ) -> Result<Self::Value, PartFault>
-        requires room { length path.now + STEPS ≤ 16 }
+        requires room { length path.now + STEPS ≤ STEPS_MOST }
         requires step { IsPlace (Place.name name.now) }
         ensures { (ms : Members) → IsFound found.now (values_named name.now ms) → Gives ((table name.now).read path.now ms) result };
 }

@@ -8,6 +8,7 @@ ghost use Rattle.mes_part.specs.RowNames.{are_short, name_at};
 ghost use Rattle.mes_part.specs.Rows.{Table, no_rows, ◌⨾◌};
 
 use crate::found::Found;
+use crate::limits::STEPS_MOST;
 use crate::part::PartFault;
 use crate::row::Row;
 use crate::trail::Trail;
@@ -38,7 +39,7 @@ pub trait RowList {
         first: usize,
         path: &Trail<'_>,
     ) -> Result<Self::Values, PartFault>
-        requires room { length path.now + STEPS ≤ 16 }
+        requires room { length path.now + STEPS ≤ STEPS_MOST }
         requires rows { first + COUNT ≤ length names.now }
         requires all { length names.now ≤ length found.now }
         requires names { are_short (map (λ n. n.now) names.now) ≡ true }

@@ -4,6 +4,7 @@ ghost use Rattle.std.specs.Prelude.{◌≡◌, ◌<◌, [], ◌∷◌, ◌++◌,
 ghost use Rattle.mes_part.specs.Paths.{IsPlace};
 ghost use Rattle.mes_part.specs.Steps.{place_of};
 
+use crate::limits::STEPS_MOST;
 use crate::path::{Path, Step};
 use std::marker::Model;
 
@@ -64,7 +65,7 @@ impl<'a> Trail<'a> {
 
     /// The way with one more step at its end; takes no memory.
     pub fn with(&self, step: Step) -> Trail<'_>
-        requires room { length self.now < 16 }
+        requires room { length self.now < STEPS_MOST }
         requires step { IsPlace (place_of step) }
         ensures { result ≡ self.now ++ place_of step ∷ [] }
     {

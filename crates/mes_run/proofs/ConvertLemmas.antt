@@ -7,8 +7,8 @@ use Rattle.mes_msg.specs.declared.event.Event.{Event}
 use Rattle.mes_stream.specs.Reading.{EndsReading}
 use Rattle.mes_stream.specs.SendLines.{send_text}
 use Rattle.mes_stream.specs.Sending.{StopsSending, WroteAll}
-use Rattle.mes_stream.specs.declared.send_fault.SendFault.{SendFault}
-use Rattle.mes_stream.specs.declared.send_fault.SendFault.TheVariants.{Encode, NoMemory, Write}
+use Rattle.mes_msg.specs.declared.send_fault.SendFault.{SendFault}
+use Rattle.mes_msg.specs.declared.send_fault.SendFault.TheVariants.{Encode, NoMemory, Write}
 use Rattle.mes_stream.specs.declared.fault.Report.{Report}
 use Rattle.mes_stream.specs.declared.fault.Stop.{Stop}
 use Rattle.mes_stream.specs.declared.stream_reader.Framing.{Framing}

@@ -28,6 +28,7 @@ use Rattle.mes_run.specs.declared.following.Detail.TheVariants.{Counts, Lines}
 use Rattle.mes_run.specs.declared.following.Unshown.TheVariants as unshown
 use Rattle.mes_run.proofs.FewEvents.{goes_few, ends_few}
 use Rattle.mes_run.proofs.ShowLemmas.{goes_none, goes_both, goes_then_cut, prints_behind, lines_both}
+use Rattle.mes_stream.specs.declared.limits.TheConstants.{READ_MOST}
 
 -- after some reads: what is wanted of their events was printed
 pub record Following (detail : Detail) (framing : Framing) (limit : ℕ) (first now : Option (List ℕ)) (old new : CountsOf) (out printed : Device) (d : StreamReader EventReader) (reads number used : ℕ) : Type 0 where
@@ -44,7 +45,7 @@ feeds_on framing limit d b evs piece events old now (Ok (Some end)) none (m, is,
 feeds_on framing limit d b evs piece events old now (Err halt) none (m, is, one, s) = (m, ap (λ (l : List Event). events ++ l) (is ∙ ap (λ (l : List Event). l ++ m) none), one, s)
 
 -- however a piece was taken, a front of the bytes has the events
-spelt_of : (framing : Framing) (limit : ℕ) (d : StreamReader EventReader) (b : List ℕ) (evs : List Event) (piece : List ℕ) (old now : List Event) (r : Result (Option ℕ) Halt) → old ≡ evs → length piece ≤ 512
+spelt_of : (framing : Framing) (limit : ℕ) (d : StreamReader EventReader) (b : List ℕ) (evs : List Event) (piece : List ℕ) (old now : List Event) (r : Result (Option ℕ) Halt) → old ≡ evs → length piece ≤ READ_MOST
     → StreamFeeds HoldsData Spells IsRecordFault d framing limit b evs piece old now r → Spelt framing limit (b ++ piece) now
 spelt_of framing limit d b evs piece old now (Ok None) same short (m, added, s) =
     (b ++ piece, [], sym (append-nil (b ++ piece)), lit≤ tt, inl (rw (added, same) (goes_of HoldsData Spells d framing limit (b ++ piece) (evs ++ m) s)))
@@ -149,11 +150,11 @@ module _ (detail : Detail) (framing : Framing) (limit : ℕ) where
 
   -- the bytes of one more read, however they were taken
   pub taken : (first now next : Option (List ℕ)) (old new later : CountsOf) (out printed : Device) (d f : StreamReader EventReader) (reads number used len count : ℕ) (buffer : List ℕ) (before events : List Event) (fed : Result (Option ℕ) Halt)
-      → (s : Following detail framing limit first now old new out printed d reads number used) → reads < READS_MOST → 0 < count → count ≤ length buffer → length buffer ≤ 512 → 0 < len → Consumes now next (take count buffer)
+      → (s : Following detail framing limit first now old new out printed d reads number used) → reads < READS_MOST → 0 < count → count ≤ length buffer → length buffer ≤ READ_MOST → 0 < len → Consumes now next (take count buffer)
       → Counted new later len count → before ≡ [] → StreamFeeds HoldsData Spells IsRecordFault f framing limit s.read.w s.read.more (take count buffer) before events fed
       → Taken framing limit first next old later (s.events ++ events)
   taken first now next old new later out printed d f reads number used len count buffer before events fed s few some within small full gives counted none feeds =
-      let short : length (take count buffer) ≤ 512 = omega (arith, within, small, length-take-le count buffer within) in
+      let short : length (take count buffer) ≤ READ_MOST = omega (arith, within, small, length-take-le count buffer within) in
       record {
         w = s.read.w ++ take count buffer;
         takes = (
@@ -198,7 +199,7 @@ module _ (detail : Detail) (framing : Framing) (limit : ℕ) where
 
   -- the events of one more read were printed
   pub following_more : (first now next : Option (List ℕ)) (old new later : CountsOf) (out mid late : Device) (d f : StreamReader EventReader) (reads number after used len count : ℕ) (buffer : List ℕ) (before events : List Event)
-      → (s : Following detail framing limit first now old new out mid d reads number used) → 0 < count → count ≤ length buffer → length buffer ≤ 512 → 0 < len → Consumes now next (take count buffer)
+      → (s : Following detail framing limit first now old new out mid d reads number used) → 0 < count → count ≤ length buffer → length buffer ≤ READ_MOST → 0 < len → Consumes now next (take count buffer)
       → Counted new later len count → before ≡ [] → StreamFeeds HoldsData Spells IsRecordFault f framing limit s.read.w s.read.more (take count buffer) before events (Ok None)
       → PrintsEvents detail (1 + length s.events) events mid late (Ok after)
       → Following detail framing limit first next old later out late f (reads + 1) after (saturated (used + count))
@@ -214,7 +215,7 @@ module _ (detail : Detail) (framing : Framing) (limit : ℕ) where
 
   -- a byte of one more read shows a fault
   pub follows_halt : (first now next : Option (List ℕ)) (old new later : CountsOf) (out mid late printed : Device) (d f : StreamReader EventReader) (reads number after used len count status : ℕ) (buffer : List ℕ) (before events : List Event) (halt : Halt)
-      → (s : Following detail framing limit first now old new out mid d reads number used) → reads < READS_MOST → 0 < count → count ≤ length buffer → length buffer ≤ 512 → 0 < len → Consumes now next (take count buffer)
+      → (s : Following detail framing limit first now old new out mid d reads number used) → reads < READS_MOST → 0 < count → count ≤ length buffer → length buffer ≤ READ_MOST → 0 < len → Consumes now next (take count buffer)
       → Counted new later len count → before ≡ [] → StreamFeeds HoldsData Spells IsRecordFault f framing limit s.read.w s.read.more (take count buffer) before events (Err halt)
       → PrintsEvents detail (1 + length s.events) events mid late (Ok after)
       → Prints late printed (fault_text halt.fault (saturated (used + halt.used)) ++ 10 ∷ []) 1 status
@@ -228,7 +229,7 @@ module _ (detail : Detail) (framing : Framing) (limit : ℕ) where
 
   -- a byte of one more read ends the stream
   pub follows_end : (first now next : Option (List ℕ)) (old new later : CountsOf) (out mid late printed : Device) (d f : StreamReader EventReader) (reads number after used len count end status : ℕ) (buffer : List ℕ) (before events : List Event)
-      → (s : Following detail framing limit first now old new out mid d reads number used) → reads < READS_MOST → 0 < count → count ≤ length buffer → length buffer ≤ 512 → 0 < len → Consumes now next (take count buffer)
+      → (s : Following detail framing limit first now old new out mid d reads number used) → reads < READS_MOST → 0 < count → count ≤ length buffer → length buffer ≤ READ_MOST → 0 < len → Consumes now next (take count buffer)
       → Counted new later len count → before ≡ [] → StreamFeeds HoldsData Spells IsRecordFault f framing limit s.read.w s.read.more (take count buffer) before events (Ok (Some end)) → end ≤ length (take count buffer)
       → PrintsEvents detail (1 + length s.events) events mid late (Ok after)
       → Prints late printed (count_text (after - 1) (saturated (used + end)) ++ 10 ∷ []) 0 status

@@ -6,7 +6,7 @@ use Rattle.mes_stream.specs.SendLines.{send_text}
 use Rattle.mes_stream.specs.Sending.{IsPlainOf, IsStreamOf, StopsSending, WroteAll}
 use Rattle.mes_stream.specs.declared.fault.Report.{Report}
 use Rattle.mes_stream.specs.declared.fault.Stop.{Stop}
-use Rattle.mes_stream.specs.declared.send_fault.SendFault.{SendFault}
+use Rattle.mes_msg.specs.declared.send_fault.SendFault.{SendFault}
 use Rattle.mes_stream.specs.declared.stream_reader.Framing.{Framing}
 use Rattle.mes_run.specs.Printing.{Device, Prints, ReadsInput}
 

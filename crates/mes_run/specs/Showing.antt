@@ -13,7 +13,7 @@ use Rattle.mes_stream.specs.declared.fault.Fault.TheVariants.{NoMemory}
 use Rattle.mes_stream.specs.declared.fault.Report.{Report}
 use Rattle.mes_stream.specs.declared.fault.Stop.{Stop}
 use Rattle.mes_run.specs.Printing.{Device, GoesOut, IsCutOff, Prints, ReadsInput, Checks, outcome_line, outcome_status}
-use Rattle.mes_stream.specs.declared.read.TheConstants.{READ_MOST}
+use Rattle.mes_stream.specs.declared.limits.TheConstants.{READ_MOST}
 use Rattle.mes_run.specs.declared.limits.TheConstants.{READS_MOST}
 use Rattle.mes_run.specs.declared.following.Detail.{Detail}
 use Rattle.mes_run.specs.declared.following.Detail.TheVariants.{Counts, Lines}

@@ -1,27 +1,25 @@
 //! How many bytes a chunk that is written has.
-ghost use Rattle.std.specs.Prelude.{◌≡◌, ℕ, ◌≤◌};
+ghost use Rattle.std.specs.Prelude.{◌≡◌, ◌≤◌};
 ghost use Rattle.std.specs.Option.{SomeIff};
 
+use mes_frame::{CHUNK_LEAST, CHUNK_MOST};
 use std::marker::Model;
 
-/// The least size of a chunk that is written, in bytes.
-pub const CHUNK_LEAST: u32 = 1;
-
-/// The most size of a chunk that is written, in bytes: 16 MiB.
-pub const CHUNK_MOST: u32 = 16_777_216;
-
-/// The size of the chunks that are written: 1 to 16,777,216 bytes (16 MiB).
+/// The size of the chunks that are written: `CHUNK_LEAST` to `CHUNK_MOST` bytes.
 #[derive(Clone, Copy, Debug, PartialEq, Eq)]
 pub struct ChunkSize {
     bytes: u32,
 }
 
 impl Model for ChunkSize {
+    ghost use Rattle.std.specs.Prelude.{ℕ, ◌≤◌};
+    ghost use Rattle.mes_frame.specs.declared.limits.TheConstants.{CHUNK_LEAST, CHUNK_MOST};
+
     ghost Value = { ℕ };
 
     ghost view = { λ s. s.bytes };
 
-    ghost invariant = { λ s. (1 ≤ s.bytes) × (s.bytes ≤ 16777216) };
+    ghost invariant = { λ s. (CHUNK_LEAST ≤ s.bytes) × (s.bytes ≤ CHUNK_MOST) };
 
     ghost inverse = { λ n. record { bytes = n } };
 }
@@ -29,7 +27,7 @@ impl Model for ChunkSize {
 impl ChunkSize {
     /// A size of so many bytes, if a chunk may have that.
     pub fn new(bytes: u32) -> Option<ChunkSize>
-        ensures { SomeIff result ((1 ≤ bytes) × (bytes ≤ 16777216)) bytes }
+        ensures { SomeIff result ((CHUNK_LEAST ≤ bytes) × (bytes ≤ CHUNK_MOST)) bytes }
     {
         if CHUNK_LEAST <= bytes && bytes <= CHUNK_MOST {
             Some(ChunkSize { bytes })
@@ -41,7 +39,7 @@ impl ChunkSize {
     /// The size as a number of bytes.
     pub fn get(self) -> u32
         ensures value { result ≡ self }
-        ensures range { (1 ≤ result) × (result ≤ 16777216) }
+        ensures range { (CHUNK_LEAST ≤ result) × (result ≤ CHUNK_MOST) }
     {
         self.bytes
     }

@@ -9,7 +9,7 @@ mod laws;
 mod limits;
 mod print;
 
-pub use chunk_size::{CHUNK_LEAST, CHUNK_MOST, ChunkSize};
+pub use chunk_size::ChunkSize;
 pub use conversion::convert;
 pub use following::{Detail, follow};
 pub use laws::run_limits;

@@ -1,4 +1,9 @@
 //! The limits of one run.
 
+use mes_stream::FAULT_LINE_MOST;
+
 /// The most reads of the input.
 pub const READS_MOST: u64 = 4_294_967_296;
+
+/// The room for a line and its LF, in bytes.
+pub(crate) const LINE_MOST: usize = FAULT_LINE_MOST + 1;

@@ -6,6 +6,7 @@ ghost use Rattle.mes_stream.specs.Stream.{saturated};
 ghost use Rattle.mes_stream.specs.SendLines.{send_text};
 ghost use Rattle.mes_run.specs.Printing.{LacksMemory, Prints, finish_line, finish_status};
 
+use crate::limits::LINE_MOST;
 use arrayvec::ArrayString;
 use mes_frame::{Sink, write_all};
 use mes_stream::{FAULT_LINE_MOST, Fault, Halt, SendFault, count_line, fault_line, send_line};
@@ -15,9 +16,6 @@ pub const GOOD: u8 = 0;
 
 /// The status where a fault was told, or an output failed.
 pub const FAULT: u8 = 1;
-
-/// The room for a line and its LF, in bytes.
-const LINE_MOST: usize = 641;
 
 /// Prints a text, and answers the status that is meant, or 1 where the writer failed.
 pub fn print_text<O: Sink>(out: &mut O, text: &str, status: u8) -> u8

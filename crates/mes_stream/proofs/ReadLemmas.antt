@@ -21,6 +21,7 @@ use Rattle.mes_stream.specs.declared.body.Halt.{Halt}
 use Rattle.mes_stream.specs.declared.stream_reader.Framing.{Framing}
 use Rattle.mes_stream.specs.declared.stream_reader.StreamReader.{StreamReader}
 use Rattle.mes_stream.proofs.StreamLemmas.{goes_of}
+use Rattle.mes_stream.specs.declared.limits.TheConstants.{READ_MOST}
 
 -- after some reads: the device gave the bytes w, the reader has taken them, and nothing failed
 pub record Reads {R E : Type 0} (holds : R → List ℕ → Type 0) (spells : List ℕ → E → Type 0) (framing : Framing) (limit : ℕ) (first now : Option (List ℕ)) (old new : Counts) (before after : List E) (d : StreamReader R) (reads used : ℕ) : Type 0 where
@@ -67,7 +68,7 @@ one_more_call : (old new later : Counts) (reads most len : ℕ) (w : List ℕ) �
 one_more_call old new later reads most len w before full counted =
     counted ∙ asked len new.calls full ∙ ap (λ (n : ℕ). up n 1) before.calls ∙ up_more old.calls reads
 
-pub asked_more : (old new later : Counts) (reads most len count : ℕ) (w p : List ℕ) → Asked reads old new w reads 0 0 → reads < most → 0 < count → length p ≤ 512 → 0 < len
+pub asked_more : (old new later : Counts) (reads most len count : ℕ) (w p : List ℕ) → Asked reads old new w reads 0 0 → reads < most → 0 < count → length p ≤ READ_MOST → 0 < len
     → Counted new later len count → Asked most old later (w ++ p) (reads + 1) 0 0
 asked_more old new later reads most len count w p before left some short full counted = record {
   most = omega (arith, left);
@@ -134,7 +135,7 @@ module _ {R E : Type 0} (holds : R → List ℕ → Type 0) (spells : List ℕ �
   module _ (breaks : List ℕ → RecordFault → Type 0) where
     -- one more read gave a piece, and the reader took it
     pub reads_more : (first now next : Option (List ℕ)) (old new later : Counts) (before after added : List E) (d f : StreamReader R) (reads used len count : ℕ) (buffer : List ℕ)
-        → (r : Reads holds spells framing limit first now old new before after d reads used) → 0 < count → count ≤ length buffer → length buffer ≤ 512 → 0 < len → Consumes now next (take count buffer)
+        → (r : Reads holds spells framing limit first now old new before after d reads used) → 0 < count → count ≤ length buffer → length buffer ≤ READ_MOST → 0 < len → Consumes now next (take count buffer)
         → Counted new later len count → StreamFeeds holds spells breaks f framing limit r.w r.more (take count buffer) after added (Ok None)
         → Reads holds spells framing limit first next old later before added f (reads + 1) (saturated (used + count))
     reads_more first now next old new later before after added d f reads used len count buffer r some within small full gives counted feeds = record {
@@ -208,7 +209,7 @@ module _ {R E : Type 0} (holds : R → List ℕ → Type 0) (spells : List ℕ �
 
     -- one more read gave a piece, and a byte of it stops the reading
     pub reads_halt : (first now next : Option (List ℕ)) (old new later : Counts) (before after added : List E) (d f : StreamReader R) (reads most used len count : ℕ) (buffer : List ℕ) (halt : Halt)
-        → (r : Reads holds spells framing limit first now old new before after d reads used) → reads < most → 0 < count → count ≤ length buffer → length buffer ≤ 512 → 0 < len → Consumes now next (take count buffer)
+        → (r : Reads holds spells framing limit first now old new before after d reads used) → reads < most → 0 < count → count ≤ length buffer → length buffer ≤ READ_MOST → 0 < len → Consumes now next (take count buffer)
         → Counted new later len count → StreamFeeds holds spells breaks f framing limit r.w r.more (take count buffer) after added (Err halt)
         → Ended spells breaks framing limit first next old later before added most (Err (record { fault = halt.fault; used = saturated (used + halt.used) }))
     reads_halt first now next old new later before after added d f reads most used len count buffer halt r left some within small full gives counted feeds =
@@ -229,7 +230,7 @@ module _ {R E : Type 0} (holds : R → List ℕ → Type 0) (spells : List ℕ �
 
     -- one more read gave a piece, and a byte of it ended the stream
     pub reads_done : (first now next : Option (List ℕ)) (old new later : Counts) (before after added : List E) (d f : StreamReader R) (reads most used len count end : ℕ) (buffer : List ℕ) (report : Report)
-        → (r : Reads holds spells framing limit first now old new before after d reads used) → reads < most → 0 < count → count ≤ length buffer → length buffer ≤ 512 → 0 < len → Consumes now next (take count buffer)
+        → (r : Reads holds spells framing limit first now old new before after d reads used) → reads < most → 0 < count → count ≤ length buffer → length buffer ≤ READ_MOST → 0 < len → Consumes now next (take count buffer)
         → Counted new later len count → StreamFeeds holds spells breaks f framing limit r.w r.more (take count buffer) after added (Ok (Some end)) → end ≤ length (take count buffer)
         → report.used ≡ saturated (used + end) → report.rest.items ≡ take (count - end) (drop end buffer)
         → Ended spells breaks framing limit first next old later before added most (Ok report)

@@ -21,9 +21,9 @@ use Rattle.mes_stream.proofs.BodyLemmas.{records_more}
 use Rattle.mes_stream.specs.EventData.{HoldsData}
 use Rattle.mes_stream.specs.Stream.{Records}
 use Rattle.mes_stream.specs.Sending.{records_of, AllGood, IsBad, IsFirstBad, IsPlainOf, IsStreamOf, WroteAll, IsUnsent, fault_at, StopsSending}
-use Rattle.mes_stream.specs.declared.send_fault.EncodeWhy.{EncodeWhy}
-use Rattle.mes_stream.specs.declared.send_fault.EncodeWhy.TheVariants.{TooDeep, TooLarge}
-use Rattle.mes_stream.specs.declared.send_fault.SendFault.TheVariants.{Write}
+use Rattle.mes_msg.specs.declared.send_fault.EncodeWhy.{EncodeWhy}
+use Rattle.mes_msg.specs.declared.send_fault.EncodeWhy.TheVariants.{TooDeep, TooLarge}
+use Rattle.mes_msg.specs.declared.send_fault.SendFault.TheVariants.{Write}
 
 -- one event more
 pub plain_of_more : (limit : ℕ) (events : List Event) (i : ℕ) (event : Event) (old new : List ℕ) → i < length events → event ≡ get_or events i event

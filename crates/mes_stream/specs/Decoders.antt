@@ -6,7 +6,7 @@ use Rattle.mes_stream.specs.Stream.{Behind}
 use Rattle.mes_stream.specs.Decoding.{ReadingStands, reading_limit}
 use Rattle.mes_stream.specs.declared.fault.Fault.{Fault}
 use Rattle.mes_stream.specs.declared.fault.Fault.TheVariants.{EndsInsideChunks}
-use Rattle.mes_stream.specs.declared.decoder.Decoder.{Decoder}
+use Rattle.mes_stream.specs.declared.decoder.RecordDecoder.{RecordDecoder}
 use Rattle.mes_stream.specs.declared.decoder.State.{State}
 use Rattle.mes_stream.specs.declared.decoder.State.TheVariants as state
 use Rattle.mes_stream.specs.declared.decoder.Ended.{Ended}
@@ -19,7 +19,7 @@ end_at (state.Going reading) = None
 end_at (state.Ended end) = Some end
 
 -- how the stream ended, if it did
-abbrev pub end_of : {R : Type 0} → Decoder R → Option Ended
+abbrev pub end_of : {R : Type 0} → RecordDecoder R → Option Ended
 end_of d = end_at d.state
 
 abbrev pub StateStands : {R E : Type 0} → (R → List ℕ → Type 0) → (List ℕ → E → Type 0) → State R → ℕ → List ℕ → List E → Type 0
@@ -27,7 +27,7 @@ StateStands holds spells (state.Going reading) limit w values = ReadingStands ho
 StateStands holds spells (state.Ended end) limit w values = ⊥
 
 -- the decoder has taken w, which is live with the values under that limit; after the end or a fault it stands for no bytes
-abbrev pub DecoderStands : {R E : Type 0} → (R → List ℕ → Type 0) → (List ℕ → E → Type 0) → Decoder R → ℕ → List ℕ → List E → Type 0
+abbrev pub DecoderStands : {R E : Type 0} → (R → List ℕ → Type 0) → (List ℕ → E → Type 0) → RecordDecoder R → ℕ → List ℕ → List E → Type 0
 DecoderStands holds spells d limit w values = StateStands holds spells d.state limit w values
 
 -- what is answered from then on
@@ -53,7 +53,7 @@ kept_at kept (state.Going reading) = kept reading.body.reader
 kept_at kept (state.Ended end) = 0
 
 -- how many bytes are kept of the record that has begun: none after the end or a fault
-abbrev pub kept_by : {R : Type 0} → (R → ℕ) → Decoder R → ℕ
+abbrev pub kept_by : {R : Type 0} → (R → ℕ) → RecordDecoder R → ℕ
 kept_by kept d = kept_at kept d.state
 
 -- n is at most what may be kept of the data, so far, of the record that has begun

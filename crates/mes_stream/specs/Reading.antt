@@ -12,7 +12,7 @@ use Rattle.mes_stream.specs.declared.fault.Fault.{Fault}
 use Rattle.mes_stream.specs.declared.fault.Fault.TheVariants.{Read, ReadsSpent}
 use Rattle.mes_stream.specs.declared.fault.Report.{Report}
 use Rattle.mes_stream.specs.declared.fault.Stop.{Stop}
-use Rattle.mes_stream.specs.declared.read.TheConstants.{READ_MOST}
+use Rattle.mes_stream.specs.declared.limits.TheConstants.{READ_MOST}
 use Rattle.mes_stream.specs.declared.stream_reader.Framing.{Framing}
 use Rattle.mes_stream.specs.declared.stream_reader.Framing.TheVariants.{Plain, Chunked}
 

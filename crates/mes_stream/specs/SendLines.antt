@@ -1,18 +1,12 @@
 -- The line that is printed where events could not be sent, without its LF.
 use Rattle.std.specs.Prelude.{ℕ, ◌+◌, List, [], ◌∷◌, ◌++◌, codes, decimal}
+use Rattle.mes_msg.specs.EncodeWhys.{encode_why_name}
 use Rattle.mes_msg.specs.Shown.{spaced}
 use Rattle.mes_stream.specs.Lines.{fault_text}
 use Rattle.mes_stream.specs.Stream.{saturated}
 use Rattle.mes_stream.specs.declared.fault.Fault.TheVariants as fault
-use Rattle.mes_stream.specs.declared.send_fault.EncodeWhy.{EncodeWhy}
-use Rattle.mes_stream.specs.declared.send_fault.EncodeWhy.TheVariants.{TooDeep, TooLarge}
-use Rattle.mes_stream.specs.declared.send_fault.SendFault.{SendFault}
-use Rattle.mes_stream.specs.declared.send_fault.SendFault.TheVariants.{Encode, NoMemory, Write}
-
--- why no record can hold an event
-abbrev pub encode_why_name : EncodeWhy → List ℕ
-encode_why_name TooDeep = codes "TooDeep"
-encode_why_name TooLarge = codes "TooLarge"
+use Rattle.mes_msg.specs.declared.send_fault.SendFault.{SendFault}
+use Rattle.mes_msg.specs.declared.send_fault.SendFault.TheVariants.{Encode, NoMemory, Write}
 
 -- `encode failed event 1 TooLarge`, `fault F13 NoMemory after 0`, `write failed after 7`; the first event has the number 1
 abbrev pub send_text : SendFault → List ℕ

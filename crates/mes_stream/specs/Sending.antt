@@ -14,10 +14,10 @@ use Rattle.mes_msg.specs.declared.canon.EncodeFault.TheVariants as refused
 use Rattle.mes_msg.specs.declared.event.Event.{Event}
 use Rattle.mes_stream.specs.Chunked.{IsStream}
 use Rattle.mes_stream.specs.Stream.{Records}
-use Rattle.mes_stream.specs.declared.send_fault.EncodeWhy.{EncodeWhy}
-use Rattle.mes_stream.specs.declared.send_fault.EncodeWhy.TheVariants.{TooDeep, TooLarge}
-use Rattle.mes_stream.specs.declared.send_fault.SendFault.{SendFault}
-use Rattle.mes_stream.specs.declared.send_fault.SendFault.TheVariants.{Encode, NoMemory, Write}
+use Rattle.mes_msg.specs.declared.send_fault.EncodeWhy.{EncodeWhy}
+use Rattle.mes_msg.specs.declared.send_fault.EncodeWhy.TheVariants.{TooDeep, TooLarge}
+use Rattle.mes_msg.specs.declared.send_fault.SendFault.{SendFault}
+use Rattle.mes_msg.specs.declared.send_fault.SendFault.TheVariants.{Encode, NoMemory, Write}
 
 -- the canonical texts of the events, each in a record, one behind the other
 abbrev pub records_of : List Event → List ℕ

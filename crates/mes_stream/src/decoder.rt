@@ -53,28 +53,31 @@ enum State<R> {
     Ended(Ended),
 }
 
-/// A decoder of a chunked stream.
+/// A decoder of a chunked stream, by what reads its records.
 #[derive(Drop)]
-pub struct Decoder<R> {
+pub struct RecordDecoder<R> {
     state: State<R>,
 }
 
-impl Decoder<EventReader> {
+/// A decoder of a chunked stream of events.
+pub type Decoder = RecordDecoder<EventReader>;
+
+impl RecordDecoder<EventReader> {
     /// A decoder of events before the first byte. Takes no memory.
-    pub fn new(alloc: Global, limit: Limit) -> Decoder<EventReader>
+    pub fn new(alloc: Global, limit: Limit) -> Decoder
         ensures stands { DecoderStands HoldsData Spells result limit [] [] }
     {
-        Decoder::of(EventReader::new(alloc), limit)
+        RecordDecoder::of(EventReader::new(alloc), limit)
     }
 }
 
-impl<R: RecordReader> Decoder<R> {
+impl<R: RecordReader> RecordDecoder<R> {
     /// A decoder before the first byte, by what reads its records.
-    pub fn of(reader: R, limit: Limit) -> Decoder<R>
+    pub fn of(reader: R, limit: Limit) -> RecordDecoder<R>
         requires { R.holds reader [] }
         ensures stands { DecoderStands R.holds R.spells result limit [] [] }
     {
-        Decoder {
+        RecordDecoder {
             state: State::Going(Reading::new(Body::new(reader, limit))),
         }
     }

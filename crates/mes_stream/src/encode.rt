@@ -7,11 +7,10 @@ ghost use Rattle.mes_msg.specs.Canon.{canonical_text, IsGood, IsEncodeFault};
 ghost use Rattle.mes_msg.specs.Events.{Spells};
 ghost use Rattle.mes_stream.specs.Sending.{IsPlainOf, IsUnsent, fault_at};
 
-use crate::send_fault::{EncodeWhy, SendFault};
 use itoa::Buffer;
 use mes_frame::Limit;
 use mes_json::NoMemory;
-use mes_msg::{EncodeFault, Event};
+use mes_msg::{EncodeFault, EncodeWhy, Event, SendFault};
 use std::alloc::Global;
 
 /// The records of the events' canonical texts, one behind the other. Errors: the first event that no record of the limit can

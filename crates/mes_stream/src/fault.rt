@@ -3,13 +3,11 @@
 ghost use Rattle.std.specs.Prelude.{◌≡◌, ◌≤◌, length};
 ghost use Rattle.mes_stream.specs.Lines.{fault_title};
 
+use crate::limits::REST_MOST;
 use arrayvec::ArrayVec;
 use mes_frame::FrameFault;
 use mes_json::Why;
 use mes_part::{FieldWhy, Path};
-
-/// How many bytes that were taken after the end of the stream a report holds at most.
-pub const REST_MOST: usize = 512;
 
 /// Why the reading of a stream stopped before its end.
 #[derive(Debug, Drop)]

@@ -7,8 +7,7 @@ ghost use Rattle.mes_stream.specs.PlainReading.{IsDecided, IsExact, PlainReading
 ghost use Rattle.mes_stream.specs.StreamReading.{StreamReading, ReadsStream};
 
 use crate::event_reader::EventReader;
-use crate::fault::REST_MOST;
-use crate::read::READ_MOST;
+use crate::limits::{COUNT_LINE_MOST, FAULT_LINE_MOST, READ_MOST, REST_MOST};
 use crate::record_reader::RecordReader;
 use mes_msg::{Event, one_message};
 
@@ -29,9 +28,10 @@ pub fn one_stream_reading<R: RecordReader>()
         → ReadsStream R.spells R.breaks limit w reading → ReadsStream R.spells R.breaks limit w other → reading ≡ other }
 {}
 
-/// One read takes at most 512 bytes, and a report holds at most as many behind the end of a stream.
+/// One read takes at most 512 bytes, and a report holds at most as many behind the end of a stream; and how long a line is.
 pub fn stream_limits()
-    ensures { (READ_MOST ≡ 512) × (REST_MOST ≡ 512) }
+    ensures reads { (READ_MOST ≡ 512) × (REST_MOST ≡ 512) }
+    ensures lines { (FAULT_LINE_MOST ≡ 640) × (COUNT_LINE_MOST ≡ 64) }
 {}
 
 /// Of events no premise is left: any bytes are read as a stream of events in exactly one way, plain or chunked.

@@ -7,16 +7,11 @@ ghost use Rattle.mes_msg.specs.Shown.{spaced};
 ghost use Rattle.mes_stream.specs.Lines.{fault_text, count_text, details, text_why_name};
 
 use crate::fault::Fault;
+use crate::limits::{COUNT_LINE_MOST, FAULT_LINE_MOST};
 use arrayvec::ArrayString;
 use itoa::Buffer;
 use mes_json::Why;
 use mes_part::{PATH_TEXT_MOST, Path};
-
-/// The room for a fault's line, in bytes: for a path of 512, two numbers of 20 digits and the words between.
-pub const FAULT_LINE_MOST: usize = 640;
-
-/// The room for a count's line, in bytes: for two numbers of 20 digits and the words between.
-pub const COUNT_LINE_MOST: usize = 64;
 
 /// Writes a fault's line in place of the text; `used` counts the bytes used up to the fault.
 pub fn fault_line(fault: &Fault, used: u64, line: &mut ArrayString<FAULT_LINE_MOST>)
@@ -41,11 +36,11 @@ pub fn count_line(events: u64, used: u64, line: &mut ArrayString<COUNT_LINE_MOST
     push_number(line, used);
 }
 
-/// Appends where a record is at fault and why, if the fault is a record's: at most 553 bytes.
+/// Appends where a record is at fault and why, if the fault is a record's: at most 41 bytes more than a path has.
 fn push_details(line: &mut ArrayString<FAULT_LINE_MOST>, fault: &Fault)
-    requires { array_string_len line.old + 553 ≤ FAULT_LINE_MOST }
+    requires { array_string_len line.old + PATH_TEXT_MOST + 41 ≤ FAULT_LINE_MOST }
     ensures text { line.new.bytes ≡ line.old.bytes ++ spaced (details fault.now) }
-    ensures bound { array_string_len line.new ≤ array_string_len line.old + 553 }
+    ensures bound { array_string_len line.new ≤ array_string_len line.old + PATH_TEXT_MOST + 41 }
 {
     match fault {
         Fault::Text {
@@ -79,9 +74,9 @@ fn push_details(line: &mut ArrayString<FAULT_LINE_MOST>, fault: &Fault)
 
 /// Appends a space and the path.
 fn push_path(line: &mut ArrayString<FAULT_LINE_MOST>, path: &Path)
-    requires { array_string_len line.old + 513 ≤ FAULT_LINE_MOST }
+    requires { array_string_len line.old + PATH_TEXT_MOST + 1 ≤ FAULT_LINE_MOST }
     ensures text { line.new.bytes ≡ line.old.bytes ++ (codes " " ++ path_text path.now) }
-    ensures bound { array_string_len line.new ≤ array_string_len line.old + 513 }
+    ensures bound { array_string_len line.new ≤ array_string_len line.old + PATH_TEXT_MOST + 1 }
 {
     let mut text = ArrayString::<PATH_TEXT_MOST>::new();
     path.text(&mut text);

@@ -8,6 +8,7 @@ ghost use Rattle.mes_msg.specs.declared.event.Event.{Event as EventValue};
 
 use crate::event_reader::EventReader;
 use crate::fault::{Fault, Report, Stop};
+use crate::limits::{READ_MOST, REST_MOST};
 use crate::record_reader::RecordReader;
 use crate::stream_reader::{Framing, StreamReader};
 use arrayvec::ArrayVec;
@@ -15,11 +16,8 @@ use mes_frame::{Limit, Source};
 use mes_msg::Event;
 use std::alloc::Global;
 
-/// How many bytes one read takes at most.
-pub const READ_MOST: usize = 512;
-
-/// Reads plain RecordIO to the end of the reader, in at most `max_reads` reads of at most 512 bytes, and adds the events
-/// to the list; those before a fault stay in it.
+/// Reads plain RecordIO to the end of the reader, in at most `max_reads` reads of at most `READ_MOST` bytes, and adds
+/// the events to the list; those before a fault stay in it.
 pub fn read_plain<S: Source>(
     alloc: Global,
     reader: &mut S,
@@ -36,8 +34,8 @@ pub fn read_plain<S: Source>(
     read_events(alloc, reader, Framing::Plain, limit, max_reads, events)
 }
 
-/// Reads a chunked stream to its end, in at most `max_reads` reads of at most 512 bytes, and adds the events to the list;
-/// those before a fault stay in it. What the last read took behind the end is in the report.
+/// Reads a chunked stream to its end, in at most `max_reads` reads of at most `READ_MOST` bytes, and adds the events to
+/// the list; those before a fault stay in it. What the last read took behind the end is in the report.
 pub fn read_stream<S: Source>(
     alloc: Global,
     reader: &mut S,
@@ -124,7 +122,7 @@ fn stop(fault: Fault, used: u64) -> Stop
 
 // The stream ended behind so many bytes, and these were taken behind it.
 fn report(used: u64, rest: &[u8]) -> Report
-    requires { length rest.now ≤ 512 }
+    requires { length rest.now ≤ REST_MOST }
     ensures { (result.used ≡ used) × (result.rest.items ≡ rest.now) }
 {
     let mut kept = ArrayVec::new();

@@ -4,9 +4,8 @@ ghost use Rattle.std.specs.Prelude.{ℕ, ◌≤◌, List, OnOk, IfErr};
 ghost use Rattle.mes_stream.specs.Sending.{IsPlainOf, IsStreamOf, WroteAll, StopsSending};
 
 use crate::encode::encode_events;
-use crate::send_fault::SendFault;
-use mes_frame::{Limit, Sink, write_all, write_chunked};
-use mes_msg::Event;
+use mes_frame::{CHUNK_LEAST, CHUNK_MOST, Limit, Sink, write_all, write_chunked};
+use mes_msg::{Event, SendFault};
 use std::alloc::Global;
 
 /// Writes the events as a chunked stream: a record of at most `limit` bytes for the canonical text of each, and these in chunks
@@ -18,8 +17,8 @@ pub fn write_stream<W: Sink>(
     limit: Limit,
     most: u32,
 ) -> Result<(), SendFault>
-    requires least { 1 ≤ most }
-    requires greatest { most ≤ 16777216 }
+    requires least { CHUNK_LEAST ≤ most }
+    requires greatest { most ≤ CHUNK_MOST }
     // Ok: each event is good, and all of their stream went out.
     ensures ok { OnOk result ((w : List ℕ) × IsStreamOf limit most events.now w × WroteAll W.written W.counts writer.old writer.new w) }
 

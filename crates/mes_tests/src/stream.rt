@@ -54,7 +54,7 @@ fn reads_are_counted(rt: HostRuntime) -> Result<(), Fail> {
 const TWO_AND_MORE: &[u8] =
     b"33\r\n20\n{\"type\":\"HEARTBEAT\"}20\n{\"type\":\"HEARTBEAT\"}20\n{\"";
 
-fn decoder(alloc: Global) -> Decoder<EventReader> {
+fn decoder(alloc: Global) -> Decoder {
     Decoder::new(alloc, Limit::USUAL)
 }
 
@@ -84,7 +84,7 @@ fn letter(out: &Out<Event>) -> u8 {
 }
 
 // The letter of the answer to a piece, and how many bytes it used.
-fn told(decoder: &mut Decoder<EventReader>, piece: &[u8]) -> (u8, usize) {
+fn told(decoder: &mut Decoder, piece: &[u8]) -> (u8, usize) {
     let step = decoder.next(piece);
     (letter(&step.out), step.used)
 }
@@ -92,7 +92,7 @@ fn told(decoder: &mut Decoder<EventReader>, piece: &[u8]) -> (u8, usize) {
 // Takes a piece until it is used up; adds all answers but `More`, each with the bytes used then. Answers how many were used,
 // or nothing behind the end or a fault.
 fn take_piece(
-    decoder: &mut Decoder<EventReader>,
+    decoder: &mut Decoder,
     piece: &[u8],
     before: usize,
     found: &mut Vec<(u8, usize)>,

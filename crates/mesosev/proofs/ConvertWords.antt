@@ -9,7 +9,7 @@ use Rattle.mesosev.specs.CommandLine.{command_app, chunked_rule, limit_rule, mos
 use Rattle.mesosev.specs.NamedOptions.{HasFraming, HasLimit, HasMost, IsLimit, IsMost, SayConvert}
 use Rattle.mes_stream.specs.declared.stream_reader.Framing.{Framing}
 use Rattle.mes_stream.specs.declared.stream_reader.Framing.TheVariants.{Plain, Chunked}
-use Rattle.mesosev.proofs.OptionWords.{Fits, SaysLimit, SaysMost, chunked_is, flag_is, flag_text, flag_words, has_framing, has_most, has_number, limit_is, limit_usable, number_parser, reaches_framing, read_plain, read_value, rows_flag, rows_limit, says_limit, says_most, usual_limit, value_or}
+use Rattle.mesosev.proofs.OptionWords.{Fits, SaysLimit, SaysMost, chunked_is, flag_is, flag_text, flag_words, has_framing, has_most, has_number, limit_is, limit_parser, limit_usable, most_parser, reaches_framing, read_plain, read_value, rows_flag, rows_limit, says_limit, says_most, usual_limit, value_or}
 use Rattle.mesosev.proofs.Subcommands.{IsSubcommand, leaf_shape}
 use Rattle.mesosev.proofs.TakenWords.{Takes, takes_words}
 use Rattle.mesosev.proofs.Walks.{IsOption, IsUsable, Reaches, end_fault, given_value, given_words, reaches_option, used_value}
@@ -27,7 +27,7 @@ most_is = record { dashes = refl; long = refl; dashes_joined = λ v. refl; long_
 convert_is : IsSubcommand (built command_app) (codes "convert") shape
 convert_is = record { met = refl; found = refl; other = refl }
 
-most_usable : (framing : Framing) (v w : Option Text) → Fits (number_parser 1 16777216) w → IsUsable false (filled most_rule) w (rows_limit framing v)
+most_usable : (framing : Framing) (v w : Option Text) → Fits most_parser w → IsUsable false (filled most_rule) w (rows_limit framing v)
 most_usable framing v None fits = tt
 most_usable Plain None (Some w) fits = simp fits refl
 most_usable Plain (Some v) (Some w) fits = simp fits refl
@@ -99,6 +99,6 @@ said_convert words framing limit most (program, flags, limits, sizes, flag, says
           (takes_words program (codes "convert") shape convert_is ((front ++ middle) ++ back) (rows_said framing (given_value s.given) (given_value m.given)) reaches
           (good_end framing (given_value s.given) (given_value m.given)));
       framing_has = has_framing framing rows t.0;
-      limit_has = has_number (one_of (codes "limit") rows) (codes "--limit") usual_limit (number_parser 1 16777216) limits limit s (t.1 ∙ ap (value_or usual_limit) (read_plain (given_value s.given) s.plain));
+      limit_has = has_number (one_of (codes "limit") rows) (codes "--limit") usual_limit limit_parser limits limit s (t.1 ∙ ap (value_or usual_limit) (read_plain (given_value s.given) s.plain));
       most_has = has_most rows (given_value m.given) most (t.2 ∙ read_plain (given_value m.given) m.plain) m.size;
     }

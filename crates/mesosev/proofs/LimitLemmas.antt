@@ -59,7 +59,7 @@ HasLimit-once rows m n h k = written_once (one_of (codes "limit") rows) m n h k
 
 -- a value that is a number out of range is no limit
 pub limit_out : (f : Found) (r : Option ℕ) → (one_text f (codes "limit") ≡ None → r ≡ None)
-    → ((t : Text) → one_text f (codes "limit") ≡ Some t → ReadsOne FromStr t r) → (n : ℕ) → r ≡ Some n → (((1 ≤ n) × (n ≤ 16777216)) → ⊥)
+    → ((t : Text) → one_text f (codes "limit") ≡ Some t → ReadsOne FromStr t r) → (n : ℕ) → r ≡ Some n → (IsLimit n → ⊥)
     → ((limit : ℕ) × HasLimit (rows_of f) limit × IsLimit limit) → ⊥
 limit_out f r none value n is not (limit, has, range) =
     let same : limit ≡ n = HasLimit-once (rows_of f) limit n has (HasLimit-of_some f r none value n is) in not (subst IsLimit same range)

@@ -8,6 +8,7 @@ use Rattle.clap.specs.declared.parser.matches.Found.{Found}
 use Rattle.clap.proofs.WalkLemmas.{one_text-rows}
 use Rattle.mesosev.specs.NamedOptions.{HasMost, IsMost}
 use Rattle.mesosev.proofs.LimitLemmas.{FromStr, IsWritten, written_once}
+use Rattle.mes_frame.specs.declared.limits.TheConstants.{CHUNK_LEAST, CHUNK_MOST}
 
 -- ---- the flag
 
@@ -74,7 +75,7 @@ module _ (f : Found) (r : Tried) (value : (t : Text) → one_text f (codes "most
     most_given n size is same = rw same (written n is)
 
     -- the value is a number out of range
-    pub most_out : (n : ℕ) → r ≡ Ok (Some n) → (((1 ≤ n) × (n ≤ 16777216)) → ⊥) → ((most : Option ℕ) × HasMost (rows_of f) most × IsMost most) → ⊥
+    pub most_out : (n : ℕ) → r ≡ Ok (Some n) → (((CHUNK_LEAST ≤ n) × (n ≤ CHUNK_MOST)) → ⊥) → ((most : Option ℕ) × HasMost (rows_of f) most × IsMost most) → ⊥
     most_out n is not (None, has, range) = rw has at (written n is)
     most_out n is not (Some m, has, range) =
         let same : m ≡ n = written_once (one_of (codes "most") (rows_of f)) m n has (written n is) in not (rw (← same) range)

@@ -17,6 +17,8 @@ use Rattle.mesosev.specs.CommandLine.{chunked_rule, limit_rule}
 use Rattle.mesosev.specs.NamedOptions.{HasFraming, HasMost, IsLimit, IsMost, SayFraming, SayLimit, SayMost, SayNumber, Writes}
 use Rattle.mes_stream.specs.declared.stream_reader.Framing.{Framing}
 use Rattle.mes_stream.specs.declared.stream_reader.Framing.TheVariants.{Plain, Chunked}
+use Rattle.mes_frame.specs.declared.limits.TheConstants.{CHUNK_LEAST, CHUNK_MOST, RECORD_LIMIT_LEAST, RECORD_LIMIT_MOST}
+use Rattle.mesosev.specs.declared.words.TheConstants.{LIMIT_DEFAULT}
 use Rattle.mesosev.proofs.Walks.{Given, IsFlag, IsNoFlag, IsOption, IsUsable, Reaches, absent, apart, given_value, given_words, joined, reaches_flag, reaches_start, used_value}
 
 -- ---- a number in a range
@@ -118,8 +120,11 @@ has_framing Chunked rows is = is
 
 -- ---- `--limit`
 
+abbrev pub limit_parser : ValueParser
+limit_parser = number_parser RECORD_LIMIT_LEAST RECORD_LIMIT_MOST
+
 abbrev pub usual_limit : Option Text
-usual_limit = Some (codes "4194304")
+usual_limit = Some LIMIT_DEFAULT.now
 
 pub limit_is : (c : List Rule) → arg_by_long c (codes "limit") ≡ Some (filled limit_rule) → arg_by_id c (codes "limit") ≡ Some (filled limit_rule)
     → IsOption c (filled limit_rule) (codes "--limit") (codes "limit")
@@ -130,20 +135,23 @@ limit_is c by_long by_id =
 abbrev pub rows_limit : Framing → Option Text → List Row
 rows_limit framing v = used_value (filled limit_rule) v (rows_flag framing)
 
-pub limit_usable : (framing : Framing) (v : Option Text) → Fits (number_parser 1 16777216) v → IsUsable false (filled limit_rule) v (rows_flag framing)
+pub limit_usable : (framing : Framing) (v : Option Text) → Fits limit_parser v → IsUsable false (filled limit_rule) v (rows_flag framing)
 limit_usable framing None fits = tt
 limit_usable Plain (Some v) fits = simp fits refl
 limit_usable Chunked (Some v) fits = simp fits refl
 
 -- the words that give the limit
 abbrev pub SaysLimit : List Text → ℕ → Type 0
-SaysLimit = Says (codes "--limit") usual_limit (number_parser 1 16777216)
+SaysLimit = Says (codes "--limit") usual_limit limit_parser
 
 pub says_limit : (words : List Text) (limit : ℕ) → SayLimit words limit → IsLimit limit → SaysLimit words limit
-says_limit words limit (inl (is, writes)) range = record { given = absent; is = is; plain = tt; fits = tt; text = codes "4194304"; text_is = refl; writes = writes }
-says_limit words limit (inr says) range = says_number 1 16777216 (omega arith) (codes "--limit") usual_limit words limit says range
+says_limit words limit (inl (is, writes)) range = record { given = absent; is = is; plain = tt; fits = tt; text = LIMIT_DEFAULT.now; text_is = refl; writes = writes }
+says_limit words limit (inr says) range = says_number RECORD_LIMIT_LEAST RECORD_LIMIT_MOST (omega arith) (codes "--limit") usual_limit words limit says range
 
 -- ---- `--most`
+
+abbrev pub most_parser : ValueParser
+most_parser = number_parser CHUNK_LEAST CHUNK_MOST
 
 -- the text of `--most` is the size, or there is none
 abbrev IsSize : Option Text → Option ℕ → Type 0
@@ -155,14 +163,14 @@ pub record SaysMost (words : List Text) (most : Option ℕ) : Type 0 where
   pub given : Given
   pub is : words ≡ given_words (codes "--most") given
   pub plain : IsNoFlag (given_value given)
-  pub fits : Fits (number_parser 1 16777216) (given_value given)
+  pub fits : Fits most_parser (given_value given)
   pub size : IsSize (given_value given) most
 
 pub says_most : (words : List Text) (most : Option ℕ) → SayMost words most → IsMost most → SaysMost words most
 says_most words None is range = record { given = absent; is = is; plain = tt; fits = tt; size = refl }
 says_most words (Some most) says range =
-    let s : Says (codes "--most") None (number_parser 1 16777216) words most = says_number 1 16777216 (omega arith) (codes "--most") None words most says range in
-    record { given = s.given; is = s.is; plain = s.plain; fits = s.fits; size = has_number (given_value s.given) (codes "--most") None (number_parser 1 16777216) words most s (value_of (given_value s.given)) }
+    let s : Says (codes "--most") None most_parser words most = says_number CHUNK_LEAST CHUNK_MOST (omega arith) (codes "--most") None words most says range in
+    record { given = s.given; is = s.is; plain = s.plain; fits = s.fits; size = has_number (given_value s.given) (codes "--most") None most_parser words most s (value_of (given_value s.given)) }
   where
     value_of : (v : Option Text) → v ≡ value_or None v
     value_of None = refl

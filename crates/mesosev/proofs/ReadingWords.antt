@@ -9,7 +9,7 @@ use Rattle.mesosev.specs.CommandLine.{command_app, chunked_rule, limit_rule}
 use Rattle.mesosev.specs.NamedOptions.{HasFraming, HasLimit, IsLimit, SayReading}
 use Rattle.mes_stream.specs.declared.stream_reader.Framing.{Framing}
 use Rattle.mes_stream.specs.declared.stream_reader.Framing.TheVariants.{Plain, Chunked}
-use Rattle.mesosev.proofs.OptionWords.{SaysLimit, chunked_is, flag_is, flag_text, flag_words, has_framing, has_number, limit_is, limit_usable, number_parser, reaches_framing, read_plain, read_value, rows_flag, rows_limit, says_limit, usual_limit, value_or}
+use Rattle.mesosev.proofs.OptionWords.{SaysLimit, chunked_is, flag_is, flag_text, flag_words, has_framing, has_number, limit_is, limit_parser, limit_usable, reaches_framing, read_plain, read_value, rows_flag, rows_limit, says_limit, usual_limit, value_or}
 use Rattle.mesosev.proofs.Subcommands.{IsSubcommand, leaf_shape}
 use Rattle.mesosev.proofs.TakenWords.{Takes, takes_words}
 use Rattle.mesosev.proofs.Walks.{Reaches, end_fault, given_value, given_words, reaches_option}
@@ -61,5 +61,5 @@ said_reading name is words framing limit (program, flags, limits, flag, says, sp
           (takes_words program name (reading_shape name) is (flag_words framing ++ given_words (codes "--limit") s.given) (rows_limit framing (given_value s.given)) reaches
           (good_end name framing (given_value s.given)));
       framing_has = has_framing framing (rows_end framing (given_value s.given)) t.0;
-      limit_has = has_number (one_of (codes "limit") (rows_end framing (given_value s.given))) (codes "--limit") usual_limit (number_parser 1 16777216) limits limit s (t.1 ∙ ap (value_or usual_limit) (read_plain (given_value s.given) s.plain));
+      limit_has = has_number (one_of (codes "limit") (rows_end framing (given_value s.given))) (codes "--limit") usual_limit limit_parser limits limit s (t.1 ∙ ap (value_or usual_limit) (read_plain (given_value s.given) s.plain));
     }

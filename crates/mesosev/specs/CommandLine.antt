@@ -6,8 +6,8 @@ use Rattle.clap.specs.declared.builder.action.ArgAction.TheVariants.{SetTrue}
 use Rattle.clap.specs.declared.builder.command.Command.{Command}
 use Rattle.clap.specs.declared.builder.command.Command.TheViews.{out-Command}
 use Rattle.clap.specs.declared.builder.value_parser.ValueParser.TheVariants as vp
-use Rattle.mesosev.specs.declared.words.TheConstants.{LIMIT_DEFAULT, LIMIT_LEAST, LIMIT_MOST}
-use Rattle.mes_run.specs.declared.chunk_size.TheConstants.{CHUNK_LEAST, CHUNK_MOST}
+use Rattle.mesosev.specs.declared.words.TheConstants.{LIMIT_DEFAULT}
+use Rattle.mes_frame.specs.declared.limits.TheConstants.{CHUNK_LEAST, CHUNK_MOST, RECORD_LIMIT_LEAST, RECORD_LIMIT_MOST}
 
 -- the command is this one, and has no argument that its subcommands share
 abbrev pub IsCommand : App → Command → Type 0
@@ -22,7 +22,7 @@ abbrev pub limit_rule : Rule
 limit_rule = record (new_rule (codes "limit")) {
   long = Some (codes "limit");
   value_names = 1;
-  parser = Some (vp.Signed (pos LIMIT_LEAST) (pos LIMIT_MOST));
+  parser = Some (vp.Signed (pos RECORD_LIMIT_LEAST) (pos RECORD_LIMIT_MOST));
   defaults = LIMIT_DEFAULT.now ∷ [];
 }
 

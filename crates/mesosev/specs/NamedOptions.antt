@@ -11,8 +11,8 @@ use Rattle.mesosev.specs.declared.words.Options.{Options}
 use Rattle.mesosev.specs.declared.words.Options.TheVariants.{Check, Show, Convert}
 use Rattle.mesosev.specs.declared.words.WordsFault.{WordsFault}
 use Rattle.mesosev.specs.declared.words.WordsFault.TheVariants.{Clap, BadValue, NoMemory}
-use Rattle.mesosev.specs.declared.words.TheConstants.{LIMIT_DEFAULT, LIMIT_LEAST, LIMIT_MOST}
-use Rattle.mes_run.specs.declared.chunk_size.TheConstants.{CHUNK_LEAST, CHUNK_MOST}
+use Rattle.mesosev.specs.declared.words.TheConstants.{LIMIT_DEFAULT}
+use Rattle.mes_frame.specs.declared.limits.TheConstants.{CHUNK_LEAST, CHUNK_MOST, RECORD_LIMIT_LEAST, RECORD_LIMIT_MOST}
 
 -- the text is the number in decimal digits, after a `+` or without one
 abbrev pub Writes : Text → ℕ → Type 0
@@ -44,11 +44,11 @@ IsReadAs read (Convert framing limit most) =
 abbrev pub NameOptions : List Text → Options → Type 0
 NameOptions words o = IsSomeAnd (subcommand_of command_app words) (λ read. IsReadAs read o)
 
--- a limit is 1 to 16,777,216 bytes
+-- a limit lies in its range
 abbrev pub IsLimit : ℕ → Type 0
-IsLimit limit = (LIMIT_LEAST ≤ limit) × (limit ≤ LIMIT_MOST)
+IsLimit limit = (RECORD_LIMIT_LEAST ≤ limit) × (limit ≤ RECORD_LIMIT_MOST)
 
--- the size of a chunk, where it is given, is 1 to 16,777,216 bytes
+-- the size of a chunk, where it is given, lies in its range
 abbrev pub IsMost : Option ℕ → Type 0
 IsMost None = Unit {0}
 IsMost (Some most) = (CHUNK_LEAST ≤ most) × (most ≤ CHUNK_MOST)

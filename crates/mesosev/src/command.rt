@@ -5,10 +5,12 @@ ghost use Rattle.clap.specs.Words.{subcommand_rows_of, with_subcommand};
 ghost use Rattle.mesosev.specs.CommandLine.{bare_app, chunked_rule, limit_rule, most_rule};
 ghost use Rattle.mesosev.specs.CommandLine.{IsCommand, command_app, reading_app};
 
-use crate::words::{LIMIT_DEFAULT, LIMIT_LEAST, LIMIT_MOST, VERSION};
+use crate::words::{LIMIT_DEFAULT, VERSION};
 use crate::{check, convert, show};
 use clap::{Arg, ArgAction, ArgMatches, Command, Error};
-use mes_run::{CHUNK_LEAST, CHUNK_MOST};
+use mes_frame::{
+    CHUNK_LEAST, CHUNK_MOST, RECORD_LIMIT_LEAST, RECORD_LIMIT_MOST, chunk_most, record_limit_most,
+};
 use std::alloc::{AllocError, Global};
 use std::convert::AsStr;
 
@@ -90,13 +92,13 @@ fn limit_option<'a>(alloc: Global) -> Arg<'a>
     ensures rule { rule_of result ≡ limit_rule }
     ensures local { result.global ≡ false }
 {
-    let range = i64::from(LIMIT_LEAST)..=i64::from(LIMIT_MOST);
+    let range = i64::from(RECORD_LIMIT_LEAST)..=i64::from(RECORD_LIMIT_MOST);
     Arg::new(alloc, "limit")
         .long("limit")
         .value_name("N")
         .value_parser(clap::value_parser!(u32).range(range))
         .default_value(LIMIT_DEFAULT)
-        .help("Largest record in bytes, 1 to 16777216")
+        .help(record_limit_most!(concat "Largest record in bytes, 1 to "))
 }
 
 /// `--most M`, whose range clap tests too.
@@ -109,5 +111,7 @@ pub fn most_option<'a>(alloc: Global) -> Arg<'a>
         .long("most")
         .value_name("M")
         .value_parser(clap::value_parser!(u32).range(range))
-        .help("Output is a chunked body in chunks of M bytes, 1 to 16777216, not plain RecordIO")
+        .help(
+            chunk_most!(concat "Output is a chunked body, not plain RecordIO, in chunks of M bytes, 1 to "),
+        )
 }

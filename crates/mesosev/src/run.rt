@@ -8,11 +8,9 @@ ghost use Rattle.mesosev.specs.Telling.{Tells, TellsError};
 ghost use Rattle.mesosev.specs.declared.words.Options.{Options as OptionsValue};
 
 use crate::options::options;
-use crate::words::{LIMIT_DEFAULT, LIMIT_LEAST, LIMIT_MOST, Options, WordsFault};
-use mes_frame::{Sink, Source};
-use mes_run::{
-    CHUNK_LEAST, CHUNK_MOST, Detail, GOOD, READS_MOST, convert, follow, out_of_memory, print_text,
-};
+use crate::words::{LIMIT_DEFAULT, Options, WordsFault};
+use mes_frame::{CHUNK_LEAST, CHUNK_MOST, RECORD_LIMIT_LEAST, RECORD_LIMIT_MOST, Sink, Source};
+use mes_run::{Detail, GOOD, READS_MOST, convert, follow, out_of_memory, print_text};
 use mes_stream::READ_MOST;
 use std::alloc::{AllocGlobal, Global};
 use std::convert::AsStr;
@@ -45,7 +43,7 @@ pub fn run<R: AllocGlobal, W: AsStr, I: Source, O: Sink, E: Sink>(
         ⊎ LacksMemory (record { bytes = O.written out.old; counts = O.counts out.old }) (record { bytes = O.written out.new; counts = O.counts out.new }) result }
 
     // The limits that the clauses name.
-    ensures limits { (LIMIT_LEAST ≡ 1) × (LIMIT_MOST ≡ 16777216) × (LIMIT_DEFAULT.now ≡ codes "4194304")
+    ensures limits { (RECORD_LIMIT_LEAST ≡ 1) × (RECORD_LIMIT_MOST ≡ 67108864) × (LIMIT_DEFAULT.now ≡ codes "4194304")
         × (CHUNK_LEAST ≡ 1) × (CHUNK_MOST ≡ 16777216) × (READ_MOST ≡ 512) × (READS_MOST ≡ 4294967296) }
 {
     let alloc = rt.alloc();

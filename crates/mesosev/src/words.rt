@@ -2,7 +2,7 @@
 ghost use Rattle.mesosev.specs.NamedOptions.{IsFaultOf};
 
 use clap::error::ErrorKind;
-use mes_frame::Limit;
+use mes_frame::{Limit, record_limit_usual};
 use mes_run::ChunkSize;
 use mes_stream::Framing;
 use thiserror::Error;
@@ -10,14 +10,8 @@ use thiserror::Error;
 /// The version that `--version` prints behind the name.
 pub const VERSION: &str = "0.1.0";
 
-/// The least record limit, in bytes.
-pub const LIMIT_LEAST: u32 = 1;
-
-/// The most record limit, in bytes: 16 MiB.
-pub const LIMIT_MOST: u32 = 16_777_216;
-
-/// The record limit where the words give none, in bytes: 4 MiB.
-pub const LIMIT_DEFAULT: &str = "4194304";
+/// The record limit where the words give none, in bytes: `RECORD_LIMIT_USUAL`.
+pub const LIMIT_DEFAULT: &str = record_limit_usual!(concat);
 
 /// A subcommand with its values.
 #[derive(Clone, Copy, Debug, PartialEq, Eq)]

@@ -1,7 +1,7 @@
 //! Bytes that are no JSON text, with the place and the reason: each state of the reader at a byte that it has no place for, and
 //! at the end.
 
-use mes_json::{ReadFault, TextFault, Why, read_text};
+use mes_json::{NESTING_LIMIT, ReadFault, TextFault, Why, read_text};
 use std::process::Abort;
 use std::test::Fail;
 
@@ -330,8 +330,11 @@ const DEPTH_IN_OBJECTS: [(&[u8], Why); 5] = [
 #[test]
 fn depth(rt: HostRuntime) -> Result<(), Fail> {
     for (bytes, why) in DEPTH_IN_ARRAYS {
-        let text = nested(&rt, b"[", 64, bytes)?;
-        let fault = TextFault { byte: 64, why };
+        let text = nested(&rt, b"[", NESTING_LIMIT, bytes)?;
+        let fault = TextFault {
+            byte: NESTING_LIMIT as u64,
+            why,
+        };
         assert_eq!(rt;
             read_text(rt.alloc(), &text).err(),
             Some(ReadFault::Text(fault)),
@@ -340,8 +343,11 @@ fn depth(rt: HostRuntime) -> Result<(), Fail> {
     }
     for (bytes, why) in DEPTH_IN_OBJECTS {
         // Each front has 5 bytes.
-        let text = nested(&rt, b"{\"a\":", 64, bytes)?;
-        let fault = TextFault { byte: 320, why };
+        let text = nested(&rt, b"{\"a\":", NESTING_LIMIT, bytes)?;
+        let fault = TextFault {
+            byte: 5 * NESTING_LIMIT as u64,
+            why,
+        };
         assert_eq!(rt;
             read_text(rt.alloc(), &text).err(),
             Some(ReadFault::Text(fault)),

@@ -1,6 +1,6 @@
 //! Texts that come in pieces are read as whole ones are: each front of each, by the byte and in every cut into two runs.
 
-use mes_json::{Json, Lexer, ReadFault, TextFault, Why, read_text};
+use mes_json::{Json, Lexer, NESTING_LIMIT, ReadFault, TextFault, Why, read_text};
 use std::alloc::Global;
 use std::process::Abort;
 use std::test::Fail;
@@ -76,7 +76,7 @@ fn reads_pieces_as_the_whole(rt: HostRuntime) {
 
 #[test]
 fn reads_deep_pieces_as_the_whole(rt: HostRuntime) -> Result<(), Fail> {
-    for depth in 64..66 {
+    for depth in NESTING_LIMIT..NESTING_LIMIT + 2 {
         let mut text = Vec::new(rt.alloc());
         for _ in 0..depth {
             text.push(b'[')?;

@@ -1,6 +1,6 @@
 //! JSON texts with the trees that they spell.
 
-use mes_json::{Json, Text, read_text, write_text};
+use mes_json::{Json, NESTING_LIMIT, Text, read_text, write_text};
 use std::test::Fail;
 
 /// What a value is, of arrays and objects how many items or members they have.
@@ -214,24 +214,27 @@ fn reads_long_texts(rt: HostRuntime) -> Result<(), Fail> {
     Ok(())
 }
 
-// As deep as the limit: the first of these 63 times, the second, the third 64 times.
+// As deep as the limit: the first of these once less than the limit, the second, the third as often as the limit.
 const DEEP: [(&[u8], &[u8], &[u8]); 2] = [(b"[", b"[", b"]"), (b"{\"a\":", b"{", b"}")];
 
 #[test]
 fn reads_as_deep_as_the_limit(rt: HostRuntime) -> Result<(), Fail> {
     for (front, inner, end) in DEEP {
         let mut bytes = Vec::new(rt.alloc());
-        for _ in 0..63 {
+        for _ in 1..NESTING_LIMIT {
             bytes.extend_from_slice(front)?;
         }
         bytes.extend_from_slice(inner)?;
-        for _ in 0..64 {
+        for _ in 0..NESTING_LIMIT {
             bytes.extend_from_slice(end)?;
         }
         let json = read_text(rt.alloc(), &bytes)?;
         let mut out = Vec::new(rt.alloc());
         write_text(&json, &mut out)?;
-        assert_eq!(rt; (out.as_slice(), json.depth()), (bytes.as_slice(), 64));
+        assert_eq!(rt;
+            (out.as_slice(), json.depth()),
+            (bytes.as_slice(), NESTING_LIMIT as u64)
+        );
     }
     Ok(())
 }

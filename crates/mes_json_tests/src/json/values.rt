@@ -1,6 +1,6 @@
 //! Values copied, measured, compared and written: texts by the grammar of RFC 8259.
 
-use mes_json::{Json, NumText, Text, read_text, text_length, write_str, write_text};
+use mes_json::{Json, NESTING_LIMIT, NumText, Text, read_text, text_length, write_str, write_text};
 use std::alloc::Global;
 use std::test::Fail;
 
@@ -181,17 +181,17 @@ fn nested(alloc: Global, depth: usize) -> Result<Vec<u8>, Fail> {
 
 #[test]
 fn copies_compares_and_writes_what_is_deep(rt: HostRuntime) -> Result<(), Fail> {
-    let bytes = nested(rt.alloc(), 64)?;
+    let bytes = nested(rt.alloc(), NESTING_LIMIT)?;
     let json = read_text(rt.alloc(), &bytes)?;
     let copy = json.copy(rt.alloc())?;
     assert!(rt; copy.same(&json));
     drop(json);
     assert_eq!(rt;
         (written(rt.alloc(), &copy)?.as_slice(), copy.depth()),
-        (bytes.as_slice(), 64)
+        (bytes.as_slice(), NESTING_LIMIT as u64)
     );
-    assert!(rt; is_long(&copy, 128));
-    let other = read_text(rt.alloc(), &nested(rt.alloc(), 63)?)?;
+    assert!(rt; is_long(&copy, 2 * NESTING_LIMIT));
+    let other = read_text(rt.alloc(), &nested(rt.alloc(), NESTING_LIMIT - 1)?)?;
     assert!(rt; !copy.same(&other));
     Ok(())
 }

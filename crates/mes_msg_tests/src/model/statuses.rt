@@ -2,7 +2,7 @@
 
 use super::{expect_faults, expect_values, read};
 use crate::support::row_of;
-use mes_model::{OwedKey, TaskState, TaskStatus};
+use mes_model::{OwedKey, Part, TaskState, TaskStatus};
 use std::alloc::{AllocGlobal, Global};
 use std::process::Abort;
 use std::test::Fail;
@@ -128,14 +128,29 @@ const OTHERS: &str =
 {"task_id":{"value":"t"},"state":"TASK_LOST","healthy":true,"healthy":true} => healthy Twice
 {"task_id":{"value":"t"},"state":"TASK_LOST","executor_id":1,"agent_id":{}} => agent_id.value Missing
 {"task_id":{"value":"t"},"state":"TASK_LOST","timestamp":"1","executor_id":{}} => executor_id.value Missing
+{"task_id":{"value":"t"},"state":"TASK_LOST","labels":[]} => labels WrongKind
+{"task_id":{"value":"t"},"state":"TASK_LOST","labels":{},"labels":null} => labels Twice
+{"task_id":{"value":"t"},"state":"TASK_LOST","labels":{"labels":{}}} => labels.labels WrongKind
+{"task_id":{"value":"t"},"state":"TASK_LOST","labels":{"labels":[{"key":"k"},{"value":"v"}]}} => labels.labels[1].key Missing
+{"task_id":{"value":"t"},"state":"TASK_LOST","unreachable_time":1} => unreachable_time WrongKind
+{"task_id":{"value":"t"},"state":"TASK_LOST","unreachable_time":{}} => unreachable_time.nanoseconds Missing
+{"task_id":{"value":"t"},"state":"TASK_LOST","unreachable_time":{"nanoseconds":"1"}} => unreachable_time.nanoseconds WrongKind
+{"task_id":{"value":"t"},"state":"TASK_LOST","unreachable_time":{"nanoseconds":-1}} => unreachable_time.nanoseconds NumberRange
+{"task_id":{"value":"t"},"state":"TASK_LOST","unreachable_time":{"nanoseconds":1.5}} => unreachable_time.nanoseconds NumberRange
+{"task_id":{"value":"t"},"state":"TASK_LOST","unreachable_time":{"nanoseconds":18446744073709551616}} => unreachable_time.nanoseconds NumberRange
+{"task_id":{"value":"t"},"state":"TASK_LOST","unreachable_time":{},"labels":7,"healthy":7} => healthy WrongKind
+{"task_id":{"value":"t"},"state":"TASK_LOST","unreachable_time":{},"labels":7} => labels WrongKind
 "#;
 
 const WRITTEN: &str =
     r#"{"task_id":{"value":"t"},"state":"TASK_RUNNING"} => {"task_id":{"value":"t"},"state":"TASK_RUNNING"}
 {"task_id":{"value":"t"},"state":"TASK_GONE_BY_OPERATOR","message":"m","source":"SOURCE_MASTER","reason":"REASON_SLAVE_REMOVED","data":"Zm9vYg==","agent_id":{"value":"a"},"executor_id":{"value":"e"},"timestamp":1.5,"uuid":"AAECAwQFBgcICQoLDA0ODw==","healthy":true} => {"task_id":{"value":"t"},"state":"TASK_GONE_BY_OPERATOR","message":"m","source":"SOURCE_MASTER","reason":"REASON_SLAVE_REMOVED","data":"Zm9vYg==","agent_id":{"value":"a"},"executor_id":{"value":"e"},"timestamp":1.5,"uuid":"AAECAwQFBgcICQoLDA0ODw==","healthy":true}
 {"healthy":false,"uuid":"","timestamp":1.0000005,"executor_id":{"value":""},"agent_id":{"value":""},"data":"","reason":"","source":"","message":"","state":"TASK_ERROR","task_id":{"value":""}} => {"task_id":{"value":""},"state":"TASK_ERROR","message":"","source":"","reason":"","data":"","agent_id":{"value":""},"executor_id":{"value":""},"timestamp":1.000001,"uuid":"","healthy":false}
-{"task_id":{"value":"t"},"state":"TASK_KILLED","message":null,"source":null,"reason":null,"data":null,"agent_id":null,"executor_id":null,"timestamp":null,"uuid":null,"healthy":null} => {"task_id":{"value":"t"},"state":"TASK_KILLED"}
-{"labels":1,"task_id":{"value":"t"},"labels":2,"state":"TASK_DROPPED","timestamp":1e12} => {"task_id":{"value":"t"},"state":"TASK_DROPPED","timestamp":1000000000000.0}
+{"task_id":{"value":"t"},"state":"TASK_KILLED","message":null,"source":null,"reason":null,"data":null,"agent_id":null,"executor_id":null,"timestamp":null,"uuid":null,"healthy":null,"labels":null,"unreachable_time":null} => {"task_id":{"value":"t"},"state":"TASK_KILLED"}
+{"unreachable_time":{"nanoseconds":0,"x":1},"labels":{},"task_id":{"value":"t"},"state":"TASK_UNREACHABLE"} => {"task_id":{"value":"t"},"state":"TASK_UNREACHABLE","labels":{},"unreachable_time":{"nanoseconds":0}}
+{"task_id":{"value":"t"},"state":"TASK_UNREACHABLE","labels":{"labels":[{"key":"k"},{"value":"v","key":"l"}]},"unreachable_time":{"nanoseconds":18446744073709551615}} => {"task_id":{"value":"t"},"state":"TASK_UNREACHABLE","labels":{"labels":[{"key":"k"},{"key":"l","value":"v"}]},"unreachable_time":{"nanoseconds":18446744073709551615}}
+{"task_id":{"value":"t"},"state":"TASK_UNREACHABLE","unreachable_time":{"nanoseconds":1.5e1}} => {"task_id":{"value":"t"},"state":"TASK_UNREACHABLE","unreachable_time":{"nanoseconds":15}}
+{"limitation":1,"task_id":{"value":"t"},"limitation":2,"state":"TASK_DROPPED","timestamp":1e12} => {"task_id":{"value":"t"},"state":"TASK_DROPPED","timestamp":1000000000000.0}
 {"task_id":{"value":"t"},"state":"TASK_FAILED","timestamp":0.0000004,"check_status":{},"healthy":null} => {"task_id":{"value":"t"},"state":"TASK_FAILED","timestamp":0.0}
 "#;
 
@@ -253,6 +268,12 @@ fn other_rows(rt: HostRuntime) -> Result<(), Fail> {
     expect_faults::<TaskStatus, HostRuntime>(&rt, OTHERS)
 }
 
+/// A fault lies at most so many steps below a status: that of a label's key.
+#[test]
+fn steps_of_a_status(rt: HostRuntime) {
+    assert_eq!(rt; <TaskStatus as Part>::STEPS, 4);
+}
+
 #[test]
 fn statuses_written(rt: HostRuntime) -> Result<(), Fail> {
     expect_values::<TaskStatus, HostRuntime>(&rt, WRITTEN)
@@ -273,14 +294,14 @@ fn owed_keys(rt: HostRuntime) -> Result<(), Fail> {
 fn are_same(alloc: Global, text: &str, other: &str) -> Result<(bool, bool), Fail> {
     let key = key_of(alloc, text)?;
     let other = key_of(alloc, other)?;
-    Ok((key.same(&other), other.same(&key)))
+    Ok((key == other, other == key))
 }
 
 /// Whether the key of the status is the same as its copy, part by part.
 fn is_copied(alloc: Global, text: &str) -> Result<bool, Fail> {
     let key = key_of(alloc, text)?;
     let copy = key.copy(alloc)?;
-    Ok(key.same(&copy) && parts(&copy) == parts(&key))
+    Ok(key == copy && parts(&copy) == parts(&key))
 }
 
 /// The keys of the two statuses of each row are the same, or are not, and the first is the same as its copy.

@@ -3,7 +3,8 @@
 mod faults;
 
 use crate::support::{expect_fault, field_fault_of, row_of, text_fault_of};
-use mes_json::{Text, Why, read_tape, read_text};
+use mes_frame::RECORD_LIMIT_MOST;
+use mes_json::{NESTING_LIMIT, Text, Why, read_tape, read_text};
 use mes_model::{Id, TaskInfo};
 use mes_msg::{Accept, Call, EncodeFault, Limit, Operation};
 use mes_part::{List, Part, Trail};
@@ -19,6 +20,9 @@ const OWN: &str =
 {"type":"KILL","framework_id":{"value":"F1"},"kill":{"task_id":{"value":"T1"}}}
 {"type":"RECONCILE","framework_id":{"value":"F1"},"reconcile":{}}
 {"type":"TEARDOWN","framework_id":{"value":"F1"}}
+{"type":"SUPPRESS","framework_id":{"value":"F1"}}
+{"type":"SHUTDOWN","framework_id":{"value":"F1"},"shutdown":{"executor_id":{"value":"E1"},"agent_id":{"value":"A1"}}}
+{"type":"MESSAGE","framework_id":{"value":"F1"},"message":{"agent_id":{"value":"A1"},"executor_id":{"value":"E1"},"data":"AAE="}}
 {"type":"SUBSCRIBE","subscribe":{"framework_info":{"user":"root","name":"n"}}}
 {"type":"SUBSCRIBE","framework_id":{"value":"F1"},"subscribe":{"framework_info":{"user":"root","name":"n","id":{"value":"F1"},"failover_timeout":60.5,"checkpoint":true,"roles":["a","b"],"hostname":"h","principal":"p","capabilities":[{"type":"PARTITION_AWARE"},{}]}}}
 {"type":"ACCEPT","framework_id":{"value":"F1"},"accept":{"offer_ids":[{"value":"O1"},{"value":"O2"}],"operations":[{"type":"LAUNCH","launch":{"task_infos":[{"name":"t","task_id":{"value":"T1"},"agent_id":{"value":"A1"},"resources":[{"name":"cpus","type":"SCALAR","scalar":{"value":0.5},"role":"*"},{"name":"ports","type":"RANGES","ranges":{"range":[{"begin":31000,"end":31001}]}}],"command":{"value":"sleep 1","shell":true,"arguments":["a","b"]},"executor":{"x":0.10}}]}},{"type":"LAUNCH","launch":{}}],"filters":{"refuse_seconds":5.0}}}
@@ -38,7 +42,13 @@ const LOOSE: &str =
 {"type":"REVIVE","framework_id":{"value":"F1"},"revive":null} => {"type":"REVIVE","framework_id":{"value":"F1"}}
 {"revive":null,"framework_id":{"value":"F1"},"type":"REVIVE","suppress":{},"roles":["a"],"roles":["b"]} => {"type":"REVIVE","framework_id":{"value":"F1"}}
 {"type":"TEARDOWN","framework_id":{"value":"F1"},"teardown":{},"accept":7,"accept":8,"revive":{}} => {"type":"TEARDOWN","framework_id":{"value":"F1"}}
-{"type":"SUBSCRIBE","framework_id":null,"subscribe":{"framework_info":{"name":"n","user":"root","id":null,"webui_url":"u","roles":[]},"suppressed_roles":["a"]}} => {"type":"SUBSCRIBE","subscribe":{"framework_info":{"user":"root","name":"n"}}}
+{"suppress":null,"type":"SUPPRESS","revive":{},"framework_id":{"value":"F1"}} => {"type":"SUPPRESS","framework_id":{"value":"F1"}}
+{"shutdown":{"agent_id":{"value":"A1"},"executor_id":{"value":"E1"},"x":1},"type":"SHUTDOWN","framework_id":{"value":"F1"}} => {"type":"SHUTDOWN","framework_id":{"value":"F1"},"shutdown":{"executor_id":{"value":"E1"},"agent_id":{"value":"A1"}}}
+{"type":"MESSAGE","framework_id":{"value":"F1"},"message":{"data":"","executor_id":{"value":"E1"},"agent_id":{"value":"A1"}}} => {"type":"MESSAGE","framework_id":{"value":"F1"},"message":{"agent_id":{"value":"A1"},"executor_id":{"value":"E1"},"data":""}}
+{"type":"SUBSCRIBE","framework_id":null,"subscribe":{"framework_info":{"name":"n","user":"root","id":null,"webui_url":"u","roles":[]},"suppressed_roles":["a"]}} => {"type":"SUPPRESS","framework_id":{"value":"F1"}}
+{"type":"SHUTDOWN","framework_id":{"value":"F1"},"shutdown":{"executor_id":{"value":"E1"},"agent_id":{"value":"A1"}}}
+{"type":"MESSAGE","framework_id":{"value":"F1"},"message":{"agent_id":{"value":"A1"},"executor_id":{"value":"E1"},"data":"AAE="}}
+{"type":"SUBSCRIBE","subscribe":{"framework_info":{"user":"root","name":"n"}}}
 {"accept":{"filters":{"refuse_seconds":5},"operations":[{"launch":{"task_infos":[{"agent_id":{"value":"A1"},"task_id":{"value":"T1"},"name":"t","discovery":{},"executor":null,"resources":[]}]},"type":"LAUNCH","id":{"value":"X"},"reserve":7,"reserve":8}],"offer_ids":[{"value":"O1"}],"x":1,"x":2},"framework_id":{"value":"F1"},"type":"ACCEPT","decline":7} => {"type":"ACCEPT","framework_id":{"value":"F1"},"accept":{"offer_ids":[{"value":"O1"}],"operations":[{"type":"LAUNCH","launch":{"task_infos":[{"name":"t","task_id":{"value":"T1"},"agent_id":{"value":"A1"}}]}}],"filters":{"refuse_seconds":5.0}}}
 {"type":"ACCEPT","framework_id":{"value":"F1"},"accept":{"offer_ids":null,"operations":null,"filters":null}} => {"type":"ACCEPT","framework_id":{"value":"F1"},"accept":{}}
 {"type":"ACCEPT","framework_id":{"value":"F1"},"accept":{"offer_ids":[],"operations":[]}} => {"type":"ACCEPT","framework_id":{"value":"F1"},"accept":{}}
@@ -75,7 +85,7 @@ fn is_too_large(call: &Call, alloc: Global, limit: Limit) -> bool {
 
 /// The call has this canonical text, within a limit of just its length, and none within a smaller one.
 fn expect_canon<R: Abort + AllocGlobal>(rt: &R, call: &Call, written: &str) -> Result<(), Fail> {
-    let length = written.len().min(16_777_216) as u32;
+    let length = written.len().min(RECORD_LIMIT_MOST as usize) as u32;
     let limit = Limit::new(length).ok_or("a limit")?;
     let out = canon(call, rt.alloc(), limit)?;
     assert_eq!(rt; out.as_slice(), written.as_bytes());
@@ -201,13 +211,13 @@ fn is_too_deep(alloc: Global, objects: usize) -> Result<bool, Fail> {
 // The executor stands inside seven objects and arrays.
 #[test]
 fn calls_nest_to_the_limit(rt: HostRuntime) -> Result<(), Fail> {
-    let deepest = deep_text(rt.alloc(), 57)?;
+    let deepest = deep_text(rt.alloc(), NESTING_LIMIT - 7)?;
     assert!(rt; Call::read_record(rt.alloc(), deepest.as_slice()).is_ok());
     Ok(())
 }
 
 #[test]
 fn deep_calls_are_refused(rt: HostRuntime) -> Result<(), Fail> {
-    assert!(rt; is_too_deep(rt.alloc(), 58)?);
+    assert!(rt; is_too_deep(rt.alloc(), NESTING_LIMIT - 6)?);
     Ok(())
 }

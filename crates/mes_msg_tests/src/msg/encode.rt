@@ -1,10 +1,13 @@
 //! Events that have no canonical text, and the names of other events.
 
 use super::canon;
-use mes_json::Text;
+use mes_json::{NESTING_LIMIT, Text};
 use mes_msg::{EncodeFault, Event, Limit, OtherName};
 use std::alloc::Global;
 use std::test::Fail;
+
+/// The most objects inside each other that a `disk` of an OFFERS may be, as it is written: six objects and arrays stand around it.
+const MOST_OBJECTS: usize = NESTING_LIMIT - 6;
 
 /// An OFFERS in the form of the bare array, with one offer whose resource has a `disk` of so many objects inside each other.
 fn deep_offers(alloc: Global, objects: usize) -> Result<Vec<u8>, Fail> {
@@ -44,22 +47,22 @@ fn refused(alloc: Global, objects: usize, limit: Limit) -> Result<Option<EncodeF
     Ok(event.canon(alloc, limit).err())
 }
 
-// The text nests 64 deep, 5 of them around `disk`; the body that is written is an object, so there it would be 65.
+// In the text, five objects and arrays stand around `disk`, so that it is read; the body that is written is an object, one more.
 #[test]
 fn deep_events_are_refused(rt: HostRuntime) -> Result<(), Fail> {
     let smallest = Limit::new(1).ok_or("a limit")?;
     for limit in [Limit::MOST, smallest] {
-        let why = refused(rt.alloc(), 59, limit)?;
+        let why = refused(rt.alloc(), MOST_OBJECTS + 1, limit)?;
         assert!(rt; matches!(why, Some(EncodeFault::TooDeep)));
     }
     Ok(())
 }
 
-// What is written nests 64 deep, and has 11 bytes more than the text: `{"offers":` and `}`.
+// What is written nests to the limit, and has 11 bytes more than the text: `{"offers":` and `}`.
 #[test]
 fn events_nest_to_the_limit(rt: HostRuntime) -> Result<(), Fail> {
-    let text = deep_offers(rt.alloc(), 58)?;
-    let written = deep_canon(rt.alloc(), 58)?;
+    let text = deep_offers(rt.alloc(), MOST_OBJECTS)?;
+    let written = deep_canon(rt.alloc(), MOST_OBJECTS)?;
     assert_eq!(rt; written.len(), text.len() + 11);
     Ok(())
 }
@@ -67,7 +70,7 @@ fn events_nest_to_the_limit(rt: HostRuntime) -> Result<(), Fail> {
 #[test]
 fn deep_events_have_their_bytes_counted(rt: HostRuntime) -> Result<(), Fail> {
     let smallest = Limit::new(1).ok_or("a limit")?;
-    let why = refused(rt.alloc(), 58, smallest)?;
+    let why = refused(rt.alloc(), MOST_OBJECTS, smallest)?;
     assert!(rt; matches!(why, Some(EncodeFault::TooLarge)));
     Ok(())
 }
@@ -82,7 +85,7 @@ fn rewritten(alloc: Global, text: &[u8]) -> Result<Vec<u8>, Fail> {
 
 #[test]
 fn what_is_written_is_read_again(rt: HostRuntime) -> Result<(), Fail> {
-    let written = deep_canon(rt.alloc(), 58)?;
+    let written = deep_canon(rt.alloc(), MOST_OBJECTS)?;
     let again = rewritten(rt.alloc(), written.as_slice())?;
     assert_eq!(rt; again.as_slice(), written.as_slice());
     Ok(())

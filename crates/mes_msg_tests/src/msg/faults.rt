@@ -2,7 +2,7 @@
 
 use super::expect_faults;
 use crate::support::{field_fault_of, text_fault_of};
-use mes_json::Why;
+use mes_json::{NESTING_LIMIT, Why};
 use mes_msg::Event;
 use mes_part::FieldWhy;
 use std::test::Fail;
@@ -194,12 +194,12 @@ fn other_bytes_are_no_text(rt: HostRuntime) {
     }
 }
 
-// Arrays 64 deep are a text, of no event.
+// Arrays as deep as the limit are a text, of no event.
 #[test]
 fn arrays_are_no_event(rt: HostRuntime) -> Result<(), Fail> {
     let mut text = Vec::new(rt.alloc());
-    text.extend_from_slice(&[b'['; 64])?;
-    text.extend_from_slice(&[b']'; 64])?;
+    text.extend_from_slice(&[b'['; NESTING_LIMIT])?;
+    text.extend_from_slice(&[b']'; NESTING_LIMIT])?;
     let fault = field_fault_of(Event::read_record(rt.alloc(), text.as_slice()));
     match fault {
         Some(fault) => assert_eq!(rt; fault.why, FieldWhy::WrongKind),
@@ -208,9 +208,12 @@ fn arrays_are_no_event(rt: HostRuntime) -> Result<(), Fail> {
     Ok(())
 }
 
-// 65 are none.
+// Deeper ones are none.
 #[test]
 fn deeper_arrays_are_no_text(rt: HostRuntime) {
-    let answer = Event::read_record(rt.alloc(), &[b'['; 65]);
-    assert_eq!(rt; text_fault_of(answer), Some((64, Why::Depth)));
+    let answer = Event::read_record(rt.alloc(), &[b'['; NESTING_LIMIT + 1]);
+    assert_eq!(rt;
+        text_fault_of(answer),
+        Some((NESTING_LIMIT as u64, Why::Depth))
+    );
 }

@@ -96,23 +96,14 @@ fn labels_are_written(rt: HostRuntime) -> Result<(), Fail> {
     let mut labels = Vec::new(alloc);
     labels.push(label(alloc, "a", None)?)?;
     labels.push(label(alloc, "b", Some("c"))?)?;
-    let labels = Labels {
-        labels: List::new(labels),
-    };
+    let labels = Labels::new(List::new(labels));
     expect_written(
         &rt,
         alloc,
         &labels,
         "{\"labels\":[{\"key\":\"a\"},{\"key\":\"b\",\"value\":\"c\"}]}",
     )?;
-    expect_written(
-        &rt,
-        alloc,
-        &Labels {
-            labels: List::new(Vec::new(alloc)),
-        },
-        "{}",
-    )
+    expect_written(&rt, alloc, &Labels::new(List::new(Vec::new(alloc))), "{}")
 }
 
 #[test]

@@ -98,14 +98,14 @@ fn text_faults(rt: HostRuntime) {
     expect_line(&rt, &end, 2, "fault F11 Text record 1 byte 0 End after 2");
     let depth = Fault::Text {
         at_record: 1,
-        byte: 64,
+        byte: 128,
         why: Why::Depth,
     };
     expect_line(
         &rt,
         &depth,
-        134,
-        "fault F11 Text record 1 byte 64 Depth after 134",
+        133,
+        "fault F11 Text record 1 byte 128 Depth after 133",
     );
     let byte = Fault::Text {
         at_record: 1,

@@ -3,6 +3,7 @@
 use crate::support::{HEARTBEAT, heartbeat_by_bytes};
 use arrayvec::ArrayString;
 use mes_frame::{Limit, MemorySink, MemorySource, MemoryStop, WriteFault, WriteWhy};
+use mes_json::NESTING_LIMIT;
 use mes_msg::Event;
 use mes_stream::{
     EncodeWhy, FAULT_LINE_MOST, SendFault, read_plain, send_line, write_plain, write_stream,
@@ -104,18 +105,18 @@ fn an_event_that_no_record_can_hold(rt: HostRuntime) -> Result<(), Fail> {
     Ok(())
 }
 
-/// An OFFERS whose one resource has a `disk` of 59 objects inside each other: it is read in the form of the bare array, and nests
-/// 65 deep as it is written.
+/// An OFFERS whose one resource has a `disk` of objects inside each other: it is read in the form of the bare array, and nests one
+/// deeper than a text may as it is written.
 fn deep_event(alloc: Global) -> Result<Event, Fail> {
     let mut text = Vec::new(alloc);
     text.extend_from_slice(
         br#"{"type":"OFFERS","offers":[{"id":{"value":"O1"},"framework_id":{"value":"F1"},"agent_id":{"value":"A1"},"hostname":"h","resources":[{"name":"disk","type":"SET","set":{},"disk":"#,
     )?;
-    for _ in 1..59 {
+    for _ in 1..NESTING_LIMIT - 5 {
         text.extend_from_slice(br#"{"a":"#)?;
     }
     text.extend_from_slice(b"{}")?;
-    for _ in 1..59 {
+    for _ in 1..NESTING_LIMIT - 5 {
         text.extend_from_slice(b"}")?;
     }
     text.extend_from_slice(b"}]}]}")?;

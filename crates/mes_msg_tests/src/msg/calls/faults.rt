@@ -14,11 +14,6 @@ null => . WrongKind
 {"type":7} => type WrongKind
 {"type":"REVIVE","type":"REVIVE"} => type Twice
 {"type":"REVIVE","type":null} => type Twice
-{"type":"SUPPRESS"} => type LeftOut
-{"type":"SUPPRESS","framework_id":{"value":"F1"},"suppress":{}} => type LeftOut
-{"type":"SUPPRESS","framework_id":7} => type LeftOut
-{"type":"SHUTDOWN","framework_id":{"value":"F1"}} => type LeftOut
-{"type":"MESSAGE","framework_id":{"value":"F1"}} => type LeftOut
 {"type":"RECONCILE_OPERATIONS","framework_id":{"value":"F1"}} => type LeftOut
 {"type":"ACKNOWLEDGE_OPERATION_STATUS","framework_id":{"value":"F1"}} => type LeftOut
 {"type":"REQUEST","framework_id":{"value":"F1"}} => type LeftOut
@@ -46,6 +41,10 @@ const FRAMEWORKS: &str = r#"{"type":"TEARDOWN"} => framework_id Missing
 {"type":"KILL","kill":{}} => framework_id Missing
 {"type":"ACKNOWLEDGE","acknowledge":{}} => framework_id Missing
 {"type":"RECONCILE","reconcile":{}} => framework_id Missing
+{"type":"SUPPRESS"} => framework_id Missing
+{"type":"SUPPRESS","framework_id":7,"suppress":{}} => framework_id WrongKind
+{"type":"SHUTDOWN","shutdown":{}} => framework_id Missing
+{"type":"MESSAGE","message":{}} => framework_id Missing
 {"type":"RECONCILE","reconcile":7,"framework_id":{"value":7}} => framework_id.value WrongKind
 {"type":"SUBSCRIBE","framework_id":7} => framework_id WrongKind
 {"type":"SUBSCRIBE","subscribe":7,"framework_id":{}} => framework_id.value Missing
@@ -145,6 +144,32 @@ const RECONCILE: &str = r#"{"type":"RECONCILE","framework_id":{"value":"F1"}} =>
 {"type":"RECONCILE","framework_id":{"value":"F1"},"reconcile":{"tasks":[{"task_id":{"value":"T1"},"agent_id":7}]}} => reconcile.tasks[0].agent_id WrongKind
 "#;
 
+/// Faults of SUPPRESS.
+const SUPPRESS: &str =
+    r#"{"type":"SUPPRESS","framework_id":{"value":"F1"},"suppress":{}} => suppress LeftOut
+{"type":"SUPPRESS","framework_id":{"value":"F1"},"suppress":{"roles":["a"]}} => suppress LeftOut
+{"type":"SUPPRESS","framework_id":{"value":"F1"},"suppress":false} => suppress LeftOut
+{"type":"SUPPRESS","framework_id":{"value":"F1"},"suppress":null,"suppress":null} => suppress Twice
+"#;
+
+/// Faults of SHUTDOWN.
+const SHUTDOWN: &str = r#"{"type":"SHUTDOWN","framework_id":{"value":"F1"}} => shutdown Missing
+{"type":"SHUTDOWN","framework_id":{"value":"F1"},"shutdown":[]} => shutdown WrongKind
+{"type":"SHUTDOWN","framework_id":{"value":"F1"},"shutdown":{}} => shutdown.executor_id Missing
+{"type":"SHUTDOWN","framework_id":{"value":"F1"},"shutdown":{"agent_id":{"value":"A1"}}} => shutdown.executor_id Missing
+{"type":"SHUTDOWN","framework_id":{"value":"F1"},"shutdown":{"executor_id":{"value":"E1"}}} => shutdown.agent_id Missing
+{"type":"SHUTDOWN","framework_id":{"value":"F1"},"shutdown":{"agent_id":7,"executor_id":{}}} => shutdown.executor_id.value Missing
+"#;
+
+/// Faults of MESSAGE.
+const MESSAGE: &str = r#"{"type":"MESSAGE","framework_id":{"value":"F1"}} => message Missing
+{"type":"MESSAGE","framework_id":{"value":"F1"},"message":"AAE="} => message WrongKind
+{"type":"MESSAGE","framework_id":{"value":"F1"},"message":{"executor_id":{"value":"E1"},"data":"AAE="}} => message.agent_id Missing
+{"type":"MESSAGE","framework_id":{"value":"F1"},"message":{"agent_id":{"value":"A1"},"data":"AAE="}} => message.executor_id Missing
+{"type":"MESSAGE","framework_id":{"value":"F1"},"message":{"agent_id":{"value":"A1"},"executor_id":{"value":"E1"}}} => message.data Missing
+{"type":"MESSAGE","framework_id":{"value":"F1"},"message":{"agent_id":{"value":"A1"},"executor_id":{"value":"E1"},"data":"AAE"}} => message.data BadBase64
+"#;
+
 #[test]
 fn first_faults_are_told(rt: HostRuntime) -> Result<(), Fail> {
     expect_faults(&rt, TYPES)?;
@@ -155,5 +180,8 @@ fn first_faults_are_told(rt: HostRuntime) -> Result<(), Fail> {
     expect_faults(&rt, REVIVE)?;
     expect_faults(&rt, KILL)?;
     expect_faults(&rt, ACKNOWLEDGE)?;
-    expect_faults(&rt, RECONCILE)
+    expect_faults(&rt, RECONCILE)?;
+    expect_faults(&rt, SUPPRESS)?;
+    expect_faults(&rt, SHUTDOWN)?;
+    expect_faults(&rt, MESSAGE)
 }

@@ -1,7 +1,7 @@
-use Rattle.std.proofs.Common.{◌≡◌, ◌≤◌, ◌<◌, ℕ, List, [], inl, inr, true, false, map, bytes_eq, length, set, get_or, sym, ◌∙◌, subst, ap, arith}
+use Rattle.std.proofs.Common.{◌≡◌, ℕ, List, [], inl, inr, true, false, map, bytes_eq, set, get_or, sym, ◌∙◌, subst, ap, arith}
 use Rattle.std.proofs.lemmas.Bool.{cases_lt}
 use Rattle.std.proofs.lemmas.List.{length-map, length-set, get_or-map, get_or_default}
-use Rattle.mes_part.specs.FoundRows.{noted, noted_if}
+use Rattle.mes_part.specs.FoundRows.{noted}
 use Rattle.mes_part.specs.declared.found.Found.{Found}
 use Rattle.mes_part.specs.declared.found.Found.TheVariants.{Nothing}
 use Rattle.mes_part.proofs.FoundLemmas.{noted_once, refilled}

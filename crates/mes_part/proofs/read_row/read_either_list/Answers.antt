@@ -7,7 +7,7 @@ use Rattle.mes_part.proofs.read_row.read_either_list.Goals as goal
 pub returns-then-is_some : goal.returns-then-is_some
 returns-then-is_some g c = λ t b.
     gives_array c.args.name.now g.T.Part.kind c.args.path.now t c.items.result _ (c.items.ensures t b) (sym c.is_some.ensures ∙ c.if-is_some.true)
-    (c.read_list.ensures t b)
+    (c.read_items.ensures t b)
 
 pub returns-in_err-rows : goal.returns-in_err-rows
 returns-in_err-rows g c = λ t b.

@@ -3,7 +3,7 @@ use Rattle.mes_json.specs.Tree.{Tree}
 use Rattle.mes_json.specs.Tokens.{BeginsWith}
 use Rattle.mes_part.specs.Lists.{list_of}
 use Rattle.mes_part.proofs.ReadListLemmas.{ReadsOn}
-use Rattle.mes_part.proofs.read_row.read_list.Given as goal
+use Rattle.mes_part.proofs.read_row.read_items.Given as goal
 
 abbrev pub invariant-loop-item : goal.invariant-loop-item
 invariant-loop-item g l =

@@ -1,6 +1,6 @@
 use Rattle.std.proofs.Common.{ℕ, subst}
 use Rattle.mes_stream.specs.Decoders.{HoldsOf}
-use Rattle.mes_stream.proofs.decoder.Decoder.held.Goals as goal
+use Rattle.mes_stream.proofs.decoder.RecordDecoder.held.Goals as goal
 
 pub returns-in-Going-clause-held : goal.returns-in-Going-clause-held
 returns-in-Going-clause-held g c = λ limit w values s.

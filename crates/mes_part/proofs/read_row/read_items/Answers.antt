@@ -3,7 +3,7 @@ use Rattle.mes_part.specs.Paths.Place.{index}
 use Rattle.mes_part.specs.Lists.{list_of}
 use Rattle.mes_part.proofs.PartLemmas.{gives_told}
 use Rattle.mes_part.proofs.ReadListLemmas.{no_list, reads_first, reads_next, reads_fault, reads_last}
-use Rattle.mes_part.proofs.read_row.read_list.Goals as goal
+use Rattle.mes_part.proofs.read_row.read_items.Goals as goal
 
 pub returns-in_default : goal.returns-in_default
 returns-in_default g c = λ t b. gives_told _ _ _ c.refusal_at.ensures (no_list g.T.Part.kind c.args.path.now t (c.in_default.ensures t b))

@@ -3,17 +3,17 @@ use Rattle.mes_stream.specs.Chunked.{Live}
 use Rattle.mes_stream.specs.Decoding.{ReadingStands, Says, LiveBefore, reading_limit}
 use Rattle.mes_stream.specs.Decoders.{DecoderStands}
 use Rattle.mes_stream.specs.declared.reading.Out.{Out}
-use Rattle.mes_stream.specs.declared.decoder.Decoder.{Decoder}
+use Rattle.mes_stream.specs.declared.decoder.RecordDecoder.{RecordDecoder}
 use Rattle.mes_stream.specs.declared.decoder.State.TheVariants as state
 use Rattle.mes_stream.proofs.ChunkLemmas.{reading_live, take_whole}
 use Rattle.mes_stream.proofs.DecoderLemmas.{says_ended, says_as_well}
-use Rattle.mes_stream.proofs.decoder.Decoder.next.Goals as goal
+use Rattle.mes_stream.proofs.decoder.RecordDecoder.next.Goals as goal
 
 pub returns-in-Some-clause-says : goal.returns-in-Some-clause-says
 returns-in-Some-clause-says g c = λ limit w values s.
     let t = rw c.in-Going.is at s in
     let same = c.next-step.ensures.limit ∙ t.1 in
-    let new : Decoder g.row.R.Denot = record { state = state.Ended c.in-Some.end } in
+    let new : RecordDecoder g.row.R.Denot = record { state = state.Ended c.in-Some.end } in
     subst (λ (n : ℕ). Says (DecoderStands g.R.RecordReader.holds g.R.RecordReader.spells new limit) g.R.RecordReader.spells g.R.RecordReader.breaks n w values c.args.piece.now c.next-step.result.used c.next-step.result.out) same
     (says_ended (ReadingStands g.R.RecordReader.holds g.R.RecordReader.spells c.next-step.new.self) (DecoderStands g.R.RecordReader.holds g.R.RecordReader.spells new limit) g.R.RecordReader.spells g.R.RecordReader.breaks (reading_limit c.next-step.new.self)
     w c.args.piece.now values c.next-step.result.used c.in-Some.end c.next-step.result.out c.in-Some.ensures (c.next-step.ensures.says w values t.0))
@@ -27,7 +27,7 @@ pub returns-in_default-clause-says : goal.returns-in_default-clause-says
 returns-in_default-clause-says g c = λ limit w values s.
     let t = rw c.in-Going.is at s in
     let same = c.next-step.ensures.limit ∙ t.1 in
-    let new : Decoder g.row.R.Denot = record { state = state.Going c.next-step.new.self } in
+    let new : RecordDecoder g.row.R.Denot = record { state = state.Going c.next-step.new.self } in
     says_as_well (ReadingStands g.R.RecordReader.holds g.R.RecordReader.spells c.next-step.new.self) (DecoderStands g.R.RecordReader.holds g.R.RecordReader.spells new limit) g.R.RecordReader.spells g.R.RecordReader.breaks limit
     w c.args.piece.now values c.next-step.result.used c.next-step.result.out (λ v vs h. (h, same))
     (subst (λ (n : ℕ). Says (ReadingStands g.R.RecordReader.holds g.R.RecordReader.spells c.next-step.new.self) g.R.RecordReader.spells g.R.RecordReader.breaks n w values c.args.piece.now c.next-step.result.used c.next-step.result.out) same (c.next-step.ensures.says w values t.0))

@@ -1,0 +1,10 @@
+//! The limits of a path.
+
+/// How many steps a path has at most.
+pub const STEPS_MOST: usize = 16;
+
+/// How many bytes the name in a step has at most.
+pub const NAME_MOST: usize = 31;
+
+/// How many bytes the text of a path has at most: each step a dot and a name.
+pub const PATH_TEXT_MOST: usize = STEPS_MOST * (NAME_MOST + 1);
