@@ -24,6 +24,11 @@ impl Model for Limit {
     ghost inverse = { λ n. record { bytes = n } };
 }
 
+// The two limits that have a name are those numbers.
+const _: () = prove!(
+    Limit::USUAL.bytes == RECORD_LIMIT_USUAL && Limit::MOST.bytes == RECORD_LIMIT_MOST
+);
+
 impl Limit {
     /// The limit that serves where nobody chose one.
     pub const USUAL: Limit = Limit {

@@ -32,7 +32,7 @@ pub use mes_part::{
     most_steps, one_answer, one_list, read_list, read_part, returned, written_again,
 };
 pub use offer::Offer;
-pub use owed_key::OwedKey;
+pub use owed_key::{OwedKey, equal_keys};
 pub use reservation::Reservation;
 pub use resource::{Resource, ResourceValue};
 pub use task_info::TaskInfo;

@@ -1,6 +1,6 @@
 //! What names an acknowledgement that is owed.
 
-ghost use Rattle.std.specs.Prelude.{◌≡◌, IfOk};
+ghost use Rattle.std.specs.Prelude.{◌≡◌, IsTrue, ◌↔◌, IfOk};
 
 use crate::id::Id;
 use mes_json::NoMemory;
@@ -28,4 +28,11 @@ impl OwedKey {
         let uuid = self.uuid.copy(alloc)?;
         Ok(OwedKey { agent, task, uuid })
     }
+}
+
+/// Two keys are equal by `==` exactly where they are the same.
+pub fn equal_keys(key: &OwedKey, other: &OwedKey) -> bool
+    ensures { IsTrue result ↔ key.now ≡ other.now }
+{
+    key == other
 }

@@ -2,9 +2,10 @@
 
 ghost use Rattle.std.specs.Prelude.{◌≡◌};
 
-use crate::limits::READS_MOST;
+use crate::limits::{LINE_MOST, READS_MOST};
 
-/// One run reads its input at most 4,294,967,296 times.
+/// One run reads its input at most 4,294,967,296 times, and a line has at most 641 bytes, its LF among them.
 pub fn run_limits()
-    ensures { READS_MOST ≡ 4294967296 }
+    ensures reads { READS_MOST ≡ 4294967296 }
+    ensures line { LINE_MOST ≡ 641 }
 {}

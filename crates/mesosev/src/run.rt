@@ -9,9 +9,8 @@ ghost use Rattle.mesosev.specs.declared.words.Options.{Options as OptionsValue};
 
 use crate::options::options;
 use crate::words::{LIMIT_DEFAULT, Options, WordsFault};
-use mes_frame::{CHUNK_LEAST, CHUNK_MOST, RECORD_LIMIT_LEAST, RECORD_LIMIT_MOST, Sink, Source};
-use mes_run::{Detail, GOOD, READS_MOST, convert, follow, out_of_memory, print_text};
-use mes_stream::READ_MOST;
+use mes_frame::{Sink, Source};
+use mes_run::{Detail, GOOD, convert, follow, out_of_memory, print_text};
 use std::alloc::{AllocGlobal, Global};
 use std::convert::AsStr;
 
@@ -42,9 +41,8 @@ pub fn run<R: AllocGlobal, W: AsStr, I: Source, O: Sink, E: Sink>(
         result
         ⊎ LacksMemory (record { bytes = O.written out.old; counts = O.counts out.old }) (record { bytes = O.written out.new; counts = O.counts out.new }) result }
 
-    // The limits that the clauses name.
-    ensures limits { (RECORD_LIMIT_LEAST ≡ 1) × (RECORD_LIMIT_MOST ≡ 67108864) × (LIMIT_DEFAULT.now ≡ codes "4194304")
-        × (CHUNK_LEAST ≡ 1) × (CHUNK_MOST ≡ 16777216) × (READ_MOST ≡ 512) × (READS_MOST ≡ 4294967296) }
+    // The default of `--limit`; the other limits that the clauses name are pinned where they stand.
+    ensures limit { LIMIT_DEFAULT.now ≡ codes "4194304" }
 {
     let alloc = rt.alloc();
     match options(alloc, words) {

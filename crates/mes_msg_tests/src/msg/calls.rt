@@ -45,10 +45,7 @@ const LOOSE: &str =
 {"suppress":null,"type":"SUPPRESS","revive":{},"framework_id":{"value":"F1"}} => {"type":"SUPPRESS","framework_id":{"value":"F1"}}
 {"shutdown":{"agent_id":{"value":"A1"},"executor_id":{"value":"E1"},"x":1},"type":"SHUTDOWN","framework_id":{"value":"F1"}} => {"type":"SHUTDOWN","framework_id":{"value":"F1"},"shutdown":{"executor_id":{"value":"E1"},"agent_id":{"value":"A1"}}}
 {"type":"MESSAGE","framework_id":{"value":"F1"},"message":{"data":"","executor_id":{"value":"E1"},"agent_id":{"value":"A1"}}} => {"type":"MESSAGE","framework_id":{"value":"F1"},"message":{"agent_id":{"value":"A1"},"executor_id":{"value":"E1"},"data":""}}
-{"type":"SUBSCRIBE","framework_id":null,"subscribe":{"framework_info":{"name":"n","user":"root","id":null,"webui_url":"u","roles":[]},"suppressed_roles":["a"]}} => {"type":"SUPPRESS","framework_id":{"value":"F1"}}
-{"type":"SHUTDOWN","framework_id":{"value":"F1"},"shutdown":{"executor_id":{"value":"E1"},"agent_id":{"value":"A1"}}}
-{"type":"MESSAGE","framework_id":{"value":"F1"},"message":{"agent_id":{"value":"A1"},"executor_id":{"value":"E1"},"data":"AAE="}}
-{"type":"SUBSCRIBE","subscribe":{"framework_info":{"user":"root","name":"n"}}}
+{"type":"SUBSCRIBE","framework_id":null,"subscribe":{"framework_info":{"name":"n","user":"root","id":null,"webui_url":"u","roles":[]},"suppressed_roles":["a"]}} => {"type":"SUBSCRIBE","subscribe":{"framework_info":{"user":"root","name":"n"}}}
 {"accept":{"filters":{"refuse_seconds":5},"operations":[{"launch":{"task_infos":[{"agent_id":{"value":"A1"},"task_id":{"value":"T1"},"name":"t","discovery":{},"executor":null,"resources":[]}]},"type":"LAUNCH","id":{"value":"X"},"reserve":7,"reserve":8}],"offer_ids":[{"value":"O1"}],"x":1,"x":2},"framework_id":{"value":"F1"},"type":"ACCEPT","decline":7} => {"type":"ACCEPT","framework_id":{"value":"F1"},"accept":{"offer_ids":[{"value":"O1"}],"operations":[{"type":"LAUNCH","launch":{"task_infos":[{"name":"t","task_id":{"value":"T1"},"agent_id":{"value":"A1"}}]}}],"filters":{"refuse_seconds":5.0}}}
 {"type":"ACCEPT","framework_id":{"value":"F1"},"accept":{"offer_ids":null,"operations":null,"filters":null}} => {"type":"ACCEPT","framework_id":{"value":"F1"},"accept":{}}
 {"type":"ACCEPT","framework_id":{"value":"F1"},"accept":{"offer_ids":[],"operations":[]}} => {"type":"ACCEPT","framework_id":{"value":"F1"},"accept":{}}
@@ -147,11 +144,16 @@ fn other_bytes_are_no_text(rt: HostRuntime) {
 /// The text of the smallest call.
 const REVIVE: &str = r#"{"type":"REVIVE","framework_id":{"value":"F1"}}"#;
 
+/// The text of the next longer one.
+const SUPPRESS: &str = r#"{"type":"SUPPRESS","framework_id":{"value":"F1"}}"#;
+
 // The limit of a record is that of the whole text: 47 bytes are enough, and 46 are not.
 #[test]
 fn calls_have_their_bytes_counted(rt: HostRuntime) -> Result<(), Fail> {
     assert_eq!(rt; REVIVE.len(), 47);
-    expect_call(&rt, REVIVE, REVIVE)
+    expect_call(&rt, REVIVE, REVIVE)?;
+    assert_eq!(rt; SUPPRESS.len(), 49);
+    expect_call(&rt, SUPPRESS, SUPPRESS)
 }
 
 /// A task whose executor is so many objects inside each other.

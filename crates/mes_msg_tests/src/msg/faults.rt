@@ -83,6 +83,8 @@ const RESCIND: &str = r#"{"type":"RESCIND"} => rescind Missing
 
 /// Faults of UPDATE.
 const UPDATE: &str = r#"{"type":"UPDATE"} => update Missing
+{"type":"UPDATE","update":{"status":{"task_id":{"value":"T1"},"state":"TASK_UNREACHABLE","labels":[],"unreachable_time":{"nanoseconds":1}}}} => update.status.labels WrongKind
+{"type":"UPDATE","update":{"status":{"task_id":{"value":"T1"},"state":"TASK_UNREACHABLE","labels":{"labels":[{"key":"k"}]},"unreachable_time":{}}}} => update.status.unreachable_time.nanoseconds Missing
 {"type":"UPDATE","update":null} => update Missing
 {"type":"UPDATE","update":"m"} => update WrongKind
 {"type":"UPDATE","update":7} => update WrongKind

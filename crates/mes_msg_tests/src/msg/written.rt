@@ -3,7 +3,7 @@
 use super::expect_events;
 use std::test::Fail;
 
-/// SUBSCRIBED, RESCIND, MESSAGE, FAILURE and ERROR.
+/// SUBSCRIBED, RESCIND, MESSAGE, UPDATE, FAILURE and ERROR.
 const PLAIN: &str =
     r#"{"type":"SUBSCRIBED","subscribed":{"framework_id":{"value":"F1"}}} => {"type":"SUBSCRIBED","subscribed":{"framework_id":{"value":"F1"}}}
 {"type":"SUBSCRIBED","subscribed":{"framework_id":{"value":"F1"},"heartbeat_interval_seconds":15}} => {"type":"SUBSCRIBED","subscribed":{"framework_id":{"value":"F1"},"heartbeat_interval_seconds":15.0}}
@@ -15,6 +15,7 @@ const PLAIN: &str =
 {"type":"MESSAGE","message":{"agent_id":{"value":"A1"},"executor_id":{"value":"E1"},"data":"Zg=="}} => {"type":"MESSAGE","message":{"agent_id":{"value":"A1"},"executor_id":{"value":"E1"},"data":"Zg=="}}
 {"type":"MESSAGE","message":{"agent_id":{"value":"A1"},"executor_id":{"value":"E1"},"data":""}} => {"type":"MESSAGE","message":{"agent_id":{"value":"A1"},"executor_id":{"value":"E1"},"data":""}}
 {"type":"MESSAGE","message":{"data":"Zm9v","executor_id":{"value":"E1"},"agent_id":{"value":"A1"}}} => {"type":"MESSAGE","message":{"agent_id":{"value":"A1"},"executor_id":{"value":"E1"},"data":"Zm9v"}}
+{"type":"UPDATE","update":{"status":{"task_id":{"value":"T1"},"state":"TASK_UNREACHABLE","labels":{"labels":[{"key":"k"}]},"unreachable_time":{"nanoseconds":1}}}} => {"type":"UPDATE","update":{"status":{"task_id":{"value":"T1"},"state":"TASK_UNREACHABLE","labels":{"labels":[{"key":"k"}]},"unreachable_time":{"nanoseconds":1}}}}
 {"type":"FAILURE","failure":{}} => {"type":"FAILURE","failure":{}}
 {"type":"FAILURE","failure":{"status":null}} => {"type":"FAILURE","failure":{}}
 {"type":"FAILURE","failure":{"agent_id":null,"executor_id":null,"status":0}} => {"type":"FAILURE","failure":{"status":0}}

@@ -4,7 +4,7 @@ use crate::support::{expect_fault, part_fault_of, row_of};
 use mes_json::{read_tape, read_text, write_text};
 use mes_part::{
     Label, Labels, List, Part, PartFault, Path, Trail, find_rows, left_out, list_tree,
-    read_either_list, written_again,
+    read_either_list, read_list, written_again,
 };
 use std::alloc::Global;
 use std::process::Abort;
@@ -124,6 +124,46 @@ fn lists_are_read_in_either_form(rt: HostRuntime) -> Result<(), Fail> {
     for line in EITHER_FAULTS.lines() {
         let (text, fault) = row_of(line)?;
         let answer = read_either(rt.alloc(), text)?;
+        expect_fault(&rt, text, part_fault_of(answer), fault)?;
+    }
+    Ok(())
+}
+
+/// Arrays of labels, and what their list is written as.
+const ARRAYS: &str = r#"[] => []
+[{"key":"a"},{"value":"v","key":"b","x":1}] => [{"key":"a"},{"key":"b","value":"v"}]
+"#;
+
+/// Texts of no array of labels.
+const NO_ARRAYS: &str = r#"{} => . WrongKind
+null => . WrongKind
+[{"key":"a"},null] => [1] WrongKind
+[{"key":"a"},{"key":7}] => [1].key WrongKind
+"#;
+
+/// The list of labels that the tree of a text is.
+fn read_array(alloc: Global, text: &str) -> Result<Result<List<Label>, PartFault>, Fail> {
+    let tree = read_text(alloc, text.as_bytes())?;
+    Ok(read_list(alloc, &tree, &Path::new()))
+}
+
+#[test]
+fn lists_are_read_from_trees(rt: HostRuntime) -> Result<(), Fail> {
+    for line in ARRAYS.lines() {
+        let (text, expected) = row_of(line)?;
+        let Ok(list) = read_array(rt.alloc(), text)? else {
+            return Err("it is a list")?;
+        };
+        let count = list.len();
+        let labels = Labels::new(list);
+        assert_eq!(rt; labels.as_slice().len(), count);
+        let mut out = Vec::new(rt.alloc());
+        write_text(&list_tree(rt.alloc(), &labels.into_list())?, &mut out)?;
+        assert_eq!(rt; out.as_slice(), expected.as_bytes());
+    }
+    for line in NO_ARRAYS.lines() {
+        let (text, fault) = row_of(line)?;
+        let answer = read_array(rt.alloc(), text)?;
         expect_fault(&rt, text, part_fault_of(answer), fault)?;
     }
     Ok(())
