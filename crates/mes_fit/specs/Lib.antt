@@ -1,0 +1,5 @@
+pub mod Keys
+pub mod Fits
+pub mod Launched
+pub mod Looking
+pub mod Pouring

@@ -1,0 +1,17 @@
+#![tactic(auto)]
+//! Whether tasks fit the offers that they are launched on (mesos.proto, `Offer.Operation.Launch`).
+
+mod around;
+mod breach;
+mod key;
+mod launched;
+mod laws;
+mod missing;
+mod offer_list;
+mod reach;
+mod shared;
+mod supply;
+
+pub use breach::{Breach, first_breach};
+pub use laws::fits_laws;
+pub use offer_list::OfferList;

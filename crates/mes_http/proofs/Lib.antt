@@ -1,0 +1,10 @@
+pub mod BodyLemmas
+pub mod FieldLemmas
+pub mod HeadLemmas
+pub mod LengthLemmas
+pub mod Nothing
+pub mod Phrases
+pub mod PushLemmas
+pub mod StreamIdLemmas
+pub mod TrimLemmas
+pub mod UuidText

@@ -1,0 +1,11 @@
+pub mod StreamIds
+pub mod Faults
+pub mod Texts
+pub mod Endings
+pub mod Heads
+pub mod Stops
+pub mod Fields
+pub mod Responses
+pub mod Requests
+pub mod Bodies
+pub mod Calls

@@ -1,0 +1,56 @@
+-- How the taking of a head ends before there is one.
+use Rattle.std.specs.Prelude.{◌≡◌, ℕ, List, length}
+use Rattle.httparse.specs.Grammar.{RequestHead, ResponseHead}
+use Rattle.httparse.specs.Spans.{IsRequestAt, IsResponseAt, IsRequestWithin, IsResponseWithin}
+use Rattle.httparse.specs.declared.spans.HeaderSpan.{HeaderSpan}
+use Rattle.httparse.specs.declared.spans.RequestSpans.{RequestSpans}
+use Rattle.httparse.specs.declared.spans.ResponseSpans.{ResponseSpans}
+use Rattle.mes_frame.specs.declared.counts.Counts.{Counts}
+use Rattle.mes_http.specs.Endings.{AllGive, OneFails, OneEnds}
+use Rattle.mes_http.specs.Heads.{IsRequest, IsResponse, PendsRequest, PendsResponse, FailsRequest, FailsResponse}
+use Rattle.mes_http.specs.declared.fault.HeadFault.{HeadFault}
+use Rattle.mes_http.specs.declared.fault.HeadFault.TheVariants as fault
+use Rattle.mes_http.specs.declared.head.HeadStop.{HeadStop}
+use Rattle.mes_http.specs.declared.head.HeadStop.TheVariants.{Read, TooLong, Refused, Ended}
+use Rattle.mes_http.specs.declared.limits.TheConstants.{HEAD_MOST}
+
+-- the fault that is told of it
+abbrev pub stop_fault : HeadStop → HeadFault
+stop_fault Read = fault.Read
+stop_fault TooLong = fault.HeadTooLong
+stop_fault Refused = fault.BadHead
+stop_fault Ended = fault.BadHead
+
+-- no byte came: the reader failed, or gave its end
+abbrev pub StopsByte : HeadStop → Counts → Counts → Type 0
+StopsByte Read old new = OneFails old new
+StopsByte Ended old new = OneEnds old new
+StopsByte _ old new = ⊥
+
+-- the reader failed, or gave its end, in what may become a head; or that has as many bytes as a head may have; or none can come of it
+abbrev pub StopsRequest : HeadStop → List ℕ → Counts → Counts → Type 0
+StopsRequest Read taken old new = PendsRequest taken × OneFails old new
+StopsRequest TooLong taken old new = (length taken ≡ HEAD_MOST) × PendsRequest taken × AllGive old new
+StopsRequest Refused taken old new = FailsRequest taken × AllGive old new
+StopsRequest Ended taken old new = PendsRequest taken × OneEnds old new
+
+-- the same for a response
+abbrev pub StopsResponse : HeadStop → List ℕ → Counts → Counts → Type 0
+StopsResponse Read taken old new = PendsResponse taken × OneFails old new
+StopsResponse TooLong taken old new = (length taken ≡ HEAD_MOST) × PendsResponse taken × AllGive old new
+StopsResponse Refused taken old new = FailsResponse taken × AllGive old new
+StopsResponse Ended taken old new = PendsResponse taken × OneEnds old new
+
+-- the spans are those of the head that was taken
+pub record IsRequestTaken (taken : List ℕ) (headers : List HeaderSpan) (r : RequestSpans) : Type 0 where
+  pub head : RequestHead
+  pub at : IsRequestAt taken headers r head
+  pub is : IsRequest taken head
+  pub within : IsRequestWithin taken headers r
+
+-- the same for a response
+pub record IsResponseTaken (taken : List ℕ) (headers : List HeaderSpan) (r : ResponseSpans) : Type 0 where
+  pub head : ResponseHead
+  pub at : IsResponseAt taken headers r head
+  pub is : IsResponse taken head
+  pub within : IsResponseWithin taken headers r

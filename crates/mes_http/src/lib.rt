@@ -1,0 +1,29 @@
+#![tactic(auto)]
+//! The heads of HTTP/1.1 messages that the scheduler API's calls and streams of events travel behind (RFC 9112): they are taken
+//! from a reader byte by byte, and written.
+
+mod answer_writer;
+mod body;
+mod call_writer;
+mod fault;
+mod fields;
+mod head;
+mod laws;
+mod length;
+mod limits;
+mod media_type;
+mod request;
+mod response;
+mod rules;
+mod stream_id;
+
+pub use answer_writer::{write_ok, write_status};
+pub use call_writer::write_call;
+pub use fault::HeadFault;
+pub use laws::http_limits;
+pub use limits::{
+    BODY_MOST, FIELDS_MOST, HEAD_FAULT_MOST, HEAD_MOST, HOST_MOST, LENGTH_DIGITS, STREAM_ID_MOST,
+};
+pub use request::{Request, read_request};
+pub use response::{read_answer, read_head};
+pub use stream_id::StreamId;

@@ -1,0 +1,197 @@
+//! Requests: their heads, the shapes by which one is smuggled, and their bodies.
+
+use crate::support::{CALL, CALL_LINES, answer_of, bytes_of, row_of};
+use mes_frame::{MemorySource, Source};
+use mes_http::{Request, read_request};
+use std::alloc::AllocGlobal;
+use std::process::Abort;
+use std::test::Fail;
+
+/// What stands before the first fault of a request's head, in order: target, method, media type, length, its bound, stream.
+const FAULTS: &str =
+    "POST /api/v1/scheduler HTTP/1.1|Content-Type: application/json|Content-Length: 47|| => ok
+POST /api/v1/scheduler HTTP/1.0|cOnTeNt-TyPe: APPLICATION/json|CONTENT-LENGTH: 47|| => ok
+||POST /api/v1/scheduler HTTP/1.1|content-type: application/json\t; charset=utf-8|content-length:47|| => ok
+GET /x HTTP/1.1|| => H8 WrongPath
+POST /api/v1/scheduler/ HTTP/1.1|Content-Type: application/json|Content-Length: 47|| => H8 WrongPath
+POST /api/v1/Scheduler HTTP/1.1|Content-Type: application/json|Content-Length: 47|| => H8 WrongPath
+POST /api/v1/scheduler?a HTTP/1.1|Content-Type: application/json|Content-Length: 47|| => H8 WrongPath
+POST http://h/api/v1/scheduler HTTP/1.1|Content-Type: application/json|Content-Length: 47|| => H8 WrongPath
+POST * HTTP/1.1|Content-Type: application/json|Content-Length: 47|| => H8 WrongPath
+GET /api/v1/scheduler HTTP/1.1|| => H9 WrongMethod
+post /api/v1/scheduler HTTP/1.1|Content-Type: application/json|Content-Length: 47|| => H9 WrongMethod
+POST /api/v1/scheduler HTTP/1.1|| => H6 NotJson
+POST /api/v1/scheduler HTTP/1.1|Content-Type: application/x-protobuf|Mesos-Stream-Id: a b|| => H6 NotJson
+POST /api/v1/scheduler HTTP/1.1|Content-Type: application/json|Mesos-Stream-Id: a b|| => H10 NoLength
+POST /api/v1/scheduler HTTP/1.1|Content-Type: application/json|Content-Length: 1048577|Mesos-Stream-Id: a b|| => H11 BodyTooLong
+POST /api/v1/scheduler HTTP/1.1|Content-Type: application/json|Content-Length: 47|Mesos-Stream-Id: a b|| => H7 NoStreamId
+POST /api/v1/scheduler HTTP/1.1|Content-Type: application/json|Content-Length: 47|Mesos-Stream-Id: s1|Mesos-Stream-Id: s1|| => H7 NoStreamId
+POST /api/v1/scheduler HTTP/1.1|Content-Type: application/json|Content-Length: 48|Mesos-Stream-Id: a b|| => H7 NoStreamId
+POST /api/v1/scheduler HTTP/2|Content-Type: application/json|Content-Length: 47|| => H3 BadHead
+POST /api/v1/scheduler|| => H3 BadHead
+POST  /api/v1/scheduler HTTP/1.1|Content-Type: application/json|Content-Length: 47|| => H3 BadHead
+POST /api/v1/scheduler HTTP/1.1|Content-Type: application/json|Content-Length: 48|| => H12 ShortBody
+POST /api/v1/scheduler HTTP/1.1|Content-Type: application/json|Content-Length: 1048576|| => H12 ShortBody
+POST /api/v1/scheduler HTTP/1.1|Content-Type: application/json|Content-Length: 46|| => ok";
+
+/// Shapes by which a request is smuggled in another: two readers that take them differently would cut the stream of requests
+/// differently.
+const SHAPES: &str = "Content-Length: 47|Content-Length: 47 => H10 NoLength
+Content-Length: 47|content-length: 46 => H10 NoLength
+Content-Length: 47, 47 => H10 NoLength
+Transfer-Encoding: chunked => H10 NoLength
+Transfer-Encoding: chunked|Content-Length: 47 => H10 NoLength
+Content-Length: 47|TRANSFER-ENCODING: identity => H10 NoLength
+Content-Length: 47|Transfer-Encoding: => H10 NoLength
+Content-Length: +47 => H10 NoLength
+Content-Length: -47 => H10 NoLength
+Content-Length: 1, 1 => H10 NoLength
+Content-Length: 0x2f => H10 NoLength
+Content-Length: 4 7 => H10 NoLength
+Content-Length: 47.0 => H10 NoLength
+Content-Length: => H10 NoLength
+Content-Length: 000000000000000000047 => H10 NoLength
+Content-Length: 999999999999999999999 => H10 NoLength
+Content-Length: 99999999999999999999 => H11 BodyTooLong
+Content-Length: 18446744073709551663 => H11 BodyTooLong
+Content-Length: 4294967343 => H11 BodyTooLong
+Content-Length: 00000000000000000047 => ok
+Content-Length:\t47\t => ok
+Content-Length: 0 => ok
+Content-Length : 47 => H3 BadHead
+ Content-Length: 47 => H3 BadHead
+Content-Length: 47| A: b => H3 BadHead
+Content-Length: 4|\t7 => H3 BadHead
+Content-Length 47 => H3 BadHead
+: 47 => H3 BadHead
+Content-Length: 47|A\u{e9}: b => H3 BadHead";
+
+/// The same with bytes that no line of a table has: a bare LF ends a line, as it may (RFC 9112, section 2.2); a bare CR and a NUL
+/// are refused.
+const BYTES: [(&str, &str); 7] = [
+    ("Content-Length: 47\nA: b", "ok"),
+    ("Content-Length: 46\nContent-Length: 47", "H10 NoLength"),
+    ("A: b\rContent-Length: 47", "H3 BadHead"),
+    ("Content-Length: 47\r", "H3 BadHead"),
+    ("A: a\tb|Content-Length: 47", "ok"),
+    ("A: \0|Content-Length: 47", "H3 BadHead"),
+    ("Content-Length: 47\u{b}", "H3 BadHead"),
+];
+
+#[test]
+fn the_first_fault_is_told(rt: HostRuntime) -> Result<(), Fail> {
+    for line in FAULTS.lines() {
+        let (lines, expected) = row_of(line)?;
+        let bytes = bytes_of(rt.alloc(), lines, CALL)?;
+        let mut source = MemorySource::new(bytes.as_slice(), 64);
+        assert_eq!(rt;
+            answer_of(&read_request(rt.alloc(), &mut source)),
+            expected,
+            "{lines}"
+        );
+    }
+    Ok(())
+}
+
+const FRONT: &str = "POST /api/v1/scheduler HTTP/1.1|Host: h|Content-Type: application/json|";
+
+#[test]
+fn smuggled_shapes_are_refused(rt: HostRuntime) -> Result<(), Fail> {
+    for line in SHAPES.lines() {
+        let (lines, expected) = row_of(line)?;
+        expect_shape(&rt, lines, expected)?;
+    }
+    for (lines, expected) in BYTES {
+        expect_shape(&rt, lines, expected)?;
+    }
+    Ok(())
+}
+
+fn expect_shape<R: Abort + AllocGlobal>(rt: &R, lines: &str, expected: &str) -> Result<(), Fail> {
+    let mut bytes = bytes_of(rt.alloc(), FRONT, b"")?;
+    bytes.extend_from_slice(bytes_of(rt.alloc(), lines, b"\r\n\r\n")?.as_slice())?;
+    bytes.extend_from_slice(CALL)?;
+    let mut source = MemorySource::new(bytes.as_slice(), 64);
+    assert_eq!(rt;
+        answer_of(&read_request(rt.alloc(), &mut source)),
+        expected,
+        "{lines}"
+    );
+    Ok(())
+}
+
+/// The stream that a request names, where it is one.
+fn stream_of(request: &Request) -> &str {
+    match &request.stream {
+        Some(id) => id.as_str(),
+        None => "-",
+    }
+}
+
+#[test]
+fn a_body_is_taken_exactly(rt: HostRuntime) -> Result<(), Fail> {
+    let mut bytes = bytes_of(rt.alloc(), CALL_LINES, CALL)?;
+    bytes.extend_from_slice(b"XY")?;
+    for most in [1, 7, 4096] {
+        let mut source = MemorySource::new(bytes.as_slice(), most);
+        let request = read_request(rt.alloc(), &mut source)
+            .ok()
+            .ok_or("a request")?;
+        assert_eq!(rt; request.body.as_slice(), CALL);
+        assert_eq!(rt; stream_of(&request), "s1");
+        let mut buffer = [0; 8];
+        assert_eq!(rt; source.fetch(&mut buffer)?, most.min(2));
+        assert_eq!(rt; buffer[0], b'X');
+    }
+    Ok(())
+}
+
+#[test]
+fn a_body_may_be_empty_and_large(rt: HostRuntime) -> Result<(), Fail> {
+    let lines =
+        "POST /api/v1/scheduler HTTP/1.1|Content-Type: application/json|Content-Length: 00||";
+    let bytes = bytes_of(rt.alloc(), lines, b"X")?;
+    let mut source = MemorySource::new(bytes.as_slice(), 64);
+    let request = read_request(rt.alloc(), &mut source)
+        .ok()
+        .ok_or("a request")?;
+    assert_eq!(rt; request.body.len(), 0);
+    assert_eq!(rt; stream_of(&request), "-");
+    let lines =
+        "POST /api/v1/scheduler HTTP/1.1|Content-Type: application/json|Content-Length: 1048576||";
+    let mut bytes = bytes_of(rt.alloc(), lines, b"")?;
+    bytes.resize(bytes.len() + 1_048_576, b'a')?;
+    let mut source = MemorySource::new(bytes.as_slice(), 100_000);
+    let request = read_request(rt.alloc(), &mut source)
+        .ok()
+        .ok_or("a request")?;
+    assert_eq!(rt; request.body.len(), 1_048_576);
+    Ok(())
+}
+
+/// A reader that fails is H1, in the body too; one that ends is H3 in the head and H12 in the body.
+#[test]
+fn requests_break_off(rt: HostRuntime) -> Result<(), Fail> {
+    let bytes = bytes_of(rt.alloc(), CALL_LINES, CALL)?;
+    let head = bytes.len().saturating_sub(CALL.len());
+    for good in 0..bytes.len() {
+        let mut failing = MemorySource::failing_after(bytes.as_slice(), 5, good);
+        assert_eq!(rt;
+            answer_of(&read_request(rt.alloc(), &mut failing)),
+            "H1 Read",
+            "{good}"
+        );
+        let mut ending = MemorySource::new(&bytes[..good], 5);
+        let expected = if good < head {
+            "H3 BadHead"
+        } else {
+            "H12 ShortBody"
+        };
+        assert_eq!(rt;
+            answer_of(&read_request(rt.alloc(), &mut ending)),
+            expected,
+            "{good}"
+        );
+    }
+    Ok(())
+}
