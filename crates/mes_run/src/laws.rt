@@ -4,7 +4,8 @@ ghost use Rattle.std.specs.Prelude.{◌≡◌};
 
 use crate::limits::{LINE_MOST, READS_MOST};
 
-/// One run reads its input at most 4,294,967,296 times, and a line has at most 641 bytes, its LF among them.
+/// One run reads its input at most 4,294,967,296 times, and the line that it prints of a fault or of a count
+/// has at most 641 bytes, its LF among them.
 pub fn run_limits()
     ensures reads { READS_MOST ≡ 4294967296 }
     ensures line { LINE_MOST ≡ 641 }

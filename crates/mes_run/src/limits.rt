@@ -5,5 +5,5 @@ use mes_stream::FAULT_LINE_MOST;
 /// The most reads of the input.
 pub const READS_MOST: u64 = 4_294_967_296;
 
-/// The room for a line and its LF, in bytes.
+/// The room for the line of a fault or of a count and its LF, in bytes.
 pub(crate) const LINE_MOST: usize = FAULT_LINE_MOST + 1;
