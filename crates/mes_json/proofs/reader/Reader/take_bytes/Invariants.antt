@@ -2,7 +2,7 @@ use Rattle.std.proofs.Common.{◌≡◌, ◌-◌, ◌≤◌, length, take, Some}
 use Rattle.mes_json.specs.Machine.{run}
 use Rattle.mes_json.specs.Reader.{Fits, state_view}
 use Rattle.mes_json.specs.declared.limits.TheConstants.{NESTING_LIMIT}
-use Rattle.mes_json.proofs.reader.Reader.take_all.Given as goal
+use Rattle.mes_json.proofs.reader.Reader.take_bytes.Given as goal
 
 abbrev pub invariant-loop-place : goal.invariant-loop-place
 invariant-loop-place l = record {

@@ -4,7 +4,7 @@ use Rattle.mes_json.specs.Reader.{state_view}
 use Rattle.mes_json.specs.declared.limits.TheConstants.{NESTING_LIMIT}
 use Rattle.mes_json.proofs.RunLemmas.{run_take}
 use Rattle.mes_json.proofs.TakenLemmas.{reached_over}
-use Rattle.mes_json.proofs.reader.Reader.take_all.Goals as goal
+use Rattle.mes_json.proofs.reader.Reader.take_bytes.Goals as goal
 
 pub loop-place-init : goal.loop-place-init
 unfolding run
@@ -20,8 +20,8 @@ take_run-requires-clause-reached c =
 
 pub loop-place-preserved : goal.loop-place-preserved
 loop-place-preserved c = record {
-  fits = c.in_ok-place.ensures.fits;
-  inside = c.in_ok-place.ensures.inside;
-  reached = c.in_ok-place.ensures.runs (state_view c.args.self.now)
+  fits = c.in-Ok.ensures.fits;
+  inside = c.in-Ok.ensures.inside;
+  reached = c.in-Ok.ensures.runs (state_view c.args.self.now)
       (run_take NESTING_LIMIT _ _ c.args.bytes.now c.loop-place.place c.loop-place-test.true c.loop-place.invariant.reached ∙ c.in_default.ensures.gives);
 }
