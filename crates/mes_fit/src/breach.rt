@@ -1,7 +1,7 @@
 //! The first resource that doesn't fit.
 ghost use Rattle.std.specs.Prelude.{◌≡◌, ◌+◌, ◌<◌, ◌≤◌, ◌⊎◌, ◌↔◌, ◌++◌, ℕ, take, length, slice_get, get_or, Some, true, IsTrue, IsFalse, IfSome, IfNone};
 ghost use Rattle.std.specs.List.{list_any};
-ghost use Rattle.mes_msg.specs.declared.operation.Operation.{Operation as OperationValue};
+ghost use Rattle.mes_call.specs.declared.operation.Operation.{Operation as OperationValue};
 ghost use Rattle.mes_fit.specs.Keys.{key_of, is_of};
 ghost use Rattle.mes_fit.specs.Fits.{amount, offered, asked, Fits, BreaksAt, NoneAhead, NoneBefore, IsFirstBreach};
 ghost use Rattle.mes_fit.specs.Launched.{launched, launched_by, place, as_index, Stands};
