@@ -11,7 +11,8 @@ use Rattle.mes_part.specs.RowLaws.{LawfulTable, lawful_need}
 use Rattle.mes_part.specs.MessageLaws.{lawful_mapped}
 use Rattle.mes_part.specs.ChoiceLaws.{lawful_no_other, lawful_case, lawful_typed}
 use Rattle.mes_part.specs.declared.field.FieldWhy.TheVariants.{UnknownName}
-use Rattle.mes_resource.specs.Values.{scalar, ranges, set, text_value, lawful_scalar, lawful_ranges, lawful_set, lawful_text_value}
+use Rattle.mes_resource.specs.Values.{scalar, ranges, set, lawful_scalar, lawful_ranges, lawful_set}
+use Rattle.mes_offer.specs.TextValues.{text_value, lawful_text_value}
 use Rattle.mes_resource.specs.declared.value.Scalar.{Scalar}
 use Rattle.mes_resource.specs.declared.value.Ranges.{Ranges}
 use Rattle.mes_resource.specs.declared.value.Set.{Set}

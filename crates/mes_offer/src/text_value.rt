@@ -20,7 +20,7 @@ const TEXT_VALUE_NAMES: [&str; 1] = ["value"];
 type TextValueRows = Rows1<Must<Text>>;
 
 impl MadeOf<<TextValueRows as RowList>::Values> for TextValue {
-    ghost use Rattle.mes_resource.specs.Values.{text_value_layout};
+    ghost use Rattle.mes_offer.specs.TextValues.{text_value_layout};
 
     ghost to = { text_value_layout.to };
 
@@ -37,7 +37,7 @@ macro_rules! text_value_rows {
 }
 
 impl Part for TextValue {
-    ghost use Rattle.mes_resource.specs.Values.{text_value, lawful_text_value};
+    ghost use Rattle.mes_offer.specs.TextValues.{text_value, lawful_text_value};
 
     ghost kind = { text_value };
 
@@ -47,7 +47,7 @@ impl Part for TextValue {
 
     ghost lawful = { lawful_text_value };
 
-    #[tactic(auto, unfolding(crate::specs::Values::text_value))]
+    #[tactic(auto, unfolding(crate::specs::TextValues::text_value))]
     fn read_from(
         alloc: Global,
         element: &Element<'_>,
@@ -56,7 +56,7 @@ impl Part for TextValue {
         read_message::<TextValueRows, TextValue, 1>(alloc, element, &TEXT_VALUE_NAMES, path)
     }
 
-    #[tactic(auto, using(crate::specs::Values::text_value_back), unfolding(crate::specs::Values::text_value))]
+    #[tactic(auto, using(crate::specs::TextValues::text_value_back), unfolding(crate::specs::TextValues::text_value))]
     fn tree(&self, alloc: Global) -> Result<Json, NoMemory> {
         message_tree(alloc, &TEXT_VALUE_NAMES, &text_value_rows!(self))
     }

@@ -11,7 +11,6 @@ use Rattle.mes_resource.specs.declared.value.Scalar.{Scalar}
 use Rattle.mes_resource.specs.declared.value.Range.{Range}
 use Rattle.mes_resource.specs.declared.value.Ranges.{Ranges}
 use Rattle.mes_resource.specs.declared.value.Set.{Set}
-use Rattle.mes_offer.specs.declared.text_value.TextValue.{TextValue}
 
 -- value !, in thousandths
 abbrev pub scalar_layout : Layout Scalar
@@ -89,22 +88,3 @@ lawful_set = lawful_kind set_layout refl
 pub set_back : (v : Set) → set_layout.rows.table.Back (set_layout.from v) → Returns set v
 unfolding set
 set_back v back = returns_kind set_layout refl v back
-
--- value !
-abbrev pub text_value_layout : Layout TextValue
-text_value_layout =
-    laid_out (
-    needs (codes "value") texts lawful_texts
-    ⨾⨾ no_more
-    ) (λ x. record { value = x.0 }) (λ v. (v.value, tt)) (λ v. refl)
-
-unfoldable pub text_value : Kind TextValue
-text_value = kind_of text_value_layout
-
-pub lawful_text_value : Lawful text_value text_value_layout.rows.steps
-unfolding text_value
-lawful_text_value = lawful_kind text_value_layout refl
-
-pub text_value_back : (v : TextValue) → text_value_layout.rows.table.Back (text_value_layout.from v) → Returns text_value v
-unfolding text_value
-text_value_back v back = returns_kind text_value_layout refl v back
