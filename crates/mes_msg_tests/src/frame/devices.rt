@@ -63,12 +63,14 @@ fn a_fetch_is_one_read(rt: HostRuntime) {
         interrupted: 3,
     };
     let mut source = FromStd::new(&mut reader);
-    let mut buffer = [0; 4096];
-    assert_eq!(rt; told(source.fetch(&mut buffer)), Some(4096));
-    assert_eq!(rt; buffer[4095], 7);
-    assert_eq!(rt; told(source.fetch(&mut buffer[..512])), Some(512));
-    assert_eq!(rt; told(source.fetch(&mut buffer)), None);
-    assert_eq!(rt; told(source.fetch(&mut buffer[..1])), Some(1));
+    let mut large = [0; 4096];
+    let mut small = [0; 512];
+    let mut one = [0; 1];
+    assert_eq!(rt; told(source.fetch(&mut large)), Some(4096));
+    assert_eq!(rt; told(source.fetch(&mut small)), Some(512));
+    assert_eq!(rt; told(source.fetch(&mut large)), None);
+    assert_eq!(rt; told(source.fetch(&mut one)), Some(1));
+    assert_eq!(rt; one, [7]);
     assert_eq!(rt;
         source.counts(),
         Counts {
@@ -87,11 +89,10 @@ fn a_put_is_one_write(rt: HostRuntime) {
         interrupted: 3,
     };
     let mut sink = FromStd::new(&mut writer);
-    let bytes = [7; 4096];
-    assert_eq!(rt; told(sink.put(&bytes)), Some(4096));
-    assert_eq!(rt; told(sink.put(&bytes[..512])), Some(512));
-    assert_eq!(rt; told(sink.put(&bytes)), None);
-    assert_eq!(rt; told(sink.put(&bytes[..1])), Some(1));
+    assert_eq!(rt; told(sink.put(&[7; 4096])), Some(4096));
+    assert_eq!(rt; told(sink.put(&[7; 512])), Some(512));
+    assert_eq!(rt; told(sink.put(&[7; 4096])), None);
+    assert_eq!(rt; told(sink.put(&[7; 1])), Some(1));
     assert_eq!(rt;
         sink.counts(),
         Counts {
