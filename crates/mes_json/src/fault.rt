@@ -2,7 +2,7 @@
 ghost use Rattle.std.specs.Prelude.{◌≡◌};
 ghost use Rattle.mes_json.specs.declared.fault.ReadFault.TheVariants.{NoMemory as no_memory};
 
-use crate::memory::NoMemory;
+use crate::memory::{NoMemory, NoMemoryAt};
 
 /// Why no JSON text goes on at a place.
 #[derive(Debug, Clone, Copy, PartialEq, Eq)]
@@ -37,6 +37,14 @@ impl From<NoMemory> for ReadFault {
     ghost from_gives = { λ _ fault. fault ≡ no_memory };
 
     fn from(_refused: NoMemory) -> ReadFault {
+        ReadFault::NoMemory
+    }
+}
+
+impl From<NoMemoryAt> for ReadFault {
+    ghost from_gives = { λ _ fault. fault ≡ no_memory };
+
+    fn from(_refused: NoMemoryAt) -> ReadFault {
         ReadFault::NoMemory
     }
 }

@@ -1,6 +1,6 @@
 #![tactic(auto, unfolding(crate::specs::Lexer::HasLexed, crate::specs::Lexer::IsOutOfMemory, crate::specs::Lexer::held))]
 //! Reads a JSON text that comes in pieces.
-ghost use Rattle.std.specs.Prelude.{◌≡◌, ◌≢◌, ℕ, List, [], ◌∷◌, ◌++◌, Err, IfOk, IfErr, MatchResult};
+ghost use Rattle.std.specs.Prelude.{◌≡◌, ◌≢◌, ◌<◌, ℕ, List, [], ◌∷◌, ◌++◌, length, Err, IfOk, IfErr, MatchResult};
 ghost use Rattle.mes_json.specs.Tree.{Tree};
 ghost use Rattle.mes_json.specs.Grammar.{IsText};
 ghost use Rattle.mes_json.specs.Machine.{start};
@@ -13,8 +13,9 @@ ghost use Rattle.mes_json.specs.declared.fault.ReadFault.TheVariants.{NoMemory a
 
 use crate::fault::{ReadFault, TextFault, Why};
 use crate::limits::NESTING_LIMIT;
-use crate::memory::NoMemory;
+use crate::memory::{NoMemory, NoMemoryAt};
 use crate::reader::Reader;
+use crate::run::RunStop;
 use crate::stop::Stop;
 use crate::tape::Tape;
 use crate::value::Json;
@@ -139,33 +140,38 @@ impl Lexer {
     }
 
     /// Takes the bytes of a run as `push` would in turn, but the plain characters of a string all at once.
-    pub fn push_run(&mut self, bytes: &[u8]) -> Result<(), NoMemory>
+    pub fn push_run(&mut self, bytes: &[u8]) -> Result<(), NoMemoryAt>
         ensures lexed { (p : List ℕ) → HasLexed self.old p → HasLexed self.new (p ++ bytes.now) }
         ensures tells { Tells result self.new }
         ensures stays { IsOutOfMemory self.old → IsOutOfMemory self.new }
         // Behind a fault nothing wants memory.
         ensures swallows { (p : List ℕ) → HasLexed self.old p → (Begins NESTING_LIMIT p → ⊥) → (IsOutOfMemory self.old → ⊥) → IsOutOfMemory self.new → ⊥ }
+        // Memory was refused for a byte of the run; behind a refusal it is so for the first one again.
+        ensures taken { IfErr result (λ refused. 0 < length bytes.now → refused.taken < length bytes.now) }
+        ensures again { IsOutOfMemory self.old → IfErr result (λ refused. refused.taken ≡ 0) }
     {
         match &mut self.kept {
-            Kept::Reading(reader) => match reader.take_all(bytes) {
+            Kept::Reading(reader) => match reader.take_bytes(bytes) {
                 Ok(()) => {
                     self.count = self.count.saturating_add(bytes.len() as u64);
                     Ok(())
                 }
-                Err(ReadFault::Text(fault)) => {
-                    self.kept = Kept::Faulty(TextFault {
-                        byte: self.count.saturating_add(fault.byte),
-                        why: fault.why,
-                    });
-                    Ok(())
-                }
-                Err(ReadFault::NoMemory) => {
-                    self.kept = Kept::OutOfMemory;
-                    Err(NoMemory)
-                }
+                Err(RunStop { place, stop }) => match stop {
+                    Stop::Refused(why) => {
+                        self.kept = Kept::Faulty(TextFault {
+                            byte: self.count.saturating_add(place as u64),
+                            why,
+                        });
+                        Ok(())
+                    }
+                    Stop::NoMemory => {
+                        self.kept = Kept::OutOfMemory;
+                        Err(NoMemoryAt { taken: place })
+                    }
+                },
             },
             Kept::Faulty(_) => Ok(()),
-            Kept::OutOfMemory => Err(NoMemory),
+            Kept::OutOfMemory => Err(NoMemoryAt { taken: 0 }),
         }
     }
 

@@ -45,7 +45,7 @@ pub use laws::{
 pub use length::text_length;
 pub use lexer::Lexer;
 pub use limits::{NESTING_LIMIT, ROOM_KEPT, SHORT_TEXT_MOST, TEXTS_MOST};
-pub use memory::NoMemory;
+pub use memory::{NoMemory, NoMemoryAt};
 pub use number_text::NumText;
 pub use read::{read_tape, read_text};
 pub use tape::Tape;

@@ -13,7 +13,7 @@ use crate::escape::{Escape, Move, whole_escape};
 use crate::fault::Why;
 use crate::kind::Kind;
 use crate::limits::NESTING_LIMIT;
-use crate::memory::NoMemory;
+use crate::memory::{NoMemory, NoMemoryAt};
 use crate::nesting::Open;
 use crate::plain::append_front;
 use crate::stop::Stop;
@@ -87,7 +87,7 @@ impl Reader {
     /// quotation mark and the colon that may follow, digits of a number, or white space between tokens. The result is the place
     /// behind them.
     #[inline(always)]
-    pub(crate) fn take_run(&mut self, bytes: &[u8], place: usize) -> Result<usize, NoMemory>
+    pub(crate) fn take_run(&mut self, bytes: &[u8], place: usize) -> Result<usize, NoMemoryAt>
         requires inside { place < length bytes.now }
         requires fits { Fits self.old }
         requires reached { Reached self.old }
@@ -103,8 +103,10 @@ impl Reader {
             At::Digits(part) if keeps_on(part) => {
                 let rest = &bytes[from..];
                 let run = digit_run(rest);
-                append_front(&mut self.text, rest, run)?;
-                Ok(from + run)
+                match append_front(&mut self.text, rest, run) {
+                    Ok(()) => Ok(from + run),
+                    Err(NoMemory) => Err(NoMemoryAt { taken: from }),
+                }
             }
             At::Digits(_) | At::Literal(_) => Ok(from),
             At::Value | At::FirstItem | At::FirstName | At::Name | At::Colon | At::After => {
@@ -123,7 +125,7 @@ impl Reader {
         purpose: Purpose,
         bytes: &[u8],
         from: usize,
-    ) -> Result<usize, NoMemory>
+    ) -> Result<usize, NoMemoryAt>
         requires at { self.old.at ≡ At.Quoted purpose Mid.Between }
         requires inside { from ≤ length bytes.now }
         requires fits { Fits self.old }
@@ -148,7 +150,7 @@ impl Reader {
         purpose: Purpose,
         bytes: &[u8],
         from: usize,
-    ) -> Result<usize, NoMemory>
+    ) -> Result<usize, NoMemoryAt>
         requires at { self.old.at ≡ At.Quoted purpose Mid.Between }
         requires inside { from ≤ length bytes.now }
         requires fits { Fits self.old }
@@ -157,13 +159,15 @@ impl Reader {
     {
         let rest = &bytes[from..];
         let run = character_run(rest);
-        append_front(&mut self.text, rest, run)?;
-        Ok(from + run)
+        match append_front(&mut self.text, rest, run) {
+            Ok(()) => Ok(from + run),
+            Err(NoMemory) => Err(NoMemoryAt { taken: from }),
+        }
     }
 
     /// Takes the quotation mark at this place, which ends the string, and the colon behind a name.
     #[inline(always)]
-    fn take_end(&mut self, purpose: Purpose, bytes: &[u8], from: usize) -> Result<usize, NoMemory>
+    fn take_end(&mut self, purpose: Purpose, bytes: &[u8], from: usize) -> Result<usize, NoMemoryAt>
         requires at { self.old.at ≡ At.Quoted purpose Mid.Between }
         requires inside { from < length bytes.now }
         requires quote { slice_index bytes.now from ≡ 34 }
@@ -171,8 +175,10 @@ impl Reader {
         requires reached { Reached self.old }
         ensures { IfOk result (λ to. RunsTo self.old bytes.now from to self.new) }
     {
-        self.close_string(purpose)?;
-        Ok(self.take_colon(bytes, from + 1))
+        match self.close_string(purpose) {
+            Ok(()) => Ok(self.take_colon(bytes, from + 1)),
+            Err(NoMemory) => Err(NoMemoryAt { taken: from }),
+        }
     }
 
     /// Takes the escapes from this place that are whole, the characters between and behind them, the quotation mark, and the
@@ -183,7 +189,7 @@ impl Reader {
         purpose: Purpose,
         bytes: &[u8],
         from: usize,
-    ) -> Result<usize, NoMemory>
+    ) -> Result<usize, NoMemoryAt>
         requires at { self.old.at ≡ At.Quoted purpose Mid.Between }
         requires inside { from ≤ length bytes.now }
         requires fits { Fits self.old }
@@ -195,7 +201,12 @@ impl Reader {
             let Some((character, taken)) = whole_escape(&bytes[place + 1..]) else {
                 return Ok(place);
             };
-            self.append_character(character, At::Quoted(purpose, Mid::Between))?;
+            if let Err(NoMemory) = self.append_character(
+                character,
+                At::Quoted(purpose, Mid::Between),
+            ) {
+                return Err(NoMemoryAt { taken: place });
+            }
             place = self.take_characters(purpose, bytes, place + 1 + taken)?;
         }
         if place == bytes.len() || bytes[place] != b'"' {
@@ -211,7 +222,7 @@ impl Reader {
         first: Escape,
         bytes: &[u8],
         from: usize,
-    ) -> Result<usize, NoMemory>
+    ) -> Result<usize, NoMemoryAt>
         requires at { self.old.at ≡ At.Quoted purpose (Mid.Escape first) }
         requires inside { from ≤ length bytes.now }
         requires fits { Fits self.old }
@@ -224,8 +235,13 @@ impl Reader {
             match escape.step(bytes[place]) {
                 Move::On(next) => escape = next,
                 Move::Makes(character) => {
-                    self.append_character(character, At::Quoted(purpose, Mid::Between))?;
-                    return self.take_string(purpose, bytes, place + 1);
+                    return match self.append_character(
+                        character,
+                        At::Quoted(purpose, Mid::Between),
+                    ) {
+                        Ok(()) => self.take_string(purpose, bytes, place + 1),
+                        Err(NoMemory) => Err(NoMemoryAt { taken: place }),
+                    };
                 }
                 Move::Refused => break,
             }

@@ -3,8 +3,8 @@ use Rattle.std.proofs.Common.{◌≡◌, ℕ, ◌+◌, ◌-◌, ◌<◌, ◌≤�
 use Rattle.std.specs.Io.KnownBytes.{Consumes, IsAtEnd}
 use Rattle.std.proofs.KnownBytes.{Consumes-trans}
 use Rattle.mes_frame.specs.declared.counts.Counts.{Counts as CountsOf}
-use Rattle.mes_msg.specs.Events.{Spells, IsRecordFault}
-use Rattle.mes_msg.specs.declared.event.Event.{Event}
+use Rattle.mes_event.specs.Events.{Spells, IsRecordFault}
+use Rattle.mes_event.specs.declared.event.Event.{Event}
 use Rattle.mes_stream.specs.Framings.{InputEnds}
 use Rattle.mes_stream.specs.Lines.{fault_text, count_text}
 use Rattle.mes_stream.specs.Stream.{saturated}

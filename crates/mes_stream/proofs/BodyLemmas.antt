@@ -9,8 +9,8 @@ use Rattle.mes_stream.specs.Stream.{saturated, Records, Behind, BodyLive, number
 use Rattle.mes_stream.specs.Framings.{GoesIn, EndsRecordIn, StopsIn, StopsWithin}
 use Rattle.mes_stream.specs.declared.stream_reader.Framing.{Framing}
 use Rattle.mes_stream.specs.Taking.{BodyStands, Taken, Ends, answer_of, fault_of_record}
-use Rattle.mes_msg.specs.declared.record.RecordFault.{RecordFault}
-use Rattle.mes_msg.specs.declared.record.RecordFault.TheVariants as refusal
+use Rattle.mes_record.specs.declared.record.RecordFault.{RecordFault}
+use Rattle.mes_record.specs.declared.record.RecordFault.TheVariants as refusal
 use Rattle.mes_stream.specs.declared.fault.Fault.{Fault}
 use Rattle.mes_stream.specs.declared.fault.Fault.TheVariants.{NoMemory}
 use Rattle.mes_stream.specs.declared.body.Body.{Body}

@@ -7,7 +7,7 @@ use Rattle.std.proofs.lemmas.Bool.{cases_lt}
 use Rattle.mes_frame.proofs.ChunkParts.{open_of, fronts_of}
 use Rattle.mes_frame.specs.ChunkFront.{IsOpen}
 use Rattle.mes_frame.specs.ChunkState.{ChunkStands, room_of}
-use Rattle.mes_msg.specs.declared.record.RecordFault.{RecordFault}
+use Rattle.mes_record.specs.declared.record.RecordFault.{RecordFault}
 use Rattle.mes_stream.specs.Stream.{BodyLive, EndsRecord, BodyShows, BodyStops}
 use Rattle.mes_stream.specs.Chunked.{IsStream, Live, AtData, EndsWith, Shows, Stops}
 use Rattle.mes_stream.specs.Taking.{Taken}

@@ -1,6 +1,6 @@
 -- What a decoder says, by what its reader says.
 use Rattle.std.proofs.Common.{◌≡◌, ℕ, List, None, Some}
-use Rattle.mes_msg.specs.declared.record.RecordFault.{RecordFault}
+use Rattle.mes_record.specs.declared.record.RecordFault.{RecordFault}
 use Rattle.mes_stream.specs.Decoding.{Says}
 use Rattle.mes_stream.specs.Decoders.{EndsBy}
 use Rattle.mes_stream.specs.declared.decoder.Ended.{Ended}

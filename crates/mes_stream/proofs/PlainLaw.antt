@@ -4,8 +4,8 @@ use Rattle.mes_frame.proofs.OneReading.{one_reading, one_record}
 use Rattle.mes_frame.specs.Record.{IsRecord, Begun, SizeShows}
 use Rattle.mes_frame.specs.RecordReading.{RecordReading, ReadsRecord, Begins, Whole, Broken}
 use Rattle.mes_frame.specs.declared.fault.FrameFault.{FrameFault}
-use Rattle.mes_msg.specs.declared.record.RecordFault.{RecordFault}
-use Rattle.mes_msg.specs.declared.record.RecordFault.TheVariants as refusal
+use Rattle.mes_record.specs.declared.record.RecordFault.{RecordFault}
+use Rattle.mes_record.specs.declared.record.RecordFault.TheVariants as refusal
 use Rattle.mes_stream.specs.Stream.{Records, BodyShows, EndsInside}
 use Rattle.mes_stream.specs.Taking.{fault_of_record}
 use Rattle.mes_stream.specs.PlainReading.{IsExact, PlainReading, Goes, Stops, ReadsPlain}

@@ -12,8 +12,8 @@ use Rattle.mes_frame.specs.declared.chunk.ChunkOut.TheVariants as out
 use Rattle.mes_frame.proofs.OneReading.{one_reading, some_reading}
 use Rattle.mes_frame.proofs.ChunkParts.{lift, open_of}
 use Rattle.mes_frame.proofs.ChunkAnswers.{answer_at}
-use Rattle.mes_msg.specs.declared.record.RecordFault.{RecordFault}
-use Rattle.mes_msg.specs.declared.record.RecordFault.TheVariants as refusal
+use Rattle.mes_record.specs.declared.record.RecordFault.{RecordFault}
+use Rattle.mes_record.specs.declared.record.RecordFault.TheVariants as refusal
 use Rattle.mes_stream.specs.Stream.{Records, BodyLive, EndsInside, BodyShows, number_after}
 use Rattle.mes_stream.specs.PlainReading.{IsDecided, PlainReading, ReadsPlain}
 use Rattle.mes_stream.specs.PlainReading as plain

@@ -5,7 +5,7 @@ use Rattle.mes_frame.proofs.OneChunkReading.{one_reading}
 use Rattle.mes_frame.proofs.ChunkTotal.{some_reading}
 use Rattle.mes_frame.specs.ChunkFront.{IsOpen}
 use Rattle.mes_frame.specs.ChunkReading.{ChunkReading, Begins, Whole, Broken, ReadsChunks}
-use Rattle.mes_msg.specs.declared.record.RecordFault.{RecordFault}
+use Rattle.mes_record.specs.declared.record.RecordFault.{RecordFault}
 use Rattle.mes_stream.specs.Stream.{Records, BodyLive, BodyShows, EndsInside}
 use Rattle.mes_stream.specs.Chunked.{AtData, Shows}
 use Rattle.mes_stream.specs.PlainReading.{IsExact}

@@ -4,7 +4,7 @@ use Rattle.std.specs.Result.{IsErrAnd}
 use Rattle.mes_stream.specs.Stream.{BodyLive}
 use Rattle.mes_stream.specs.Chunked.{Live}
 use Rattle.mes_stream.specs.Framings.{GoesIn}
-use Rattle.mes_msg.specs.declared.record.RecordFault.{RecordFault}
+use Rattle.mes_record.specs.declared.record.RecordFault.{RecordFault}
 use Rattle.mes_stream.specs.StreamReaders.{StreamStands, StreamFeeds}
 use Rattle.mes_stream.specs.declared.body.Halt.{Halt}
 use Rattle.mes_stream.specs.declared.stream_reader.Framing.{Framing}

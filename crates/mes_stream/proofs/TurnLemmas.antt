@@ -2,7 +2,7 @@
 use Rattle.std.proofs.Common.{◌≡◌, ℕ, ◌<◌, ◌≤◌, List, ◌++◌, length, take}
 use Rattle.mes_frame.specs.ChunkState.{ChunkStands, room_of}
 use Rattle.mes_frame.specs.declared.chunk.ChunkState.{ChunkState}
-use Rattle.mes_msg.specs.declared.record.RecordFault.{RecordFault}
+use Rattle.mes_record.specs.declared.record.RecordFault.{RecordFault}
 use Rattle.mes_stream.specs.Taking.{Takes, answer_of}
 use Rattle.mes_frame.specs.RecordState.{limit_of}
 use Rattle.mes_stream.specs.Decoding.{ReadingStands, Says, reading_limit}

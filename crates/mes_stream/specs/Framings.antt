@@ -1,6 +1,6 @@
 -- A stream of values by its framing: records one behind the other, or records in a chunked body.
 use Rattle.std.specs.Prelude.{◌≡◌, ℕ, ◌+◌, ◌⊎◌, List, ◌∷◌, ◌++◌, length, Result, Ok, Err}
-use Rattle.mes_msg.specs.declared.record.RecordFault.{RecordFault}
+use Rattle.mes_record.specs.declared.record.RecordFault.{RecordFault}
 use Rattle.mes_stream.specs.Stream.{Records, BodyLive, EndsInside, EndsRecord, BodyStops}
 use Rattle.mes_stream.specs.Chunked.{IsStream, Live, EndsWith, Stops}
 use Rattle.mes_stream.specs.declared.fault.Fault.{Fault}

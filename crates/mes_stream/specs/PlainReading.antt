@@ -1,7 +1,7 @@
 -- What any bytes are to a reader of plain RecordIO.
 use Rattle.std.specs.Prelude.{◌≡◌, ◌≢◌, ℕ, ◌⊎◌, List, ◌∷◌, ◌++◌}
-use Rattle.mes_msg.specs.declared.record.RecordFault.{RecordFault}
-use Rattle.mes_msg.specs.declared.record.RecordFault.TheVariants as refusal
+use Rattle.mes_record.specs.declared.record.RecordFault.{RecordFault}
+use Rattle.mes_record.specs.declared.record.RecordFault.TheVariants as refusal
 use Rattle.mes_stream.specs.Stream.{BodyLive, BodyShows}
 use Rattle.mes_stream.specs.declared.fault.Fault.{Fault}
 

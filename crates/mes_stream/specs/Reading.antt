@@ -3,9 +3,9 @@ use Rattle.std.specs.Prelude.{◌≡◌, ℕ, ◌+◌, ◌*◌, ◌<◌, ◌≤�
 use Rattle.std.specs.Io.KnownBytes.{IsAtEnd}
 use Rattle.mes_frame.specs.Counts.{up}
 use Rattle.mes_frame.specs.declared.counts.Counts.{Counts}
-use Rattle.mes_msg.specs.Events.{Spells, IsRecordFault}
-use Rattle.mes_msg.specs.declared.event.Event.{Event}
-use Rattle.mes_msg.specs.declared.record.RecordFault.{RecordFault}
+use Rattle.mes_event.specs.Events.{Spells, IsRecordFault}
+use Rattle.mes_event.specs.declared.event.Event.{Event}
+use Rattle.mes_record.specs.declared.record.RecordFault.{RecordFault}
 use Rattle.mes_stream.specs.Stream.{saturated}
 use Rattle.mes_stream.specs.Framings.{GoesIn, EndsIn, InputEnds, StopsWithin}
 use Rattle.mes_stream.specs.declared.fault.Fault.{Fault}

@@ -1,7 +1,7 @@
 -- What a reader of a stream stands for, and what it makes of a piece of it.
 use Rattle.std.specs.Prelude.{◌≡◌, ℕ, ◌+◌, ◌<◌, ◌≤◌, List, ◌++◌, length, take, Option, None, Some, Result, Ok, Err}
 use Rattle.mes_frame.specs.RecordState.{limit_of}
-use Rattle.mes_msg.specs.declared.record.RecordFault.{RecordFault}
+use Rattle.mes_record.specs.declared.record.RecordFault.{RecordFault}
 use Rattle.mes_stream.specs.Taking.{BodyStands}
 use Rattle.mes_stream.specs.Decoding.{ReadingStands, reading_limit}
 use Rattle.mes_stream.specs.Framings.{EndsIn, StopsWithin}

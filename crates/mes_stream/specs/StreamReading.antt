@@ -1,6 +1,6 @@
 -- What any bytes are to a reader of chunked streams.
 use Rattle.std.specs.Prelude.{◌≡◌, ℕ, List, ◌∷◌, ◌++◌}
-use Rattle.mes_msg.specs.declared.record.RecordFault.{RecordFault}
+use Rattle.mes_record.specs.declared.record.RecordFault.{RecordFault}
 use Rattle.mes_stream.specs.Chunked.{IsStream, Live, Shows}
 use Rattle.mes_stream.specs.declared.fault.Fault.{Fault}
 

@@ -1,7 +1,7 @@
 -- What the front of a piece is to a decoder, where the value of a record that ended with it is still to be read.
 use Rattle.std.specs.Prelude.{ℕ, List}
 use Rattle.mes_frame.specs.RecordState.{limit_of}
-use Rattle.mes_msg.specs.declared.record.RecordFault.{RecordFault}
+use Rattle.mes_record.specs.declared.record.RecordFault.{RecordFault}
 use Rattle.mes_stream.specs.Taking.{HasEnded}
 use Rattle.mes_stream.specs.Decoding.{ReadingStands, Says, reading_limit}
 use Rattle.mes_stream.specs.declared.reading.Out.TheVariants as out

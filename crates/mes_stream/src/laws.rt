@@ -1,8 +1,8 @@
 //! Laws of the definitions that the contracts cite: functions that do nothing, each with the law as its contract.
 
 ghost use Rattle.std.specs.Prelude.{◌≡◌, ℕ, List};
-ghost use Rattle.mes_msg.specs.Events.{Spells, IsRecordFault};
-ghost use Rattle.mes_msg.specs.declared.event.Event.{Event as EventValue};
+ghost use Rattle.mes_event.specs.Events.{Spells, IsRecordFault};
+ghost use Rattle.mes_event.specs.declared.event.Event.{Event as EventValue};
 ghost use Rattle.mes_stream.specs.PlainReading.{IsDecided, IsExact, PlainReading, ReadsPlain};
 ghost use Rattle.mes_stream.specs.StreamReading.{StreamReading, ReadsStream};
 

@@ -3,8 +3,8 @@
 ghost use Rattle.std.specs.Prelude.{◌≡◌, ◌≤◌, ℕ, List, [], ◌++◌, length};
 ghost use Rattle.std.specs.Io.KnownBytes.{Consumes};
 ghost use Rattle.mes_stream.specs.Reading.{EndsReading, EndsPlain, EndsStream};
-ghost use Rattle.mes_msg.specs.Events.{Spells, IsRecordFault};
-ghost use Rattle.mes_msg.specs.declared.event.Event.{Event as EventValue};
+ghost use Rattle.mes_event.specs.Events.{Spells, IsRecordFault};
+ghost use Rattle.mes_event.specs.declared.event.Event.{Event as EventValue};
 
 use crate::event_reader::EventReader;
 use crate::fault::{Fault, Report, Stop};

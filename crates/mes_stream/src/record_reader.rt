@@ -1,7 +1,7 @@
 //! What reads the data of records.
 
 ghost use Rattle.std.specs.Prelude.{◌≡◌, ◌≢◌, ℕ, ◌^◌, ◌<◌, ◌≤◌, List, [], ◌++◌, length, OnOk, IfOk, IfErr};
-ghost use Rattle.mes_msg.specs.declared.record.RecordFault.{RecordFault as Refusal};
+ghost use Rattle.mes_record.specs.declared.record.RecordFault.{RecordFault as Refusal};
 
 use mes_json::NoMemory;
 use mes_msg::RecordFault;

@@ -1,5 +1,5 @@
 use Rattle.std.proofs.Common.{◌∙◌, ◌+◌, [], length, arith, Err, rules}
-use Rattle.mes_msg.specs.Events.{Spells, IsRecordFault}
+use Rattle.mes_event.specs.Events.{Spells, IsRecordFault}
 use Rattle.mes_stream.specs.EventData.{HoldsData}
 use Rattle.mes_stream.specs.declared.fault.Fault.TheVariants.{Read, ReadsSpent}
 use Rattle.mes_stream.proofs.ReadLemmas.{reads_fail, reads_spent}

@@ -1,37 +1,39 @@
+use Rattle.std.proofs.Common.{ap}
 use Rattle.mes_json.specs.Lexer.{HasLexed}
+use Rattle.mes_json.specs.Read.{fault_at}
 use Rattle.mes_json.proofs.LexerLemmas.{kept_at, reading_at, goes_on, stuck_at, gets_stuck, stays_faulty, reading_begins}
 use Rattle.mes_json.proofs.lexer.Lexer.push_run.Goals as goal
 
 pub invariant_of-self : goal.invariant_of-self
 invariant_of-self c = (
   _,
-  goes_on _ _ _ c.take_all.new.self c.self.invariant.0 c.args.bytes.now (reading_at _ _ _ c.self.invariant.0 c.in-Reading.is c.self.invariant.1)
+  goes_on _ _ _ c.take_bytes.new.self c.self.invariant.0 c.args.bytes.now (reading_at _ _ _ c.self.invariant.0 c.in-Reading.is c.self.invariant.1)
       c.saturating_add-self-inside.ensures c.in-Ok.ensures.runs c.in-Ok.ensures.fits,
 )
 
 pub returns-in-Ok-clause-lexed : goal.returns-in-Ok-clause-lexed
 unfolding HasLexed
 returns-in-Ok-clause-lexed c p h =
-    goes_on _ _ _ c.take_all.new.self p c.args.bytes.now (reading_at _ _ _ p c.in-Reading.is (kept_at _ _ _ p c.self.view_is h))
+    goes_on _ _ _ c.take_bytes.new.self p c.args.bytes.now (reading_at _ _ _ p c.in-Reading.is (kept_at _ _ _ p c.self.view_is h))
     c.saturating_add-self-inside.ensures c.in-Ok.ensures.runs c.in-Ok.ensures.fits
 
-pub invariant_of-self-in-Err-Text : goal.invariant_of-self-in-Err-Text
-invariant_of-self-in-Err-Text c = (
+pub invariant_of-self-in-Refused : goal.invariant_of-self-in-Refused
+invariant_of-self-in-Refused c = (
   _,
-  gets_stuck _ _ c.in-Reading.reader c.self.invariant.0 c.args.bytes.now c.in-Err-Text.fault (reading_at _ _ _ c.self.invariant.0 c.in-Reading.is c.self.invariant.1)
-      (stuck_at c.in-Err-Text.field-0 c.in-Err-Text.fault _ _ c.in-Err-Text.field-0-is c.in-Err-Text.ensures.fault) c.saturating_add.ensures,
+  gets_stuck _ _ c.in-Reading.reader c.self.invariant.0 c.args.bytes.now (record { byte = c.in-Err.field-0.place; why = c.in-Refused.why }) (reading_at _ _ _ c.self.invariant.0 c.in-Reading.is c.self.invariant.1)
+      (stuck_at _ _ _ _ (ap (fault_at c.in-Err.field-0.place) c.in-Refused.is) c.in-Err.ensures.fault) c.saturating_add.ensures,
 )
 
-pub returns-in-Err-Text-clause-lexed : goal.returns-in-Err-Text-clause-lexed
+pub returns-in-Refused-clause-lexed : goal.returns-in-Refused-clause-lexed
 unfolding HasLexed
-returns-in-Err-Text-clause-lexed c p h =
-    gets_stuck _ _ c.in-Reading.reader p c.args.bytes.now c.in-Err-Text.fault (reading_at _ _ _ p c.in-Reading.is (kept_at _ _ _ p c.self.view_is h))
-    (stuck_at c.in-Err-Text.field-0 c.in-Err-Text.fault _ _ c.in-Err-Text.field-0-is c.in-Err-Text.ensures.fault) c.saturating_add.ensures
+returns-in-Refused-clause-lexed c p h =
+    gets_stuck _ _ c.in-Reading.reader p c.args.bytes.now (record { byte = c.in-Err.field-0.place; why = c.in-Refused.why }) (reading_at _ _ _ p c.in-Reading.is (kept_at _ _ _ p c.self.view_is h))
+    (stuck_at _ _ _ _ (ap (fault_at c.in-Err.field-0.place) c.in-Refused.is) c.in-Err.ensures.fault) c.saturating_add.ensures
 
 pub returns-in-Faulty-clause-lexed : goal.returns-in-Faulty-clause-lexed
 unfolding HasLexed
 returns-in-Faulty-clause-lexed c p h = stays_faulty _ _ _ p c.args.bytes.now c.in-Faulty.is (kept_at _ _ _ p c.self.view_is h)
 
-pub returns-in-Err-NoMemory-clause-swallows : goal.returns-in-Err-NoMemory-clause-swallows
-returns-in-Err-NoMemory-clause-swallows c p h no_text before after =
+pub returns-in-NoMemory-clause-swallows : goal.returns-in-NoMemory-clause-swallows
+returns-in-NoMemory-clause-swallows c p h no_text before after =
     absurd (no_text (reading_begins _ c.in-Reading.reader p (reading_at _ _ _ p c.in-Reading.is (kept_at _ _ _ p c.self.view_is h))))

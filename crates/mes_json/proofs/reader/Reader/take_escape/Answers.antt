@@ -20,7 +20,7 @@ step-requires c =
 pub take_string-requires-clause-fits : goal.take_string-requires-clause-fits
 take_string-requires-clause-fits c =
     let keeps = subst (λ (r : Reader). Keeps r (encode_utf8 c.in-Makes.character) (Quoted c.args.purpose Between) c.append_character.new.self) c.loop-place.invariant.same
-    c.in_ok-append_character-in-Makes.ensures in
+    c.in-Ok.ensures in
     let makes = sym (ap move_view c.in-Makes.is) ∙ c.step.ensures in
     (end_taken c.args.purpose c.loop-place.escape c.args.self.now c.args.self.now c.append_character.new.self c.args.bytes.now c.args.from c.loop-place.place
     c.in-Makes.character keeps c.loop-place.invariant.runs c.loop-place-test.true makes).fits
@@ -28,15 +28,15 @@ take_string-requires-clause-fits c =
 pub take_string-requires-clause-reached : goal.take_string-requires-clause-reached
 take_string-requires-clause-reached c =
     let keeps = subst (λ (r : Reader). Keeps r (encode_utf8 c.in-Makes.character) (Quoted c.args.purpose Between) c.append_character.new.self) c.loop-place.invariant.same
-    c.in_ok-append_character-in-Makes.ensures in
+    c.in-Ok.ensures in
     let makes = sym (ap move_view c.in-Makes.is) ∙ c.step.ensures in
     end_reached c.args.purpose c.loop-place.escape c.args.self.now c.append_character.new.self _ c.in-Makes.character keeps c.loop-place.invariant.runs.fits
     c.loop-place.invariant.reached makes
 
-pub returns-in-Makes : goal.returns-in-Makes
-returns-in-Makes c =
+pub returns-in-Ok : goal.returns-in-Ok
+returns-in-Ok c =
     let keeps = subst (λ (r : Reader). Keeps r (encode_utf8 c.in-Makes.character) (Quoted c.args.purpose Between) c.append_character.new.self) c.loop-place.invariant.same
-    c.in_ok-append_character-in-Makes.ensures in
+    c.in-Ok.ensures in
     let makes = sym (ap move_view c.in-Makes.is) ∙ c.step.ensures in
     let ended = end_taken c.args.purpose c.loop-place.escape c.args.self.now c.args.self.now c.append_character.new.self c.args.bytes.now c.args.from c.loop-place.place
     c.in-Makes.character keeps c.loop-place.invariant.runs c.loop-place-test.true makes in

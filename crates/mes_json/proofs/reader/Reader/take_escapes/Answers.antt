@@ -7,13 +7,13 @@ pub take_characters-requires-clause-fits : goal.take_characters-requires-clause-
 take_characters-requires-clause-fits c =
     (escape_taken c.loop-place.self c.append_character.new.self c.args.purpose c.args.bytes.now c.loop-place.place c.in-Some.taken c.in-Some.character
     c.loop-place.invariant.runs.fits c.loop-place.invariant.at c.loop-place-test.true c.if-bytes-place-eq92.true c.in-Some.ensures.inside c.in-Some.ensures.makes
-    c.in_ok-append_character.ensures).fits
+    c.in_default-append_character.ensures).fits
 
 pub loop-place-preserved : goal.loop-place-preserved
 loop-place-preserved c =
     let over = escape_taken c.loop-place.self c.append_character.new.self c.args.purpose c.args.bytes.now c.loop-place.place c.in-Some.taken c.in-Some.character
     c.loop-place.invariant.runs.fits c.loop-place.invariant.at c.loop-place-test.true c.if-bytes-place-eq92.true c.in-Some.ensures.inside c.in-Some.ensures.makes
-    c.in_ok-append_character.ensures in
+    c.in_default-append_character.ensures in
     record {
       runs = runs_further c.args.self.now c.loop-place.self c.take_characters.new.self c.args.bytes.now c.args.from c.loop-place.place c.in_ok-place.place
           c.loop-place.invariant.runs
