@@ -19,7 +19,7 @@ pub(crate) fn same_key(resource: &Resource, other: &Resource) -> bool
 fn is_same_key(resource: &Resource, other: &Resource) -> bool
     ensures { IsTrue result ↔ key_of resource.now ≡ key_of other.now }
 {
-    is_same_text(&resource.name, &other.name)
+    resource.name == other.name
         && same_type(&resource.value, &other.value)
         && resource.revocable == other.revocable
         && resource.shared == other.shared
@@ -40,7 +40,7 @@ pub(crate) fn same_text(text: &Text, other: &Text) -> bool
     is_same_text(text, other)
 }
 
-/// Whether both are one text. Names and items often differ at their end alone, so the last bytes are compared first.
+/// Whether both are one text. Items often differ at their end alone, so the last bytes are compared first.
 fn is_same_text(text: &Text, other: &Text) -> bool
     ensures { IsTrue result ↔ text.now ≡ other.now }
 {
