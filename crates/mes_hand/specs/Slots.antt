@@ -1,0 +1,29 @@
+-- How the hand is kept: by the names of its offers, each with a mark.
+use Rattle.std.specs.Prelude.{◌≡◌, ℕ, Bool, true, false, not, if◌then◌else◌, List, [], ◌∷◌, map, String, string_bytes}
+use Rattle.std.specs.Str.{bytes_eq}
+use Rattle.mes_model.specs.declared.id.Id.{Id}
+use Rattle.mes_model.specs.declared.offer.Offer.{Offer}
+use Rattle.mes_hand.specs.declared.slot.Slot.{Slot}
+use Rattle.mes_hand.specs.Held.{name_of, names}
+
+module _ {A : Type 0} where
+  -- the offers, in order
+  abbrev pub offers_in : List (String A × Slot) → List Offer
+  offers_in entries = map (λ e. e.1.offer) entries
+
+  -- each stands under its name, and none is marked
+  abbrev pub AreSettled : List (String A × Slot) → Type 0
+  AreSettled [] = Unit {0}
+  AreSettled (e ∷ es) = (string_bytes e.0 ≡ name_of e.1.offer) × (e.1.leaves ≡ false) × AreSettled es
+
+  -- an entry, marked where it has this name
+  abbrev pub marked_at : List ℕ → String A × Slot → String A × Slot
+  marked_at name e = (e.0, record e.1 { leaves = if bytes_eq name (string_bytes e.0) then true else e.1.leaves })
+
+  -- all entries, marked where one of the names is theirs
+  abbrev pub marked : List Id → List (String A × Slot) → List (String A × Slot)
+  marked [] entries = entries
+  marked (d ∷ ds) entries = marked ds (map (marked_at d.value) entries)
+
+  abbrev pub stays : String A × Slot → Bool
+  stays e = not e.1.leaves
