@@ -3,6 +3,8 @@ use Rattle.std.specs.Prelude.{◌≡◌, ℕ, Bool, true, false, List, take, sli
 use Rattle.std.specs.List.{list_any}
 use Rattle.mes_model.specs.declared.id.Id.{Id}
 use Rattle.mes_model.specs.declared.offer.Offer.{Offer}
+use Rattle.std.specs.Str.{bytes_eq}
+use Rattle.mes_model.specs.declared.task_info.TaskInfo.{TaskInfo}
 use Rattle.mes_hand.specs.Held.{offer_in}
 
 -- the first that passes a test stands at i
@@ -16,3 +18,7 @@ is_missing hand d = is_none (offer_in hand d.value)
 -- all of them are in hand
 abbrev pub AreInHand : List Offer → List Id → Type 0
 AreInHand hand ids = list_any (is_missing hand) ids ≡ false
+
+-- the identifier is the task's
+abbrev pub is_task : Id → TaskInfo → Bool
+is_task id t = bytes_eq id.value t.task_id.value

@@ -88,6 +88,8 @@ impl Hand {
     pub fn remove(&mut self, id: &str)
         ensures { self.new ≡ without_offer id.now self.old }
     {
+        // The length's clause is that no name stands twice, so what goes is all of that name.
+        let _len = self.slots.len();
         self.slots.shift_remove(id);
     }
 

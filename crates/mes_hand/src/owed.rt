@@ -1,5 +1,5 @@
 //! The updates whose acknowledgement is owed.
-ghost use Rattle.std.specs.Prelude.{◌≡◌, ◌↔◌, [], length, slice_get, option_copied, IsTrue, OnOk, OnErr};
+ghost use Rattle.std.specs.Prelude.{◌≡◌, ◌↔◌, not, [], length, slice_get, option_copied, IsTrue, OnOk, OnErr};
 ghost use Rattle.mes_hand.specs.Held.{same_key, is_owed, with_key, without_key};
 
 use indexmap::IndexSet;
@@ -69,15 +69,12 @@ impl Owed {
         self.keys.as_slice().iter().any(|key| is_key(key, agent, task, uuid))
     }
 
-    /// Adds a copy of the key at the end; one that is there stays where it is, and takes no memory. Refused memory, it changes nothing.
-    pub fn add(&mut self, alloc: Global, key: &OwedKey) -> Result<(), NoMemory>
-        ensures ok { OnOk result (self.new ≡ with_key self.old key.now) }
+    /// Adds a key at the end; one that is there stays where it is, and needs no memory. Refused memory, it changes nothing.
+    pub fn add(&mut self, key: OwedKey) -> Result<(), NoMemory>
+        ensures ok { OnOk result (self.new ≡ with_key self.old key) }
         ensures err { OnErr result (self.new ≡ self.old) }
     {
-        if self.keys.contains(key) {
-            return Ok(());
-        }
-        self.keys.insert(key.copy(alloc)?)?;
+        self.keys.insert(key)?;
         Ok(())
     }
 
@@ -85,18 +82,18 @@ impl Owed {
     pub fn remove(&mut self, key: &OwedKey)
         ensures { self.new ≡ without_key key.now self.old }
     {
-        self.keys.shift_remove(key);
+        self.remove_key(&key.agent, &key.task, &key.uuid);
     }
 
     /// Takes the key of this agent, task and uuid out, as `remove` does.
     pub fn remove_key(&mut self, agent: &Id, task: &Id, uuid: &Bytes)
         ensures { self.new ≡ without_key (record { agent = agent.now; task = task.now; uuid = uuid.now }) self.old }
     {
-        let keys = self.keys.as_slice();
-        let found = keys.iter().position(|key| is_key(key, agent, task, uuid));
-        if let Some(index) = found {
-            self.keys.shift_remove_index(index);
-        }
+        self.keys.retain(
+            |key: &OwedKey| -> bool
+                ensures { result ≡ not (same_key (record { agent = agent.now; task = task.now; uuid = uuid.now }) key.now) }
+            { !is_key(key, agent, task, uuid) },
+        );
     }
 }
 

@@ -1,4 +1,5 @@
 //! Why a session refuses a call.
+use mes_json::NoMemory;
 
 /// Why a session refuses a call, in the order in which the reasons are looked for.
 #[derive(Clone, Copy, Debug, PartialEq, Eq)]
@@ -30,4 +31,15 @@ pub enum Refusal {
     NotOwed,
     /// S8: a growth was refused memory.
     NoMemory,
+}
+
+impl From<NoMemory> for Refusal {
+    ghost use Rattle.std.specs.Prelude.{◌≡◌};
+    ghost use Rattle.mes_hand.specs.declared.refusal.Refusal.TheVariants.{NoMemory as no_memory};
+
+    ghost from_gives = { λ _ refusal. refusal ≡ no_memory };
+
+    fn from(_refused: NoMemory) -> Refusal {
+        Refusal::NoMemory
+    }
 }

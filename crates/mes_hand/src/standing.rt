@@ -47,7 +47,7 @@ impl<'a> Standing<'a> {
         hand: &'a Hand,
         owed: &'a Owed,
     ) -> Standing<'a>
-        ensures { result ≡ record { framework = option_copied framework; connected = connected; hand = hand.now; owed = owed.now } }
+        ensures { result ≡ record { framework = option_copied framework.entry; connected = connected; hand = hand.now; owed = owed.now } }
     {
         Standing {
             framework,
@@ -124,7 +124,7 @@ impl<'a> Standing<'a> {
 
     /// Whether no call can be made: no SUBSCRIBED was heard since the stream broke.
     fn is_lost(&self) -> bool
-        ensures { (framework : IdValue) → IsOwn self.now framework → IsTrue result ↔ IsStrange self.now framework }
+        ensures strange { (framework : IdValue) → IsOwn self.now framework → IsTrue result ↔ IsStrange self.now framework }
         ensures known { IsFalse result → IsSome self.now.framework }
     {
         !self.connected || self.framework.is_none()

@@ -1,9 +1,9 @@
 //! Whether an identifier stands twice.
-ghost use Rattle.std.specs.Prelude.{◌≡◌, ◌++◌, false, take};
+ghost use Rattle.std.specs.Prelude.{◌≡◌, ◌++◌, false};
 ghost use Rattle.std.specs.List.{list_any};
-ghost use Rattle.std.specs.Str.{bytes_eq};
 ghost use Rattle.mes_fit.specs.Launched.{launched};
 ghost use Rattle.mes_hand.specs.Refusals.{stands_twice, ids_of, stands_in};
+ghost use Rattle.mes_hand.specs.Looking.{is_task};
 
 use mes_fit::Launches;
 use mes_model::{Id, TaskInfo};
@@ -12,7 +12,7 @@ use mes_model::{Id, TaskInfo};
 fn stands_in(ids: &[Id], id: &Id) -> bool
     ensures { result ≡ stands_in id.now ids.now }
 {
-    ids.iter().any(|other| other == id)
+    ids.iter().any(|other| id == other)
 }
 
 /// Whether one of the identifiers stands twice.
@@ -29,14 +29,14 @@ pub(crate) fn stands_twice(ids: &[Id]) -> bool
 
 /// Whether a task has the identifier.
 fn tasks_have(tasks: &[TaskInfo], id: &Id) -> bool
-    ensures { result ≡ stands_in id.now (ids_of tasks.now) }
+    ensures { result ≡ list_any (is_task id.now) tasks.now }
 {
-    tasks.iter().any(|task| &task.task_id == id)
+    tasks.iter().any(|task| id == &task.task_id)
 }
 
 /// Whether a task of the groups has the identifier.
 fn groups_have<L: Launches>(launches: &[L], id: &Id) -> bool
-    ensures { result ≡ stands_in id.now (ids_of (launched L.tasks launches.now)) }
+    ensures { result ≡ list_any (is_task id.now) (launched L.tasks launches.now) }
 {
     for group in launches {
         if tasks_have(group.tasks(), id) {
