@@ -1,7 +1,11 @@
 -- A search through a list, one after another.
-use Rattle.std.proofs.Common.{◌≡◌, ℕ, zero, suc, ◌+◌, ◌<◌, Bool, true, false, ◌||◌, Some, List, [], ◌∷◌, ◌++◌, length, take, drop, get_or, slice_get, refl, sym, ◌∙◌, ap, add-one, true≢false, arith}
+use Rattle.std.proofs.Common.{◌≡◌, ℕ, zero, suc, ◌+◌, ◌<◌, Bool, true, false, ◌||◌, Some, List, [], ◌∷◌, length, take, get_or, slice_get, refl, sym, ◌∙◌, ap, subst, add-one, true≢false, arith}
 use Rattle.std.specs.List.{list_any}
-use Rattle.mes_fit.proofs.ListLemmas.{any-at, get-at}
+use Rattle.mes_fit.proofs.ListLemmas.{any-at, get-at, get-of}
+use Rattle.mes_fit.proofs.LaunchedLemmas.{get-place, take-place}
+use Rattle.mes_fit.specs.Launched.{launched, place}
+use Rattle.mes_model.specs.declared.task_info.TaskInfo.{TaskInfo}
+use Rattle.std.proofs.lemmas.List.Folds.{list_any-append}
 use Rattle.mes_hand.specs.Looking.{IsFirstAt}
 
 pub none-both : (a b : Bool) → (a || b) ≡ false → (a ≡ false) × (b ≡ false)
@@ -44,3 +48,15 @@ module _ {X : Type 0} where
 
   pub first-at : (p : X → Bool) (xs : List X) (i : ℕ) (x : X) → i < length xs → x ≡ get_or xs i x → p x ≡ true → list_any p (take i xs) ≡ false → IsFirstAt p xs i
   first-at p xs i x within is t h = (x, get-at xs i x within is, t, h)
+
+-- the first of a group, where none of the groups before it passes, is the first of all
+module _ (p : TaskInfo → Bool) {G : Type 0} (of : G → List TaskInfo) (os : List G) (at : ℕ) (o : G) (within : at < length os) (is : o ≡ get_or os at o) where
+  pub first-in : (tasks : List TaskInfo) → tasks ≡ of o → list_any p (launched of (take at os)) ≡ false → (j : ℕ) → IsFirstAt p tasks j → IsFirstAt p (launched of os) (place of os at j)
+  first-in tasks part none j h =
+      let first : IsFirstAt p (of o) j = subst (λ ts. IsFirstAt p ts j) part h in
+      let inside : j < length (of o) = get-within (of o) j first.0 first.1 in (
+        first.0,
+        get-place of os at o within is j first.0 inside (get-of (of o) j first.0 first.1),
+        first.2,
+        ap (list_any p) (take-place of os at o within is j (omega (arith, inside))) ∙ list_any-append p (launched of (take at os)) (take j (of o)) ∙ or-none _ _ none first.3,
+      )

@@ -1,5 +1,5 @@
 -- The offers of identifiers that are all in hand.
-use Rattle.std.proofs.Common.{◌≡◌, ℕ, zero, suc, ◌+◌, ◌<◌, Bool, true, false, ◌||◌, Option, Some, None, is_some, is_none, option_copied, Bor, List, [], ◌∷◌, length, slice_get, refl, sym, ◌∙◌, ap, true≢false, arith}
+use Rattle.std.proofs.Common.{◌≡◌, ℕ, zero, suc, ◌+◌, Bool, true, false, not, Option, Some, None, is_some, is_none, option_copied, Bor, List, [], ◌∷◌, length, slice_get, refl, sym, ◌∙◌, ap, true≢false, arith}
 use Rattle.mes_model.specs.declared.id.Id.{Id}
 use Rattle.mes_model.specs.declared.offer.Offer.{Offer}
 use Rattle.std.specs.List.{cons_option}
@@ -11,6 +11,10 @@ use Rattle.mes_hand.proofs.LookLemmas.{none-both}
 pub copied-none : (r : Option (Bor Offer)) → is_none r ≡ is_none (option_copied r)
 copied-none None = refl
 copied-none (Some o) = refl
+
+pub flipped : (a b : Bool) → a ≡ not b → b ≡ not a
+flipped a true e = ap not (sym e)
+flipped a false e = ap not (sym e)
 
 pub none-is : {X : Type 0} (r : Option X) → is_none r ≡ true → r ≡ None
 none-is None h = refl

@@ -1,6 +1,6 @@
 -- What is done to the entries of a hand, as what it does to its offers.
-use Rattle.std.proofs.Common.{◌≡◌, ℕ, Bool, true, false, cond, not, ◌||◌, if◌then◌else◌, List, [], ◌∷◌, ◌++◌, map, filter, fold, Option, Some, None, String, string_bytes, is_some, unwrap_or, option_copied, Bor, refl, sym, ◌∙◌, ap, ap₂, true≢false}
-use Rattle.std.specs.List.{find, IsDistinct, AllByRecursion}
+use Rattle.std.proofs.Common.{◌≡◌, ℕ, Bool, true, false, cond, not, ◌||◌, List, [], ◌∷◌, ◌++◌, map, filter, Option, Some, None, String, string_bytes, is_some, unwrap_or, option_copied, Bor, refl, sym, ◌∙◌, ap, ap₂, true≢false}
+use Rattle.std.specs.List.{IsDistinct, AllByRecursion}
 use Rattle.std.specs.Str.{bytes_eq}
 use Rattle.std.specs.Option.{option_map}
 use Rattle.std.specs.Map.{keys_of, lookup, set_value, remove_entry}
@@ -129,8 +129,8 @@ module _ {A : Type 0} where
       by true t h rest =
           let is : s ≡ e.1 = ap (λ o. unwrap_or o s) h in
           ap₂ (λ f fs. f ∷ fs)
-            ((λ j. (e.0, record { offer = (is j).offer; leaves = true })) ∙ sym (ap (λ b. (e.0, record { offer = e.1.offer; leaves = b || e.1.leaves })) t))
-            (sym (marked-absent name es (absent name e.0 es (sym ((bytes_decides name (string_bytes e.0)).0 t)) d.0)))
+          ((λ j. (e.0, record { offer = (is j).offer; leaves = true })) ∙ sym (ap (λ b. (e.0, record { offer = e.1.offer; leaves = b || e.1.leaves })) t))
+          (sym (marked-absent name es (absent name e.0 es (sym ((bytes_decides name (string_bytes e.0)).0 t)) d.0)))
       by false t h rest = ap₂ (λ f fs. f ∷ fs) (sym (marked-other name e t)) (rest h)
 
   -- ---- one taken out
@@ -202,7 +202,7 @@ module _ {A : Type 0} where
     where
       by : (b l : Bool) → b ≡ bytes_eq name (name_of e.1.offer) → offers_in (filter stays (map (marked_at name) es)) ≡ without_offer name (offers_in (filter stays es))
           → offers_in (cond (not (b || l)) (marked_at name e ∷ filter stays (map (marked_at name) es)) (filter stays (map (marked_at name) es)))
-            ≡ without_offer name (offers_in (cond (not l) (e ∷ filter stays es) (filter stays es)))
+          ≡ without_offer name (offers_in (cond (not l) (e ∷ filter stays es) (filter stays es)))
       by true true t rest = rest
       by true false t rest = rest ∙ (λ j. cond (not (t j)) (e.1.offer ∷ without_offer name (offers_in (filter stays es))) (without_offer name (offers_in (filter stays es))))
       by false true t rest = rest

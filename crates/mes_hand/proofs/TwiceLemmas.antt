@@ -3,7 +3,7 @@ use Rattle.std.proofs.Common.{◌≡◌, ℕ, ◌+◌, ◌<◌, Bool, true, fals
 use Rattle.std.specs.List.{list_any}
 use Rattle.std.specs.Str.{bytes_eq}
 use Rattle.std.specs.Cmp.Lexicographic.{nat_list_eq_equiv}
-use Rattle.std.proofs.lemmas.List.Folds.{list_any-append, list_any-map}
+use Rattle.std.proofs.lemmas.List.Folds.{list_any-append}
 use Rattle.std.proofs.lemmas.Grind.{flat_map-append}
 use Rattle.std.proofs.lemmas.List.{take_more}
 use Rattle.mes_model.specs.declared.id.Id.{Id}
@@ -35,8 +35,8 @@ one-new (z ∷ zs) x h n =
     let once = none-both (stands_in z zs) (stands_twice zs) h in
     let other = none-both (bytes_eq x.value z.value) (stands_in x zs) n in
     or-none (stands_in z (zs ++ x ∷ [])) (stands_twice (zs ++ x ∷ []))
-      (list_any-append (λ (y : Id). bytes_eq z.value y.value) zs (x ∷ []) ∙ or-none (stands_in z zs) (bytes_eq z.value x.value || false) once.0 (or-none-right _ ∙ same-other z x ∙ other.0))
-      (one-new zs x once.1 other.1)
+    (list_any-append (λ (y : Id). bytes_eq z.value y.value) zs (x ∷ []) ∙ or-none (stands_in z zs) (bytes_eq z.value x.value || false) once.0 (or-none-right _ ∙ same-other z x ∙ other.0))
+    (one-new zs x once.1 other.1)
 
 -- what stands twice in front does so in the whole
 pub twice-front : (xs ys : List Id) → stands_twice xs ≡ true → stands_twice (xs ++ ys) ≡ true
@@ -55,7 +55,7 @@ one-again (z ∷ zs) x n = by (bytes_eq x.value z.value) refl n (one-again zs x)
     by : (b : Bool) → bytes_eq x.value z.value ≡ b → (b || stands_in x zs) ≡ true → (stands_in x zs ≡ true → stands_twice (zs ++ x ∷ []) ≡ true) → stands_twice (z ∷ (zs ++ x ∷ [])) ≡ true
     by true t n rest =
         or-first (stands_in z (zs ++ x ∷ [])) (stands_twice (zs ++ x ∷ []))
-          (list_any-append (λ (y : Id). bytes_eq z.value y.value) zs (x ∷ []) ∙ or-true (stands_in z zs) (bytes_eq z.value x.value || false) (or-none-right _ ∙ same-other z x ∙ t))
+        (list_any-append (λ (y : Id). bytes_eq z.value y.value) zs (x ∷ []) ∙ or-true (stands_in z zs) (bytes_eq z.value x.value || false) (or-none-right _ ∙ same-other z x ∙ t))
     by false t n rest = or-true (stands_in z (zs ++ x ∷ [])) (stands_twice (zs ++ x ∷ [])) (rest n)
 
 module _ (xs : List Id) (i : ℕ) (x : Id) (within : i < length xs) (is : x ≡ get_or xs i x) where
@@ -73,7 +73,8 @@ module _ (xs : List Id) (i : ℕ) (x : Id) (within : i < length xs) (is : x ≡ 
 -- ---- tasks
 
 pub in-tasks : (id : Id) (ts : List TaskInfo) → stands_in id (ids_of ts) ≡ list_any (is_task id) ts
-in-tasks id ts = list_any-map (λ (y : Id). bytes_eq id.value y.value) (λ (t : TaskInfo). t.task_id) ts
+in-tasks id [] = refl
+in-tasks id (t ∷ ts) = ap (λ (b : Bool). is_task id t || b) (in-tasks id ts)
 
 ids-append : (ts us : List TaskInfo) → ids_of (ts ++ us) ≡ ids_of ts ++ ids_of us
 ids-append [] us = refl
@@ -110,6 +111,6 @@ module _ {G : Type 0} (of : G → List TaskInfo) (os : List G) (at : ℕ) (o : G
   pub twice-in : stands_twice (ids_of (launched of (take at os) ++ tasks)) ≡ true → stands_twice (ids_of (launched of os)) ≡ true
   twice-in h =
       ap (λ (us : List TaskInfo). stands_twice (ids_of us)) (split of os at o within is ∙ ap (λ (us : List TaskInfo). launched of (take at os) ++ (us ++ launched of (drop (at + 1) os))) (sym part)
-        ∙ sym (append_assoc (launched of (take at os)) tasks (launched of (drop (at + 1) os))))
+      ∙ sym (append_assoc (launched of (take at os)) tasks (launched of (drop (at + 1) os))))
       ∙ ap stands_twice (ids-append (launched of (take at os) ++ tasks) (launched of (drop (at + 1) os)))
       ∙ twice-front (ids_of (launched of (take at os) ++ tasks)) (ids_of (launched of (drop (at + 1) os))) h

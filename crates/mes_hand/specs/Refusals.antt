@@ -13,7 +13,7 @@ use Rattle.mes_fit.specs.Launched.{as_index}
 use Rattle.mes_hand.specs.declared.refusal.Refusal.{Refusal}
 use Rattle.mes_hand.specs.declared.refusal.Refusal.TheVariants.{NotSubscribed, NamedTwice, NoSuchOffer, TwoAgents, WrongAgent, Exceeds, NotOwed, NoMemory}
 use Rattle.mes_hand.specs.Held.{Held, offer_in, is_owed}
-use Rattle.mes_hand.specs.Calls.{named_by, accepted_by, tasks_of, acknowledged_by, framework_of}
+use Rattle.mes_hand.specs.Calls.{named_by, accepted_by, tasks_of, acknowledged_by}
 
 -- ---- S1
 

@@ -66,7 +66,10 @@ impl Owed {
     pub fn has(&self, agent: &Id, task: &Id, uuid: &Bytes) -> bool
         ensures { result ≡ is_owed (record { agent = agent.now; task = task.now; uuid = uuid.now }) self.now }
     {
-        self.keys.as_slice().iter().any(|key| is_key(key, agent, task, uuid))
+        self.keys
+            .as_slice()
+            .iter()
+            .any(|key| is_key(key, agent, task, uuid))
     }
 
     /// Adds a key at the end; one that is there stays where it is, and needs no memory. Refused memory, it changes nothing.
@@ -91,7 +94,7 @@ impl Owed {
     {
         self.keys.retain(
             |key: &OwedKey| -> bool
-                ensures { result ≡ not (same_key (record { agent = agent.now; task = task.now; uuid = uuid.now }) key.now) }
+                ensures { result ≡ not (same_key (record { agent = agent.entry.now; task = task.entry.now; uuid = uuid.entry.now }) key.now) }
             { !is_key(key, agent, task, uuid) },
         );
     }

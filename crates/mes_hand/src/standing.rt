@@ -108,7 +108,11 @@ impl<'a> Standing<'a> {
         if self.is_lost() {
             return Some(Refusal::NotSubscribed);
         }
-        if self.owed.contains(key) { None } else { Some(Refusal::NotOwed) }
+        if self.owed.contains(key) {
+            None
+        } else {
+            Some(Refusal::NotOwed)
+        }
     }
 
     /// The same of a REVIVE, KILL, RECONCILE, TEARDOWN, SUPPRESS, SHUTDOWN or MESSAGE: S1, or none. Takes no memory.

@@ -1,4 +1,4 @@
-use Rattle.std.proofs.Common.{◌≡◌, ◌∙◌, sym}
+use Rattle.std.proofs.Common.{◌∙◌, sym}
 use Rattle.mes_hand.specs.Looking.{is_missing}
 use Rattle.mes_hand.proofs.LookLemmas.{first-at}
 use Rattle.mes_hand.proofs.named.missing.Goals as goal

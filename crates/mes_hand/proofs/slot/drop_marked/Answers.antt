@@ -1,6 +1,5 @@
 use Rattle.std.proofs.Common.{rules}
 use Rattle.indexmap.proofs.CallerLemmas.{filter-RetainsPairs}
-use Rattle.mes_hand.specs.Slots.{stays}
 use Rattle.mes_hand.proofs.slot.drop_marked.Goals as goal
 
 pub returns : goal.returns

@@ -1,4 +1,4 @@
-use Rattle.std.proofs.Common.{◌≡◌, ◌∙◌, ap, sym, true}
+use Rattle.std.proofs.Common.{◌∙◌, ap, sym, true}
 use Rattle.std.specs.Option.{option_copied_mut}
 use Rattle.mes_hand.proofs.SlotLemmas.{marked-none, marked-some}
 use Rattle.mes_hand.proofs.slot.mark_one.Goals as goal

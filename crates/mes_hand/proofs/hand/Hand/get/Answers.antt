@@ -1,6 +1,5 @@
-use Rattle.std.proofs.Common.{◌≡◌, ◌∙◌, ap, sym}
+use Rattle.std.proofs.Common.{◌∙◌, ap, sym}
 use Rattle.std.specs.Option.{option_map, option_copied}
-use Rattle.mes_hand.specs.Held.{offer_in}
 use Rattle.mes_hand.proofs.SlotLemmas.{found}
 use Rattle.mes_hand.proofs.hand.Hand.get.Goals as goal
 

@@ -1,6 +1,6 @@
-use Rattle.std.proofs.Common.{◌≡◌, ◌∙◌, ap, subst, sym, filter}
+use Rattle.std.proofs.Common.{◌∙◌, ap, subst, sym, filter}
 use Rattle.mes_hand.specs.Held.{without_offers}
-use Rattle.mes_hand.specs.Slots.{offers_in, AreSettled, marked, stays}
+use Rattle.mes_hand.specs.Slots.{offers_in, AreSettled, stays}
 use Rattle.mes_hand.proofs.SlotLemmas.{all_taken_out, settled-all_taken_out}
 use Rattle.mes_hand.proofs.hand.Hand.remove_all.Goals as goal
 

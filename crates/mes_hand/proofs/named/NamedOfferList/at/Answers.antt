@@ -1,4 +1,4 @@
-use Rattle.std.proofs.Common.{◌≡◌, ◌<◌, ◌∙◌, ap, sym, subst, length, slice_get}
+use Rattle.std.proofs.Common.{◌<◌, ◌∙◌, ap, sym, subst, length, slice_get}
 use Rattle.mes_hand.proofs.NamedLemmas.{counted}
 use Rattle.mes_hand.proofs.named.NamedOfferList.at.Goals as goal
 

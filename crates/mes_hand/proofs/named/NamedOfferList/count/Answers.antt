@@ -1,4 +1,4 @@
-use Rattle.std.proofs.Common.{◌≡◌, ◌∙◌, ap, length}
+use Rattle.std.proofs.Common.{◌∙◌, ap, length}
 use Rattle.mes_hand.proofs.NamedLemmas.{counted}
 use Rattle.mes_hand.proofs.named.NamedOfferList.count.Goals as goal
 

@@ -1,4 +1,4 @@
-use Rattle.std.proofs.Common.{◌≡◌, ◌∙◌, ap}
+use Rattle.std.proofs.Common.{◌∙◌, ap}
 use Rattle.mes_hand.specs.Held.{with_key}
 use Rattle.mes_hand.proofs.OwedLemmas.{put_key}
 use Rattle.mes_hand.proofs.owed.Owed.add.Goals as goal
