@@ -57,7 +57,8 @@ impl<'a> Standing<'a> {
         }
     }
 
-    /// The first of S1 to S7 that is so of the call, or none. Takes no memory.
+    /// The first of S1 to S7 that is so of the call, or none. Takes no memory: so for S2 the identifiers that are named are compared
+    /// pairwise, and those of the tasks. The rest looks up each offer that is named in a time that does not grow with the hand.
     pub fn refusal(&self, call: &Call) -> Option<Refusal>
         ensures { Answers self.now call.now result }
     {
