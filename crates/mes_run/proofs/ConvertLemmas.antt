@@ -2,7 +2,8 @@
 use Rattle.std.proofs.Common.{◌≡◌, ℕ, ◌∷◌, ◌++◌, [], Option, List, Result, ap, ◌∙◌, subst, inl, inr, refl}
 use Rattle.std.specs.Io.KnownBytes.{Consumes}
 use Rattle.mes_frame.specs.declared.counts.Counts.{Counts}
-use Rattle.mes_msg.specs.Events.{Spells, IsRecordFault}
+use Rattle.mes_msg.specs.Events.{Spells}
+use Rattle.mes_stream.specs.Refusals.{IsEventRefusal}
 use Rattle.mes_msg.specs.declared.event.Event.{Event}
 use Rattle.mes_stream.specs.Reading.{EndsReading}
 use Rattle.mes_stream.specs.SendLines.{send_text}
@@ -40,7 +41,7 @@ module _ {W : Type 0} (written : W → Option (List ℕ)) (counts : W → Counts
 -- the events that were read were sent
 pub converts : (framing : Framing) (limit : ℕ) (most : Option ℕ) (input rest out written err told : Device) (status : ℕ) (before events : List Event) (outcome : Result Report Stop) → before ≡ []
     → ((w : List ℕ) × (more : List Event) × Consumes input.bytes rest.bytes w × (events ≡ before ++ more)
-    × EndsReading framing Spells IsRecordFault limit READS_MOST input.counts rest.counts rest.bytes w more outcome)
+    × EndsReading framing Spells IsEventRefusal limit READS_MOST input.counts rest.counts rest.bytes w more outcome)
     → SendsRead limit most events outcome out written err told status → Converts framing limit most input rest out written err told status
 converts framing limit most input rest out written err told status before events outcome none (w, more, consumes, is, ends) sends =
     let same : events ≡ more = is ∙ ap (λ (l : List Event). l ++ more) none in

@@ -3,7 +3,8 @@ use Rattle.std.proofs.Common.{◌≡◌, ℕ, ◌+◌, ◌-◌, ◌<◌, ◌≤�
 use Rattle.std.specs.Io.KnownBytes.{Consumes, IsAtEnd}
 use Rattle.std.proofs.KnownBytes.{Consumes-trans}
 use Rattle.mes_frame.specs.declared.counts.Counts.{Counts as CountsOf}
-use Rattle.mes_msg.specs.Events.{Spells, IsRecordFault}
+use Rattle.mes_msg.specs.Events.{Spells}
+use Rattle.mes_stream.specs.Refusals.{IsEventRefusal}
 use Rattle.mes_msg.specs.declared.event.Event.{Event}
 use Rattle.mes_stream.specs.Framings.{InputEnds}
 use Rattle.mes_stream.specs.Lines.{fault_text, count_text}
@@ -39,14 +40,14 @@ pub record Following (detail : Detail) (framing : Framing) (limit : ℕ) (first 
 
 -- a list that was cleared before it took the events
 feeds_on : (framing : Framing) (limit : ℕ) (d : StreamReader EventReader) (b : List ℕ) (evs : List Event) (piece : List ℕ) (events old now : List Event) (r : Result (Option ℕ) Halt) → old ≡ []
-    → StreamFeeds HoldsData Spells IsRecordFault d framing limit b evs piece old now r → StreamFeeds HoldsData Spells IsRecordFault d framing limit b evs piece events (events ++ now) r
+    → StreamFeeds HoldsData Spells IsEventRefusal d framing limit b evs piece old now r → StreamFeeds HoldsData Spells IsEventRefusal d framing limit b evs piece events (events ++ now) r
 feeds_on framing limit d b evs piece events old now (Ok None) none (m, is, s) = (m, ap (λ (l : List Event). events ++ l) (is ∙ ap (λ (l : List Event). l ++ m) none), s)
 feeds_on framing limit d b evs piece events old now (Ok (Some end)) none (m, is, one, s) = (m, ap (λ (l : List Event). events ++ l) (is ∙ ap (λ (l : List Event). l ++ m) none), one, s)
 feeds_on framing limit d b evs piece events old now (Err halt) none (m, is, one, s) = (m, ap (λ (l : List Event). events ++ l) (is ∙ ap (λ (l : List Event). l ++ m) none), one, s)
 
 -- however a piece was taken, a front of the bytes has the events
 spelt_of : (framing : Framing) (limit : ℕ) (d : StreamReader EventReader) (b : List ℕ) (evs : List Event) (piece : List ℕ) (old now : List Event) (r : Result (Option ℕ) Halt) → old ≡ evs → length piece ≤ READ_MOST
-    → StreamFeeds HoldsData Spells IsRecordFault d framing limit b evs piece old now r → Spelt framing limit (b ++ piece) now
+    → StreamFeeds HoldsData Spells IsEventRefusal d framing limit b evs piece old now r → Spelt framing limit (b ++ piece) now
 spelt_of framing limit d b evs piece old now (Ok None) same short (m, added, s) =
     (b ++ piece, [], sym (append-nil (b ++ piece)), lit≤ tt, inl (rw (added, same) (goes_of HoldsData Spells d framing limit (b ++ piece) (evs ++ m) s)))
 spelt_of framing limit d b evs piece old now (Ok (Some end)) same short (m, added, one, s) = (
@@ -114,7 +115,7 @@ module _ (detail : Detail) (framing : Framing) (limit : ℕ) where
 
   -- the reading came to its outcome, and its line was printed
   pub follows_outcome : (first last : Option (List ℕ)) (old new : CountsOf) (out mid printed : Device) (events : List Event) (outcome : Result Report Stop) (status : ℕ)
-      → Ended Spells IsRecordFault framing limit first last old new [] events READS_MOST outcome → GoesOut out mid (printed_from detail 1 events)
+      → Ended Spells IsEventRefusal framing limit first last old new [] events READS_MOST outcome → GoesOut out mid (printed_from detail 1 events)
       → Prints mid printed (outcome_line (length events) outcome ++ 10 ∷ []) (outcome_status outcome) status
       → Follows detail framing limit (record { bytes = first; counts = old }) (record { bytes = last; counts = new }) out printed status
   follows_outcome first last old new out mid printed events outcome status (w, more, consumes, added, ends) shown prints = told detail shown where
@@ -142,16 +143,16 @@ module _ (detail : Detail) (framing : Framing) (limit : ℕ) where
         told : (m : Result (Unit {0}) Fault) → InputEnds framing Spells limit s.read.w s.read.more m → Prints mid printed (finish_line (length s.events) used m ++ 10 ∷ []) (finish_status m) status
             → Follows detail framing limit (record { bytes = first; counts = old }) (record { bytes = next; counts = later }) out printed status
         told (Ok done) is line = follows_outcome first next old later out mid printed s.events (Ok (record { used = used; rest = record { items = [] } })) status
-            (reads_end HoldsData Spells framing limit IsRecordFault first now next old new later [] s.events d reads READS_MOST used len (Ok done) (Ok (record { used = used; rest = record { items = [] } })) s.read few full none last counted is (refl, refl))
+            (reads_end HoldsData Spells framing limit IsEventRefusal first now next old new later [] s.events d reads READS_MOST used len (Ok done) (Ok (record { used = used; rest = record { items = [] } })) s.read few full none last counted is (refl, refl))
             s.shown line
         told (Err fault) is line = follows_outcome first next old later out mid printed s.events (Err (record { fault = fault; used = used })) status
-            (reads_end HoldsData Spells framing limit IsRecordFault first now next old new later [] s.events d reads READS_MOST used len (Err fault) (Err (record { fault = fault; used = used })) s.read few full none last counted is refl)
+            (reads_end HoldsData Spells framing limit IsEventRefusal first now next old new later [] s.events d reads READS_MOST used len (Err fault) (Err (record { fault = fault; used = used })) s.read few full none last counted is refl)
             s.shown line
 
   -- the bytes of one more read, however they were taken
   pub taken : (first now next : Option (List ℕ)) (old new later : CountsOf) (out printed : Device) (d f : StreamReader EventReader) (reads number used len count : ℕ) (buffer : List ℕ) (before events : List Event) (fed : Result (Option ℕ) Halt)
       → (s : Following detail framing limit first now old new out printed d reads number used) → reads < READS_MOST → 0 < count → count ≤ length buffer → length buffer ≤ READ_MOST → 0 < len → Consumes now next (take count buffer)
-      → Counted new later len count → before ≡ [] → StreamFeeds HoldsData Spells IsRecordFault f framing limit s.read.w s.read.more (take count buffer) before events fed
+      → Counted new later len count → before ≡ [] → StreamFeeds HoldsData Spells IsEventRefusal f framing limit s.read.w s.read.more (take count buffer) before events fed
       → Taken framing limit first next old later (s.events ++ events)
   taken first now next old new later out printed d f reads number used len count buffer before events fed s few some within small full gives counted none feeds =
       let short : length (take count buffer) ≤ READ_MOST = omega (arith, within, small, length-take-le count buffer within) in
@@ -200,14 +201,14 @@ module _ (detail : Detail) (framing : Framing) (limit : ℕ) where
   -- the events of one more read were printed
   pub following_more : (first now next : Option (List ℕ)) (old new later : CountsOf) (out mid late : Device) (d f : StreamReader EventReader) (reads number after used len count : ℕ) (buffer : List ℕ) (before events : List Event)
       → (s : Following detail framing limit first now old new out mid d reads number used) → 0 < count → count ≤ length buffer → length buffer ≤ READ_MOST → 0 < len → Consumes now next (take count buffer)
-      → Counted new later len count → before ≡ [] → StreamFeeds HoldsData Spells IsRecordFault f framing limit s.read.w s.read.more (take count buffer) before events (Ok None)
+      → Counted new later len count → before ≡ [] → StreamFeeds HoldsData Spells IsEventRefusal f framing limit s.read.w s.read.more (take count buffer) before events (Ok None)
       → PrintsEvents detail (1 + length s.events) events mid late (Ok after)
       → Following detail framing limit first next old later out late f (reads + 1) after (saturated (used + count))
   following_more first now next old new later out mid late d f reads number after used len count buffer before events s some within small full gives counted none feeds shows =
       let went = printed detail (1 + length s.events) events mid late after shows in
       record {
         events = s.events ++ events;
-        read = reads_more HoldsData Spells framing limit IsRecordFault first now next old new later [] s.events (s.events ++ events) d f reads used len count buffer s.read some within small full gives counted
+        read = reads_more HoldsData Spells framing limit IsEventRefusal first now next old new later [] s.events (s.events ++ events) d f reads used len count buffer s.read some within small full gives counted
             (feeds_on framing limit f s.read.w s.read.more (take count buffer) s.events before events (Ok None) none feeds);
         shown = rw (printed_both detail 1 s.events events) (goes_both out mid late (printed_from detail 1 s.events) (printed_from detail (1 + length s.events) events) s.shown went.0);
         next = (let is = went.1 in omega (arith, is, length-append s.events events));
@@ -216,21 +217,21 @@ module _ (detail : Detail) (framing : Framing) (limit : ℕ) where
   -- a byte of one more read shows a fault
   pub follows_halt : (first now next : Option (List ℕ)) (old new later : CountsOf) (out mid late printed : Device) (d f : StreamReader EventReader) (reads number after used len count status : ℕ) (buffer : List ℕ) (before events : List Event) (halt : Halt)
       → (s : Following detail framing limit first now old new out mid d reads number used) → reads < READS_MOST → 0 < count → count ≤ length buffer → length buffer ≤ READ_MOST → 0 < len → Consumes now next (take count buffer)
-      → Counted new later len count → before ≡ [] → StreamFeeds HoldsData Spells IsRecordFault f framing limit s.read.w s.read.more (take count buffer) before events (Err halt)
+      → Counted new later len count → before ≡ [] → StreamFeeds HoldsData Spells IsEventRefusal f framing limit s.read.w s.read.more (take count buffer) before events (Err halt)
       → PrintsEvents detail (1 + length s.events) events mid late (Ok after)
       → Prints late printed (fault_text halt.fault (saturated (used + halt.used)) ++ 10 ∷ []) 1 status
       → Follows detail framing limit (record { bytes = first; counts = old }) (record { bytes = next; counts = later }) out printed status
   follows_halt first now next old new later out mid late last d f reads number after used len count status buffer before events halt s few some within small full gives counted none feeds shows prints =
       let went = printed detail (1 + length s.events) events mid late after shows in
       follows_outcome first next old later out late last (s.events ++ events) (Err (record { fault = halt.fault; used = saturated (used + halt.used) })) status
-      (reads_halt HoldsData Spells framing limit IsRecordFault first now next old new later [] s.events (s.events ++ events) d f reads READS_MOST used len count buffer halt s.read few some within small full gives counted
+      (reads_halt HoldsData Spells framing limit IsEventRefusal first now next old new later [] s.events (s.events ++ events) d f reads READS_MOST used len count buffer halt s.read few some within small full gives counted
       (feeds_on framing limit f s.read.w s.read.more (take count buffer) s.events before events (Err halt) none feeds))
       (rw (printed_both detail 1 s.events events) (goes_both out mid late (printed_from detail 1 s.events) (printed_from detail (1 + length s.events) events) s.shown went.0)) prints
 
   -- a byte of one more read ends the stream
   pub follows_end : (first now next : Option (List ℕ)) (old new later : CountsOf) (out mid late printed : Device) (d f : StreamReader EventReader) (reads number after used len count end status : ℕ) (buffer : List ℕ) (before events : List Event)
       → (s : Following detail framing limit first now old new out mid d reads number used) → reads < READS_MOST → 0 < count → count ≤ length buffer → length buffer ≤ READ_MOST → 0 < len → Consumes now next (take count buffer)
-      → Counted new later len count → before ≡ [] → StreamFeeds HoldsData Spells IsRecordFault f framing limit s.read.w s.read.more (take count buffer) before events (Ok (Some end)) → end ≤ length (take count buffer)
+      → Counted new later len count → before ≡ [] → StreamFeeds HoldsData Spells IsEventRefusal f framing limit s.read.w s.read.more (take count buffer) before events (Ok (Some end)) → end ≤ length (take count buffer)
       → PrintsEvents detail (1 + length s.events) events mid late (Ok after)
       → Prints late printed (count_text (after - 1) (saturated (used + end)) ++ 10 ∷ []) 0 status
       → Follows detail framing limit (record { bytes = first; counts = old }) (record { bytes = next; counts = later }) out printed status
@@ -247,6 +248,6 @@ module _ (detail : Detail) (framing : Framing) (limit : ℕ) where
       let all : after - 1 ≡ length (s.events ++ events) =
       omega (arith, few, is, fewer, bytes, before_is, now_is, none_is, sizes, events_is, inside, small, within, length-append s.events events, length-take-le end (take count buffer) inside, length-take-le count buffer within) in
       follows_outcome first next old later out late last (s.events ++ events) (Ok (report_on used end count buffer)) status
-      (reads_done HoldsData Spells framing limit IsRecordFault first now next old new later [] s.events (s.events ++ events) d f reads READS_MOST used len count end buffer (report_on used end count buffer) s.read few some within small full gives counted
+      (reads_done HoldsData Spells framing limit IsEventRefusal first now next old new later [] s.events (s.events ++ events) d f reads READS_MOST used len count end buffer (report_on used end count buffer) s.read few some within small full gives counted
       (feeds_on framing limit f s.read.w s.read.more (take count buffer) s.events before events (Ok (Some end)) none feeds) inside refl refl)
       (rw (printed_both detail 1 s.events events) (goes_both out mid late (printed_from detail 1 s.events) (printed_from detail (1 + length s.events) events) s.shown went.0)) (rw all at prints)

@@ -7,7 +7,8 @@ use Rattle.mes_frame.specs.declared.write.WriteWhy.{WriteWhy}
 use Rattle.mes_stream.specs.Lines.{fault_text, count_text}
 use Rattle.mes_stream.specs.Reading.{EndsReading}
 use Rattle.mes_stream.specs.declared.stream_reader.Framing.{Framing}
-use Rattle.mes_msg.specs.Events.{Spells, IsRecordFault}
+use Rattle.mes_msg.specs.Events.{Spells}
+use Rattle.mes_stream.specs.Refusals.{IsEventRefusal}
 use Rattle.mes_msg.specs.declared.event.Event.{Event}
 use Rattle.mes_stream.specs.declared.fault.Fault.{Fault}
 use Rattle.mes_stream.specs.declared.fault.Fault.TheVariants.{NoMemory}
@@ -55,7 +56,7 @@ finish_status (Err fault) = 1
 -- the bytes w were taken from the input, and read as the events up to the outcome
 abbrev pub ReadsInput : Framing → ℕ → Device → Device → List ℕ → List Event → Result Report Stop → Type 0
 ReadsInput framing limit input rest w events outcome = Consumes input.bytes rest.bytes w
-    × EndsReading framing Spells IsRecordFault limit READS_MOST input.counts rest.counts rest.bytes w events outcome
+    × EndsReading framing Spells IsEventRefusal limit READS_MOST input.counts rest.counts rest.bytes w events outcome
 
 -- the bytes w were taken from the input and read as the events up to the outcome, and its line was printed
 abbrev pub Checks : Framing → ℕ → Device → Device → Device → Device → ℕ → Type 0

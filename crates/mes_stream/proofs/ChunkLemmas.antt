@@ -7,7 +7,7 @@ use Rattle.std.proofs.lemmas.Bool.{cases_lt}
 use Rattle.mes_frame.proofs.ChunkParts.{open_of, fronts_of}
 use Rattle.mes_frame.specs.ChunkFront.{IsOpen}
 use Rattle.mes_frame.specs.ChunkState.{ChunkStands, room_of}
-use Rattle.mes_msg.specs.declared.record.RecordFault.{RecordFault}
+use Rattle.mes_stream.specs.declared.refusal.RecordRefusal.{RecordRefusal}
 use Rattle.mes_stream.specs.Stream.{BodyLive, EndsRecord, BodyShows, BodyStops}
 use Rattle.mes_stream.specs.Chunked.{IsStream, Live, AtData, EndsWith, Shows, Stops}
 use Rattle.mes_stream.specs.Taking.{Taken}
@@ -24,7 +24,7 @@ pub take_whole : (piece : List ℕ) (used : ℕ) → used ≡ length piece → t
 take_whole piece used all = grind (arith, common_steps)
 
 -- a byte of the body shows what it shows of the body
-pub shows_data : {E : Type 0} (spells : List ℕ → E → Type 0) (breaks : List ℕ → RecordFault → Type 0) (limit : ℕ) (w body : List ℕ) (values : List E) (c : ℕ) (fault : Fault)
+pub shows_data : {E : Type 0} (spells : List ℕ → E → Type 0) (breaks : List ℕ → RecordRefusal → Type 0) (limit : ℕ) (w body : List ℕ) (values : List E) (c : ℕ) (fault : Fault)
     → IsOpen w body → IsOpen (w ++ c ∷ []) (body ++ c ∷ []) → BodyShows spells breaks limit body values c fault → Shows spells breaks limit w values c fault
 shows_data spells breaks limit w body values c (Frame f) before behind h = inr (body, before, behind, h)
 shows_data spells breaks limit w body values c (Text at byte why) before behind h = (body, before, behind, h)
@@ -34,9 +34,9 @@ shows_data spells breaks limit w body values c EndsInsideRecord before behind h 
 shows_data spells breaks limit w body values c NoMemory before behind h = absurd h
 shows_data spells breaks limit w body values c Read before behind h = absurd h
 shows_data spells breaks limit w body values c ReadsSpent before behind h = absurd h
-shows_data spells breaks limit w body values c (BadEntry at_record) before behind h = absurd h
+shows_data spells breaks limit w body values c (BadEntry at_record) before behind h = (body, before, behind, h)
 
-pub stops_data : {E : Type 0} (spells : List ℕ → E → Type 0) (breaks : List ℕ → RecordFault → Type 0) (limit : ℕ) (w body : List ℕ) (values : List E) (c : ℕ) (fault : Fault)
+pub stops_data : {E : Type 0} (spells : List ℕ → E → Type 0) (breaks : List ℕ → RecordRefusal → Type 0) (limit : ℕ) (w body : List ℕ) (values : List E) (c : ℕ) (fault : Fault)
     → IsOpen w body → IsOpen (w ++ c ∷ []) (body ++ c ∷ []) → BodyStops spells breaks limit body values c fault → Stops spells breaks limit w values c fault
 stops_data spells breaks limit w body values c fault before behind stops = elim stops [
   | inl h ↦ inl (shows_data spells breaks limit w body values c fault before behind h)
@@ -78,7 +78,7 @@ module _ {R E : Type 0} (holds : R → List ℕ → Type 0) (spells : List ℕ �
         is,
       )
 
-  module _ (breaks : List ℕ → RecordFault → Type 0) where
+  module _ (breaks : List ℕ → RecordRefusal → Type 0) where
     -- a byte of a run of data stops the reading
     pub run_stops : (d : Reading R) (limit : ℕ) (w run : List ℕ) (values : List E) (used count : ℕ) (fault : Fault) (s : ReadingStands holds spells d w values) → length run ≡ count → count ≤ room_of d.chunks
         → 0 < used → used ≤ count → BodyStops spells breaks limit (s.content ++ take (used - 1) run) values (slice_index run (used - 1)) fault
@@ -101,7 +101,7 @@ module _ {R E : Type 0} (holds : R → List ℕ → Type 0) (spells : List ℕ �
     run_says d new w run values used count (out.Fault fault) s len room some within chunks taken =
         run_stops d (reading_limit new) w run values used count fault s len room some within taken
 
-module _ {E : Type 0} (Stands : List ℕ → List E → Type 0) (spells : List ℕ → E → Type 0) (breaks : List ℕ → RecordFault → Type 0) (limit : ℕ) where
+module _ {E : Type 0} (Stands : List ℕ → List E → Type 0) (spells : List ℕ → E → Type 0) (breaks : List ℕ → RecordRefusal → Type 0) (limit : ℕ) where
   -- the same bytes seen behind others
   pub says_as : (w v run rest : List ℕ) (values : List E) (used most : ℕ) (answer : Out E) → w ++ take used run ≡ v ++ take most rest → w ++ take (used - 1) run ≡ v ++ take (most - 1) rest
       → slice_index run (used - 1) ≡ slice_index rest (most - 1) → Says Stands spells breaks limit w values run used answer → Says Stands spells breaks limit v values rest most answer

@@ -1,6 +1,7 @@
 mod BodyLemmas
 mod ChunkLemmas
 mod DecoderLemmas
+mod EventLemmas
 mod FramingLemmas
 mod Grows
 mod PlainLaw

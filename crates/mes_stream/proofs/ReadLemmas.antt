@@ -8,7 +8,7 @@ use Rattle.std.proofs.lemmas.Bool.Decides.{nat_tests}
 use Rattle.std.proofs.lemmas.List.{drop-take}
 use Rattle.mes_frame.specs.Counts.{up, up_if}
 use Rattle.mes_frame.specs.declared.counts.Counts.{Counts}
-use Rattle.mes_msg.specs.declared.record.RecordFault.{RecordFault}
+use Rattle.mes_stream.specs.declared.refusal.RecordRefusal.{RecordRefusal}
 use Rattle.mes_stream.specs.Stream.{saturated}
 use Rattle.mes_stream.specs.Framings.{InputEnds}
 use Rattle.mes_stream.specs.StreamReaders.{StreamStands, StreamFeeds}
@@ -108,7 +108,7 @@ range_behind xs at count inside =
     sym (drop-take at (count - at) xs) ∙ ap (λ (n : ℕ). drop at (take n xs)) sum
 
 -- what reading came to: the bytes that were taken, the values that were added, and how it ended
-abbrev pub Ended : {E : Type 0} → (List ℕ → E → Type 0) → (List ℕ → RecordFault → Type 0) → Framing → ℕ → Option (List ℕ) → Option (List ℕ) → Counts → Counts → List E → List E → ℕ → Result Report Stop → Type 0
+abbrev pub Ended : {E : Type 0} → (List ℕ → E → Type 0) → (List ℕ → RecordRefusal → Type 0) → Framing → ℕ → Option (List ℕ) → Option (List ℕ) → Counts → Counts → List E → List E → ℕ → Result Report Stop → Type 0
 Ended {E = E} spells breaks framing limit first last old new before after reads result =
     (w : List ℕ) × (more : List E) × Consumes first last w × (after ≡ before ++ more) × EndsReading framing spells breaks limit reads old new last w more result
 
@@ -132,7 +132,7 @@ module _ {R E : Type 0} (holds : R → List ℕ → Type 0) (spells : List ℕ �
     asked = record { most = omega arith; bytes = omega arith; calls = omega arith; failures = omega arith; idle = omega arith; ends = omega arith };
   }
 
-  module _ (breaks : List ℕ → RecordFault → Type 0) where
+  module _ (breaks : List ℕ → RecordRefusal → Type 0) where
     -- one more read gave a piece, and the reader took it
     pub reads_more : (first now next : Option (List ℕ)) (old new later : Counts) (before after added : List E) (d f : StreamReader R) (reads used len count : ℕ) (buffer : List ℕ)
         → (r : Reads holds spells framing limit first now old new before after d reads used) → 0 < count → count ≤ length buffer → length buffer ≤ READ_MOST → 0 < len → Consumes now next (take count buffer)

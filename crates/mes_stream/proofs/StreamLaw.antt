@@ -5,7 +5,7 @@ use Rattle.mes_frame.proofs.OneChunkReading.{one_reading}
 use Rattle.mes_frame.proofs.ChunkTotal.{some_reading}
 use Rattle.mes_frame.specs.ChunkFront.{IsOpen}
 use Rattle.mes_frame.specs.ChunkReading.{ChunkReading, Begins, Whole, Broken, ReadsChunks}
-use Rattle.mes_msg.specs.declared.record.RecordFault.{RecordFault}
+use Rattle.mes_stream.specs.declared.refusal.RecordRefusal.{RecordRefusal}
 use Rattle.mes_stream.specs.Stream.{Records, BodyLive, BodyShows, EndsInside}
 use Rattle.mes_stream.specs.Chunked.{AtData, Shows}
 use Rattle.mes_stream.specs.PlainReading.{IsExact}
@@ -61,7 +61,7 @@ data Mark : Type 0 where
   Clean : Mark
   Inside : (front : List ℕ) (c : ℕ) → Mark
 
-module _ {E : Type 0} (spells : List ℕ → E → Type 0) (breaks : List ℕ → RecordFault → Type 0) (exact : IsExact spells breaks) (limit : ℕ) where
+module _ {E : Type 0} (spells : List ℕ → E → Type 0) (breaks : List ℕ → RecordRefusal → Type 0) (exact : IsExact spells breaks) (limit : ℕ) where
   outer_of : ChunkReading → List E → Mark → StreamReading E
   outer_of (Begins body) values mark = Goes values
   outer_of (Whole front body) values Clean = Ends front values
@@ -193,7 +193,7 @@ module _ {E : Type 0} (spells : List ℕ → E → Type 0) (breaks : List ℕ �
   found_stop w front rest byte values NoMemory is shows = absurd shows
   found_stop w front rest byte values Read is shows = absurd shows
   found_stop w front rest byte values ReadsSpent is shows = absurd shows
-  found_stop w front rest byte values (BadEntry at_record) is shows = absurd shows
+  found_stop w front rest byte values (BadEntry at) is shows = found_data w front rest byte values (BadEntry at) is shows
 
   found : (w : List ℕ) (reading : StreamReading E) → ReadsStream spells breaks limit w reading → Found w reading
   unfolding Found outer_of IsMark

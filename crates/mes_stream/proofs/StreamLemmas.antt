@@ -4,7 +4,7 @@ use Rattle.std.specs.Result.{IsErrAnd}
 use Rattle.mes_stream.specs.Stream.{BodyLive}
 use Rattle.mes_stream.specs.Chunked.{Live}
 use Rattle.mes_stream.specs.Framings.{GoesIn}
-use Rattle.mes_msg.specs.declared.record.RecordFault.{RecordFault}
+use Rattle.mes_stream.specs.declared.refusal.RecordRefusal.{RecordRefusal}
 use Rattle.mes_stream.specs.StreamReaders.{StreamStands, StreamFeeds}
 use Rattle.mes_stream.specs.declared.body.Halt.{Halt}
 use Rattle.mes_stream.specs.declared.stream_reader.Framing.{Framing}
@@ -25,7 +25,7 @@ module _ {R E : Type 0} (holds : R → List ℕ → Type 0) (spells : List ℕ �
       subst (λ (f : Framing). GoesIn f spells limit w values) (sym is) live
 
   -- a halt that is handed on
-  pub feeds_halt : (breaks : List ℕ → RecordFault → Type 0) (new : StreamReader R) (framing : Framing) (limit : ℕ) (w : List ℕ) (values : List E) (piece : List ℕ) (old now : List E) (halt : Halt) (r : Result (Option ℕ) Halt)
+  pub feeds_halt : (breaks : List ℕ → RecordRefusal → Type 0) (new : StreamReader R) (framing : Framing) (limit : ℕ) (w : List ℕ) (values : List E) (piece : List ℕ) (old now : List E) (halt : Halt) (r : Result (Option ℕ) Halt)
       → IsErrAnd r (λ h. h ≡ halt) → StreamFeeds holds spells breaks new framing limit w values piece old now (Err halt) → StreamFeeds holds spells breaks new framing limit w values piece old now r
   feeds_halt breaks new framing limit w values piece old now halt (Ok end) none h = absurd none
   feeds_halt breaks new framing limit w values piece old now halt (Err other) is h = subst (λ (e : Halt). StreamFeeds holds spells breaks new framing limit w values piece old now (Err e)) (sym is) h

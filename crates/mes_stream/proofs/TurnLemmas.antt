@@ -2,7 +2,7 @@
 use Rattle.std.proofs.Common.{◌≡◌, ℕ, ◌<◌, ◌≤◌, List, ◌++◌, length, take}
 use Rattle.mes_frame.specs.ChunkState.{ChunkStands, room_of}
 use Rattle.mes_frame.specs.declared.chunk.ChunkState.{ChunkState}
-use Rattle.mes_msg.specs.declared.record.RecordFault.{RecordFault}
+use Rattle.mes_stream.specs.declared.refusal.RecordRefusal.{RecordRefusal}
 use Rattle.mes_stream.specs.Taking.{Takes, answer_of}
 use Rattle.mes_frame.specs.RecordState.{limit_of}
 use Rattle.mes_stream.specs.Decoding.{ReadingStands, Says, reading_limit}
@@ -23,7 +23,7 @@ turn_of body_out.More = More
 turn_of body_out.Ended = Ended
 turn_of (body_out.Fault fault) = Fault fault
 
-module _ {R E : Type 0} (holds : R → List ℕ → Type 0) (spells : List ℕ → E → Type 0) (breaks : List ℕ → RecordFault → Type 0) where
+module _ {R E : Type 0} (holds : R → List ℕ → Type 0) (spells : List ℕ → E → Type 0) (breaks : List ℕ → RecordRefusal → Type 0) where
   -- the same bytes seen behind others
   pub turns_as : (new : Reading R) (w v run rest : List ℕ) (values : List E) (used most : ℕ) (turn : Turn)
       → ((Stands : List ℕ → List E → Type 0) (limit : ℕ) (answer : Out E) → Says Stands spells breaks limit w values run used answer → Says Stands spells breaks limit v values rest most answer)

@@ -4,7 +4,7 @@ use Rattle.mes_frame.specs.ChunkFront.{IsOpen}
 use Rattle.mes_frame.specs.ChunkState.{ChunkStands}
 use Rattle.mes_frame.specs.declared.chunk.ChunkState.{ChunkState}
 use Rattle.mes_frame.specs.RecordState.{limit_of}
-use Rattle.mes_msg.specs.declared.record.RecordFault.{RecordFault}
+use Rattle.mes_stream.specs.declared.refusal.RecordRefusal.{RecordRefusal}
 use Rattle.mes_stream.specs.Chunked.{IsStream, Live, EndsWith, Stops}
 use Rattle.mes_stream.specs.Taking.{BodyStands}
 use Rattle.mes_stream.specs.declared.reading.Reading.{Reading}
@@ -28,7 +28,7 @@ reading_limit d = limit_of d.body.records
 
 -- What a call that uses so many bytes of a piece says of them, behind w, which is live with the values: they were taken; a
 -- record ended with the last of them; the stream did; or the last of them stops the reading.
-abbrev pub Says : {E : Type 0} → (List ℕ → List E → Type 0) → (List ℕ → E → Type 0) → (List ℕ → RecordFault → Type 0) → ℕ → List ℕ → List E → List ℕ → ℕ → Out E → Type 0
+abbrev pub Says : {E : Type 0} → (List ℕ → List E → Type 0) → (List ℕ → E → Type 0) → (List ℕ → RecordRefusal → Type 0) → ℕ → List ℕ → List E → List ℕ → ℕ → Out E → Type 0
 Says Stands spells breaks limit w values piece used out.More = Stands (w ++ take used piece) values
 Says Stands spells breaks limit w values piece used (out.Event value) =
     Stands (w ++ take used piece) (values ++ value ∷ [])

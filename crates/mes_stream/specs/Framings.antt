@@ -1,6 +1,6 @@
 -- A stream of values by its framing: records one behind the other, or records in a chunked body.
 use Rattle.std.specs.Prelude.{◌≡◌, ℕ, ◌+◌, ◌⊎◌, List, ◌∷◌, ◌++◌, length, Result, Ok, Err}
-use Rattle.mes_msg.specs.declared.record.RecordFault.{RecordFault}
+use Rattle.mes_stream.specs.declared.refusal.RecordRefusal.{RecordRefusal}
 use Rattle.mes_stream.specs.Stream.{Records, BodyLive, EndsInside, EndsRecord, BodyStops}
 use Rattle.mes_stream.specs.Chunked.{IsStream, Live, EndsWith, Stops}
 use Rattle.mes_stream.specs.declared.fault.Fault.{Fault}
@@ -24,7 +24,7 @@ EndsRecordIn Plain spells limit w values c value = EndsRecord spells limit w val
 EndsRecordIn Chunked spells limit w values c value = EndsWith spells limit w values c value
 
 -- the byte c behind w shows the fault, or memory was refused at it
-abbrev pub StopsIn : {E : Type 0} → Framing → (List ℕ → E → Type 0) → (List ℕ → RecordFault → Type 0) → ℕ → List ℕ → List E → ℕ → Fault → Type 0
+abbrev pub StopsIn : {E : Type 0} → Framing → (List ℕ → E → Type 0) → (List ℕ → RecordRefusal → Type 0) → ℕ → List ℕ → List E → ℕ → Fault → Type 0
 StopsIn Plain spells breaks limit w values c fault = BodyStops spells breaks limit w values c fault
 StopsIn Chunked spells breaks limit w values c fault = Stops spells breaks limit w values c fault
 
@@ -38,7 +38,7 @@ InputEnds Chunked spells limit w values (Err fault) = Live spells limit w values
 
 -- The first n bytes of w stop the reading with their last. Want of memory may also come where the value of a record that has
 -- ended is added to the list.
-pub record StopsWithin {E : Type 0} (framing : Framing) (spells : List ℕ → E → Type 0) (breaks : List ℕ → RecordFault → Type 0) (limit : ℕ) (w : List ℕ) (values : List E) (fault : Fault) (n : ℕ) : Type 0 where
+pub record StopsWithin {E : Type 0} (framing : Framing) (spells : List ℕ → E → Type 0) (breaks : List ℕ → RecordRefusal → Type 0) (limit : ℕ) (w : List ℕ) (values : List E) (fault : Fault) (n : ℕ) : Type 0 where
   pub front : List ℕ
   pub byte : ℕ
   pub rest : List ℕ

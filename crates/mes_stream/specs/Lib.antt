@@ -11,7 +11,7 @@ pub mod Sending
 pub mod Stream
 pub mod StreamReaders
 pub mod StreamReading
-pub mod RecordFaults
+pub mod Refusals
 pub mod SmallFaults
 pub mod Taking
 pub mod Turning

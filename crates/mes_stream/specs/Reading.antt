@@ -3,9 +3,10 @@ use Rattle.std.specs.Prelude.{◌≡◌, ℕ, ◌+◌, ◌*◌, ◌<◌, ◌≤�
 use Rattle.std.specs.Io.KnownBytes.{IsAtEnd}
 use Rattle.mes_frame.specs.Counts.{up}
 use Rattle.mes_frame.specs.declared.counts.Counts.{Counts}
-use Rattle.mes_msg.specs.Events.{Spells, IsRecordFault}
+use Rattle.mes_msg.specs.Events.{Spells}
+use Rattle.mes_stream.specs.Refusals.{IsEventRefusal}
 use Rattle.mes_msg.specs.declared.event.Event.{Event}
-use Rattle.mes_msg.specs.declared.record.RecordFault.{RecordFault}
+use Rattle.mes_stream.specs.declared.refusal.RecordRefusal.{RecordRefusal}
 use Rattle.mes_stream.specs.Stream.{saturated}
 use Rattle.mes_stream.specs.Framings.{GoesIn, EndsIn, InputEnds, StopsWithin}
 use Rattle.mes_stream.specs.declared.fault.Fault.{Fault}
@@ -28,7 +29,7 @@ pub record Asked (reads : ℕ) (old new : Counts) (w : List ℕ) (made failed en
   pub ends : failed + ended ≤ made
 
 -- a byte among the last 512 of w stops the reading, and no call failed or told the end
-pub record StopsAt {E : Type 0} (framing : Framing) (spells : List ℕ → E → Type 0) (breaks : List ℕ → RecordFault → Type 0) (limit reads : ℕ) (old new : Counts) (w : List ℕ) (values : List E) (used : ℕ) (fault : Fault) : Type 0 where
+pub record StopsAt {E : Type 0} (framing : Framing) (spells : List ℕ → E → Type 0) (breaks : List ℕ → RecordRefusal → Type 0) (limit reads : ℕ) (old new : Counts) (w : List ℕ) (values : List E) (used : ℕ) (fault : Fault) : Type 0 where
   pub n : ℕ
   pub count : used ≡ saturated n
   pub stops : StopsWithin framing spells breaks limit w values fault n
@@ -63,7 +64,7 @@ pub record BreaksOff {E : Type 0} (framing : Framing) (spells : List ℕ → E �
 -- How reading ended, where w are the bytes that were taken, old and new what the device counted before and after, and last
 -- what it has left. Well: a byte ended the stream, or the device ended between records. Or it stopped: a byte stopped it,
 -- the device ended too early, a call failed (F14), or as many calls were made as allowed (F15).
-abbrev pub EndsReading : {E : Type 0} → Framing → (List ℕ → E → Type 0) → (List ℕ → RecordFault → Type 0) → ℕ → ℕ → Counts → Counts → Option (List ℕ) → List ℕ → List E → Result Report Stop → Type 0
+abbrev pub EndsReading : {E : Type 0} → Framing → (List ℕ → E → Type 0) → (List ℕ → RecordRefusal → Type 0) → ℕ → ℕ → Counts → Counts → Option (List ℕ) → List ℕ → List E → Result Report Stop → Type 0
 EndsReading framing spells breaks limit reads old new last w values (Ok report) =
     EndsAt framing spells limit reads old new w values report.used report.rest.items
     ⊎ (InputEndsAt {T = Unit {0}} framing spells limit reads old new last w values report.used (Ok tt) × (report.rest.items ≡ []))
@@ -75,8 +76,8 @@ EndsReading framing spells breaks limit reads old new last w values (Err stop) =
 
 -- the same of events in plain RecordIO
 abbrev pub EndsPlain : ℕ → ℕ → Counts → Counts → Option (List ℕ) → List ℕ → List Event → Result Report Stop → Type 0
-EndsPlain limit reads old new last w events outcome = EndsReading Plain Spells IsRecordFault limit reads old new last w events outcome
+EndsPlain limit reads old new last w events outcome = EndsReading Plain Spells IsEventRefusal limit reads old new last w events outcome
 
 -- and in a chunked body
 abbrev pub EndsStream : ℕ → ℕ → Counts → Counts → Option (List ℕ) → List ℕ → List Event → Result Report Stop → Type 0
-EndsStream limit reads old new last w events outcome = EndsReading Chunked Spells IsRecordFault limit reads old new last w events outcome
+EndsStream limit reads old new last w events outcome = EndsReading Chunked Spells IsEventRefusal limit reads old new last w events outcome

@@ -1,7 +1,7 @@
 -- What a reader of a stream stands for, and what it makes of a piece of it.
 use Rattle.std.specs.Prelude.{◌≡◌, ℕ, ◌+◌, ◌<◌, ◌≤◌, List, ◌++◌, length, take, Option, None, Some, Result, Ok, Err}
 use Rattle.mes_frame.specs.RecordState.{limit_of}
-use Rattle.mes_msg.specs.declared.record.RecordFault.{RecordFault}
+use Rattle.mes_stream.specs.declared.refusal.RecordRefusal.{RecordRefusal}
 use Rattle.mes_stream.specs.Taking.{BodyStands}
 use Rattle.mes_stream.specs.Decoding.{ReadingStands, reading_limit}
 use Rattle.mes_stream.specs.Framings.{EndsIn, StopsWithin}
@@ -19,7 +19,7 @@ StreamStands holds spells (reader.Chunked reading) framing limit w values = (fra
 
 -- What became of a piece behind w: all of it was taken; or a byte of it ended the stream, or stops the reading, and so many
 -- bytes were used. The list got the values of the records that ended before.
-abbrev pub StreamFeeds : {R E : Type 0} → (R → List ℕ → Type 0) → (List ℕ → E → Type 0) → (List ℕ → RecordFault → Type 0) → StreamReader R → Framing → ℕ → List ℕ → List E → List ℕ → List E → List E → Result (Option ℕ) Halt → Type 0
+abbrev pub StreamFeeds : {R E : Type 0} → (R → List ℕ → Type 0) → (List ℕ → E → Type 0) → (List ℕ → RecordRefusal → Type 0) → StreamReader R → Framing → ℕ → List ℕ → List E → List ℕ → List E → List E → Result (Option ℕ) Halt → Type 0
 StreamFeeds {E = E} holds spells breaks new framing limit w values piece old now (Ok None) =
     (more : List E) × (now ≡ old ++ more) × StreamStands holds spells new framing limit (w ++ piece) (values ++ more)
 StreamFeeds {E = E} holds spells breaks new framing limit w values piece old now (Ok (Some used)) =

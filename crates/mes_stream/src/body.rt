@@ -1,17 +1,18 @@
 //! Reads a body of records: it takes the bytes in runs, however cut, and makes a value of each record.
 
-ghost use Rattle.std.specs.Prelude.{◌≡◌, true, false, ◌+◌, ◌^◌, ◌<◌, ◌≤◌, ℕ, List, [], ◌++◌, length, IfOk, IfErr, take};
+ghost use Rattle.std.specs.Prelude.{◌≡◌, true, false, ◌+◌, ◌-◌, ◌^◌, ◌<◌, ◌≤◌, ℕ, List, [], ◌++◌, length, IfOk, IfErr, take};
 ghost use Rattle.mes_frame.specs.Record.{Begun};
 ghost use Rattle.mes_frame.specs.RecordState.{RecordStands, limit_of};
+ghost use Rattle.mes_stream.specs.declared.fault.Fault.TheVariants.{NoMemory as no_memory};
 ghost use Rattle.mes_stream.specs.Stream.{Records, EndsInside, BodyLive};
 ghost use Rattle.mes_stream.specs.Decoders.{HoldsInBody};
 ghost use Rattle.mes_stream.specs.Taking.{BodyStands, Fronts, IsWithin, Takes, Ends, Feeds, fault_of_record};
 
 use crate::record_reader::RecordReader;
+use crate::refusal::RecordRefusal;
 use crate::small_fault::SmallFault;
 use mes_frame::{FrameFault, Limit, RecordOut, RecordState};
-use mes_json::NoMemory;
-use mes_msg::RecordFault;
+use mes_json::NoMemoryAt;
 
 /// A decoder of plain RecordIO: it takes a body of records in pieces, however cut, and adds the value of each record to a list.
 #[derive(Drop)]
@@ -29,6 +30,20 @@ pub(crate) struct Taken {
     pub used: usize,
     /// What they were.
     pub out: BodyOut,
+}
+
+impl Taken {
+    /// Memory was refused for the byte behind those that were taken.
+    fn no_memory(refused: NoMemoryAt) -> Taken
+        requires { refused.taken < 2 ^ 64 - 1 }
+        ensures used { result.used ≡ refused.taken + 1 }
+        ensures out { result.out ≡ BodyOut.Fault no_memory }
+    {
+        Taken {
+            used: refused.taken + 1,
+            out: BodyOut::Fault(SmallFault::no_memory()),
+        }
+    }
 }
 
 /// What some bytes of a body were.
@@ -113,10 +128,7 @@ impl<R: RecordReader> Body<R> {
                 }
             }
             Front::Data { count, last } => match self.reader.push_run(&run[..count]) {
-                Err(NoMemory) => Taken {
-                    used: 1,
-                    out: BodyOut::Fault(SmallFault::no_memory()),
-                },
+                Err(refused) => Taken::no_memory(refused),
                 Ok(()) => Taken {
                     used: count,
                     out: if last { BodyOut::Ended } else { BodyOut::More },
@@ -181,7 +193,7 @@ impl<R: RecordReader> Body<R> {
     }
 
     // The fault of the record that has ended.
-    fn refused(&self, why: RecordFault) -> SmallFault
+    fn refused(&self, why: RecordRefusal) -> SmallFault
         ensures { result ≡ fault_of_record self.now.done why }
     {
         SmallFault::of_record(self.done.saturating_add(1), why)
@@ -197,9 +209,8 @@ fn front_of(records: &mut RecordState, run: &[u8]) -> Front
 {
     let room = records.room().min(run.len());
     if room > 0 {
-        let count = part_of(&run[..room]);
-        let last = records.pass(count);
-        return Front::Data { count, last };
+        let last = records.pass(room);
+        return Front::Data { count: room, last };
     }
     match records.step(run[0]) {
         RecordOut::Quiet => Front::Size {
@@ -230,17 +241,4 @@ fn size_run(records: &mut RecordState, run: &[u8]) -> usize
         count += 1;
     }
     count
-}
-
-// How many bytes of a run of data are given on together: white space in front of it goes alone. It takes no memory, so want of
-// memory is told behind it.
-fn part_of(bytes: &[u8]) -> usize
-    requires { 0 < length bytes.now }
-    ensures { (0 < result) × (result ≤ length bytes.now) }
-{
-    let mut count = 0;
-    while count < bytes.len() && matches!(bytes[count], b' ' | b'\n' | b'\r' | b'\t') {
-        count += 1;
-    }
-    if count == 0 { bytes.len() } else { count }
 }

@@ -1,7 +1,8 @@
 //! Laws of the definitions that the contracts cite: functions that do nothing, each with the law as its contract.
 
 ghost use Rattle.std.specs.Prelude.{◌≡◌, ℕ, List};
-ghost use Rattle.mes_msg.specs.Events.{Spells, IsRecordFault};
+ghost use Rattle.mes_msg.specs.Events.{Spells};
+ghost use Rattle.mes_stream.specs.Refusals.{IsEventRefusal};
 ghost use Rattle.mes_msg.specs.declared.event.Event.{Event as EventValue};
 ghost use Rattle.mes_stream.specs.PlainReading.{IsDecided, IsExact, PlainReading, ReadsPlain};
 ghost use Rattle.mes_stream.specs.StreamReading.{StreamReading, ReadsStream};
@@ -36,12 +37,12 @@ pub fn stream_limits()
 
 /// Of events no premise is left: any bytes are read as a stream of events in exactly one way, plain or chunked.
 pub fn one_event_reading()
-    ensures some_plain { (limit : ℕ) (w : List ℕ) → (reading : PlainReading EventValue) × ReadsPlain Spells IsRecordFault limit w reading }
+    ensures some_plain { (limit : ℕ) (w : List ℕ) → (reading : PlainReading EventValue) × ReadsPlain Spells IsEventRefusal limit w reading }
     ensures one_plain { (limit : ℕ) (w : List ℕ) (reading other : PlainReading EventValue)
-        → ReadsPlain Spells IsRecordFault limit w reading → ReadsPlain Spells IsRecordFault limit w other → reading ≡ other }
-    ensures some_stream { (limit : ℕ) (w : List ℕ) → (reading : StreamReading EventValue) × ReadsStream Spells IsRecordFault limit w reading }
+        → ReadsPlain Spells IsEventRefusal limit w reading → ReadsPlain Spells IsEventRefusal limit w other → reading ≡ other }
+    ensures some_stream { (limit : ℕ) (w : List ℕ) → (reading : StreamReading EventValue) × ReadsStream Spells IsEventRefusal limit w reading }
     ensures one_stream { (limit : ℕ) (w : List ℕ) (reading other : StreamReading EventValue)
-        → ReadsStream Spells IsRecordFault limit w reading → ReadsStream Spells IsRecordFault limit w other → reading ≡ other }
+        → ReadsStream Spells IsEventRefusal limit w reading → ReadsStream Spells IsEventRefusal limit w other → reading ≡ other }
 {
     one_message::<Event>();
     one_plain_reading::<EventReader>();

@@ -3,7 +3,8 @@
 ghost use Rattle.std.specs.Prelude.{◌≡◌, ◌≤◌, ℕ, List, [], ◌++◌, length};
 ghost use Rattle.std.specs.Io.KnownBytes.{Consumes};
 ghost use Rattle.mes_stream.specs.Reading.{EndsReading, EndsPlain, EndsStream};
-ghost use Rattle.mes_msg.specs.Events.{Spells, IsRecordFault};
+ghost use Rattle.mes_msg.specs.Events.{Spells};
+ghost use Rattle.mes_stream.specs.Refusals.{IsEventRefusal};
 ghost use Rattle.mes_msg.specs.declared.event.Event.{Event as EventValue};
 
 use crate::event_reader::EventReader;
@@ -63,7 +64,7 @@ pub fn read_events<S: Source>(
     ensures { (w : List ℕ) × (more : List EventValue)
         × Consumes (S.left reader.old) (S.left reader.new) w
         × (events.new.items ≡ events.old.items ++ more)
-        × EndsReading framing Spells IsRecordFault limit max_reads (S.counts reader.old) (S.counts reader.new) (S.left reader.new) w more result }
+        × EndsReading framing Spells IsEventRefusal limit max_reads (S.counts reader.old) (S.counts reader.new) (S.left reader.new) w more result }
 {
     let records = EventReader::new(alloc);
     read_records(reader, framing, records, limit, max_reads, events)

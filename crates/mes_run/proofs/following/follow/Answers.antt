@@ -1,5 +1,6 @@
 use Rattle.std.proofs.Common.{◌∙◌, ◌+◌, [], length, arith, Err, rules}
-use Rattle.mes_msg.specs.Events.{Spells, IsRecordFault}
+use Rattle.mes_msg.specs.Events.{Spells}
+use Rattle.mes_stream.specs.Refusals.{IsEventRefusal}
 use Rattle.mes_stream.specs.EventData.{HoldsData}
 use Rattle.mes_stream.specs.declared.fault.Fault.TheVariants.{Read, ReadsSpent}
 use Rattle.mes_stream.proofs.ReadLemmas.{reads_fail, reads_spent}
@@ -18,7 +19,7 @@ returns-in-Err g c =
     (record { bytes = g.O.Sink.written c.reads.out; counts = g.O.Sink.counts c.reads.out })
     (record { bytes = g.O.Sink.written c.print_fault.new.out; counts = g.O.Sink.counts c.print_fault.new.out })
     s.events (Err (record { fault = Read; used = c.reads.used })) c.print_fault.result
-    (reads_fail HoldsData Spells c.args.framing c.args.limit IsRecordFault (g.I.Source.left c.args.input.now) (g.I.Source.left c.reads.input) (g.I.Source.left c.fetch.new.self) (g.I.Source.counts c.args.input.now) (g.I.Source.counts c.reads.input) (g.I.Source.counts c.fetch.new.self) [] s.events c.reads.reader
+    (reads_fail HoldsData Spells c.args.framing c.args.limit IsEventRefusal (g.I.Source.left c.args.input.now) (g.I.Source.left c.reads.input) (g.I.Source.left c.fetch.new.self) (g.I.Source.counts c.args.input.now) (g.I.Source.counts c.reads.input) (g.I.Source.counts c.fetch.new.self) [] s.events c.reads.reader
     c.reads.counter READS_MOST c.reads.used (length c.reads.buffer) s.read c.reads-test.true (omega (arith, c.reads.invariant.0)) c.in-Err.ensures.bytes c.in-Err.ensures.counted)
     s.shown c.print_fault.ensures
 
@@ -116,6 +117,6 @@ returns g c =
     (record { bytes = g.O.Sink.written c.reads.out; counts = g.O.Sink.counts c.reads.out })
     (record { bytes = g.O.Sink.written c.print_fault-2.new.out; counts = g.O.Sink.counts c.print_fault-2.new.out })
     s.events (Err (record { fault = ReadsSpent; used = c.reads.used })) c.print_fault-2.result
-    (reads_spent HoldsData Spells c.args.framing c.args.limit IsRecordFault (g.I.Source.left c.args.input.now) (g.I.Source.left c.reads.input) (g.I.Source.counts c.args.input.now) (g.I.Source.counts c.reads.input) [] s.events c.reads.reader c.reads.counter READS_MOST c.reads.used s.read
+    (reads_spent HoldsData Spells c.args.framing c.args.limit IsEventRefusal (g.I.Source.left c.args.input.now) (g.I.Source.left c.reads.input) (g.I.Source.counts c.args.input.now) (g.I.Source.counts c.reads.input) [] s.events c.reads.reader c.reads.counter READS_MOST c.reads.used s.read
     (omega (arith, c.reads-test.false, c.reads.auto.counter-end)))
     s.shown c.print_fault-2.ensures

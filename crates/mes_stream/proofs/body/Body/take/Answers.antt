@@ -1,8 +1,8 @@
-use Rattle.std.proofs.Common.{◌++◌, take, ap, arith, refl, ◌∙◌}
+use Rattle.std.proofs.Common.{◌+◌, ◌-◌, ◌++◌, take, ap, arith, refl, inr, length-take-le, ◌∙◌}
 use Rattle.mes_frame.specs.RecordState.{limit_of}
 use Rattle.mes_frame.specs.declared.record.RecordState.{RecordState}
 use Rattle.mes_stream.specs.declared.body.Body.{Body}
-use Rattle.mes_stream.proofs.BodyLemmas.{data_live, size_live, stands_on, ends_as, whole_fits}
+use Rattle.mes_stream.proofs.BodyLemmas.{data_live, data_next, size_live, stands_on, ends_as, whole_fits}
 use Rattle.mes_stream.proofs.body.Body.take.Goals as goal
 use Rattle.mes_stream.proofs.body.Body.take.Goals.{then-last, else-last}
 
@@ -15,6 +15,26 @@ pub returns-in-Size-clause-takes : goal.returns-in-Size-clause-takes
 returns-in-Size-clause-takes g c = λ b values s.
     stands_on g.R.RecordReader.holds g.R.RecordReader.spells c.args.self.now _ b (take c.in-Size.count c.args.run.now) s.r values s refl c.in-Size.ensures.limit s.kept
     (c.in-Size.ensures.fronts s.x s.r s.state).0
+
+pub returns-in-Err-clause-takes : goal.returns-in-Err-clause-takes
+returns-in-Err-clause-takes g c = λ b values s.
+    let h = c.in-Data.ensures.fronts s.x s.r s.state in
+    let within = c.in-Data.ensures.within in
+    let inside = c.in-Err.ensures.err (omega (arith, within, length-take-le c.in-Data.count c.args.run.now within.1)) in
+    let limit = c.in-Data.ensures.limit in
+    let next = data_next g.R.RecordReader.holds g.R.RecordReader.spells c.args.self.now b c.args.run.now values (c.in-Err.refused.taken + 1 - 1) h.0.0 s
+    (omega (arith, inside, h.0.2, length-take-le c.in-Data.count c.args.run.now within.1)) (omega (arith, inside, within, length-take-le c.in-Data.count c.args.run.now within.1)) (rw limit at h.0.1) in
+    rw (c.no_memory.ensures.out, c.no_memory.ensures.used) (inr (refl, rw limit next))
+
+pub returns-in-Err-clause-lives : goal.returns-in-Err-clause-lives
+returns-in-Err-clause-lives g c = λ b values s n early.
+    let h = c.in-Data.ensures.fronts s.x s.r s.state in
+    let within = c.in-Data.ensures.within in
+    let used = c.no_memory.ensures.used in
+    let inside = c.in-Err.ensures.err (omega (arith, within, length-take-le c.in-Data.count c.args.run.now within.1)) in
+    let limit = c.in-Data.ensures.limit in
+    rw limit (data_live g.R.RecordReader.holds g.R.RecordReader.spells c.args.self.now b c.args.run.now values n h.0.0 s
+    (omega (arith, early, used, inside, h.0.2, length-take-le c.in-Data.count c.args.run.now within.1)) (omega (arith, early, used, inside, within, length-take-le c.in-Data.count c.args.run.now within.1)) (rw limit at h.0.1))
 
 pub returns-after-last-clause-takes : goal.returns-after-last-clause-takes
 returns-after-last-clause-takes g c = λ b values s.
