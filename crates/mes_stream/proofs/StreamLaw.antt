@@ -7,7 +7,8 @@ use Rattle.mes_frame.specs.ChunkFront.{IsOpen}
 use Rattle.mes_frame.specs.ChunkReading.{ChunkReading, Begins, Whole, Broken, ReadsChunks}
 use Rattle.mes_stream.specs.declared.refusal.RecordRefusal.{RecordRefusal}
 use Rattle.mes_stream.specs.Stream.{Records, BodyLive, BodyShows, EndsInside}
-use Rattle.mes_stream.specs.Chunked.{AtData, Shows}
+use Rattle.mes_frame.specs.Chunk.{IsChunked}
+use Rattle.mes_stream.specs.Chunked.{IsStream, AtData, Shows}
 use Rattle.mes_stream.specs.PlainReading.{IsExact}
 use Rattle.mes_stream.specs.PlainReading as plain
 use Rattle.mes_stream.specs.StreamReading.{StreamReading, Goes, Ends, Stops, ReadsStream}
@@ -214,3 +215,10 @@ module _ {E : Type 0} (spells : List ℕ → E → Type 0) (breaks : List ℕ �
       | inr g ↦ inner_inner w reading other f g
     ]
   ]
+
+-- any other chunking of the same body
+pub same_chunking : {E : Type 0} (spells : List ℕ → E → Type 0) (limit : ℕ) (w v body : List ℕ) (values : List E) → IsChunked w body → IsChunked v body → IsStream spells limit w values → IsStream spells limit v values
+same_chunking spells limit w v body values first second (other, whole, records) =
+    let both : Whole w other ≡ Whole w body = one_reading w (Whole w other) (Whole w body) ([], sym (append-nil w), whole) ([], sym (append-nil w), first) in
+    let same : other ≡ body = cc in
+    (body, second, rw same at records)

@@ -6,6 +6,7 @@ pub mod Framings
 pub mod Lines
 pub mod PlainReading
 pub mod Reading
+pub mod Reads
 pub mod SendLines
 pub mod Sending
 pub mod Stream
@@ -14,4 +15,3 @@ pub mod StreamReading
 pub mod Refusals
 pub mod SmallFaults
 pub mod Taking
-pub mod Turning

@@ -67,6 +67,11 @@ impl RecordReader for EventReader {
         })
     }
 
+    fn let_go(&mut self) {
+        self.lexer = Lexer::new(self.alloc);
+        lexer_bound(&self.lexer);
+    }
+
     fn held(&self) -> u64 {
         lexer_bound(&self.lexer);
         self.lexer.held()

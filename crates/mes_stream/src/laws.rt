@@ -4,6 +4,8 @@ ghost use Rattle.std.specs.Prelude.{◌≡◌, ℕ, List};
 ghost use Rattle.mes_msg.specs.Events.{Spells};
 ghost use Rattle.mes_stream.specs.Refusals.{IsEventRefusal};
 ghost use Rattle.mes_msg.specs.declared.event.Event.{Event as EventValue};
+ghost use Rattle.mes_frame.specs.Chunk.{IsChunked};
+ghost use Rattle.mes_stream.specs.Chunked.{IsStream};
 ghost use Rattle.mes_stream.specs.PlainReading.{IsDecided, IsExact, PlainReading, ReadsPlain};
 ghost use Rattle.mes_stream.specs.StreamReading.{StreamReading, ReadsStream};
 
@@ -27,6 +29,11 @@ pub fn one_stream_reading<R: RecordReader>()
     ensures some { IsDecided R.spells R.breaks → (limit : ℕ) (w : List ℕ) → (reading : StreamReading R.Value) × ReadsStream R.spells R.breaks limit w reading }
     ensures one { IsExact R.spells R.breaks → (limit : ℕ) (w : List ℕ) (reading other : StreamReading R.Value)
         → ReadsStream R.spells R.breaks limit w reading → ReadsStream R.spells R.breaks limit w other → reading ≡ other }
+{}
+
+/// Any other chunking of the same body is a stream of the same values.
+pub fn one_chunking<R: RecordReader>()
+    ensures { (limit : ℕ) (w v body : List ℕ) (values : List R.Value) → IsChunked w body → IsChunked v body → IsStream R.spells limit w values → IsStream R.spells limit v values }
 {}
 
 /// One read takes at most 512 bytes, and a report holds at most as many behind the end of a stream; and how long a line is.

@@ -44,6 +44,10 @@ pub trait RecordReader: Drop {
         ensures breaks { breaks [] result }
         ensures memory { result ≢ RecordRefusal.NoMemory };
 
+    /// Keeps nothing any more. No record is read after that.
+    fn let_go(&mut self)
+        ensures { kept self.new ≡ 0 };
+
     /// How many bytes of the data are kept, not counting spare room.
     fn held(&self) -> u64
         ensures count { result ≡ kept self.now }

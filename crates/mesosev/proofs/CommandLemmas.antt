@@ -1,7 +1,7 @@
 -- What became of words that name no options.
 use Rattle.std.proofs.Common.{ℕ, List, inl, inr, refl}
 use Rattle.clap.specs.Words.{Text}
-use Rattle.mes_run.specs.Printing.{Device}
+use Rattle.mes_frame.specs.Devices.{Device}
 use Rattle.mesosev.specs.NamedOptions.{RefusesWords}
 use Rattle.mesosev.specs.Running.{Runs}
 use Rattle.mesosev.specs.Telling.{Tells}
