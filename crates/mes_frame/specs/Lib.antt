@@ -1,4 +1,5 @@
 pub mod Counts
+pub mod Devices
 pub mod Record
 pub mod RecordState
 pub mod Write

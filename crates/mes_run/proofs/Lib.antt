@@ -1,4 +1,4 @@
 mod ConvertLemmas
-mod FewEvents
+pub mod FewEvents
 mod FollowReads
-mod ShowLemmas
+pub mod ShowLemmas

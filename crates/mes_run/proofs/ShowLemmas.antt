@@ -7,7 +7,8 @@ use Rattle.mes_frame.proofs.Parts.{none_then_stops, none_then_none}
 use Rattle.mes_event.specs.Shown.{event_lines}
 use Rattle.mes_event.specs.declared.event.Event.{Event}
 use Rattle.mes_stream.specs.Stream.{saturated}
-use Rattle.mes_run.specs.Printing.{Device, GoesOut, IsCutOff, Prints}
+use Rattle.mes_frame.specs.Devices.{Device}
+use Rattle.mes_run.specs.Printing.{GoesOut, IsCutOff, Prints}
 use Rattle.mes_run.specs.Showing.{lines_from, ShowsOne, ShowsFrom}
 use Rattle.mes_run.specs.declared.following.Unshown.{Unshown}
 use Rattle.mes_run.specs.declared.following.Unshown.TheVariants.{Output, NoMemory}

@@ -8,7 +8,9 @@ use Rattle.mes_stream.specs.declared.fault.Report.{Report}
 use Rattle.mes_stream.specs.declared.fault.Stop.{Stop}
 use Rattle.mes_msg.specs.declared.send_fault.SendFault.{SendFault}
 use Rattle.mes_stream.specs.declared.stream_reader.Framing.{Framing}
-use Rattle.mes_run.specs.Printing.{Device, Prints, ReadsInput}
+use Rattle.mes_frame.specs.Devices.{Device}
+use Rattle.mes_run.specs.Printing.{Prints, ReadsInput}
+use Rattle.mes_run.specs.declared.limits.TheConstants.{READS_MOST}
 
 -- the bytes w are the events, which are good, as plain RecordIO, or in chunks of a size
 abbrev pub IsConverted : ℕ → Option ℕ → List Event → List ℕ → Type 0
@@ -34,5 +36,5 @@ SendsRead limit most events (Err stop) out written err told status =
 -- the bytes w were taken from the input and read as the events up to the outcome, and that became of them
 abbrev pub Converts : Framing → ℕ → Option ℕ → Device → Device → Device → Device → Device → Device → ℕ → Type 0
 Converts framing limit most input rest out written err told status =
-    (w : List ℕ) × (events : List Event) × (outcome : Result Report Stop) × ReadsInput framing limit input rest w events outcome
+    (w : List ℕ) × (events : List Event) × (outcome : Result Report Stop) × ReadsInput framing limit READS_MOST input rest w events outcome
     × SendsRead limit most events outcome out written err told status

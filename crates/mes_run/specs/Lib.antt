@@ -1,3 +1,4 @@
 pub mod Printing
 pub mod Converting
 pub mod Showing
+pub mod Following

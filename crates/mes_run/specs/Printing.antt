@@ -1,24 +1,19 @@
 -- What is taken from the input, and what becomes of the texts that are printed.
 use Rattle.std.specs.Prelude.{◌≡◌, ℕ, ◌<◌, ◌⊎◌, Option, List, [], ◌∷◌, ◌++◌, length, take, Result, Ok, Err}
 use Rattle.std.specs.Io.KnownBytes.{Appends, Consumes}
+use Rattle.mes_frame.specs.Devices.{Device}
 use Rattle.mes_frame.specs.Write.{NoneFails, StopsWrite}
-use Rattle.mes_frame.specs.declared.counts.Counts.{Counts}
 use Rattle.mes_frame.specs.declared.write.WriteWhy.{WriteWhy}
 use Rattle.mes_stream.specs.Lines.{fault_text, count_text}
 use Rattle.mes_stream.specs.Reading.{EndsReading}
 use Rattle.mes_stream.specs.declared.stream_reader.Framing.{Framing}
-use Rattle.mes_event.specs.Events.{Spells, IsRecordFault}
+use Rattle.mes_event.specs.Events.{Spells}
+use Rattle.mes_stream.specs.Refusals.{IsEventRefusal}
 use Rattle.mes_event.specs.declared.event.Event.{Event}
 use Rattle.mes_stream.specs.declared.fault.Fault.{Fault}
 use Rattle.mes_stream.specs.declared.fault.Fault.TheVariants.{NoMemory}
 use Rattle.mes_stream.specs.declared.fault.Report.{Report}
 use Rattle.mes_stream.specs.declared.fault.Stop.{Stop}
-use Rattle.mes_run.specs.declared.limits.TheConstants.{READS_MOST}
-
--- what a device tells: its bytes, those left to read or those written, where it tells them, and its counts
-pub record Device : Type 0 where
-  pub bytes : Option (List ℕ)
-  pub counts : Counts
 
 -- the text went out whole, and no call of the writer failed or took nothing
 abbrev pub GoesOut : Device → Device → List ℕ → Type 0
@@ -43,24 +38,15 @@ abbrev pub outcome_status : Result Report Stop → ℕ
 outcome_status (Ok report) = 0
 outcome_status (Err stop) = 1
 
--- the line and the status of what the end of the input means behind so many events and bytes
-abbrev pub finish_line : {T : Type 0} → ℕ → ℕ → Result T Fault → List ℕ
-finish_line events used (Ok done) = count_text events used
-finish_line events used (Err fault) = fault_text fault used
-
-abbrev pub finish_status : {T : Type 0} → Result T Fault → ℕ
-finish_status (Ok done) = 0
-finish_status (Err fault) = 1
-
 -- the bytes w were taken from the input, and read as the events up to the outcome
-abbrev pub ReadsInput : Framing → ℕ → Device → Device → List ℕ → List Event → Result Report Stop → Type 0
-ReadsInput framing limit input rest w events outcome = Consumes input.bytes rest.bytes w
-    × EndsReading framing Spells IsRecordFault limit READS_MOST input.counts rest.counts rest.bytes w events outcome
+abbrev pub ReadsInput : Framing → ℕ → ℕ → Device → Device → List ℕ → List Event → Result Report Stop → Type 0
+ReadsInput framing limit reads input rest w events outcome = Consumes input.bytes rest.bytes w
+    × EndsReading framing Spells IsEventRefusal limit reads input.counts rest.counts rest.bytes w events outcome
 
 -- the bytes w were taken from the input and read as the events up to the outcome, and its line was printed
-abbrev pub Checks : Framing → ℕ → Device → Device → Device → Device → ℕ → Type 0
-Checks framing limit input rest out printed status =
-    (w : List ℕ) × (events : List Event) × (outcome : Result Report Stop) × ReadsInput framing limit input rest w events outcome
+abbrev pub Checks : Framing → ℕ → ℕ → Device → Device → Device → Device → ℕ → Type 0
+Checks framing limit reads input rest out printed status =
+    (w : List ℕ) × (events : List Event) × (outcome : Result Report Stop) × ReadsInput framing limit reads input rest w events outcome
     × Prints out printed (outcome_line (length events) outcome ++ 10 ∷ []) (outcome_status outcome) status
 
 -- the line that memory was refused before any byte was used

@@ -6,15 +6,15 @@ use Rattle.mes_event.specs.Shown.{event_lines}
 use Rattle.mes_event.specs.declared.event.Event.{Event}
 use Rattle.mes_stream.specs.Lines.{fault_text}
 use Rattle.mes_stream.specs.Framings.{GoesIn, EndsIn}
-use Rattle.mes_stream.specs.Reading.{Asked}
+use Rattle.mes_stream.specs.Reads.{AskedSome}
 use Rattle.mes_stream.specs.Stream.{saturated}
 use Rattle.mes_stream.specs.declared.stream_reader.Framing.{Framing}
 use Rattle.mes_stream.specs.declared.fault.Fault.TheVariants.{NoMemory}
 use Rattle.mes_stream.specs.declared.fault.Report.{Report}
 use Rattle.mes_stream.specs.declared.fault.Stop.{Stop}
-use Rattle.mes_run.specs.Printing.{Device, GoesOut, IsCutOff, Prints, ReadsInput, Checks, outcome_line, outcome_status}
+use Rattle.mes_frame.specs.Devices.{Device}
+use Rattle.mes_run.specs.Printing.{GoesOut, IsCutOff, Prints, ReadsInput, Checks, outcome_line, outcome_status}
 use Rattle.mes_stream.specs.declared.limits.TheConstants.{READ_MOST}
-use Rattle.mes_run.specs.declared.limits.TheConstants.{READS_MOST}
 use Rattle.mes_run.specs.declared.following.Detail.{Detail}
 use Rattle.mes_run.specs.declared.following.Detail.TheVariants.{Counts, Lines}
 use Rattle.mes_run.specs.declared.following.Unshown.{Unshown}
@@ -57,23 +57,23 @@ Spelt framing limit w events =
     × (GoesIn framing Spells limit front events ⊎ EndsIn framing Spells limit front events)
 
 -- the bytes w were taken from the input, by reads that each gave some, and have the events
-abbrev pub TakesEvents : Framing → ℕ → Device → Device → List ℕ → List Event → Type 0
-TakesEvents framing limit input rest w events = Consumes input.bytes rest.bytes w × Spelt framing limit w events
-    × ((made : ℕ) × Asked READS_MOST input.counts rest.counts w made 0 0)
+abbrev pub TakesEvents : Framing → ℕ → ℕ → Device → Device → List ℕ → List Event → Type 0
+TakesEvents framing limit reads input rest w events = Consumes input.bytes rest.bytes w × Spelt framing limit w events
+    × AskedSome reads input.counts rest.counts w 0 0
 
 -- The bytes w were taken from the input. They were read as the events up to the outcome, and the lines of the events and the
 -- line of the outcome were printed. Or the lines of the events that were there were cut off. Or memory was refused for the
 -- lines of an event: those before it and the fault, with no count of bytes, were printed.
-abbrev pub Shows : Framing → ℕ → Device → Device → Device → Device → ℕ → Type 0
-Shows framing limit input rest out printed status =
+abbrev pub Shows : Framing → ℕ → ℕ → Device → Device → Device → Device → ℕ → Type 0
+Shows framing limit reads input rest out printed status =
     (w : List ℕ) × (events : List Event)
-    × (((outcome : Result Report Stop) × ReadsInput framing limit input rest w events outcome
+    × (((outcome : Result Report Stop) × ReadsInput framing limit reads input rest w events outcome
     × Prints out printed (lines_from 1 events ++ (outcome_line (length events) outcome ++ 10 ∷ [])) (outcome_status outcome) status)
-    ⊎ (TakesEvents framing limit input rest w events × IsCutOff out printed (lines_from 1 events) × (status ≡ 1))
-    ⊎ ((event : Event) × (more : List Event) × TakesEvents framing limit input rest w (events ++ event ∷ more)
+    ⊎ (TakesEvents framing limit reads input rest w events × IsCutOff out printed (lines_from 1 events) × (status ≡ 1))
+    ⊎ ((event : Event) × (more : List Event) × TakesEvents framing limit reads input rest w (events ++ event ∷ more)
     × Prints out printed (lines_from 1 events ++ (fault_text NoMemory 0 ++ 10 ∷ [])) 1 status))
 
 -- the events were checked, or shown
-abbrev pub Follows : Detail → Framing → ℕ → Device → Device → Device → Device → ℕ → Type 0
-Follows Counts framing limit input rest out printed status = Checks framing limit input rest out printed status
-Follows Lines framing limit input rest out printed status = Shows framing limit input rest out printed status
+abbrev pub Follows : Detail → Framing → ℕ → ℕ → Device → Device → Device → Device → ℕ → Type 0
+Follows Counts framing limit reads input rest out printed status = Checks framing limit reads input rest out printed status
+Follows Lines framing limit reads input rest out printed status = Shows framing limit reads input rest out printed status

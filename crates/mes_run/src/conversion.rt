@@ -3,7 +3,7 @@
 ghost use Rattle.std.specs.Prelude.{◌≡◌, OnOk, IfErr, List, ℕ};
 ghost use Rattle.mes_stream.specs.Sending.{StopsSending, WroteAll};
 ghost use Rattle.mes_run.specs.Converting.{Converts, IsConverted, Sends};
-ghost use Rattle.mes_run.specs.Printing.{Device};
+ghost use Rattle.mes_frame.specs.Devices.{device_of};
 
 use crate::chunk_size::ChunkSize;
 use crate::limits::READS_MOST;
@@ -25,9 +25,9 @@ pub fn convert<I: Source, O: Sink, E: Sink>(
     err: &mut E,
 ) -> u8
     ensures { Converts framing limit most
-        (record { bytes = I.left input.old; counts = I.counts input.old }) (record { bytes = I.left input.new; counts = I.counts input.new })
-        (record { bytes = O.written out.old; counts = O.counts out.old }) (record { bytes = O.written out.new; counts = O.counts out.new })
-        (record { bytes = E.written err.old; counts = E.counts err.old }) (record { bytes = E.written err.new; counts = E.counts err.new })
+        (device_of I.left I.counts input.old) (device_of I.left I.counts input.new)
+        (device_of O.written O.counts out.old) (device_of O.written O.counts out.new)
+        (device_of E.written E.counts err.old) (device_of E.written E.counts err.new)
         result }
 {
     let mut events = Vec::new(alloc);
@@ -47,8 +47,8 @@ fn send<O: Sink, E: Sink>(
     err: &mut E,
 ) -> u8
     ensures { Sends limit most events.now
-        (record { bytes = O.written out.old; counts = O.counts out.old }) (record { bytes = O.written out.new; counts = O.counts out.new })
-        (record { bytes = E.written err.old; counts = E.counts err.old }) (record { bytes = E.written err.new; counts = E.counts err.new })
+        (device_of O.written O.counts out.old) (device_of O.written O.counts out.new)
+        (device_of E.written E.counts err.old) (device_of E.written E.counts err.new)
         result }
 {
     match write_events(alloc, events, limit, most, out) {

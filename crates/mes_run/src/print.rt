@@ -1,15 +1,17 @@
 //! Texts and lines that are printed, and the exit status.
 
-ghost use Rattle.std.specs.Prelude.{◌≡◌, ◌+◌, ◌≤◌, [], ◌∷◌, ◌++◌, length};
+ghost use Rattle.std.specs.Prelude.{◌≡◌, ◌≤◌, [], ◌∷◌, ◌++◌, length};
+ghost use Rattle.mes_frame.specs.Devices.{device_of};
 ghost use Rattle.mes_stream.specs.Lines.{fault_text, count_text};
-ghost use Rattle.mes_stream.specs.Stream.{saturated};
 ghost use Rattle.mes_stream.specs.SendLines.{send_text};
-ghost use Rattle.mes_run.specs.Printing.{LacksMemory, Prints, finish_line, finish_status};
+ghost use Rattle.mes_run.specs.Printing.{LacksMemory, Prints, outcome_line, outcome_status};
 
 use crate::limits::LINE_MOST;
 use arrayvec::ArrayString;
 use mes_frame::{Sink, write_all};
-use mes_stream::{FAULT_LINE_MOST, Fault, Halt, SendFault, count_line, fault_line, send_line};
+use mes_stream::{
+    FAULT_LINE_MOST, Fault, Report, SendFault, Stop, count_line, fault_line, send_line,
+};
 
 /// The status of a good run.
 pub const GOOD: u8 = 0;
@@ -19,7 +21,7 @@ pub const FAULT: u8 = 1;
 
 /// Prints a text, and answers the status that is meant, or 1 where the writer failed.
 pub fn print_text<O: Sink>(out: &mut O, text: &str, status: u8) -> u8
-    ensures { Prints (record { bytes = O.written out.old; counts = O.counts out.old }) (record { bytes = O.written out.new; counts = O.counts out.new })
+    ensures { Prints (device_of O.written O.counts out.old) (device_of O.written O.counts out.new)
         text.now status result }
 {
     match write_all(out, text.as_bytes()) {
@@ -30,14 +32,14 @@ pub fn print_text<O: Sink>(out: &mut O, text: &str, status: u8) -> u8
 
 /// Tells that memory was refused before any byte was read. Answers the status.
 pub fn out_of_memory<O: Sink>(out: &mut O) -> u8
-    ensures { LacksMemory (record { bytes = O.written out.old; counts = O.counts out.old }) (record { bytes = O.written out.new; counts = O.counts out.new }) result }
+    ensures { LacksMemory (device_of O.written O.counts out.old) (device_of O.written O.counts out.new) result }
 {
     print_fault(out, &Fault::NoMemory, 0)
 }
 
 /// Prints the line of so many events in so many bytes. Answers the status.
 pub(crate) fn print_count<O: Sink>(out: &mut O, events: u64, used: u64) -> u8
-    ensures { Prints (record { bytes = O.written out.old; counts = O.counts out.old }) (record { bytes = O.written out.new; counts = O.counts out.new })
+    ensures { Prints (device_of O.written O.counts out.old) (device_of O.written O.counts out.new)
         (count_text events used ++ 10 ∷ []) 0 result }
 {
     let mut line = ArrayString::new();
@@ -45,25 +47,20 @@ pub(crate) fn print_count<O: Sink>(out: &mut O, events: u64, used: u64) -> u8
     print(out, line.as_str(), GOOD)
 }
 
-/// Prints the line of what the end of the input means behind so many events and bytes. Answers the status.
-pub(crate) fn print_finish<O: Sink>(
-    out: &mut O,
-    events: u64,
-    used: u64,
-    finish: &Result<(), Fault>,
-) -> u8
-    ensures { Prints (record { bytes = O.written out.old; counts = O.counts out.old }) (record { bytes = O.written out.new; counts = O.counts out.new })
-        (finish_line events used finish.now ++ 10 ∷ []) (finish_status finish.now) result }
+/// Prints the line of what a stream came to, behind so many events. Answers the status.
+pub(crate) fn print_outcome<O: Sink>(out: &mut O, events: u64, outcome: &Result<Report, Stop>) -> u8
+    ensures { Prints (device_of O.written O.counts out.old) (device_of O.written O.counts out.new)
+        (outcome_line events outcome.now ++ 10 ∷ []) (outcome_status outcome.now) result }
 {
-    match finish {
-        Ok(()) => print_count(out, events, used),
-        Err(fault) => print_fault(out, fault, used),
+    match outcome {
+        Ok(report) => print_count(out, events, report.used),
+        Err(stop) => print_fault(out, &stop.fault, stop.used),
     }
 }
 
 /// Prints the line of a fault behind so many bytes. Answers the status.
 pub(crate) fn print_fault<O: Sink>(out: &mut O, fault: &Fault, used: u64) -> u8
-    ensures { Prints (record { bytes = O.written out.old; counts = O.counts out.old }) (record { bytes = O.written out.new; counts = O.counts out.new })
+    ensures { Prints (device_of O.written O.counts out.old) (device_of O.written O.counts out.new)
         (fault_text fault.now used ++ 10 ∷ []) 1 result }
 {
     let mut line = ArrayString::new();
@@ -71,20 +68,9 @@ pub(crate) fn print_fault<O: Sink>(out: &mut O, fault: &Fault, used: u64) -> u8
     print(out, line.as_str(), FAULT)
 }
 
-/// Prints the line of what stopped the reading of a piece that stands behind so many bytes. Answers the status. Out of line, since
-/// a fault is large and seldom told.
-#[inline(never)]
-pub(crate) fn print_halt<O: Sink>(out: &mut O, halt: Halt, before: u64) -> u8
-    ensures { Prints (record { bytes = O.written out.old; counts = O.counts out.old }) (record { bytes = O.written out.new; counts = O.counts out.new })
-        (fault_text halt.fault (saturated (before + halt.used)) ++ 10 ∷ []) 1 result }
-{
-    let used = before.saturating_add(halt.used as u64);
-    print_fault(out, &halt.fault.into_fault(), used)
-}
-
 /// Prints the line of what stopped the sending of events. Answers the status.
 pub(crate) fn print_send_fault<O: Sink>(out: &mut O, fault: &SendFault) -> u8
-    ensures { Prints (record { bytes = O.written out.old; counts = O.counts out.old }) (record { bytes = O.written out.new; counts = O.counts out.new })
+    ensures { Prints (device_of O.written O.counts out.old) (device_of O.written O.counts out.new)
         (send_text fault.now ++ 10 ∷ []) 1 result }
 {
     let mut line = ArrayString::new();
@@ -95,7 +81,7 @@ pub(crate) fn print_send_fault<O: Sink>(out: &mut O, fault: &SendFault) -> u8
 /// Prints a line, and answers the status, or 1 where the writer failed.
 fn print<O: Sink>(out: &mut O, line: &str, status: u8) -> u8
     requires { length line.now ≤ FAULT_LINE_MOST }
-    ensures { Prints (record { bytes = O.written out.old; counts = O.counts out.old }) (record { bytes = O.written out.new; counts = O.counts out.new })
+    ensures { Prints (device_of O.written O.counts out.old) (device_of O.written O.counts out.new)
         (line.now ++ 10 ∷ []) status result }
 {
     let mut text = ArrayString::<LINE_MOST>::new();

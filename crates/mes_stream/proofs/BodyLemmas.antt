@@ -6,11 +6,12 @@ use Rattle.mes_frame.proofs.Records.{begun_of, data_goes_on}
 use Rattle.mes_frame.specs.Record.{IsRecord, Begun, DataBegun}
 use Rattle.mes_frame.specs.RecordState.{RecordStands, limit_of}
 use Rattle.mes_stream.specs.Stream.{saturated, Records, Behind, BodyLive, number_after, EndsRecord, InData, BodyStops}
-use Rattle.mes_stream.specs.Framings.{GoesIn, EndsRecordIn, StopsIn, StopsWithin}
+use Rattle.mes_stream.specs.Framings.{GoesIn, EndsRecordIn, StopsIn, SaysIn, StopsWithin}
 use Rattle.mes_stream.specs.declared.stream_reader.Framing.{Framing}
-use Rattle.mes_stream.specs.Taking.{BodyStands, Taken, Ends, answer_of, fault_of_record}
-use Rattle.mes_record.specs.declared.record.RecordFault.{RecordFault}
-use Rattle.mes_record.specs.declared.record.RecordFault.TheVariants as refusal
+use Rattle.mes_stream.specs.declared.stream_reader.Framing.TheVariants.{Plain}
+use Rattle.mes_stream.specs.Taking.{BodyStands, Ends, answer_of, fault_of_record}
+use Rattle.mes_stream.specs.declared.refusal.RecordRefusal.{RecordRefusal}
+use Rattle.mes_stream.specs.declared.refusal.RecordRefusal.TheVariants as refusal
 use Rattle.mes_stream.specs.declared.fault.Fault.{Fault}
 use Rattle.mes_stream.specs.declared.fault.Fault.TheVariants.{NoMemory}
 use Rattle.mes_stream.specs.declared.body.Body.{Body}
@@ -118,22 +119,24 @@ module _ {R E : Type 0} (holds : R → List ℕ → Type 0) (spells : List ℕ �
       behind_on d b (take (count - 1) run) values s (λ x. (r : List ℕ) × IsRecord (x ++ slice_index run (count - 1) ∷ []) r (limit_of d.records) × Is r)
       (r, subst (λ (y : List ℕ). IsRecord y r (limit_of d.records)) (ap (λ (y : List ℕ). s.x ++ y) whole ∙ sym (append_assoc s.x (take (count - 1) run) (get_or run (count - 1) 0 ∷ []))) is, h)
 
-  module _ (breaks : List ℕ → RecordFault → Type 0) where
+  module _ (breaks : List ℕ → RecordRefusal → Type 0) where
     -- the record that ended so has no value, or its value wanted memory
-    pub refused_with : (d : Body R) (b run r : List ℕ) (values : List E) (count : ℕ) (why : RecordFault) (s : BodyStands holds spells d b values) → 0 < count → count ≤ length run
+    pub refused_with : (d : Body R) (b run r : List ℕ) (values : List E) (count : ℕ) (why : RecordRefusal) (s : BodyStands holds spells d b values) → 0 < count → count ≤ length run
         → IsRecord (s.x ++ take count run) r (limit_of d.records) → breaks r why → (why ≡ refusal.NoMemory → InData spells (limit_of d.records) (b ++ take (count - 1) run) values)
         → BodyStops spells breaks (limit_of d.records) (b ++ take (count - 1) run) values (slice_index run (count - 1)) (fault_of_record d.done why)
     refused_with d b run r values count (refusal.Text f) s some within is h memory =
         inl (ends_with d b run r values count s (λ r. breaks r (refusal.Text (record { byte = f.byte; why = f.why }))) some within is h, number_of d b values s)
     refused_with d b run r values count (refusal.Field f) s some within is h memory =
         inl (ends_with d b run r values count s (λ r. breaks r (refusal.Field (record { path = f.path; why = f.why }))) some within is h, number_of d b values s)
+    refused_with d b run r values count refusal.BadEntry s some within is h memory =
+        inl (ends_with d b run r values count s (λ r. breaks r refusal.BadEntry) some within is h, number_of d b values s)
     refused_with d b run r values count refusal.NoMemory s some within is h memory = inr (refl, memory refl)
 
     -- the record has ended with a run of data
     pub ends_as : (d mid new : Body R) (b run : List ℕ) (values : List E) (count left : ℕ) (answer : Result E Fault) (s : BodyStands holds spells d b values) → 0 < count → count ≤ length run → count ≤ left
         → DataBegun s.x s.r left (limit_of d.records) → mid.done ≡ d.done → limit_of new.records ≡ limit_of d.records
         → IsRecord (s.x ++ take count run) (s.r ++ take count run) (limit_of d.records) → RecordStands new.records [] []
-        → Ends holds spells breaks mid new (s.r ++ take count run) answer → Taken holds spells breaks new b values run count (answer_of answer)
+        → Ends holds spells breaks mid new (s.r ++ take count run) answer → SaysIn Plain (BodyStands holds spells new) spells breaks (limit_of new.records) b values run count (answer_of answer)
     ends_as d mid new b run values count left (Ok value) s some within inside begun done limit is state (says, ready, more) = (
       stands_value d new b (take count run) (s.r ++ take count run) values value s (more ∙ ap (λ (n : ℕ). saturated (n + 1)) done) limit ready is state says,
       rw limit (ends_with d b run (s.r ++ take count run) values count s (λ r. spells r value) some within is says),
@@ -151,7 +154,7 @@ run_split : (rest : List ℕ) (m : ℕ) → m < length rest → rest ≡ take m 
 run_split rest m lt =
     sym (take-append-drop (m + 1) rest) ∙ rw (take_more rest m 0 lt) (append_assoc (take m rest) (get_or rest m 0 ∷ []) (drop (m + 1) rest))
 
-module _ {E : Type 0} (framing : Framing) (spells : List ℕ → E → Type 0) (breaks : List ℕ → RecordFault → Type 0) where
+module _ {E : Type 0} (framing : Framing) (spells : List ℕ → E → Type 0) (breaks : List ℕ → RecordRefusal → Type 0) where
   -- a byte of what is left of a piece stops the reading
   pub stops_in : (limit : ℕ) (b piece : List ℕ) (values : List E) (fault : Fault) (at used : ℕ) → at ≤ length piece → 0 < used → used ≤ length (drop at piece)
       → GoesIn framing spells limit ((b ++ take at piece) ++ take (used - 1) (drop at piece)) values

@@ -1,13 +1,16 @@
 mod BodyLemmas
 mod ChunkLemmas
 mod DecoderLemmas
+mod EntryLemmas
+mod EventLemmas
 mod FramingLemmas
 mod Grows
 mod PlainLaw
 pub mod ReadLemmas
-mod SendLemmas
+pub mod ReadingLemmas
+pub mod SendLemmas
 mod SizeLemmas
 mod SomeReading
 mod StreamLaw
 pub mod StreamLemmas
-mod TurnLemmas
+mod TellsLemmas

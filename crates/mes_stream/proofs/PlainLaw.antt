@@ -4,8 +4,8 @@ use Rattle.mes_frame.proofs.OneReading.{one_reading, one_record}
 use Rattle.mes_frame.specs.Record.{IsRecord, Begun, SizeShows}
 use Rattle.mes_frame.specs.RecordReading.{RecordReading, ReadsRecord, Begins, Whole, Broken}
 use Rattle.mes_frame.specs.declared.fault.FrameFault.{FrameFault}
-use Rattle.mes_record.specs.declared.record.RecordFault.{RecordFault}
-use Rattle.mes_record.specs.declared.record.RecordFault.TheVariants as refusal
+use Rattle.mes_stream.specs.declared.refusal.RecordRefusal.{RecordRefusal}
+use Rattle.mes_stream.specs.declared.refusal.RecordRefusal.TheVariants as refusal
 use Rattle.mes_stream.specs.Stream.{Records, BodyShows, EndsInside}
 use Rattle.mes_stream.specs.Taking.{fault_of_record}
 use Rattle.mes_stream.specs.PlainReading.{IsExact, PlainReading, Goes, Stops, ReadsPlain}
@@ -16,7 +16,7 @@ use Rattle.mes_stream.specs.declared.fault.Fault.TheVariants.{Frame, EndsInsideC
 data Tail : Type 0 where
   Front : Tail
   Bad : (x : List ℕ) (c : ℕ) (fault : FrameFault) → Tail
-  Refused : (x : List ℕ) (c : ℕ) (why : RecordFault) → Tail
+  Refused : (x : List ℕ) (c : ℕ) (why : RecordRefusal) → Tail
 
 pub same_last : (x y : List ℕ) (c d : ℕ) → x ++ c ∷ [] ≡ y ++ d ∷ [] → (x ≡ y) × (c ≡ d)
 same_last [] [] c d same = (refl, cc)
@@ -31,7 +31,7 @@ same_last (a ∷ x) (b ∷ y) c d same =
     let front : x ≡ y = one.0 in
     (cc, one.1)
 
-module _ {E : Type 0} (spells : List ℕ → E → Type 0) (breaks : List ℕ → RecordFault → Type 0) (exact : IsExact spells breaks) (limit : ℕ) where
+module _ {E : Type 0} (spells : List ℕ → E → Type 0) (breaks : List ℕ → RecordRefusal → Type 0) (exact : IsExact spells breaks) (limit : ℕ) where
   IsTail : List ℕ → Tail → Type 0
   IsTail t Front = (r : List ℕ) × Begun t r limit
   IsTail t (Bad x c fault) = (rest : List ℕ) × (t ≡ x ++ c ∷ rest) × SizeShows x c limit fault
@@ -158,7 +158,16 @@ module _ {E : Type 0} (spells : List ℕ → E → Type 0) (breaks : List ℕ �
   found_stop w front byte values NoMemory rest is shows = absurd shows
   found_stop w front byte values Read rest is shows = absurd shows
   found_stop w front byte values ReadsSpent rest is shows = absurd shows
-  found_stop w front byte values (BadEntry at_record) rest is shows = absurd shows
+  found_stop w front byte values (BadEntry at) rest is (shows, number) = record {
+    whole = shows.whole;
+    t = shows.x ++ byte ∷ rest;
+    values = values;
+    tail = Refused shows.x byte refusal.BadEntry;
+    records = shows.records;
+    is_tail = (rest, shows.is.0, refl, shows.is.1, shows.is.2, λ none. absurd (cc));
+    spelt = is ∙ ap (λ (y : List ℕ). y ++ byte ∷ rest) shows.spelt ∙ append_assoc shows.whole shows.x (byte ∷ rest);
+    is = ap₂ (λ (y : List ℕ) (n : ℕ). Stops y byte values (BadEntry n)) shows.spelt number;
+  }
 
   found : (w : List ℕ) (reading : PlainReading E) → ReadsPlain spells breaks limit w reading → Found w reading
   unfolding IsTail reading_of

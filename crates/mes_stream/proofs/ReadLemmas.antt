@@ -1,36 +1,22 @@
--- The reading of a stream, read by read.
-use Rattle.std.proofs.Common.{◌≡◌, ℕ, ◌+◌, ◌-◌, ◌<◌, ◌≤◌, Option, None, Some, List, [], ◌++◌, length, take, drop, sym, ◌∙◌, ap, append_assoc, append-nil, arith, refl, subst, length-append, length-take-le, take-append-drop, Result, Ok, Err, inl, inr}
+-- The reads of a device, one by one, and what they count.
+use Rattle.std.proofs.Common.{◌≡◌, ℕ, ◌+◌, ◌-◌, ◌<◌, ◌≤◌, Option, List, [], ◌++◌, length, take, sym, ◌∙◌, ap, append-nil, arith, refl, subst, length-append, length-take-le, lit≤}
 use Rattle.std.specs.Io.KnownBytes.{Consumes, Keeps, IsAtEnd}
 use Rattle.std.proofs.KnownBytes.{Consumes-nil, Consumes-trans, Consumes-kept}
 use Rattle.std.specs.Prelude.{nat_lt, ◌==◌, ◌&&◌}
 use Rattle.std.proofs.Common.{true, false}
 use Rattle.std.proofs.lemmas.Bool.Decides.{nat_tests}
-use Rattle.std.proofs.lemmas.List.{drop-take}
 use Rattle.mes_frame.specs.Counts.{up, up_if}
 use Rattle.mes_frame.specs.declared.counts.Counts.{Counts}
-use Rattle.mes_record.specs.declared.record.RecordFault.{RecordFault}
-use Rattle.mes_stream.specs.Stream.{saturated}
-use Rattle.mes_stream.specs.Framings.{InputEnds}
-use Rattle.mes_stream.specs.StreamReaders.{StreamStands, StreamFeeds}
-use Rattle.mes_stream.specs.Reading.{Asked, EndsReading}
-use Rattle.mes_stream.specs.declared.fault.Fault.{Fault}
-use Rattle.mes_stream.specs.declared.fault.Fault.TheVariants.{Read, ReadsSpent}
-use Rattle.mes_stream.specs.declared.fault.Report.{Report}
-use Rattle.mes_stream.specs.declared.fault.Stop.{Stop}
-use Rattle.mes_stream.specs.declared.body.Halt.{Halt}
-use Rattle.mes_stream.specs.declared.stream_reader.Framing.{Framing}
-use Rattle.mes_stream.specs.declared.stream_reader.StreamReader.{StreamReader}
-use Rattle.mes_stream.proofs.StreamLemmas.{goes_of}
+use Rattle.mes_stream.specs.Reads.{Asked, EndsReads}
 use Rattle.mes_stream.specs.declared.limits.TheConstants.{READ_MOST}
+use Rattle.mes_stream.specs.declared.reads.ReadsEnd.{ReadsEnd}
+use Rattle.mes_stream.specs.declared.reads.ReadsEnd.TheVariants.{Stopped, AtEnd, Failed, Spent}
 
--- after some reads: the device gave the bytes w, the reader has taken them, and nothing failed
-pub record Reads {R E : Type 0} (holds : R → List ℕ → Type 0) (spells : List ℕ → E → Type 0) (framing : Framing) (limit : ℕ) (first now : Option (List ℕ)) (old new : Counts) (before after : List E) (d : StreamReader R) (reads used : ℕ) : Type 0 where
+-- after some reads: the device gave the bytes w, of which this holds, and nothing failed
+pub record Reads (Goes : List ℕ → Type 0) (first now : Option (List ℕ)) (old new : Counts) (reads : ℕ) : Type 0 where
   pub w : List ℕ
-  pub more : List E
   pub consumes : Consumes first now w
-  pub added : after ≡ before ++ more
-  pub stands : StreamStands holds spells d framing limit w more
-  pub used_is : used ≡ saturated (length w)
+  pub goes : Goes w
   pub asked : Asked reads old new w reads 0 0
 
 up_more : (n k : ℕ) → up (up n k) 1 ≡ up n (k + 1)
@@ -79,7 +65,7 @@ asked_more old new later reads most len count w p before left some short full co
   ends = omega arith;
 }
 
-asked_failed : (old new later : Counts) (reads most len : ℕ) (w : List ℕ) → Asked reads old new w reads 0 0 → reads < most → 0 < len → CountedFailure new later len
+pub asked_failed : (old new later : Counts) (reads most len : ℕ) (w : List ℕ) → Asked reads old new w reads 0 0 → reads < most → 0 < len → CountedFailure new later len
     → Asked most old later w (reads + 1) 1 0
 asked_failed old new later reads most len w before left full counted = record {
   most = omega (arith, left);
@@ -90,7 +76,7 @@ asked_failed old new later reads most len w before left full counted = record {
   ends = omega arith;
 }
 
-asked_ended : (old new later : Counts) (reads most len : ℕ) (w : List ℕ) → Asked reads old new w reads 0 0 → reads < most → 0 < len → Counted new later len 0
+pub asked_ended : (old new later : Counts) (reads most len : ℕ) (w : List ℕ) → Asked reads old new w reads 0 0 → reads < most → 0 < len → Counted new later len 0
     → Asked most old later w (reads + 1) 0 1
 asked_ended old new later reads most len w before left full counted = record {
   most = omega (arith, left);
@@ -101,157 +87,59 @@ asked_ended old new later reads most len w before left full counted = record {
   ends = omega arith;
 }
 
--- the rest of what a read gave
-range_behind : (xs : List ℕ) (at count : ℕ) → at ≤ count → take (count - at) (drop at xs) ≡ drop at (take count xs)
-range_behind xs at count inside =
-    let sum : at + (count - at) ≡ count = omega (arith, inside) in
-    sym (drop-take at (count - at) xs) ∙ ap (λ (n : ℕ). drop at (take n xs)) sum
+-- what the reads came to
+abbrev pub Ended : {Z : Type 0} → (List ℕ → Type 0) → (List ℕ → List ℕ → Z → Type 0) → ℕ → Option (List ℕ) → Option (List ℕ) → Counts → Counts → ReadsEnd Z → Type 0
+Ended Goes Stops most first last old new end = (w : List ℕ) × Consumes first last w × EndsReads Goes Stops most old new last w end
 
--- what reading came to: the bytes that were taken, the values that were added, and how it ended
-abbrev pub Ended : {E : Type 0} → (List ℕ → E → Type 0) → (List ℕ → RecordFault → Type 0) → Framing → ℕ → Option (List ℕ) → Option (List ℕ) → Counts → Counts → List E → List E → ℕ → Result Report Stop → Type 0
-Ended {E = E} spells breaks framing limit first last old new before after reads result =
-    (w : List ℕ) × (more : List E) × Consumes first last w × (after ≡ before ++ more) × EndsReading framing spells breaks limit reads old new last w more result
+pub reads_start : (Goes : List ℕ → Type 0) (first : Option (List ℕ)) (old : Counts) → Goes [] → Reads Goes first first old old 0
+reads_start Goes first old goes = record {
+  w = [];
+  consumes = Consumes-nil first;
+  goes = goes;
+  asked = record { most = omega arith; bytes = omega arith; calls = omega arith; failures = omega arith; idle = omega arith; ends = omega arith };
+}
 
--- what is told of the end of the input
-abbrev pub outcome_of : ℕ → List ℕ → Result (Unit {0}) Fault → Result Report Stop → Type 0
-outcome_of used rest (Ok done) (Ok report) = (report.used ≡ used) × (report.rest.items ≡ rest)
-outcome_of used rest (Ok done) (Err stop) = ⊥
-outcome_of used rest (Err fault) (Ok report) = ⊥
-outcome_of used rest (Err fault) (Err stop) = stop ≡ record { fault = fault; used = used }
-
-module _ {R E : Type 0} (holds : R → List ℕ → Type 0) (spells : List ℕ → E → Type 0) (framing : Framing) (limit : ℕ) where
-  pub reads_start : (first : Option (List ℕ)) (old : Counts) (before : List E) (d : StreamReader R) → StreamStands holds spells d framing limit [] []
-      → Reads holds spells framing limit first first old old before before d 0 0
-  reads_start first old before d stands = record {
-    w = [];
-    more = [];
-    consumes = Consumes-nil first;
-    added = sym (append-nil before);
-    stands = stands;
-    used_is = refl;
-    asked = record { most = omega arith; bytes = omega arith; calls = omega arith; failures = omega arith; idle = omega arith; ends = omega arith };
+module _ (Goes Later : List ℕ → Type 0) (first now next : Option (List ℕ)) (old new later : Counts) (reads most len : ℕ) (r : Reads Goes first now old new reads) (left : reads < most) (full : 0 < len) where
+  -- one more read gave a piece, which was taken
+  pub reads_more : (count : ℕ) (buffer : List ℕ) → 0 < count → count ≤ length buffer → length buffer ≤ READ_MOST → Consumes now next (take count buffer) → Counted new later len count
+      → Later (r.w ++ take count buffer) → Reads Later first next old later (reads + 1)
+  reads_more count buffer some within small gives counted goes = record {
+    w = r.w ++ take count buffer;
+    consumes = Consumes-trans first now next r.w (take count buffer) r.consumes gives;
+    goes = goes;
+    asked = asked_more old new later reads (reads + 1) len count r.w (take count buffer) r.asked (omega arith) some (omega (arith, within, small, length-take-le count buffer within)) full counted;
   }
 
-  module _ (breaks : List ℕ → RecordFault → Type 0) where
-    -- one more read gave a piece, and the reader took it
-    pub reads_more : (first now next : Option (List ℕ)) (old new later : Counts) (before after added : List E) (d f : StreamReader R) (reads used len count : ℕ) (buffer : List ℕ)
-        → (r : Reads holds spells framing limit first now old new before after d reads used) → 0 < count → count ≤ length buffer → length buffer ≤ READ_MOST → 0 < len → Consumes now next (take count buffer)
-        → Counted new later len count → StreamFeeds holds spells breaks f framing limit r.w r.more (take count buffer) after added (Ok None)
-        → Reads holds spells framing limit first next old later before added f (reads + 1) (saturated (used + count))
-    reads_more first now next old new later before after added d f reads used len count buffer r some within small full gives counted feeds = record {
-      w = r.w ++ take count buffer;
-      more = r.more ++ feeds.0;
-      consumes = Consumes-trans first now next r.w (take count buffer) r.consumes gives;
-      added = feeds.1 ∙ ap (λ (x : List E). x ++ feeds.0) r.added ∙ append_assoc before r.more feeds.0;
-      stands = feeds.2;
-      used_is = (let is = r.used_is in omega (arith, is, length-append r.w (take count buffer), length-take-le count buffer within));
-      asked = asked_more old new later reads (reads + 1) len count r.w (take count buffer) r.asked (omega arith) some (omega (arith, within, small, length-take-le count buffer within)) full counted;
-    }
-
-    -- one more read failed
-    pub reads_fail : (first now next : Option (List ℕ)) (old new later : Counts) (before after : List E) (d : StreamReader R) (reads most used len : ℕ)
-        → Reads holds spells framing limit first now old new before after d reads used → reads < most → 0 < len → Keeps now next → CountedFailure new later len
-        → Ended spells breaks framing limit first next old later before after most (Err (record { fault = Read; used = used }))
-    reads_fail first now next old new later before after d reads most used len r left full kept counted = (
-      r.w,
-      r.more,
-      Consumes-kept first now next r.w r.consumes kept,
-      r.added,
-      inr (inr (inl (
-        refl,
+  -- or with which no more were wanted
+  pub reads_stop : {Z : Type 0} (Stops : List ℕ → List ℕ → Z → Type 0) (count : ℕ) (buffer : List ℕ) (why : Z) → 0 < count → count ≤ length buffer → length buffer ≤ READ_MOST → Consumes now next (take count buffer)
+      → Counted new later len count → Stops r.w (take count buffer) why → Ended Later Stops most first next old later (Stopped why)
+  reads_stop Stops count buffer why some within small gives counted stops =
+      let size : length (take count buffer) ≡ count = length-take-le count buffer within in (
+        r.w ++ take count buffer,
+        Consumes-trans first now next r.w (take count buffer) r.consumes gives,
         (
-          reads + 1,
-          record {
-            count = r.used_is;
-            live = goes_of holds spells d framing limit r.w r.more r.stands;
-            asked = asked_failed old new later reads most len r.w r.asked left full counted;
-          },
+          r.w,
+          take count buffer,
+          record { is = refl; some = omega (arith, size, some); most = omega (arith, size, within, small) },
+          stops,
+          (reads + 1, asked_more old new later reads most len count r.w (take count buffer) r.asked left some (omega (arith, within, small, size)) full counted),
         ),
-      ))),
-    )
+      )
 
-    -- the device is at its end
-    pub reads_end : (first now next : Option (List ℕ)) (old new later : Counts) (before after : List E) (d : StreamReader R) (reads most used len : ℕ) (meaning : Result (Unit {0}) Fault) (result : Result Report Stop)
-        → (r : Reads holds spells framing limit first now old new before after d reads used) → reads < most → 0 < len → Consumes now next [] → IsAtEnd next → Counted new later len 0
-        → InputEnds framing spells limit r.w r.more meaning → outcome_of used [] meaning result → Ended spells breaks framing limit first next old later before after most result
-    reads_end first now next old new later before after d reads most used len meaning result r left full none last counted ends is =
-        (r.w, r.more, rw (append-nil r.w) at (Consumes-trans first now next r.w [] r.consumes none), r.added, told meaning result ends is) where
-          told : (meaning : Result (Unit {0}) Fault) (result : Result Report Stop) → InputEnds framing spells limit r.w r.more meaning → outcome_of used [] meaning result
-              → EndsReading framing spells breaks limit most old later next r.w r.more result
-          told (Ok done) (Ok report) ends is = inr (
-            record { count = is.0 ∙ r.used_is; ends = ends; end = last; made = reads + 1; asked = asked_ended old new later reads most len r.w r.asked left full counted },
-            is.1,
-          )
-          told (Ok done) (Err stop) ends is = absurd is
-          told (Err fault) (Ok report) ends is = absurd is
-          told (Err fault) (Err stop) ends is = rw is (inr (inl (
-              record { count = r.used_is; ends = ends; end = last; made = reads + 1; asked = asked_ended old new later reads most len r.w r.asked left full counted }
-              )))
+  -- one more read failed
+  pub reads_fail : {Z : Type 0} (Stops : List ℕ → List ℕ → Z → Type 0) → Keeps now next → CountedFailure new later len → Ended Goes Stops most first next old later Failed
+  reads_fail Stops kept counted =
+      (r.w, Consumes-kept first now next r.w r.consumes kept, (r.goes, (reads + 1, asked_failed old new later reads most len r.w r.asked left full counted)))
 
-    -- the reads are spent
-    pub reads_spent : (first now : Option (List ℕ)) (old new : Counts) (before after : List E) (d : StreamReader R) (reads most used : ℕ)
-        → Reads holds spells framing limit first now old new before after d reads used → reads ≡ most
-        → Ended spells breaks framing limit first now old new before after most (Err (record { fault = ReadsSpent; used = used }))
-    reads_spent first now old new before after d reads most used r all = (
-      r.w,
-      r.more,
-      r.consumes,
-      r.added,
-      inr (inr (inr (
-        refl,
-        record {
-          count = r.used_is;
-          live = goes_of holds spells d framing limit r.w r.more r.stands;
-          asked = subst (λ (n : ℕ). Asked n old new r.w n 0 0) all r.asked;
-        },
-      ))),
-    )
+  -- the device is at its end
+  pub reads_end : {Z : Type 0} (Stops : List ℕ → List ℕ → Z → Type 0) → Consumes now next [] → IsAtEnd next → Counted new later len 0 → Ended Goes Stops most first next old later AtEnd
+  reads_end Stops none last counted = (
+    r.w,
+    rw (append-nil r.w) at (Consumes-trans first now next r.w [] r.consumes none),
+    (r.goes, last, (reads + 1, asked_ended old new later reads most len r.w r.asked left full counted)),
+  )
 
-    -- one more read gave a piece, and a byte of it stops the reading
-    pub reads_halt : (first now next : Option (List ℕ)) (old new later : Counts) (before after added : List E) (d f : StreamReader R) (reads most used len count : ℕ) (buffer : List ℕ) (halt : Halt)
-        → (r : Reads holds spells framing limit first now old new before after d reads used) → reads < most → 0 < count → count ≤ length buffer → length buffer ≤ READ_MOST → 0 < len → Consumes now next (take count buffer)
-        → Counted new later len count → StreamFeeds holds spells breaks f framing limit r.w r.more (take count buffer) after added (Err halt)
-        → Ended spells breaks framing limit first next old later before added most (Err (record { fault = halt.fault; used = saturated (used + halt.used) }))
-    reads_halt first now next old new later before after added d f reads most used len count buffer halt r left some within small full gives counted feeds =
-        let one = feeds.2 in (
-          r.w ++ take count buffer,
-          r.more ++ feeds.0,
-          Consumes-trans first now next r.w (take count buffer) r.consumes gives,
-          feeds.1 ∙ ap (λ (x : List E). x ++ feeds.0) r.added ∙ append_assoc before r.more feeds.0,
-          inl (record {
-            n = length r.w + halt.used;
-            count = (let is = r.used_is in omega (arith, is));
-            stops = feeds.3;
-            last = omega (arith, one, within, small, length-append r.w (take count buffer), length-take-le count buffer within);
-            made = reads + 1;
-            asked = asked_more old new later reads most len count r.w (take count buffer) r.asked left some (omega (arith, within, small, length-take-le count buffer within)) full counted;
-          }),
-        )
-
-    -- one more read gave a piece, and a byte of it ended the stream
-    pub reads_done : (first now next : Option (List ℕ)) (old new later : Counts) (before after added : List E) (d f : StreamReader R) (reads most used len count end : ℕ) (buffer : List ℕ) (report : Report)
-        → (r : Reads holds spells framing limit first now old new before after d reads used) → reads < most → 0 < count → count ≤ length buffer → length buffer ≤ READ_MOST → 0 < len → Consumes now next (take count buffer)
-        → Counted new later len count → StreamFeeds holds spells breaks f framing limit r.w r.more (take count buffer) after added (Ok (Some end)) → end ≤ length (take count buffer)
-        → report.used ≡ saturated (used + end) → report.rest.items ≡ take (count - end) (drop end buffer)
-        → Ended spells breaks framing limit first next old later before added most (Ok report)
-    reads_done first now next old new later before after added d f reads most used len count end buffer report r left some within small full gives counted feeds inside used_is rest_at =
-        let rest_is : report.rest.items ≡ drop end (take count buffer) = rest_at ∙ range_behind buffer end count (omega (arith, inside, length-take-le count buffer within)) in
-        let one = feeds.2 in
-        let split : r.w ++ take count buffer ≡ (r.w ++ take end (take count buffer)) ++ drop end (take count buffer) =
-        ap (λ (y : List ℕ). r.w ++ y) (sym (take-append-drop end (take count buffer))) ∙ sym (append_assoc r.w (take end (take count buffer)) (drop end (take count buffer))) in
-        let size = length-append (take end (take count buffer)) (drop end (take count buffer)) in
-        let whole = ap length (take-append-drop end (take count buffer)) in (
-          r.w ++ take count buffer,
-          r.more ++ feeds.0,
-          Consumes-trans first now next r.w (take count buffer) r.consumes gives,
-          feeds.1 ∙ ap (λ (x : List E). x ++ feeds.0) r.added ∙ append_assoc before r.more feeds.0,
-          inl (record {
-            stream = r.w ++ take end (take count buffer);
-            is = rw rest_is split;
-            count = used_is ∙ (let is = r.used_is in omega (arith, is, length-append r.w (take end (take count buffer)), length-take-le end (take count buffer) inside));
-            ends = feeds.3;
-            last = rw rest_is (omega (arith, one, within, small, size, whole, length-take-le end (take count buffer) inside, length-take-le count buffer within));
-            made = reads + 1;
-            asked = asked_more old new later reads most len count r.w (take count buffer) r.asked left some (omega (arith, within, small, length-take-le count buffer within)) full counted;
-          }),
-        )
+-- the reads are spent
+pub reads_spent : {Z : Type 0} (Goes : List ℕ → Type 0) (Stops : List ℕ → List ℕ → Z → Type 0) (first now : Option (List ℕ)) (old new : Counts) (reads most : ℕ) → Reads Goes first now old new reads → reads ≡ most
+    → Ended Goes Stops most first now old new Spent
+reads_spent Goes Stops first now old new reads most r all = (r.w, r.consumes, (r.goes, subst (λ (n : ℕ). Asked n old new r.w n 0 0) all r.asked))

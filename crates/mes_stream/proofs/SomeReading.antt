@@ -12,14 +12,14 @@ use Rattle.mes_frame.specs.declared.chunk.ChunkOut.TheVariants as out
 use Rattle.mes_frame.proofs.OneReading.{one_reading, some_reading}
 use Rattle.mes_frame.proofs.ChunkParts.{lift, open_of}
 use Rattle.mes_frame.proofs.ChunkAnswers.{answer_at}
-use Rattle.mes_record.specs.declared.record.RecordFault.{RecordFault}
-use Rattle.mes_record.specs.declared.record.RecordFault.TheVariants as refusal
+use Rattle.mes_stream.specs.declared.refusal.RecordRefusal.{RecordRefusal}
+use Rattle.mes_stream.specs.declared.refusal.RecordRefusal.TheVariants as refusal
 use Rattle.mes_stream.specs.Stream.{Records, BodyLive, EndsInside, BodyShows, number_after}
 use Rattle.mes_stream.specs.PlainReading.{IsDecided, PlainReading, ReadsPlain}
 use Rattle.mes_stream.specs.PlainReading as plain
 use Rattle.mes_stream.specs.StreamReading.{StreamReading, Goes, Ends, Stops, ReadsStream}
 use Rattle.mes_stream.specs.declared.fault.Fault.{Fault}
-use Rattle.mes_stream.specs.declared.fault.Fault.TheVariants.{Frame, EndsInsideRecord, Text, Field}
+use Rattle.mes_stream.specs.declared.fault.Fault.TheVariants.{Frame, EndsInsideRecord, Text, Field, BadEntry}
 use Rattle.mes_stream.proofs.BodyLemmas.{records_more}
 use Rattle.mes_stream.proofs.ChunkLemmas.{shows_data}
 use Rattle.mes_stream.proofs.PlainLaw.{same_last}
@@ -53,7 +53,7 @@ start_stands = record {
   content = refl;
 }
 
-module _ {E : Type 0} (spells : List ℕ → E → Type 0) (breaks : List ℕ → RecordFault → Type 0) (decided : IsDecided spells breaks) (limit : ℕ) where
+module _ {E : Type 0} (spells : List ℕ → E → Type 0) (breaks : List ℕ → RecordRefusal → Type 0) (decided : IsDecided spells breaks) (limit : ℕ) where
   -- one more byte behind a live body leaves it live, or shows a fault
   Next : List ℕ → List E → ℕ → Type 0
   Next b values c = ((more : List E) × BodyLive spells limit (b ++ c ∷ []) more) ⊎ ((fault : Fault) × BodyShows spells breaks limit b values c fault)
@@ -77,9 +77,10 @@ module _ {E : Type 0} (spells : List ℕ → E → Type 0) (breaks : List ℕ �
     )
     | inr h ↦ inr (refused h.0 h.1 h.2)
   ] where
-    refused : (f : RecordFault) → f ≢ refusal.NoMemory → breaks r f → (fault : Fault) × BodyShows spells breaks limit b values c fault
+    refused : (f : RecordRefusal) → f ≢ refusal.NoMemory → breaks r f → (fault : Fault) × BodyShows spells breaks limit b values c fault
     refused (refusal.Text f) known h = (Text (number_after values) f.byte f.why, (record { whole = live.whole; x = live.x; spelt = live.spelt; records = live.records; is = (r, is, h) }, refl))
     refused (refusal.Field f) known h = (Field (number_after values) f.path f.why, (record { whole = live.whole; x = live.x; spelt = live.spelt; records = live.records; is = (r, is, h) }, refl))
+    refused refusal.BadEntry known h = (BadEntry (number_after values), (record { whole = live.whole; x = live.x; spelt = live.spelt; records = live.records; is = (r, is, h) }, refl))
     refused refusal.NoMemory known h = absurd (known refl)
 
   -- what the bytes of the record that has begun and one more begin with

@@ -5,9 +5,10 @@ use Rattle.mes_frame.proofs.OneChunkReading.{one_reading}
 use Rattle.mes_frame.proofs.ChunkTotal.{some_reading}
 use Rattle.mes_frame.specs.ChunkFront.{IsOpen}
 use Rattle.mes_frame.specs.ChunkReading.{ChunkReading, Begins, Whole, Broken, ReadsChunks}
-use Rattle.mes_record.specs.declared.record.RecordFault.{RecordFault}
+use Rattle.mes_stream.specs.declared.refusal.RecordRefusal.{RecordRefusal}
 use Rattle.mes_stream.specs.Stream.{Records, BodyLive, BodyShows, EndsInside}
-use Rattle.mes_stream.specs.Chunked.{AtData, Shows}
+use Rattle.mes_frame.specs.Chunk.{IsChunked}
+use Rattle.mes_stream.specs.Chunked.{IsStream, AtData, Shows}
 use Rattle.mes_stream.specs.PlainReading.{IsExact}
 use Rattle.mes_stream.specs.PlainReading as plain
 use Rattle.mes_stream.specs.StreamReading.{StreamReading, Goes, Ends, Stops, ReadsStream}
@@ -61,7 +62,7 @@ data Mark : Type 0 where
   Clean : Mark
   Inside : (front : List ℕ) (c : ℕ) → Mark
 
-module _ {E : Type 0} (spells : List ℕ → E → Type 0) (breaks : List ℕ → RecordFault → Type 0) (exact : IsExact spells breaks) (limit : ℕ) where
+module _ {E : Type 0} (spells : List ℕ → E → Type 0) (breaks : List ℕ → RecordRefusal → Type 0) (exact : IsExact spells breaks) (limit : ℕ) where
   outer_of : ChunkReading → List E → Mark → StreamReading E
   outer_of (Begins body) values mark = Goes values
   outer_of (Whole front body) values Clean = Ends front values
@@ -193,7 +194,7 @@ module _ {E : Type 0} (spells : List ℕ → E → Type 0) (breaks : List ℕ �
   found_stop w front rest byte values NoMemory is shows = absurd shows
   found_stop w front rest byte values Read is shows = absurd shows
   found_stop w front rest byte values ReadsSpent is shows = absurd shows
-  found_stop w front rest byte values (BadEntry at_record) is shows = absurd shows
+  found_stop w front rest byte values (BadEntry at) is shows = found_data w front rest byte values (BadEntry at) is shows
 
   found : (w : List ℕ) (reading : StreamReading E) → ReadsStream spells breaks limit w reading → Found w reading
   unfolding Found outer_of IsMark
@@ -214,3 +215,10 @@ module _ {E : Type 0} (spells : List ℕ → E → Type 0) (breaks : List ℕ �
       | inr g ↦ inner_inner w reading other f g
     ]
   ]
+
+-- any other chunking of the same body
+pub same_chunking : {E : Type 0} (spells : List ℕ → E → Type 0) (limit : ℕ) (w v body : List ℕ) (values : List E) → IsChunked w body → IsChunked v body → IsStream spells limit w values → IsStream spells limit v values
+same_chunking spells limit w v body values first second (other, whole, records) =
+    let both : Whole w other ≡ Whole w body = one_reading w (Whole w other) (Whole w body) ([], sym (append-nil w), whole) ([], sym (append-nil w), first) in
+    let same : other ≡ body = cc in
+    (body, second, rw same at records)

@@ -3,7 +3,7 @@ use Rattle.std.specs.Prelude.{◌≡◌, ℕ, ◌⊎◌, List, [], ◌∷◌, �
 use Rattle.mes_frame.specs.Chunk.{IsChunked}
 use Rattle.mes_frame.specs.ChunkFront.{IsOpen}
 use Rattle.mes_frame.specs.ChunkFaults.{ChunkShows}
-use Rattle.mes_record.specs.declared.record.RecordFault.{RecordFault}
+use Rattle.mes_stream.specs.declared.refusal.RecordRefusal.{RecordRefusal}
 use Rattle.mes_stream.specs.Stream.{Records, BodyLive, EndsInside, EndsRecord, BodyShows, InData}
 use Rattle.mes_stream.specs.declared.fault.Fault.{Fault}
 use Rattle.mes_stream.specs.declared.fault.Fault.TheVariants.{Frame, EndsInsideChunks, EndsInsideRecord, Text, Field, NoMemory, Read, ReadsSpent, BadEntry}
@@ -26,7 +26,7 @@ EndsWith spells limit w values c value = AtData (λ body vs. EndsRecord spells l
 
 -- The byte c behind w, which is live with the values, shows the fault: no chunked body has it there (F1 to F5); it is a byte
 -- of the body and shows it there (F7 to F9, F11, F12); or it ends the body inside a record (F10).
-abbrev pub Shows : {E : Type 0} → (List ℕ → E → Type 0) → (List ℕ → RecordFault → Type 0) → ℕ → List ℕ → List E → ℕ → Fault → Type 0
+abbrev pub Shows : {E : Type 0} → (List ℕ → E → Type 0) → (List ℕ → RecordRefusal → Type 0) → ℕ → List ℕ → List E → ℕ → Fault → Type 0
 Shows spells breaks limit w values c (Frame fault) =
     ((body : List ℕ) × ChunkShows w body c fault × BodyLive spells limit body values)
     ⊎ AtData (λ body vs. BodyShows spells breaks limit body vs c (Frame fault)) w values c
@@ -40,9 +40,10 @@ Shows spells breaks limit w values c EndsInsideChunks = ⊥
 Shows spells breaks limit w values c NoMemory = ⊥
 Shows spells breaks limit w values c Read = ⊥
 Shows spells breaks limit w values c ReadsSpent = ⊥
-Shows spells breaks limit w values c (BadEntry at_record) = ⊥
+Shows spells breaks limit w values c (BadEntry at_record) =
+    AtData (λ body vs. BodyShows spells breaks limit body vs c (BadEntry at_record)) w values c
 
 -- a fault that the byte c shows, or want of memory at a byte of a record's data: that says only what stood before
-abbrev pub Stops : {E : Type 0} → (List ℕ → E → Type 0) → (List ℕ → RecordFault → Type 0) → ℕ → List ℕ → List E → ℕ → Fault → Type 0
+abbrev pub Stops : {E : Type 0} → (List ℕ → E → Type 0) → (List ℕ → RecordRefusal → Type 0) → ℕ → List ℕ → List E → ℕ → Fault → Type 0
 Stops spells breaks limit w values c fault =
     Shows spells breaks limit w values c fault ⊎ ((fault ≡ NoMemory) × AtData (λ body vs. InData spells limit body vs) w values c)

@@ -3,7 +3,9 @@ use Rattle.std.specs.Prelude.{◌≡◌, ℕ, ◌≤◌, List, Option, None, Som
 use Rattle.mes_frame.specs.ChunkFront.{IsOpen}
 use Rattle.mes_frame.specs.Record.{Begun}
 use Rattle.mes_stream.specs.Stream.{Behind}
-use Rattle.mes_stream.specs.Decoding.{ReadingStands, reading_limit}
+use Rattle.mes_stream.specs.StreamReaders.{StreamStands, body_of}
+use Rattle.mes_stream.specs.declared.stream_reader.Framing.{Framing}
+use Rattle.mes_stream.specs.declared.stream_reader.Framing.TheVariants.{Plain, Chunked}
 use Rattle.mes_stream.specs.declared.fault.Fault.{Fault}
 use Rattle.mes_stream.specs.declared.fault.Fault.TheVariants.{EndsInsideChunks}
 use Rattle.mes_stream.specs.declared.decoder.RecordDecoder.{RecordDecoder}
@@ -11,11 +13,11 @@ use Rattle.mes_stream.specs.declared.decoder.State.{State}
 use Rattle.mes_stream.specs.declared.decoder.State.TheVariants as state
 use Rattle.mes_stream.specs.declared.decoder.Ended.{Ended}
 use Rattle.mes_stream.specs.declared.decoder.Ended.TheVariants.{Closed, Failed}
-use Rattle.mes_stream.specs.declared.reading.Out.{Out}
-use Rattle.mes_stream.specs.declared.reading.Out.TheVariants as out
+use Rattle.mes_stream.specs.declared.taken.Out.{Out}
+use Rattle.mes_stream.specs.declared.taken.Out.TheVariants as out
 
 abbrev pub end_at : {R : Type 0} → State R → Option Ended
-end_at (state.Going reading) = None
+end_at (state.Going stream) = None
 end_at (state.Ended end) = Some end
 
 -- how the stream ended, if it did
@@ -23,7 +25,7 @@ abbrev pub end_of : {R : Type 0} → RecordDecoder R → Option Ended
 end_of d = end_at d.state
 
 abbrev pub StateStands : {R E : Type 0} → (R → List ℕ → Type 0) → (List ℕ → E → Type 0) → State R → ℕ → List ℕ → List E → Type 0
-StateStands holds spells (state.Going reading) limit w values = ReadingStands holds spells reading w values × (reading_limit reading ≡ limit)
+StateStands holds spells (state.Going stream) limit w values = StreamStands holds spells stream Chunked limit w values
 StateStands holds spells (state.Ended end) limit w values = ⊥
 
 -- the decoder has taken w, which is live with the values under that limit; after the end or a fault it stands for no bytes
@@ -49,7 +51,7 @@ EndsBy end out.End = end ≡ Some Closed
 EndsBy end (out.Fault fault) = end ≡ Some (Failed fault)
 
 abbrev pub kept_at : {R : Type 0} → (R → ℕ) → State R → ℕ
-kept_at kept (state.Going reading) = kept reading.body.reader
+kept_at kept (state.Going stream) = kept (body_of stream).reader
 kept_at kept (state.Ended end) = 0
 
 -- how many bytes are kept of the record that has begun: none after the end or a fault
@@ -62,3 +64,8 @@ HoldsInBody spells room limit b values n = Behind spells limit (λ x. (r : List 
 
 abbrev pub HoldsOf : {E : Type 0} → (List ℕ → E → Type 0) → (List ℕ → ℕ) → ℕ → List ℕ → List E → ℕ → Type 0
 HoldsOf spells room limit w values n = (body : List ℕ) × IsOpen w body × HoldsInBody spells room limit body values n
+
+-- the same of a stream of either framing
+abbrev pub HoldsIn : {E : Type 0} → Framing → (List ℕ → E → Type 0) → (List ℕ → ℕ) → ℕ → List ℕ → List E → ℕ → Type 0
+HoldsIn Plain spells room limit w values n = HoldsInBody spells room limit w values n
+HoldsIn Chunked spells room limit w values n = HoldsOf spells room limit w values n

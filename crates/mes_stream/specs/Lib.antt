@@ -6,12 +6,12 @@ pub mod Framings
 pub mod Lines
 pub mod PlainReading
 pub mod Reading
+pub mod Reads
 pub mod SendLines
 pub mod Sending
 pub mod Stream
 pub mod StreamReaders
 pub mod StreamReading
-pub mod RecordFaults
+pub mod Refusals
 pub mod SmallFaults
 pub mod Taking
-pub mod Turning

@@ -2,8 +2,8 @@
 -- which value, and why data spell none, are given: `spells` and `breaks`.
 use Rattle.std.specs.Prelude.{◌≡◌, ◌≢◌, ℕ, ◌+◌, ◌-◌, ◌^◌, ◌⊎◌, min, List, [], ◌∷◌, ◌++◌, length}
 use Rattle.mes_frame.specs.Record.{IsRecord, Begun, DataBegun, SizeShows}
-use Rattle.mes_record.specs.declared.record.RecordFault.{RecordFault}
-use Rattle.mes_record.specs.declared.record.RecordFault.TheVariants as refusal
+use Rattle.mes_stream.specs.declared.refusal.RecordRefusal.{RecordRefusal}
+use Rattle.mes_stream.specs.declared.refusal.RecordRefusal.TheVariants as refusal
 use Rattle.mes_stream.specs.declared.fault.Fault.{Fault}
 use Rattle.mes_stream.specs.declared.fault.Fault.TheVariants.{Frame, EndsInsideChunks, EndsInsideRecord, Text, Field, NoMemory, Read, ReadsSpent, BadEntry}
 
@@ -44,7 +44,7 @@ EndsRecord spells limit b values c Is = Behind spells limit (λ x. (r : List ℕ
 
 -- behind the bytes b, which are live, the byte c shows the fault: no size line has it there, or it ends a record that
 -- spells no value
-abbrev pub BodyShows : {E : Type 0} → (List ℕ → E → Type 0) → (List ℕ → RecordFault → Type 0) → ℕ → List ℕ → List E → ℕ → Fault → Type 0
+abbrev pub BodyShows : {E : Type 0} → (List ℕ → E → Type 0) → (List ℕ → RecordRefusal → Type 0) → ℕ → List ℕ → List E → ℕ → Fault → Type 0
 BodyShows spells breaks limit b values c (Frame fault) = Behind spells limit (λ x. SizeShows x c limit fault) b values
 BodyShows spells breaks limit b values c (Text at_record byte why) =
     EndsRecord spells limit b values c (λ r. breaks r (refusal.Text (record { byte = byte; why = why }))) × (at_record ≡ number_after values)
@@ -55,13 +55,14 @@ BodyShows spells breaks limit b values c EndsInsideRecord = ⊥
 BodyShows spells breaks limit b values c NoMemory = ⊥
 BodyShows spells breaks limit b values c Read = ⊥
 BodyShows spells breaks limit b values c ReadsSpent = ⊥
-BodyShows spells breaks limit b values c (BadEntry at_record) = ⊥
+BodyShows spells breaks limit b values c (BadEntry at_record) =
+    EndsRecord spells limit b values c (λ r. breaks r refusal.BadEntry) × (at_record ≡ number_after values)
 
 -- the next byte behind the bytes b is a byte of a record's data
 abbrev pub InData : {E : Type 0} → (List ℕ → E → Type 0) → ℕ → List ℕ → List E → Type 0
 InData spells limit b values = Behind spells limit (λ x. (r : List ℕ) × (left : ℕ) × DataBegun x r left limit) b values
 
 -- a fault that the byte c shows, or want of memory at a byte of data: that says only what stood before
-abbrev pub BodyStops : {E : Type 0} → (List ℕ → E → Type 0) → (List ℕ → RecordFault → Type 0) → ℕ → List ℕ → List E → ℕ → Fault → Type 0
+abbrev pub BodyStops : {E : Type 0} → (List ℕ → E → Type 0) → (List ℕ → RecordRefusal → Type 0) → ℕ → List ℕ → List E → ℕ → Fault → Type 0
 BodyStops spells breaks limit b values c fault =
     BodyShows spells breaks limit b values c fault ⊎ ((fault ≡ NoMemory) × InData spells limit b values)

@@ -3,18 +3,17 @@ use Rattle.std.specs.Prelude.{◌≡◌, ℕ, ◌+◌, ◌-◌, ◌^◌, ◌<◌
 use Rattle.mes_frame.specs.Record.{IsRecord, Begun, DataBegun, SizeShows}
 use Rattle.mes_frame.specs.RecordState.{RecordStands, RecordPasses, limit_of}
 use Rattle.mes_frame.specs.declared.record.RecordState.{RecordState}
-use Rattle.mes_record.specs.declared.record.RecordFault.{RecordFault}
-use Rattle.mes_stream.specs.Stream.{saturated, Records, EndsRecord, BodyStops}
+use Rattle.mes_stream.specs.declared.refusal.RecordRefusal.{RecordRefusal}
+use Rattle.mes_stream.specs.Stream.{saturated, Records}
 use Rattle.mes_stream.specs.declared.fault.Fault.{Fault}
-use Rattle.mes_stream.specs.RecordFaults.{fault_at_record}
-use Rattle.mes_stream.specs.Framings.{StopsWithin}
+use Rattle.mes_stream.specs.Refusals.{fault_at_record}
+use Rattle.mes_stream.specs.Framings.{SaysIn}
 use Rattle.mes_stream.specs.declared.body.Body.{Body}
-use Rattle.mes_stream.specs.declared.body.Halt.{Halt}
-use Rattle.mes_stream.specs.declared.body.BodyOut.{BodyOut}
-use Rattle.mes_stream.specs.declared.body.BodyOut.TheVariants as body_out
-use Rattle.mes_stream.specs.declared.reading.Out.{Out}
-use Rattle.mes_stream.specs.declared.reading.Out.TheVariants as out
-use Rattle.mes_stream.specs.declared.stream_reader.Framing.TheVariants.{Plain}
+use Rattle.mes_stream.specs.declared.stream_reader.Framing.{Framing}
+use Rattle.mes_stream.specs.declared.taken.Out.{Out}
+use Rattle.mes_stream.specs.declared.taken.Out.TheVariants as out
+use Rattle.mes_stream.specs.declared.taken.SoFar.{SoFar}
+use Rattle.mes_stream.specs.declared.taken.SoFar.TheVariants as so_far
 use Rattle.mes_stream.specs.declared.body.Front.{Front}
 use Rattle.mes_stream.specs.declared.body.Front.TheVariants.{Size, Data, Empty, Bad}
 
@@ -47,24 +46,13 @@ Fronts new x r run Empty = IsRecord (x ++ slice_index run 0 ∷ []) [] (limit_of
 Fronts new x r run (Bad fault) = SizeShows x (slice_index run 0) (limit_of new) fault
 
 -- a refusal of the record behind so many
-abbrev pub fault_of_record : ℕ → RecordFault → Fault
+abbrev pub fault_of_record : ℕ → RecordRefusal → Fault
 fault_of_record done why = fault_at_record (saturated (done + 1)) why
 
--- What became of the first `used` bytes of the run: they were taken, or a record ended with them and has that value, or
--- the last of them stopped the reading.
-abbrev pub Taken : {R E : Type 0} → (R → List ℕ → Type 0) → (List ℕ → E → Type 0) → (List ℕ → RecordFault → Type 0) → Body R → List ℕ → List E → List ℕ → ℕ → Out E → Type 0
-Taken holds spells breaks new b values run used out.More = BodyStands holds spells new (b ++ take used run) values
-Taken holds spells breaks new b values run used (out.Event value) =
-    BodyStands holds spells new (b ++ take used run) (values ++ value ∷ [])
-    × EndsRecord spells (limit_of new.records) (b ++ take (used - 1) run) values (slice_index run (used - 1)) (λ r. spells r value)
-Taken holds spells breaks new b values run used out.End = ⊥
-Taken holds spells breaks new b values run used (out.Fault fault) =
-    BodyStops spells breaks (limit_of new.records) (b ++ take (used - 1) run) values (slice_index run (used - 1)) fault
-
 -- the value of the record whose data r has ended, or why there is none
-abbrev pub Ends : {R E : Type 0} → (R → List ℕ → Type 0) → (List ℕ → E → Type 0) → (List ℕ → RecordFault → Type 0) → Body R → Body R → List ℕ → Result E Fault → Type 0
+abbrev pub Ends : {R E : Type 0} → (R → List ℕ → Type 0) → (List ℕ → E → Type 0) → (List ℕ → RecordRefusal → Type 0) → Body R → Body R → List ℕ → Result E Fault → Type 0
 Ends holds spells breaks old new r (Ok value) = spells r value × holds new.reader [] × (new.done ≡ saturated (old.done + 1))
-Ends holds spells breaks old new r (Err fault) = (why : RecordFault) × breaks r why × (fault ≡ fault_of_record old.done why)
+Ends holds spells breaks old new r (Err fault) = (why : RecordRefusal) × breaks r why × (fault ≡ fault_of_record old.done why)
 
 -- what the end of a record is for who reads it
 abbrev pub answer_of : {E : Type 0} → Result E Fault → Out E
@@ -72,21 +60,16 @@ answer_of (Ok value) = out.Event value
 answer_of (Err fault) = out.Fault fault
 
 -- a record has ended, and whatever its value is read to, that is so
-abbrev pub HasEnded : {R E : Type 0} → (R → List ℕ → Type 0) → (List ℕ → E → Type 0) → (List ℕ → RecordFault → Type 0) → Body R → (Body R → Out E → Type 0) → Type 0
+abbrev pub HasEnded : {R E : Type 0} → (R → List ℕ → Type 0) → (List ℕ → E → Type 0) → (List ℕ → RecordRefusal → Type 0) → Body R → (Body R → Out E → Type 0) → Type 0
 HasEnded {R} {E} holds spells breaks d IsSo =
     (r : List ℕ) × holds d.reader r × (length r < 2 ^ 64)
     × ((after : Body R) (answer : Result E Fault) → after.records ≡ d.records → Ends holds spells breaks d after r answer → IsSo after (answer_of answer))
 
--- what became of the front of a run, where the value of a record that ended with it is still to be read
-abbrev pub Takes : {R E : Type 0} → (R → List ℕ → Type 0) → (List ℕ → E → Type 0) → (List ℕ → RecordFault → Type 0) → Body R → List ℕ → List E → List ℕ → ℕ → BodyOut → Type 0
-Takes holds spells breaks new b values run used body_out.More = Taken holds spells breaks new b values run used out.More
-Takes holds spells breaks new b values run used body_out.Ended = HasEnded holds spells breaks new (λ after answer. Taken holds spells breaks after b values run used answer)
-Takes holds spells breaks new b values run used (body_out.Fault fault) = Taken holds spells breaks new b values run used (out.Fault fault)
-
--- what became of a piece behind the bytes b: all of it was taken, or a byte of it stops the reading
-abbrev pub Feeds : {R E T : Type 0} → (R → List ℕ → Type 0) → (List ℕ → E → Type 0) → (List ℕ → RecordFault → Type 0) → Body R → List ℕ → List E → List ℕ → List E → List E → Result T Halt → Type 0
-Feeds {E = E} holds spells breaks new b values piece old now (Ok done) =
-    (more : List E) × (now ≡ old ++ more) × BodyStands holds spells new (b ++ piece) (values ++ more)
-Feeds {E = E} holds spells breaks new b values piece old now (Err halt) =
-    (more : List E) × (now ≡ old ++ more)
-    × StopsWithin Plain spells breaks (limit_of new.records) (b ++ piece) (values ++ more) halt.fault (length b + halt.used)
+-- What became of the front of a piece, where the value of a record that ended with it is still to be read. What it stands for
+-- then is by its body.
+abbrev pub Tells : {R E : Type 0} → (R → List ℕ → Type 0) → (List ℕ → E → Type 0) → (List ℕ → RecordRefusal → Type 0) → Framing → (Body R → List ℕ → List E → Type 0) → Body R → ℕ → List ℕ → List E → List ℕ → ℕ → SoFar → Type 0
+Tells holds spells breaks framing Stands body limit w values piece used so_far.More = SaysIn framing (Stands body) spells breaks limit w values piece used out.More
+Tells holds spells breaks framing Stands body limit w values piece used so_far.RecordEnded =
+    HasEnded holds spells breaks body (λ after answer. SaysIn framing (Stands after) spells breaks limit w values piece used answer)
+Tells holds spells breaks framing Stands body limit w values piece used so_far.StreamEnded = SaysIn framing (Stands body) spells breaks limit w values piece used out.End
+Tells holds spells breaks framing Stands body limit w values piece used (so_far.Fault fault) = SaysIn framing (Stands body) spells breaks limit w values piece used (out.Fault fault)

@@ -1,54 +1,27 @@
-//! Reads a body of records: it takes the bytes in runs, however cut, and makes a value of each record.
+//! Reads a body of records: it takes the bytes in runs, however cut, and tells where a record ends.
 
 ghost use Rattle.std.specs.Prelude.{◌≡◌, true, false, ◌+◌, ◌^◌, ◌<◌, ◌≤◌, ℕ, List, [], ◌++◌, length, IfOk, IfErr, take};
 ghost use Rattle.mes_frame.specs.Record.{Begun};
 ghost use Rattle.mes_frame.specs.RecordState.{RecordStands, limit_of};
-ghost use Rattle.mes_stream.specs.Stream.{Records, EndsInside, BodyLive};
+ghost use Rattle.mes_stream.specs.Stream.{Records, EndsInside, saturated};
 ghost use Rattle.mes_stream.specs.Decoders.{HoldsInBody};
-ghost use Rattle.mes_stream.specs.Taking.{BodyStands, Fronts, IsWithin, Takes, Ends, Feeds, fault_of_record};
+ghost use Rattle.mes_stream.specs.Framings.{GoesBefore};
+ghost use Rattle.mes_stream.specs.Taking.{BodyStands, Fronts, IsWithin, Tells, Ends, fault_of_record};
+ghost use Rattle.mes_stream.specs.declared.stream_reader.Framing.TheVariants as framing;
 
 use crate::record_reader::RecordReader;
+use crate::refusal::RecordRefusal;
 use crate::small_fault::SmallFault;
+use crate::taken::{SoFar, Taken};
 use mes_frame::{FrameFault, Limit, RecordOut, RecordState};
-use mes_json::NoMemory;
-use mes_msg::RecordFault;
 
-/// A decoder of plain RecordIO: it takes a body of records in pieces, however cut, and adds the value of each record to a list.
+/// Reads a body of records, one behind the other.
 #[derive(Drop)]
 pub struct Body<R> {
     records: RecordState,
     reader: R,
     // How many records have ended.
     done: u64,
-}
-
-/// What was made of the front of a run.
-#[derive(Drop)]
-pub(crate) struct Taken {
-    /// How many bytes of the run were used; with a fault the byte that shows it is the last of them.
-    pub used: usize,
-    /// What they were.
-    pub out: BodyOut,
-}
-
-/// What some bytes of a body were.
-#[derive(Drop)]
-pub(crate) enum BodyOut {
-    /// Bytes that end no record.
-    More,
-    /// The last bytes of a record, whose value is to be read by `end_record`.
-    Ended,
-    /// The last of them stops the reading.
-    Fault(SmallFault),
-}
-
-/// Where in a piece the reading stopped, and why.
-#[derive(Drop)]
-pub struct Halt {
-    /// Why.
-    pub fault: SmallFault,
-    /// How many bytes of the piece were used, the one that stopped the reading among them.
-    pub used: usize,
 }
 
 // What the front of a run is: bytes of a size line, data of the record, the end of a record without data, or a byte that
@@ -68,10 +41,20 @@ impl<R: RecordReader> Body<R> {
         ensures stands { BodyStands R.holds R.spells result [] [] }
         ensures limit { limit_of result.records ≡ limit }
     {
+        Body::behind(reader, limit, 0)
+    }
+
+    /// A body behind so many records: whichever bytes these were, the numbers of the others count from there.
+    pub fn behind(reader: R, limit: Limit, done: u64) -> Body<R>
+        requires { R.holds reader [] }
+        ensures stands { (b : List ℕ) (values : List R.Value) → Records R.spells limit b values → done ≡ saturated (length values)
+            → BodyStands R.holds R.spells result b values }
+        ensures limit { limit_of result.records ≡ limit }
+    {
         Body {
             records: RecordState::new(limit),
             reader,
-            done: 0,
+            done,
         }
     }
 
@@ -88,81 +71,39 @@ impl<R: RecordReader> Body<R> {
     /// Takes bytes of a size line or a run of data from the front of a run.
     pub(crate) fn take(&mut self, run: &[u8]) -> Taken
         requires { 0 < length run.now }
-        ensures takes { (b : List ℕ) (values : List R.Value) → BodyStands R.holds R.spells self.old b values
-            → Takes R.holds R.spells R.breaks self.new b values run.now result.used result.out }
+        ensures tells { (b : List ℕ) (values : List R.Value) → BodyStands R.holds R.spells self.old b values
+            → Tells R.holds R.spells R.breaks framing.Plain (BodyStands R.holds R.spells) self.new (limit_of self.new.records) b values run.now result.used result.so_far }
         // Up to the last byte that was used all is live.
-        ensures lives { (b : List ℕ) (values : List R.Value) → BodyStands R.holds R.spells self.old b values
-            → (n : ℕ) → n < result.used → BodyLive R.spells (limit_of self.new.records) (b ++ take n run.now) values }
+        ensures before { (b : List ℕ) (values : List R.Value) → BodyStands R.holds R.spells self.old b values
+            → GoesBefore framing.Plain R.spells (limit_of self.new.records) b values run.now result.used }
         ensures used { (0 < result.used) × (result.used ≤ length run.now) }
         ensures limit { limit_of self.new.records ≡ limit_of self.old.records }
     {
         match front_of(&mut self.records, run) {
-            Front::Size { count } => Taken {
-                used: count,
-                out: BodyOut::More,
-            },
+            Front::Size { count } => Taken::more(count),
             Front::Bad(fault) => Taken {
                 used: 1,
-                out: BodyOut::Fault(SmallFault::frame(fault)),
+                so_far: SoFar::Fault(SmallFault::frame(fault)),
             },
             Front::Empty => {
                 let why = self.reader.refuse_empty();
                 Taken {
                     used: 1,
-                    out: BodyOut::Fault(self.refused(why)),
+                    so_far: SoFar::Fault(self.refused(why)),
                 }
             }
             Front::Data { count, last } => match self.reader.push_run(&run[..count]) {
-                Err(NoMemory) => Taken {
-                    used: 1,
-                    out: BodyOut::Fault(SmallFault::no_memory()),
-                },
+                Err(refused) => Taken::no_memory(refused),
                 Ok(()) => Taken {
                     used: count,
-                    out: if last { BodyOut::Ended } else { BodyOut::More },
+                    so_far: if last {
+                        SoFar::RecordEnded
+                    } else {
+                        SoFar::More
+                    },
                 },
             },
         }
-    }
-
-    /// Takes a piece of the body, and adds the values of the records that end in it.
-    pub fn feed(&mut self, piece: &[u8], values: &mut Vec<R::Value>) -> Result<(), Halt>
-        ensures feeds { (b : List ℕ) (before : List R.Value) → BodyStands R.holds R.spells self.old b before
-            → Feeds R.holds R.spells R.breaks self.new b before piece.now values.old.items values.new.items result }
-        ensures limit { limit_of self.new.records ≡ limit_of self.old.records }
-        ensures used { IfErr result (λ halt. (0 < halt.used) × (halt.used ≤ length piece.now)) }
-    {
-        let mut at = 0;
-        while at < piece.len() {
-            let taken = self.take(&piece[at..]);
-            at += taken.used;
-            match taken.out {
-                BodyOut::More => {}
-                BodyOut::Ended => {
-                    let value = match self.end_record() {
-                        Ok(value) => value,
-                        Err(fault) => return Err(Halt { fault, used: at }),
-                    };
-                    if let Err(_) = values.push(value) {
-                        return Err(Halt {
-                            fault: SmallFault::no_memory(),
-                            used: at,
-                        });
-                    }
-                }
-                BodyOut::Fault(fault) => return Err(Halt { fault, used: at }),
-            }
-        }
-        Ok(())
-    }
-
-    /// How many bytes of the record that has begun are kept.
-    pub fn held(&self) -> u64
-        ensures count { result ≡ R.kept self.now.reader }
-        ensures most { (b : List ℕ) (values : List R.Value) → BodyStands R.holds R.spells self.now b values
-            → HoldsInBody R.spells R.room (limit_of self.now.records) b values result }
-    {
-        self.reader.held()
     }
 
     /// The value of the record that has ended, or why it has none.
@@ -180,8 +121,24 @@ impl<R: RecordReader> Body<R> {
         }
     }
 
+    /// How many bytes of the record that has begun are kept.
+    pub fn held(&self) -> u64
+        ensures count { result ≡ R.kept self.now.reader }
+        ensures most { (b : List ℕ) (values : List R.Value) → BodyStands R.holds R.spells self.now b values
+            → HoldsInBody R.spells R.room (limit_of self.now.records) b values result }
+    {
+        self.reader.held()
+    }
+
+    /// Keeps nothing any more.
+    pub(crate) fn let_go(&mut self)
+        ensures { R.kept self.new.reader ≡ 0 }
+    {
+        self.reader.let_go();
+    }
+
     // The fault of the record that has ended.
-    fn refused(&self, why: RecordFault) -> SmallFault
+    fn refused(&self, why: RecordRefusal) -> SmallFault
         ensures { result ≡ fault_of_record self.now.done why }
     {
         SmallFault::of_record(self.done.saturating_add(1), why)
@@ -197,9 +154,8 @@ fn front_of(records: &mut RecordState, run: &[u8]) -> Front
 {
     let room = records.room().min(run.len());
     if room > 0 {
-        let count = part_of(&run[..room]);
-        let last = records.pass(count);
-        return Front::Data { count, last };
+        let last = records.pass(room);
+        return Front::Data { count: room, last };
     }
     match records.step(run[0]) {
         RecordOut::Quiet => Front::Size {
@@ -230,17 +186,4 @@ fn size_run(records: &mut RecordState, run: &[u8]) -> usize
         count += 1;
     }
     count
-}
-
-// How many bytes of a run of data are given on together: white space in front of it goes alone. It takes no memory, so want of
-// memory is told behind it.
-fn part_of(bytes: &[u8]) -> usize
-    requires { 0 < length bytes.now }
-    ensures { (0 < result) × (result ≤ length bytes.now) }
-{
-    let mut count = 0;
-    while count < bytes.len() && matches!(bytes[count], b' ' | b'\n' | b'\r' | b'\t') {
-        count += 1;
-    }
-    if count == 0 { bytes.len() } else { count }
 }

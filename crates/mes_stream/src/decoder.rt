@@ -7,11 +7,12 @@ ghost use Rattle.mes_stream.specs.Decoders.{DecoderStands, end_of, answer_of, fi
 ghost use Rattle.mes_stream.specs.EventData.{HoldsData};
 ghost use Rattle.mes_event.specs.Events.{Spells};
 
-use crate::body::Body;
 use crate::event_reader::EventReader;
 use crate::fault::Fault;
-use crate::reading::{Out, Reading, Step};
 use crate::record_reader::RecordReader;
+use crate::refusal::RecordRefusal;
+use crate::stream_reader::{Framing, StreamReader};
+use crate::taken::{Out, Step};
 use mes_frame::Limit;
 use std::alloc::Global;
 
@@ -49,7 +50,7 @@ impl Ended {
 // What a decoder holds: behind the end or a fault nothing of the stream.
 #[derive(Drop)]
 enum State<R> {
-    Going(Reading<R>),
+    Going(StreamReader<R>),
     Ended(Ended),
 }
 
@@ -78,7 +79,7 @@ impl<R: RecordReader> RecordDecoder<R> {
         ensures stands { DecoderStands R.holds R.spells result limit [] [] }
     {
         RecordDecoder {
-            state: State::Going(Reading::new(Body::new(reader, limit))),
+            state: State::Going(StreamReader::new(Framing::Chunked, reader, limit)),
         }
     }
 
@@ -104,12 +105,16 @@ impl<R: RecordReader> RecordDecoder<R> {
             → result.out ≢ Out.More → 0 < result.used }
         ensures used { result.used ≤ length piece.now }
 
+        // A reader whose records are never a bad entry, as that of events, tells none: F16 never comes.
+        ensures entries { (limit : ℕ) (w : List ℕ) (values : List R.Value) → DecoderStands R.holds R.spells self.old limit w values
+            → ((r : List ℕ) → R.breaks r RecordRefusal.BadEntry → ⊥) → (n : ℕ) → result.out ≢ Out.Fault (Fault.BadEntry n) }
+
         // The end or a fault is kept, and answered again.
         ensures ends { EndsBy (end_of self.new) result.out }
         ensures again { IfSome (end_of self.old) (λ e. (result ≡ record { used = 0; out = answer_of e }) × (self.new ≡ self.old)) }
     {
         let step = match &mut self.state {
-            State::Going(reading) => reading.next(piece),
+            State::Going(stream) => stream.next(piece),
             State::Ended(end) => return Step {
                 used: 0,
                 out: end.answer(),
@@ -141,7 +146,7 @@ impl<R: RecordReader> RecordDecoder<R> {
         ensures count { result ≡ kept_by R.kept self.now }
     {
         match &self.state {
-            State::Going(reading) => reading.held(),
+            State::Going(stream) => stream.held(),
             State::Ended(_) => 0,
         }
     }

@@ -15,11 +15,7 @@ use std::alloc::Global;
 
 /// The records of the events' canonical texts, one behind the other. Errors: the first event that no record of the limit can
 /// hold, or want of memory.
-pub(crate) fn encode_events(
-    alloc: Global,
-    events: &[Event],
-    limit: Limit,
-) -> Result<Vec<u8>, SendFault>
+pub fn encode_events(alloc: Global, events: &[Event], limit: Limit) -> Result<Vec<u8>, SendFault>
     ensures ok { IfOk result (λ body. IsPlainOf limit events.now body.items) }
     ensures err { IfErr result (IsUnsent limit events.now) }
 {

@@ -2,12 +2,14 @@
 
 ghost use Rattle.std.specs.Prelude.{◌≡◌, ◌≢◌, ℕ, ◌^◌, ◌<◌, ◌≤◌, List, [], ◌++◌, length, OnOk, IfOk, IfErr};
 ghost use Rattle.mes_json.specs.Inner.{inner};
-ghost use Rattle.mes_event.specs.Events.{Spells, IsRecordFault};
+ghost use Rattle.mes_event.specs.Events.{Spells};
+ghost use Rattle.mes_stream.specs.Refusals.{IsEventRefusal};
 ghost use Rattle.mes_stream.specs.EventData.{HoldsData, kept_data};
 
 use crate::record_reader::RecordReader;
-use mes_json::{Lexer, NoMemory, TextFault, Why, lexer_bound};
-use mes_msg::{Event, RecordFault};
+use crate::refusal::RecordRefusal;
+use mes_json::{Lexer, NoMemoryAt, TextFault, Why, lexer_bound};
+use mes_msg::Event;
 use mes_part::{Part, Trail};
 use std::alloc::Global;
 use std::mem;
@@ -39,17 +41,17 @@ impl RecordReader for EventReader {
 
     ghost spells = { Spells };
 
-    ghost breaks = { IsRecordFault };
+    ghost breaks = { IsEventRefusal };
 
     ghost kept = { kept_data };
 
     ghost room = { inner };
 
-    fn push_run(&mut self, bytes: &[u8]) -> Result<(), NoMemory> {
+    fn push_run(&mut self, bytes: &[u8]) -> Result<(), NoMemoryAt> {
         self.lexer.push_run(bytes)
     }
 
-    fn finish(&mut self) -> Result<Event, RecordFault> {
+    fn finish(&mut self) -> Result<Event, RecordRefusal> {
         let alloc = self.alloc;
         let lexer = mem::replace(&mut self.lexer, Lexer::new(alloc));
         let tape = lexer.end()?;
@@ -58,11 +60,16 @@ impl RecordReader for EventReader {
         Ok(event)
     }
 
-    fn refuse_empty(&self) -> RecordFault {
-        RecordFault::Text(TextFault {
+    fn refuse_empty(&self) -> RecordRefusal {
+        RecordRefusal::Text(TextFault {
             byte: 0,
             why: Why::End,
         })
+    }
+
+    fn let_go(&mut self) {
+        self.lexer = Lexer::new(self.alloc);
+        lexer_bound(&self.lexer);
     }
 
     fn held(&self) -> u64 {

@@ -1,8 +1,11 @@
 //! Laws of the definitions that the contracts cite: functions that do nothing, each with the law as its contract.
 
 ghost use Rattle.std.specs.Prelude.{◌≡◌, ℕ, List};
-ghost use Rattle.mes_event.specs.Events.{Spells, IsRecordFault};
+ghost use Rattle.mes_event.specs.Events.{Spells};
+ghost use Rattle.mes_stream.specs.Refusals.{IsEventRefusal};
 ghost use Rattle.mes_event.specs.declared.event.Event.{Event as EventValue};
+ghost use Rattle.mes_frame.specs.Chunk.{IsChunked};
+ghost use Rattle.mes_stream.specs.Chunked.{IsStream};
 ghost use Rattle.mes_stream.specs.PlainReading.{IsDecided, IsExact, PlainReading, ReadsPlain};
 ghost use Rattle.mes_stream.specs.StreamReading.{StreamReading, ReadsStream};
 
@@ -28,6 +31,11 @@ pub fn one_stream_reading<R: RecordReader>()
         → ReadsStream R.spells R.breaks limit w reading → ReadsStream R.spells R.breaks limit w other → reading ≡ other }
 {}
 
+/// Any other chunking of the same body is a stream of the same values.
+pub fn one_chunking<R: RecordReader>()
+    ensures { (limit : ℕ) (w v body : List ℕ) (values : List R.Value) → IsChunked w body → IsChunked v body → IsStream R.spells limit w values → IsStream R.spells limit v values }
+{}
+
 /// One read takes at most 512 bytes, and a report holds at most as many behind the end of a stream; and how long a line is.
 pub fn stream_limits()
     ensures reads { (READ_MOST ≡ 512) × (REST_MOST ≡ 512) }
@@ -36,12 +44,12 @@ pub fn stream_limits()
 
 /// Of events no premise is left: any bytes are read as a stream of events in exactly one way, plain or chunked.
 pub fn one_event_reading()
-    ensures some_plain { (limit : ℕ) (w : List ℕ) → (reading : PlainReading EventValue) × ReadsPlain Spells IsRecordFault limit w reading }
+    ensures some_plain { (limit : ℕ) (w : List ℕ) → (reading : PlainReading EventValue) × ReadsPlain Spells IsEventRefusal limit w reading }
     ensures one_plain { (limit : ℕ) (w : List ℕ) (reading other : PlainReading EventValue)
-        → ReadsPlain Spells IsRecordFault limit w reading → ReadsPlain Spells IsRecordFault limit w other → reading ≡ other }
-    ensures some_stream { (limit : ℕ) (w : List ℕ) → (reading : StreamReading EventValue) × ReadsStream Spells IsRecordFault limit w reading }
+        → ReadsPlain Spells IsEventRefusal limit w reading → ReadsPlain Spells IsEventRefusal limit w other → reading ≡ other }
+    ensures some_stream { (limit : ℕ) (w : List ℕ) → (reading : StreamReading EventValue) × ReadsStream Spells IsEventRefusal limit w reading }
     ensures one_stream { (limit : ℕ) (w : List ℕ) (reading other : StreamReading EventValue)
-        → ReadsStream Spells IsRecordFault limit w reading → ReadsStream Spells IsRecordFault limit w other → reading ≡ other }
+        → ReadsStream Spells IsEventRefusal limit w reading → ReadsStream Spells IsEventRefusal limit w other → reading ≡ other }
 {
     one_message::<Event>();
     one_plain_reading::<EventReader>();

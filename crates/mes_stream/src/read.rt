@@ -1,17 +1,18 @@
 //! Reads a stream of either framing from a device.
 
-ghost use Rattle.std.specs.Prelude.{◌≡◌, ◌≤◌, ℕ, List, [], ◌++◌, length};
+ghost use Rattle.std.specs.Prelude.{◌≡◌, ◌≢◌, ℕ, List, [], ◌++◌, IfErr};
 ghost use Rattle.std.specs.Io.KnownBytes.{Consumes};
 ghost use Rattle.mes_stream.specs.Reading.{EndsReading, EndsPlain, EndsStream};
-ghost use Rattle.mes_event.specs.Events.{Spells, IsRecordFault};
+ghost use Rattle.mes_event.specs.Events.{Spells};
+ghost use Rattle.mes_stream.specs.Refusals.{IsEventRefusal};
 ghost use Rattle.mes_event.specs.declared.event.Event.{Event as EventValue};
 
 use crate::event_reader::EventReader;
 use crate::fault::{Fault, Report, Stop};
-use crate::limits::{READ_MOST, REST_MOST};
+use crate::reading::Reading;
+use crate::reads::read_device;
 use crate::record_reader::RecordReader;
-use crate::stream_reader::{Framing, StreamReader};
-use arrayvec::ArrayVec;
+use crate::stream_reader::Framing;
 use mes_frame::{Limit, Source};
 use mes_msg::Event;
 use std::alloc::Global;
@@ -26,10 +27,12 @@ pub fn read_plain<S: Source>(
     events: &mut Vec<Event>,
 ) -> Result<Report, Stop>
     // The bytes w were taken, the list has more events, and the reading ended as `EndsPlain` says of them.
-    ensures { (w : List ℕ) × (more : List EventValue)
+    ensures reads { (w : List ℕ) × (more : List EventValue)
         × Consumes (S.left reader.old) (S.left reader.new) w
         × (events.new.items ≡ events.old.items ++ more)
         × EndsPlain limit max_reads (S.counts reader.old) (S.counts reader.new) (S.left reader.new) w more result }
+    // An event is never a bad entry: F16 never comes.
+    ensures entries { IfErr result (λ stop. (n : ℕ) → stop.fault ≢ Fault.BadEntry n) }
 {
     read_events(alloc, reader, Framing::Plain, limit, max_reads, events)
 }
@@ -43,10 +46,12 @@ pub fn read_stream<S: Source>(
     max_reads: u64,
     events: &mut Vec<Event>,
 ) -> Result<Report, Stop>
-    ensures { (w : List ℕ) × (more : List EventValue)
+    ensures reads { (w : List ℕ) × (more : List EventValue)
         × Consumes (S.left reader.old) (S.left reader.new) w
         × (events.new.items ≡ events.old.items ++ more)
         × EndsStream limit max_reads (S.counts reader.old) (S.counts reader.new) (S.left reader.new) w more result }
+    // An event is never a bad entry: F16 never comes.
+    ensures entries { IfErr result (λ stop. (n : ℕ) → stop.fault ≢ Fault.BadEntry n) }
 {
     read_events(alloc, reader, Framing::Chunked, limit, max_reads, events)
 }
@@ -60,10 +65,12 @@ pub fn read_events<S: Source>(
     max_reads: u64,
     events: &mut Vec<Event>,
 ) -> Result<Report, Stop>
-    ensures { (w : List ℕ) × (more : List EventValue)
+    ensures reads { (w : List ℕ) × (more : List EventValue)
         × Consumes (S.left reader.old) (S.left reader.new) w
         × (events.new.items ≡ events.old.items ++ more)
-        × EndsReading framing Spells IsRecordFault limit max_reads (S.counts reader.old) (S.counts reader.new) (S.left reader.new) w more result }
+        × EndsReading framing Spells IsEventRefusal limit max_reads (S.counts reader.old) (S.counts reader.new) (S.left reader.new) w more result }
+    // An event is never a bad entry: F16 never comes.
+    ensures entries { IfErr result (λ stop. (n : ℕ) → stop.fault ≢ Fault.BadEntry n) }
 {
     let records = EventReader::new(alloc);
     read_records(reader, framing, records, limit, max_reads, events)
@@ -84,48 +91,7 @@ fn read_records<R: RecordReader, S: Source>(
         × (values.new.items ≡ values.old.items ++ more)
         × EndsReading framing R.spells R.breaks limit max_reads (S.counts reader.old) (S.counts reader.new) (S.left reader.new) w more result }
 {
-    let mut stream = StreamReader::new(framing, records, limit);
-    let mut buffer = [0; READ_MOST];
-    let mut used: u64 = 0;
-    'reads: for _ in 0..max_reads {
-        let taken = match reader.fetch(&mut buffer) {
-            Ok(taken) => taken,
-            Err(_) => return Err(stop(Fault::Read, used)),
-        };
-        if taken == 0 {
-            return match stream.finish() {
-                Ok(()) => Ok(report(used, &[])),
-                Err(fault) => Err(stop(fault, used)),
-            };
-        }
-        match stream.feed(&buffer[..taken], values) {
-            Ok(None) => used = used.saturating_add(taken as u64),
-            Ok(Some(end)) => {
-                let all = used.saturating_add(end as u64);
-                return Ok(report(all, &buffer[end..taken]));
-            }
-            Err(halt) => {
-                let all = used.saturating_add(halt.used as u64);
-                return Err(stop(halt.fault.into_fault(), all));
-            }
-        }
-    }
-    Err(stop(Fault::ReadsSpent, used))
-}
-
-// The reading stopped behind so many bytes.
-fn stop(fault: Fault, used: u64) -> Stop
-    ensures { result ≡ record { fault = fault; used = used } }
-{
-    Stop { fault, used }
-}
-
-// The stream ended behind so many bytes, and these were taken behind it.
-fn report(used: u64, rest: &[u8]) -> Report
-    requires { length rest.now ≤ REST_MOST }
-    ensures { (result.used ≡ used) × (result.rest.items ≡ rest.now) }
-{
-    let mut kept = ArrayVec::new();
-    let _fits = kept.try_extend_from_slice(rest);
-    Report { used, rest: kept }
+    let mut reading = Reading::new(framing, records, limit);
+    let end = read_device(reader, max_reads, &mut reading, values);
+    reading.outcome(end)
 }

@@ -1,10 +1,10 @@
 //! What reads the data of records.
 
 ghost use Rattle.std.specs.Prelude.{◌≡◌, ◌≢◌, ℕ, ◌^◌, ◌<◌, ◌≤◌, List, [], ◌++◌, length, OnOk, IfOk, IfErr};
-ghost use Rattle.mes_record.specs.declared.record.RecordFault.{RecordFault as Refusal};
+ghost use Rattle.mes_stream.specs.declared.refusal.RecordRefusal.{RecordRefusal as Refusal};
 
-use mes_json::NoMemory;
-use mes_msg::RecordFault;
+use crate::refusal::RecordRefusal;
+use mes_json::NoMemoryAt;
 
 /// Reads the data of one record after the other to a value each, while the bytes come.
 pub trait RecordReader: Drop {
@@ -27,20 +27,26 @@ pub trait RecordReader: Drop {
     ghost room: { List ℕ → ℕ };
 
     /// Takes a run of the data.
-    fn push_run(&mut self, bytes: &[u8]) -> Result<(), NoMemory>
-        ensures ok { OnOk result ((r : List ℕ) → holds self.old r → holds self.new (r ++ bytes.now)) };
+    fn push_run(&mut self, bytes: &[u8]) -> Result<(), NoMemoryAt>
+        ensures ok { OnOk result ((r : List ℕ) → holds self.old r → holds self.new (r ++ bytes.now)) }
+        // Memory was refused for the byte behind those that were taken.
+        ensures err { IfErr result (λ refused. 0 < length bytes.now → refused.taken < length bytes.now) };
 
     /// Reads the value of the record whose data has ended.
-    fn finish(&mut self) -> Result<Self::Value, RecordFault>
+    fn finish(&mut self) -> Result<Self::Value, RecordRefusal>
         ensures ok { (r : List ℕ) → holds self.old r → length r < 2 ^ 64 → IfOk result (spells r) }
         ensures err { (r : List ℕ) → holds self.old r → length r < 2 ^ 64 → IfErr result (breaks r) }
         // Then it is ready for the next record.
         ensures next { OnOk result (holds self.new []) };
 
     /// Why a record without data has no value. Takes no memory.
-    fn refuse_empty(&self) -> RecordFault
+    fn refuse_empty(&self) -> RecordRefusal
         ensures breaks { breaks [] result }
-        ensures memory { result ≢ RecordFault.NoMemory };
+        ensures memory { result ≢ RecordRefusal.NoMemory };
+
+    /// Keeps nothing any more. No record is read after that.
+    fn let_go(&mut self)
+        ensures { kept self.new ≡ 0 };
 
     /// How many bytes of the data are kept, not counting spare room.
     fn held(&self) -> u64

@@ -2,12 +2,12 @@
 
 ghost use Rattle.std.specs.Prelude.{◌≡◌};
 ghost use Rattle.mes_stream.specs.declared.fault.Fault.TheVariants.{Frame, NoMemory, EndsInsideRecord};
-ghost use Rattle.mes_stream.specs.RecordFaults.{fault_at_record};
+ghost use Rattle.mes_stream.specs.Refusals.{fault_at_record};
 
 use crate::fault::Fault;
+use crate::refusal::RecordRefusal;
 use mes_frame::FrameFault;
 use mes_json::Why;
-use mes_msg::RecordFault;
 use mes_part::{BoxedFault, FieldFault};
 use std::marker::Model;
 
@@ -24,6 +24,7 @@ enum Kind {
     EndsInsideRecord,
     Text { at_record: u64, byte: u64, why: Why },
     Field { at_record: u64, fault: BoxedFault },
+    BadEntry { at_record: u64 },
     NoMemory,
 }
 
@@ -65,18 +66,19 @@ impl SmallFault {
         }
     }
 
-    /// Why the record of this number has no value: F11, F12 or F13.
-    pub(crate) fn of_record(at_record: u64, why: RecordFault) -> SmallFault
+    /// Why the record of this number has no value: F11, F12, F13 or F16.
+    pub(crate) fn of_record(at_record: u64, why: RecordRefusal) -> SmallFault
         ensures { result ≡ fault_at_record at_record why }
     {
         let kind = match why {
-            RecordFault::Text(fault) => Kind::Text {
+            RecordRefusal::Text(fault) => Kind::Text {
                 at_record,
                 byte: fault.byte,
                 why: fault.why,
             },
-            RecordFault::Field(fault) => Kind::Field { at_record, fault },
-            RecordFault::NoMemory => Kind::NoMemory,
+            RecordRefusal::Field(fault) => Kind::Field { at_record, fault },
+            RecordRefusal::BadEntry => Kind::BadEntry { at_record },
+            RecordRefusal::NoMemory => Kind::NoMemory,
         };
         SmallFault { kind }
     }
@@ -106,6 +108,7 @@ impl SmallFault {
                     why,
                 }
             }
+            Kind::BadEntry { at_record } => Fault::BadEntry { at_record },
             Kind::NoMemory => Fault::NoMemory,
         }
     }

@@ -1,14 +1,18 @@
 //! Reads a stream of either framing in pieces, however cut.
 
-ghost use Rattle.std.specs.Prelude.{ℕ, List, [], length};
-ghost use Rattle.mes_stream.specs.Framings.{InputEnds};
-ghost use Rattle.mes_stream.specs.StreamReaders.{StreamStands, StreamFeeds, UsesWithin};
+ghost use Rattle.std.specs.Prelude.{◌≡◌, ◌≢◌, ℕ, ◌^◌, ◌<◌, ◌≤◌, List, [], length};
+ghost use Rattle.mes_stream.specs.Decoders.{HoldsIn};
+ghost use Rattle.mes_stream.specs.Framings.{InputEnds, SaysIn, GoesBefore};
+ghost use Rattle.mes_stream.specs.StreamReaders.{StreamStands, StreamFeeds, UsesWithin, LetsGo, body_of, with_body};
+ghost use Rattle.mes_stream.specs.Taking.{Ends, Tells};
 ghost use Rattle.mes_stream.specs.declared.stream_reader.Framing.{Framing as FramingValue};
 
-use crate::body::{Body, Halt};
+use crate::body::Body;
+use crate::chunked::ChunkedBody;
 use crate::fault::Fault;
-use crate::reading::Reading;
 use crate::record_reader::RecordReader;
+use crate::small_fault::SmallFault;
+use crate::taken::{FaultAt, Out, SoFar, Step, Taken};
 use mes_frame::Limit;
 
 /// How the records of a stream come.
@@ -20,13 +24,14 @@ pub enum Framing {
     Chunked,
 }
 
-/// Reads a stream of either framing: it takes the stream in pieces, however cut, and adds the value of each record to a list.
+/// Reads a stream of either framing: it takes the stream in pieces, however cut. Behind the end or a fault no more pieces are to
+/// be taken.
 #[derive(Drop)]
 pub enum StreamReader<R> {
     /// Reads plain RecordIO.
     Plain(Body<R>),
     /// Reads a chunked stream.
-    Chunked(Reading<R>),
+    Chunked(ChunkedBody<R>),
 }
 
 impl<R: RecordReader> StreamReader<R> {
@@ -37,24 +42,86 @@ impl<R: RecordReader> StreamReader<R> {
     {
         match framing {
             Framing::Plain => StreamReader::Plain(Body::new(reader, limit)),
-            Framing::Chunked => StreamReader::Chunked(Reading::new(Body::new(reader, limit))),
+            Framing::Chunked => StreamReader::Chunked(ChunkedBody::new(Body::new(reader, limit))),
         }
     }
 
-    /// Takes a piece of the stream, and adds the values of the records that end in it. Some where a byte of it ended the
-    /// stream: so many bytes were used, that one the last of them. Behind the end or a fault no more pieces are to be taken.
-    pub fn feed(&mut self, piece: &[u8], values: &mut Vec<R::Value>) -> Result<Option<usize>, Halt>
+    /// Takes a piece up to the end of a record or of the stream, or a fault, or the piece's end: an answer behind each record.
+    pub fn next(&mut self, piece: &[u8]) -> Step<R::Value>
+        ensures says { (framing : FramingValue) (limit : ℕ) (w : List ℕ) (values : List R.Value) → StreamStands R.holds R.spells self.old framing limit w values
+            → SaysIn framing (StreamStands R.holds R.spells self.new framing limit) R.spells R.breaks limit w values piece.now result.used result.out }
+        ensures before { (framing : FramingValue) (limit : ℕ) (w : List ℕ) (values : List R.Value) → StreamStands R.holds R.spells self.old framing limit w values
+            → GoesBefore framing R.spells limit w values piece.now result.used }
+        ensures more { result.out ≡ Out.More → result.used ≡ length piece.now }
+        ensures some { result.out ≢ Out.More → 0 < result.used }
+        ensures used { result.used ≤ length piece.now }
+    {
+        let Taken { used, so_far } = self.skim(piece);
+        let out = match so_far {
+            SoFar::More => Out::More,
+            SoFar::RecordEnded => match self.end_record() {
+                Ok(value) => Out::Event(value),
+                Err(fault) => Out::Fault(fault.into_fault()),
+            },
+            SoFar::StreamEnded => Out::End,
+            SoFar::Fault(fault) => Out::Fault(fault.into_fault()),
+        };
+        Step { used, out }
+    }
+
+    /// Takes a piece, and adds the values of the records that end in it. Some where a byte of it ended the stream: so many bytes
+    /// were used, that one the last of them.
+    pub fn feed(
+        &mut self,
+        piece: &[u8],
+        values: &mut Vec<R::Value>,
+    ) -> Result<Option<usize>, FaultAt>
+        ensures feeds { (framing : FramingValue) (limit : ℕ) (w : List ℕ) (before : List R.Value) → StreamStands R.holds R.spells self.old framing limit w before
+            → StreamFeeds R.holds R.spells R.breaks self.new framing limit w before piece.now values.old.items values.new.items result }
+        ensures within { UsesWithin (length piece.now) result }
+        ensures kept { LetsGo (R.kept (body_of self.new).reader) result }
+    {
+        let fed = self.feed_on(piece, values);
+        match &fed {
+            Ok(None) => {}
+            Ok(Some(_)) | Err(_) => self.let_go(),
+        }
+        fed
+    }
+
+    // The same, but what was kept stays.
+    fn feed_on(
+        &mut self,
+        piece: &[u8],
+        values: &mut Vec<R::Value>,
+    ) -> Result<Option<usize>, FaultAt>
         ensures feeds { (framing : FramingValue) (limit : ℕ) (w : List ℕ) (before : List R.Value) → StreamStands R.holds R.spells self.old framing limit w before
             → StreamFeeds R.holds R.spells R.breaks self.new framing limit w before piece.now values.old.items values.new.items result }
         ensures within { UsesWithin (length piece.now) result }
     {
-        match self {
-            StreamReader::Plain(body) => {
-                body.feed(piece, values)?;
-                Ok(None)
+        let mut at = 0;
+        while at < piece.len() {
+            let taken = self.skim(&piece[at..]);
+            at += taken.used;
+            match taken.so_far {
+                SoFar::More => {}
+                SoFar::RecordEnded => {
+                    let value = match self.end_record() {
+                        Ok(value) => value,
+                        Err(fault) => return Err(FaultAt { fault, used: at }),
+                    };
+                    if let Err(_) = values.push(value) {
+                        return Err(FaultAt {
+                            fault: SmallFault::no_memory(),
+                            used: at,
+                        });
+                    }
+                }
+                SoFar::StreamEnded => return Ok(Some(at)),
+                SoFar::Fault(fault) => return Err(FaultAt { fault, used: at }),
             }
-            StreamReader::Chunked(reading) => reading.feed(piece, values),
         }
+        Ok(None)
     }
 
     /// The input has no more bytes. Of plain records: Ok between two of them, else F10. Of a chunked stream, which has not
@@ -72,6 +139,81 @@ impl<R: RecordReader> StreamReader<R> {
                 }
             }
             StreamReader::Chunked(_) => Err(Fault::EndsInsideChunks),
+        }
+    }
+
+    /// How many bytes of the record that has begun are kept: by `feed` none behind the end or a fault.
+    pub fn held(&self) -> u64
+        ensures count { result ≡ R.kept (body_of self.now).reader }
+        ensures most { (framing : FramingValue) (limit : ℕ) (w : List ℕ) (values : List R.Value) → StreamStands R.holds R.spells self.now framing limit w values
+            → HoldsIn framing R.spells R.room limit w values result }
+    {
+        match self {
+            StreamReader::Plain(body) => body.held(),
+            StreamReader::Chunked(chunked) => chunked.body.held(),
+        }
+    }
+
+    // Takes the front of a piece.
+    fn take(&mut self, piece: &[u8]) -> Taken
+        requires { 0 < length piece.now }
+        ensures tells { (framing : FramingValue) (limit : ℕ) (w : List ℕ) (values : List R.Value) → StreamStands R.holds R.spells self.old framing limit w values
+            → Tells R.holds R.spells R.breaks framing (λ body. StreamStands R.holds R.spells (with_body self.new body) framing limit) (body_of self.new)
+            limit w values piece.now result.used result.so_far }
+        ensures before { (framing : FramingValue) (limit : ℕ) (w : List ℕ) (values : List R.Value) → StreamStands R.holds R.spells self.old framing limit w values
+            → GoesBefore framing R.spells limit w values piece.now result.used }
+        ensures used { (0 < result.used) × (result.used ≤ length piece.now) }
+    {
+        match self {
+            StreamReader::Plain(body) => body.take(piece),
+            StreamReader::Chunked(chunked) => chunked.take(piece),
+        }
+    }
+
+    // Takes a piece up to the end of a record or of the stream, or what stops the reading, or the piece's end. The value of a
+    // record that ended is still to be read.
+    fn skim(&mut self, piece: &[u8]) -> Taken
+        ensures tells { (framing : FramingValue) (limit : ℕ) (w : List ℕ) (values : List R.Value) → StreamStands R.holds R.spells self.old framing limit w values
+            → Tells R.holds R.spells R.breaks framing (λ body. StreamStands R.holds R.spells (with_body self.new body) framing limit) (body_of self.new)
+            limit w values piece.now result.used result.so_far }
+        ensures before { (framing : FramingValue) (limit : ℕ) (w : List ℕ) (values : List R.Value) → StreamStands R.holds R.spells self.old framing limit w values
+            → GoesBefore framing R.spells limit w values piece.now result.used }
+        ensures more { result.so_far ≡ SoFar.More → result.used ≡ length piece.now }
+        ensures some { result.so_far ≢ SoFar.More → 0 < result.used }
+        ensures used { result.used ≤ length piece.now }
+    {
+        let mut at = 0;
+        while at < piece.len() {
+            let taken = self.take(&piece[at..]);
+            at += taken.used;
+            match taken.so_far {
+                SoFar::More => {}
+                so_far => return Taken { used: at, so_far },
+            }
+        }
+        Taken::more(at)
+    }
+
+    // The value of the record that has ended, or why it has none.
+    fn end_record(&mut self) -> Result<R::Value, SmallFault>
+        ensures ends { (r : List ℕ) → R.holds (body_of self.old).reader r → length r < 2 ^ 64
+            → Ends R.holds R.spells R.breaks (body_of self.old) (body_of self.new) r result }
+        ensures same { self.new ≡ with_body self.old (body_of self.new) }
+        ensures records { (body_of self.new).records ≡ (body_of self.old).records }
+    {
+        match self {
+            StreamReader::Plain(body) => body.end_record(),
+            StreamReader::Chunked(chunked) => chunked.body.end_record(),
+        }
+    }
+
+    // Keeps nothing any more.
+    fn let_go(&mut self)
+        ensures { R.kept (body_of self.new).reader ≡ 0 }
+    {
+        match self {
+            StreamReader::Plain(body) => body.let_go(),
+            StreamReader::Chunked(chunked) => chunked.body.let_go(),
         }
     }
 }

@@ -1,7 +1,7 @@
 //! What `check`, `show` and `convert` do over devices in memory that give and take a few bytes at a time, or fail.
 
 use mes_frame::{Limit, MemorySink, MemorySource, MemoryStop};
-use mes_run::{Detail, convert, follow};
+use mes_run::{Detail, READS_MOST, convert, follow};
 use mes_stream::Framing;
 use std::alloc::{AllocGlobal, Global};
 use std::process::Abort;
@@ -23,7 +23,15 @@ fn followed(
     source: &mut MemorySource<'_>,
     out: &mut MemorySink,
 ) -> u8 {
-    follow(alloc, detail, Framing::Plain, Limit::USUAL, source, out)
+    follow(
+        alloc,
+        detail,
+        Framing::Plain,
+        Limit::USUAL,
+        READS_MOST,
+        source,
+        out,
+    )
 }
 
 /// Follows the record, given so many bytes by one read, and asserts what is printed.
@@ -96,6 +104,61 @@ fn lines_are_cut_where_the_writer_stops(rt: HostRuntime) {
             MemoryStop::TakesNone,
         );
     }
+}
+
+// As many reads as allowed were made, and another was needed; the events of those are printed.
+#[test]
+fn spent_reads_are_told(rt: HostRuntime) -> Result<(), Fail> {
+    for max_reads in 0..24 {
+        let mut source = MemorySource::new(HEARTBEAT.as_bytes(), 1);
+        let mut out = MemorySink::new(rt.alloc(), WRITE_SIZE);
+        let limit = Limit::USUAL;
+        let framing = Framing::Plain;
+        let status = follow(
+            rt.alloc(),
+            Detail::Lines,
+            framing,
+            limit,
+            max_reads,
+            &mut source,
+            &mut out,
+        );
+        let shown = if max_reads == 23 { "1 HEARTBEAT\n" } else { "" };
+        let lines = format!(in rt.alloc(); "{shown}fault F15 ReadsSpent after {max_reads}\n")?;
+        assert_eq!(rt; (out.bytes(), status), (lines.as_bytes(), 1));
+        assert_eq!(rt; source.counts().calls, max_reads);
+    }
+    Ok(())
+}
+
+// A device that gives all it is asked for is asked once for each 512 bytes, and once more for the end.
+#[test]
+fn a_stream_is_followed_by_few_reads(rt: HostRuntime) -> Result<(), Fail> {
+    let mut bytes = Vec::new(rt.alloc());
+    for _ in 0..100 {
+        let mut source = MemorySource::new(bytes.as_slice(), usize::MAX);
+        let mut out = MemorySink::new(rt.alloc(), usize::MAX);
+        let status = followed(rt.alloc(), Detail::Counts, &mut source, &mut out);
+        assert_eq!(rt; status, 0);
+        assert_eq!(rt; source.counts().calls, bytes.len().div_ceil(512) as u64 + 1);
+        bytes.extend_from_slice(HEARTBEAT.as_bytes())?;
+    }
+    Ok(())
+}
+
+// Behind a read whose lines the writer did not take no more is read.
+#[test]
+fn nothing_is_read_behind_a_failed_output(rt: HostRuntime) -> Result<(), Fail> {
+    let mut bytes = Vec::new(rt.alloc());
+    for _ in 0..100 {
+        bytes.extend_from_slice(HEARTBEAT.as_bytes())?;
+    }
+    let mut source = MemorySource::new(bytes.as_slice(), usize::MAX);
+    let mut out = MemorySink::stopping_after(rt.alloc(), WRITE_SIZE, 3, MemoryStop::Fails);
+    let status = followed(rt.alloc(), Detail::Lines, &mut source, &mut out);
+    assert_eq!(rt; status, 1);
+    assert_eq!(rt; source.counts().calls, 1);
+    Ok(())
 }
 
 /// Converts the record into plain RecordIO, whose writer stops behind so many bytes, and asserts what is written and told.

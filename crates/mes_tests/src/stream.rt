@@ -9,6 +9,7 @@ use std::process::Abort;
 use std::test::Fail;
 
 mod line;
+mod readers;
 mod reads;
 mod send;
 

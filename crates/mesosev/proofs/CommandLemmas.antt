@@ -1,7 +1,8 @@
 -- What became of words that name no options.
 use Rattle.std.proofs.Common.{◌≡◌, ℕ, List, inl, inr, refl, subst}
 use Rattle.clap.specs.Words.{Text}
-use Rattle.mes_run.specs.Printing.{Device, Prints}
+use Rattle.mes_frame.specs.Devices.{Device}
+use Rattle.mes_run.specs.Printing.{Prints}
 use Rattle.mesosev.specs.NamedOptions.{RefusesWords}
 use Rattle.mesosev.specs.Running.{Runs}
 use Rattle.mesosev.specs.Telling.{Tells}

@@ -3,8 +3,10 @@ use Rattle.std.specs.Prelude.{◌≡◌, ◌⊎◌, ℕ, List, []}
 use Rattle.clap.specs.Words.{Text, IsAmong, fault_of, kind_of}
 use Rattle.clap.specs.declared.error.Error.{Error}
 use Rattle.mes_run.specs.Converting.{Converts}
-use Rattle.mes_run.specs.Printing.{Device, Prints, Checks, LacksMemory}
+use Rattle.mes_frame.specs.Devices.{Device}
+use Rattle.mes_run.specs.Printing.{Prints, Checks, LacksMemory}
 use Rattle.mes_run.specs.Showing.{Shows}
+use Rattle.mes_run.specs.declared.limits.TheConstants.{READS_MOST}
 use Rattle.mesosev.specs.CommandLine.{command_app}
 use Rattle.mesosev.specs.NamedOptions.{IsInRange, LackValue, NameOptions, NameNoOptions}
 use Rattle.mesosev.specs.Telling.{TellsError, bad_value_line}
@@ -13,8 +15,8 @@ use Rattle.mesosev.specs.declared.words.Options.TheVariants.{Check, Show, Conver
 
 -- what the options name was done; `check` and `show` leave standard error as it was
 abbrev pub Performs : Options → Device → Device → Device → Device → Device → Device → ℕ → Type 0
-Performs (Check framing limit) input rest out printed err told status = Checks framing limit input rest out printed status × (told ≡ err)
-Performs (Show framing limit) input rest out printed err told status = Shows framing limit input rest out printed status × (told ≡ err)
+Performs (Check framing limit) input rest out printed err told status = Checks framing limit READS_MOST input rest out printed status × (told ≡ err)
+Performs (Show framing limit) input rest out printed err told status = Shows framing limit READS_MOST input rest out printed status × (told ≡ err)
 Performs (Convert framing limit most) input rest out printed err told status = Converts framing limit most input rest out printed err told status
 
 -- What became of the words: the options that they name were performed; or clap's error for them was told; or they name no

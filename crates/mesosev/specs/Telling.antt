@@ -3,7 +3,8 @@ use Rattle.std.specs.Prelude.{◌≡◌, ◌≢◌, ℕ, ◌⊎◌, List, [], �
 use Rattle.clap.specs.Words.{kind_of}
 use Rattle.clap.specs.declared.error.Error.{Error}
 use Rattle.clap.specs.declared.error.kind.ErrorKind.TheVariants.{DisplayHelp, DisplayVersion}
-use Rattle.mes_run.specs.Printing.{Device, Prints, LacksMemory}
+use Rattle.mes_frame.specs.Devices.{Device}
+use Rattle.mes_run.specs.Printing.{Prints, LacksMemory}
 use Rattle.mesosev.specs.declared.words.WordsFault.{WordsFault}
 use Rattle.mesosev.specs.declared.words.WordsFault.TheVariants.{Clap, BadValue, NoMemory}
 

@@ -1,5 +1,6 @@
 //! The command: its words, its input, and what it prints.
 
+ghost use Rattle.mes_frame.specs.Devices.{device_of};
 ghost use Rattle.std.specs.Prelude.{◌≡◌, codes, ◌⊎◌, map};
 ghost use Rattle.mes_run.specs.Printing.{LacksMemory, Prints};
 ghost use Rattle.mesosev.specs.NamedOptions.{SayPlainly, IsInRange};
@@ -10,7 +11,7 @@ ghost use Rattle.mesosev.specs.declared.words.Options.{Options as OptionsValue};
 use crate::options::options;
 use crate::words::{LIMIT_DEFAULT, Options, WordsFault};
 use mes_frame::{Sink, Source};
-use mes_run::{Detail, GOOD, convert, follow, out_of_memory, print_text};
+use mes_run::{Detail, GOOD, READS_MOST, convert, follow, out_of_memory, print_text};
 use std::alloc::{AllocGlobal, Global};
 use std::convert::AsStr;
 
@@ -30,19 +31,19 @@ pub fn run<R: AllocGlobal, W: AsStr, I: Source, O: Sink, E: Sink>(
     err: &mut E,
 ) -> u8
     ensures runs { Runs (map W.text words.now)
-        (record { bytes = I.left input.old; counts = I.counts input.old }) (record { bytes = I.left input.new; counts = I.counts input.new })
-        (record { bytes = O.written out.old; counts = O.counts out.old }) (record { bytes = O.written out.new; counts = O.counts out.new })
-        (record { bytes = E.written err.old; counts = E.counts err.old }) (record { bytes = E.written err.new; counts = E.counts err.new })
+        (device_of I.left I.counts input.old) (device_of I.left I.counts input.new)
+        (device_of O.written O.counts out.old) (device_of O.written O.counts out.new)
+        (device_of E.written E.counts err.old) (device_of E.written E.counts err.new)
         result }
 
     // Words that name options plainly: they are performed, unless memory was refused.
     ensures plain { (said : OptionsValue) → SayPlainly (map W.text words.now) said → IsInRange said
         → Performs said
-        (record { bytes = I.left input.old; counts = I.counts input.old }) (record { bytes = I.left input.new; counts = I.counts input.new })
-        (record { bytes = O.written out.old; counts = O.counts out.old }) (record { bytes = O.written out.new; counts = O.counts out.new })
-        (record { bytes = E.written err.old; counts = E.counts err.old }) (record { bytes = E.written err.new; counts = E.counts err.new })
+        (device_of I.left I.counts input.old) (device_of I.left I.counts input.new)
+        (device_of O.written O.counts out.old) (device_of O.written O.counts out.new)
+        (device_of E.written E.counts err.old) (device_of E.written E.counts err.new)
         result
-        ⊎ LacksMemory (record { bytes = O.written out.old; counts = O.counts out.old }) (record { bytes = O.written out.new; counts = O.counts out.new }) result }
+        ⊎ LacksMemory (device_of O.written O.counts out.old) (device_of O.written O.counts out.new) result }
 
     // The default of `--limit`; the other limits that the clauses name are pinned where they stand.
     ensures limit { LIMIT_DEFAULT.now ≡ codes "4194304" }
@@ -63,17 +64,33 @@ fn perform<I: Source, O: Sink, E: Sink>(
     err: &mut E,
 ) -> u8
     ensures { Performs options.now
-        (record { bytes = I.left input.old; counts = I.counts input.old }) (record { bytes = I.left input.new; counts = I.counts input.new })
-        (record { bytes = O.written out.old; counts = O.counts out.old }) (record { bytes = O.written out.new; counts = O.counts out.new })
-        (record { bytes = E.written err.old; counts = E.counts err.old }) (record { bytes = E.written err.new; counts = E.counts err.new })
+        (device_of I.left I.counts input.old) (device_of I.left I.counts input.new)
+        (device_of O.written O.counts out.old) (device_of O.written O.counts out.new)
+        (device_of E.written E.counts err.old) (device_of E.written E.counts err.new)
         result }
 {
     match options {
         Options::Check { framing, limit } => {
-            follow(alloc, Detail::Counts, *framing, *limit, input, out)
+            follow(
+                alloc,
+                Detail::Counts,
+                *framing,
+                *limit,
+                READS_MOST,
+                input,
+                out,
+            )
         }
         Options::Show { framing, limit } => {
-            follow(alloc, Detail::Lines, *framing, *limit, input, out)
+            follow(
+                alloc,
+                Detail::Lines,
+                *framing,
+                *limit,
+                READS_MOST,
+                input,
+                out,
+            )
         }
         Options::Convert {
             framing,
@@ -94,8 +111,8 @@ pub(crate) fn tell_not_text<E: Sink>(err: &mut E) -> u8
 /// Tells why the words name no options.
 fn tell<O: Sink, E: Sink>(alloc: Global, fault: &WordsFault, out: &mut O, err: &mut E) -> u8
     ensures { Tells fault.now
-        (record { bytes = O.written out.old; counts = O.counts out.old }) (record { bytes = O.written out.new; counts = O.counts out.new })
-        (record { bytes = E.written err.old; counts = E.counts err.old }) (record { bytes = E.written err.new; counts = E.counts err.new })
+        (device_of O.written O.counts out.old) (device_of O.written O.counts out.new)
+        (device_of E.written E.counts err.old) (device_of E.written E.counts err.new)
         result }
 {
     match fault {
@@ -111,10 +128,10 @@ fn tell<O: Sink, E: Sink>(alloc: Global, fault: &WordsFault, out: &mut O, err: &
 /// Tells an error of clap: help on standard output, a mistake on standard error.
 fn tell_error<O: Sink, E: Sink>(alloc: Global, error: &clap::Error, out: &mut O, err: &mut E) -> u8
     ensures { TellsError error.now
-        (record { bytes = O.written out.old; counts = O.counts out.old }) (record { bytes = O.written out.new; counts = O.counts out.new })
-        (record { bytes = E.written err.old; counts = E.counts err.old }) (record { bytes = E.written err.new; counts = E.counts err.new })
+        (device_of O.written O.counts out.old) (device_of O.written O.counts out.new)
+        (device_of E.written E.counts err.old) (device_of E.written E.counts err.new)
         result
-        ⊎ (LacksMemory (record { bytes = O.written out.old; counts = O.counts out.old }) (record { bytes = O.written out.new; counts = O.counts out.new }) result
+        ⊎ (LacksMemory (device_of O.written O.counts out.old) (device_of O.written O.counts out.new) result
         × (err.new ≡ err.old)) }
 {
     let Ok(text) = format!(in alloc; "{error}") else {

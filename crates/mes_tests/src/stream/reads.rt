@@ -220,14 +220,15 @@ fn pieces_of_either_framing(rt: HostRuntime) -> Result<(), Fail> {
 #[test]
 fn spaces_are_not_kept(rt: HostRuntime) -> Result<(), Fail> {
     let mut events = Vec::new(rt.alloc());
-    let mut body = Body::new(EventReader::new(rt.alloc()), Limit::USUAL);
-    assert!(rt; body.feed(b"4020\n", &mut events).is_ok());
+    let body = Body::new(EventReader::new(rt.alloc()), Limit::USUAL);
+    let mut plain = StreamReader::Plain(body);
+    assert!(rt; plain.feed(b"4020\n", &mut events).is_ok());
     for _ in 0..4000 {
-        assert!(rt; body.feed(b" ", &mut events).is_ok());
-        assert_eq!(rt; body.held(), 0);
+        assert!(rt; plain.feed(b" ", &mut events).is_ok());
+        assert_eq!(rt; plain.held(), 0);
     }
-    assert!(rt; body.feed(&HEARTBEAT[3..], &mut events).is_ok());
+    assert!(rt; plain.feed(&HEARTBEAT[3..], &mut events).is_ok());
     assert_eq!(rt; events.len(), 1);
-    assert!(rt; body.between());
+    assert!(rt; plain.finish().is_ok());
     Ok(())
 }

@@ -4,4 +4,4 @@ use Rattle.mes_run.proofs.conversion.convert.Goals as goal
 
 pub returns-in-Ok : goal.returns-in-Ok
 returns-in-Ok g c =
-    converts c.args.framing c.args.limit c.args.most _ _ _ _ _ _ _ _ c.read_events.new.events.items (Ok c.in-Ok._report) c.new-events.ensures.items c.in-Ok.ensures (rw c.as_slice.ensures.value at c.send.ensures)
+    converts c.args.framing c.args.limit c.args.most _ _ _ _ _ _ _ _ c.read_events.new.events.items (Ok c.in-Ok._report) c.new-events.ensures.items c.in-Ok.ensures.reads (rw c.as_slice.ensures.value at c.send.ensures)

@@ -1,5 +1,6 @@
 use Rattle.std.proofs.Common.{◌≡◌, ◌+◌, ℕ, take}
 use Rattle.mes_stream.specs.Stream.{saturated}
+use Rattle.mes_frame.specs.Devices.{device_of}
 use Rattle.mes_run.specs.Printing.{GoesOut}
 use Rattle.mes_run.specs.Showing.{lines_from}
 use Rattle.mes_run.proofs.following.show_events.Given as goal
@@ -8,6 +9,6 @@ use Rattle.mes_run.proofs.following.show_events.Given as goal
 abbrev pub invariant-loop-event : goal.invariant-loop-event
 invariant-loop-event g l =
     (n : ℕ) → l.first ≡ saturated n
-    → GoesOut (record { bytes = g.O.Sink.written l.fn.out; counts = g.O.Sink.counts l.fn.out }) (record { bytes = g.O.Sink.written l.out; counts = g.O.Sink.counts l.out })
+    → GoesOut (device_of g.O.Sink.written g.O.Sink.counts l.fn.out) (device_of g.O.Sink.written g.O.Sink.counts l.out)
     (lines_from n (take l.event-index l.events))
     × (l.number ≡ saturated (n + l.event-index))

@@ -3,13 +3,14 @@ use Rattle.std.proofs.lemmas.Result.{err_from_is_err_and}
 use Rattle.mes_event.specs.Events.{lawful_event}
 use Rattle.mes_event.proofs.RecordLemmas.{refused}
 use Rattle.mes_record.proofs.RecordLemmas.{begins}
+use Rattle.mes_stream.proofs.EventLemmas.{refuses}
 use Rattle.mes_stream.proofs.event_reader.EventReaderRecordReader.finish.Goals as goal
 
 pub returns-in_err-event-clause-err : goal.returns-in_err-event-clause-err
 returns-in_err-event-clause-err c = λ r h short.
     let p = err_from_is_err_and c.from_residual-in_err-event.result c.from_residual-in_err-event.ensures.1 in
     let spelt = c.in_ok-tape.ensures.read r (rw c.replace-lexer.ensures.value h.lexed) in
-    rw (p.1, p.2) (refused r _ spelt.0 _ c.new-2.ensures spelt.1 (c.in_err-event.ensures spelt.0 (begins _ spelt.0 (c.root.ensures ∙ spelt.2))))
+    rw (p.1, p.2) (refuses r _ (refused r _ spelt.0 _ c.new-2.ensures spelt.1 (c.in_err-event.ensures spelt.0 (begins _ spelt.0 (c.root.ensures ∙ spelt.2)))))
 
 pub returns-clause-ok : goal.returns-clause-ok
 returns-clause-ok c = λ r h short.

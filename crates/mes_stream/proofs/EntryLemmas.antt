@@ -1,0 +1,47 @@
+-- A reader whose records are never a bad entry tells none.
+use Rattle.std.proofs.Common.{◌≡◌, ◌≢◌, ℕ, List, Option, Result, Ok, Err, inl, inr, subst, sym}
+use Rattle.std.specs.Prelude.{IfErr}
+use Rattle.mes_frame.specs.declared.counts.Counts.{Counts}
+use Rattle.mes_stream.specs.Framings.{InputEnds, SaysIn, StopsIn}
+use Rattle.mes_stream.specs.Reading.{EndsReading}
+use Rattle.mes_stream.specs.declared.fault.Fault.{Fault}
+use Rattle.mes_stream.specs.declared.fault.Fault.TheVariants.{EndsInsideChunks, EndsInsideRecord, NoMemory, Read, ReadsSpent, BadEntry}
+use Rattle.mes_stream.specs.declared.fault.Report.{Report}
+use Rattle.mes_stream.specs.declared.fault.Stop.{Stop}
+use Rattle.mes_stream.specs.declared.refusal.RecordRefusal.{RecordRefusal}
+use Rattle.mes_stream.specs.declared.refusal.RecordRefusal.TheVariants as refusal
+use Rattle.mes_stream.specs.declared.stream_reader.Framing.{Framing}
+use Rattle.mes_stream.specs.declared.stream_reader.Framing.TheVariants.{Plain, Chunked}
+use Rattle.mes_stream.specs.declared.taken.Out.{Out}
+use Rattle.mes_stream.specs.declared.taken.Out.TheVariants as out
+
+module _ {E : Type 0} (spells : List ℕ → E → Type 0) (breaks : List ℕ → RecordRefusal → Type 0) (none : (r : List ℕ) → breaks r refusal.BadEntry → ⊥) where
+  no_entry : (framing : Framing) (limit : ℕ) (w : List ℕ) (values : List E) (c n : ℕ) → StopsIn framing spells breaks limit w values c (BadEntry n) → ⊥
+  no_entry Plain limit w values c n (inl h) = none h.0.is.0 h.0.is.2
+  no_entry Plain limit w values c n (inr h) = let clash : BadEntry n ≡ NoMemory = h.0 in absurd (cc)
+  no_entry Chunked limit w values c n (inl h) = none h.3.0.is.0 h.3.0.is.2
+  no_entry Chunked limit w values c n (inr h) = let clash : BadEntry n ≡ NoMemory = h.0 in absurd (cc)
+
+  pub none_said : (framing : Framing) (Stands : List ℕ → List E → Type 0) (limit : ℕ) (w : List ℕ) (values : List E) (piece : List ℕ) (used : ℕ) (answer : Out E) (n : ℕ)
+      → SaysIn framing Stands spells breaks limit w values piece used answer → answer ≢ out.Fault (BadEntry n)
+  none_said framing Stands limit w values piece used answer n says is =
+      no_entry framing limit _ values _ n (subst (λ (o : Out E). SaysIn framing Stands spells breaks limit w values piece used o) is says)
+
+  -- what the end of the input means is none
+  no_entry_at_end : (framing : Framing) (limit : ℕ) (w : List ℕ) (values : List E) (n : ℕ) → InputEnds {T = Unit {0}} framing spells limit w values (Err (BadEntry n)) → ⊥
+  no_entry_at_end Plain limit w values n h = let clash : BadEntry n ≡ EndsInsideRecord = h.1 in absurd (cc)
+  no_entry_at_end Chunked limit w values n h = let clash : BadEntry n ≡ EndsInsideChunks = h.1 in absurd (cc)
+
+  pub none_read : (framing : Framing) (limit reads : ℕ) (old new : Counts) (last : Option (List ℕ)) (w : List ℕ) (values : List E) (outcome : Result Report Stop)
+      → EndsReading framing spells breaks limit reads old new last w values outcome → IfErr outcome (λ stop. (n : ℕ) → stop.fault ≢ BadEntry n)
+  none_read framing limit reads old new last w values (Ok report) h = tt
+  none_read framing limit reads old new last w values (Err stop) (inl (at, asked)) = λ n is.
+      let s = at.stops in
+      elim s.stops [
+        | inl h ↦ no_entry framing limit s.front values s.byte n (subst (λ (f : Fault). StopsIn framing spells breaks limit s.front values s.byte f) is h)
+        | inr h ↦ let no_memory : stop.fault ≡ NoMemory = h.0 in absurd (cc)
+      ]
+  none_read framing limit reads old new last w values (Err stop) (inr (inl (means, end, asked))) = λ n is.
+      no_entry_at_end framing limit w values n (subst (λ (f : Fault). InputEnds {T = Unit {0}} framing spells limit w values (Err f)) is means.0)
+  none_read framing limit reads old new last w values (Err stop) (inr (inr (inl (off, asked)))) = λ n is. let failed : stop.fault ≡ Read = off.0 in absurd (cc)
+  none_read framing limit reads old new last w values (Err stop) (inr (inr (inr (off, asked)))) = λ n is. let spent : stop.fault ≡ ReadsSpent = off.0 in absurd (cc)

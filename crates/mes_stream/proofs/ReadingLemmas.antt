@@ -1,0 +1,65 @@
+-- The reading of a stream, piece by piece and at its end.
+use Rattle.std.proofs.Common.{◌≡◌, ℕ, ◌+◌, ◌<◌, ◌≤◌, Option, List, [], ◌++◌, length, take, drop, sym, ◌∙◌, ap, append_assoc, append-nil, arith, refl, length-append, length-take-le, take-append-drop, Result, Ok, Err, inl, inr, subst}
+use Rattle.std.specs.Prelude.{OnOk, IfErr}
+use Rattle.mes_frame.specs.declared.counts.Counts.{Counts}
+use Rattle.mes_stream.specs.Framings.{EndsIn}
+use Rattle.mes_stream.specs.Reads.{EndsReads}
+use Rattle.mes_stream.specs.Reading.{EndsAt, ByteEnds, EndsReading, ReadingStands, ReadingTakes, Means, Gathers, GathersLast}
+use Rattle.mes_stream.specs.Stream.{saturated}
+use Rattle.mes_stream.specs.declared.fault.Report.{Report}
+use Rattle.mes_stream.specs.declared.fault.Stop.{Stop}
+use Rattle.mes_stream.specs.declared.limits.TheConstants.{READ_MOST}
+use Rattle.mes_stream.specs.declared.reading.Reading.{Reading}
+use Rattle.mes_stream.specs.declared.reads.ReadsEnd.{ReadsEnd}
+use Rattle.mes_stream.specs.declared.reads.ReadsEnd.TheVariants.{Stopped, AtEnd, Failed, Spent}
+use Rattle.mes_stream.specs.declared.refusal.RecordRefusal.{RecordRefusal}
+use Rattle.mes_stream.specs.declared.stream_reader.Framing.{Framing}
+
+-- a byte of the piece ended the stream
+pub ends_at : {E : Type 0} (framing : Framing) (spells : List ℕ → E → Type 0) (limit : ℕ) (w piece : List ℕ) (values : List E) (used end : ℕ) (report : Report) → 0 < end → end ≤ length piece → length piece ≤ READ_MOST
+    → used ≡ saturated (length w) → report.used ≡ saturated (used + end) → report.rest.items ≡ drop end piece → EndsIn framing spells limit (w ++ take end piece) values
+    → EndsAt framing spells limit (w ++ piece) values report.used report.rest.items
+ends_at framing spells limit w piece values used end report some within small counted is rest ends =
+    let size = length-append (take end piece) (drop end piece) in
+    let whole = ap length (take-append-drop end piece) in
+    record {
+      stream = w ++ take end piece;
+      is = rw rest (ap (λ (y : List ℕ). w ++ y) (sym (take-append-drop end piece)) ∙ sym (append_assoc w (take end piece) (drop end piece)));
+      count = is ∙ omega (arith, counted, length-append w (take end piece), length-take-le end piece within);
+      ends = ends;
+      last = rw rest (omega (arith, some, within, small, size, whole, length-take-le end piece within));
+    }
+
+module _ {R E : Type 0} (holds : R → List ℕ → Type 0) (spells : List ℕ → E → Type 0) (breaks : List ℕ → RecordRefusal → Type 0) where
+  -- the list of a reader that has taken one more piece
+  pub gathers_more : {T : Type 0} (first d new : Reading R) (start old now : List E) (w piece : List ℕ) (result : Result T (Result Report Stop)) → Gathers holds spells first start d old w
+      → ((framing : Framing) (limit : ℕ) (v : List ℕ) (before : List E) → ReadingStands holds spells d framing limit v before → ReadingTakes holds spells breaks new framing limit v before piece old now result)
+      → OnOk result (Gathers holds spells first start new now (w ++ piece))
+  gathers_more first d new start old now w piece (Ok done) h fed = λ framing limit stands.
+      let before = h framing limit stands in
+      let more = fed framing limit w before.0 before.2 in
+      (before.0 ++ more.0, more.1 ∙ ap (λ (x : List E). x ++ more.0) before.1 ∙ append_assoc start before.0 more.0, more.2)
+  gathers_more first d new start old now w piece (Err outcome) h fed = tt
+
+  pub gathers_last : {T : Type 0} (first d new : Reading R) (start old now : List E) (w piece : List ℕ) (result : Result T (Result Report Stop)) → Gathers holds spells first start d old w
+      → ((framing : Framing) (limit : ℕ) (v : List ℕ) (before : List E) → ReadingStands holds spells d framing limit v before → ReadingTakes holds spells breaks new framing limit v before piece old now result)
+      → IfErr result (λ outcome. GathersLast holds spells breaks first start now w piece outcome)
+  gathers_last first d new start old now w piece (Ok done) h fed = tt
+  gathers_last first d new start old now w piece (Err outcome) h fed = λ framing limit stands.
+      let before = h framing limit stands in
+      let more = fed framing limit w before.0 before.2 in
+      (before.0 ++ more.0, more.1 ∙ ap (λ (x : List E). x ++ more.0) before.1 ∙ append_assoc start before.0 more.0, more.2)
+
+  -- how the reading ended, by how the reads did
+  pub read_through : (first now : Reading R) (start to : List E) (framing : Framing) (limit reads : ℕ) (old new : Counts) (last : Option (List ℕ)) (w : List ℕ) (end : ReadsEnd (Result Report Stop)) (answer : Result Report Stop)
+      → ReadingStands holds spells first framing limit [] [] → EndsReads (Gathers holds spells first start now to) (GathersLast holds spells breaks first start to) reads old new last w end → Means holds spells now end answer
+      → (more : List E) × (to ≡ start ++ more) × EndsReading framing spells breaks limit reads old new last w more answer
+  read_through first now start to framing limit reads old new last w (Stopped outcome) answer stands (front, piece, at, stops, asked) is =
+      let h = stops framing limit stands in
+      (h.0, h.1, inl (rw (is, at.is) h.2, asked))
+  read_through first now start to framing limit reads old new last w AtEnd answer stands (goes, end, asked) means =
+      let h = goes framing limit stands in (h.0, h.1, inr (inl (means framing limit w h.0 h.2, end, asked)))
+  read_through first now start to framing limit reads old new last w Failed answer stands (goes, asked) means =
+      let h = goes framing limit stands in (h.0, h.1, inr (inr (inl (means framing limit w h.0 h.2, asked))))
+  read_through first now start to framing limit reads old new last w Spent answer stands (goes, asked) means =
+      let h = goes framing limit stands in (h.0, h.1, inr (inr (inr (means framing limit w h.0 h.2, asked))))

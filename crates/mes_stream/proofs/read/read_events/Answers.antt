@@ -1,0 +1,9 @@
+use Rattle.mes_event.specs.Events.{Spells}
+use Rattle.mes_stream.specs.Refusals.{IsEventRefusal}
+use Rattle.mes_stream.proofs.EntryLemmas.{none_read}
+use Rattle.mes_stream.proofs.read.read_events.Goals as goal
+
+pub returns-clause-entries : goal.returns-clause-entries
+returns-clause-entries g c =
+    let h = c.read_records.ensures in
+    none_read Spells IsEventRefusal (λ r bad. bad) c.args.framing c.args.limit c.args.max_reads _ _ _ h.0 h.1 c.read_records.result h.4

@@ -1,0 +1,29 @@
+-- Why the data of a record have no value, and the fault of the stream that shows it.
+use Rattle.std.specs.Prelude.{ℕ, List}
+use Rattle.mes_event.specs.Events.{IsRecordFault}
+use Rattle.mes_record.specs.declared.record.RecordFault.{RecordFault}
+use Rattle.mes_record.specs.declared.record.RecordFault.TheVariants as message
+use Rattle.mes_stream.specs.declared.refusal.RecordRefusal.{RecordRefusal}
+use Rattle.mes_stream.specs.declared.refusal.RecordRefusal.TheVariants as refusal
+use Rattle.mes_stream.specs.declared.fault.Fault.{Fault}
+use Rattle.mes_stream.specs.declared.fault.Fault.TheVariants.{Text, Field, NoMemory, BadEntry}
+
+-- the fault of a message, as a refusal
+abbrev pub refusal_of : RecordFault → RecordRefusal
+refusal_of (message.Text f) = refusal.Text f
+refusal_of (message.Field f) = refusal.Field f
+refusal_of message.NoMemory = refusal.NoMemory
+
+-- why the data are no event's: of no event are they a bad entry
+abbrev pub IsEventRefusal : List ℕ → RecordRefusal → Type 0
+IsEventRefusal r (refusal.Text f) = IsRecordFault r (message.Text f)
+IsEventRefusal r (refusal.Field f) = IsRecordFault r (message.Field f)
+IsEventRefusal r refusal.BadEntry = ⊥
+IsEventRefusal r refusal.NoMemory = IsRecordFault r message.NoMemory
+
+-- the fault of a stream whose record of that number has no value
+abbrev pub fault_at_record : ℕ → RecordRefusal → Fault
+fault_at_record n (refusal.Text f) = Text n f.byte f.why
+fault_at_record n (refusal.Field f) = Field n f.path f.why
+fault_at_record n refusal.BadEntry = BadEntry n
+fault_at_record n refusal.NoMemory = NoMemory
