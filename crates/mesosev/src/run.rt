@@ -102,8 +102,7 @@ fn perform<I: Source, O: Sink, E: Sink>(
 
 /// Tells on standard error that a word is no text, before any word is read.
 pub(crate) fn tell_not_text<E: Sink>(err: &mut E) -> u8
-    ensures { Prints (record { bytes = E.written err.old; counts = E.counts err.old }) (record { bytes = E.written err.new; counts = E.counts err.new })
-        not_text_line 2 result }
+    ensures { Prints (device_of E.written E.counts err.old) (device_of E.written E.counts err.new) not_text_line 2 result }
 {
     print_text(err, NOT_TEXT, BAD_WORDS)
 }
