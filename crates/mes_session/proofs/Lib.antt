@@ -1,0 +1,4 @@
+pub mod KeptLemmas
+pub mod HistoryLemmas
+pub mod SessionLemmas
+pub mod ReplayLemmas

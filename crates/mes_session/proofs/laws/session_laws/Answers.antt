@@ -1,0 +1,14 @@
+use Rattle.std.specs.List.{fold}
+use Rattle.mes_session.specs.History.{at_first, after}
+use Rattle.mes_session.proofs.HistoryLemmas.{StandsFor-some, StandsFor-unique}
+use Rattle.mes_session.proofs.ReplayLemmas.{refused-once}
+use Rattle.mes_session.proofs.laws.session_laws.Goals as goal
+
+pub returns-clause-some : goal.returns-clause-some
+returns-clause-some c = λ h. (fold after at_first h, StandsFor-some h)
+
+pub returns-clause-one : goal.returns-clause-one
+returns-clause-one c = StandsFor-unique
+
+pub returns-clause-refused : goal.returns-clause-refused
+returns-clause-refused c = refused-once c.refusal_laws.ensures

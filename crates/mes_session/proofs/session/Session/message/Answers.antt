@@ -1,0 +1,21 @@
+use Rattle.std.proofs.Common.{refl}
+use Rattle.mes_resource.specs.declared.id.Id.{Id}
+use Rattle.mes_session.specs.Making.{message_call}
+use Rattle.mes_session.proofs.SessionLemmas.{turned_down, made_ok, made_err}
+use Rattle.mes_session.proofs.session.Session.message.Goals as goal
+
+pub returns-in-Some-clause-err : goal.returns-in-Some-clause-err
+returns-in-Some-clause-err c =
+    turned_down (λ (framework : Id). message_call framework c.args.agent.now c.args.executor.now c.args.«data».now) c.standing.result c.args.self.now c.standing.ensures c.refusal_of_plain.result
+    (λ f own. c.refusal_of_plain.ensures.answers f (message_call f c.args.agent.now c.args.executor.now c.args.«data».now) own refl tt) c.in-Some.refusal c.in-Some.is
+
+pub returns-clause-ok : goal.returns-clause-ok
+returns-clause-ok c =
+    made_ok (λ (framework : Id). message_call framework c.args.agent.now c.args.executor.now c.args.«data».now) c.standing.result c.args.self.now c.standing.ensures c.refusal_of_plain.result
+    (λ f own. c.refusal_of_plain.ensures.answers f (message_call f c.args.agent.now c.args.executor.now c.args.«data».now) own refl tt)
+    c.say.new.self c.own.result.now c.message-call.result c.say.result c.in_default.is c.own.ensures c.message-call.ensures c.say.ensures.ok
+
+pub returns-clause-err : goal.returns-clause-err
+returns-clause-err c =
+    made_err (λ (framework : Id). message_call framework c.args.agent.now c.args.executor.now c.args.«data».now) c.standing.result c.args.self.now c.standing.ensures c.refusal_of_plain.result
+    (λ f own. c.refusal_of_plain.ensures.answers f (message_call f c.args.agent.now c.args.executor.now c.args.«data».now) own refl tt) c.say.new.self c.say.result c.in_default.is c.say.ensures.err

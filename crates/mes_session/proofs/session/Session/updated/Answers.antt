@@ -1,0 +1,9 @@
+use Rattle.mes_session.proofs.SessionLemmas.{updated-ok, unowed-next}
+use Rattle.mes_session.proofs.session.Session.updated.Goals as goal
+
+pub returns-in-Some-clause-next : goal.returns-in-Some-clause-next
+returns-in-Some-clause-next c =
+    updated-ok _ _ c.self.view_is c.add.result c.args.body.now c.in_ok-key.field-0 c.in-Some.key c.add.new.self c.in-Some.is c.in_ok-key.ensures c.add.ensures.ok
+
+pub returns-in-None-clause-next : goal.returns-in-None-clause-next
+returns-in-None-clause-next c = unowed-next c.args.self.now c.args.body.now c.in_ok-key.field-0 c.in-None.is c.in_ok-key.ensures

@@ -1,0 +1,129 @@
+-- What a framework holds after what it has heard and said (scheduler.proto, `Event` and `Call`).
+use Rattle.std.specs.Prelude.{◌≡◌, ℕ, Bool, true, false, ◌&&◌, not, if◌then◌else◌, fold, filter, filter_map, reverse, take, slice_get, List, [], ◌∷◌, ◌++◌, Option, Some, None}
+use Rattle.std.specs.List.{list_any}
+use Rattle.std.specs.Option.{option_or, option_to_list}
+use Rattle.std.specs.Str.{bytes_eq}
+use Rattle.mes_resource.specs.declared.id.Id.{Id}
+use Rattle.mes_offer.specs.declared.offer.Offer.{Offer}
+use Rattle.mes_task.specs.declared.owed_key.OwedKey.{OwedKey}
+use Rattle.mes_task.specs.Owed.{owed_key_of}
+use Rattle.mes_call.specs.declared.call.Call.{Call}
+use Rattle.mes_msg.specs.declared.entry.Entry.{Entry}
+use Rattle.mes_msg.specs.declared.entry.Entry.TheVariants.{Heard, Said, Broken}
+use Rattle.mes_event.specs.declared.event.Event.TheVariants as heard
+use Rattle.mes_hand.specs.Keeping.{put}
+use Rattle.mes_hand.specs.Held.{Held, name_of, same_key}
+use Rattle.mes_hand.specs.Calls.{named_by, acknowledged_by}
+use Rattle.mes_hand.specs.declared.refusal.Refusal.{Refusal}
+use Rattle.mes_hand.specs.declared.refusal.Refusal.TheVariants.{NoMemory}
+use Rattle.mes_hand.specs.Refusals.{as_told, IsRefused}
+use Rattle.mes_session.specs.Kept.{after_last, IsKept}
+
+-- ---- the stream
+
+-- SUBSCRIBED names the framework
+abbrev pub subscribed_by : Entry → Option Id
+subscribed_by (Heard (heard.Subscribed s)) = Some s.framework_id
+subscribed_by _ = None
+
+abbrev pub subscribes : Entry → Bool
+subscribes (Heard (heard.Subscribed s)) = true
+subscribes _ = false
+
+abbrev pub breaks : Entry → Bool
+breaks Broken = true
+breaks _ = false
+
+-- the framework is that of the last SUBSCRIBED
+abbrev pub framework_after : List Entry → Option Id
+framework_after h = slice_get (filter_map subscribed_by (reverse h)) 0
+
+-- the stream stands where a SUBSCRIBED was heard since it last broke
+abbrev pub connected_after : List Entry → Bool
+connected_after h = list_any subscribes (after_last breaks h)
+
+-- ---- the offers in hand
+
+-- OFFERS brings offers
+abbrev pub offers_of : Entry → List Offer
+offers_of (Heard (heard.Offers offers)) = offers
+offers_of _ = []
+
+-- An offer is taken out by a RESCIND of it, by an ACCEPT or a DECLINE that names it, and with all others by a SUBSCRIBED and a break.
+abbrev pub takes_offer : List ℕ → Entry → Bool
+takes_offer name (Heard (heard.Subscribed s)) = true
+takes_offer name (Heard (heard.Rescind r)) = bytes_eq r.offer_id.value name
+takes_offer name (Said call) = list_any (λ (d : Id). bytes_eq d.value name) (named_by call)
+takes_offer name Broken = true
+takes_offer _ _ = false
+
+abbrev pub IsHand : List Entry → List Offer → Type 0
+IsHand h hand = IsKept bytes_eq name_of offers_of takes_offer h hand
+
+-- ---- the updates that are owed
+
+-- an UPDATE whose status owes an acknowledgement brings its key
+abbrev pub owed_by : Entry → List OwedKey
+owed_by (Heard (heard.Update u)) = option_to_list (owed_key_of u.status)
+owed_by _ = []
+
+-- an ACKNOWLEDGE takes its key away, and nothing else does
+abbrev pub is_key : OwedKey → Option OwedKey → Bool
+is_key key None = false
+is_key key (Some k) = same_key k key
+
+abbrev pub acknowledges : OwedKey → Entry → Bool
+acknowledges key (Said call) = is_key key (acknowledged_by call)
+acknowledges _ _ = false
+
+abbrev pub IsOwed : List Entry → List OwedKey → Type 0
+IsOwed h owed = IsKept same_key (λ (key : OwedKey). key) owed_by acknowledges h owed
+
+-- ---- what is held
+
+-- this is what a framework with this history holds
+pub record StandsFor (h : List Entry) (s : Held) : Type 0 where
+  pub framework : s.framework ≡ framework_after h
+  pub connected : s.connected ≡ connected_after h
+  pub hand : IsHand h s.hand
+  pub owed : IsOwed h s.owed
+
+-- before anything was heard
+abbrev pub at_first : Held
+at_first = record { framework = None; connected = false; hand = []; owed = [] }
+
+-- One more entry, each alike: what it takes away goes, and then what it brings comes.
+abbrev pub after : Held → Entry → Held
+after s e = record {
+  framework = option_or (subscribed_by e) s.framework;
+  connected = if breaks e then false else (if subscribes e then true else s.connected);
+  hand = fold (put bytes_eq name_of) (filter (λ o. not (takes_offer (name_of o) e)) s.hand) (offers_of e);
+  owed = fold (put same_key (λ (key : OwedKey). key)) (filter (λ key. not (acknowledges key e)) s.owed) (owed_by e);
+}
+
+-- it stands for each history that it stood for, and this entry behind it
+abbrev pub StandsNext : Entry → Held → Held → Type 0
+StandsNext e s t = (h : List Entry) → StandsFor h s → StandsFor (h ++ e ∷ []) t
+
+-- ---- what is refused
+
+-- a call is refused after a history by what is held then
+abbrev pub RefusedAfter : List Entry → Call → Refusal → Type 0
+RefusedAfter h call fault = (s : Held) × StandsFor h s × IsRefused s call fault
+
+-- no call of it is refused after the entries in front
+abbrev pub IsLegal : List Entry → Type 0
+IsLegal h = (i : ℕ) (call : Call) (fault : Refusal) → slice_get h i ≡ Some (Said call) → RefusedAfter (take i h) call fault → ⊥
+
+-- An entry that is not taken after a history: a call that is refused, as it is told; or an event, where memory is.
+abbrev pub IsStopped : List Entry → Entry → Refusal → Type 0
+IsStopped h (Heard event) told = told ≡ NoMemory
+IsStopped h (Said call) told = (fault : Refusal) × (told ≡ as_told fault) × RefusedAfter h call fault
+IsStopped h Broken told = ⊥
+
+-- the entries in front are legal, and this one is not taken
+pub record StopsAt (h : List Entry) (i : ℕ) (told : Refusal) : Type 0 where
+  pub front : IsLegal (take i h)
+  pub entry : Entry
+  pub is : slice_get h i ≡ Some entry
+  pub stopped : IsStopped (take i h) entry told

@@ -1,0 +1,71 @@
+-- What a session answers where it is asked for a call.
+use Rattle.std.specs.Prelude.{◌≡◌, ◌⊎◌, ℕ, List, [], ◌∷◌, Option, Some, None}
+use Rattle.std.specs.Option.{option_or}
+use Rattle.mes_resource.specs.declared.id.Id.{Id}
+use Rattle.mes_model.specs.declared.framework_info.FrameworkInfo.{FrameworkInfo}
+use Rattle.mes_task.specs.declared.task_ref.TaskRef.{TaskRef}
+use Rattle.mes_call.specs.declared.call.Call.{Call}
+use Rattle.mes_call.specs.declared.call.Call.TheVariants as of
+use Rattle.mes_msg.specs.declared.entry.Entry.{Entry}
+use Rattle.mes_msg.specs.declared.entry.Entry.TheVariants.{Heard, Said, Broken}
+use Rattle.mes_hand.specs.declared.refusal.Refusal.{Refusal}
+use Rattle.mes_hand.specs.declared.refusal.Refusal.TheVariants.{NoMemory}
+use Rattle.mes_hand.specs.Held.{Held}
+use Rattle.mes_hand.specs.Refusals.{Answers, IsOwn}
+use Rattle.mes_session.specs.History.{after, StandsNext}
+
+-- ---- calls by what is told in them
+
+-- a SUBSCRIBE names the framework that is known, also in what it tells of it; where none is, the framework that is told there
+abbrev pub subscribe_call : Option Id → FrameworkInfo → Call
+subscribe_call known info = of.Subscribe (option_or known info.id) (record { framework_info = record info { id = option_or known info.id } })
+
+abbrev pub kill_call : Id → Id → Option Id → Call
+kill_call framework task agent = of.Kill framework (record { task_id = task; agent_id = agent })
+
+abbrev pub reconcile_call : Id → List TaskRef → Call
+reconcile_call framework tasks = of.Reconcile framework (record { tasks = tasks })
+
+abbrev pub shutdown_call : Id → Id → Id → Call
+shutdown_call framework executor agent = of.Shutdown framework (record { executor_id = executor; agent_id = agent })
+
+abbrev pub message_call : Id → Id → Id → List ℕ → Call
+message_call framework agent executor bytes = of.Message framework (record { agent_id = agent; executor_id = executor; payload = bytes })
+
+-- ---- answers
+
+-- nothing is to be said against the call, and it counts from now on
+pub record Applied (before : Held) (call : Call) (later : Held) : Type 0 where
+  pub accepted : Answers before call None
+  pub next : later ≡ after before (Said call)
+  pub stands : StandsNext (Said call) before later
+
+-- it is the call that was asked for, of the framework that is known
+pub record Made (make : Id → Call) (before later : Held) (call : Call) : Type 0 where
+  pub framework : Id
+  pub known : before.framework ≡ Some framework
+  pub is : call ≡ make framework
+  pub applied : Applied before call later
+
+-- the first that is to be said against the call; or, where there is nothing, that memory was refused
+abbrev pub IsTold : Held → Call → Refusal → Type 0
+IsTold held call refusal = Answers held call (Some refusal) ⊎ ((refusal ≡ NoMemory) × Answers held call None)
+
+-- no call was made, and all is as it was
+pub record NotMade (make : Id → Call) (before later : Held) (refusal : Refusal) : Type 0 where
+  pub told : (framework : Id) → IsOwn before framework → IsTold before (make framework) refusal
+  pub same : later ≡ before
+
+-- ---- one entry after another
+
+-- an entry that is taken: an event, a break, or a call with nothing to be said against it
+abbrev pub Passes : Held → Entry → Type 0
+Passes held (Heard event) = Unit {0}
+Passes held (Said call) = Answers held call None
+Passes held Broken = Unit {0}
+
+-- one that is not: an event where memory is refused, or a call with something to be said against it
+abbrev pub IsTurnedAway : Held → Entry → Refusal → Type 0
+IsTurnedAway held (Heard event) told = told ≡ NoMemory
+IsTurnedAway held (Said call) told = Answers held call (Some told)
+IsTurnedAway held Broken told = ⊥

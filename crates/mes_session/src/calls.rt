@@ -1,0 +1,172 @@
+//! The calls that a session makes. Each looks first whether the call may be said, and copies then, so that want of memory never hides
+//! S1 to S7; what it answers with was said.
+ghost use Rattle.std.specs.Prelude.{◌≡◌, Some, Ok, Err, IfOk, IfErr, OnErr, IsSome, option_copied};
+ghost use Rattle.mes_resource.specs.declared.id.Id.{Id as IdValue};
+ghost use Rattle.mes_msg.specs.declared.entry.Entry.TheVariants.{Said};
+ghost use Rattle.mes_hand.specs.Calls.{accept_call, decline_call, acknowledge_call};
+ghost use Rattle.mes_session.specs.History.{after};
+ghost use Rattle.mes_session.specs.Making.{subscribe_call, kill_call, reconcile_call, shutdown_call, message_call, Applied, Made, NotMade};
+
+use crate::copies;
+use crate::session::Session;
+use mes_hand::Refusal;
+use mes_json::NoMemory;
+use mes_model::{Filters, FrameworkInfo, Id, OwedKey, TaskInfo, TaskRef};
+use mes_msg::Call;
+
+impl Session {
+    /// The framework subscribes, or does so again: where a framework is known, the call names it, also in what it tells of itself; else
+    /// it names the framework that is told there, if one is. S8 alone.
+    pub fn subscribe(&mut self, info: &FrameworkInfo) -> Result<Call, Refusal>
+        ensures call { IfOk result (λ call. call ≡ subscribe_call self.old.framework info.now) }
+        ensures ok { IfOk result (λ call. Applied self.old call self.new) }
+        ensures err { IfErr result (λ refusal. refusal ≡ Refusal.NoMemory) }
+        ensures same { OnErr result (self.new ≡ self.old) }
+    {
+        let call = copies::subscribe(self.alloc, self.framework.as_ref(), info);
+        self.say(call)
+    }
+
+    /// Accepts offers, and launches tasks on them: no tasks give no operation, else there is one LAUNCH. S1 to S6, and then S8.
+    pub fn accept(
+        &mut self,
+        ids: &[Id],
+        tasks: &[TaskInfo],
+        filters: Option<&Filters>,
+    ) -> Result<Call, Refusal>
+        ensures ok { IfOk result (λ call. Made (λ framework. accept_call framework ids.now tasks.now (option_copied filters.entry)) self.old self.new call) }
+        ensures err { IfErr result (λ refusal. NotMade (λ framework. accept_call framework ids.now tasks.now (option_copied filters.entry)) self.old self.new refusal) }
+    {
+        if let Some(refusal) = self.standing().refusal_of_accept(ids, tasks) {
+            return Err(refusal);
+        }
+        let call = copies::accept(self.alloc, self.own(), ids, tasks, filters);
+        self.say(call)
+    }
+
+    /// Declines offers, which may be of several agents. S1 to S3, and then S8.
+    pub fn decline(&mut self, ids: &[Id], filters: Option<&Filters>) -> Result<Call, Refusal>
+        ensures ok { IfOk result (λ call. Made (λ framework. decline_call framework ids.now (option_copied filters.entry)) self.old self.new call) }
+        ensures err { IfErr result (λ refusal. NotMade (λ framework. decline_call framework ids.now (option_copied filters.entry)) self.old self.new refusal) }
+    {
+        if let Some(refusal) = self.standing().refusal_of_decline(ids) {
+            return Err(refusal);
+        }
+        let call = copies::decline(self.alloc, self.own(), ids, filters);
+        self.say(call)
+    }
+
+    /// Wants offers again. S1, and then S8.
+    pub fn revive(&mut self) -> Result<Call, Refusal>
+        ensures ok { IfOk result (λ call. Made (λ framework. Call.Revive framework) self.old self.new call) }
+        ensures err { IfErr result (λ refusal. NotMade (λ framework. Call.Revive framework) self.old self.new refusal) }
+    {
+        if let Some(refusal) = self.standing().refusal_of_plain() {
+            return Err(refusal);
+        }
+        let call = copies::revive(self.alloc, self.own());
+        self.say(call)
+    }
+
+    /// Kills a task, on an agent where one is told. S1, and then S8.
+    pub fn kill(&mut self, task: &Id, agent: Option<&Id>) -> Result<Call, Refusal>
+        ensures ok { IfOk result (λ call. Made (λ framework. kill_call framework task.now (option_copied agent.entry)) self.old self.new call) }
+        ensures err { IfErr result (λ refusal. NotMade (λ framework. kill_call framework task.now (option_copied agent.entry)) self.old self.new refusal) }
+    {
+        if let Some(refusal) = self.standing().refusal_of_plain() {
+            return Err(refusal);
+        }
+        let call = copies::kill(self.alloc, self.own(), task, agent);
+        self.say(call)
+    }
+
+    /// Acknowledges an update that is owed. S1, S7, and then S8.
+    pub fn acknowledge(&mut self, key: &OwedKey) -> Result<Call, Refusal>
+        ensures ok { IfOk result (λ call. Made (λ framework. acknowledge_call framework key.now) self.old self.new call) }
+        ensures err { IfErr result (λ refusal. NotMade (λ framework. acknowledge_call framework key.now) self.old self.new refusal) }
+    {
+        if let Some(refusal) = self.standing().refusal_of_acknowledge(key) {
+            return Err(refusal);
+        }
+        let call = copies::acknowledge(self.alloc, self.own(), key);
+        self.say(call)
+    }
+
+    /// Asks for the states of tasks, or of all where none are told; a task may stand twice. S1, and then S8.
+    pub fn reconcile(&mut self, tasks: &[TaskRef]) -> Result<Call, Refusal>
+        ensures ok { IfOk result (λ call. Made (λ framework. reconcile_call framework tasks.now) self.old self.new call) }
+        ensures err { IfErr result (λ refusal. NotMade (λ framework. reconcile_call framework tasks.now) self.old self.new refusal) }
+    {
+        if let Some(refusal) = self.standing().refusal_of_plain() {
+            return Err(refusal);
+        }
+        let call = copies::reconcile(self.alloc, self.own(), tasks);
+        self.say(call)
+    }
+
+    /// Ends the framework. S1, and then S8.
+    pub fn teardown(&mut self) -> Result<Call, Refusal>
+        ensures ok { IfOk result (λ call. Made (λ framework. Call.Teardown framework) self.old self.new call) }
+        ensures err { IfErr result (λ refusal. NotMade (λ framework. Call.Teardown framework) self.old self.new refusal) }
+    {
+        if let Some(refusal) = self.standing().refusal_of_plain() {
+            return Err(refusal);
+        }
+        let call = copies::teardown(self.alloc, self.own());
+        self.say(call)
+    }
+
+    /// Wants no more offers, until they are revived. S1, and then S8.
+    pub fn suppress(&mut self) -> Result<Call, Refusal>
+        ensures ok { IfOk result (λ call. Made (λ framework. Call.Suppress framework) self.old self.new call) }
+        ensures err { IfErr result (λ refusal. NotMade (λ framework. Call.Suppress framework) self.old self.new refusal) }
+    {
+        if let Some(refusal) = self.standing().refusal_of_plain() {
+            return Err(refusal);
+        }
+        let call = copies::suppress(self.alloc, self.own());
+        self.say(call)
+    }
+
+    /// Shuts an executor down. S1, and then S8.
+    pub fn shutdown(&mut self, executor: &Id, agent: &Id) -> Result<Call, Refusal>
+        ensures ok { IfOk result (λ call. Made (λ framework. shutdown_call framework executor.now agent.now) self.old self.new call) }
+        ensures err { IfErr result (λ refusal. NotMade (λ framework. shutdown_call framework executor.now agent.now) self.old self.new refusal) }
+    {
+        if let Some(refusal) = self.standing().refusal_of_plain() {
+            return Err(refusal);
+        }
+        let call = copies::shutdown(self.alloc, self.own(), executor, agent);
+        self.say(call)
+    }
+
+    /// Sends bytes to an executor. S1, and then S8.
+    pub fn message(&mut self, agent: &Id, executor: &Id, data: &[u8]) -> Result<Call, Refusal>
+        ensures ok { IfOk result (λ call. Made (λ framework. message_call framework agent.now executor.now «data».now) self.old self.new call) }
+        ensures err { IfErr result (λ refusal. NotMade (λ framework. message_call framework agent.now executor.now «data».now) self.old self.new refusal) }
+    {
+        if let Some(refusal) = self.standing().refusal_of_plain() {
+            return Err(refusal);
+        }
+        let call = copies::message(self.alloc, self.own(), agent, executor, data);
+        self.say(call)
+    }
+
+    /// The framework, where it is known.
+    fn own(&self) -> &Id
+        requires { IsSome self.now.framework }
+        ensures { self.now.framework ≡ Some result.now }
+    {
+        self.framework.as_ref().unwrap()
+    }
+
+    /// Says a call that may be said, once it is made.
+    fn say(&mut self, call: Result<Call, NoMemory>) -> Result<Call, Refusal>
+        ensures ok { IfOk result (λ made. (call ≡ Ok made) × (self.new ≡ after self.old (Said made))) }
+        ensures err { IfErr result (λ refusal. (refusal ≡ Refusal.NoMemory) × (self.new ≡ self.old)) }
+    {
+        let call = call?;
+        self.apply(&call);
+        Ok(call)
+    }
+}

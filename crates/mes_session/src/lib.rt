@@ -1,0 +1,16 @@
+#![tactic(auto)]
+//! The session of a framework with its master: which offers it has in hand, which updates it owes an acknowledgement, and which calls
+//! it may make.
+
+mod calls;
+mod copies;
+mod laws;
+mod replaying;
+mod session;
+
+pub use laws::session_laws;
+pub use mes_hand::Refusal;
+pub use mes_model::OwedKey;
+pub use mes_msg::Entry;
+pub use replaying::replay;
+pub use session::Session;

@@ -1,0 +1,80 @@
+//! Histories: what is held after them, entry by entry and replayed.
+
+use crate::support::{expect_replay, expect_script};
+use std::test::Fail;
+
+/// Offers keep the place in which they came and take the last value; one that comes again after it was taken out is last.
+const HAND: &str =
+    r#"E {"type":"SUBSCRIBED","subscribed":{"framework_id":{"value":"F1"}}} => ok | F1 on ;
+E {"type":"OFFERS","offers":{"offers":[{"id":{"value":"O1"},"framework_id":{"value":"F1"},"agent_id":{"value":"A1"},"hostname":"a"},{"id":{"value":"O2"},"framework_id":{"value":"F1"},"agent_id":{"value":"A1"},"hostname":"b"},{"id":{"value":"O1"},"framework_id":{"value":"F1"},"agent_id":{"value":"A1"},"hostname":"c"}]}} => ok | F1 on O1=c O2=b ;
+E {"type":"OFFERS","offers":{"offers":[{"id":{"value":"O3"},"framework_id":{"value":"F1"},"agent_id":{"value":"A1"},"hostname":"d"},{"id":{"value":"O1"},"framework_id":{"value":"F1"},"agent_id":{"value":"A2"},"hostname":"e"}]}} => ok | F1 on O1=e O2=b O3=d ;
+E {"type":"RESCIND","rescind":{"offer_id":{"value":"O1"}}} => ok | F1 on O2=b O3=d ;
+E {"type":"RESCIND","rescind":{"offer_id":{"value":"O1"}}} => ok | F1 on O2=b O3=d ;
+E {"type":"OFFERS","offers":{"offers":[{"id":{"value":"O1"},"framework_id":{"value":"F1"},"agent_id":{"value":"A1"},"hostname":"f"}]}} => ok | F1 on O2=b O3=d O1=f ;
+E {"type":"HEARTBEAT"} => ok | F1 on O2=b O3=d O1=f ;
+E {"type":"INVERSE_OFFERS"} => ok | F1 on O2=b O3=d O1=f ;
+E {"type":"FAILURE","failure":{}} => ok | F1 on O2=b O3=d O1=f ;
+E {"type":"ERROR","error":{"message":"m"}} => ok | F1 on O2=b O3=d O1=f ;
+E {"type":"MESSAGE","message":{"agent_id":{"value":"A1"},"executor_id":{"value":"E1"},"data":"AAE="}} => ok | F1 on O2=b O3=d O1=f ;
+E {"type":"SUBSCRIBED","subscribed":{"framework_id":{"value":"F2"}}} => ok | F2 on ;
+E {"type":"OFFERS","offers":{"offers":[]}} => ok | F2 on ;
+"#;
+
+/// What is owed outlives a SUBSCRIBED and a break, in the order in which it came.
+const OWED: &str =
+    r#"E {"type":"SUBSCRIBED","subscribed":{"framework_id":{"value":"F1"}}} => ok | F1 on ;
+E {"type":"UPDATE","update":{"status":{"task_id":{"value":"T1"},"state":"TASK_RUNNING","agent_id":{"value":"A1"},"uuid":"AAECAwQFBgcICQoLDA0ODw=="}}} => ok | F1 on ; T1
+E {"type":"UPDATE","update":{"status":{"task_id":{"value":"T2"},"state":"TASK_RUNNING","agent_id":{"value":"A1"},"uuid":"AAECAwQFBgcICQoLDA0ODw=="}}} => ok | F1 on ; T1 T2
+E {"type":"UPDATE","update":{"status":{"task_id":{"value":"T1"},"state":"TASK_RUNNING","agent_id":{"value":"A1"},"uuid":"AAECAwQFBgcICQoLDA0ODw=="}}} => ok | F1 on ; T1 T2
+E {"type":"SUBSCRIBED","subscribed":{"framework_id":{"value":"F1"}}} => ok | F1 on ; T1 T2
+B => ok | F1 off ; T1 T2
+E {"type":"SUBSCRIBED","subscribed":{"framework_id":{"value":"F1"}}} => ok | F1 on ; T1 T2
+C {"type":"ACKNOWLEDGE","framework_id":{"value":"F1"},"acknowledge":{"agent_id":{"value":"A1"},"task_id":{"value":"T1"},"uuid":"AAECAwQFBgcICQoLDA0ODw=="}} => ok | F1 on ; T2
+E {"type":"UPDATE","update":{"status":{"task_id":{"value":"T1"},"state":"TASK_RUNNING","agent_id":{"value":"A1"},"uuid":"AAECAwQFBgcICQoLDA0ODw=="}}} => ok | F1 on ; T2 T1
+"#;
+
+/// A history of which no call is refused.
+const LEGAL: &str =
+    r#"E {"type":"SUBSCRIBED","subscribed":{"framework_id":{"value":"F1"}}}
+E {"type":"OFFERS","offers":{"offers":[{"id":{"value":"O1"},"framework_id":{"value":"F1"},"agent_id":{"value":"A1"},"hostname":"h"},{"id":{"value":"O2"},"framework_id":{"value":"F1"},"agent_id":{"value":"A1"},"hostname":"g"}]}}
+E {"type":"UPDATE","update":{"status":{"task_id":{"value":"T1"},"state":"TASK_RUNNING","agent_id":{"value":"A1"},"uuid":"AAECAwQFBgcICQoLDA0ODw=="}}}
+C {"type":"DECLINE","framework_id":{"value":"F1"},"decline":{"offer_ids":[{"value":"O1"}]}}
+C {"type":"REVIVE","framework_id":{"value":"F1"}}
+"#;
+
+/// The same, with two calls behind that are refused.
+const REFUSED: &str =
+    r#"E {"type":"SUBSCRIBED","subscribed":{"framework_id":{"value":"F1"}}}
+E {"type":"OFFERS","offers":{"offers":[{"id":{"value":"O1"},"framework_id":{"value":"F1"},"agent_id":{"value":"A1"},"hostname":"h"},{"id":{"value":"O2"},"framework_id":{"value":"F1"},"agent_id":{"value":"A1"},"hostname":"g"}]}}
+E {"type":"UPDATE","update":{"status":{"task_id":{"value":"T1"},"state":"TASK_RUNNING","agent_id":{"value":"A1"},"uuid":"AAECAwQFBgcICQoLDA0ODw=="}}}
+C {"type":"DECLINE","framework_id":{"value":"F1"},"decline":{"offer_ids":[{"value":"O1"}]}}
+C {"type":"REVIVE","framework_id":{"value":"F1"}}
+C {"type":"ACCEPT","framework_id":{"value":"F1"},"accept":{"offer_ids":[{"value":"O2"},{"value":"O1"}]}}
+C {"type":"DECLINE","framework_id":{"value":"F1"},"decline":{"offer_ids":[{"value":"O9"}]}}
+"#;
+
+/// A call behind a break.
+const LOST: &str =
+    r#"E {"type":"SUBSCRIBED","subscribed":{"framework_id":{"value":"F1"}}}
+B
+C {"type":"REVIVE","framework_id":{"value":"F1"}}
+"#;
+
+#[test]
+fn offers_keep_their_places(rt: HostRuntime) -> Result<(), Fail> {
+    expect_script(&rt, HAND)
+}
+
+#[test]
+fn what_is_owed_stays(rt: HostRuntime) -> Result<(), Fail> {
+    expect_script(&rt, OWED)
+}
+
+#[test]
+fn histories_are_replayed(rt: HostRuntime) -> Result<(), Fail> {
+    expect_replay(&rt, "", "- off ;")?;
+    expect_replay(&rt, "B", "- off ;")?;
+    expect_replay(&rt, LEGAL, "F1 on O2=g ; T1")?;
+    expect_replay(&rt, REFUSED, "5 S3 1")?;
+    expect_replay(&rt, LOST, "2 S1")
+}

@@ -1,0 +1,256 @@
+//! What a script says.
+//!
+//! A line is `WHAT => ANSWER | HELD`. What is done is one of these: `E` and an event that is heard; `C` and a call that is said; `M` and
+//! a call that the session is asked to make; `B`, the stream breaks. The answer is `ok` or the refusal; of a call that was made `same`,
+//! or its canonical text where that is another. What is held then is told by the calls that only look: the framework or `-`, `on` or
+//! `off`, the offers in hand, each with its host, and `;` with the tasks of the updates that are owed.
+//!
+//! A value that is read lives in a small function of its own: it makes each later step of its function dear to check.
+
+use mes_model::{OwedKey, Part, TaskInfo};
+use mes_msg::{Accept, Acknowledge, Call, Entry, Event, Limit, Operation};
+use mes_session::{Refusal, Session, replay};
+use std::alloc::Global;
+use std::process::Abort;
+use std::test::Fail;
+
+/// A refusal in words.
+fn refusal_in_words(alloc: Global, refusal: Refusal) -> Result<String, Fail> {
+    let text = match refusal {
+        Refusal::NotSubscribed => String::from_str(alloc, "S1")?,
+        Refusal::NamedTwice => String::from_str(alloc, "S2")?,
+        Refusal::NoSuchOffer { index } => format!(in alloc; "S3 {index}")?,
+        Refusal::TwoAgents => String::from_str(alloc, "S4")?,
+        Refusal::WrongAgent { task } => format!(in alloc; "S5 {task}")?,
+        Refusal::Exceeds { task, resource } => format!(in alloc; "S6 {task} {resource}")?,
+        Refusal::NotOwed => String::from_str(alloc, "S7")?,
+        Refusal::NoMemory => String::from_str(alloc, "S8")?,
+    };
+    Ok(text)
+}
+
+/// An answer in words.
+fn in_words(alloc: Global, answer: Result<(), Refusal>) -> Result<String, Fail> {
+    match answer {
+        Ok(()) => Ok(String::from_str(alloc, "ok")?),
+        Err(refusal) => refusal_in_words(alloc, refusal),
+    }
+}
+
+/// The event that a text spells.
+fn event_of(alloc: Global, text: &str) -> Result<Event, Fail> {
+    match Event::read_record(alloc, text.as_bytes()) {
+        Ok(event) => Ok(event),
+        Err(_) => Err("an event")?,
+    }
+}
+
+/// The call that a text spells.
+fn call_of(alloc: Global, text: &str) -> Result<Call, Fail> {
+    match Call::read_record(alloc, text.as_bytes()) {
+        Ok(call) => Ok(call),
+        Err(_) => Err("a call")?,
+    }
+}
+
+/// The tasks that an ACCEPT launches by its one operation, or none.
+fn tasks_of(body: &Accept) -> &[TaskInfo] {
+    match body.operations.as_slice().first() {
+        Some(Operation::Launch { task_infos }) => task_infos.as_slice(),
+        None => &[],
+    }
+}
+
+/// Asks for an ACKNOWLEDGE of a key that stands in another.
+fn acknowledge(
+    alloc: Global,
+    session: &mut Session,
+    body: &Acknowledge,
+) -> Result<Call, Refusal> {
+    let agent = body.agent_id.copy(alloc)?;
+    let task = body.task_id.copy(alloc)?;
+    let uuid = body.uuid.copy(alloc)?;
+    let key = OwedKey { agent, task, uuid };
+    session.acknowledge(&key)
+}
+
+/// Asks for a call made of what stands in another.
+fn make(alloc: Global, session: &mut Session, call: &Call) -> Result<Call, Refusal> {
+    match call {
+        Call::Subscribe { body, .. } => session.subscribe(&body.framework_info),
+        Call::Accept { body, .. } => session.accept(
+            body.offer_ids.as_slice(),
+            tasks_of(body),
+            body.filters.as_ref(),
+        ),
+        Call::Decline { body, .. } => {
+            session.decline(body.offer_ids.as_slice(), body.filters.as_ref())
+        }
+        Call::Revive { .. } => session.revive(),
+        Call::Kill { body, .. } => session.kill(&body.task_id, body.agent_id.as_ref()),
+        Call::Acknowledge { body, .. } => acknowledge(alloc, session, body),
+        Call::Reconcile { body, .. } => session.reconcile(body.tasks.as_slice()),
+        Call::Teardown { .. } => session.teardown(),
+        Call::Suppress { .. } => session.suppress(),
+        Call::Shutdown { body, .. } => session.shutdown(&body.executor_id, &body.agent_id),
+        Call::Message { body, .. } => {
+            session.message(
+                &body.agent_id,
+                &body.executor_id,
+                body.payload.as_slice(),
+            )
+        }
+    }
+}
+
+/// The canonical text of a call.
+fn text_of(alloc: Global, call: &Call) -> Result<String, Fail> {
+    let bytes = call.canon(alloc, Limit::USUAL)?;
+    match String::from_utf8(bytes) {
+        Ok(text) => Ok(text),
+        Err(_) => Err("a canonical text is UTF-8")?,
+    }
+}
+
+/// The canonical text, or `same` where it is this one.
+fn compared(alloc: Global, call: &Call, text: &str) -> Result<String, Fail> {
+    let made = text_of(alloc, call)?;
+    if made.as_str() == text {
+        return Ok(String::from_str(alloc, "same")?);
+    }
+    Ok(made)
+}
+
+/// Hears an event.
+fn hear(alloc: Global, session: &mut Session, text: &str) -> Result<String, Fail> {
+    let event = event_of(alloc, text)?;
+    in_words(alloc, session.heard(&event))
+}
+
+/// Says a call.
+fn say(alloc: Global, session: &mut Session, text: &str) -> Result<String, Fail> {
+    let call = call_of(alloc, text)?;
+    in_words(alloc, session.said(&call))
+}
+
+/// Asks for a call.
+fn ask(alloc: Global, session: &mut Session, text: &str) -> Result<String, Fail> {
+    let call = call_of(alloc, text)?;
+    match make(alloc, session, &call) {
+        Ok(made) => compared(alloc, &made, text),
+        Err(refusal) => refusal_in_words(alloc, refusal),
+    }
+}
+
+/// Does what a line says.
+fn step(alloc: Global, session: &mut Session, line: &str) -> Result<String, Fail> {
+    match line.split_once(' ') {
+        Some(("E", text)) => hear(alloc, session, text),
+        Some(("C", text)) => say(alloc, session, text),
+        Some(("M", text)) => ask(alloc, session, text),
+        _ => {
+            session.broken();
+            Ok(String::from_str(alloc, "ok")?)
+        }
+    }
+}
+
+/// The offers in hand, each with its host, found by its place and by its identifier.
+fn hand_in_words(alloc: Global, session: &Session) -> Result<String, Fail> {
+    let mut text = String::new(alloc);
+    for index in 0..session.hand_len() {
+        let offer = session.hand_at(index).ok_or("an offer in hand")?;
+        let id = offer.id.value.as_str();
+        let found = session.offer(id).ok_or("an offer of this identifier")?;
+        text.push_str(" ")?;
+        text.push_str(id)?;
+        text.push_str("=")?;
+        text.push_str(found.hostname.as_str())?;
+    }
+    Ok(text)
+}
+
+/// The tasks of the updates that are owed.
+fn owed_in_words(alloc: Global, session: &Session) -> Result<String, Fail> {
+    let mut text = String::new(alloc);
+    for index in 0..session.owed_len() {
+        let key = session.owed_at(index).ok_or("a key that is owed")?;
+        text.push_str(" ")?;
+        text.push_str(key.task.value.as_str())?;
+    }
+    Ok(text)
+}
+
+/// What a session holds, in words.
+fn held_in_words(alloc: Global, session: &Session) -> Result<String, Fail> {
+    let framework = match session.framework() {
+        Some(id) => id.value.as_str(),
+        None => "-",
+    };
+    let stream = if session.connected() { "on" } else { "off" };
+    let hand = hand_in_words(alloc, session)?;
+    let owed = owed_in_words(alloc, session)?;
+    Ok(format!(in alloc; "{framework} {stream}{hand} ;{owed}")?)
+}
+
+/// The two sides of a line, and the two of its answer.
+fn sides_of(line: &str) -> Result<(&str, &str, &str), Fail> {
+    let (what, told) = line.split_once(" => ").ok_or("a line has an answer")?;
+    let (answer, held) = told.split_once(" | ").ok_or("an answer has what is held")?;
+    Ok((what, answer, held))
+}
+
+/// Each line of the script has its answer, and leaves what it says.
+pub(crate) fn expect_script<R: Abort + AllocGlobal>(rt: &R, script: &str) -> Result<(), Fail> {
+    let mut session = Session::new(rt.alloc());
+    for line in script.lines() {
+        let (what, answer, held) = sides_of(line)?;
+        let told = step(rt.alloc(), &mut session, what)?;
+        assert_eq!(rt; told.as_str(), answer, "{what}");
+        let left = held_in_words(rt.alloc(), &session)?;
+        assert_eq!(rt; left.as_str(), held, "{what}");
+        assert!(rt; session.offer("none").is_none());
+    }
+    Ok(())
+}
+
+/// The entry that a line writes.
+fn entry_of(alloc: Global, line: &str) -> Result<Entry, Fail> {
+    match line.split_once(' ') {
+        Some(("E", text)) => Ok(Entry::Heard(event_of(alloc, text)?)),
+        Some(("C", text)) => Ok(Entry::Said(call_of(alloc, text)?)),
+        _ => Ok(Entry::Broken),
+    }
+}
+
+/// The entries of a history.
+fn entries_of(alloc: Global, history: &str) -> Result<Vec<Entry>, Fail> {
+    let mut entries = Vec::new(alloc);
+    for line in history.lines() {
+        entries.push(entry_of(alloc, line)?)?;
+    }
+    Ok(entries)
+}
+
+/// What `replay` answers, in words: what the session holds, or where it stopped and why.
+fn replayed(alloc: Global, entries: &[Entry]) -> Result<String, Fail> {
+    match replay(alloc, entries) {
+        Ok(session) => held_in_words(alloc, &session),
+        Err((before, refusal)) => {
+            let why = refusal_in_words(alloc, refusal)?;
+            Ok(format!(in alloc; "{before} {why}")?)
+        }
+    }
+}
+
+/// A history that is replayed leaves this, or stops there.
+pub(crate) fn expect_replay<R: Abort + AllocGlobal>(
+    rt: &R,
+    history: &str,
+    expected: &str,
+) -> Result<(), Fail> {
+    let entries = entries_of(rt.alloc(), history)?;
+    let told = replayed(rt.alloc(), entries.as_slice())?;
+    assert_eq!(rt; told.as_str(), expected, "{history}");
+    Ok(())
+}
