@@ -2,8 +2,8 @@
 use Rattle.std.proofs.Common.{◌≡◌, ℕ, ◌+◌, ◌-◌, ◌*◌, ◌<◌, ◌≤◌, Option, List, [], ◌∷◌, ◌++◌, length, ◌∙◌, ap, sym, subst, append_assoc, append-nil, arith, refl, inl, inr, length-append, lit≤, Result, Ok, Err}
 use Rattle.std.specs.Io.KnownBytes.{Consumes}
 use Rattle.mes_frame.specs.Devices.{Device}
-use Rattle.mes_msg.specs.Events.{Spells}
-use Rattle.mes_msg.specs.declared.event.Event.{Event}
+use Rattle.mes_event.specs.Events.{Spells}
+use Rattle.mes_event.specs.declared.event.Event.{Event}
 use Rattle.mes_stream.specs.EventData.{HoldsData}
 use Rattle.mes_stream.specs.Lines.{fault_text}
 use Rattle.mes_stream.specs.Reading.{ReadingStands, ReadingTakes, ByteEnds, EndsReading, Means}

@@ -1,8 +1,8 @@
 -- What a follower of a stream came to, read by read.
 use Rattle.std.specs.Prelude.{◌≡◌, ℕ, ◌+◌, List, [], ◌∷◌, ◌++◌, length, Option, Result, Ok, Err}
 use Rattle.mes_frame.specs.Devices.{Device}
-use Rattle.mes_msg.specs.Events.{Spells}
-use Rattle.mes_msg.specs.declared.event.Event.{Event}
+use Rattle.mes_event.specs.Events.{Spells}
+use Rattle.mes_event.specs.declared.event.Event.{Event}
 use Rattle.mes_stream.specs.EventData.{HoldsData}
 use Rattle.mes_stream.specs.Reading.{ReadingStands, ByteEnds}
 use Rattle.mes_stream.specs.Refusals.{IsEventRefusal}

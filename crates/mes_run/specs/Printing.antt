@@ -7,9 +7,9 @@ use Rattle.mes_frame.specs.declared.write.WriteWhy.{WriteWhy}
 use Rattle.mes_stream.specs.Lines.{fault_text, count_text}
 use Rattle.mes_stream.specs.Reading.{EndsReading}
 use Rattle.mes_stream.specs.declared.stream_reader.Framing.{Framing}
-use Rattle.mes_msg.specs.Events.{Spells}
+use Rattle.mes_event.specs.Events.{Spells}
 use Rattle.mes_stream.specs.Refusals.{IsEventRefusal}
-use Rattle.mes_msg.specs.declared.event.Event.{Event}
+use Rattle.mes_event.specs.declared.event.Event.{Event}
 use Rattle.mes_stream.specs.declared.fault.Fault.{Fault}
 use Rattle.mes_stream.specs.declared.fault.Fault.TheVariants.{NoMemory}
 use Rattle.mes_stream.specs.declared.fault.Report.{Report}

@@ -2,8 +2,8 @@
 use Rattle.std.specs.Prelude.{◌≡◌, ℕ, ◌+◌, ◌<◌, ◌⊎◌, Option, List, [], ◌++◌, length, Result, Ok, Err}
 use Rattle.std.specs.Io.KnownBytes.{IsAtEnd}
 use Rattle.mes_frame.specs.declared.counts.Counts.{Counts}
-use Rattle.mes_msg.specs.Events.{Spells}
-use Rattle.mes_msg.specs.declared.event.Event.{Event}
+use Rattle.mes_event.specs.Events.{Spells}
+use Rattle.mes_event.specs.declared.event.Event.{Event}
 use Rattle.mes_stream.specs.Refusals.{IsEventRefusal}
 use Rattle.mes_stream.specs.declared.refusal.RecordRefusal.{RecordRefusal}
 use Rattle.mes_stream.specs.Reads.{Asked, AskedSome}

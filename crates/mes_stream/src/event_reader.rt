@@ -2,7 +2,7 @@
 
 ghost use Rattle.std.specs.Prelude.{◌≡◌, ◌≢◌, ℕ, ◌^◌, ◌<◌, ◌≤◌, List, [], ◌++◌, length, OnOk, IfOk, IfErr};
 ghost use Rattle.mes_json.specs.Inner.{inner};
-ghost use Rattle.mes_msg.specs.Events.{Spells};
+ghost use Rattle.mes_event.specs.Events.{Spells};
 ghost use Rattle.mes_stream.specs.Refusals.{IsEventRefusal};
 ghost use Rattle.mes_stream.specs.EventData.{HoldsData, kept_data};
 

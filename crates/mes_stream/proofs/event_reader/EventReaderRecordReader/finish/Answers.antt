@@ -1,7 +1,8 @@
 use Rattle.std.proofs.Common.{◌∙◌}
 use Rattle.std.proofs.lemmas.Result.{err_from_is_err_and}
-use Rattle.mes_msg.specs.Events.{lawful_event}
-use Rattle.mes_msg.proofs.RecordLemmas.{begins, refused}
+use Rattle.mes_event.specs.Events.{lawful_event}
+use Rattle.mes_event.proofs.RecordLemmas.{refused}
+use Rattle.mes_record.proofs.RecordLemmas.{begins}
 use Rattle.mes_stream.proofs.EventLemmas.{refuses}
 use Rattle.mes_stream.proofs.event_reader.EventReaderRecordReader.finish.Goals as goal
 
