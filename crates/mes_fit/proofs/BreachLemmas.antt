@@ -1,21 +1,19 @@
 -- What the steps of the search for the first breach show.
-use Rattle.std.proofs.Common.{◌≡◌, ℕ, ◌+◌, ◌≤◌, ◌<◌, Bool, true, false, ◌||◌, ◌⊎◌, inl, inr, ◌↔◌, IsTrue, Some, List, [], ◌∷◌, ◌++◌, length, take, drop, get_or, slice_get, min, refl, sym, ◌∙◌, ap, subst, arith}
+use Rattle.std.proofs.Common.{◌≡◌, ℕ, ◌+◌, ◌≤◌, ◌<◌, Bool, true, false, ◌||◌, ◌⊎◌, inl, inr, ◌↔◌, IsTrue, Some, List, ◌++◌, length, take, drop, get_or, slice_get, min, refl, sym, ◌∙◌, ap, subst, arith}
 use Rattle.std.specs.List.{list_any}
 use Rattle.std.proofs.Math.Seq.{take-length}
 use Rattle.std.proofs.lemmas.Grind.{flat_map-append}
-use Rattle.std.proofs.lemmas.List.{get_or_default}
 use Rattle.std.proofs.lemmas.List.Folds.{list_any-append}
 use Rattle.std.proofs.lemmas.Option.{slice_get_within}
-use Rattle.mes_model.specs.declared.resource.Resource.{Resource}
-use Rattle.mes_model.specs.declared.offer.Offer.{Offer}
-use Rattle.mes_model.specs.declared.task_info.TaskInfo.{TaskInfo}
-use Rattle.mes_msg.specs.declared.operation.Operation.{Operation}
+use Rattle.mes_resource.specs.declared.resource.Resource.{Resource}
+use Rattle.mes_offer.specs.declared.offer.Offer.{Offer}
+use Rattle.mes_task.specs.declared.task_info.TaskInfo.{TaskInfo}
 use Rattle.mes_fit.specs.Keys.{key_of, is_of}
 use Rattle.mes_fit.specs.Fits.{Piece, piece_in, amount, has_piece, offered, asked, Fits, BreaksAt, NoneAhead, NoneBefore}
-use Rattle.mes_fit.specs.Launched.{launched_by, launched, place, as_index}
+use Rattle.mes_fit.specs.Launched.{launched, place, as_index}
 use Rattle.mes_fit.specs.Looking.{Meets, Lacks}
 use Rattle.mes_fit.proofs.FitsLemmas.{or-left, breaks-over, breaks-lost, breaks-behind, key-ahead, own-offered, breaks-not, fits-none}
-use Rattle.mes_fit.proofs.LaunchedLemmas.{take-place, drop-place, get-place}
+use Rattle.mes_fit.proofs.LaunchedLemmas.{take-place, drop-place}
 use Rattle.mes_fit.proofs.ListLemmas.{get-at}
 
 -- ---- before and behind a task
@@ -26,24 +24,24 @@ or-skip a b e = rw e refl
 asked-parts : (test : Resource → Bool) (ts us : List TaskInfo) → list_any test (asked (ts ++ us)) ≡ (list_any test (asked ts) || list_any test (asked us))
 asked-parts test ts us = ap (list_any test) (flat_map-append (λ (t : TaskInfo). t.resources) ts us) ∙ list_any-append test (asked ts) (asked us)
 
-module _ (os : List Operation) (at : ℕ) (o : Operation) (within : at < length os) (is : o ≡ get_or os at o) (t : ℕ) (tasks : List TaskInfo) (are : tasks ≡ launched_by o) (inside : t < length (launched_by o)) where
-  before-parts : (test : Resource → Bool) → list_any test (asked (take (place os at t) (launched os))) ≡ (list_any test (asked (launched (take at os))) || list_any test (asked (take t tasks)))
+module _ {G : Type 0} (of : G → List TaskInfo) (os : List G) (at : ℕ) (o : G) (within : at < length os) (is : o ≡ get_or os at o) (t : ℕ) (tasks : List TaskInfo) (are : tasks ≡ of o) (inside : t < length (of o)) where
+  before-parts : (test : Resource → Bool) → list_any test (asked (take (place of os at t) (launched of os))) ≡ (list_any test (asked (launched of (take at os))) || list_any test (asked (take t tasks)))
   before-parts test =
-      ap (λ (ts : List TaskInfo). list_any test (asked ts)) (take-place os at o within is t (omega arith))
-      ∙ asked-parts test (launched (take at os)) (take t (launched_by o))
-      ∙ ap (λ (ts : List TaskInfo). list_any test (asked (launched (take at os))) || list_any test (asked (take t ts))) (sym are)
+      ap (λ (ts : List TaskInfo). list_any test (asked ts)) (take-place of os at o within is t (omega arith))
+      ∙ asked-parts test (launched of (take at os)) (take t (of o))
+      ∙ ap (λ (ts : List TaskInfo). list_any test (asked (launched of (take at os))) || list_any test (asked (take t ts))) (sym are)
 
-  pub before-first : (test : Resource → Bool) → list_any test (asked (launched (take at os))) ≡ true → list_any test (asked (take (place os at t) (launched os))) ≡ true
+  pub before-first : (test : Resource → Bool) → list_any test (asked (launched of (take at os))) ≡ true → list_any test (asked (take (place of os at t) (launched of os))) ≡ true
   before-first test e = before-parts test ∙ or-left _ _ e
 
-  pub before-second : (test : Resource → Bool) → list_any test (asked (launched (take at os))) ≡ false → list_any test (asked (take (place os at t) (launched os))) ≡ list_any test (asked (take t tasks))
+  pub before-second : (test : Resource → Bool) → list_any test (asked (launched of (take at os))) ≡ false → list_any test (asked (take (place of os at t) (launched of os))) ≡ list_any test (asked (take t tasks))
   before-second test e = before-parts test ∙ or-skip _ _ e
 
-  pub behind-parts : (test : Resource → Bool) → list_any test (asked (drop (place os at t + 1) (launched os))) ≡ (list_any test (asked (drop (t + 1) tasks)) || list_any test (asked (launched (drop (at + 1) os))))
+  pub behind-parts : (test : Resource → Bool) → list_any test (asked (drop (place of os at t + 1) (launched of os))) ≡ (list_any test (asked (drop (t + 1) tasks)) || list_any test (asked (launched of (drop (at + 1) os))))
   behind-parts test =
-      ap (λ (ts : List TaskInfo). list_any test (asked ts)) (drop-place os at o within is t inside)
-      ∙ asked-parts test (drop (t + 1) (launched_by o)) (launched (drop (at + 1) os))
-      ∙ ap (λ (ts : List TaskInfo). list_any test (asked (drop (t + 1) ts)) || list_any test (asked (launched (drop (at + 1) os)))) (sym are)
+      ap (λ (ts : List TaskInfo). list_any test (asked ts)) (drop-place of os at o within is t inside)
+      ∙ asked-parts test (drop (t + 1) (of o)) (launched of (drop (at + 1) os))
+      ∙ ap (λ (ts : List TaskInfo). list_any test (asked (drop (t + 1) ts)) || list_any test (asked (launched of (drop (at + 1) os)))) (sym are)
 
 module _ {X : Type 0} (p q r s : X → Bool) (parts : (x : X) → s x ≡ (q x || r x)) where
   pub meets-first : (b : Bool) → b ≡ true → Meets p q b → Meets p s b
@@ -84,7 +82,7 @@ module _ (offers : List Offer) (tasks : List TaskInfo) (i j : ℕ) (t : TaskInfo
   answered amounts false e l true m = (λ _. breaks-behind offers tasks i j t r is_task is_resource m.0 m.1 m.2, λ _. refl)
   answered amounts false e l false m = (λ f. absurd (cc), λ b. absurd (breaks-not offers tasks i j t r is_task is_resource ahead (enough amounts) l m b))
 
--- ---- a task, an operation, all
+-- ---- a task, a group, all
 
 pub ahead-of : (offers : List Offer) (tasks : List TaskInfo) (i j : ℕ) → NoneBefore offers tasks i → ((l : ℕ) → l < j → BreaksAt offers tasks i l → ⊥) → NoneAhead offers tasks i j
 ahead-of offers tasks i j before here k l (inl less) b = before k l less b
@@ -109,22 +107,13 @@ task-none offers tasks i t is before here k l h b = elim (last-or-before k i h) 
 pub none-at : (offers : List Offer) (tasks : List TaskInfo) (i j : ℕ) → i ≡ j → NoneBefore offers tasks i → NoneBefore offers tasks j
 none-at offers tasks i j e none = subst (NoneBefore offers tasks) e none
 
-pub all-none : (offers : List Offer) (os : List Operation) → NoneBefore offers (launched os) (place os (length os) 0) → Fits offers (launched os)
-all-none offers os none =
-    let all : place os (length os) 0 ≡ length (launched os) = ap (λ (ps : List Operation). length (launched ps) + 0) (take-length os) ∙ omega arith in
-    fits-none offers (launched os) (λ i j b. none i j (omega (arith, slice_get_within (launched os) i b.task b.task_at, all)) b)
+pub all-none : {G : Type 0} (offers : List Offer) (of : G → List TaskInfo) (os : List G) → NoneBefore offers (launched of os) (place of os (length os) 0) → Fits offers (launched of os)
+all-none {G = G} offers of os none =
+    let all : place of os (length os) 0 ≡ length (launched of os) = ap (λ (ps : List G). length (launched of ps) + 0) (take-length os) ∙ omega arith in
+    fits-none offers (launched of os) (λ i j b. none i j (omega (arith, slice_get_within (launched of os) i b.task b.task_at, all)) b)
 
 pub counted : (m n k : ℕ) → m ≡ as_index n → min (m + k) 18446744073709551615 ≡ as_index (n + k)
 counted m n k e = omega arith
 
-pub place-of : (os : List Operation) (at : ℕ) (tasks : List TaskInfo) → at < length os → ((o : Operation) → o ≡ get_or os at o → launched_by o ≡ tasks)
-    → (t : ℕ) (x : TaskInfo) → t < length tasks → x ≡ get_or tasks t x → slice_get (launched os) (place os at t) ≡ Some x
-place-of [] at tasks h are t x inside is = absurd (omega arith)
-place-of (p ∷ os) at tasks h are t x inside is =
-    let o = get_or (p ∷ os) at p in
-    let there : o ≡ get_or (p ∷ os) at o = get_or_default (p ∷ os) at p o h in
-    let same : launched_by o ≡ tasks = are o there in
-    get-place (p ∷ os) at o h there t x (omega (arith, ap (length {A = TaskInfo}) same)) (is ∙ ap (λ (ts : List TaskInfo). get_or ts t x) (sym same))
-
-pub place-next : (os : List Operation) (at t : ℕ) → place os at t + 1 ≡ place os at (t + 1)
-place-next os at t = omega arith
+pub place-next : {G : Type 0} (of : G → List TaskInfo) (os : List G) (at t : ℕ) → place of os at t + 1 ≡ place of os at (t + 1)
+place-next of os at t = omega arith

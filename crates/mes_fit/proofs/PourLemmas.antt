@@ -3,8 +3,8 @@ use Rattle.std.proofs.Common.{◌≡◌, ℕ, zero, suc, ◌+◌, ◌≤◌, ◌
 use Rattle.std.specs.List.{flat_map, sum_by}
 use Rattle.std.proofs.lemmas.Option.{slice_get_within}
 use Rattle.std.proofs.lemmas.List.Sums.{sum_by-cons}
-use Rattle.mes_model.specs.declared.resource.Resource.{Resource}
-use Rattle.mes_model.specs.declared.offer.Offer.{Offer}
+use Rattle.mes_resource.specs.declared.resource.Resource.{Resource}
+use Rattle.mes_offer.specs.declared.offer.Offer.{Offer}
 use Rattle.mes_fit.specs.Keys.{Key}
 use Rattle.mes_fit.specs.Fits.{amount_of, amount, offered}
 use Rattle.mes_fit.specs.Pouring.{from}

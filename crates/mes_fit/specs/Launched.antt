@@ -1,26 +1,26 @@
--- The tasks that the operations of a call launch.
+-- The tasks of groups that are launched together, such as the operations of a call. Of any kind of group `tasks` tells the tasks of one.
 use Rattle.std.specs.Prelude.{◌≡◌, ℕ, ◌+◌, ◌<◌, List, length, get_or, take, min}
 use Rattle.std.specs.List.{flat_map}
-use Rattle.mes_model.specs.declared.task_info.TaskInfo.{TaskInfo}
-use Rattle.mes_msg.specs.declared.operation.Operation.{Operation}
-use Rattle.mes_msg.specs.declared.operation.Operation.TheVariants as of
+use Rattle.mes_task.specs.declared.task_info.TaskInfo.{TaskInfo}
+use Rattle.mes_call.specs.declared.operation.Operation.{Operation}
+use Rattle.mes_call.specs.declared.operation.Operation.TheVariants as of
 
 -- the tasks of one operation
 abbrev pub launched_by : Operation → List TaskInfo
 launched_by (of.Launch tasks) = tasks
 
--- those of all, in order
-abbrev pub launched : List Operation → List TaskInfo
-launched operations = flat_map launched_by operations
+-- those of all groups, in order
+abbrev pub launched : {G : Type 0} → (G → List TaskInfo) → List G → List TaskInfo
+launched tasks groups = flat_map tasks groups
 
--- where the task at t of the operation at o stands among all
-abbrev pub place : List Operation → ℕ → ℕ → ℕ
-place operations o t = length (launched (take o operations)) + t
+-- where the task at t of the group at g stands among all
+abbrev pub place : {G : Type 0} → (G → List TaskInfo) → List G → ℕ → ℕ → ℕ
+place tasks groups g t = length (launched tasks (take g groups)) + t
 
--- there is an operation at `at`, and a task at `task` of it
-pub record Stands (operations : List Operation) (at task : ℕ) : Type 0 where
-  pub operation_within : at < length operations
-  pub task_within : (o : Operation) → o ≡ get_or operations at o → task < length (launched_by o)
+-- there is a group at `at`, and a task at `task` of it
+pub record Stands {G : Type 0} (tasks : G → List TaskInfo) (groups : List G) (at task : ℕ) : Type 0 where
+  pub group_within : at < length groups
+  pub task_within : (group : G) → group ≡ get_or groups at group → task < length (tasks group)
 
 -- A count of tasks as an index: from 2^64 - 1 on it stays there. No machine holds so many.
 abbrev pub as_index : ℕ → ℕ

@@ -7,10 +7,9 @@ ghost use Rattle.mes_fit.specs.Launched.{launched, place, Stands};
 ghost use Rattle.mes_fit.specs.Looking.{Meets};
 
 use crate::key::same_key;
-use crate::launched::tasks_of;
-use crate::shared::{operations_meet, tasks_meet};
+use crate::launches::Launches;
+use crate::shared::{groups_meet, tasks_meet};
 use mes_model::{Resource, ResourceValue, TaskInfo};
-use mes_msg::Operation;
 
 /// Whether one of the resources is of the key.
 pub(crate) fn resources_have_key(resources: &[Resource], key: &Resource) -> bool
@@ -31,12 +30,12 @@ fn tasks_have_key(tasks: &[TaskInfo], key: &Resource) -> bool
     false
 }
 
-/// Whether a resource of the operations' tasks is of the key.
-fn operations_have_key(operations: &[Operation], key: &Resource) -> bool
-    ensures { result ≡ list_any (is_of (key_of key.now)) (asked (launched operations.now)) }
+/// Whether a resource of the groups' tasks is of the key.
+fn groups_have_key<L: Launches>(launches: &[L], key: &Resource) -> bool
+    ensures { result ≡ list_any (is_of (key_of key.now)) (asked (launched L.tasks launches.now)) }
 {
-    for operation in operations {
-        if tasks_have_key(tasks_of(operation), key) {
+    for group in launches {
+        if tasks_have_key(group.tasks(), key) {
             return true;
         }
     }
@@ -44,32 +43,32 @@ fn operations_have_key(operations: &[Operation], key: &Resource) -> bool
 }
 
 /// Whether a resource of the tasks before one is of the key.
-pub(crate) fn has_key_before(
-    operations: &[Operation],
+pub(crate) fn has_key_before<L: Launches>(
+    launches: &[L],
     at: usize,
     task: usize,
     key: &Resource,
 ) -> bool
-    requires { Stands operations.now at task }
-    ensures { result ≡ list_any (is_of (key_of key.now)) (asked (take (place operations.now at task) (launched operations.now))) }
+    requires { Stands L.tasks launches.now at task }
+    ensures { result ≡ list_any (is_of (key_of key.now)) (asked (take (place L.tasks launches.now at task) (launched L.tasks launches.now))) }
 {
-    let tasks = tasks_of(&operations[at]);
-    operations_have_key(&operations[..at], key) || tasks_have_key(&tasks[..task], key)
+    let tasks = launches[at].tasks();
+    groups_have_key(&launches[..at], key) || tasks_have_key(&tasks[..task], key)
 }
 
 /// Whether a task behind one takes a piece of this resource.
-pub(crate) fn meets_behind(
-    operations: &[Operation],
+pub(crate) fn meets_behind<L: Launches>(
+    launches: &[L],
     at: usize,
     task: usize,
     resource: &Resource,
 ) -> bool
-    requires { Stands operations.now at task }
-    ensures { Meets (λ p. piece_in p resource.now.value) (λ p. has_piece (key_of resource.now) p (asked (drop (place operations.now at task + 1) (launched operations.now)))) result }
+    requires { Stands L.tasks launches.now at task }
+    ensures { Meets (λ p. piece_in p resource.now.value) (λ p. has_piece (key_of resource.now) p (asked (drop (place L.tasks launches.now at task + 1) (launched L.tasks launches.now)))) result }
 {
     if let ResourceValue::Scalar(_) = &resource.value {
         return false;
     }
-    let tasks = tasks_of(&operations[at]);
-    tasks_meet(resource, &tasks[task + 1..]) || operations_meet(resource, &operations[at + 1..])
+    let tasks = launches[at].tasks();
+    tasks_meet(resource, &tasks[task + 1..]) || groups_meet(resource, &launches[at + 1..])
 }

@@ -4,7 +4,7 @@
 mod around;
 mod breach;
 mod key;
-mod launched;
+mod launches;
 mod laws;
 mod missing;
 mod offer_list;
@@ -13,5 +13,6 @@ mod shared;
 mod supply;
 
 pub use breach::{Breach, first_breach};
+pub use launches::Launches;
 pub use laws::fits_laws;
 pub use offer_list::OfferList;

@@ -6,17 +6,16 @@ ghost use Rattle.mes_fit.specs.Fits.{in_range, in_ranges, in_items, piece_in, pi
 ghost use Rattle.mes_fit.specs.Launched.{launched};
 ghost use Rattle.mes_fit.specs.Looking.{Meets};
 
-use crate::key::same_key;
-use crate::launched::tasks_of;
+use crate::key::{same_key, same_text};
+use crate::launches::Launches;
 use mes_json::Text;
 use mes_model::{Range, Resource, ResourceValue, TaskInfo};
-use mes_msg::Operation;
 
 /// Whether an item stands among others.
 pub(crate) fn has_item(items: &[Text], item: &Text) -> bool
     ensures { result ≡ in_items item.now items.now }
 {
-    items.iter().any(|other| item == other)
+    items.iter().any(|other| same_text(item, other))
 }
 
 /// Whether items stand among others.
@@ -100,12 +99,12 @@ pub(crate) fn tasks_meet(resource: &Resource, tasks: &[TaskInfo]) -> bool
     false
 }
 
-/// Whether the tasks of operations take a piece of this resource.
-pub(crate) fn operations_meet(resource: &Resource, operations: &[Operation]) -> bool
-    ensures { Meets (λ p. piece_in p resource.now.value) (λ p. has_piece (key_of resource.now) p (asked (launched operations.now))) result }
+/// Whether the tasks of groups take a piece of this resource.
+pub(crate) fn groups_meet<L: Launches>(resource: &Resource, launches: &[L]) -> bool
+    ensures { Meets (λ p. piece_in p resource.now.value) (λ p. has_piece (key_of resource.now) p (asked (launched L.tasks launches.now))) result }
 {
-    for operation in operations {
-        if tasks_meet(resource, tasks_of(operation)) {
+    for group in launches {
+        if tasks_meet(resource, group.tasks()) {
             return true;
         }
     }

@@ -6,10 +6,9 @@ ghost use Rattle.mes_fit.specs.Launched.{launched};
 ghost use Rattle.mes_fit.specs.Pouring.{rest, steps};
 
 use crate::key::same_key;
-use crate::launched::tasks_of;
+use crate::launches::Launches;
 use crate::offer_list::OfferList;
 use mes_model::{Resource, ResourceValue, TaskInfo};
-use mes_msg::Operation;
 
 /// What offers still have of a key: what is left of the resource in front of this place, and all from the place on.
 #[derive(Drop)]
@@ -100,17 +99,17 @@ impl Supply {
     }
 }
 
-/// Whether the tasks that operations launch take more of a key than the offers have.
-pub(crate) fn exceeds<O: OfferList>(offers: &O, key: &Resource, operations: &[Operation]) -> bool
-    ensures { IsTrue result ↔ amount (key_of key.now) (offered (O.offers offers.now)) < amount (key_of key.now) (asked (launched operations.now)) }
+/// Whether the tasks of groups take more of a key than the offers have.
+pub(crate) fn exceeds<O: OfferList, L: Launches>(offers: &O, key: &Resource, launches: &[L]) -> bool
+    ensures { IsTrue result ↔ amount (key_of key.now) (offered (O.offers offers.now)) < amount (key_of key.now) (asked (launched L.tasks launches.now)) }
 {
     let mut supply = Supply {
         offer: 0,
         resource: 0,
         left: 0,
     };
-    for operation in operations {
-        if !supply.take_tasks(offers, key, tasks_of(operation)) {
+    for group in launches {
+        if !supply.take_tasks(offers, key, group.tasks()) {
             return true;
         }
     }

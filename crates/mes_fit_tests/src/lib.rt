@@ -10,4 +10,6 @@ mod order;
 #[cfg(test)]
 mod pieces;
 #[cfg(test)]
+mod slices;
+#[cfg(test)]
 mod support;

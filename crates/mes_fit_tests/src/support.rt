@@ -57,14 +57,19 @@ fn offers_of(alloc: Global, text: &str) -> Result<Vec<Offer>, Fail> {
     Ok(offers)
 }
 
-/// An operation that launches tasks.
-fn operation_of(alloc: Global, text: &str) -> Result<Operation, Fail> {
+/// Tasks of these resources.
+fn tasks_of(alloc: Global, text: &str) -> Result<Vec<TaskInfo>, Fail> {
     let mut tasks = Vec::new(alloc);
     for resources in text.split(" ; ") {
         tasks.push(task_of(alloc, resources)?)?;
     }
+    Ok(tasks)
+}
+
+/// An operation that launches tasks.
+fn operation_of(alloc: Global, text: &str) -> Result<Operation, Fail> {
     Ok(Operation::Launch {
-        task_infos: List::new(tasks),
+        task_infos: List::new(tasks_of(alloc, text)?),
     })
 }
 
@@ -93,6 +98,37 @@ fn answer(alloc: Global, offers: &str, operations: &str) -> Result<String, Fail>
         alloc,
         first_breach(&offers.as_slice(), operations.as_slice()),
     )
+}
+
+/// The answer to a row's offers and tasks, asked of two slices: each has half of the tasks.
+fn answer_of_slices(alloc: Global, offers: &str, tasks: &str) -> Result<String, Fail> {
+    let offers = offers_of(alloc, offers)?;
+    let tasks = tasks_of(alloc, tasks)?;
+    let (front, behind) = tasks.as_slice().split_at(tasks.len() / 2);
+    in_words(alloc, first_breach(&offers.as_slice(), &[front, behind]))
+}
+
+/// The answer to a row's offers and tasks, asked of one slice of the tasks.
+fn answer_of_slice(alloc: Global, offers: &str, tasks: &str) -> Result<String, Fail> {
+    let offers = offers_of(alloc, offers)?;
+    let tasks = tasks_of(alloc, tasks)?;
+    in_words(alloc, first_breach(&offers.as_slice(), &[tasks.as_slice()]))
+}
+
+/// Each row, of one operation, has its answer where its tasks are launched as a slice, and as two.
+pub(crate) fn expect_answers_of_slices<R: Abort + AllocGlobal>(
+    rt: &R,
+    rows: &str,
+) -> Result<(), Fail> {
+    for row in rows.lines() {
+        let (question, expected) = row.split_once(" => ").ok_or("a row has an answer")?;
+        let (offers, tasks) = question.split_once(" -> ").ok_or("a row has offers")?;
+        let said = answer_of_slice(rt.alloc(), offers, tasks)?;
+        assert_eq!(rt; said.as_str(), expected, "{question}");
+        let said = answer_of_slices(rt.alloc(), offers, tasks)?;
+        assert_eq!(rt; said.as_str(), expected, "{question}");
+    }
+    Ok(())
 }
 
 /// Each row has its answer.

@@ -1,17 +1,16 @@
 -- Bodies cut into pieces, and what is written of them piece by piece.
-use Rattle.std.proofs.Common.{◌≡◌, ℕ, zero, suc, ◌+◌, ◌<◌, ◌≤◌, min, true, false, ◌==◌, List, [], ◌∷◌, ◌++◌, Option, length, take, drop, refl, ap, sym, ◌∙◌, subst, append_assoc, arith, length-append, length-drop}
-use Rattle.std.proofs.KnownBytes.{Appends-trans}
+use Rattle.std.proofs.Common.{◌≡◌, ℕ, zero, suc, ◌<◌, ◌≤◌, min, true, false, ◌==◌, List, [], ◌∷◌, ◌++◌, Option, Result, Ok, Err, OnOk, IfErr, MatchResult, length, take, drop, refl, ap, sym, ◌∙◌, subst, append_assoc, arith, length-drop}
 use Rattle.std.proofs.lemmas.Bool.Decides.{nat_tests}
 use Rattle.std.proofs.lemmas.Grind.{common_steps, flat_map-append}
 use Rattle.std.proofs.lemmas.List.{append-nil, take_min, drop_min, length-take}
 use Rattle.std.specs.Io.KnownBytes.{Appends}
-use Rattle.std.specs.Fmt.{digits}
 use Rattle.std.specs.List.{flat_map}
 use Rattle.mes_frame.specs.Frames.{IsCut, IsFrames, piece_bytes}
 use Rattle.mes_frame.specs.Write.{CallsFor}
-use Rattle.mes_frame.specs.Written.{WroteFront, WrotePart}
+use Rattle.mes_frame.specs.Written.{WroteFront, WentOut, Passes, Stops}
 use Rattle.mes_frame.specs.declared.counts.Counts.{Counts}
-use Rattle.mes_frame.proofs.Parts.{WentOut, none_out, both_out, stops_before, stops_behind, front_of, calls_more, calls_short}
+use Rattle.mes_frame.specs.declared.write.WriteFault.{WriteFault}
+use Rattle.mes_frame.proofs.Parts.{all_held, passes_with, passes_then, out_then, stops_then, stops_long, front_of}
 
 -- each body is cut in some way
 some_cut_of : (k most : ℕ) (body : List ℕ) → 0 < most → length body ≤ k → (ps : List (List ℕ)) × IsCut most body ps
@@ -30,14 +29,14 @@ some_cut most body some = some_cut_of (length body) most body some (omega arith)
 last : List ℕ
 last = 48 ∷ 13 ∷ 10 ∷ 13 ∷ 10 ∷ []
 
--- `rest` is left of the body, and the chunks before it went out
-pub record Chunking (most : ℕ) (body rest : List ℕ) (before after : Option (List ℕ)) (old new : Counts) (sent : ℕ) : Type 0 where
+-- `rest` is left of the body, and the chunks before it went out, but for what is held
+pub record Chunking (most : ℕ) (body rest : List ℕ) (before after : Option (List ℕ)) (old new : Counts) (held : List ℕ) (sent : ℕ) : Type 0 where
   pub pieces : List (List ℕ)
   pub front : (qs : List (List ℕ)) → IsCut most rest qs → IsCut most body (pieces ++ qs)
-  pub out : WentOut before after old new (flat_map piece_bytes pieces) 0 sent
+  pub out : Passes before after old new (flat_map piece_bytes pieces) held 0 sent
 
-pub begins : (most : ℕ) (body : List ℕ) (a : Option (List ℕ)) (counts : Counts) → Chunking most body body a a counts counts 0
-begins most body a counts = record { pieces = []; front = λ qs cut. cut; out = none_out a counts }
+pub begins : (most : ℕ) (body : List ℕ) (a : Option (List ℕ)) (counts : Counts) (held : List ℕ) (sent : ℕ) → held ≡ [] → sent ≡ 0 → Chunking most body body a a counts counts held sent
+begins most body a counts held sent none zero-sent = record { pieces = []; front = λ qs cut. cut; out = rw zero-sent (all_held a counts [] held 0 none) }
 
 -- what the test of the rest tells
 pub some_left : (rest : List ℕ) → false ≡ (length rest == 0) → 0 < length rest
@@ -71,12 +70,12 @@ cut_more most rest p more qs split cut = (split.some, split.front, subst (λ (s 
 chunks_more : (ps : List (List ℕ)) (p : List ℕ) → flat_map piece_bytes (ps ++ p ∷ []) ≡ flat_map piece_bytes ps ++ piece_bytes p
 chunks_more ps p = flat_map-append piece_bytes ps (p ∷ []) ∙ ap (λ (s : List ℕ). flat_map piece_bytes ps ++ s) (append-nil (piece_bytes p))
 
--- one chunk more went out
-pub goes_on : (most : ℕ) (body rest p more : List ℕ) (a b c : Option (List ℕ)) (old mid new : Counts) (sent all : ℕ) → Splits most rest p more → Chunking most body rest a b old mid sent → WentOut b c mid new (piece_bytes p) sent all → Chunking most body more a c old new all
-goes_on most body rest p more a b c old mid new sent all split so one = record {
+-- one chunk more is behind them
+pub goes_on : (most : ℕ) (body rest p more : List ℕ) (a b c : Option (List ℕ)) (old mid new : Counts) (held kept : List ℕ) (sent all : ℕ) → Splits most rest p more → Chunking most body rest a b old mid held sent → Passes b c mid new (held ++ piece_bytes p) kept sent all → Chunking most body more a c old new kept all
+goes_on most body rest p more a b c old mid new held kept sent all split so one = record {
   pieces = so.pieces ++ p ∷ [];
   front = λ qs cut. rw (append_assoc so.pieces (p ∷ []) qs) (so.front (p ∷ qs) (cut_more most rest p more qs split cut));
-  out = rw (chunks_more so.pieces p) (both_out a b c old mid new _ _ 0 sent all so.out one);
+  out = rw (chunks_more so.pieces p) (passes_then _ _ _ _ _ _ _ _ _ _ _ _ (passes_with _ _ _ _ _ _ (piece_bytes p) _ _ so.out) one);
 }
 
 -- what is written in all, and how it begins
@@ -85,9 +84,9 @@ pub record Framed (most : ℕ) (body front : List ℕ) : Type 0 where
   pub is : IsFrames body most (front ++ rest)
 
 -- where nothing is left
-ends : (most : ℕ) (body rest : List ℕ) (a b : Option (List ℕ)) (old new : Counts) (sent : ℕ) (so : Chunking most body rest a b old new sent) → rest ≡ [] → IsFrames body most (flat_map piece_bytes so.pieces ++ last)
+ends : (most : ℕ) (body rest : List ℕ) (a b : Option (List ℕ)) (old new : Counts) (held : List ℕ) (sent : ℕ) (so : Chunking most body rest a b old new held sent) → rest ≡ [] → IsFrames body most (flat_map piece_bytes so.pieces ++ last)
 unfolding last
-ends most body rest a b old new sent so none = record {
+ends most body rest a b old new held sent so none = record {
   pieces = so.pieces;
   cut = rw append-nil at (so.front [] none);
   spelt = refl;
@@ -101,13 +100,10 @@ frames_spelt ps qs p s =
     ap (λ (x : List ℕ). x ++ s) (flat_map-append piece_bytes ps (p ∷ qs)) ∙ append_assoc chunks (piece_bytes p ++ behind) s ∙ ap (λ (x : List ℕ). chunks ++ x) (append_assoc (piece_bytes p) behind s) in
     append_assoc chunks (piece_bytes p) (behind ++ s) ∙ sym parts
 
-piece_some : (p : List ℕ) → 0 < length (piece_bytes p)
-piece_some p = let len = length-append (digits 16 false (length p)) (13 ∷ 10 ∷ (p ++ 13 ∷ 10 ∷ [])) in omega arith
-
 -- where there is a next chunk
-frames_more : (most : ℕ) (body rest p more : List ℕ) (a b : Option (List ℕ)) (old new : Counts) (sent : ℕ) → 0 < most → Splits most rest p more → (so : Chunking most body rest a b old new sent) → Framed most body (flat_map piece_bytes so.pieces ++ piece_bytes p)
+frames_more : (most : ℕ) (body rest p more : List ℕ) (a b : Option (List ℕ)) (old new : Counts) (held : List ℕ) (sent : ℕ) → 0 < most → Splits most rest p more → (so : Chunking most body rest a b old new held sent) → Framed most body (flat_map piece_bytes so.pieces ++ piece_bytes p)
 unfolding last
-frames_more most body rest p more a b old new sent some split so =
+frames_more most body rest p more a b old new held sent some split so =
     let qs = some_cut most more some in
     let chunks = flat_map piece_bytes so.pieces in
     let spelt : (chunks ++ piece_bytes p) ++ (flat_map piece_bytes qs.0 ++ last) ≡ flat_map piece_bytes (so.pieces ++ p ∷ qs.0) ++ last = frames_spelt so.pieces qs.0 p last in
@@ -116,43 +112,46 @@ frames_more most body rest p more a b old new sent some split so =
       is = record { pieces = so.pieces ++ p ∷ qs.0; cut = so.front (p ∷ qs.0) (cut_more most rest p more qs.0 split qs.1); spelt = spelt };
     }
 
--- a chunk stopped
-pub chunk_stops : (most : ℕ) (body rest p more : List ℕ) (a b c : Option (List ℕ)) (old mid : Counts) (sent told-last : ℕ) → 0 < most → Splits most rest p more → Chunking most body rest a b old mid sent → WrotePart b c (piece_bytes p) sent told-last → (w : List ℕ) × IsFrames body most w × WroteFront a c w told-last
-chunk_stops most body rest p more a b c old mid sent told-last some split so part =
-    let framed = frames_more most body rest p more a b old mid sent some split so in
-    let chunks = flat_map piece_bytes so.pieces in
-    let behind = stops_behind a b c old mid chunks (piece_bytes p) 0 sent told-last so.out part in
-    ((chunks ++ piece_bytes p) ++ framed.rest, framed.is, front_of _ _ _ _ (stops_before a c (chunks ++ piece_bytes p) framed.rest 0 told-last behind))
+-- how the writing of a body in chunks ended
+pub record Ended (most : ℕ) (body : List ℕ) (a b : Option (List ℕ)) (old new : Counts) (r : Result (Unit {0}) WriteFault) : Type 0 where
+  pub w : List ℕ
+  pub is : IsFrames body most w
+  pub end : MatchResult r (λ _. (all : ℕ) × WentOut a b old new w 0 all) (λ f. Stops a b old new w 0 f)
 
-pub chunk_calls : (most : ℕ) (body rest p more : List ℕ) (a b : Option (List ℕ)) (old mid new : Counts) (sent : ℕ) → 0 < most → Splits most rest p more → Chunking most body rest a b old mid sent → CallsFor (length (piece_bytes p)) mid new → (w : List ℕ) × IsFrames body most w × CallsFor (length w) old new
-chunk_calls most body rest p more a b old mid new sent some split so calls =
-    let framed = frames_more most body rest p more a b old mid sent some split so in
-    let chunks = flat_map piece_bytes so.pieces in
-    let two = calls_more _ _ old mid new so.out.calls calls in
-    let len = length-append chunks (piece_bytes p) in
-    let whole = length-append (chunks ++ piece_bytes p) framed.rest in
-    let long = piece_some p in
-    let all = calls_short (length chunks + length (piece_bytes p)) (length framed.rest) old new (omega arith) two in
-    let same : (length chunks + length (piece_bytes p)) + length framed.rest ≡ length ((chunks ++ piece_bytes p) ++ framed.rest) = omega arith in
-    ((chunks ++ piece_bytes p) ++ framed.rest, framed.is, subst (λ (n : ℕ). CallsFor n old new) same all)
+pub ended_ok : (most : ℕ) (body : List ℕ) (a b : Option (List ℕ)) (old new : Counts) (r : Result (Unit {0}) WriteFault) → Ended most body a b old new r → OnOk r ((w : List ℕ) × IsFrames body most w × Appends a b w)
+ended_ok most body a b old new (Ok x) so = (so.w, so.is, so.end.1.out)
+ended_ok most body a b old new (Err f) so = tt
 
--- the last chunk stopped
-pub last_stops : (most : ℕ) (body rest : List ℕ) (a b c : Option (List ℕ)) (old mid : Counts) (sent told-last : ℕ) → rest ≡ [] → Chunking most body rest a b old mid sent → WrotePart b c (48 ∷ 13 ∷ 10 ∷ 13 ∷ 10 ∷ []) sent told-last → (w : List ℕ) × IsFrames body most w × WroteFront a c w told-last
+pub ended_err : (most : ℕ) (body : List ℕ) (a b : Option (List ℕ)) (old new : Counts) (r : Result (Unit {0}) WriteFault) → Ended most body a b old new r → IfErr r (λ f. (w : List ℕ) × IsFrames body most w × WroteFront a b w f.sent)
+ended_err most body a b old new (Ok x) so = tt
+ended_err most body a b old new (Err f) so = (so.w, so.is, front_of _ _ _ _ so.end.part)
+
+pub ended_calls : (most : ℕ) (body : List ℕ) (a b : Option (List ℕ)) (old new : Counts) (r : Result (Unit {0}) WriteFault) → Ended most body a b old new r → (w : List ℕ) × IsFrames body most w × CallsFor (length w) old new
+ended_calls most body a b old new (Ok x) so = (so.w, so.is, so.end.1.calls)
+ended_calls most body a b old new (Err f) so = (so.w, so.is, so.end.calls)
+
+-- in a chunk
+pub chunk_stops : (most : ℕ) (body rest p more : List ℕ) (a b c : Option (List ℕ)) (old mid new : Counts) (held : List ℕ) (sent : ℕ) (f : WriteFault) → 0 < most → Splits most rest p more → Chunking most body rest a b old mid held sent → Stops b c mid new (held ++ piece_bytes p) sent f → Ended most body a c old new (Err f)
+chunk_stops most body rest p more a b c old mid new held sent f some split so stop =
+    let framed = frames_more most body rest p more a b old mid held sent some split so in
+    let behind = stops_then _ _ _ _ _ _ _ _ _ _ _ (passes_with _ _ _ _ _ _ (piece_bytes p) _ _ so.out) stop in
+    record { w = (flat_map piece_bytes so.pieces ++ piece_bytes p) ++ framed.rest; is = framed.is; end = stops_long _ _ _ _ _ framed.rest _ _ behind }
+
+-- at the last chunk
+pub last_stops : (most : ℕ) (body rest : List ℕ) (a b c : Option (List ℕ)) (old mid new : Counts) (held : List ℕ) (sent : ℕ) (f : WriteFault) → rest ≡ [] → Chunking most body rest a b old mid held sent → Stops b c mid new (held ++ 48 ∷ 13 ∷ 10 ∷ 13 ∷ 10 ∷ []) sent f → Ended most body a c old new (Err f)
 unfolding last
-last_stops most body rest a b c old mid sent told-last none so part =
-    let chunks = flat_map piece_bytes so.pieces in
-    (chunks ++ last, ends most body rest a b old mid sent so none, front_of _ _ _ _ (stops_behind a b c old mid chunks last 0 sent told-last so.out part))
+last_stops most body rest a b c old mid new held sent f none so stop = record {
+  w = flat_map piece_bytes so.pieces ++ last;
+  is = ends most body rest a b old mid held sent so none;
+  end = stops_then _ _ _ _ _ _ _ _ _ _ _ (passes_with _ _ _ _ _ _ last _ _ so.out) stop;
+}
 
-pub last_calls : (most : ℕ) (body rest : List ℕ) (a b : Option (List ℕ)) (old mid new : Counts) (sent : ℕ) → rest ≡ [] → Chunking most body rest a b old mid sent → CallsFor 5 mid new → (w : List ℕ) × IsFrames body most w × CallsFor (length w) old new
+-- or with it, where what is held is written
+pub flush_ends : (most : ℕ) (body rest : List ℕ) (a b c d : Option (List ℕ)) (old mid late new : Counts) (held kept : List ℕ) (sent some all : ℕ) (r : Result (Unit {0}) WriteFault) → rest ≡ [] → Chunking most body rest a b old mid held sent → Passes b c mid late (held ++ 48 ∷ 13 ∷ 10 ∷ 13 ∷ 10 ∷ []) kept sent some → OnOk r (WentOut c d late new kept some all) → IfErr r (λ f. Stops c d late new kept some f) → Ended most body a d old new r
 unfolding last
-last_calls most body rest a b old mid new sent none so calls =
-    let chunks = flat_map piece_bytes so.pieces in
-    let len = length-append chunks last in
-    (chunks ++ last, ends most body rest a b old mid sent so none, subst (λ (n : ℕ). CallsFor n old new) (sym len) (calls_more (length chunks) 5 old mid new so.out.calls calls))
-
--- all went out
-pub all_out : (most : ℕ) (body rest : List ℕ) (a b c : Option (List ℕ)) (old mid : Counts) (sent : ℕ) → rest ≡ [] → Chunking most body rest a b old mid sent → Appends b c (48 ∷ 13 ∷ 10 ∷ 13 ∷ 10 ∷ []) → (w : List ℕ) × IsFrames body most w × Appends a c w
-unfolding last
-all_out most body rest a b c old mid sent none so out =
-    let chunks = flat_map piece_bytes so.pieces in
-    (chunks ++ last, ends most body rest a b old mid sent so none, Appends-trans a b c chunks last so.out.out out)
+flush_ends most body rest a b c d old mid late new held kept sent some all (Ok x) none so passed out stop =
+    let whole = passes_then _ _ _ _ _ _ _ _ _ _ _ _ (passes_with _ _ _ _ _ _ last _ _ so.out) passed in
+    record { w = flat_map piece_bytes so.pieces ++ last; is = ends most body rest a b old mid held sent so none; end = (all, out_then _ _ _ _ _ _ _ _ _ _ _ whole out) }
+flush_ends most body rest a b c d old mid late new held kept sent some all (Err f) none so passed out stop =
+    let whole = passes_then _ _ _ _ _ _ _ _ _ _ _ _ (passes_with _ _ _ _ _ _ last _ _ so.out) passed in
+    record { w = flat_map piece_bytes so.pieces ++ last; is = ends most body rest a b old mid held sent so none; end = stops_then _ _ _ _ _ _ _ _ _ _ _ whole stop }

@@ -1,24 +1,17 @@
 -- Writes in parts: what went out and what was counted by two of them, one behind the other.
-use Rattle.std.proofs.Common.{◌≡◌, ℕ, ◌+◌, ◌<◌, List, [], ◌++◌, Option, length, take, refl, sym, subst, arith, length-append}
+use Rattle.std.proofs.Common.{◌≡◌, ℕ, true, false, Result, Ok, Err, is_ok, OnOk, OnErr, ◌+◌, ◌<◌, List, [], ◌++◌, Option, length, take, refl, sym, ap, subst, ◌∙◌, arith, append_assoc, length-append}
 use Rattle.std.proofs.KnownBytes.{Appends-nil, Appends-trans}
 use Rattle.std.proofs.lemmas.Grind.{common_steps}
+use Rattle.std.proofs.lemmas.List.{append-nil}
 use Rattle.std.proofs.Math.Seq.{take-append-add}
 use Rattle.std.specs.Io.KnownBytes.{Appends}
+use Rattle.mes_frame.specs.Counts.{up}
 use Rattle.mes_frame.specs.Write.{NoneFails, StopsWrite, CallsFor}
-use Rattle.mes_frame.specs.Written.{told, WroteFront, WrotePart}
+use Rattle.mes_frame.specs.Written.{WroteFront, WrotePart, WentOut, Passes, Stops}
 use Rattle.mes_frame.specs.declared.counts.Counts.{Counts}
+use Rattle.mes_frame.specs.declared.write.WriteFault.{WriteFault}
 use Rattle.mes_frame.specs.declared.write.WriteWhy.{WriteWhy}
 use Rattle.mes_frame.specs.declared.write.WriteWhy.TheVariants.{Device, Zero}
-
--- the bytes w went out, behind `sent` before, which makes `all`
-pub record WentOut (before after : Option (List ℕ)) (old new : Counts) (w : List ℕ) (sent all : ℕ) : Type 0 where
-  pub out : Appends before after w
-  pub good : NoneFails old new
-  pub count : all ≡ told (sent + length w)
-  pub calls : CallsFor (length w) old new
-
-pub none_out : (a : Option (List ℕ)) (counts : Counts) → WentOut a a counts counts [] 0 0
-none_out a counts = record { out = Appends-nil a; good = (refl, refl); count = refl; calls = (omega arith, omega arith) }
 
 pub calls_more : (n k : ℕ) (old mid new : Counts) → CallsFor n old mid → CallsFor k mid new → CallsFor (n + k) old new
 calls_more n k old mid new first second = (omega arith, omega arith)
@@ -81,9 +74,82 @@ stops_before a b v w sent told-last front =
     }
 
 -- what a part says that went out
-pub part_out : (a b : Option (List ℕ)) (old new : Counts) (w : List ℕ) (sent all : ℕ) → Appends a b w → NoneFails old new → all ≡ told (sent + length w) → CallsFor (length w) old new → WentOut a b old new w sent all
+pub part_out : (a b : Option (List ℕ)) (old new : Counts) (w : List ℕ) (sent all : ℕ) → Appends a b w → NoneFails old new → all ≡ up sent (length w) → CallsFor (length w) old new → WentOut a b old new w sent all
 part_out a b old new w sent all out good count calls = record { out = out; good = good; count = count; calls = calls }
 
 -- with nothing before it
 pub front_of : (a b : Option (List ℕ)) (w : List ℕ) (sent : ℕ) → WrotePart a b w 0 sent → WroteFront a b w sent
 front_of a b w sent part = record { n = part.n; short = part.short; out = part.out; sent_is = let is = part.sent_is in omega arith }
+
+-- what a call says of an answer that it gave, by the test of that answer
+pub of_ok : {T E P : Type 0} (r : Result T E) → is_ok r ≡ true → OnOk r P → P
+of_ok (Ok x) test holds = holds
+of_ok (Err e) test holds = absurd (cc)
+
+pub of_err : {T E P : Type 0} (r : Result T E) → is_ok r ≡ false → OnErr r P → P
+of_err (Ok x) test holds = absurd (cc)
+of_err (Err e) test holds = holds
+
+-- all is held
+pub all_held : (a : Option (List ℕ)) (counts : Counts) (w held : List ℕ) (sent : ℕ) → held ≡ w → Passes a a counts counts w held sent sent
+all_held a counts w held sent same = record {
+  front = [];
+  spelt = sym same;
+  out = record { out = Appends-nil a; good = (refl, refl); count = omega arith; calls = (omega arith, omega arith) };
+}
+
+-- none is held
+pub none_held : (a b : Option (List ℕ)) (old new : Counts) (w held : List ℕ) (sent all : ℕ) → held ≡ [] → WentOut a b old new w sent all → Passes a b old new w held sent all
+none_held a b old new w held sent all none out = record { front = w; spelt = sym (append-nil w) ∙ ap (λ (s : List ℕ). w ++ s) (sym none); out = out }
+
+-- p behind it is held too
+pub passes_with : (a b : Option (List ℕ)) (old new : Counts) (w held p : List ℕ) (sent all : ℕ) → Passes a b old new w held sent all → Passes a b old new (w ++ p) (held ++ p) sent all
+passes_with a b old new w held p sent all first = record {
+  front = first.front;
+  spelt = ap (λ (s : List ℕ). s ++ p) first.spelt ∙ append_assoc first.front held p;
+  out = first.out;
+}
+
+-- of what is held a front goes out
+pub passes_then : (a b c : Option (List ℕ)) (old mid new : Counts) (w held kept : List ℕ) (sent some all : ℕ) → Passes a b old mid w held sent some → Passes b c mid new held kept some all → Passes a c old new w kept sent all
+passes_then a b c old mid new w held kept sent some all first second = record {
+  front = first.front ++ second.front;
+  spelt = first.spelt ∙ ap (λ (s : List ℕ). first.front ++ s) second.spelt ∙ sym (append_assoc first.front second.front kept);
+  out = both_out a b c old mid new first.front second.front sent some all first.out second.out;
+}
+
+-- or all of it
+pub out_then : (a b c : Option (List ℕ)) (old mid new : Counts) (w held : List ℕ) (sent some all : ℕ) → Passes a b old mid w held sent some → WentOut b c mid new held some all → WentOut a c old new w sent all
+out_then a b c old mid new w held sent some all first second =
+    subst (λ (s : List ℕ). WentOut a c old new s sent all) (sym first.spelt) (both_out a b c old mid new first.front held sent some all first.out second)
+
+-- one part went out, and the write of the next one stopped
+pub out_stops : (a b c : Option (List ℕ)) (old mid new : Counts) (v w : List ℕ) (sent some : ℕ) (f : WriteFault) → WentOut a b old mid v sent some → Stops b c mid new w some f → Stops a c old new (v ++ w) sent f
+out_stops a b c old mid new v w sent some f first second =
+    let len = length-append v w in
+    let both = calls_more (length v) (length w) old mid new first.calls second.calls in
+    record {
+      part = stops_behind a b c old mid v w sent some f.sent first second.part;
+      why = none_then_stops f.why old mid new first.good second.why;
+      calls = subst (λ (n : ℕ). CallsFor n old new) (sym len) both;
+    }
+
+-- or the write of what is held stops
+pub stops_then : (a b c : Option (List ℕ)) (old mid new : Counts) (w held : List ℕ) (sent some : ℕ) (f : WriteFault) → Passes a b old mid w held sent some → Stops b c mid new held some f → Stops a c old new w sent f
+stops_then a b c old mid new w held sent some f first second =
+    subst (λ (s : List ℕ). Stops a c old new s sent f) (sym first.spelt) (out_stops a b c old mid new first.front held sent some f first.out second)
+
+-- so does that of more bytes
+pub stops_long : (a b : Option (List ℕ)) (old new : Counts) (v w : List ℕ) (sent : ℕ) (f : WriteFault) → Stops a b old new v sent f → Stops a b old new (v ++ w) sent f
+stops_long a b old new v w sent f first =
+    let len = length-append v w in
+    let short = first.part.short in
+    record {
+      part = stops_before a b v w sent f.sent first.part;
+      why = first.why;
+      calls = subst (λ (n : ℕ). CallsFor n old new) (sym len) (calls_short (length v) (length w) old new (omega arith) first.calls);
+    }
+
+-- what a part says that stopped
+pub part_stops : (a b : Option (List ℕ)) (old new : Counts) (w : List ℕ) (sent : ℕ) (f : WriteFault) → WrotePart a b w sent f.sent → StopsWrite f.why old new → CallsFor (length w) old new → Stops a b old new w sent f
+part_stops a b old new w sent f part why calls = record { part = part; why = why; calls = calls }

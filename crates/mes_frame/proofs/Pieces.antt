@@ -1,34 +1,29 @@
--- Bodies cut into pieces, and the chunks that are written of them.
-use Rattle.std.proofs.Common.{◌≡◌, ℕ, false, Result, Ok, Err, Option, List, [], ◌∷◌, ◌++◌, length, ap, ◌∙◌, subst, append_assoc, IfErr}
+-- The chunks that are written of pieces, behind what is held.
+use Rattle.std.proofs.Common.{◌≡◌, ℕ, false, Result, Ok, Err, OnOk, IfErr, Option, List, [], ◌∷◌, ◌++◌, length, ap, ◌∙◌, subst, append_assoc}
 use Rattle.std.specs.Fmt.{digits}
 use Rattle.mes_frame.specs.Frames.{piece_bytes}
-use Rattle.mes_frame.specs.Written.{WrotePart}
+use Rattle.mes_frame.specs.Written.{Passes, Stops}
 use Rattle.mes_frame.specs.declared.counts.Counts.{Counts}
 use Rattle.mes_frame.specs.declared.write.WriteFault.{WriteFault}
-use Rattle.mes_frame.proofs.Parts.{WentOut, stops_before, stops_behind, both_out}
+use Rattle.mes_frame.proofs.Parts.{passes_with, passes_then, stops_then}
 
 -- the chunk of p by its three parts
-pub piece_parts : (p : List ℕ) → ((digits 16 false (length p) ++ 13 ∷ 10 ∷ []) ++ p) ++ 13 ∷ 10 ∷ [] ≡ piece_bytes p
-piece_parts p = append_assoc (digits 16 false (length p) ++ 13 ∷ 10 ∷ []) p (13 ∷ 10 ∷ []) ∙ append_assoc (digits 16 false (length p)) (13 ∷ 10 ∷ []) (p ++ 13 ∷ 10 ∷ [])
-
--- the line of a chunk stopped
-pub line_stops : (a b : Option (List ℕ)) (line p : List ℕ) (sent told-last : ℕ) → line ≡ digits 16 false (length p) ++ 13 ∷ 10 ∷ [] → WrotePart a b line sent told-last → WrotePart a b (piece_bytes p) sent told-last
-line_stops a b line p sent told-last is front =
+pub piece_behind : (held line p : List ℕ) → line ≡ digits 16 false (length p) ++ 13 ∷ 10 ∷ [] → ((held ++ line) ++ p) ++ 13 ∷ 10 ∷ [] ≡ held ++ piece_bytes p
+piece_behind held line p is =
     let crlf : List ℕ = 13 ∷ 10 ∷ [] in
-    let whole : (line ++ p) ++ crlf ≡ piece_bytes p = ap (λ (l : List ℕ). (l ++ p) ++ crlf) is ∙ piece_parts p in
-    subst (λ (w : List ℕ). WrotePart a b w sent told-last) whole (stops_before a b (line ++ p) crlf sent told-last (stops_before a b line p sent told-last front))
+    let size = digits 16 false (length p) in
+    append_assoc (held ++ line) p crlf ∙ append_assoc held line (p ++ crlf) ∙ ap (λ (l : List ℕ). held ++ (l ++ (p ++ crlf))) is ∙ ap (λ (s : List ℕ). held ++ s) (append_assoc size crlf (p ++ crlf))
 
--- its data stopped
-pub data_stops : (a b c : Option (List ℕ)) (old mid : Counts) (line p : List ℕ) (sent some told-last : ℕ) → line ≡ digits 16 false (length p) ++ 13 ∷ 10 ∷ [] → WentOut a b old mid line sent some → WrotePart b c p some told-last → WrotePart a c (piece_bytes p) sent told-last
-data_stops a b c old mid line p sent some told-last is out front =
+-- the CRLF behind its data went out, or is held
+pub piece_ends : {T E : Type 0} (r : Result T E) (a b c : Option (List ℕ)) (old mid new : Counts) (held line p rest kept : List ℕ) (sent some all : ℕ) → line ≡ digits 16 false (length p) ++ 13 ∷ 10 ∷ [] → Passes a b old mid ((held ++ line) ++ p) rest sent some → OnOk r (Passes b c mid new (rest ++ 13 ∷ 10 ∷ []) kept some all) → OnOk r (Passes a c old new (held ++ piece_bytes p) kept sent all)
+piece_ends (Err e) a b c old mid new held line p rest kept sent some all is first second = tt
+piece_ends (Ok x) a b c old mid new held line p rest kept sent some all is first second =
     let crlf : List ℕ = 13 ∷ 10 ∷ [] in
-    let whole : (line ++ p) ++ crlf ≡ piece_bytes p = ap (λ (l : List ℕ). (l ++ p) ++ crlf) is ∙ piece_parts p in
-    subst (λ (w : List ℕ). WrotePart a c w sent told-last) whole (stops_before a c (line ++ p) crlf sent told-last (stops_behind a b c old mid line p sent some told-last out front))
+    subst (λ (s : List ℕ). Passes a c old new s kept sent all) (piece_behind held line p is) (passes_then _ _ _ _ _ _ _ _ _ _ _ _ (passes_with _ _ _ _ _ _ crlf _ _ first) second)
 
--- the CRLF behind its data stopped
-pub end_stops : (a b c d : Option (List ℕ)) (old mid new : Counts) (line p : List ℕ) (sent some more : ℕ) (r : Result ℕ WriteFault) → line ≡ digits 16 false (length p) ++ 13 ∷ 10 ∷ [] → WentOut a b old mid line sent some → WentOut b c mid new p some more → IfErr r (λ f. WrotePart c d (13 ∷ 10 ∷ []) more f.sent) → IfErr r (λ f. WrotePart a d (piece_bytes p) sent f.sent)
-end_stops a b c d old mid new line p sent some more (Ok all) is out data-out front = tt
-end_stops a b c d old mid new line p sent some more (Err f) is out data-out front =
+-- its write stopped
+pub piece_stops : {T : Type 0} (r : Result T WriteFault) (a b c : Option (List ℕ)) (old mid new : Counts) (held line p rest : List ℕ) (sent some : ℕ) → line ≡ digits 16 false (length p) ++ 13 ∷ 10 ∷ [] → Passes a b old mid ((held ++ line) ++ p) rest sent some → IfErr r (λ f. Stops b c mid new (rest ++ 13 ∷ 10 ∷ []) some f) → IfErr r (λ f. Stops a c old new (held ++ piece_bytes p) sent f)
+piece_stops (Ok x) a b c old mid new held line p rest sent some is first second = tt
+piece_stops (Err f) a b c old mid new held line p rest sent some is first second =
     let crlf : List ℕ = 13 ∷ 10 ∷ [] in
-    let whole : (line ++ p) ++ crlf ≡ piece_bytes p = ap (λ (l : List ℕ). (l ++ p) ++ crlf) is ∙ piece_parts p in
-    subst (λ (w : List ℕ). WrotePart a d w sent f.sent) whole (stops_behind a c d old new (line ++ p) crlf sent more f.sent (both_out a b c old mid new line p sent some more out data-out) front)
+    subst (λ (s : List ℕ). Stops a c old new s sent f) (piece_behind held line p is) (stops_then _ _ _ _ _ _ _ _ _ _ _ (passes_with _ _ _ _ _ _ crlf _ _ first) second)

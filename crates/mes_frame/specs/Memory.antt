@@ -44,11 +44,11 @@ pub record SinkIs (most good : ℕ) (stop : MemoryStop) (s : MemorySink) : Type 
   pub counts : writes_of s ≡ no_calls
 
 -- a call with n bytes takes as many as may be, and fails where the good bytes are used up and the writer fails then;
--- for want of memory it may fail too
+-- for want of memory it may fail too, but only where it would have taken some
 abbrev pub SinkTakes : {E : Type 0} → MemorySink → MemorySink → ℕ → Result ℕ E → Type 0
 SinkTakes old new n (Ok taken) =
     (taken ≡ min (min old.most old.good) n) × (old.good ≡ 0 → old.stop ≡ TakesNone)
     × (new.most ≡ old.most) × (new.good ≡ old.good - taken) × (new.stop ≡ old.stop)
 SinkTakes old new n (Err e) =
-    (old.good ≡ 0 → old.stop ≡ Fails)
+    (old.good ≡ 0 → old.stop ≡ Fails) × (0 < old.good → 0 < min (min old.most old.good) n)
     × (new.most ≡ old.most) × (new.good ≡ old.good) × (new.stop ≡ old.stop)

@@ -1,6 +1,10 @@
 -- What a write that stopped short has written.
-use Rattle.std.specs.Prelude.{◌≡◌, ℕ, ◌+◌, ◌-◌, ◌^◌, ◌<◌, min, List, Option, length, take}
+use Rattle.std.specs.Prelude.{◌≡◌, ℕ, ◌-◌, ◌^◌, ◌<◌, min, List, ◌++◌, Option, length, take}
 use Rattle.std.specs.Io.KnownBytes.{Appends}
+use Rattle.mes_frame.specs.Counts.{up}
+use Rattle.mes_frame.specs.Write.{NoneFails, StopsWrite, CallsFor}
+use Rattle.mes_frame.specs.declared.counts.Counts.{Counts}
+use Rattle.mes_frame.specs.declared.write.WriteFault.{WriteFault}
 
 -- a number of bytes as it is told: it stays at 2^64 - 1 once it is there
 abbrev pub told : ℕ → ℕ
@@ -18,4 +22,23 @@ pub record WrotePart (old new : Option (List ℕ)) (w : List ℕ) (before sent :
   pub n : ℕ
   pub short : n < length w
   pub out : Appends old new (take n w)
-  pub sent_is : sent ≡ told (before + n)
+  pub sent_is : sent ≡ up before n
+
+-- the bytes w went out, behind `sent` bytes before them, which makes `all`, and no call failed or took none
+pub record WentOut (before after : Option (List ℕ)) (old new : Counts) (w : List ℕ) (sent all : ℕ) : Type 0 where
+  pub out : Appends before after w
+  pub good : NoneFails old new
+  pub count : all ≡ up sent (length w)
+  pub calls : CallsFor (length w) old new
+
+-- a front of w went out so, and the rest of w is held
+pub record Passes (before after : Option (List ℕ)) (old new : Counts) (w held : List ℕ) (sent all : ℕ) : Type 0 where
+  pub front : List ℕ
+  pub spelt : w ≡ front ++ held
+  pub out : WentOut before after old new front sent all
+
+-- a front of w went out, not all of it, behind `sent` bytes before it, and the last call did what the fault says
+pub record Stops (before after : Option (List ℕ)) (old new : Counts) (w : List ℕ) (sent : ℕ) (fault : WriteFault) : Type 0 where
+  pub part : WrotePart before after w sent fault.sent
+  pub why : StopsWrite fault.why old new
+  pub calls : CallsFor (length w) old new

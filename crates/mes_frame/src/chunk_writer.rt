@@ -1,18 +1,20 @@
 //! Writing chunked bodies.
-ghost use Rattle.std.specs.Prelude.{◌≡◌, ℕ, ◌≤◌, ◌+◌, List, length, OnOk, IfOk, IfErr};
+ghost use Rattle.std.specs.Prelude.{ℕ, ◌≤◌, ◌++◌, List, length, OnOk, IfErr};
 ghost use Rattle.std.specs.Io.KnownBytes.{Appends};
 ghost use Rattle.mes_frame.specs.Frames.{piece_bytes, IsFrames};
 ghost use Rattle.mes_frame.specs.Write.{NoneFails, CallsFor, StopsWrite};
-ghost use Rattle.mes_frame.specs.Written.{told, WroteFront, WrotePart};
+ghost use Rattle.mes_frame.specs.Written.{WroteFront, Passes, Stops};
 
+use crate::chunk_buffer::ChunkBuffer;
 use crate::device::Sink;
 use crate::limits::{CHUNK_LEAST, CHUNK_MOST};
-use crate::part_writer::write_part;
 use crate::size_line::{CHUNK_LINE_LENGTH, chunk_line};
 use crate::write::WriteFault;
 
 /// Writes a chunked body with this data: chunks of `most` bytes, the last one with what is left, each size in lower-case
-/// hexadecimal digits without leading zeros, and then the last chunk, `0`, without trailer lines. It takes no memory.
+/// hexadecimal digits without leading zeros, and then the last chunk, `0`, without trailer lines. What goes out is gathered in a
+/// buffer of `CHUNK_BUFFER` bytes, which is written when it is full; a chunk's data of more bytes than that are written as they
+/// stand. It takes no memory.
 pub fn write_chunked<W: Sink>(writer: &mut W, body: &[u8], most: u32) -> Result<(), WriteFault>
     requires least { CHUNK_LEAST ≤ most }
     requires greatest { most ≤ CHUNK_MOST }
@@ -29,29 +31,31 @@ pub fn write_chunked<W: Sink>(writer: &mut W, body: &[u8], most: u32) -> Result<
     // There are no more calls than bytes, and one at least.
     ensures calls { (w : List ℕ) × IsFrames body.now most w × CallsFor (length w) (W.counts writer.old) (W.counts writer.new) }
 {
+    let mut buffer = ChunkBuffer::new();
     let mut rest = body;
-    let mut sent = 0;
     while !rest.is_empty() {
         let (piece, more) = rest.split_at((most as usize).min(rest.len()));
-        sent = write_piece(writer, piece, sent)?;
+        write_piece(writer, piece, &mut buffer)?;
         rest = more;
     }
-    write_part(writer, b"0\r\n\r\n", sent)?;
-    Ok(())
+    buffer.hold(writer, b"0\r\n\r\n")?;
+    buffer.flush(writer)
 }
 
-// Writes a chunk with this data, behind `sent` bytes that went out before, and answers how many went out then.
-fn write_piece<W: Sink>(writer: &mut W, piece: &[u8], sent: u64) -> Result<u64, WriteFault>
-    ensures ok { OnOk result (Appends (W.written writer.old) (W.written writer.new) (piece_bytes piece.now)) }
-    ensures ok_counts { OnOk result (NoneFails (W.counts writer.old) (W.counts writer.new)) }
-    ensures ok_sent { IfOk result (λ all. all ≡ told (sent + length (piece_bytes piece.now))) }
-    ensures err { IfErr result (λ f. WrotePart (W.written writer.old) (W.written writer.new) (piece_bytes piece.now) sent f.sent) }
-    ensures err_counts { IfErr result (λ f. StopsWrite f.why (W.counts writer.old) (W.counts writer.new)) }
-    ensures calls { CallsFor (length (piece_bytes piece.now)) (W.counts writer.old) (W.counts writer.new) }
+// Writes a chunk with this data by way of the buffer, behind what that holds.
+fn write_piece<W: Sink>(
+    writer: &mut W,
+    piece: &[u8],
+    buffer: &mut ChunkBuffer,
+) -> Result<(), WriteFault>
+    ensures ok { OnOk result (Passes (W.written writer.old) (W.written writer.new) (W.counts writer.old) (W.counts writer.new)
+        (buffer.old.held.items ++ piece_bytes piece.now) buffer.new.held.items buffer.old.sent buffer.new.sent) }
+    ensures err { IfErr result (λ f. Stops (W.written writer.old) (W.written writer.new) (W.counts writer.old) (W.counts writer.new)
+        (buffer.old.held.items ++ piece_bytes piece.now) buffer.old.sent f) }
 {
-    let mut buffer = [0; CHUNK_LINE_LENGTH];
-    let line = chunk_line(piece.len() as u64, &mut buffer);
-    let sent = write_part(writer, line, sent)?;
-    let sent = write_part(writer, piece, sent)?;
-    write_part(writer, b"\r\n", sent)
+    let mut digits = [0; CHUNK_LINE_LENGTH];
+    let line = chunk_line(piece.len() as u64, &mut digits);
+    buffer.hold(writer, line)?;
+    buffer.hold(writer, piece)?;
+    buffer.hold(writer, b"\r\n")
 }

@@ -12,7 +12,7 @@ ghost use Rattle.mes_frame.specs.declared.chunk.ChunkState.{ChunkState};
 ghost use Rattle.mes_frame.specs.declared.record.RecordState.{RecordState};
 
 use crate::limits::{
-    CHUNK_LEAST, CHUNK_LINE_LIMIT, CHUNK_MOST, RECORD_LIMIT_LEAST, RECORD_LIMIT_MOST,
+    CHUNK_BUFFER, CHUNK_LEAST, CHUNK_LINE_LIMIT, CHUNK_MOST, RECORD_LIMIT_LEAST, RECORD_LIMIT_MOST,
     RECORD_LIMIT_USUAL, SIZE_DIGITS, TRAILERS_LIMIT,
 };
 
@@ -56,13 +56,14 @@ pub fn one_chunk_state()
         → (s ≡ t) × (body ≡ other) }
 {}
 
-/// The limits of records, of chunked bodies that are read, and of chunks that are written.
+/// The limits of records, of chunked bodies that are read, and of chunks that are written, with the buffer that these go through.
 pub fn frame_limits()
     ensures records { (RECORD_LIMIT_LEAST ≡ 1) × (RECORD_LIMIT_USUAL ≡ 4194304) × (RECORD_LIMIT_MOST ≡ 67108864) }
     ensures digits { SIZE_DIGITS ≡ 20 }
     ensures line { CHUNK_LINE_LIMIT ≡ 256 }
     ensures trailers { TRAILERS_LIMIT ≡ 4096 }
     ensures chunks { (CHUNK_LEAST ≡ 1) × (CHUNK_MOST ≡ 16777216) }
+    ensures buffer { CHUNK_BUFFER ≡ 8192 }
 {}
 
 /// A body in chunks of a size is written in exactly one way.

@@ -2,6 +2,7 @@
 #![tactic(auto)]
 
 mod chunk;
+mod chunk_buffer;
 mod chunk_writer;
 mod counts;
 mod device;
@@ -29,7 +30,7 @@ pub use crate::laws::{
 };
 pub use crate::limit::Limit;
 pub use crate::limits::{
-    CHUNK_LEAST, CHUNK_LINE_LIMIT, CHUNK_MOST, RECORD_LIMIT_LEAST, RECORD_LIMIT_MOST,
+    CHUNK_BUFFER, CHUNK_LEAST, CHUNK_LINE_LIMIT, CHUNK_MOST, RECORD_LIMIT_LEAST, RECORD_LIMIT_MOST,
     RECORD_LIMIT_USUAL, SIZE_DIGITS, TRAILERS_LIMIT,
 };
 pub use crate::memory_sink::{MemorySink, MemoryStop};

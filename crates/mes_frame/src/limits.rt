@@ -55,3 +55,6 @@ pub const CHUNK_LEAST: u32 = 1;
 
 /// The most bytes of a chunk that is written: 16 MiB.
 pub const CHUNK_MOST: u32 = chunk_most!(number);
+
+/// The bytes of the buffer in which chunks are gathered before they are written.
+pub const CHUNK_BUFFER: usize = 8192;

@@ -1,8 +1,9 @@
 //! Writing what is written in parts, and how many bytes went out by all of them.
-ghost use Rattle.std.specs.Prelude.{◌≡◌, ◌+◌, length, IfOk, OnOk, IfErr};
+ghost use Rattle.std.specs.Prelude.{◌≡◌, length, IfOk, OnOk, IfErr};
 ghost use Rattle.std.specs.Io.KnownBytes.{Appends};
+ghost use Rattle.mes_frame.specs.Counts.{up};
 ghost use Rattle.mes_frame.specs.Write.{NoneFails, CallsFor, StopsWrite};
-ghost use Rattle.mes_frame.specs.Written.{told, WrotePart};
+ghost use Rattle.mes_frame.specs.Written.{WrotePart};
 
 use crate::device::Sink;
 use crate::write::{WriteFault, write_all};
@@ -15,7 +16,7 @@ pub(crate) fn write_part<W: Sink>(
 ) -> Result<u64, WriteFault>
     ensures ok { OnOk result (Appends (W.written writer.old) (W.written writer.new) bytes.now) }
     ensures ok_counts { OnOk result (NoneFails (W.counts writer.old) (W.counts writer.new)) }
-    ensures ok_sent { IfOk result (λ all. all ≡ told (sent + length bytes.now)) }
+    ensures ok_sent { IfOk result (λ all. all ≡ up sent (length bytes.now)) }
     ensures err { IfErr result (λ f. WrotePart (W.written writer.old) (W.written writer.new) bytes.now sent f.sent) }
     ensures err_counts { IfErr result (λ f. StopsWrite f.why (W.counts writer.old) (W.counts writer.new)) }
     ensures calls { CallsFor (length bytes.now) (W.counts writer.old) (W.counts writer.new) }

@@ -30,8 +30,8 @@ body-stops fault.Read a b c old mid new taken part n left is short t took (none,
     (taken ++ part, Consumes-trans a b c taken part t.took took, (omega (arith, ap length none, length-append taken part), (stop.0 ∙ ap (λ k. up k 1) t.gives.0, stop.1 ∙ t.gives.1)))
 body-stops fault.ShortBody a b c old mid new taken part n left is short t took (none, stop) =
     (taken ++ part, Consumes-trans a b c taken part t.took took, (omega (arith, ap length none, length-append taken part), (stop.0 ∙ t.gives.0, stop.1 ∙ ap (λ k. up k 1) t.gives.1)))
-body-stops fault.NoMemory a b c old mid new taken part n left is short t took (few, stop) =
-    (taken ++ part, Consumes-trans a b c taken part t.took took, (omega (arith, few, is, length-append taken part), (stop.0 ∙ t.gives.0, stop.1 ∙ t.gives.1)))
+body-stops fault.NoMemory a b c old mid new taken part n left is short t took (some, few, stop) =
+    (taken ++ part, Consumes-trans a b c taken part t.took took, (omega (arith, some, length-append taken part), omega (arith, few, is, length-append taken part), (stop.0 ∙ t.gives.0, stop.1 ∙ t.gives.1)))
 body-stops _ a b c old mid new taken part n left is short t took stop = absurd stop
 
 -- the whole body of a call, behind its head
@@ -64,7 +64,7 @@ call-stops fault.Read a b c old mid new front part h n stream first is keeps gav
 call-stops fault.ShortBody a b c old mid new front part h n stream first is keeps gave took (short, stop) =
     let up_to : IsCallUpTo (front ++ part) stream n part = record { head = h; front = front; split = refl; is = is; keeps = keeps; within = omega (arith, short) } in
     (front ++ part, Consumes-trans a b c front part first took, inl ((stream, n, part, up_to, short), (stop.0 ∙ gave.0, stop.1 ∙ ap (λ k. up k 1) gave.1)))
-call-stops fault.NoMemory a b c old mid new front part h n stream first is keeps gave took (few, stop) =
+call-stops fault.NoMemory a b c old mid new front part h n stream first is keeps gave took (some, few, stop) =
     let up_to : IsCallUpTo (front ++ part) stream n part = record { head = h; front = front; split = refl; is = is; keeps = keeps; within = few } in
-    (front ++ part, Consumes-trans a b c front part first took, inl ((stream, n, part, up_to), (stop.0 ∙ gave.0, stop.1 ∙ gave.1)))
+    (front ++ part, Consumes-trans a b c front part first took, inl ((stream, n, part, up_to, some), (stop.0 ∙ gave.0, stop.1 ∙ gave.1)))
 call-stops _ a b c old mid new front part h n stream first is keeps gave took stop = absurd stop

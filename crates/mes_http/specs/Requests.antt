@@ -76,12 +76,12 @@ IsWholeCall taken stream body = IsCallUpTo taken stream (length body) body
 abbrev pub EndsInBody : List ℕ → Type 0
 EndsInBody taken = (stream : Option (List ℕ)) × (n : ℕ) × (part : List ℕ) × IsCallUpTo taken stream n part × (length part < n)
 
--- the same, or all of it
+-- a head that keeps every rule, and some of its body, or all of it
 abbrev pub StandsInBody : List ℕ → Type 0
-StandsInBody taken = (stream : Option (List ℕ)) × (n : ℕ) × (part : List ℕ) × IsCallUpTo taken stream n part
+StandsInBody taken = (stream : Option (List ℕ)) × (n : ℕ) × (part : List ℕ) × IsCallUpTo taken stream n part × (0 < length part)
 
 -- there is no head, or not all of the body: the reader failed, or gave its end; or HEAD_MOST bytes may still begin a head; or none
--- begins so; or memory was refused for the body
+-- begins so; or memory was refused for bytes of the body that came
 abbrev pub HasNoCall : HeadFault → List ℕ → Counts → Counts → Type 0
 HasNoCall fault.Read taken old new = (PendsRequest taken ⊎ EndsInBody taken) × OneFails old new
 HasNoCall fault.HeadTooLong taken old new = (length taken ≡ HEAD_MOST) × PendsRequest taken × AllGive old new

@@ -9,6 +9,8 @@ mod requests;
 #[cfg(test)]
 mod responses;
 #[cfg(test)]
+mod software;
+#[cfg(test)]
 mod support;
 #[cfg(test)]
 mod writers;

@@ -7,7 +7,7 @@ use Rattle.mes_part.specs.Numbers.{fixed}
 use Rattle.mes_part.specs.NumberLaws.{lawful_fixed}
 use Rattle.mes_part.specs.Layouts.{Layout, needs, may_have, lists, no_more, ◌⨾⨾◌, laid_out, kind_of, lawful_kind, returns_kind}
 use Rattle.mes_part.specs.KindLaws.{lawful_texts, lawful_booleans}
-use Rattle.mes_model.specs.Ids.{id, lawful_id}
+use Rattle.mes_resource.specs.Ids.{id, lawful_id}
 use Rattle.mes_model.specs.declared.framework_info.Capability.{Capability}
 use Rattle.mes_model.specs.declared.framework_info.FrameworkInfo.{FrameworkInfo}
 

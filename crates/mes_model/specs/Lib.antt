@@ -1,13 +1,2 @@
-pub mod Ids
-pub mod Reservations
-pub mod Values
-pub mod Resources
-pub mod Attributes
-pub mod Offers
-pub mod Tasks
 pub mod Frameworks
 pub mod Filters
-pub mod TaskStates
-pub mod Times
-pub mod TaskStatuses
-pub mod Owed

@@ -1,12 +1,12 @@
 //! A framework, and what it is able to deal with.
 
-use crate::id::Id;
 use mes_fixed::Micros;
 use mes_json::{Element, Json, NoMemory, Text};
 use mes_part::{
     List, MadeOf, Many, Maybe, Must, MustRef, Part, PartFault, RowList, RowRefs, Rows1, Rows9,
     Trail, made, message_tree, pairs, read_message,
 };
+use mes_resource::Id;
 use std::alloc::Global;
 
 /// What a framework is able to deal with.

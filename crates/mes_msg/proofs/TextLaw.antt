@@ -7,9 +7,9 @@ use Rattle.mes_json.specs.declared.limits.TheConstants.{NESTING_LIMIT}
 use Rattle.mes_json.specs.declared.fault.TextFault.{TextFault}
 use Rattle.mes_part.specs.declared.field.FieldFault.{FieldFault}
 use Rattle.mes_part.specs.Kinds.{Kind, Lawful}
-use Rattle.mes_msg.specs.Texts.{IsTextOf, BreaksText, IsFaultOf}
-use Rattle.mes_msg.specs.declared.record.RecordFault.{RecordFault}
-use Rattle.mes_msg.specs.declared.record.RecordFault.TheVariants.{Text, Field, NoMemory}
+use Rattle.mes_record.specs.Texts.{IsTextOf, BreaksText, IsFaultOf}
+use Rattle.mes_record.specs.declared.record.RecordFault.{RecordFault}
+use Rattle.mes_record.specs.declared.record.RecordFault.TheVariants.{Text, Field, NoMemory}
 
 module _ {V : Type 0} {steps : ℕ} (k : Kind V) (lawful : Lawful k steps) (one_text : (d : ℕ) (b : List ℕ) (t u : Tree) → IsText d b t → IsText d b u → t ≡ u) (one_fault : (d : ℕ) (b : List ℕ) (f g : TextFault) → IsFault d b f → IsFault d b g → f ≡ g) where
   pub one_value : (r : List ℕ) (a b : V) → IsTextOf k r a → IsTextOf k r b → a ≡ b

@@ -1,12 +1,1 @@
-pub mod Texts
-pub mod Bodies
-pub mod EventNames
-pub mod Offers
-pub mod Events
-pub mod Operations
-pub mod CallBodies
-pub mod Calls
-pub mod RecordFaults
-pub mod Shown
-pub mod Canon
 pub mod EncodeWhys

@@ -1,12 +1,12 @@
 //! A law of the definitions that the contracts cite: a function that does nothing, with the law as its contract.
 
 ghost use Rattle.std.specs.Prelude.{◌≡◌, ◌≢◌, ◌⊎◌, ℕ, List};
-ghost use Rattle.mes_msg.specs.Texts.{IsTextOf, IsFaultOf};
-ghost use Rattle.mes_msg.specs.declared.record.RecordFault.{RecordFault as Fault};
+ghost use Rattle.mes_record.specs.Texts.{IsTextOf, IsFaultOf};
+ghost use Rattle.mes_record.specs.declared.record.RecordFault.{RecordFault as Fault};
 
-use crate::record::RecordFault;
 use mes_json::one_text_reading;
 use mes_part::Part;
+use mes_record::RecordFault;
 
 /// Any bytes are a JSON text of one value of the type, or of none for one reason, and not both.
 pub fn one_message<T: Part>()

@@ -11,3 +11,4 @@ pub mod RowLemmas
 pub mod ReadListLemmas
 pub mod EitherLemmas
 pub mod RowListLemmas
+pub mod ChoiceLemmas

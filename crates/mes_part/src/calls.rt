@@ -10,7 +10,7 @@ ghost use Rattle.mes_part.specs.EitherLists.{either_list};
 ghost use Rattle.mes_part.specs.Rows.{ReturnsEach};
 ghost use Rattle.mes_part.specs.Parts.{Gives, IsFirstFault};
 
-use crate::limits::{NAME_MOST, PATH_TEXT_MOST, STEPS_MOST};
+use crate::limits::{NAME_MOST, PATH_TEXT_MOST, ROWS_MOST, STEPS_MOST};
 use crate::list::List;
 use crate::part::{Part, PartFault};
 use crate::path::Path;
@@ -85,7 +85,7 @@ pub fn read_list<T: Part>(alloc: Global, json: &Json, path: &Path) -> Result<Lis
     read_items(alloc, &tape.root(), &Trail::along(path))
 }
 
-/// A path has at most 16 steps, whose names have at most 31 bytes, and its text at most 512.
+/// A path has at most 16 steps, whose names have at most 31 bytes, and its text at most 512; a message has at most 64 rows.
 pub fn part_limits()
-    ensures { (STEPS_MOST ≡ 16) × (NAME_MOST ≡ 31) × (PATH_TEXT_MOST ≡ 512) }
+    ensures { (STEPS_MOST ≡ 16) × (NAME_MOST ≡ 31) × (PATH_TEXT_MOST ≡ 512) × (ROWS_MOST ≡ 64) }
 {}

@@ -41,7 +41,7 @@ pub use found::{Found, find_rows};
 pub use kept::Kept;
 pub use label::{Label, Labels};
 pub use leaf::text_in;
-pub use limits::{NAME_MOST, PATH_TEXT_MOST, STEPS_MOST};
+pub use limits::{NAME_MOST, PATH_TEXT_MOST, ROWS_MOST, STEPS_MOST};
 pub use list::List;
 pub use message::{MadeOf, message_tree, read_message, read_typed, typed_tree};
 pub use pairs::{

@@ -12,7 +12,7 @@ ghost use Rattle.mes_part.specs.RowNames.{are_names};
 
 use crate::choice::Choice;
 use crate::found::find_rows;
-use crate::limits::STEPS_MOST;
+use crate::limits::{ROWS_MOST, STEPS_MOST};
 use crate::part::PartFault;
 use crate::row_list::RowList;
 use crate::row_refs::RowRefs;
@@ -39,8 +39,7 @@ pub fn read_message<R: RowList, M: MadeOf<R::Values>, const N: usize>(
     path: &Trail<'_>,
 ) -> Result<M, PartFault>
     requires room { length path.now + R.STEPS ≤ STEPS_MOST }
-    // So few that what is found of them has room in memory.
-    requires most { N ≤ 64 }
+    requires most { N ≤ ROWS_MOST }
     requires each { length names.now ≡ N }
     requires rows { R.COUNT ≡ length names.now }
     requires names { are_names (map (λ n. n.now) names.now) ≡ true }
@@ -74,8 +73,7 @@ pub fn read_typed<C: Choice, const N: usize>(
     path: &Trail<'_>,
 ) -> Result<C, PartFault>
     requires room { length path.now + C.STEPS ≤ STEPS_MOST }
-    // So few that what is found of them has room in memory.
-    requires most { N ≤ 64 }
+    requires most { N ≤ ROWS_MOST }
     requires each { length names.now ≡ N }
     requires names { are_names (map (λ n. n.now) names.now) ≡ true }
     requires fits { map (λ n. n.now) names.now ≡ C.names }

@@ -6,12 +6,12 @@ use Rattle.mes_fit.proofs.breach.breaks.Goals as goal
 
 pub lacks_piece-requires : goal.lacks_piece-requires
 lacks_piece-requires g c = λ x.
-    known (g.O.OfferList.offers c.args.offers.now) (launched c.args.operations.now) (place c.args.operations.now c.args.at c.args.index) c.args.resource c.args.task.now
+    known (g.O.OfferList.offers c.args.offers.now) (launched g.L.Launches.tasks c.args.launches.now) (place g.L.Launches.tasks c.args.launches.now c.args.at c.args.index) c.args.resource c.args.task.now
     c.index-resources-resource.result c.as_slice-resources.result.now c.as_slice-resources.ensures c.requires.within c.index-resources-resource.is c.requires.is c.requires.first (point x)
 
 pub returns-then-lacks_piece : goal.returns-then-lacks_piece
 returns-then-lacks_piece g c = (
-  λ _. lacking (g.O.OfferList.offers c.args.offers.now) (launched c.args.operations.now) (place c.args.operations.now c.args.at c.args.index) c.args.resource c.args.task.now
+  λ _. lacking (g.O.OfferList.offers c.args.offers.now) (launched g.L.Launches.tasks c.args.launches.now) (place g.L.Launches.tasks c.args.launches.now c.args.at c.args.index) c.args.resource c.args.task.now
       c.index-resources-resource.result c.as_slice-resources.result.now c.as_slice-resources.ensures c.requires.within c.index-resources-resource.is c.requires.is c.requires.first
       c.lacks_piece.result c.if-lacks_piece.true c.lacks_piece.ensures,
   λ _. refl,
@@ -19,6 +19,6 @@ returns-then-lacks_piece g c = (
 
 pub returns : goal.returns
 returns g c =
-    answered (g.O.OfferList.offers c.args.offers.now) (launched c.args.operations.now) (place c.args.operations.now c.args.at c.args.index) c.args.resource c.args.task.now
+    answered (g.O.OfferList.offers c.args.offers.now) (launched g.L.Launches.tasks c.args.launches.now) (place g.L.Launches.tasks c.args.launches.now c.args.at c.args.index) c.args.resource c.args.task.now
     c.index-resources-resource.result c.as_slice-resources.result.now c.as_slice-resources.ensures c.requires.within c.index-resources-resource.is c.requires.is c.requires.first
     (c.exceeds_anew.ensures.no c.if-exceeds_anew.false) c.lacks_piece.result c.if-lacks_piece.false c.lacks_piece.ensures c.meets_behind.result c.meets_behind.ensures

@@ -8,9 +8,9 @@ use Rattle.mes_fit.proofs.breach.exceeds_anew.Goals as goal
 pub returns-in-Ranges-clause-no : goal.returns-in-Ranges-clause-no
 returns-in-Ranges-clause-no g c = λ _.
     let other : type_of c.args.resource.now.value ≡ scalar → ⊥ = λ e. (let is = ap type_of c.in-Ranges.is in cc) in
-    inr (omega (arith, no-amount c.args.resource.now other (asked (launched c.args.operations.now))))
+    inr (omega (arith, no-amount c.args.resource.now other (asked (launched g.L.Launches.tasks c.args.launches.now))))
 
 pub returns-in-Set-clause-no : goal.returns-in-Set-clause-no
 returns-in-Set-clause-no g c = λ _.
     let other : type_of c.args.resource.now.value ≡ scalar → ⊥ = λ e. (let is = ap type_of c.in-Set.is in cc) in
-    inr (omega (arith, no-amount c.args.resource.now other (asked (launched c.args.operations.now))))
+    inr (omega (arith, no-amount c.args.resource.now other (asked (launched g.L.Launches.tasks c.args.launches.now))))

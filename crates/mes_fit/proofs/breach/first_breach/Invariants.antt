@@ -3,9 +3,9 @@ use Rattle.mes_fit.specs.Fits.{NoneBefore}
 use Rattle.mes_fit.specs.Launched.{launched, place, as_index}
 use Rattle.mes_fit.proofs.breach.first_breach.Given as goal
 
--- the tasks of the operations so far are counted, and none has a breach
+-- the tasks of the groups so far are counted, and none has a breach
 abbrev pub invariant-loop-at : goal.invariant-loop-at
 invariant-loop-at g l = record {
-  counted : l.before ≡ as_index (place l.operations l.at 0);
-  none : NoneBefore (g.O.OfferList.offers l.offers) (launched l.operations) (place l.operations l.at 0);
+  counted : l.before ≡ as_index (place g.L.Launches.tasks l.launches l.at 0);
+  none : NoneBefore (g.O.OfferList.offers l.offers) (launched g.L.Launches.tasks l.launches) (place g.L.Launches.tasks l.launches l.at 0);
 }

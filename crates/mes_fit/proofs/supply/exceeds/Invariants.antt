@@ -5,9 +5,9 @@ use Rattle.mes_fit.specs.Launched.{launched}
 use Rattle.mes_fit.specs.Pouring.{rest}
 use Rattle.mes_fit.proofs.supply.exceeds.Given as goal
 
--- what the operations so far took, and what is left
-abbrev pub invariant-loop-operation : goal.invariant-loop-operation
-invariant-loop-operation g l =
+-- what the groups so far took, and what is left
+abbrev pub invariant-loop-group : goal.invariant-loop-group
+invariant-loop-group g l =
     let offers = g.O.OfferList.offers l.offers in
     let k = key_of l.key in
-    amount k (asked (launched (take l.operation-index l.operations))) + rest k offers l.supply ≡ amount k (offered offers)
+    amount k (asked (launched g.L.Launches.tasks (take l.group-index l.launches))) + rest k offers l.supply ≡ amount k (offered offers)

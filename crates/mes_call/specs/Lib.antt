@@ -1,0 +1,3 @@
+pub mod CallBodies
+pub mod Calls
+pub mod Operations

@@ -1,0 +1,3 @@
+mod WordLemmas
+mod NameLemmas
+pub mod RecordLemmas

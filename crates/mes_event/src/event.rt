@@ -1,0 +1,186 @@
+//! An event of the scheduler API.
+ghost use Rattle.std.specs.Prelude.{◌≡◌, [], ◌∷◌, ◌++◌, IfErr, OnOk};
+ghost use Rattle.mes_json.specs.Tree.Tree.{string};
+ghost use Rattle.mes_part.specs.Choices.{type_name};
+ghost use Rattle.mes_part.specs.Kinds.{Returns};
+ghost use Rattle.mes_part.specs.Written.{pairs_view, Continues};
+ghost use Rattle.mes_event.specs.Events.{event_rows};
+
+use crate::bodies::{ErrorBody, Failure, Rescind, Subscribed, Update};
+use crate::offers::{Offers, offers_tree};
+use crate::other_name::OtherName;
+use mes_json::{Element, Json, NoMemory, Text};
+use mes_offer::Offer;
+use mes_part::{
+    Choice, Found, List, Part, PartFault, Trail, copy_list, put, put_type, read_typed, required,
+    type_of, typed_tree,
+};
+use mes_record::Message;
+use std::alloc::Global;
+
+/// An event of the scheduler API (scheduler.proto, `Event`).
+#[derive(Debug, Drop)]
+pub enum Event {
+    /// SUBSCRIBED: the framework is subscribed.
+    Subscribed(Subscribed),
+    /// OFFERS: offers of resources.
+    Offers(List<Offer>),
+    /// RESCIND: an offer is no longer valid.
+    Rescind(Rescind),
+    /// UPDATE: the state of a task.
+    Update(Update),
+    /// MESSAGE: bytes that an executor sends to the framework.
+    Message(Message),
+    /// FAILURE: an agent or an executor is lost.
+    Failure(Failure),
+    /// ERROR: the master refuses the framework and says why.
+    Error(ErrorBody),
+    /// HEARTBEAT: the connection is alive.
+    Heartbeat,
+    /// An event of another type, whose body is dropped.
+    Other(OtherName),
+}
+
+/// The names of an event's members, in the order of the table.
+const EVENT_MEMBERS: [&str; 8] = [
+    "type",
+    "subscribed",
+    "offers",
+    "rescind",
+    "update",
+    "message",
+    "failure",
+    "error",
+];
+
+impl Choice for Event {
+    ghost use Rattle.mes_event.specs.Events.{event_members, event_rows, lawful_event_rows};
+    ghost use Rattle.std.specs.Prelude.{refl};
+
+    ghost names = { event_members };
+
+    ghost table = { event_rows };
+
+    ghost STEPS = { 11 };
+
+    ghost COUNT = { 8 };
+
+    const COUNT: usize = 8;
+
+    ghost counted = { refl };
+
+    ghost lawful = { lawful_event_rows };
+
+    #[tactic(auto, using(mes_part::specs::NameLaws::names_differ))]
+    fn read_choice(
+        alloc: Global,
+        found: &[Found<'_>],
+        path: &Trail<'_>,
+    ) -> Result<Event, PartFault> {
+        match type_of(alloc, &found[0], path)? {
+            "SUBSCRIBED" => Ok(Event::Subscribed(required(alloc, &found[1], "subscribed", path)?)),
+            "OFFERS" => {
+                let body: Offers = required(alloc, &found[2], "offers", path)?;
+                Ok(Event::Offers(body.into_list()))
+            }
+            "RESCIND" => Ok(Event::Rescind(required(alloc, &found[3], "rescind", path)?)),
+            "UPDATE" => Ok(Event::Update(required(alloc, &found[4], "update", path)?)),
+            "MESSAGE" => Ok(Event::Message(required(alloc, &found[5], "message", path)?)),
+            "FAILURE" => Ok(Event::Failure(required(alloc, &found[6], "failure", path)?)),
+            "ERROR" => Ok(Event::Error(required(alloc, &found[7], "error", path)?)),
+            "HEARTBEAT" => Ok(Event::Heartbeat),
+            name => Ok(Event::Other(OtherName::of_type(alloc, name)?)),
+        }
+    }
+
+    fn put_choice(&self, members: &mut Vec<(Text, Json)>, alloc: Global) -> Result<(), NoMemory> {
+        match self {
+            Event::Subscribed(body) => put_body(members, alloc, "SUBSCRIBED", "subscribed", body),
+            Event::Offers(list) => put_offers(members, alloc, list),
+            Event::Rescind(body) => put_body(members, alloc, "RESCIND", "rescind", body),
+            Event::Update(body) => put_body(members, alloc, "UPDATE", "update", body),
+            Event::Message(body) => put_body(members, alloc, "MESSAGE", "message", body),
+            Event::Failure(body) => put_body(members, alloc, "FAILURE", "failure", body),
+            Event::Error(body) => put_body(members, alloc, "ERROR", "error", body),
+            Event::Heartbeat => put_type(members, alloc, "HEARTBEAT"),
+            Event::Other(name) => put(members, alloc, "type", name.text()),
+        }
+    }
+
+    fn copy_choice(&self, alloc: Global) -> Result<Event, NoMemory> {
+        match self {
+            Event::Subscribed(body) => Ok(Event::Subscribed(body.copy(alloc)?)),
+            Event::Offers(list) => Ok(Event::Offers(copy_list(alloc, list)?)),
+            Event::Rescind(body) => Ok(Event::Rescind(body.copy(alloc)?)),
+            Event::Update(body) => Ok(Event::Update(body.copy(alloc)?)),
+            Event::Message(body) => Ok(Event::Message(body.copy(alloc)?)),
+            Event::Failure(body) => Ok(Event::Failure(body.copy(alloc)?)),
+            Event::Error(body) => Ok(Event::Error(body.copy(alloc)?)),
+            Event::Heartbeat => Ok(Event::Heartbeat),
+            Event::Other(name) => Ok(Event::Other(name.copy(alloc)?)),
+        }
+    }
+}
+
+impl Part for Event {
+    ghost use Rattle.mes_event.specs.Events.{event, lawful_event};
+
+    ghost kind = { event };
+
+    ghost STEPS = { 11 };
+
+    const STEPS: u32 = 11;
+
+    ghost lawful = { lawful_event };
+
+    #[tactic(auto, unfolding(crate::specs::Events::event))]
+    fn read_from(
+        alloc: Global,
+        element: &Element<'_>,
+        path: &Trail<'_>,
+    ) -> Result<Event, PartFault> {
+        read_typed::<Event, 8>(alloc, element, &EVENT_MEMBERS, path)
+    }
+
+    #[tactic(auto, using(crate::specs::Events::event_back), unfolding(crate::specs::Events::event))]
+    fn tree(&self, alloc: Global) -> Result<Json, NoMemory> {
+        typed_tree(alloc, self)
+    }
+
+    fn copy(&self, alloc: Global) -> Result<Event, NoMemory> {
+        self.copy_choice(alloc)
+    }
+}
+
+/// Appends the row `type` and the row of a body.
+fn put_body<T: Part>(
+    members: &mut Vec<(Text, Json)>,
+    alloc: Global,
+    kind: &'static str,
+    name: &'static str,
+    body: &T,
+) -> Result<(), NoMemory>
+    ensures members { OnOk result (pairs_view members.new.items ≡ pairs_view members.old.items ++ (type_name, string kind.now) ∷ (name.now, T.kind.tree body.now) ∷ []) }
+    ensures front { IfErr result (λ _. Continues (pairs_view members.old.items) (pairs_view members.new.items)) }
+    ensures back { OnOk result (Returns T.kind body.now) }
+{
+    put_type(members, alloc, kind)?;
+    put(members, alloc, name, body)
+}
+
+/// Appends the row `type` of OFFERS and its body.
+fn put_offers(
+    members: &mut Vec<(Text, Json)>,
+    alloc: Global,
+    list: &List<Offer>,
+) -> Result<(), NoMemory>
+    ensures members { OnOk result (pairs_view members.new.items ≡ pairs_view members.old.items ++ event_rows.members (Event.Offers list.now)) }
+    ensures front { IfErr result (λ _. Continues (pairs_view members.old.items) (pairs_view members.new.items)) }
+    ensures back { OnOk result (event_rows.Back (Event.Offers list.now)) }
+{
+    put_type(members, alloc, "OFFERS")?;
+    let tree = offers_tree(alloc, list)?;
+    let name = Text::of(alloc, "offers")?;
+    members.push((name, tree))?;
+    Ok(())
+}

@@ -1,7 +1,0 @@
-use Rattle.mes_fit.specs.Fits.{NoneBefore}
-use Rattle.mes_fit.specs.Launched.{launched, place}
-use Rattle.mes_fit.proofs.breach.breach_of_operation.Given as goal
-
--- no task so far has a breach
-abbrev pub invariant-loop-index : goal.invariant-loop-index
-invariant-loop-index g l = NoneBefore (g.O.OfferList.offers l.offers) (launched l.operations) (place l.operations l.at l.index)

@@ -1,0 +1,59 @@
+//! What small chunks are gathered in, so that they go out by few writes.
+ghost use Rattle.std.specs.Prelude.{◌≡◌, [], ◌++◌, OnOk, IfErr};
+ghost use Rattle.mes_frame.specs.Written.{WentOut, Passes, Stops};
+
+use crate::device::Sink;
+use crate::limits::CHUNK_BUFFER;
+use crate::part_writer::write_part;
+use crate::write::WriteFault;
+use arrayvec::ArrayVec;
+
+/// Bytes that are still to go out, and how many went out before them.
+#[derive(Drop)]
+pub(crate) struct ChunkBuffer {
+    held: ArrayVec<u8, { CHUNK_BUFFER }>,
+    sent: u64,
+}
+
+impl ChunkBuffer {
+    pub(crate) fn new() -> Self
+        ensures held { result.held.items ≡ [] }
+        ensures sent { result.sent ≡ 0 }
+    {
+        ChunkBuffer {
+            held: ArrayVec::new(),
+            sent: 0,
+        }
+    }
+
+    // Holds these bytes behind those that are held. Where there is no room those go out first, and these too if they are
+    // more than the buffer has room for.
+    pub(crate) fn hold<W: Sink>(&mut self, writer: &mut W, bytes: &[u8]) -> Result<(), WriteFault>
+        ensures ok { OnOk result (Passes (W.written writer.old) (W.written writer.new) (W.counts writer.old) (W.counts writer.new)
+            (self.old.held.items ++ bytes.now) self.new.held.items self.old.sent self.new.sent) }
+        ensures err { IfErr result (λ f. Stops (W.written writer.old) (W.written writer.new) (W.counts writer.old) (W.counts writer.new)
+            (self.old.held.items ++ bytes.now) self.old.sent f) }
+    {
+        if self.held.try_extend_from_slice(bytes).is_ok() {
+            return Ok(());
+        }
+        self.flush(writer)?;
+        if self.held.try_extend_from_slice(bytes).is_err() {
+            self.sent = write_part(writer, bytes, self.sent)?;
+        }
+        Ok(())
+    }
+
+    // Writes what is held.
+    pub(crate) fn flush<W: Sink>(&mut self, writer: &mut W) -> Result<(), WriteFault>
+        ensures ok { OnOk result (WentOut (W.written writer.old) (W.written writer.new) (W.counts writer.old) (W.counts writer.new)
+            self.old.held.items self.old.sent self.new.sent) }
+        ensures ok_held { OnOk result (self.new.held.items ≡ []) }
+        ensures err { IfErr result (λ f. Stops (W.written writer.old) (W.written writer.new) (W.counts writer.old) (W.counts writer.new)
+            self.old.held.items self.old.sent f) }
+    {
+        self.sent = write_part(writer, self.held.as_slice(), self.sent)?;
+        self.held.clear();
+        Ok(())
+    }
+}

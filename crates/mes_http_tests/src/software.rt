@@ -1,0 +1,73 @@
+//! Heads as widespread software writes them: calls by clients and through a proxy, answers by a master and through a proxy. Each was
+//! captured on a loopback socket, but that of Mesos, which stands in the documentation of its scheduler API.
+
+use crate::support::{answer_of, bytes_of, row_of};
+use mes_frame::MemorySource;
+use mes_http::{read_answer, read_head, read_request};
+use std::alloc::AllocGlobal;
+use std::test::Fail;
+
+/// Calls: curl 7.88, Python's requests 2.34 and urllib, aiohttp 3.8, node 20 (`http` and `fetch`), wget 1.21, and nginx 1.22 between,
+/// which passes HTTP/1.0 on if it is not told otherwise.
+const CALLS: &str =
+    "POST /api/v1/scheduler HTTP/1.1|Host: 127.0.0.1:5050|User-Agent: curl/7.88.1|Accept: */*|Content-Type: application/json|Mesos-Stream-Id: s1|Content-Length: 2|| => ok
+POST /api/v1/scheduler HTTP/1.1|Host: 127.0.0.1:5050|User-Agent: python-requests/2.34.2|Accept-Encoding: gzip, deflate|Accept: */*|Connection: keep-alive|Content-Type: application/json|Mesos-Stream-Id: s1|Content-Length: 2|| => ok
+POST /api/v1/scheduler HTTP/1.1|Accept-Encoding: identity|Content-Length: 2|Host: 127.0.0.1:5050|User-Agent: Python-urllib/3.11|Content-Type: application/json|Connection: close|| => ok
+POST /api/v1/scheduler HTTP/1.1|Host: 127.0.0.1:5050|Content-Type: application/json|Accept: */*|Accept-Encoding: gzip, deflate|User-Agent: Python/3.11 aiohttp/3.8.4|Content-Length: 2|| => ok
+POST /api/v1/scheduler HTTP/1.1|Content-Type: application/json|Content-Length: 2|Mesos-Stream-Id: s1|Host: 127.0.0.1:5050|Connection: keep-alive|| => ok
+POST /api/v1/scheduler HTTP/1.1|host: 127.0.0.1:5050|connection: keep-alive|Content-Type: application/json|accept: */*|accept-language: *|sec-fetch-mode: cors|user-agent: node|accept-encoding: gzip, deflate|content-length: 2|| => ok
+POST /api/v1/scheduler HTTP/1.1|Host: 127.0.0.1:5050|User-Agent: Wget/1.21.3|Accept: */*|Accept-Encoding: identity|Connection: Keep-Alive|Content-Type: application/json|Content-Length: 2|| => ok
+POST /api/v1/scheduler HTTP/1.0|Host: 127.0.0.1:5050|Connection: close|Content-Length: 2|Content-Type: application/json|Mesos-Stream-Id: s1|| => ok
+POST /api/v1/scheduler HTTP/1.1|Host: 127.0.0.1:5050|User-Agent: Go-http-client/1.1|Content-Length: 2|Accept: application/json|Content-Type: application/x-protobuf|Accept-Encoding: gzip|| => H6 NotJson
+POST /api/v1/scheduler HTTP/1.1|Host: 127.0.0.1:5050|User-Agent: curl/7.88.1|Accept: */*|Content-Type: application/x-www-form-urlencoded|Content-Length: 2|| => H6 NotJson
+POST /api/v1/scheduler HTTP/1.1|Host: 127.0.0.1:5050|Content-Type: application/json|Connection: keep-alive|Transfer-Encoding: chunked|| => H10 NoLength";
+
+/// Answers to a SUBSCRIBE: Mesos itself, and nginx between.
+const STREAMS: &str =
+    "HTTP/1.1 200 OK|Content-Type: application/json|Transfer-Encoding: chunked|Mesos-Stream-Id: 130ae4e3-6b13-4ef4-baa9-9f2e85c3e9af|| => ok
+HTTP/1.1 200 OK|Server: nginx/1.22.1|Date: Wed, 25 Nov 2026 19:45:26 GMT|Content-Type: application/json|Transfer-Encoding: chunked|Connection: keep-alive|Mesos-Stream-Id: 130ae4e3-6b13-4ef4-baa9-9f2e85c3e9af|| => ok
+HTTP/1.1 307 Temporary Redirect|Location: //10.0.0.2:5050|Content-Length: 0|| => H4 Status
+HTTP/1.1 502 Bad Gateway|Server: nginx/1.22.1|Date: Wed, 25 Nov 2026 19:45:26 GMT|Content-Type: text/html|Content-Length: 157|Connection: keep-alive|| => H4 Status";
+
+/// Answers to other calls.
+const ANSWERS: &str =
+    "HTTP/1.1 202 Accepted|Date: Wed, 25 Nov 2026 19:45:24 GMT|Content-Length: 0|| => ok
+HTTP/1.1 202 Accepted|Server: nginx/1.22.1|Date: Wed, 25 Nov 2026 19:45:24 GMT|Content-Length: 0|Connection: keep-alive|| => ok
+HTTP/1.1 503 Service Unavailable|Server: nginx/1.22.1|Content-Type: text/html|Content-Length: 197|| => H4 Status";
+
+#[test]
+fn calls_of_clients_are_taken(rt: HostRuntime) -> Result<(), Fail> {
+    for line in CALLS.lines() {
+        let (lines, expected) = row_of(line)?;
+        let bytes = bytes_of(rt.alloc(), lines, b"{}")?;
+        let mut source = MemorySource::new(bytes.as_slice(), 64);
+        assert_eq!(rt;
+            answer_of(&read_request(rt.alloc(), &mut source)),
+            expected,
+            "{lines}"
+        );
+    }
+    Ok(())
+}
+
+#[test]
+fn streams_of_masters_are_opened(rt: HostRuntime) -> Result<(), Fail> {
+    for line in STREAMS.lines() {
+        let (lines, expected) = row_of(line)?;
+        let bytes = bytes_of(rt.alloc(), lines, b"")?;
+        let mut source = MemorySource::new(bytes.as_slice(), 64);
+        assert_eq!(rt; answer_of(&read_head(&mut source)), expected, "{lines}");
+    }
+    Ok(())
+}
+
+#[test]
+fn answers_of_masters_are_taken(rt: HostRuntime) -> Result<(), Fail> {
+    for line in ANSWERS.lines() {
+        let (lines, expected) = row_of(line)?;
+        let bytes = bytes_of(rt.alloc(), lines, b"")?;
+        let mut source = MemorySource::new(bytes.as_slice(), 64);
+        assert_eq!(rt; answer_of(&read_answer(&mut source)), expected, "{lines}");
+    }
+    Ok(())
+}

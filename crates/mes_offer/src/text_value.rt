@@ -1,0 +1,68 @@
+//! A text that an attribute may be.
+
+use mes_json::{Element, Json, NoMemory, Text};
+use mes_part::{
+    MadeOf, Must, MustRef, Part, PartFault, RowList, RowRefs, Rows1, Trail, made, message_tree,
+    pairs, read_message,
+};
+use std::alloc::Global;
+
+/// One text.
+#[derive(Debug, Drop)]
+pub struct TextValue {
+    /// The text.
+    pub value: Text,
+}
+
+/// The names of the rows of a text value, in the order of the table.
+const TEXT_VALUE_NAMES: [&str; 1] = ["value"];
+
+type TextValueRows = Rows1<Must<Text>>;
+
+impl MadeOf<<TextValueRows as RowList>::Values> for TextValue {
+    ghost use Rattle.mes_offer.specs.TextValues.{text_value_layout};
+
+    ghost to = { text_value_layout.to };
+
+    fn made_of(values: <TextValueRows as RowList>::Values) -> TextValue {
+        made!(values => TextValue { value })
+    }
+}
+
+/// What the rows of a text value hold.
+macro_rules! text_value_rows {
+    ($of:ident) => {
+        pairs!(MustRef(&$of.value))
+    };
+}
+
+impl Part for TextValue {
+    ghost use Rattle.mes_offer.specs.TextValues.{text_value, lawful_text_value};
+
+    ghost kind = { text_value };
+
+    ghost STEPS = { 1 };
+
+    const STEPS: u32 = 1;
+
+    ghost lawful = { lawful_text_value };
+
+    #[tactic(auto, unfolding(crate::specs::TextValues::text_value))]
+    fn read_from(
+        alloc: Global,
+        element: &Element<'_>,
+        path: &Trail<'_>,
+    ) -> Result<TextValue, PartFault> {
+        read_message::<TextValueRows, TextValue, 1>(alloc, element, &TEXT_VALUE_NAMES, path)
+    }
+
+    #[tactic(auto, using(crate::specs::TextValues::text_value_back), unfolding(crate::specs::TextValues::text_value))]
+    fn tree(&self, alloc: Global) -> Result<Json, NoMemory> {
+        message_tree(alloc, &TEXT_VALUE_NAMES, &text_value_rows!(self))
+    }
+
+    fn copy(&self, alloc: Global) -> Result<TextValue, NoMemory> {
+        let values = text_value_rows!(self).copy_rows(alloc)?;
+        Ok(TextValue::made_of(values))
+    }
+}

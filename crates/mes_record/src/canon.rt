@@ -1,0 +1,56 @@
+//! The canonical text of a value.
+ghost use Rattle.std.specs.Prelude.{◌≡◌, IfOk, IfErr, MatchResult};
+ghost use Rattle.mes_record.specs.Texts.{IsTextOf, canonical_of, Fits, IsRefusalOf};
+
+use mes_frame::Limit;
+use mes_json::{NESTING_LIMIT, NoMemory, text_length, write_text};
+use mes_part::Part;
+use std::alloc::Global;
+
+/// Why an event or a call has no canonical text that a record can hold.
+#[derive(Debug, Drop)]
+pub enum EncodeFault {
+    /// Its objects and arrays nest deeper than `NESTING_LIMIT`.
+    TooDeep,
+    /// It nests no deeper, but has more bytes than the limit.
+    TooLarge,
+    /// A growth was refused memory.
+    NoMemory,
+}
+
+impl From<NoMemory> for EncodeFault {
+    ghost use Rattle.std.specs.Prelude.{◌≡◌};
+    ghost use Rattle.mes_record.specs.declared.canon.EncodeFault.TheVariants.{NoMemory as no_memory};
+
+    ghost from_gives = { λ _ e. e ≡ no_memory };
+
+    fn from(_refused: NoMemory) -> EncodeFault {
+        EncodeFault::NoMemory
+    }
+}
+
+/// The canonical text of a value, an event's or a call's: it nests at most `NESTING_LIMIT` deep and has at most `limit` bytes.
+pub fn canonical_bytes<T: Part>(
+    value: &T,
+    alloc: Global,
+    limit: Limit,
+) -> Result<Vec<u8>, EncodeFault>
+    ensures text { IfOk result (λ text. text.items ≡ canonical_of T.kind value.now) }
+    ensures fits { IfOk result (λ _. Fits T.kind value.now limit) }
+    ensures again { IfOk result (λ text. IsTextOf T.kind text.items value.now) }
+    ensures only { Fits T.kind value.now limit → MatchResult result (λ text. text.items ≡ canonical_of T.kind value.now) (λ e. e ≡ EncodeFault.NoMemory) }
+    ensures err { IfErr result (IsRefusalOf T.kind value.now limit) }
+{
+    let tree = value.tree(alloc)?;
+    if tree.depth() > NESTING_LIMIT as u64 {
+        return Err(EncodeFault::TooDeep);
+    }
+    let Some(length) = text_length(&tree, limit.get() as usize) else {
+        return Err(EncodeFault::TooLarge);
+    };
+    let Ok(mut text) = Vec::with_capacity(alloc, length) else {
+        return Err(EncodeFault::NoMemory);
+    };
+    write_text(&tree, &mut text)?;
+    Ok(text)
+}

@@ -1,0 +1,4 @@
+pub mod Ids
+pub mod Reservations
+pub mod Resources
+pub mod Values

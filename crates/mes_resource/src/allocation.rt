@@ -1,0 +1,68 @@
+//! The role that resources are offered to.
+
+use mes_json::{Element, Json, NoMemory, Text};
+use mes_part::{
+    MadeOf, Maybe, Part, PartFault, RowList, RowRefs, Rows1, Trail, made, message_tree, pairs,
+    read_message,
+};
+use std::alloc::Global;
+
+/// To which role resources are offered.
+#[derive(Debug, Drop)]
+pub struct Allocation {
+    /// The role.
+    pub role: Option<Text>,
+}
+
+/// The names of the rows of an allocation, in the order of the table.
+const ALLOCATION_NAMES: [&str; 1] = ["role"];
+
+type AllocationRows = Rows1<Maybe<Text>>;
+
+impl MadeOf<<AllocationRows as RowList>::Values> for Allocation {
+    ghost use Rattle.mes_resource.specs.Reservations.{allocation_layout};
+
+    ghost to = { allocation_layout.to };
+
+    fn made_of(values: <AllocationRows as RowList>::Values) -> Allocation {
+        made!(values => Allocation { role })
+    }
+}
+
+/// What the rows of an allocation hold.
+macro_rules! allocation_rows {
+    ($of:ident) => {
+        pairs!(&$of.role)
+    };
+}
+
+impl Part for Allocation {
+    ghost use Rattle.mes_resource.specs.Reservations.{allocation, lawful_allocation};
+
+    ghost kind = { allocation };
+
+    ghost STEPS = { 1 };
+
+    const STEPS: u32 = 1;
+
+    ghost lawful = { lawful_allocation };
+
+    #[tactic(auto, unfolding(crate::specs::Reservations::allocation))]
+    fn read_from(
+        alloc: Global,
+        element: &Element<'_>,
+        path: &Trail<'_>,
+    ) -> Result<Allocation, PartFault> {
+        read_message::<AllocationRows, Allocation, 1>(alloc, element, &ALLOCATION_NAMES, path)
+    }
+
+    #[tactic(auto, using(crate::specs::Reservations::allocation_back), unfolding(crate::specs::Reservations::allocation))]
+    fn tree(&self, alloc: Global) -> Result<Json, NoMemory> {
+        message_tree(alloc, &ALLOCATION_NAMES, &allocation_rows!(self))
+    }
+
+    fn copy(&self, alloc: Global) -> Result<Allocation, NoMemory> {
+        let values = allocation_rows!(self).copy_rows(alloc)?;
+        Ok(Allocation::made_of(values))
+    }
+}

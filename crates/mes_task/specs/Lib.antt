@@ -1,0 +1,5 @@
+pub mod Owed
+pub mod TaskStates
+pub mod TaskStatuses
+pub mod Tasks
+pub mod Times
