@@ -22,10 +22,10 @@ use Rattle.mes_session.proofs.KeptLemmas.{IsKept-nil, IsKept-push, IsKept-unique
 
 -- ---- names and keys are one where they look alike
 
-name-exact : (a b : List ℕ) → bytes_eq a b ≡ true → a ≡ b
+pub name-exact : (a b : List ℕ) → bytes_eq a b ≡ true → a ≡ b
 name-exact a b e = (bytes_eq-Decides a b).0 e
 
-name-self : (a : List ℕ) → bytes_eq a a ≡ true
+pub name-self : (a : List ℕ) → bytes_eq a a ≡ true
 name-self a = (bytes_eq-Decides a a).1 refl
 
 both : (a b : Bool) → (a && b) ≡ true → (a ≡ true) × (b ≡ true)
@@ -33,7 +33,7 @@ both true true e = (refl, refl)
 both true false e = absurd (cc)
 both false b e = absurd (cc)
 
-key-exact : (k l : OwedKey) → same_key k l ≡ true → k ≡ l
+pub key-exact : (k l : OwedKey) → same_key k l ≡ true → k ≡ l
 key-exact k l e =
     let p : (bytes_eq k.agent.value l.agent.value ≡ true) × ((bytes_eq k.task.value l.task.value && bytes_eq k.uuid l.uuid) ≡ true) = both _ _ e in
     let q : (bytes_eq k.task.value l.task.value ≡ true) × (bytes_eq k.uuid l.uuid ≡ true) = both _ _ p.1 in
@@ -42,12 +42,12 @@ key-exact k l e =
     let u : k.uuid ≡ l.uuid = name-exact _ _ q.1 in
     λ i. record { agent = record { value = a i }; task = record { value = t i }; uuid = u i }
 
-key-self : (k : OwedKey) → same_key k k ≡ true
+pub key-self : (k : OwedKey) → same_key k k ≡ true
 key-self k = rw (name-self k.agent.value, name-self k.task.value, name-self k.uuid) refl
 
 -- ---- what takes something away brings nothing
 
-hand-idle : (name : List ℕ) (e : Entry) → takes_offer name e ≡ true → offers_of e ≡ []
+pub hand-idle : (name : List ℕ) (e : Entry) → takes_offer name e ≡ true → offers_of e ≡ []
 hand-idle name (Heard (heard.Subscribed s)) t = refl
 hand-idle name (Heard (heard.Offers offers)) t = absurd (cc)
 hand-idle name (Heard (heard.Rescind r)) t = refl
@@ -60,7 +60,7 @@ hand-idle name (Heard (heard.Other n)) t = refl
 hand-idle name (Said call) t = refl
 hand-idle name Broken t = refl
 
-owed-idle : (key : OwedKey) (e : Entry) → acknowledges key e ≡ true → owed_by e ≡ []
+pub owed-idle : (key : OwedKey) (e : Entry) → acknowledges key e ≡ true → owed_by e ≡ []
 owed-idle key (Heard event) t = absurd (cc)
 owed-idle key (Said call) t = refl
 owed-idle key Broken t = refl

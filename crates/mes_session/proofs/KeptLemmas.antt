@@ -264,7 +264,7 @@ module _ {E X K : Type 0} (same : K → K → Bool) (key : X → K) (exact : (a 
   brought-push h e = flat_map-append brings h (e ∷ []) ∙ ap (λ (ys : List X). brought brings h ++ ys) (append-nil (brings e))
 
   -- what an entry that takes the key away leaves is nothing, else it adds what it brings
-  kept-push : (h : List E) (e : E) (k : K) → cond (takes k e) [] (since same key brings takes h k) ++ brings e ≡ since same key brings takes (h ++ e ∷ []) k
+  pub kept-push : (h : List E) (e : E) (k : K) → cond (takes k e) [] (since same key brings takes h k) ++ brings e ≡ since same key brings takes (h ++ e ∷ []) k
   kept-push h e k =
       go (takes k e) refl
       ∙ sym (ap (λ (es : List E). brought brings (reverse es)) (take_while-cons (λ d. not (takes k d)) e (reverse h)))

@@ -2,3 +2,4 @@ pub mod KeptLemmas
 pub mod HistoryLemmas
 pub mod SessionLemmas
 pub mod ReplayLemmas
+pub mod LeftLemmas

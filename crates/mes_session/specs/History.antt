@@ -17,7 +17,7 @@ use Rattle.mes_hand.specs.Calls.{named_by, acknowledged_by}
 use Rattle.mes_hand.specs.declared.refusal.Refusal.{Refusal}
 use Rattle.mes_hand.specs.declared.refusal.Refusal.TheVariants.{NoMemory}
 use Rattle.mes_hand.specs.Refusals.{as_told, IsRefused}
-use Rattle.mes_session.specs.Kept.{after_last, IsKept}
+use Rattle.mes_session.specs.Kept.{after_last, IsKept, IsLeftBy}
 
 -- ---- the stream
 
@@ -104,6 +104,14 @@ after s e = record {
 -- it stands for each history that it stood for, and this entry behind it
 abbrev pub StandsNext : Entry → Held → Held → Type 0
 StandsNext e s t = (h : List Entry) → StandsFor h s → StandsFor (h ++ e ∷ []) t
+
+-- an OFFERS at i brings the offer, and no entry behind takes it out
+abbrev pub IsOfferedBy : List Entry → List ℕ → ℕ → Type 0
+IsOfferedBy h name i = IsLeftBy bytes_eq name_of offers_of takes_offer h name i
+
+-- an UPDATE at i owes the key, and no ACKNOWLEDGE of it stands behind
+abbrev pub IsOwedBy : List Entry → OwedKey → ℕ → Type 0
+IsOwedBy h key i = IsLeftBy same_key (λ (k : OwedKey). k) owed_by acknowledges h key i
 
 -- ---- what is refused
 

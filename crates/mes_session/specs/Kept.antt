@@ -1,6 +1,6 @@
 -- What a history has brought and not taken away again: items, each under a key, in the order in which they came.
-use Rattle.std.specs.Prelude.{◌≡◌, ℕ, ◌+◌, ◌-◌, ◌<◌, Bool, not, List, length, reverse, Option}
-use Rattle.std.specs.List.{AllPairs, find, flat_map, position_or_len, take_while}
+use Rattle.std.specs.Prelude.{◌≡◌, ℕ, ◌+◌, ◌-◌, ◌<◌, Bool, true, false, not, List, length, reverse, slice_get, Option, Some}
+use Rattle.std.specs.List.{AllPairs, find, flat_map, list_any, position_or_len, take_while}
 
 -- the entries after the last one that passes, or all of them
 module _ {E : Type 0} where
@@ -29,3 +29,10 @@ module _ {E X K : Type 0} (same : K → K → Bool) (key : X → K) (brings : E 
   pub record IsKept (h : List E) (xs : List X) : Type 0 where
     pub found : (k : K) → find (λ x. same k (key x)) xs ≡ value_of h k
     pub order : AllPairs (λ x y. place_of h (key x) < place_of h (key y)) xs
+
+  -- The entry at i brings an item of the key, and no later one takes the key away.
+  pub record IsLeftBy (h : List E) (k : K) (i : ℕ) : Type 0 where
+    pub entry : E
+    pub is : slice_get h i ≡ Some entry
+    pub brings_it : list_any (λ x. same k (key x)) (brings entry) ≡ true
+    pub stays : (j : ℕ) (later : E) → i < j → slice_get h j ≡ Some later → takes k later ≡ false

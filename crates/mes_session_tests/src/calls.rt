@@ -4,8 +4,7 @@ use crate::support::expect_script;
 use std::test::Fail;
 
 /// Before a SUBSCRIBED was heard there is no call but SUBSCRIBE.
-const BEFORE: &str =
-    r#"C {"type":"REVIVE","framework_id":{"value":"F1"}} => S1 | - off ;
+const BEFORE: &str = r#"C {"type":"REVIVE","framework_id":{"value":"F1"}} => S1 | - off ;
 M {"type":"REVIVE","framework_id":{"value":"F1"}} => S1 | - off ;
 C {"type":"DECLINE","framework_id":{"value":"F1"},"decline":{"offer_ids":[{"value":"O1"}]}} => S1 | - off ;
 M {"type":"DECLINE","framework_id":{"value":"F1"},"decline":{"offer_ids":[{"value":"O1"}]}} => S1 | - off ;

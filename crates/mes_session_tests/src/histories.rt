@@ -34,8 +34,7 @@ E {"type":"UPDATE","update":{"status":{"task_id":{"value":"T1"},"state":"TASK_RU
 "#;
 
 /// A history of which no call is refused.
-const LEGAL: &str =
-    r#"E {"type":"SUBSCRIBED","subscribed":{"framework_id":{"value":"F1"}}}
+const LEGAL: &str = r#"E {"type":"SUBSCRIBED","subscribed":{"framework_id":{"value":"F1"}}}
 E {"type":"OFFERS","offers":{"offers":[{"id":{"value":"O1"},"framework_id":{"value":"F1"},"agent_id":{"value":"A1"},"hostname":"h"},{"id":{"value":"O2"},"framework_id":{"value":"F1"},"agent_id":{"value":"A1"},"hostname":"g"}]}}
 E {"type":"UPDATE","update":{"status":{"task_id":{"value":"T1"},"state":"TASK_RUNNING","agent_id":{"value":"A1"},"uuid":"AAECAwQFBgcICQoLDA0ODw=="}}}
 C {"type":"DECLINE","framework_id":{"value":"F1"},"decline":{"offer_ids":[{"value":"O1"}]}}
@@ -43,8 +42,7 @@ C {"type":"REVIVE","framework_id":{"value":"F1"}}
 "#;
 
 /// The same, with two calls behind that are refused.
-const REFUSED: &str =
-    r#"E {"type":"SUBSCRIBED","subscribed":{"framework_id":{"value":"F1"}}}
+const REFUSED: &str = r#"E {"type":"SUBSCRIBED","subscribed":{"framework_id":{"value":"F1"}}}
 E {"type":"OFFERS","offers":{"offers":[{"id":{"value":"O1"},"framework_id":{"value":"F1"},"agent_id":{"value":"A1"},"hostname":"h"},{"id":{"value":"O2"},"framework_id":{"value":"F1"},"agent_id":{"value":"A1"},"hostname":"g"}]}}
 E {"type":"UPDATE","update":{"status":{"task_id":{"value":"T1"},"state":"TASK_RUNNING","agent_id":{"value":"A1"},"uuid":"AAECAwQFBgcICQoLDA0ODw=="}}}
 C {"type":"DECLINE","framework_id":{"value":"F1"},"decline":{"offer_ids":[{"value":"O1"}]}}
@@ -54,8 +52,7 @@ C {"type":"DECLINE","framework_id":{"value":"F1"},"decline":{"offer_ids":[{"valu
 "#;
 
 /// A call behind a break.
-const LOST: &str =
-    r#"E {"type":"SUBSCRIBED","subscribed":{"framework_id":{"value":"F1"}}}
+const LOST: &str = r#"E {"type":"SUBSCRIBED","subscribed":{"framework_id":{"value":"F1"}}}
 B
 C {"type":"REVIVE","framework_id":{"value":"F1"}}
 "#;

@@ -62,11 +62,7 @@ fn tasks_of(body: &Accept) -> &[TaskInfo] {
 }
 
 /// Asks for an ACKNOWLEDGE of a key that stands in another.
-fn acknowledge(
-    alloc: Global,
-    session: &mut Session,
-    body: &Acknowledge,
-) -> Result<Call, Refusal> {
+fn acknowledge(alloc: Global, session: &mut Session, body: &Acknowledge) -> Result<Call, Refusal> {
     let agent = body.agent_id.copy(alloc)?;
     let task = body.task_id.copy(alloc)?;
     let uuid = body.uuid.copy(alloc)?;
@@ -94,11 +90,7 @@ fn make(alloc: Global, session: &mut Session, call: &Call) -> Result<Call, Refus
         Call::Suppress { .. } => session.suppress(),
         Call::Shutdown { body, .. } => session.shutdown(&body.executor_id, &body.agent_id),
         Call::Message { body, .. } => {
-            session.message(
-                &body.agent_id,
-                &body.executor_id,
-                body.payload.as_slice(),
-            )
+            session.message(&body.agent_id, &body.executor_id, body.payload.as_slice())
         }
     }
 }
@@ -133,13 +125,18 @@ fn say(alloc: Global, session: &mut Session, text: &str) -> Result<String, Fail>
     in_words(alloc, session.said(&call))
 }
 
-/// Asks for a call.
-fn ask(alloc: Global, session: &mut Session, text: &str) -> Result<String, Fail> {
-    let call = call_of(alloc, text)?;
-    match make(alloc, session, &call) {
+/// Asks for a call like this one.
+fn ask_like(alloc: Global, session: &mut Session, call: &Call, text: &str) -> Result<String, Fail> {
+    match make(alloc, session, call) {
         Ok(made) => compared(alloc, &made, text),
         Err(refusal) => refusal_in_words(alloc, refusal),
     }
+}
+
+/// Asks for a call.
+fn ask(alloc: Global, session: &mut Session, text: &str) -> Result<String, Fail> {
+    let call = call_of(alloc, text)?;
+    ask_like(alloc, session, &call, text)
 }
 
 /// Does what a line says.
@@ -200,18 +197,37 @@ fn sides_of(line: &str) -> Result<(&str, &str, &str), Fail> {
     Ok((what, answer, held))
 }
 
-/// Each line of the script has its answer, and leaves what it says.
-pub(crate) fn expect_script<R: Abort + AllocGlobal>(rt: &R, script: &str) -> Result<(), Fail> {
-    let mut session = Session::new(rt.alloc());
+/// The line has its answer, and leaves what it says.
+fn expect_line<R: Abort + AllocGlobal>(
+    rt: &R,
+    session: &mut Session,
+    line: &str,
+) -> Result<(), Fail> {
+    let (what, answer, held) = sides_of(line)?;
+    let told = step(rt.alloc(), session, what)?;
+    assert_eq!(rt; told.as_str(), answer, "{what}");
+    let left = held_in_words(rt.alloc(), session)?;
+    assert_eq!(rt; left.as_str(), held, "{what}");
+    assert!(rt; session.offer("none").is_none());
+    Ok(())
+}
+
+/// Each line has its answer, and leaves what it says.
+fn expect_lines<R: Abort + AllocGlobal>(
+    rt: &R,
+    session: &mut Session,
+    script: &str,
+) -> Result<(), Fail> {
     for line in script.lines() {
-        let (what, answer, held) = sides_of(line)?;
-        let told = step(rt.alloc(), &mut session, what)?;
-        assert_eq!(rt; told.as_str(), answer, "{what}");
-        let left = held_in_words(rt.alloc(), &session)?;
-        assert_eq!(rt; left.as_str(), held, "{what}");
-        assert!(rt; session.offer("none").is_none());
+        expect_line(rt, session, line)?;
     }
     Ok(())
+}
+
+/// Each line of the script, in a new session, has its answer, and leaves what it says.
+pub(crate) fn expect_script<R: Abort + AllocGlobal>(rt: &R, script: &str) -> Result<(), Fail> {
+    let mut session = Session::new(rt.alloc());
+    expect_lines(rt, &mut session, script)
 }
 
 /// The entry that a line writes.
@@ -243,14 +259,19 @@ fn replayed(alloc: Global, entries: &[Entry]) -> Result<String, Fail> {
     }
 }
 
+/// What `replay` answers to a history, in words.
+fn history_in_words(alloc: Global, history: &str) -> Result<String, Fail> {
+    let entries = entries_of(alloc, history)?;
+    replayed(alloc, entries.as_slice())
+}
+
 /// A history that is replayed leaves this, or stops there.
 pub(crate) fn expect_replay<R: Abort + AllocGlobal>(
     rt: &R,
     history: &str,
     expected: &str,
 ) -> Result<(), Fail> {
-    let entries = entries_of(rt.alloc(), history)?;
-    let told = replayed(rt.alloc(), entries.as_slice())?;
+    let told = history_in_words(rt.alloc(), history)?;
     assert_eq!(rt; told.as_str(), expected, "{history}");
     Ok(())
 }

@@ -1,6 +1,7 @@
 use Rattle.std.specs.List.{fold}
 use Rattle.mes_session.specs.History.{at_first, after}
 use Rattle.mes_session.proofs.HistoryLemmas.{StandsFor-some, StandsFor-unique}
+use Rattle.mes_session.proofs.LeftLemmas.{in-hand, in-owed}
 use Rattle.mes_session.proofs.ReplayLemmas.{refused-once}
 use Rattle.mes_session.proofs.laws.session_laws.Goals as goal
 
@@ -12,3 +13,9 @@ returns-clause-one c = StandsFor-unique
 
 pub returns-clause-refused : goal.returns-clause-refused
 returns-clause-refused c = refused-once c.refusal_laws.ensures
+
+pub returns-clause-hand : goal.returns-clause-hand
+returns-clause-hand c = in-hand
+
+pub returns-clause-owed : goal.returns-clause-owed
+returns-clause-owed c = in-owed
