@@ -1,5 +1,5 @@
 -- What the searches find: in one of several lists, and in a value of one type.
-use Rattle.std.proofs.Common.{◌≡◌, ℕ, ◌+◌, ◌≤◌, ◌<◌, Bool, true, false, ◌||◌, ◌⊎◌, inl, inr, Option, Some, None, List, length, take, get_or, max, refl, sym, ◌∙◌, ap, arith}
+use Rattle.std.proofs.Common.{◌≡◌, ℕ, ◌+◌, ◌≤◌, ◌<◌, Bool, true, false, ◌||◌, ◌⊎◌, inl, inr, Option, Some, None, List, length, take, get_or, max, IfSome, refl, sym, ◌∙◌, ap, arith}
 use Rattle.std.specs.List.{list_any, flat_map}
 use Rattle.std.specs.Str.{bytes_eq}
 use Rattle.std.proofs.lemmas.List.Folds.{list_any_at, list_any_more}
@@ -116,3 +116,7 @@ reaches-both p q r at (Some m) (Some n) both h k = (
 pub reaches-one : (p q : ℕ → Bool) (at : ℕ) (end : Option ℕ) (far : Bool) → (end ≡ None → far ≡ false) → far ≡ true → ((x : ℕ) → p x ≡ true → q x ≡ true) → Reaches p at end → Reaches q at end
 reaches-one p q at None far none is all h = (let e : far ≡ false = none refl in absurd (cc))
 reaches-one p q at (Some n) far none is all h = (h.0, λ x from to. all x (h.1 x from to))
+
+pub reaches-some : (p : ℕ → Bool) (at : ℕ) (end : Option ℕ) → Reaches p at end → IfSome end (λ n. Reaches p at (Some n))
+reaches-some p at None h = tt
+reaches-some p at (Some n) h = h

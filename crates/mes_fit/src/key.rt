@@ -1,5 +1,6 @@
 //! The key under which resources are compared.
-ghost use Rattle.std.specs.Prelude.{◌≡◌, ◌↔◌, IsTrue, codes, unwrap_or};
+ghost use Rattle.std.specs.Prelude.{◌≡◌, ◌-◌, ◌↔◌, IsTrue, codes, unwrap_or, length, slice_get};
+ghost use Rattle.std.specs.Str.{bytes_eq};
 ghost use Rattle.mes_fit.specs.Keys.{key_of, keys_agree, type_of};
 
 use mes_json::Text;
@@ -30,6 +31,30 @@ fn is_same_key(resource: &Resource, other: &Resource) -> bool
             resource.reservations.as_slice(),
             other.reservations.as_slice(),
         )
+}
+
+/// Whether both are one text.
+pub(crate) fn same_text(text: &Text, other: &Text) -> bool
+    ensures { result ≡ bytes_eq text.now other.now }
+{
+    is_same_text(text, other)
+}
+
+/// Whether both are one text. Items often differ at their end alone, so the last bytes are compared first.
+fn is_same_text(text: &Text, other: &Text) -> bool
+    ensures { IsTrue result ↔ text.now ≡ other.now }
+{
+    last_byte(text) == last_byte(other) && text == other
+}
+
+/// The last byte of a text, or 0 where it has none.
+fn last_byte(text: &Text) -> u8
+    ensures { result ≡ unwrap_or (slice_get text.now (length text.now - 1)) 0 }
+{
+    match text.as_str().as_bytes().last() {
+        None => 0,
+        Some(byte) => *byte,
+    }
 }
 
 /// Whether both are of one type.

@@ -32,6 +32,7 @@ fn go_on(ranges: &[Range], resources: &[Resource], key: &Resource, end: u64, wan
 /// offered, and are passed over.
 fn reach_on<O: OfferList>(
     offers: &O,
+    near: &mut usize,
     own: &[Resource],
     key: &Resource,
     front: &[Range],
@@ -41,7 +42,7 @@ fn reach_on<O: OfferList>(
     requires { (x : ℕ) → (in_ranges x front.now || has_piece (key_of key.now) (point x) own.now) ≡ true → has_piece (key_of key.now) (point x) (offered (O.offers offers.now)) ≡ true }
     ensures { Reaches (λ x. has_piece (key_of key.now) (point x) (offered (O.offers offers.now))) at result }
 {
-    match offer_reach(offers, key, at, wanted) {
+    match offer_reach(offers, near, key, at, wanted) {
         None => None,
         Some(end) => Some(go_on(front, own, key, end, wanted)),
     }
@@ -51,6 +52,7 @@ fn reach_on<O: OfferList>(
 /// offered.
 fn lacks_range<O: OfferList>(
     offers: &O,
+    near: &mut usize,
     own: &[Resource],
     key: &Resource,
     front: &[Range],
@@ -61,7 +63,7 @@ fn lacks_range<O: OfferList>(
 {
     let mut at = range.first;
     while at <= range.last {
-        match reach_on(offers, own, key, front, at, range.last) {
+        match reach_on(offers, near, own, key, front, at, range.last) {
             None => return true,
             Some(end) => {
                 if end >= range.last {
@@ -84,8 +86,16 @@ fn lacks_ranges<O: OfferList>(
     requires { (x : ℕ) → has_piece (key_of key.now) (point x) own.now ≡ true → has_piece (key_of key.now) (point x) (offered (O.offers offers.now)) ≡ true }
     ensures { Lacks (λ x. in_ranges x ranges.now) (λ x. has_piece (key_of key.now) (point x) (offered (O.offers offers.now))) result }
 {
+    let mut near = 0;
     for index in 0..ranges.len() {
-        if lacks_range(offers, own, key, &ranges[..index], &ranges[index]) {
+        if lacks_range(
+            offers,
+            &mut near,
+            own,
+            key,
+            &ranges[..index],
+            &ranges[index],
+        ) {
             return true;
         }
     }

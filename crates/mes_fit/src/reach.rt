@@ -1,5 +1,5 @@
 //! How far ranges reach: from a point on, to the end of a range that holds it.
-ghost use Rattle.std.specs.Prelude.{◌≡◌, ◌≤◌, ℕ, true, false};
+ghost use Rattle.std.specs.Prelude.{◌≡◌, ◌≤◌, ℕ, true, false, Some, IfSome};
 ghost use Rattle.mes_fit.specs.Keys.{key_of};
 ghost use Rattle.mes_fit.specs.Fits.{in_ranges, piece_of, has_piece, offered};
 ghost use Rattle.mes_fit.specs.Fits.Piece.{point};
@@ -8,6 +8,9 @@ ghost use Rattle.mes_fit.specs.Looking.{Reaches, AllFrom, farther};
 use crate::key::same_key;
 use crate::offer_list::OfferList;
 use mes_model::{Range, Resource, ResourceValue};
+
+/// How many offers on each side of the near one are looked at before all.
+const NEAR_OFFERS: usize = 8;
 
 /// The farther of two ends.
 pub(crate) fn farther_end(end: Option<u64>, other: Option<u64>) -> Option<u64>
@@ -81,9 +84,32 @@ pub(crate) fn resource_reach(
     reach
 }
 
-/// How far offers reach under a key.
-pub(crate) fn offer_reach<O: OfferList>(
+/// How far one of the offers beside a place reaches under a key, where that is as far as wanted. Its place is kept.
+fn near_reach<O: OfferList>(
     offers: &O,
+    near: &mut usize,
+    key: &Resource,
+    at: u64,
+    wanted: u64,
+) -> Option<u64>
+    ensures { IfSome result (λ end. Reaches (λ x. has_piece (key_of key.now) (point x) (offered (O.offers offers.now))) at (Some end)) }
+{
+    let first = near.saturating_sub(NEAR_OFFERS);
+    let end = near.saturating_add(NEAR_OFFERS).min(offers.count());
+    for index in first..end {
+        let end = resource_reach(offers.at(index).resources.as_slice(), key, at, wanted);
+        if is_far(end, wanted) {
+            *near = index;
+            return end;
+        }
+    }
+    None
+}
+
+/// How far offers reach under a key. The offer that reaches as far as wanted is kept as the near one.
+fn far_reach<O: OfferList>(
+    offers: &O,
+    near: &mut usize,
     key: &Resource,
     at: u64,
     wanted: u64,
@@ -94,9 +120,26 @@ pub(crate) fn offer_reach<O: OfferList>(
     for index in 0..offers.count() {
         let end = resource_reach(offers.at(index).resources.as_slice(), key, at, wanted);
         if is_far(end, wanted) {
+            *near = index;
             return end;
         }
         reach = farther_end(reach, end);
     }
     reach
+}
+
+/// How far offers reach under a key. Those beside the near one are looked at first: ranges in order are offered in order, mostly.
+pub(crate) fn offer_reach<O: OfferList>(
+    offers: &O,
+    near: &mut usize,
+    key: &Resource,
+    at: u64,
+    wanted: u64,
+) -> Option<u64>
+    ensures { Reaches (λ x. has_piece (key_of key.now) (point x) (offered (O.offers offers.now))) at result }
+{
+    match near_reach(offers, near, key, at, wanted) {
+        Some(end) => Some(end),
+        None => far_reach(offers, near, key, at, wanted),
+    }
 }

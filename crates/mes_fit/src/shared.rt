@@ -6,7 +6,7 @@ ghost use Rattle.mes_fit.specs.Fits.{in_range, in_ranges, in_items, piece_in, pi
 ghost use Rattle.mes_fit.specs.Launched.{launched};
 ghost use Rattle.mes_fit.specs.Looking.{Meets};
 
-use crate::key::same_key;
+use crate::key::{same_key, same_text};
 use crate::launches::Launches;
 use mes_json::Text;
 use mes_model::{Range, Resource, ResourceValue, TaskInfo};
@@ -15,7 +15,7 @@ use mes_model::{Range, Resource, ResourceValue, TaskInfo};
 pub(crate) fn has_item(items: &[Text], item: &Text) -> bool
     ensures { result ≡ in_items item.now items.now }
 {
-    items.iter().any(|other| item == other)
+    items.iter().any(|other| same_text(item, other))
 }
 
 /// Whether items stand among others.

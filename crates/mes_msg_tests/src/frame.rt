@@ -3,6 +3,7 @@ use mes_frame::*;
 use std::test::Fail;
 
 mod chunks;
+mod devices;
 mod writers;
 
 // The first answer that ends a record or the stream, and how many bytes had been taken then.

@@ -1,7 +1,7 @@
 -- What became of words that name no options.
-use Rattle.std.proofs.Common.{ℕ, List, inl, inr, refl}
+use Rattle.std.proofs.Common.{◌≡◌, ℕ, List, inl, inr, refl, subst}
 use Rattle.clap.specs.Words.{Text}
-use Rattle.mes_run.specs.Printing.{Device}
+use Rattle.mes_run.specs.Printing.{Device, Prints}
 use Rattle.mesosev.specs.NamedOptions.{RefusesWords}
 use Rattle.mesosev.specs.Running.{Runs}
 use Rattle.mesosev.specs.Telling.{Tells}
@@ -12,7 +12,11 @@ pub told_words : (words : List Text) (fault : WordsFault) (input out printed err
     → Tells fault out printed err told status → Runs words input input out printed err told status
 told_words words (Clap error) input out printed err told status refused (inl tells) = inr (inl (error, refused, tells, refl))
 told_words words (Clap error) input out printed err told status refused (inr lacks) = inr (inr (inr (lacks.0, lacks.1, refl)))
-told_words words (BadValue option) input out printed err told status refused (inl (text, prints, same)) =
-    inr (inr (inl (text, refused.0, refused.1, prints, same, refl)))
+told_words words (BadValue option) input out printed err told status refused (inl (prints, same)) =
+    inr (inr (inl (option.now, refused.0, refused.1, refused.2, prints, same, refl)))
 told_words words (BadValue option) input out printed err told status refused (inr lacks) = inr (inr (inr (lacks.0, lacks.1, refl)))
 told_words words NoMemory input out printed err told status refused lacks = inr (inr (inr (lacks.0, lacks.1, refl)))
+
+-- a text that is printed is the line
+pub prints_line : (old new : Device) (text line : List ℕ) (meant status : ℕ) → text ≡ line → Prints old new text meant status → Prints old new line meant status
+prints_line old new text line meant status same prints = subst (λ (t : List ℕ). Prints old new t meant status) same prints

@@ -2,7 +2,7 @@
 use Rattle.std.proofs.Common.{◌≡◌, ◌++◌, ◌∙◌, ap, append_assoc, subst, sym, ℕ, List, [], ◌∷◌, Option, Some, None, false, refl}
 use Rattle.std.specs.Prelude.{codes, fold}
 use Rattle.clap.specs.Words.{Row, Rule, Text, one_of}
-use Rattle.clap.specs.Simple.{Shape, built, filled, filled_from, help_rule}
+use Rattle.clap.specs.Simple.{Shape, built, filled, filled_from, help_rule, version_rule}
 use Rattle.clap.specs.Walk.{with_default}
 use Rattle.clap.proofs.OnLiterals.{clap_on_literals}
 use Rattle.mesosev.specs.CommandLine.{command_app, chunked_rule, limit_rule, most_rule}
@@ -16,7 +16,7 @@ use Rattle.mesosev.proofs.Walks.{IsOption, IsUsable, Reaches, end_fault, given_v
 
 -- the arguments, built
 abbrev rules : List Rule
-rules = filled_from 1 (chunked_rule ∷ limit_rule ∷ most_rule ∷ help_rule ∷ [])
+rules = filled_from 1 (chunked_rule ∷ limit_rule ∷ most_rule ∷ help_rule ∷ version_rule ∷ [])
 
 abbrev shape : Shape
 shape = leaf_shape (codes "convert") rules

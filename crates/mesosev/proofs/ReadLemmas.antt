@@ -1,6 +1,6 @@
 -- What was read of the matches of words is what the words name.
-use Rattle.std.proofs.Common.{◌≡◌, List, [], Option, Some, None, Result, Ok, Err, sym, subst}
-use Rattle.std.specs.Prelude.{Box, IfErr, IfOk, IsSomeAnd, option_map}
+use Rattle.std.proofs.Common.{◌≡◌, ◌⊎◌, List, [], inl, inr, Option, Some, None, Result, Ok, Err, sym, subst}
+use Rattle.std.specs.Prelude.{Box, IfErr, IfOk, IsSomeAnd, codes, option_map}
 use Rattle.std.specs.Box.{box_value}
 use Rattle.clap.specs.Words.{Row, Text, fault_of, subcommand_of, subcommand_rows_of}
 use Rattle.clap.specs.Matches.{subcommand_name_of}
@@ -9,7 +9,7 @@ use Rattle.clap.specs.declared.parser.matches.ArgMatches.{ArgMatches}
 use Rattle.clap.specs.declared.parser.matches.ArgMatches.TheViews.{out-ArgMatches, out-SubCommand}
 use Rattle.clap.specs.declared.parser.matches.SubCommand.{SubCommand}
 use Rattle.mesosev.specs.CommandLine.{command_app}
-use Rattle.mesosev.specs.NamedOptions.{IsReadAs, NameOptions, Reads, RefusesWords}
+use Rattle.mesosev.specs.NamedOptions.{IsReadAs, LackValue, LacksValue, NameOptions, Reads, RefusesWords}
 use Rattle.mesosev.specs.declared.words.Options.{Options}
 use Rattle.mesosev.specs.declared.words.WordsFault.{WordsFault}
 use Rattle.mesosev.specs.declared.words.WordsFault.TheVariants.{Clap, BadValue, NoMemory}
@@ -33,7 +33,11 @@ module _ (words : List Text) (read : Text × List Row) (is : subcommand_of comma
 
   pub read_refused : (r : Result Options WordsFault) → Reads read r → fault_of command_app words ≡ [] → IfErr r (RefusesWords words)
   read_refused (Ok o) reads taken = tt
-  read_refused (Err (Clap error)) reads taken = absurd reads.0
+  read_refused (Err (Clap error)) reads taken = absurd reads
   read_refused (Err (BadValue option)) reads taken =
-      (taken, λ h. reads.1 (h.0, subst (λ met. IsSomeAnd met (λ m. IsReadAs m h.0)) is h.1, h.2))
-  read_refused (Err NoMemory) reads taken = absurd reads.0
+      (taken, λ h. reads.1 (h.0, subst (λ met. IsSomeAnd met (λ m. IsReadAs m h.0)) is h.1, h.2), lacking (reads.0))
+    where
+      lacking : LacksValue read.1 option.now ⊎ (option.now ≡ codes "COMMAND") → LackValue words option.now
+      lacking (inl lacks) = inl (subst (λ met. IsSomeAnd met (λ m. LacksValue m.1 option.now)) (sym is) lacks)
+      lacking (inr unknown) = inr unknown
+  read_refused (Err NoMemory) reads taken = absurd reads

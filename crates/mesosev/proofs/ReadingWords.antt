@@ -2,7 +2,7 @@
 use Rattle.std.proofs.Common.{◌≡◌, ◌++◌, ◌∙◌, ap, subst, sym, ℕ, List, [], ◌∷◌, Option, Some, None, refl}
 use Rattle.std.specs.Prelude.{codes, fold}
 use Rattle.clap.specs.Words.{Row, Rule, Text, one_of}
-use Rattle.clap.specs.Simple.{Shape, built, filled, filled_from, help_rule}
+use Rattle.clap.specs.Simple.{Shape, built, filled, filled_from, help_rule, version_rule}
 use Rattle.clap.specs.Walk.{with_default}
 use Rattle.clap.proofs.OnLiterals.{clap_on_literals}
 use Rattle.mesosev.specs.CommandLine.{command_app, chunked_rule, limit_rule}
@@ -16,7 +16,7 @@ use Rattle.mesosev.proofs.Walks.{Reaches, end_fault, given_value, given_words, r
 
 -- the arguments, built
 abbrev rules : List Rule
-rules = filled_from 1 (chunked_rule ∷ limit_rule ∷ help_rule ∷ [])
+rules = filled_from 1 (chunked_rule ∷ limit_rule ∷ help_rule ∷ version_rule ∷ [])
 
 abbrev pub reading_shape : Text → Shape
 reading_shape name = leaf_shape name rules

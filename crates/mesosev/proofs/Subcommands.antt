@@ -24,9 +24,9 @@ quiet_on s names w p (word ∷ rest) = quiet_on s names w (p.0, p.1 ++ word ∷ 
 abbrev met : Text → List Text → Walk
 met name rest = record { held = nothing_held; waiting = idle; position = 1; is_trailing = false; stopped = Some (name, rest) }
 
--- a subcommand with these arguments, built
+-- a subcommand with these arguments, built, with the version of the command above it
 abbrev pub leaf_shape : Text → List Rule → Shape
-leaf_shape name rules = record (new_shape name) { rules = rules; disable_help_subcommand = true; is_built = true }
+leaf_shape name rules = record (new_shape name) { rules = rules; disable_help_subcommand = true; is_built = true; propagate_version = true; has_version = true }
 
 -- the name is that of this subcommand of a command that is built
 pub record IsSubcommand (b : App) (name : Text) (s : Shape) : Type 0 where

@@ -50,9 +50,9 @@ show_app = reading_app (codes "show")
 abbrev pub convert_app : App
 convert_app = with_rule (reading_app (codes "convert")) most_rule
 
--- `mesosev` before its subcommands, of which one is wanted; `--version`
+-- `mesosev` before its subcommands, of which one is wanted; `--version`, which each subcommand has too
 abbrev pub bare_app : App
-bare_app = on_top (λ s. record s { subcommand_required = true; has_version = true }) (new_app (codes "mesosev"))
+bare_app = on_top (λ s. record s { subcommand_required = true; has_version = true; propagate_version = true }) (new_app (codes "mesosev"))
 
 -- `mesosev SUBCOMMAND`
 abbrev pub command_app : App

@@ -63,23 +63,36 @@ IsInRange (Convert framing limit most) = IsLimit limit × IsMost most
 abbrev pub NameNoOptions : List Text → Type 0
 NameNoOptions words = ¬ ((o : Options) × NameOptions words o × IsInRange o)
 
+-- the option of this name has no value in its range in the matches of a subcommand
+abbrev pub LacksValue : List Row → Text → Type 0
+LacksValue rows option =
+    ((option ≡ codes "limit") × ¬ ((limit : ℕ) × HasLimit rows limit × IsLimit limit))
+    ⊎ ((option ≡ codes "most") × ¬ ((most : Option ℕ) × HasMost rows most × IsMost most))
+
+-- the words give the option of this name no value in its range, or they give no subcommand that is known, which is told as `COMMAND`
+abbrev pub LackValue : List Text → Text → Type 0
+LackValue words option = IsSomeAnd (subcommand_of command_app words) (λ read. LacksValue read.1 option) ⊎ (option ≡ codes "COMMAND")
+
 -- Clap refuses the words by an error of this kind, or takes them and they name no options in range. Want of memory says
 -- nothing of the words.
 abbrev pub RefusesWords : List Text → WordsFault → Type 0
 RefusesWords words (Clap error) = IsAmong (kind_of error) (fault_of command_app words)
-RefusesWords words (BadValue option) = (fault_of command_app words ≡ []) × NameNoOptions words
+RefusesWords words (BadValue option) = (fault_of command_app words ≡ []) × NameNoOptions words × LackValue words option.now
 RefusesWords words NoMemory = Unit {0}
 
--- the fault names an option
-abbrev pub IsBadValue : WordsFault → Type 0
-IsBadValue (Clap error) = ⊥
-IsBadValue (BadValue option) = Unit {0}
-IsBadValue NoMemory = ⊥
+-- the fault names this option
+abbrev pub IsBadValue : Text → WordsFault → Type 0
+IsBadValue name (Clap error) = ⊥
+IsBadValue name (BadValue option) = option.now ≡ name
+IsBadValue name NoMemory = ⊥
 
--- what was read of a subcommand's name and its matches: options that they have, each in range; or a fault, and they have none
+-- what was read of a subcommand's name and its matches: options that they have, each in range; or a fault that names an option
+-- without a value in its range, or the subcommand, and they have no options in range
 abbrev pub Reads : Text × List Row → Result Options WordsFault → Type 0
 Reads read (Ok o) = IsReadAs read o × IsInRange o
-Reads read (Err fault) = IsBadValue fault × ¬ ((o : Options) × IsReadAs read o × IsInRange o)
+Reads read (Err (Clap error)) = ⊥
+Reads read (Err (BadValue option)) = (LacksValue read.1 option.now ⊎ (option.now ≡ codes "COMMAND")) × ¬ ((o : Options) × IsReadAs read o × IsInRange o)
+Reads read (Err NoMemory) = ⊥
 
 -- the fault is clap's error, but for want of memory, which has a variant of its own
 abbrev pub IsFaultOf : Error → WordsFault → Type 0

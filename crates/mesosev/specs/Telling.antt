@@ -1,5 +1,5 @@
 -- What is told where words name no options.
-use Rattle.std.specs.Prelude.{◌≡◌, ◌≢◌, ℕ, ◌⊎◌, List}
+use Rattle.std.specs.Prelude.{◌≡◌, ◌≢◌, ℕ, ◌⊎◌, List, [], ◌∷◌, ◌++◌, codes}
 use Rattle.clap.specs.Words.{kind_of}
 use Rattle.clap.specs.declared.error.Error.{Error}
 use Rattle.clap.specs.declared.error.kind.ErrorKind.TheVariants.{DisplayHelp, DisplayVersion}
@@ -17,10 +17,18 @@ TellsError error out printed err told status =
     (text : List ℕ) × ((IsMistake error × Prints err told text 2 status × (printed ≡ out))
     ⊎ (¬ (IsMistake error) × Prints out printed text 0 status × (told ≡ err)))
 
+-- the line of an option without a value in its range
+abbrev pub bad_value_line : List ℕ → List ℕ
+bad_value_line option = codes "bad value --" ++ (option ++ 10 ∷ [])
+
 -- why the words name no options, told
 abbrev pub Tells : WordsFault → Device → Device → Device → Device → ℕ → Type 0
 Tells (Clap error) out printed err told status =
     TellsError error out printed err told status ⊎ (LacksMemory out printed status × (told ≡ err))
 Tells (BadValue option) out printed err told status =
-    ((text : List ℕ) × Prints err told text 2 status × (printed ≡ out)) ⊎ (LacksMemory out printed status × (told ≡ err))
+    (Prints err told (bad_value_line option.now) 2 status × (printed ≡ out)) ⊎ (LacksMemory out printed status × (told ≡ err))
 Tells NoMemory out printed err told status = LacksMemory out printed status × (told ≡ err)
+
+-- the line where a word is no text
+abbrev pub not_text_line : List ℕ
+not_text_line = codes "error: a word is not UTF-8" ++ 10 ∷ []

@@ -51,14 +51,18 @@ fn with<'a>(
     command.subcommand(subcommand?)
 }
 
-// `mesosev` before its subcommands, of which one is wanted; `--version`
+// `mesosev` before its subcommands, of which one is wanted; `--version`, which each subcommand has too
 fn bare_command<'a>(alloc: Global) -> Command<'a>
     ensures { app_of result ≡ bare_app }
 {
     Command::new(alloc, "mesosev")
         .version(VERSION)
+        .propagate_version(true)
         .about("Read and write the event stream of a Mesos scheduler (v1, JSON, RecordIO)")
-        .after_help("Exit status: 0 good, 1 a fault or an output that fails, 2 bad words")
+        .after_help(
+            "The stream is read from standard input, a file by <: mesosev check < FILE\n\
+            Exit status: 0 good, 1 a fault or an output that fails, 2 bad words",
+        )
         .subcommand_required(true)
 }
 
@@ -72,6 +76,7 @@ pub fn reading_command<'a>(
 {
     Command::new(alloc, name)
         .about(about)
+        .after_help("The stream is read from standard input, a file by < FILE")
         .arg(chunked_option(alloc))?
         .arg(limit_option(alloc))
 }

@@ -12,7 +12,7 @@ mod words;
 
 use mes_frame::FromStd;
 use mes_run::out_of_memory;
-use run::{BAD_WORDS, run};
+use run::{run, tell_not_text};
 use std::env;
 use std::io::{BufReader, ErrorKind};
 use std::process::ExitCode;
@@ -29,7 +29,7 @@ fn main(rt: HostRuntime) -> ExitCode {
             return ExitCode::from(if error.kind() == ErrorKind::OutOfMemory {
                 out_of_memory(&mut out)
             } else {
-                BAD_WORDS
+                tell_not_text(&mut err)
             });
         }
     };

@@ -1,10 +1,10 @@
 //! The command: its words, its input, and what it prints.
 
 ghost use Rattle.std.specs.Prelude.{◌≡◌, codes, ◌⊎◌, map};
-ghost use Rattle.mes_run.specs.Printing.{LacksMemory};
+ghost use Rattle.mes_run.specs.Printing.{LacksMemory, Prints};
 ghost use Rattle.mesosev.specs.NamedOptions.{SayPlainly, IsInRange};
 ghost use Rattle.mesosev.specs.Running.{Performs, Runs};
-ghost use Rattle.mesosev.specs.Telling.{Tells, TellsError};
+ghost use Rattle.mesosev.specs.Telling.{Tells, TellsError, not_text_line};
 ghost use Rattle.mesosev.specs.declared.words.Options.{Options as OptionsValue};
 
 use crate::options::options;
@@ -15,7 +15,10 @@ use std::alloc::{AllocGlobal, Global};
 use std::convert::AsStr;
 
 /// The status of bad words.
-pub(crate) const BAD_WORDS: u8 = 2;
+const BAD_WORDS: u8 = 2;
+
+/// What is told where a word is not UTF-8.
+const NOT_TEXT: &str = "error: a word is not UTF-8\n";
 
 /// Runs the command and answers its exit status: 0 for a good run, 1 for a fault that was told in a line, or where an
 /// output failed, 2 for bad words. The first word is the program's name.
@@ -78,6 +81,14 @@ fn perform<I: Source, O: Sink, E: Sink>(
             most,
         } => convert(alloc, *framing, *limit, *most, input, out, err),
     }
+}
+
+/// Tells on standard error that a word is no text, before any word is read.
+pub(crate) fn tell_not_text<E: Sink>(err: &mut E) -> u8
+    ensures { Prints (record { bytes = E.written err.old; counts = E.counts err.old }) (record { bytes = E.written err.new; counts = E.counts err.new })
+        not_text_line 2 result }
+{
+    print_text(err, NOT_TEXT, BAD_WORDS)
 }
 
 /// Tells why the words name no options.

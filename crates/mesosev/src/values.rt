@@ -1,5 +1,5 @@
 //! The values of the options, read of what clap found for a subcommand.
-ghost use Rattle.std.specs.Prelude.{ℕ, Option, IfOk, IfErr};
+ghost use Rattle.std.specs.Prelude.{ℕ, Option, IfOk, IfErr, codes};
 ghost use Rattle.clap.specs.Words.{found_of, rows_of};
 ghost use Rattle.mesosev.specs.NamedOptions.{HasFraming, HasLimit, HasMost, IsBadValue};
 ghost use Rattle.mesosev.specs.NamedOptions.{IsLimit, IsMost};
@@ -26,7 +26,7 @@ pub fn framing_of(matches: &ArgMatches<'_>) -> Framing
 pub fn limit_of(matches: &ArgMatches<'_>) -> Result<Limit, WordsFault>
     ensures ok { IfOk result (HasLimit (rows_of (found_of matches.now))) }
     ensures ranged { IfOk result IsLimit }
-    ensures err { IfErr result (λ fault. IsBadValue fault
+    ensures err { IfErr result (λ fault. IsBadValue (codes "limit") fault
         × ¬ ((limit : ℕ) × HasLimit (rows_of (found_of matches.now)) limit × IsLimit limit)) }
 {
     match matches.get_one::<u32>("limit") {
@@ -44,7 +44,7 @@ pub fn limit_of(matches: &ArgMatches<'_>) -> Result<Limit, WordsFault>
 pub fn most_of(matches: &ArgMatches<'_>) -> Result<Option<ChunkSize>, WordsFault>
     ensures ok { IfOk result (HasMost (rows_of (found_of matches.now))) }
     ensures ranged { IfOk result IsMost }
-    ensures err { IfErr result (λ fault. IsBadValue fault
+    ensures err { IfErr result (λ fault. IsBadValue (codes "most") fault
         × ¬ ((most : Option ℕ) × HasMost (rows_of (found_of matches.now)) most × IsMost most)) }
 {
     match matches.try_get_one::<u32>("most") {

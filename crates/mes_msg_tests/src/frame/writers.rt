@@ -85,3 +85,33 @@ fn each_front_of_a_body_is_exact(rt: HostRuntime) {
         assert_eq!(rt; Some(sink.bytes()), whole.bytes().get(..good));
     }
 }
+
+#[test]
+fn small_chunks_are_gathered(rt: HostRuntime) {
+    // 3,000 chunks of 6 bytes and the last one of 5. Of the buffer's 8,192 bytes 1,365 chunks take 8,190, and the next line has no
+    // room, so it is written twice before its rest of 1,625.
+    let body = [b'x'; 3000];
+    let mut sink = MemorySink::new(rt.alloc(), usize::MAX);
+    assert_eq!(rt; write_chunked(&mut sink, &body, 1), Ok(()));
+    assert_eq!(rt; sink.bytes().len(), 18_005);
+    assert_eq!(rt; sink.counts().calls, 3);
+    let mut failing = MemorySink::stopping_after(rt.alloc(), usize::MAX, 10_000, MemoryStop::Fails);
+    assert_eq!(rt;
+        write_chunked(&mut failing, &body, 1),
+        Err(WriteFault {
+            sent: 10_000,
+            why: WriteWhy::Device
+        })
+    );
+    assert_eq!(rt; Some(failing.bytes()), sink.bytes().get(..10_000));
+}
+
+#[test]
+fn large_chunks_go_out_as_they_stand(rt: HostRuntime) {
+    // A line, data, their CRLF with the next line, data, and their CRLF with the last chunk.
+    let body = [b'x'; 20_000];
+    let mut sink = MemorySink::new(rt.alloc(), usize::MAX);
+    assert_eq!(rt; write_chunked(&mut sink, &body, 10_000), Ok(()));
+    assert_eq!(rt; sink.bytes().len(), 20_021);
+    assert_eq!(rt; sink.counts().calls, 5);
+}

@@ -1,4 +1,4 @@
-use Rattle.std.proofs.Common.{rules}
+use Rattle.std.proofs.Common.{refl, rules}
 use Rattle.clap.specs.Words.{found_of}
 use Rattle.mesosev.proofs.OptionLemmas.{most_absent, most_given, most_out, most_unread}
 use Rattle.mesosev.proofs.values.most_of.Goals as goal
@@ -14,13 +14,13 @@ returns-in-Some-clause-ok c =
 
 pub returns-in-None-clause-err : goal.returns-in-None-clause-err
 returns-in-None-clause-err c = (
-  tt,
+  refl,
   most_out (found_of c.args.matches.now) c.try_get_one.result c.try_get_one.ensures.value c.try_get_one.ensures.none c.in-Ok-Some.most
       (first_of (search rules, cc)) c.in-None.ensures,
 )
 
 pub returns-in-Err-clause-err : goal.returns-in-Err-clause-err
 returns-in-Err-clause-err c = (
-  tt,
+  refl,
   most_unread (found_of c.args.matches.now) c.try_get_one.result c.try_get_one.ensures.value c.try_get_one.ensures.none c.in-Err.field-0 c.in-Err.is,
 )

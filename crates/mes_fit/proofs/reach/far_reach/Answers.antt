@@ -5,7 +5,7 @@ use Rattle.mes_fit.specs.Fits.Piece.{point}
 use Rattle.mes_fit.specs.Looking.{Reaches}
 use Rattle.mes_fit.proofs.ListLemmas.{get-of}
 use Rattle.mes_fit.proofs.LookLemmas.{any-in, any-more, reaches-both, reaches-one}
-use Rattle.mes_fit.proofs.reach.offer_reach.Goals as goal
+use Rattle.mes_fit.proofs.reach.far_reach.Goals as goal
 
 pub returns-then-is_far : goal.returns-then-is_far
 returns-then-is_far g c =

@@ -3,7 +3,7 @@ use Rattle.mes_fit.specs.Keys.{key_of}
 use Rattle.mes_fit.specs.Fits.{has_piece, offered}
 use Rattle.mes_fit.specs.Fits.Piece.{point}
 use Rattle.mes_fit.specs.Looking.{Reaches}
-use Rattle.mes_fit.proofs.reach.offer_reach.Given as goal
+use Rattle.mes_fit.proofs.reach.far_reach.Given as goal
 
 -- how far the offers so far reach
 abbrev pub invariant-loop-index : goal.invariant-loop-index

@@ -1,0 +1,7 @@
+-- An ordered list in which each key stands once: an item takes the place of the one of its key, or comes last.
+use Rattle.std.specs.Prelude.{Bool, if◌then◌else◌, List, [], ◌∷◌}
+
+module _ {K X : Type 0} (same : K → K → Bool) (key : X → K) where
+  abbrev pub put : List X → X → List X
+  put [] x = x ∷ []
+  put (y ∷ ys) x = if same (key x) (key y) then x ∷ ys else y ∷ put ys x

@@ -1,0 +1,73 @@
+//! Whether an identifier stands twice.
+ghost use Rattle.std.specs.Prelude.{◌≡◌, ◌++◌, false};
+ghost use Rattle.std.specs.List.{list_any};
+ghost use Rattle.mes_fit.specs.Launched.{launched};
+ghost use Rattle.mes_hand.specs.Refusals.{stands_twice, ids_of, stands_in};
+ghost use Rattle.mes_hand.specs.Looking.{is_task};
+
+use mes_fit::Launches;
+use mes_model::{Id, TaskInfo};
+
+/// Whether the identifier is one of these.
+fn stands_in(ids: &[Id], id: &Id) -> bool
+    ensures { result ≡ stands_in id.now ids.now }
+{
+    ids.iter().any(|other| id == other)
+}
+
+/// Whether one of the identifiers stands twice.
+pub(crate) fn stands_twice(ids: &[Id]) -> bool
+    ensures { result ≡ stands_twice ids.now }
+{
+    for index in 0..ids.len() {
+        if stands_in(&ids[..index], &ids[index]) {
+            return true;
+        }
+    }
+    false
+}
+
+/// Whether a task has the identifier.
+fn tasks_have(tasks: &[TaskInfo], id: &Id) -> bool
+    ensures { result ≡ list_any (is_task id.now) tasks.now }
+{
+    tasks.iter().any(|task| id == &task.task_id)
+}
+
+/// Whether a task of the groups has the identifier.
+fn groups_have<L: Launches>(launches: &[L], id: &Id) -> bool
+    ensures { result ≡ list_any (is_task id.now) (launched L.tasks launches.now) }
+{
+    for group in launches {
+        if tasks_have(group.tasks(), id) {
+            return true;
+        }
+    }
+    false
+}
+
+/// Whether an identifier stands twice in the tasks of the groups before one, in which none does, and its own.
+fn stands_again<L: Launches>(launches: &[L], tasks: &[TaskInfo]) -> bool
+    requires { stands_twice (ids_of (launched L.tasks launches.now)) ≡ false }
+    ensures { result ≡ stands_twice (ids_of (launched L.tasks launches.now ++ tasks.now)) }
+{
+    for index in 0..tasks.len() {
+        let id = &tasks[index].task_id;
+        if groups_have(launches, id) || tasks_have(&tasks[..index], id) {
+            return true;
+        }
+    }
+    false
+}
+
+/// Whether the identifier of a task stands twice in all groups.
+pub(crate) fn task_stands_twice<L: Launches>(launches: &[L]) -> bool
+    ensures { result ≡ stands_twice (ids_of (launched L.tasks launches.now)) }
+{
+    for at in 0..launches.len() {
+        if stands_again(&launches[..at], launches[at].tasks()) {
+            return true;
+        }
+    }
+    false
+}

@@ -1,0 +1,12 @@
+use Rattle.std.proofs.Common.{◌≡◌, inl, refl, ◌∙◌}
+use Rattle.mes_run.specs.Printing.{Device}
+use Rattle.mesosev.specs.Telling.{bad_value_line}
+use Rattle.mesosev.proofs.CommandLemmas.{prints_line}
+use Rattle.mesosev.proofs.run.tell.Goals as goal
+
+pub returns-in-Ok : goal.returns-in-Ok
+returns-in-Ok g c =
+    let line : c.as_str.result.now ≡ bad_value_line c.in-BadValue.name.now = c.as_str.ensures.value ∙ c.in-Ok.ensures.ok in
+    let old : Device = record { bytes = g.E.Sink.written c.args.err.now; counts = g.E.Sink.counts c.args.err.now } in
+    let new : Device = record { bytes = g.E.Sink.written c.print_text.new.out; counts = g.E.Sink.counts c.print_text.new.out } in
+    rw c.in-BadValue.is (inl (prints_line old new c.as_str.result.now (bad_value_line c.in-BadValue.name.now) 2 c.print_text.result line c.print_text.ensures, refl))
