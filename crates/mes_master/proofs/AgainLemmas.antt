@@ -105,6 +105,7 @@ opens m call given e = by (m.down || not (agrees m.framework (framework_of call)
     named : (current : List ℕ) (b : Bool) → is_named current given ≡ b → (if b then carried_out m call else plain 400 m).status ≡ 202 → is_named current given ≡ true
     named current true f e = f
     named current false f e = absurd (omega arith)
+
     by : (b : Bool) → (m.down || not (agrees m.framework (framework_of call))) ≡ b → (c : Bool) → is_subscribe call ≡ c → (s : Option (List ℕ)) → m.stream ≡ s
         → (if b then plain 403 m else (if c then subscribed m m.ids else in_stream m call s given)).status ≡ 202 → IsOpen m call given
     by true f c g s h e = absurd (omega arith)

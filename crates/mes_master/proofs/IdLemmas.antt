@@ -1,6 +1,6 @@
 -- Identifiers that are added to a list.
-use Rattle.std.proofs.Common.{◌≡◌, ℕ, ◌+◌, ◌≤◌, Bool, true, false, ◌||◌, if◌then◌else◌, fold, List, [], ◌∷◌, ◌++◌, length, refl, sym, ap, ◌∙◌, append_assoc, arith}
-use Rattle.std.specs.List.{list_any}
+use Rattle.std.proofs.Common.{◌≡◌, ℕ, ◌+◌, ◌≤◌, Bool, true, false, ◌||◌, if◌then◌else◌, fold, List, [], ◌∷◌, ◌++◌, length, ◌==◌, refl, sym, ap, ◌∙◌, append_assoc, arith}
+use Rattle.std.specs.List.{list_any, list_all}
 use Rattle.std.specs.Str.{bytes_eq}
 use Rattle.std.proofs.lemmas.List.Folds.{list_any-append}
 use Rattle.std.proofs.lemmas.Bool.{or_from, or_parts}
@@ -11,7 +11,7 @@ use Rattle.mes_resource.specs.declared.id.Id.{Id}
 use Rattle.mes_task.specs.declared.task_info.TaskInfo.{TaskInfo}
 use Rattle.mes_offer.specs.declared.offer.Offer.{Offer}
 use Rattle.mes_hand.specs.Refusals.{stands_in, ids_of}
-use Rattle.mes_master.specs.Masters.{same_id, new_tasks, all_there}
+use Rattle.mes_master.specs.Masters.{same_id, new_tasks, is_there, all_there}
 use Rattle.mes_master.specs.Sending.{offer_ids, comes_again}
 
 -- two texts are the same whichever of them is named first
@@ -47,10 +47,21 @@ pub insert_tasks : (ks : List Id) (ts : List TaskInfo) → insert_all same_id ks
 insert_tasks ks [] = sym (append-nil ks)
 insert_tasks ks (t ∷ ts) = by (stands_in t.task_id ks) refl (λ known. insert_tasks known ts)
   where
+    added : (b : Bool) → stands_in t.task_id ks ≡ b → insert_key same_id ks t.task_id ≡ (if b then ks else ks ++ t.task_id ∷ [])
+    added b e = ap (λ (b : Bool). if b then ks else ks ++ t.task_id ∷ []) e
+
+    news : (b : Bool) → stands_in t.task_id ks ≡ b → new_tasks ks (t ∷ ts) ≡ (if b then new_tasks ks ts else t ∷ new_tasks (ks ++ t.task_id ∷ []) ts)
+    news b e = ap (λ (b : Bool). if b then new_tasks ks ts else t ∷ new_tasks (ks ++ t.task_id ∷ []) ts) e
+
     by : (b : Bool) → stands_in t.task_id ks ≡ b → ((known : List Id) → insert_all same_id known (ids_of ts) ≡ known ++ ids_of (new_tasks known ts))
         → insert_all same_id ks (ids_of (t ∷ ts)) ≡ ks ++ ids_of (new_tasks ks (t ∷ ts))
-    by true e rest = rw e (rest ks)
-    by false e rest = rw e (rest (ks ++ t.task_id ∷ []) ∙ append_assoc ks (t.task_id ∷ []) _)
+    by true e rest =
+        ap (λ (l : List Id). insert_all same_id l (ids_of ts)) (added true e) ∙ rest ks ∙ sym (ap (λ (l : List TaskInfo). ks ++ ids_of l) (news true e))
+    by false e rest =
+        ap (λ (l : List Id). insert_all same_id l (ids_of ts)) (added false e)
+        ∙ rest (ks ++ t.task_id ∷ [])
+        ∙ append_assoc ks (t.task_id ∷ []) _
+        ∙ sym (ap (λ (l : List TaskInfo). ks ++ ids_of l) (news false e))
 
 -- identifiers of offers are looked for in the offers
 pub among_offers : (d : Id) (os : List Offer) → list_any (λ (o : Offer). same_id d o.id) os ≡ stands_in d (offer_ids os)
@@ -61,6 +72,7 @@ pub none_come : (ks : List Id) (os : List Offer) → length os ≡ 0 → comes_a
 none_come ks [] e = refl
 none_come ks (o ∷ os) e = absurd (omega arith)
 
-pub none_named : (offers : List Offer) (ids : List Id) → length ids ≡ 0 → all_there offers ids ≡ false
-none_named offers [] e = refl
-none_named offers (d ∷ ds) e = absurd (omega arith)
+-- where some are named, it is all of them
+pub some_named : (offers : List Offer) (ids : List Id) (b : Bool) → b ≡ (length ids == 0) → b ≡ false → list_all (is_there offers) ids ≡ all_there offers ids
+some_named offers [] b h e = absurd (let t : b ≡ true = h in cc)
+some_named offers (d ∷ ds) b h e = refl

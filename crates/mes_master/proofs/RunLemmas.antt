@@ -33,9 +33,9 @@ abbrev pub times : List ℕ → List Id → ℕ
 times x [] = 0
 times x (d ∷ ds) = (if bytes_eq x d.value then 1 else 0) + times x ds
 
-pub times-append : (x : List ℕ) (as bs : List Id) → times x (as ++ bs) ≡ times x as + times x bs
+pub times-append : (x : List ℕ) (front bs : List Id) → times x (front ++ bs) ≡ times x front + times x bs
 times-append x [] bs = omega arith
-times-append x (d ∷ as) bs = omega (arith, times-append x as bs)
+times-append x (d ∷ ds) bs = omega (arith, times-append x ds bs)
 
 absent : (d : Id) (ds : List Id) → stands_in d ds ≡ false → times d.value ds ≡ 0
 absent d [] e = refl
@@ -190,23 +190,23 @@ pub record Sound (past : Past) : Type 0 where
   pub ran : past.master.launched ≡ ids_of past.ran
   pub launched : Once past.master.launched
 
-ids-append : (as bs : List TaskInfo) → ids_of (as ++ bs) ≡ ids_of as ++ ids_of bs
+ids-append : (front bs : List TaskInfo) → ids_of (front ++ bs) ≡ ids_of front ++ ids_of bs
 ids-append [] bs = refl
-ids-append (a ∷ as) bs = ap (λ (l : List Id). a.task_id ∷ l) (ids-append as bs)
+ids-append (a ∷ more) bs = ap (λ (l : List Id). a.task_id ∷ l) (ids-append more bs)
 
-offers-append : (as bs : List Offer) → offer_ids (as ++ bs) ≡ offer_ids as ++ offer_ids bs
+offers-append : (front bs : List Offer) → offer_ids (front ++ bs) ≡ offer_ids front ++ offer_ids bs
 offers-append [] bs = refl
-offers-append (a ∷ as) bs = ap (λ (l : List Id). a.id ∷ l) (offers-append as bs)
+offers-append (a ∷ more) bs = ap (λ (l : List Id). a.id ∷ l) (offers-append more bs)
 
 sound-call : (past : Past) (a : MasterAnswer) → Fine past.master a → Sound past → Sound (after_call past a)
 sound-call past a f s = record {
   took = λ x.
-    let both : times x (offer_ids (past.took ++ a.took)) ≡ times x (offer_ids past.took) + times x (offer_ids a.took) =
-    ap (times x) (offers-append past.took a.took) ∙ times-append x (offer_ids past.took) (offer_ids a.took) in
-    let same : times x a.master.offered ≡ times x past.master.offered = ap (times x) f.offered in
-    let less : times x (offer_ids a.took) + times x (offer_ids a.master.outstanding) ≤ times x (offer_ids past.master.outstanding) = f.moved x in
-    let before : times x (offer_ids past.took) + times x (offer_ids past.master.outstanding) ≤ times x past.master.offered = s.took x in
-    omega arith;
+      let both : times x (offer_ids (past.took ++ a.took)) ≡ times x (offer_ids past.took) + times x (offer_ids a.took) =
+      ap (times x) (offers-append past.took a.took) ∙ times-append x (offer_ids past.took) (offer_ids a.took) in
+      let same : times x a.master.offered ≡ times x past.master.offered = ap (times x) f.offered in
+      let less : times x (offer_ids a.took) + times x (offer_ids a.master.outstanding) ≤ times x (offer_ids past.master.outstanding) = f.moved x in
+      let before : times x (offer_ids past.took) + times x (offer_ids past.master.outstanding) ≤ times x past.master.offered = s.took x in
+      omega arith;
   offered = subst Once (sym f.offered) s.offered;
   ran = f.launched ∙ ap (λ (l : List Id). l ++ ids_of a.ran) s.ran ∙ sym (ids-append past.ran a.ran);
   launched = subst Once (sym f.launched) (f.once s.launched);

@@ -44,16 +44,16 @@ impl Model for Master {
     ghost coded = { Prim.hlevel (codes, members_code) };
 
     ghost view = { λ m. record {
-        framework = m.framework;
-        ids = m.ids.items;
-        stream = m.stream;
-        down = m.down;
-        offered = m.offered.keys;
-        outstanding = m.outstanding;
-        latest = m.latest.entries;
-        owing = m.owing.entries;
-        launched = m.launched.keys;
-        acked = m.acked;
+      framework = m.framework;
+      ids = m.ids.items;
+      stream = m.stream;
+      down = m.down;
+      offered = m.offered.keys;
+      outstanding = m.outstanding;
+      latest = m.latest.entries;
+      owing = m.owing.entries;
+      launched = m.launched.keys;
+      acked = m.acked;
     } };
 }
 

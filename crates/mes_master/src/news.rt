@@ -55,10 +55,7 @@ fn reconciled(alloc: Global, status: &TaskStatus) -> Result<Event, NoMemory>
 }
 
 /// The UPDATEs that tell the last status of each task.
-fn reconciled_all(
-    alloc: Global,
-    latest: &IndexMap<Id, TaskStatus>,
-) -> Result<Vec<Event>, NoMemory>
+fn reconciled_all(alloc: Global, latest: &IndexMap<Id, TaskStatus>) -> Result<Vec<Event>, NoMemory>
     ensures { IfOk result (λ events. events.items ≡ map reconciled_event (values_of latest.now.entries)) }
 {
     let mut events = Vec::new(alloc);

@@ -43,12 +43,21 @@ pub(crate) fn note(
 {
     let task = status.task_id.copy(alloc)?;
     let copied = status.copy(alloc)?;
-    latest.insert(task, copied)?;
+    latest.reserve(1)?;
+    put_last(latest, task, copied);
     Ok(())
 }
 
+/// Puts a status in the place of the last one of its task, or behind the others, where there is room.
+fn put_last(latest: &mut IndexMap<Id, TaskStatus>, task: Id, status: TaskStatus)
+    requires { 0 < spare latest.old }
+    ensures { latest.new.entries ≡ insert_entry same_id latest.old.entries task status }
+{
+    latest.insert(task, status).unwrap();
+}
+
 /// Makes room for one more.
-pub(crate) fn reserve_one(owing: &mut IndexMap<OwedKey, TaskStatus>) -> Result<(), NoMemory>
+fn reserve_one(owing: &mut IndexMap<OwedKey, TaskStatus>) -> Result<(), NoMemory>
     ensures same { owing.new.entries ≡ owing.old.entries }
     ensures room { OnOk result (0 < spare owing.new) }
 {
@@ -65,12 +74,33 @@ fn put_entry(owing: &mut IndexMap<OwedKey, TaskStatus>, key: OwedKey, status: Ta
 }
 
 /// Adds an update of another key than those that are there, where there is room.
-pub(crate) fn put_owing(owing: &mut IndexMap<OwedKey, TaskStatus>, key: OwedKey, status: TaskStatus)
+fn put_owing(owing: &mut IndexMap<OwedKey, TaskStatus>, key: OwedKey, status: TaskStatus)
     requires room { 0 < spare owing.old }
     requires other { is_owing owing.old.entries key ≡ false }
     ensures { owing.new.entries ≡ owing.old.entries ++ (key, status) ∷ [] }
 {
     put_entry(owing, key, status);
+}
+
+/// Notes the status as the last of its task, and as an update that owes an acknowledgement, of another key than those that are there.
+/// Refused memory, it changes nothing.
+pub(crate) fn note_owing(
+    alloc: Global,
+    latest: &mut IndexMap<Id, TaskStatus>,
+    owing: &mut IndexMap<OwedKey, TaskStatus>,
+    key: OwedKey,
+    status: &TaskStatus,
+) -> Result<(), NoMemory>
+    requires { is_owing owing.old.entries key ≡ false }
+    ensures latest { OnOk result (latest.new.entries ≡ insert_entry same_id latest.old.entries status.now.task_id status.now) }
+    ensures owing { OnOk result (owing.new.entries ≡ owing.old.entries ++ (key, status.now) ∷ []) }
+    ensures err { OnErr result ((latest.new.entries ≡ latest.old.entries) × (owing.new.entries ≡ owing.old.entries)) }
+{
+    let copied = status.copy(alloc)?;
+    reserve_one(owing)?;
+    note(alloc, latest, status)?;
+    put_owing(owing, key, copied);
+    Ok(())
 }
 
 /// The update at that place among those that were not acknowledged.
@@ -83,7 +113,9 @@ pub(crate) fn waiting_at<'a>(
 {
     let mut before = index;
     for at in 0..owing.len() {
-        let (key, status) = owing.get_index(at)?;
+        let Some((key, status)) = owing.get_index(at) else {
+            return None;
+        };
         if acked.contains(key) {
             continue;
         }

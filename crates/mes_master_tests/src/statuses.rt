@@ -6,12 +6,15 @@ use std::alloc::{AllocGlobal, Global};
 use std::test::Fail;
 
 /// A SUBSCRIBE and a TEARDOWN.
-const SUBSCRIBE: &str = r#"{"type":"SUBSCRIBE","subscribe":{"framework_info":{"user":"root","name":"n"}}}"#;
+const SUBSCRIBE: &str =
+    r#"{"type":"SUBSCRIBE","subscribe":{"framework_info":{"user":"root","name":"n"}}}"#;
+
 const TEARDOWN: &str = r#"{"type":"TEARDOWN","framework_id":{"value":"F1"}}"#;
 
 /// Calls, of this framework and then of another, and their statuses: before a SUBSCRIBE, after two, and after a TEARDOWN; each with the id
 /// of the second stream, with that of the first, and with none.
-const STATUSES: &str = r#"{"type":"SUBSCRIBE","subscribe":{"framework_info":{"user":"root","name":"n"}}} => 200 200 200 / 200 200 200 / 403 403 403
+const STATUSES: &str =
+    r#"{"type":"SUBSCRIBE","subscribe":{"framework_info":{"user":"root","name":"n"}}} => 200 200 200 / 200 200 200 / 403 403 403
 {"type":"ACCEPT","framework_id":{"value":"F1"},"accept":{"offer_ids":[{"value":"O1"}],"operations":[{"type":"LAUNCH","launch":{"task_infos":[{"name":"n","task_id":{"value":"T1"},"agent_id":{"value":"A1"}}]}}]}} => 403 403 403 / 202 400 400 / 403 403 403
 {"type":"DECLINE","framework_id":{"value":"F1"},"decline":{"offer_ids":[{"value":"O1"}]}} => 403 403 403 / 202 400 400 / 403 403 403
 {"type":"REVIVE","framework_id":{"value":"F1"}} => 403 403 403 / 202 400 400 / 403 403 403

@@ -1,5 +1,6 @@
 //! How a test master answers calls.
 ghost use Rattle.std.specs.Prelude.{◌≡◌, option_copied, IfOk, OnErr};
+ghost use Rattle.std.specs.List.{list_all};
 ghost use Rattle.mes_fit.specs.Launched.{launched, launched_by};
 ghost use Rattle.mes_hand.specs.Calls.{framework_of};
 ghost use Rattle.mes_master.specs.Masters.{IsAnswer, is_there, all_there, subscribed, accepted, declined, acknowledged, key_in, reconciled, torn_down, plain, agrees, carried_out, is_named, in_stream, is_subscribe, handled};
@@ -150,10 +151,17 @@ fn is_there(offers: &Hand, id: &Id) -> bool
 fn all_there(offers: &Hand, ids: &[Id]) -> bool
     ensures { result ≡ all_there offers.now ids.now }
 {
-    let Some((first, behind)) = ids.split_first() else {
+    if ids.is_empty() {
         return false;
-    };
-    is_there(offers, first) && behind.iter().all(|id| is_there(offers, id))
+    }
+    are_there(offers, ids)
+}
+
+/// Whether all of them are there.
+fn are_there(offers: &Hand, ids: &[Id]) -> bool
+    ensures { result ≡ list_all (is_there offers.now) ids.now }
+{
+    ids.iter().all(|id| is_there(offers, id))
 }
 
 /// Whether the framework is absent or this one.

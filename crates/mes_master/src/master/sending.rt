@@ -8,7 +8,7 @@ use super::Master;
 use crate::ids::{comes_again, ids_of_offers, put_new, reserve};
 use crate::news;
 use crate::refusal::MasterRefusal;
-use crate::updates::{is_owing, note, put_owing, reserve_one, waiting_at};
+use crate::updates::{is_owing, note, note_owing, waiting_at};
 use mes_json::{NoMemory, Text};
 use mes_model::{Id, Offer, OwedKey, TaskStatus};
 use mes_msg::{Event, Rescind};
@@ -94,10 +94,7 @@ impl Master {
         ensures err { OnErr result (self.new ≡ self.old) }
     {
         let event = news::update(self.alloc, status)?;
-        let copy = status.copy(self.alloc)?;
-        reserve_one(&mut self.owing)?;
-        note(self.alloc, &mut self.latest, status)?;
-        put_owing(&mut self.owing, key, copy);
+        note_owing(self.alloc, &mut self.latest, &mut self.owing, key, status)?;
         Ok(event)
     }
 
