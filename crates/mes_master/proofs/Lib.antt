@@ -1,0 +1,4 @@
+pub mod AgainLemmas
+pub mod IdLemmas
+pub mod RunLemmas
+pub mod UpdateLemmas

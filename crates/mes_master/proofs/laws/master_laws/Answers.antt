@@ -1,0 +1,12 @@
+use Rattle.mes_master.proofs.AgainLemmas.{again}
+use Rattle.mes_master.proofs.RunLemmas.{launched-once, taken-once}
+use Rattle.mes_master.proofs.laws.master_laws.Goals as goal
+
+pub returns-clause-launched : goal.returns-clause-launched
+returns-clause-launched c = launched-once
+
+pub returns-clause-taken : goal.returns-clause-taken
+returns-clause-taken c = taken-once
+
+pub returns-clause-again : goal.returns-clause-again
+returns-clause-again c = again

@@ -1,0 +1,3 @@
+pub mod Masters
+pub mod Sending
+pub mod Runs

@@ -1,0 +1,201 @@
+-- A test master: what it holds, and what it answers to each call.
+use Rattle.std.specs.Prelude.{◌≡◌, ℕ, Bool, true, false, ◌||◌, ◌&&◌, not, if◌then◌else◌, List, [], ◌∷◌, ◌++◌, map, filter, filter_map, Option, Some, None, is_some, codes}
+use Rattle.std.specs.List.{list_any, list_all}
+use Rattle.std.specs.Map.{keys_of, values_of, lookup}
+use Rattle.std.specs.Str.{bytes_eq}
+use Rattle.uuid.specs.Text.{hyphenated_text, lower}
+use Rattle.mes_resource.specs.declared.id.Id.{Id}
+use Rattle.mes_offer.specs.declared.offer.Offer.{Offer}
+use Rattle.mes_task.specs.declared.owed_key.OwedKey.{OwedKey}
+use Rattle.mes_task.specs.declared.task_info.TaskInfo.{TaskInfo}
+use Rattle.mes_task.specs.declared.task_ref.TaskRef.{TaskRef}
+use Rattle.mes_task.specs.declared.task_status.TaskStatus.{TaskStatus}
+use Rattle.mes_event.specs.declared.bodies.Subscribed.{Subscribed}
+use Rattle.mes_event.specs.declared.bodies.Update.{Update}
+use Rattle.mes_call.specs.declared.call.Call.{Call}
+use Rattle.mes_call.specs.declared.call.Call.TheVariants as of
+use Rattle.mes_call.specs.declared.call_bodies.Acknowledge.{Acknowledge}
+use Rattle.mes_event.specs.declared.event.Event.{Event}
+use Rattle.mes_event.specs.declared.event.Event.TheVariants as event
+use Rattle.mes_fit.specs.Launched.{launched, launched_by}
+use Rattle.mes_hand.specs.Held.{offer_in, names, without_offers, same_key, is_owed, with_key}
+use Rattle.mes_hand.specs.Calls.{framework_of}
+use Rattle.mes_hand.specs.Refusals.{stands_in, ids_of}
+
+abbrev pub same_id : Id → Id → Bool
+same_id a b = bytes_eq a.value b.value
+
+-- what a master holds
+pub record MasterState : Type 0 where
+  pub framework : Id
+  -- the UUIDs that are left for streams
+  pub ids : List (List ℕ)
+  -- the id of the current stream
+  pub stream : Option (List ℕ)
+  -- whether a TEARDOWN was carried out
+  pub down : Bool
+  -- the identifier of every offer that was ever made
+  pub offered : List Id
+  pub outstanding : List Offer
+  -- of each task the last status that was given, in the order of their first ones
+  pub latest : List (Id × TaskStatus)
+  -- the updates that owe an acknowledgement, each under its key
+  pub owing : List (OwedKey × TaskStatus)
+  pub launched : List Id
+  pub acked : List OwedKey
+
+-- what is answered to a call: the status, the events, the offers that it took away, the tasks that it launched, and the master then
+pub record MasterAnswer : Type 0 where
+  pub status : ℕ
+  pub events : List Event
+  pub took : List Offer
+  pub ran : List TaskInfo
+  pub master : MasterState
+
+-- nothing but a status, and the master then
+abbrev pub plain : ℕ → MasterState → MasterAnswer
+plain status m = record { status = status; events = []; took = []; ran = []; master = m }
+
+-- ---- SUBSCRIBE
+
+-- 15 seconds, in microseconds
+abbrev pub interval : ℕ
+interval = 15000000
+
+abbrev pub subscribed_event : Id → Event
+subscribed_event framework = event.Subscribed (record { framework_id = framework; heartbeat_interval_seconds = Some interval })
+
+-- the next id becomes that of the stream, and no offer is outstanding
+abbrev pub subscribed : MasterState → List (List ℕ) → MasterAnswer
+subscribed m [] = plain 403 m
+subscribed m (uuid ∷ uuids) = record {
+  status = 200;
+  events = subscribed_event m.framework ∷ [];
+  took = [];
+  ran = [];
+  master = record m { ids = uuids; stream = Some (hyphenated_text lower uuid); outstanding = [] };
+}
+
+-- ---- ACCEPT and DECLINE
+
+abbrev pub is_there : List Offer → Id → Bool
+is_there offers d = is_some (offer_in offers d.value)
+
+-- whether one offer or more is named, and all of them are outstanding
+abbrev pub all_there : List Offer → List Id → Bool
+all_there offers [] = false
+all_there offers (d ∷ ds) = list_all (is_there offers) (d ∷ ds)
+
+-- the offers that are named
+abbrev pub named : List Id → List Offer → List Offer
+named ids offers = filter (names ids) offers
+
+-- the tasks of identifiers that are not known; of two of one identifier the first
+abbrev pub new_tasks : List Id → List TaskInfo → List TaskInfo
+new_tasks known [] = []
+new_tasks known (t ∷ ts) = if stands_in t.task_id known then new_tasks known ts else t ∷ new_tasks (known ++ t.task_id ∷ []) ts
+
+-- the tasks that an ACCEPT of these offers launches
+abbrev pub launchable : MasterState → List Id → List TaskInfo → List TaskInfo
+launchable m ids tasks = if all_there m.outstanding ids then new_tasks m.launched tasks else []
+
+abbrev pub accepted : MasterState → List Id → List TaskInfo → MasterAnswer
+accepted m ids tasks =
+    let ran = launchable m ids tasks in record {
+      status = 202;
+      events = [];
+      took = named ids m.outstanding;
+      ran = ran;
+      master = record m { outstanding = without_offers ids m.outstanding; launched = m.launched ++ ids_of ran };
+    }
+
+abbrev pub declined : MasterState → List Id → MasterAnswer
+declined m ids = record {
+  status = 202;
+  events = [];
+  took = named ids m.outstanding;
+  ran = [];
+  master = record m { outstanding = without_offers ids m.outstanding };
+}
+
+-- ---- ACKNOWLEDGE
+
+-- whether the key is that of an update
+abbrev pub is_owing : List (OwedKey × TaskStatus) → OwedKey → Bool
+is_owing owing key = is_some (lookup (same_key key) owing)
+
+abbrev pub acknowledged : MasterState → OwedKey → MasterState
+acknowledged m key = record m { acked = if is_owing m.owing key then with_key m.acked key else m.acked }
+
+abbrev pub key_in : Acknowledge → OwedKey
+key_in body = record { agent = body.agent_id; task = body.task_id; uuid = body.uuid }
+
+-- ---- RECONCILE
+
+abbrev pub update_event : TaskStatus → Event
+update_event status = event.Update (record { status = status })
+
+-- a status that is told again owes nothing
+abbrev pub reconciled_event : TaskStatus → Event
+reconciled_event status = update_event (record status { reason = Some (codes "REASON_RECONCILIATION"); uuid = None })
+
+-- the last status of a task
+abbrev pub last_of : List (Id × TaskStatus) → TaskRef → Option TaskStatus
+last_of latest task = lookup (same_id task.task_id) latest
+
+-- the statuses that are asked for: of the tasks that are named, in order, so far as one was given; where none is named, of all
+abbrev pub asked_for : List (Id × TaskStatus) → List TaskRef → List TaskStatus
+asked_for latest [] = values_of latest
+asked_for latest (task ∷ tasks) = filter_map (last_of latest) (task ∷ tasks)
+
+abbrev pub reconciled : MasterState → List TaskRef → MasterAnswer
+reconciled m tasks = record { status = 202; events = map reconciled_event (asked_for m.latest tasks); took = []; ran = []; master = m }
+
+-- ---- TEARDOWN
+
+abbrev pub torn_down : MasterState → MasterState
+torn_down m = record m { stream = None; down = true; outstanding = [] }
+
+-- ---- each call
+
+-- whether the framework is absent or this one
+abbrev pub agrees : Id → Option Id → Bool
+agrees framework None = true
+agrees framework (Some other) = same_id framework other
+
+-- what is answered to a call of the framework that names the current stream; calls without a line of their own change nothing
+abbrev pub carried_out : MasterState → Call → MasterAnswer
+carried_out m (of.Accept framework body) = accepted m body.offer_ids (launched launched_by body.operations)
+carried_out m (of.Decline framework body) = declined m body.offer_ids
+carried_out m (of.Acknowledge framework body) = plain 202 (acknowledged m (key_in body))
+carried_out m (of.Reconcile framework body) = reconciled m body.tasks
+carried_out m (of.Teardown framework) = plain 202 (torn_down m)
+carried_out m _ = plain 202 m
+
+-- whether this stream is the one that is named
+abbrev pub is_named : List ℕ → Option (List ℕ) → Bool
+is_named current None = false
+is_named current (Some given) = bytes_eq current given
+
+-- without a stream a call is answered 403, and where another stream is named, or none, 400
+abbrev pub in_stream : MasterState → Call → Option (List ℕ) → Option (List ℕ) → MasterAnswer
+in_stream m call None given = plain 403 m
+in_stream m call (Some current) given = if is_named current given then carried_out m call else plain 400 m
+
+abbrev pub is_subscribe : Call → Bool
+is_subscribe (of.Subscribe framework body) = true
+is_subscribe _ = false
+
+-- a SUBSCRIBE needs no stream, and which one it names doesn't count
+abbrev pub answered : MasterState → Call → Option (List ℕ) → MasterAnswer
+answered m call given = if is_subscribe call then subscribed m m.ids else in_stream m call m.stream given
+
+-- what is answered to a call that names this stream, or none
+abbrev pub handled : MasterState → Call → Option (List ℕ) → MasterAnswer
+handled m call given = if m.down || not (agrees m.framework (framework_of call)) then plain 403 m else answered m call given
+
+-- what the code answers, and leaves, is that
+pub record IsAnswer (answer : MasterAnswer) (status : ℕ) (events : List Event) (master : MasterState) : Type 0 where
+  pub status_is : status ≡ answer.status
+  pub events_are : events ≡ answer.events
+  pub master_is : master ≡ answer.master

@@ -1,0 +1,71 @@
+-- What a test master sends of its own: the event, and the master then, or why not.
+use Rattle.std.specs.Prelude.{ℕ, Bool, false, ◌||◌, not, if◌then◌else◌, List, [], ◌∷◌, ◌++◌, map, filter, slice_get, Option, Some, None, is_some, Result, Ok, Err}
+use Rattle.indexmap.specs.IndexMap.{insert_entry}
+use Rattle.mes_resource.specs.declared.id.Id.{Id}
+use Rattle.mes_offer.specs.declared.offer.Offer.{Offer}
+use Rattle.mes_task.specs.declared.owed_key.OwedKey.{OwedKey}
+use Rattle.mes_task.specs.declared.task_status.TaskStatus.{TaskStatus}
+use Rattle.mes_task.specs.Owed.{owed_key_of}
+use Rattle.mes_event.specs.declared.bodies.Rescind.{Rescind}
+use Rattle.mes_event.specs.declared.event.Event.{Event}
+use Rattle.mes_event.specs.declared.event.Event.TheVariants as event
+use Rattle.mes_hand.specs.Held.{with_offers, without_offer, is_owed}
+use Rattle.mes_hand.specs.Refusals.{stands_in}
+use Rattle.mes_master.specs.declared.refusal.MasterRefusal.{MasterRefusal}
+use Rattle.mes_master.specs.declared.refusal.MasterRefusal.TheVariants.{NoStream, OfferTwice, NoSuchOffer, UpdateTwice, NoSuchUpdate}
+use Rattle.mes_master.specs.Masters.{MasterState, same_id, is_there, is_owing, update_event}
+
+-- an event and the master that sent it, or a refusal
+abbrev pub Sends : Type 0
+Sends = Result (Event × MasterState) MasterRefusal
+
+-- each needs a stream
+abbrev pub on_stream : MasterState → Sends → Sends
+on_stream m sends = if is_some m.stream then sends else Err NoStream
+
+abbrev pub offer_ids : List Offer → List Id
+offer_ids offers = map (λ (o : Offer). o.id) offers
+
+-- whether one of the identifiers was offered before, or stands once more behind
+abbrev pub comes_again : List Id → List Id → Bool
+comes_again offered [] = false
+comes_again offered (d ∷ ds) = (stands_in d offered || stands_in d ds) || comes_again offered ds
+
+abbrev pub made : MasterState → List Offer → Event × MasterState
+made m offers = (event.Offers offers, record m { offered = m.offered ++ offer_ids offers; outstanding = with_offers m.outstanding offers })
+
+abbrev pub offers_sent : MasterState → List Offer → Sends
+offers_sent m offers = on_stream m (if comes_again m.offered (offer_ids offers) then Err OfferTwice else Ok (made m offers))
+
+abbrev pub rescind_sent : MasterState → List ℕ → Sends
+rescind_sent m name = on_stream m (
+    let id : Id = record { value = name } in
+    if is_there m.outstanding id
+    then Ok (event.Rescind (record { offer_id = id }), record m { outstanding = without_offer name m.outstanding })
+    else Err NoSuchOffer
+    )
+
+-- the last status of its task is this one
+abbrev pub told : MasterState → TaskStatus → MasterState
+told m status = record m { latest = insert_entry same_id m.latest status.task_id status }
+
+abbrev pub told_owing : MasterState → OwedKey → TaskStatus → MasterState
+told_owing m key status = record (told m status) { owing = m.owing ++ (key, status) ∷ [] }
+
+abbrev pub updated : MasterState → TaskStatus → Option OwedKey → Sends
+updated m status None = Ok (update_event status, told m status)
+updated m status (Some key) = if is_owing m.owing key then Err UpdateTwice else Ok (update_event status, told_owing m key status)
+
+abbrev pub update_sent : MasterState → TaskStatus → Sends
+update_sent m status = on_stream m (updated m status (owed_key_of status))
+
+-- the updates that were not acknowledged
+abbrev pub waiting : List (OwedKey × TaskStatus) → List OwedKey → List (OwedKey × TaskStatus)
+waiting owing acked = filter (λ e. not (is_owed e.0 acked)) owing
+
+abbrev pub resent : MasterState → Option (OwedKey × TaskStatus) → Sends
+resent m None = Err NoSuchUpdate
+resent m (Some e) = Ok (update_event e.1, m)
+
+abbrev pub resend_sent : MasterState → ℕ → Sends
+resend_sent m i = on_stream m (resent m (slice_get (waiting m.owing m.acked) i))

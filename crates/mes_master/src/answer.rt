@@ -1,0 +1,28 @@
+//! What a master answers to a call.
+ghost use Rattle.std.specs.Prelude.{◌≡◌, []};
+
+use http::StatusCode;
+use mes_msg::Event;
+use std::alloc::Global;
+
+/// What a master answers to a call.
+#[derive(Drop)]
+pub struct Answer {
+    /// 200 for a SUBSCRIBE, 202 for another call that was carried out, 400 or 403.
+    pub status: StatusCode,
+    /// The events to send on the stream.
+    pub events: Vec<Event>,
+}
+
+impl Answer {
+    /// A status alone. Takes no memory.
+    pub(crate) fn plain(alloc: Global, status: StatusCode) -> Answer
+        ensures status { result.status ≡ status }
+        ensures events { result.events.items ≡ [] }
+    {
+        Answer {
+            status,
+            events: Vec::new(alloc),
+        }
+    }
+}

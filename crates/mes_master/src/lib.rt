@@ -1,0 +1,16 @@
+#![tactic(auto)]
+//! A test master: the other end of the scheduler API, as far as a scheduler can be tried against it. It answers calls, keeps the offers
+//! that are outstanding, the tasks that were launched and the updates that were acknowledged, and says which events to send.
+
+mod answer;
+mod ids;
+mod laws;
+mod master;
+mod news;
+mod refusal;
+mod updates;
+
+pub use answer::Answer;
+pub use laws::master_laws;
+pub use master::Master;
+pub use refusal::MasterRefusal;

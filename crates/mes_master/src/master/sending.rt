@@ -1,0 +1,114 @@
+//! What a test master sends of its own.
+ghost use Rattle.std.specs.Prelude.{◌≡◌, ◌⊎◌, ◌++◌, [], ◌∷◌, false, Ok, Err, IfOk, IfErr, OnErr};
+ghost use Rattle.mes_master.specs.declared.refusal.MasterRefusal.TheVariants.{NoMemory as no_memory};
+ghost use Rattle.mes_master.specs.Masters.{is_owing, update_event};
+ghost use Rattle.mes_master.specs.Sending.{offer_ids, comes_again, made, offers_sent, rescind_sent, told, told_owing, update_sent, resend_sent};
+
+use super::Master;
+use crate::ids::{comes_again, ids_of_offers, put_new, reserve};
+use crate::news;
+use crate::refusal::MasterRefusal;
+use crate::updates::{is_owing, note, note_owing, waiting_at};
+use mes_json::{NoMemory, Text};
+use mes_model::{Id, Offer, OwedKey, TaskStatus};
+use mes_msg::{Event, Rescind};
+use mes_part::Part;
+
+impl Master {
+    /// The OFFERS that makes these offers, which are outstanding then. M1, M2 or M6 changes nothing, as any refusal here.
+    pub fn offer(&mut self, offers: &[Offer]) -> Result<Event, MasterRefusal>
+        ensures ok { IfOk result (λ event. offers_sent self.old offers.now ≡ Ok (event, self.new)) }
+        ensures err { IfErr result (λ why. (self.new ≡ self.old) × ((why ≡ no_memory) ⊎ (offers_sent self.old offers.now ≡ Err why))) }
+    {
+        if self.stream.is_none() {
+            return Err(MasterRefusal::NoStream);
+        }
+        if comes_again(&self.offered, offers) {
+            return Err(MasterRefusal::OfferTwice);
+        }
+        Ok(self.make(offers)?)
+    }
+
+    /// Makes offers none of which was made before, nor two of one identifier.
+    fn make(&mut self, offers: &[Offer]) -> Result<Event, NoMemory>
+        requires { comes_again self.old.offered (offer_ids offers.now) ≡ false }
+        ensures ok { IfOk result (λ event. made self.old offers.now ≡ (event, self.new)) }
+        ensures err { OnErr result (self.new ≡ self.old) }
+    {
+        let event = news::offers(self.alloc, offers)?;
+        let ids = ids_of_offers(self.alloc, offers)?;
+        reserve(&mut self.offered, ids.len())?;
+        self.outstanding.add(self.alloc, offers)?;
+        put_new(&mut self.offered, ids);
+        Ok(event)
+    }
+
+    /// The RESCIND that takes back the outstanding offer of that identifier, or M1, M3 or M6.
+    pub fn rescind(&mut self, id: &str) -> Result<Event, MasterRefusal>
+        ensures ok { IfOk result (λ event. rescind_sent self.old id.now ≡ Ok (event, self.new)) }
+        ensures err { IfErr result (λ why. (self.new ≡ self.old) × ((why ≡ no_memory) ⊎ (rescind_sent self.old id.now ≡ Err why))) }
+    {
+        if self.stream.is_none() {
+            return Err(MasterRefusal::NoStream);
+        }
+        if self.outstanding.get(id).is_none() {
+            return Err(MasterRefusal::NoSuchOffer);
+        }
+        let value = Text::of(self.alloc, id)?;
+        self.outstanding.remove(id);
+        let offer_id = Id { value };
+        Ok(Event::Rescind(Rescind { offer_id }))
+    }
+
+    /// The UPDATE of a status, which is then the last of its task, or M1, M4 or M6.
+    pub fn update(&mut self, status: &TaskStatus) -> Result<Event, MasterRefusal>
+        ensures ok { IfOk result (λ event. update_sent self.old status.now ≡ Ok (event, self.new)) }
+        ensures err { IfErr result (λ why. (self.new ≡ self.old) × ((why ≡ no_memory) ⊎ (update_sent self.old status.now ≡ Err why))) }
+    {
+        if self.stream.is_none() {
+            return Err(MasterRefusal::NoStream);
+        }
+        let Some(key) = status.owed_key(self.alloc)? else {
+            return Ok(self.tell(status)?);
+        };
+        if is_owing(&self.owing, &key) {
+            return Err(MasterRefusal::UpdateTwice);
+        }
+        Ok(self.tell_owing(key, status)?)
+    }
+
+    /// Tells a status that owes nothing.
+    fn tell(&mut self, status: &TaskStatus) -> Result<Event, NoMemory>
+        ensures ok { IfOk result (λ event. (event ≡ update_event status.now) × (self.new ≡ told self.old status.now)) }
+        ensures err { OnErr result (self.new ≡ self.old) }
+    {
+        let event = news::update(self.alloc, status)?;
+        note(self.alloc, &mut self.latest, status)?;
+        Ok(event)
+    }
+
+    /// Tells a status that owes an acknowledgement, of a key that was not used before.
+    fn tell_owing(&mut self, key: OwedKey, status: &TaskStatus) -> Result<Event, NoMemory>
+        requires { is_owing self.old.owing key ≡ false }
+        ensures ok { IfOk result (λ event. (event ≡ update_event status.now) × (self.new ≡ told_owing self.old key status.now)) }
+        ensures err { OnErr result (self.new ≡ self.old) }
+    {
+        let event = news::update(self.alloc, status)?;
+        note_owing(self.alloc, &mut self.latest, &mut self.owing, key, status)?;
+        Ok(event)
+    }
+
+    /// The UPDATE again that stands at that place among those that owe an acknowledgement and have none, or M1, M5 or M6.
+    pub fn resend(&self, index: usize) -> Result<Event, MasterRefusal>
+        ensures ok { IfOk result (λ event. resend_sent self.now index ≡ Ok (event, self.now)) }
+        ensures err { IfErr result (λ why. (why ≡ no_memory) ⊎ (resend_sent self.now index ≡ Err why)) }
+    {
+        if self.stream.is_none() {
+            return Err(MasterRefusal::NoStream);
+        }
+        match waiting_at(&self.owing, &self.acked, index) {
+            Some(status) => Ok(news::update(self.alloc, status)?),
+            None => Err(MasterRefusal::NoSuchUpdate),
+        }
+    }
+}
