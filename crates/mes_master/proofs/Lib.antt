@@ -1,4 +1,5 @@
 pub mod AgainLemmas
+pub mod FitLemmas
 pub mod IdLemmas
 pub mod RunLemmas
 pub mod UpdateLemmas

@@ -1,4 +1,5 @@
 use Rattle.mes_master.proofs.AgainLemmas.{again}
+use Rattle.mes_master.proofs.FitLemmas.{fits-ran}
 use Rattle.mes_master.proofs.RunLemmas.{launched-once, taken-once}
 use Rattle.mes_master.proofs.laws.master_laws.Goals as goal
 
@@ -10,3 +11,6 @@ returns-clause-taken c = taken-once
 
 pub returns-clause-again : goal.returns-clause-again
 returns-clause-again c = again
+
+pub returns-clause-fits : goal.returns-clause-fits
+returns-clause-fits c = fits-ran
