@@ -1,5 +1,5 @@
 use Rattle.std.proofs.Common.{◌≡◌, inl, refl, ◌∙◌}
-use Rattle.mes_run.specs.Printing.{Device}
+use Rattle.mes_frame.specs.Devices.{Device}
 use Rattle.mesosev.specs.Telling.{bad_value_line}
 use Rattle.mesosev.proofs.CommandLemmas.{prints_line}
 use Rattle.mesosev.proofs.run.tell.Goals as goal
