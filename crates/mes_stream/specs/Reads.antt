@@ -15,7 +15,7 @@ pub record Asked (reads : ℕ) (old new : Counts) (w : List ℕ) (made failed en
   pub calls : new.calls ≡ up old.calls made
   pub failures : new.failures ≡ up old.failures failed
   pub idle : new.idle ≡ up old.idle ended
-  -- each call failed, or told the end, or gave bytes
+  -- no call both failed and told the end
   pub ends : failed + ended ≤ made
 
 -- so often

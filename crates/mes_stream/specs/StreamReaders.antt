@@ -22,7 +22,7 @@ with_body (reader.Plain body) after = reader.Plain after
 with_body (reader.Chunked chunked) after = reader.Chunked (record { chunks = chunked.chunks; body = after })
 
 -- The reader of streams of that framing has taken w, which goes on with the values, under that limit. Behind the end or a
--- fault it stands for no bytes.
+-- fault nothing is said of it.
 abbrev pub StreamStands : {R E : Type 0} → (R → List ℕ → Type 0) → (List ℕ → E → Type 0) → StreamReader R → Framing → ℕ → List ℕ → List E → Type 0
 StreamStands holds spells (reader.Plain body) framing limit w values = (framing ≡ Plain) × BodyStands holds spells body w values × (limit_of body.records ≡ limit)
 StreamStands holds spells (reader.Chunked chunked) framing limit w values =

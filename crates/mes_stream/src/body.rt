@@ -44,7 +44,7 @@ impl<R: RecordReader> Body<R> {
         Body::behind(reader, limit, 0)
     }
 
-    /// A body behind so many records: whichever bytes these were, the numbers of the others count from there.
+    /// A body behind so many records of its values: the numbers of the others count from there.
     pub fn behind(reader: R, limit: Limit, done: u64) -> Body<R>
         requires { R.holds reader [] }
         ensures stands { (b : List ℕ) (values : List R.Value) → Records R.spells limit b values → done ≡ saturated (length values)
