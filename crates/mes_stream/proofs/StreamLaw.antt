@@ -62,7 +62,7 @@ data Mark : Type 0 where
   Clean : Mark
   Inside : (front : List ℕ) (c : ℕ) → Mark
 
-module _ {E : Type 0} (spells : List ℕ → E → Type 0) (breaks : List ℕ → RecordRefusal → Type 0) (exact : IsExact spells breaks) (limit : ℕ) where
+module _ {E : Type 0} (spells : List ℕ → E → Type 0) (breaks : List ℕ → RecordRefusal → Type 0) (exact : IsExact spells breaks) (ahead limit : ℕ) where
   outer_of : ChunkReading → List E → Mark → StreamReading E
   outer_of (Begins body) values mark = Goes values
   outer_of (Whole front body) values Clean = Ends front values
@@ -96,15 +96,15 @@ module _ {E : Type 0} (spells : List ℕ → E → Type 0) (breaks : List ℕ �
     spelt : w ≡ front ++ c ∷ rest
     before : IsOpen front body
     behind : IsOpen (front ++ c ∷ []) (body ++ c ∷ [])
-    shows : BodyShows spells breaks limit body values c fault
+    shows : BodyShows spells breaks ahead limit body values c fault
     is : reading ≡ Stops front c values fault
 
   one_mark : (k : ChunkReading) (values : List E) (m n : Mark) → IsMark k values m → IsMark k values n → m ≡ n
   unfolding IsMark
   one_mark (Begins body) values m n h g = h ∙ sym g
   one_mark (Whole front body) values Clean Clean h g = refl
-  one_mark (Whole front body) values Clean (Inside u c) h (is, g) = absurd (no_rest spells breaks exact limit body values values h g)
-  one_mark (Whole front body) values (Inside u c) Clean (is, g) h = absurd (no_rest spells breaks exact limit body values values h g)
+  one_mark (Whole front body) values Clean (Inside u c) h (is, g) = absurd (no_rest spells breaks exact ahead limit body values values h g)
+  one_mark (Whole front body) values (Inside u c) Clean (is, g) h = absurd (no_rest spells breaks exact ahead limit body values values h g)
   one_mark (Whole front body) values (Inside u c) (Inside v d) (is, h) (at, g) =
       let ends = same_last u v c d (sym is ∙ at) in ap₂ (λ (y : List ℕ) (b : ℕ). Inside y b) ends.0 ends.1
   one_mark (Broken front c body fault) values m n h g = h ∙ sym g
@@ -113,7 +113,7 @@ module _ {E : Type 0} (spells : List ℕ → E → Type 0) (breaks : List ℕ �
   outer_outer w reading other f g =
       let chunks : f.chunks ≡ g.chunks = one_reading w f.chunks g.chunks f.reads g.reads in
       let live : BodyLive spells limit (content_of g.chunks) f.values = subst (λ (k : ChunkReading). BodyLive spells limit (content_of k) f.values) chunks f.live in
-      let both : plain.Goes f.values ≡ plain.Goes g.values = one_plain spells breaks exact limit (content_of g.chunks) (plain.Goes f.values) (plain.Goes g.values) live g.live in
+      let both : plain.Goes f.values ≡ plain.Goes g.values = one_plain spells breaks exact ahead limit (content_of g.chunks) (plain.Goes f.values) (plain.Goes g.values) live g.live in
       let values : f.values ≡ g.values = cc in
       let mark : f.mark ≡ g.mark = one_mark g.chunks g.values f.mark g.mark
       (subst (λ (vs : List E). IsMark g.chunks vs f.mark) values (subst (λ (k : ChunkReading). IsMark k f.values f.mark) chunks f.is_mark)) g.is_mark in
@@ -130,7 +130,7 @@ module _ {E : Type 0} (spells : List ℕ → E → Type 0) (breaks : List ℕ �
   inner_outer w reading other f g =
       let on = content_on w reading f g.chunks g.reads in
       let clash : plain.Stops f.body f.c f.values f.fault ≡ plain.Goes g.values =
-      one_plain spells breaks exact limit (content_of g.chunks) (plain.Stops f.body f.c f.values f.fault) (plain.Goes g.values) (on.0, on.1, f.shows) g.live in
+      one_plain spells breaks exact ahead limit (content_of g.chunks) (plain.Stops f.body f.c f.values f.fault) (plain.Goes g.values) (on.0, on.1, f.shows) g.live in
       absurd (cc)
 
   inner_inner : (w : List ℕ) (reading other : StreamReading E) → Inner w reading → Inner w other → reading ≡ other
@@ -139,7 +139,7 @@ module _ {E : Type 0} (spells : List ℕ → E → Type 0) (breaks : List ℕ �
       let on = content_on w reading f k.0 k.1 in
       let at = content_on w other g k.0 k.1 in
       let both : plain.Stops f.body f.c f.values f.fault ≡ plain.Stops g.body g.c g.values g.fault =
-      one_plain spells breaks exact limit (content_of k.0) (plain.Stops f.body f.c f.values f.fault) (plain.Stops g.body g.c g.values g.fault) (on.0, on.1, f.shows) (at.0, at.1, g.shows) in
+      one_plain spells breaks exact ahead limit (content_of k.0) (plain.Stops f.body f.c f.values f.fault) (plain.Stops g.body g.c g.values g.fault) (on.0, on.1, f.shows) (at.0, at.1, g.shows) in
       let bodies : f.body ≡ g.body = cc in
       let bytes : f.c ≡ g.c = cc in
       let values : f.values ≡ g.values = cc in
@@ -156,7 +156,7 @@ module _ {E : Type 0} (spells : List ℕ → E → Type 0) (breaks : List ℕ �
   records_live : (b : List ℕ) (values : List E) → Records spells limit b values → BodyLive spells limit b values
   records_live b values records = record { whole = b; x = []; spelt = sym (append-nil b); records = records; is = ([], inl (record { digits = tt; few = omega arith }, refl)) }
 
-  found_data : (w front rest : List ℕ) (byte : ℕ) (values : List E) (fault : Fault) → w ≡ front ++ byte ∷ rest → AtData (λ body vs. BodyShows spells breaks limit body vs byte fault) front values byte
+  found_data : (w front rest : List ℕ) (byte : ℕ) (values : List E) (fault : Fault) → w ≡ front ++ byte ∷ rest → AtData (λ body vs. BodyShows spells breaks ahead limit body vs byte fault) front values byte
       → Found w (Stops front byte values fault)
   unfolding Found
   found_data w front rest byte values fault is (body, before, behind, shows) = inr (record {
@@ -173,7 +173,7 @@ module _ {E : Type 0} (spells : List ℕ → E → Type 0) (breaks : List ℕ �
     is = refl;
   })
 
-  found_stop : (w front rest : List ℕ) (byte : ℕ) (values : List E) (fault : Fault) → w ≡ front ++ byte ∷ rest → Shows spells breaks limit front values byte fault → Found w (Stops front byte values fault)
+  found_stop : (w front rest : List ℕ) (byte : ℕ) (values : List E) (fault : Fault) → w ≡ front ++ byte ∷ rest → Shows spells breaks ahead limit front values byte fault → Found w (Stops front byte values fault)
   unfolding Found outer_of IsMark
   found_stop w front rest byte values (Frame fault) is shows = elim shows [
     | inl h ↦ inl (record { chunks = Broken front byte h.0 fault; values = values; mark = Clean; reads = (rest, is, h.1); live = h.2; is_mark = refl; is = refl })
@@ -196,14 +196,14 @@ module _ {E : Type 0} (spells : List ℕ → E → Type 0) (breaks : List ℕ �
   found_stop w front rest byte values ReadsSpent is shows = absurd shows
   found_stop w front rest byte values (BadEntry at) is shows = found_data w front rest byte values (BadEntry at) is shows
 
-  found : (w : List ℕ) (reading : StreamReading E) → ReadsStream spells breaks limit w reading → Found w reading
+  found : (w : List ℕ) (reading : StreamReading E) → ReadsStream spells breaks ahead limit w reading → Found w reading
   unfolding Found outer_of IsMark
   found w (Goes values) (body, begun, live) = inl (record { chunks = Begins body; values = values; mark = Clean; reads = begun; live = live; is_mark = refl; is = refl })
   found w (Ends front values) (rest, is, (body, whole, records)) =
       inl (record { chunks = Whole front body; values = values; mark = Clean; reads = (rest, is, whole); live = records_live body values records; is_mark = records; is = refl })
   found w (Stops front byte values fault) (rest, is, shows) = found_stop w front rest byte values fault is shows
 
-  pub one_stream : (w : List ℕ) (reading other : StreamReading E) → ReadsStream spells breaks limit w reading → ReadsStream spells breaks limit w other → reading ≡ other
+  pub one_stream : (w : List ℕ) (reading other : StreamReading E) → ReadsStream spells breaks ahead limit w reading → ReadsStream spells breaks ahead limit w other → reading ≡ other
   unfolding Found
   one_stream w reading other reads too = elim (found w reading reads) [
     | inl f ↦ elim (found w other too) [

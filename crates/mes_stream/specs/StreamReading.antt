@@ -13,8 +13,8 @@ pub data StreamReading (E : Type 0) : Type 0 where
   Stops : (front : List ℕ) (byte : ℕ) (values : List E) (fault : Fault) → StreamReading E
 
 -- the bytes w read so
-abbrev pub ReadsStream : {E : Type 0} → (List ℕ → E → Type 0) → (List ℕ → RecordRefusal → Type 0) → ℕ → List ℕ → StreamReading E → Type 0
-ReadsStream spells breaks limit w (Goes values) = Live spells limit w values
-ReadsStream spells breaks limit w (Ends front values) = (rest : List ℕ) × (w ≡ front ++ rest) × IsStream spells limit front values
-ReadsStream spells breaks limit w (Stops front byte values fault) =
-    (rest : List ℕ) × (w ≡ front ++ byte ∷ rest) × Shows spells breaks limit front values byte fault
+abbrev pub ReadsStream : {E : Type 0} → (List ℕ → E → Type 0) → (List ℕ → RecordRefusal → Type 0) → ℕ → ℕ → List ℕ → StreamReading E → Type 0
+ReadsStream spells breaks ahead limit w (Goes values) = Live spells limit w values
+ReadsStream spells breaks ahead limit w (Ends front values) = (rest : List ℕ) × (w ≡ front ++ rest) × IsStream spells limit front values
+ReadsStream spells breaks ahead limit w (Stops front byte values fault) =
+    (rest : List ℕ) × (w ≡ front ++ byte ∷ rest) × Shows spells breaks ahead limit front values byte fault

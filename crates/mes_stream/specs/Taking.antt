@@ -18,7 +18,7 @@ use Rattle.mes_stream.specs.declared.body.Front.{Front}
 use Rattle.mes_stream.specs.declared.body.Front.TheVariants.{Size, Data, Empty, Bad}
 
 -- it has taken the bytes b, which are records that spell the values and perhaps the front of one more
-pub record BodyStands {R E : Type 0} (holds : R → List ℕ → Type 0) (spells : List ℕ → E → Type 0) (d : Body R) (b : List ℕ) (values : List E) : Type 0 where
+pub record BodyStands {R E : Type 0} (holds : R → List ℕ → Type 0) (spells : List ℕ → E → Type 0) (ahead : ℕ) (d : Body R) (b : List ℕ) (values : List E) : Type 0 where
   pub whole : List ℕ
   pub x : List ℕ
   pub r : List ℕ
@@ -26,7 +26,7 @@ pub record BodyStands {R E : Type 0} (holds : R → List ℕ → Type 0) (spells
   pub records : Records spells (limit_of d.records) whole values
   pub state : RecordStands d.records x r
   pub kept : holds d.reader r
-  pub count : d.done ≡ saturated (length values)
+  pub count : d.done ≡ saturated (ahead + length values)
   pub limit : limit_of d.records < 2 ^ 64
 
 -- the front of a run has at least one byte, and no more than the run
@@ -67,9 +67,9 @@ HasEnded {R} {E} holds spells breaks d IsSo =
 
 -- What became of the front of a piece, where the value of a record that ended with it is still to be read. What it stands for
 -- then is by its body.
-abbrev pub Tells : {R E : Type 0} → (R → List ℕ → Type 0) → (List ℕ → E → Type 0) → (List ℕ → RecordRefusal → Type 0) → Framing → (Body R → List ℕ → List E → Type 0) → Body R → ℕ → List ℕ → List E → List ℕ → ℕ → SoFar → Type 0
-Tells holds spells breaks framing Stands body limit w values piece used so_far.More = SaysIn framing (Stands body) spells breaks limit w values piece used out.More
-Tells holds spells breaks framing Stands body limit w values piece used so_far.RecordEnded =
-    HasEnded holds spells breaks body (λ after answer. SaysIn framing (Stands after) spells breaks limit w values piece used answer)
-Tells holds spells breaks framing Stands body limit w values piece used so_far.StreamEnded = SaysIn framing (Stands body) spells breaks limit w values piece used out.End
-Tells holds spells breaks framing Stands body limit w values piece used (so_far.Fault fault) = SaysIn framing (Stands body) spells breaks limit w values piece used (out.Fault fault)
+abbrev pub Tells : {R E : Type 0} → (R → List ℕ → Type 0) → (List ℕ → E → Type 0) → (List ℕ → RecordRefusal → Type 0) → ℕ → Framing → (Body R → List ℕ → List E → Type 0) → Body R → ℕ → List ℕ → List E → List ℕ → ℕ → SoFar → Type 0
+Tells holds spells breaks ahead framing Stands body limit w values piece used so_far.More = SaysIn framing (Stands body) spells breaks ahead limit w values piece used out.More
+Tells holds spells breaks ahead framing Stands body limit w values piece used so_far.RecordEnded =
+    HasEnded holds spells breaks body (λ after answer. SaysIn framing (Stands after) spells breaks ahead limit w values piece used answer)
+Tells holds spells breaks ahead framing Stands body limit w values piece used so_far.StreamEnded = SaysIn framing (Stands body) spells breaks ahead limit w values piece used out.End
+Tells holds spells breaks ahead framing Stands body limit w values piece used (so_far.Fault fault) = SaysIn framing (Stands body) spells breaks ahead limit w values piece used (out.Fault fault)

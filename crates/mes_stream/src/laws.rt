@@ -17,18 +17,18 @@ use mes_msg::{Event, one_message};
 /// Any bytes are live, with their values, or have a byte that shows a fault, behind the values before it.
 pub fn one_plain_reading<R: RecordReader>()
     // Where the data of any record have a value or a fault, at least one of these holds.
-    ensures some { IsDecided R.spells R.breaks → (limit : ℕ) (w : List ℕ) → (reading : PlainReading R.Value) × ReadsPlain R.spells R.breaks limit w reading }
+    ensures some { IsDecided R.spells R.breaks → (ahead limit : ℕ) (w : List ℕ) → (reading : PlainReading R.Value) × ReadsPlain R.spells R.breaks ahead limit w reading }
     // Where they have one value or one fault at most, at most one does, in one way.
-    ensures one { IsExact R.spells R.breaks → (limit : ℕ) (w : List ℕ) (reading other : PlainReading R.Value)
-        → ReadsPlain R.spells R.breaks limit w reading → ReadsPlain R.spells R.breaks limit w other → reading ≡ other }
+    ensures one { IsExact R.spells R.breaks → (ahead limit : ℕ) (w : List ℕ) (reading other : PlainReading R.Value)
+        → ReadsPlain R.spells R.breaks ahead limit w reading → ReadsPlain R.spells R.breaks ahead limit w other → reading ≡ other }
 {}
 
 /// The same of a chunked stream: any bytes are live, or begin with a whole stream, or have a byte that shows a fault, behind
 /// the values before it.
 pub fn one_stream_reading<R: RecordReader>()
-    ensures some { IsDecided R.spells R.breaks → (limit : ℕ) (w : List ℕ) → (reading : StreamReading R.Value) × ReadsStream R.spells R.breaks limit w reading }
-    ensures one { IsExact R.spells R.breaks → (limit : ℕ) (w : List ℕ) (reading other : StreamReading R.Value)
-        → ReadsStream R.spells R.breaks limit w reading → ReadsStream R.spells R.breaks limit w other → reading ≡ other }
+    ensures some { IsDecided R.spells R.breaks → (ahead limit : ℕ) (w : List ℕ) → (reading : StreamReading R.Value) × ReadsStream R.spells R.breaks ahead limit w reading }
+    ensures one { IsExact R.spells R.breaks → (ahead limit : ℕ) (w : List ℕ) (reading other : StreamReading R.Value)
+        → ReadsStream R.spells R.breaks ahead limit w reading → ReadsStream R.spells R.breaks ahead limit w other → reading ≡ other }
 {}
 
 /// Any other chunking of the same body is a stream of the same values.
@@ -44,12 +44,12 @@ pub fn stream_limits()
 
 /// Of events no premise is left: any bytes are read as a stream of events in exactly one way, plain or chunked.
 pub fn one_event_reading()
-    ensures some_plain { (limit : ℕ) (w : List ℕ) → (reading : PlainReading EventValue) × ReadsPlain Spells IsEventRefusal limit w reading }
+    ensures some_plain { (limit : ℕ) (w : List ℕ) → (reading : PlainReading EventValue) × ReadsPlain Spells IsEventRefusal 0 limit w reading }
     ensures one_plain { (limit : ℕ) (w : List ℕ) (reading other : PlainReading EventValue)
-        → ReadsPlain Spells IsEventRefusal limit w reading → ReadsPlain Spells IsEventRefusal limit w other → reading ≡ other }
-    ensures some_stream { (limit : ℕ) (w : List ℕ) → (reading : StreamReading EventValue) × ReadsStream Spells IsEventRefusal limit w reading }
+        → ReadsPlain Spells IsEventRefusal 0 limit w reading → ReadsPlain Spells IsEventRefusal 0 limit w other → reading ≡ other }
+    ensures some_stream { (limit : ℕ) (w : List ℕ) → (reading : StreamReading EventValue) × ReadsStream Spells IsEventRefusal 0 limit w reading }
     ensures one_stream { (limit : ℕ) (w : List ℕ) (reading other : StreamReading EventValue)
-        → ReadsStream Spells IsEventRefusal limit w reading → ReadsStream Spells IsEventRefusal limit w other → reading ≡ other }
+        → ReadsStream Spells IsEventRefusal 0 limit w reading → ReadsStream Spells IsEventRefusal 0 limit w other → reading ≡ other }
 {
     one_message::<Event>();
     one_plain_reading::<EventReader>();
