@@ -43,13 +43,7 @@ impl<R: RecordReader> Reading<R> {
 
     /// The same, where so many records of any kind, in so many bytes, stand ahead of the stream: the numbers of its own records and
     /// the bytes that were used count from there.
-    pub fn behind(
-        framing: Framing,
-        records: R,
-        limit: Limit,
-        done: u64,
-        used: u64,
-    ) -> Reading<R>
+    pub fn behind(framing: Framing, records: R, limit: Limit, done: u64, used: u64) -> Reading<R>
         requires { R.holds records [] }
         ensures { (ahead : Ahead) → done ≡ saturated ahead.records → used ≡ saturated ahead.bytes → ReadingStandsBehind R.holds R.spells ahead result framing limit [] [] }
     {
