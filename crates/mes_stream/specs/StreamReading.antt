@@ -18,3 +18,15 @@ ReadsStream spells breaks ahead limit w (Goes values) = Live spells limit w valu
 ReadsStream spells breaks ahead limit w (Ends front values) = (rest : List ℕ) × (w ≡ front ++ rest) × IsStream spells limit front values
 ReadsStream spells breaks ahead limit w (Stops front byte values fault) =
     (rest : List ℕ) × (w ≡ front ++ byte ∷ rest) × Shows spells breaks ahead limit front values byte fault
+
+-- the same values, and the same end
+abbrev pub IsAlike : {E : Type 0} → StreamReading E → StreamReading E → Type 0
+IsAlike (Goes values) (Goes others) = values ≡ others
+IsAlike (Goes values) (Ends front others) = ⊥
+IsAlike (Goes values) (Stops front byte others fault) = ⊥
+IsAlike (Ends front values) (Goes others) = ⊥
+IsAlike (Ends front values) (Ends other others) = values ≡ others
+IsAlike (Ends front values) (Stops other byte others fault) = ⊥
+IsAlike (Stops front byte values fault) (Goes others) = ⊥
+IsAlike (Stops front byte values fault) (Ends other others) = ⊥
+IsAlike (Stops front byte values fault) (Stops other last others also) = (values ≡ others) × (fault ≡ also)

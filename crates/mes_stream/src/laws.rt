@@ -5,9 +5,10 @@ ghost use Rattle.mes_event.specs.Events.{Spells};
 ghost use Rattle.mes_stream.specs.Refusals.{IsEventRefusal};
 ghost use Rattle.mes_event.specs.declared.event.Event.{Event as EventValue};
 ghost use Rattle.mes_frame.specs.Chunk.{IsChunked};
-ghost use Rattle.mes_stream.specs.Chunked.{IsStream};
+ghost use Rattle.mes_frame.specs.ChunkFront.{IsOpen};
+ghost use Rattle.mes_stream.specs.Chunked.{IsStream, Live};
 ghost use Rattle.mes_stream.specs.PlainReading.{IsDecided, IsExact, PlainReading, ReadsPlain};
-ghost use Rattle.mes_stream.specs.StreamReading.{StreamReading, ReadsStream};
+ghost use Rattle.mes_stream.specs.StreamReading.{StreamReading, ReadsStream, IsAlike};
 
 use crate::event_reader::EventReader;
 use crate::limits::{COUNT_LINE_MOST, FAULT_LINE_MOST, READ_MOST, REST_MOST};
@@ -31,9 +32,14 @@ pub fn one_stream_reading<R: RecordReader>()
         → ReadsStream R.spells R.breaks ahead limit w reading → ReadsStream R.spells R.breaks ahead limit w other → reading ≡ other }
 {}
 
-/// Any other chunking of the same body is a stream of the same values.
+/// Two chunkings of one body are read alike, whole ones and fronts: to the same values, and to the same fault where they stop.
 pub fn one_chunking<R: RecordReader>()
-    ensures { (limit : ℕ) (w v body : List ℕ) (values : List R.Value) → IsChunked w body → IsChunked v body → IsStream R.spells limit w values → IsStream R.spells limit v values }
+    ensures stream { (limit : ℕ) (w v body : List ℕ) (values : List R.Value) → IsChunked w body → IsChunked v body → IsStream R.spells limit w values → IsStream R.spells limit v values }
+    ensures live { (limit : ℕ) (w v body : List ℕ) (values : List R.Value) → IsOpen w body → IsOpen v body → Live R.spells limit w values → Live R.spells limit v values }
+    ensures whole { IsExact R.spells R.breaks → (ahead limit : ℕ) (w v body : List ℕ) (reading other : StreamReading R.Value) → IsChunked w body → IsChunked v body
+        → ReadsStream R.spells R.breaks ahead limit w reading → ReadsStream R.spells R.breaks ahead limit v other → IsAlike reading other }
+    ensures front { IsExact R.spells R.breaks → (ahead limit : ℕ) (w v body : List ℕ) (reading other : StreamReading R.Value) → IsOpen w body → IsOpen v body
+        → ReadsStream R.spells R.breaks ahead limit w reading → ReadsStream R.spells R.breaks ahead limit v other → IsAlike reading other }
 {}
 
 /// One read takes at most 512 bytes, and a report holds at most as many behind the end of a stream; and how long a line is.
@@ -50,8 +56,14 @@ pub fn one_event_reading()
     ensures some_stream { (limit : ℕ) (w : List ℕ) → (reading : StreamReading EventValue) × ReadsStream Spells IsEventRefusal 0 limit w reading }
     ensures one_stream { (limit : ℕ) (w : List ℕ) (reading other : StreamReading EventValue)
         → ReadsStream Spells IsEventRefusal 0 limit w reading → ReadsStream Spells IsEventRefusal 0 limit w other → reading ≡ other }
+    // However a body is chunked, it is read to the same events and the same fault of its records.
+    ensures one_body { (limit : ℕ) (w v body : List ℕ) (reading other : StreamReading EventValue) → IsChunked w body → IsChunked v body
+        → ReadsStream Spells IsEventRefusal 0 limit w reading → ReadsStream Spells IsEventRefusal 0 limit v other → IsAlike reading other }
+    ensures one_front { (limit : ℕ) (w v body : List ℕ) (reading other : StreamReading EventValue) → IsOpen w body → IsOpen v body
+        → ReadsStream Spells IsEventRefusal 0 limit w reading → ReadsStream Spells IsEventRefusal 0 limit v other → IsAlike reading other }
 {
     one_message::<Event>();
     one_plain_reading::<EventReader>();
     one_stream_reading::<EventReader>();
+    one_chunking::<EventReader>();
 }
