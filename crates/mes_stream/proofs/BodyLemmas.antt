@@ -9,7 +9,7 @@ use Rattle.mes_stream.specs.Stream.{saturated, Records, Behind, BodyLive, number
 use Rattle.mes_stream.specs.Framings.{GoesIn, EndsRecordIn, StopsIn, SaysIn, StopsWithin}
 use Rattle.mes_stream.specs.declared.stream_reader.Framing.{Framing}
 use Rattle.mes_stream.specs.declared.stream_reader.Framing.TheVariants.{Plain}
-use Rattle.mes_stream.specs.Taking.{BodyStands, Ends, answer_of, fault_of_record}
+use Rattle.mes_stream.specs.Taking.{BodyStands, Ends, record_answer, fault_of_record}
 use Rattle.mes_stream.specs.declared.refusal.RecordRefusal.{RecordRefusal}
 use Rattle.mes_stream.specs.declared.refusal.RecordRefusal.TheVariants as refusal
 use Rattle.mes_stream.specs.declared.fault.Fault.{Fault}
@@ -133,16 +133,16 @@ module _ {R E : Type 0} (holds : R → List ℕ → Type 0) (spells : List ℕ �
     refused_with d b run r values count refusal.NoMemory s some within is h memory = inr (refl, memory refl)
 
     -- the record has ended with a run of data
-    pub ends_as : (d mid new : Body R) (b run : List ℕ) (values : List E) (count left : ℕ) (answer : Result E Fault) (s : BodyStands holds spells ahead d b values) → 0 < count → count ≤ length run → count ≤ left
+    pub ends_as : (d mid new : Body R) (b run : List ℕ) (values : List E) (count left : ℕ) (answer : Result E RecordRefusal) (s : BodyStands holds spells ahead d b values) → 0 < count → count ≤ length run → count ≤ left
         → DataBegun s.x s.r left (limit_of d.records) → mid.done ≡ d.done → limit_of new.records ≡ limit_of d.records
         → IsRecord (s.x ++ take count run) (s.r ++ take count run) (limit_of d.records) → RecordStands new.records [] []
-        → Ends holds spells breaks mid new (s.r ++ take count run) answer → SaysIn Plain (BodyStands holds spells ahead new) spells breaks ahead (limit_of new.records) b values run count (answer_of answer)
+        → Ends holds spells breaks mid new (s.r ++ take count run) answer → SaysIn Plain (BodyStands holds spells ahead new) spells breaks ahead (limit_of new.records) b values run count (record_answer new.done answer)
     ends_as d mid new b run values count left (Ok value) s some within inside begun done limit is state (says, ready, more) = (
       stands_value d new b (take count run) (s.r ++ take count run) values value s (more ∙ ap (λ (n : ℕ). saturated (n + 1)) done) limit ready is state says,
       rw limit (ends_with d b run (s.r ++ take count run) values count s (λ r. spells r value) some within is says),
     )
-    ends_as d mid new b run values count left (Err fault) s some within inside begun done limit is state (why, h, eq) =
-        rw (eq, done, limit) (refused_with d b run (s.r ++ take count run) values count why s some within is h
+    ends_as d mid new b run values count left (Err why) s some within inside begun done limit is state (h, more) =
+        rw (more, done, limit) (refused_with d b run (s.r ++ take count run) values count why s some within is h
         (λ none. data_next d b run values (count - 1) left s (omega (arith, some, inside)) (omega (arith, within)) begun))
 
   -- the data of a record that is whole

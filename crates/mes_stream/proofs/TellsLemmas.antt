@@ -7,7 +7,7 @@ use Rattle.mes_frame.specs.declared.record.RecordState.{RecordState}
 use Rattle.mes_stream.specs.Decoding.{ChunkedStands}
 use Rattle.mes_stream.specs.Framings.{SaysIn}
 use Rattle.mes_stream.specs.StreamReaders.{StreamStands}
-use Rattle.mes_stream.specs.Taking.{BodyStands, Tells, answer_of}
+use Rattle.mes_stream.specs.Taking.{BodyStands, Tells, record_answer}
 use Rattle.mes_stream.specs.declared.body.Body.{Body}
 use Rattle.mes_stream.specs.declared.chunked.ChunkedBody.{ChunkedBody}
 use Rattle.mes_stream.specs.declared.refusal.RecordRefusal.{RecordRefusal}
@@ -27,7 +27,7 @@ module _ {R E : Type 0} (holds : R → List ℕ → Type 0) (spells : List ℕ �
       → ((after : Body R) (answer : Out E) → SaysIn framing (Stands after) spells breaks ahead limit w values run used answer → SaysIn framing (Stands after) spells breaks ahead limit v values rest most answer)
       → Tells holds spells breaks ahead framing Stands body limit w values run used s → Tells holds spells breaks ahead framing Stands body limit v values rest most s
   tells_as Stands body limit w v run rest values used most More each h = each body out.More h
-  tells_as Stands body limit w v run rest values used most RecordEnded each (r, kept, fits, so) = (r, kept, fits, λ after answer same ends. each after (answer_of answer) (so after answer same ends))
+  tells_as Stands body limit w v run rest values used most RecordEnded each (r, kept, fits, so) = (r, kept, fits, λ after answer same ends. each after (record_answer after.done answer) (so after answer same ends))
   tells_as Stands body limit w v run rest values used most StreamEnded each h = each body out.End h
   tells_as Stands body limit w v run rest values used most (Fault fault) each h = each body (out.Fault fault) h
 
@@ -37,7 +37,7 @@ module _ {R E : Type 0} (holds : R → List ℕ → Type 0) (spells : List ℕ �
       → Tells holds spells breaks ahead framing Stands body limit w values run used s → Tells holds spells breaks ahead framing Others body limit w values run used s
   tells_of Stands Others body limit w run values used More each h = each body refl _ _ h
   tells_of Stands Others body limit w run values used RecordEnded each (r, kept, fits, so) =
-      (r, kept, fits, λ after answer same ends. says_as_well framing (Stands after) (Others after) spells breaks ahead limit w run values used (answer_of answer) (each after same) (so after answer same ends))
+      (r, kept, fits, λ after answer same ends. says_as_well framing (Stands after) (Others after) spells breaks ahead limit w run values used (record_answer after.done answer) (each after same) (so after answer same ends))
   tells_of Stands Others body limit w run values used StreamEnded each h = h
   tells_of Stands Others body limit w run values used (Fault fault) each h = h
 
@@ -55,9 +55,9 @@ module _ {R E : Type 0} (holds : R → List ℕ → Type 0) (spells : List ℕ �
     fits,
     λ after answer same ends.
         let limit = ap (λ (t : RecordState). limit_of t) same in
-        subst (λ (n : ℕ). SaysIn Chunked (ChunkedStands holds spells ahead (record { chunks = chunks; body = after })) spells breaks ahead n w values run used (answer_of answer)) limit
-        (run_says holds spells ahead breaks d (record { chunks = chunks; body = after }) w run values used count (answer_of answer) s len room some within stands
-        (subst (λ (n : ℕ). SaysIn Plain (BodyStands holds spells ahead after) spells breaks ahead n s.content values run used (answer_of answer)) (sym limit) (so after answer same ends))),
+        subst (λ (n : ℕ). SaysIn Chunked (ChunkedStands holds spells ahead (record { chunks = chunks; body = after })) spells breaks ahead n w values run used (record_answer after.done answer)) limit
+        (run_says holds spells ahead breaks d (record { chunks = chunks; body = after }) w run values used count (record_answer after.done answer) s len room some within stands
+        (subst (λ (n : ℕ). SaysIn Plain (BodyStands holds spells ahead after) spells breaks ahead n s.content values run used (record_answer after.done answer)) (sym limit) (so after answer same ends))),
   )
   run_tells d chunks body w run values used count StreamEnded s len room some within stands taken = absurd taken
   run_tells d chunks body w run values used count (Fault fault) s len room some within stands taken =

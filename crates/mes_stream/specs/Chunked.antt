@@ -25,7 +25,8 @@ abbrev pub EndsWith : {E : Type 0} → (List ℕ → E → Type 0) → ℕ → L
 EndsWith spells limit w values c value = AtData (λ body vs. EndsRecord spells limit body vs c (λ r. spells r value)) w values c
 
 -- The byte c behind w, which is live with the values, shows the fault: no chunked body has it there (F1 to F5); it is a byte
--- of the body and shows it there (F7 to F9, F11, F12, F16); or it ends the body inside a record (F10).
+-- of the body and shows it there (F7 to F9, F11, F12, and F16 where `breaks` knows bad entries); or it ends the body inside a
+-- record (F10).
 abbrev pub Shows : {E : Type 0} → (List ℕ → E → Type 0) → (List ℕ → RecordRefusal → Type 0) → ℕ → ℕ → List ℕ → List E → ℕ → Fault → Type 0
 Shows spells breaks ahead limit w values c (Frame fault) =
     ((body : List ℕ) × ChunkShows w body c fault × BodyLive spells limit body values)

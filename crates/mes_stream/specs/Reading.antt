@@ -45,7 +45,7 @@ pub record EndsAt {E : Type 0} (framing : Framing) (spells : List ℕ → E → 
   pub ends : EndsIn framing spells limit stream values
   pub last : length rest < READ_MOST
 
--- what a byte of the last read did: it ended the stream, or it stops the reading
+-- what a byte among the last 512 of w did: it ended the stream, or it stops the reading
 abbrev pub ByteEndsBehind : {E : Type 0} → Framing → (List ℕ → E → Type 0) → (List ℕ → RecordRefusal → Type 0) → Ahead → ℕ → List ℕ → List E → Result Report Stop → Type 0
 ByteEndsBehind framing spells breaks ahead limit w values (Ok report) = EndsAt framing spells ahead limit w values report.used report.rest.items
 ByteEndsBehind framing spells breaks ahead limit w values (Err stop) = StopsAt framing spells breaks ahead limit w values stop.used stop.fault
@@ -74,7 +74,7 @@ EndsReadingAs Byte End Off reads old new last w values outcome =
     ⊎ (Off Read w values outcome × AskedSome reads old new w 1 0)
     ⊎ (Off ReadsSpent w values outcome × Asked reads old new w reads 0 0)
 
--- what a byte of the last read did, where nothing stands ahead
+-- the same where nothing stands ahead
 abbrev pub ByteEnds : {E : Type 0} → Framing → (List ℕ → E → Type 0) → (List ℕ → RecordRefusal → Type 0) → ℕ → List ℕ → List E → Result Report Stop → Type 0
 ByteEnds framing spells breaks limit w values outcome = ByteEndsBehind framing spells breaks nothing_ahead limit w values outcome
 

@@ -49,21 +49,21 @@ Fronts new x r run (Bad fault) = SizeShows x (slice_index run 0) (limit_of new) 
 abbrev pub fault_of_record : ℕ → RecordRefusal → Fault
 fault_of_record done why = fault_at_record (saturated (done + 1)) why
 
--- the value of the record whose data r has ended, or why there is none
-abbrev pub Ends : {R E : Type 0} → (R → List ℕ → Type 0) → (List ℕ → E → Type 0) → (List ℕ → RecordRefusal → Type 0) → Body R → Body R → List ℕ → Result E Fault → Type 0
+-- the value of the record whose data r has ended, or why there is none; one more record has ended
+abbrev pub Ends : {R E : Type 0} → (R → List ℕ → Type 0) → (List ℕ → E → Type 0) → (List ℕ → RecordRefusal → Type 0) → Body R → Body R → List ℕ → Result E RecordRefusal → Type 0
 Ends holds spells breaks old new r (Ok value) = spells r value × holds new.reader [] × (new.done ≡ saturated (old.done + 1))
-Ends holds spells breaks old new r (Err fault) = (why : RecordRefusal) × breaks r why × (fault ≡ fault_of_record old.done why)
+Ends holds spells breaks old new r (Err why) = breaks r why × (new.done ≡ saturated (old.done + 1))
 
--- what the end of a record is for who reads it
-abbrev pub answer_of : {E : Type 0} → Result E Fault → Out E
-answer_of (Ok value) = out.Event value
-answer_of (Err fault) = out.Fault fault
+-- what the end of the record of that number is for who reads it
+abbrev pub record_answer : {E : Type 0} → ℕ → Result E RecordRefusal → Out E
+record_answer number (Ok value) = out.Event value
+record_answer number (Err why) = out.Fault (fault_at_record number why)
 
 -- a record has ended, and whatever its value is read to, that is so
 abbrev pub HasEnded : {R E : Type 0} → (R → List ℕ → Type 0) → (List ℕ → E → Type 0) → (List ℕ → RecordRefusal → Type 0) → Body R → (Body R → Out E → Type 0) → Type 0
 HasEnded {R} {E} holds spells breaks d IsSo =
     (r : List ℕ) × holds d.reader r × (length r < 2 ^ 64)
-    × ((after : Body R) (answer : Result E Fault) → after.records ≡ d.records → Ends holds spells breaks d after r answer → IsSo after (answer_of answer))
+    × ((after : Body R) (answer : Result E RecordRefusal) → after.records ≡ d.records → Ends holds spells breaks d after r answer → IsSo after (record_answer after.done answer))
 
 -- What became of the front of a piece, where the value of a record that ended with it is still to be read. What it stands for
 -- then is by its body.

@@ -6,7 +6,8 @@ ghost use Rattle.mes_frame.specs.RecordState.{RecordStands, limit_of};
 ghost use Rattle.mes_stream.specs.Stream.{Records, EndsInside, saturated};
 ghost use Rattle.mes_stream.specs.Decoders.{HoldsInBody};
 ghost use Rattle.mes_stream.specs.Framings.{GoesBefore};
-ghost use Rattle.mes_stream.specs.Taking.{BodyStands, Fronts, IsWithin, Tells, Ends, fault_of_record};
+ghost use Rattle.mes_stream.specs.Refusals.{fault_at_record};
+ghost use Rattle.mes_stream.specs.Taking.{BodyStands, Fronts, IsWithin, Tells, Ends};
 ghost use Rattle.mes_stream.specs.declared.stream_reader.Framing.TheVariants as framing;
 
 use crate::record_reader::RecordReader;
@@ -85,6 +86,7 @@ impl<R: RecordReader> Body<R> {
                 so_far: SoFar::Fault(SmallFault::frame(fault)),
             },
             Front::Empty => {
+                self.done = self.done.saturating_add(1);
                 let why = self.reader.refuse_empty();
                 Taken {
                     used: 1,
@@ -105,19 +107,15 @@ impl<R: RecordReader> Body<R> {
         }
     }
 
-    /// The value of the record that has ended, or why it has none.
-    pub(crate) fn end_record(&mut self) -> Result<R::Value, SmallFault>
+    /// The value of the record that has ended, or why it has none: what the reader of records gives, which is handed on as it is,
+    /// since a value may be large.
+    pub(crate) fn end_record(&mut self) -> Result<R::Value, RecordRefusal>
         ensures ends { (r : List ℕ) → R.holds self.old.reader r → length r < 2 ^ 64
             → Ends R.holds R.spells R.breaks self.old self.new r result }
         ensures records { self.new.records ≡ self.old.records }
     {
-        match self.reader.finish() {
-            Ok(value) => {
-                self.done = self.done.saturating_add(1);
-                Ok(value)
-            }
-            Err(why) => Err(self.refused(why)),
-        }
+        self.done = self.done.saturating_add(1);
+        self.reader.finish()
     }
 
     /// How many bytes of the record that has begun are kept.
@@ -136,11 +134,11 @@ impl<R: RecordReader> Body<R> {
         self.reader.let_go();
     }
 
-    // The fault of the record that has ended.
-    fn refused(&self, why: RecordRefusal) -> SmallFault
-        ensures { result ≡ fault_of_record self.now.done why }
+    /// The fault of the record that has ended without a value.
+    pub(crate) fn refused(&self, why: RecordRefusal) -> SmallFault
+        ensures { result ≡ fault_at_record self.now.done why }
     {
-        SmallFault::of_record(self.done.saturating_add(1), why)
+        SmallFault::of_record(self.done, why)
     }
 }
 

@@ -3,6 +3,7 @@
 ghost use Rattle.std.specs.Prelude.{◌≡◌, ◌≢◌, ℕ, ◌^◌, ◌<◌, ◌≤◌, List, [], length};
 ghost use Rattle.mes_stream.specs.Decoders.{HoldsIn};
 ghost use Rattle.mes_stream.specs.Framings.{InputEnds, SaysIn, GoesBefore};
+ghost use Rattle.mes_stream.specs.Refusals.{fault_at_record};
 ghost use Rattle.mes_stream.specs.Stream.{saturated};
 ghost use Rattle.mes_stream.specs.StreamReaders.{StreamStands, StreamFeeds, UsesWithin, LetsGo, KeepsNoneAt, body_of, with_body};
 ghost use Rattle.mes_stream.specs.Taking.{Ends, Tells};
@@ -12,6 +13,7 @@ use crate::body::Body;
 use crate::chunked::ChunkedBody;
 use crate::fault::Fault;
 use crate::record_reader::RecordReader;
+use crate::refusal::RecordRefusal;
 use crate::small_fault::SmallFault;
 use crate::taken::{FaultAt, Out, SoFar, Step, Taken};
 use mes_frame::Limit;
@@ -91,7 +93,7 @@ impl<R: RecordReader> StreamReader<R> {
             SoFar::More => Out::More,
             SoFar::RecordEnded => match self.end_record() {
                 Ok(value) => Out::Event(value),
-                Err(fault) => Out::Fault(fault.into_fault()),
+                Err(why) => Out::Fault(self.refused(why).into_fault()),
             },
             SoFar::StreamEnded => Out::End,
             SoFar::Fault(fault) => Out::Fault(fault.into_fault()),
@@ -135,18 +137,22 @@ impl<R: RecordReader> StreamReader<R> {
             at += taken.used;
             match taken.so_far {
                 SoFar::More => {}
-                SoFar::RecordEnded => {
-                    let value = match self.end_record() {
-                        Ok(value) => value,
-                        Err(fault) => return Err(FaultAt { fault, used: at }),
-                    };
-                    if let Err(_) = values.push(value) {
+                SoFar::RecordEnded => match self.end_record() {
+                    Ok(value) => {
+                        if let Err(_) = values.push(value) {
+                            return Err(FaultAt {
+                                fault: SmallFault::no_memory(),
+                                used: at,
+                            });
+                        }
+                    }
+                    Err(why) => {
                         return Err(FaultAt {
-                            fault: SmallFault::no_memory(),
+                            fault: self.refused(why),
                             used: at,
                         });
                     }
-                }
+                },
                 SoFar::StreamEnded => return Ok(Some(at)),
                 SoFar::Fault(fault) => return Err(FaultAt { fault, used: at }),
             }
@@ -225,7 +231,7 @@ impl<R: RecordReader> StreamReader<R> {
     }
 
     // The value of the record that has ended, or why it has none.
-    fn end_record(&mut self) -> Result<R::Value, SmallFault>
+    fn end_record(&mut self) -> Result<R::Value, RecordRefusal>
         ensures ends { (r : List ℕ) → R.holds (body_of self.old).reader r → length r < 2 ^ 64
             → Ends R.holds R.spells R.breaks (body_of self.old) (body_of self.new) r result }
         ensures same { self.new ≡ with_body self.old (body_of self.new) }
@@ -234,6 +240,16 @@ impl<R: RecordReader> StreamReader<R> {
         match self {
             StreamReader::Plain(body) => body.end_record(),
             StreamReader::Chunked(chunked) => chunked.body.end_record(),
+        }
+    }
+
+    // The fault of the record that has ended without a value.
+    fn refused(&self, why: RecordRefusal) -> SmallFault
+        ensures { result ≡ fault_at_record (body_of self.now).done why }
+    {
+        match self {
+            StreamReader::Plain(body) => body.refused(why),
+            StreamReader::Chunked(chunked) => chunked.body.refused(why),
         }
     }
 

@@ -2,7 +2,7 @@ use Rattle.std.proofs.Common.{◌+◌, ◌-◌, ◌++◌, take, ap, arith, refl,
 use Rattle.mes_frame.specs.RecordState.{limit_of}
 use Rattle.mes_frame.specs.declared.record.RecordState.{RecordState}
 use Rattle.mes_stream.specs.Framings.{SaysIn}
-use Rattle.mes_stream.specs.Taking.{BodyStands, answer_of}
+use Rattle.mes_stream.specs.Taking.{BodyStands, record_answer}
 use Rattle.mes_stream.specs.declared.body.Body.{Body}
 use Rattle.mes_stream.specs.declared.stream_reader.Framing.TheVariants.{Plain}
 use Rattle.mes_stream.proofs.BodyLemmas.{data_live, data_next, size_live, stands_on, ends_as, whole_fits}
@@ -55,7 +55,7 @@ returns-after-last-clause-tells g c = λ ahead b values s.
             kept,
             whole_fits g.R.RecordReader.holds g.R.RecordReader.spells ahead c.args.self.now b _ _ values s is,
             λ after answer same ends.
-                subst (λ (t : RecordState). SaysIn Plain (BodyStands g.R.RecordReader.holds g.R.RecordReader.spells ahead after) g.R.RecordReader.spells g.R.RecordReader.breaks ahead (limit_of t) b values c.args.run.now c.in-Data.count (answer_of answer)) same
+                subst (λ (t : RecordState). SaysIn Plain (BodyStands g.R.RecordReader.holds g.R.RecordReader.spells ahead after) g.R.RecordReader.spells g.R.RecordReader.breaks ahead (limit_of t) b values c.args.run.now c.in-Data.count (record_answer after.done answer)) same
                 (ends_as g.R.RecordReader.holds g.R.RecordReader.spells ahead g.R.RecordReader.breaks c.args.self.now mid after b c.args.run.now values c.in-Data.count h.0.0 answer
                 s within.0 within.1 h.0.2 (rw limit at h.0.1) refl (ap (λ (t : RecordState). limit_of t) same ∙ limit) is (rw same ended.1) ends),
           )

@@ -40,8 +40,8 @@ returns-in-Err-clause-feeds g c = λ ahead framing limit w values s.
       before.0,
       before.1,
       omega (arith, some),
-      stops_in framing g.R.RecordReader.spells g.R.RecordReader.breaks ahead limit w c.args.piece.now (values ++ before.0) c.in-Err.fault c.loop-at.at c.skim-taken.result.used c.loop-at.invariant.0 some
-          (omega (arith, c.skim-taken.ensures.used, ap length rest)) (rw rest at lives) (inl refused),
+      rw c.refused.ensures (stops_in framing g.R.RecordReader.spells g.R.RecordReader.breaks ahead limit w c.args.piece.now (values ++ before.0) _ c.loop-at.at c.skim-taken.result.used c.loop-at.invariant.0 some
+          (omega (arith, c.skim-taken.ensures.used, ap length rest)) (rw rest at lives) (inl refused)),
     )
 
 pub returns-in-Err-push-clause-feeds : goal.returns-in-Err-push-clause-feeds

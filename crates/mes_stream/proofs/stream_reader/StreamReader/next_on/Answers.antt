@@ -14,7 +14,7 @@ returns-clause-says g c = λ ahead framing limit w values s.
       | in-RecordEnded+in-Err b ↦
           let ended = rw b.in-RecordEnded.is at told in
           let said = ended.3 _ b.end_record.result b.end_record.ensures.records (b.end_record.ensures.ends ended.0 ended.1 ended.2) in
-          rw (b.self-is, b.out-is, b.into_fault.ensures) (rw b.in-Err.is at said)
+          rw (b.self-is, b.out-is, b.into_fault.ensures, b.refused.ensures) (rw b.in-Err.is at said)
       | in-StreamEnded b ↦ rw (b.self-is, b.out-is) (rw b.in-StreamEnded.is at told)
       | in-Fault b ↦ rw (b.self-is, b.out-is, b.into_fault-in-Fault.ensures) (rw b.in-Fault.is at told)
     ]
