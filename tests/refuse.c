@@ -1,7 +1,7 @@
 /*
- * Refuses one growth of the heap: the one whose number, from 1, the environment variable REFUSE_AT gives (0 for none). To be
- * preloaded (LD_PRELOAD) into a program that is linked to the C library. At the program's end it writes how many growths were
- * asked for into the file that REFUSE_COUNT names.
+ * Refuses one growth of the heap: the one whose number, from 1, the environment variable REFUSE_AT gives (0 for none), and where
+ * REFUSE_ALL is set each growth behind it. To be preloaded (LD_PRELOAD) into a program that is linked to the C library. At the
+ * program's end it writes how many growths were asked for into the file that REFUSE_COUNT names.
  */
 #define _GNU_SOURCE
 #include <dlfcn.h>
@@ -19,12 +19,14 @@ extern void *__libc_memalign(size_t, size_t);
 
 static unsigned long asked;
 static unsigned long refused_at;
+static int refuses_all;
 static int is_ready;
 
 static int is_refused(void) {
   if (!is_ready) return 0;
   asked += 1;
-  if (asked != refused_at) return 0;
+  if (refused_at == 0 || asked < refused_at) return 0;
+  if (asked > refused_at && !refuses_all) return 0;
   errno = ENOMEM;
   return 1;
 }
@@ -49,6 +51,7 @@ int posix_memalign(void **made, size_t align, size_t size) {
 __attribute__((constructor)) static void begin(void) {
   const char *at = getenv("REFUSE_AT");
   refused_at = at == NULL ? 0 : strtoul(at, NULL, 10);
+  refuses_all = getenv("REFUSE_ALL") != NULL;
   is_ready = 1;
 }
 

@@ -5,17 +5,17 @@ use Rattle.std.specs.Str.Parse.{digits_value}
 use Rattle.std.proofs.lemmas.List.{append-nil}
 use Rattle.std.proofs.lemmas.Int.Digits.{digits_value_push}
 use Rattle.std.proofs.lemmas.Str.{digit_value_digit}
-use Rattle.mes_fixed.specs.declared.automaton.Part.{Part}
-use Rattle.mes_fixed.specs.declared.automaton.Part.TheVariants.{AtStart, AfterMinus, AfterZero, InWhole}
+use Rattle.mes_fixed.specs.declared.automaton.NumberState.{NumberState}
+use Rattle.mes_fixed.specs.declared.automaton.NumberState.TheVariants.{AtStart, AfterMinus, AfterZero, InWhole}
 use Rattle.mes_fixed.specs.Number.{Numeral}
 use Rattle.mes_fixed.specs.Automaton.{Letter, nought, digit, point, exponent, dash, letter_of, number_next}
 use Rattle.mes_fixed.specs.Gathering.{gathered, IsBeforePoint}
 
-abbrev NextBeforePoint : Option Part → Numeral → Type 0
+abbrev NextBeforePoint : Option NumberState → Numeral → Type 0
 NextBeforePoint None n = Unit {0}
 NextBeforePoint (Some next) n = IsBeforePoint next n
 
-next_before_point : (part : Part) (l : Letter) (n : Numeral) → IsBeforePoint part n → NextBeforePoint (number_next part l) n
+next_before_point : (part : NumberState) (l : Letter) (n : Numeral) → IsBeforePoint part n → NextBeforePoint (number_next part l) n
 next_before_point AtStart nought n h = h
 next_before_point AtStart digit n h = h
 next_before_point AtStart dash n h = h
@@ -33,10 +33,10 @@ next_before_point _ nought n h = tt
 next_before_point _ digit n h = tt
 next_before_point _ _ n h = tt
 
-pub step_before_point : (part next : Part) (c : ℕ) (n : Numeral) → number_next part (letter_of c) ≡ Some next → IsBeforePoint part n → IsBeforePoint next n
-step_before_point part next c n e h = subst (λ (o : Option Part). NextBeforePoint o n) e (next_before_point part (letter_of c) n h)
+pub step_before_point : (part next : NumberState) (c : ℕ) (n : Numeral) → number_next part (letter_of c) ≡ Some next → IsBeforePoint part n → IsBeforePoint next n
+step_before_point part next c n e h = subst (λ (o : Option NumberState). NextBeforePoint o n) e (next_before_point part (letter_of c) n h)
 
-pub gathered_before_point : (part : Part) (c : ℕ) (n : Numeral) → IsBeforePoint part n → IsBeforePoint part (gathered part c n)
+pub gathered_before_point : (part : NumberState) (c : ℕ) (n : Numeral) → IsBeforePoint part n → IsBeforePoint part (gathered part c n)
 gathered_before_point AtStart c n h = h
 gathered_before_point AfterMinus c n h = h
 gathered_before_point AfterZero c n h = h

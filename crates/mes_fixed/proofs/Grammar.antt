@@ -7,8 +7,8 @@ use Rattle.std.proofs.lemmas.Option.{option_and_then_some}
 use Rattle.std.proofs.Common.{◌+◌, add-one, suc, get_or, drop, IsTrue}
 use Rattle.std.proofs.Math.Seq.{drop-cons}
 use Rattle.std.proofs.Math.ListN.{drop_of_length-le}
-use Rattle.mes_fixed.specs.declared.automaton.Part.{Part}
-use Rattle.mes_fixed.specs.declared.automaton.Part.TheVariants.{AtStart, AfterMinus, AfterZero, InWhole, AfterPoint, InFraction, AfterExponent, AfterSign, InExponent}
+use Rattle.mes_fixed.specs.declared.automaton.NumberState.{NumberState}
+use Rattle.mes_fixed.specs.declared.automaton.NumberState.TheVariants.{AtStart, AfterMinus, AfterZero, InWhole, AfterPoint, InFraction, AfterExponent, AfterSign, InExponent}
 use Rattle.mes_fixed.specs.Number.{Numeral, Spells, IsMinus, IsInt, IsFrac, IsSign, IsExp, IsNumber}
 use Rattle.mes_fixed.specs.Automaton.{Letter, nought, digit, point, exponent, plus, dash, letter_of, number_next, is_final, Ends}
 use Rattle.mes_fixed.proofs.Letters.{LetterIs, letter_is, digit_is_value}
@@ -40,7 +40,7 @@ abbrev HasSign : List ℕ → Type 0
 HasSign text = (lowers : Bool) × IsSign lowers text
 
 -- what may follow a part
-abbrev Behind : Part → List ℕ → Type 0
+abbrev Behind : NumberState → List ℕ → Type 0
 Behind AtStart text = IsNumber text
 Behind AfterMinus text = Then IsInt IsTail text
 Behind AfterZero text = IsTail text
@@ -52,7 +52,7 @@ Behind AfterSign text = IsNumeral 10 text
 Behind InExponent text = AllDigits 10 text
 
 -- what may follow the part that a letter leads to
-abbrev BehindNext : Option Part → List ℕ → Type 0
+abbrev BehindNext : Option NumberState → List ℕ → Type 0
 BehindNext None text = ⊥
 BehindNext (Some next) text = Behind next text
 
@@ -65,7 +65,7 @@ no_tail = record { front = []; back = []; is = refl; first = ([], refl); second 
 no_digits : {Q : List ℕ → Type 0} → Q [] → Then (AllDigits 10) Q []
 no_digits q = record { front = []; back = []; is = refl; first = tt; second = q }
 
-behind_final : (part : Part) → is_final part ≡ true → Behind part []
+behind_final : (part : NumberState) → is_final part ≡ true → Behind part []
 behind_final AfterZero h = no_tail
 behind_final InWhole h = no_digits no_tail
 behind_final InFraction h = no_digits no_end
@@ -124,7 +124,7 @@ no_sign : (c : ℕ) (text : List ℕ) → digit_value c < 10 → AllDigits 10 te
 no_sign c text d h = record { front = []; back = c ∷ text; is = refl; first = (false, inl refl); second = (omega arith, (d, h)) }
 
 -- what may follow the next part, with the letter before it, may follow this one
-behind_letter : (part : Part) (l : Letter) (c : ℕ) (text : List ℕ) → LetterIs l c → BehindNext (number_next part l) text → Behind part (c ∷ text)
+behind_letter : (part : NumberState) (l : Letter) (c : ℕ) (text : List ℕ) → LetterIs l c → BehindNext (number_next part l) text → Behind part (c ∷ text)
 behind_letter AtStart nought c text e h = signed_number false [] (c ∷ text) refl (zero_first c text e h)
 behind_letter AtStart digit c text e h = signed_number false [] (c ∷ text) refl (other_first c text e h)
 behind_letter AtStart dash c text e h = dash_first c text e h
@@ -159,7 +159,7 @@ behind_letter InExponent nought c text e h = (digit_of_nought c e, h)
 behind_letter InExponent digit c text e h = (digit_is_value c (omega arith) (omega arith), h)
 behind_letter InExponent _ c text e h = absurd h
 
-ends_behind : (part : Part) (text : List ℕ) → Ends part text → Behind part text
+ends_behind : (part : NumberState) (text : List ℕ) → Ends part text → Behind part text
 ends_behind part [] h = behind_final part h
 ends_behind part (c ∷ text) h =
     let next : BehindNext (number_next part (letter_of c)) text = rw h.1 (ends_behind h.0 text h.2) in
@@ -170,17 +170,17 @@ pub number_from_ends : (text : List ℕ) → Ends AtStart text → IsNumber text
 number_from_ends text h = ends_behind AtStart text h
 
 -- a text that is gathered is one over which the automaton goes
-pub ends_run : (part : Part) (n m : Numeral) (text : List ℕ) → run part n text ≡ Some m → Ends part text
+pub ends_run : (part : NumberState) (n m : Numeral) (text : List ℕ) → run part n text ≡ Some m → Ends part text
 ends_run part n m [] h = final_some (is_final part) h
   where
     final_some : (b : Bool) → (if b then Some n else None) ≡ Some m → b ≡ true
     final_some true e = refl
     final_some false e = absurd (cc)
 ends_run part n m (c ∷ text) h =
-    option_and_then_some (λ (p : Part). run p (gathered p c n) text) (number_next part (letter_of c)) m h
+    option_and_then_some (λ (p : NumberState). run p (gathered p c n) text) (number_next part (letter_of c)) m h
     (λ next e r. (next, e, ends_run next (gathered next c n) m text r))
 
-pub run_from_ends : (part : Part) (n : Numeral) (text : List ℕ) → Ends part text → (m : Numeral) × (run part n text ≡ Some m)
+pub run_from_ends : (part : NumberState) (n : Numeral) (text : List ℕ) → Ends part text → (m : Numeral) × (run part n text ≡ Some m)
 run_from_ends part n [] h = (n, rw h refl)
 run_from_ends part n (c ∷ text) h =
     let rest = run_from_ends h.0 (gathered h.0 c n) text h.2 in
@@ -194,7 +194,7 @@ pub number_ends : (text : List ℕ) → IsNumber text ↔ Ends AtStart text
 number_ends text = (ends_from_number text, number_from_ends text)
 
 -- a part behind which no number may end has a zero behind it that makes an end
-pub ended_by_zero : (part : Part) → is_final part ≡ false → Ends part (48 ∷ [])
+pub ended_by_zero : (part : NumberState) → is_final part ≡ false → Ends part (48 ∷ [])
 ended_by_zero AtStart h = (AfterZero, refl, refl)
 ended_by_zero AfterMinus h = (AfterZero, refl, refl)
 ended_by_zero AfterPoint h = (InFraction, refl, refl)
@@ -215,7 +215,7 @@ spelt_from_run text n h =
     subst (λ (m : Numeral). Spells text m) same number.1
 
 -- what a loop over the text learns at a byte that leads nowhere, and at the end
-pub no_number : (text : List ℕ) (i : ℕ) (part : Part) → (Ends AtStart text ↔ Ends part (drop i text)) → i < length text → number_next part (letter_of (get_or text i 0)) ≡ None → IsTrue false ↔ IsNumber text
+pub no_number : (text : List ℕ) (i : ℕ) (part : NumberState) → (Ends AtStart text ↔ Ends part (drop i text)) → i < length text → number_next part (letter_of (get_or text i 0)) ≡ None → IsTrue false ↔ IsNumber text
 no_number text i part h lt none = (λ e. absurd (cc), λ number. absurd (refused (h.0 (ends_from_number text number))))
   where
     refused : Ends part (drop i text) → ⊥
@@ -223,28 +223,28 @@ no_number text i part h lt none = (λ e. absurd (cc), λ number. absurd (refused
         let rest : Ends part (get_or text i 0 ∷ drop (suc i) text) = subst (Ends part) (drop-cons text i 0 lt) r in
         let e = rest.1 in cc
 
-pub end_number : (text : List ℕ) (i : ℕ) (part : Part) (b : Bool) → (Ends AtStart text ↔ Ends part (drop i text)) → length text ≤ i → b ≡ is_final part → IsTrue b ↔ IsNumber text
+pub end_number : (text : List ℕ) (i : ℕ) (part : NumberState) (b : Bool) → (Ends AtStart text ↔ Ends part (drop i text)) → length text ≤ i → b ≡ is_final part → IsTrue b ↔ IsNumber text
 end_number text i part b h le e =
     let none : drop i text ≡ [] = drop_of_length-le text le in
     let at_end : Ends AtStart text ↔ (is_final part ≡ true) = subst (λ (rest : List ℕ). Ends AtStart text ↔ Ends part rest) none h in
     (λ t. number_from_ends text (at_end.1 (sym e ∙ t)), λ number. e ∙ at_end.0 (ends_from_number text number))
 
 -- and one that gathers the text's parts
-pub stuck_run : (text : List ℕ) (i : ℕ) (part : Part) (n : Numeral) → run AtStart blank text ≡ run part n (drop i text) → i < length text → number_next part (letter_of (get_or text i 0)) ≡ None → ¬ (IsNumber text)
+pub stuck_run : (text : List ℕ) (i : ℕ) (part : NumberState) (n : Numeral) → run AtStart blank text ≡ run part n (drop i text) → i < length text → number_next part (letter_of (get_or text i 0)) ≡ None → ¬ (IsNumber text)
 stuck_run text i part n h lt none = λ number.
-    let step : run part n (get_or text i 0 ∷ drop (suc i) text) ≡ None = ap (option_and_then (λ (p : Part). run p (gathered p (get_or text i 0) n) (drop (suc i) text))) none in
+    let step : run part n (get_or text i 0 ∷ drop (suc i) text) ≡ None = ap (option_and_then (λ (p : NumberState). run p (gathered p (get_or text i 0) n) (drop (suc i) text))) none in
     let e : Some number.0 ≡ None = sym (spelt_run text number.0 number.1) ∙ h ∙ ap (run part n) (drop-cons text i 0 lt) ∙ step in
     cc
 
-pub more_run : (text : List ℕ) (i : ℕ) (part next : Part) (n : Numeral) → run AtStart blank text ≡ run part n (drop i text) → i < length text → number_next part (letter_of (get_or text i 0)) ≡ Some next → run AtStart blank text ≡ run next (gathered next (get_or text i 0) n) (drop (i + 1) text)
+pub more_run : (text : List ℕ) (i : ℕ) (part next : NumberState) (n : Numeral) → run AtStart blank text ≡ run part n (drop i text) → i < length text → number_next part (letter_of (get_or text i 0)) ≡ Some next → run AtStart blank text ≡ run next (gathered next (get_or text i 0) n) (drop (i + 1) text)
 more_run text i part next n h lt e =
     h ∙ ap (run part n) (drop-cons text i 0 lt) ∙ run_step part next n (get_or text i 0) (drop (suc i) text) e
     ∙ ap (λ (k : ℕ). run next (gathered next (get_or text i 0) n) (drop k text)) (sym (add-one i))
 
-pub end_run : (text : List ℕ) (i : ℕ) (part : Part) (n : Numeral) → run AtStart blank text ≡ run part n (drop i text) → length text ≤ i → is_final part ≡ true → Spells text n
+pub end_run : (text : List ℕ) (i : ℕ) (part : NumberState) (n : Numeral) → run AtStart blank text ≡ run part n (drop i text) → length text ≤ i → is_final part ≡ true → Spells text n
 end_run text i part n h le e = spelt_from_run text n (h ∙ ap (run part n) (drop_of_length-le text le) ∙ final_run part n e)
 
-pub no_end_run : (text : List ℕ) (i : ℕ) (part : Part) (n : Numeral) → run AtStart blank text ≡ run part n (drop i text) → length text ≤ i → is_final part ≡ false → ¬ (IsNumber text)
+pub no_end_run : (text : List ℕ) (i : ℕ) (part : NumberState) (n : Numeral) → run AtStart blank text ≡ run part n (drop i text) → length text ≤ i → is_final part ≡ false → ¬ (IsNumber text)
 no_end_run text i part n h le e = λ number.
     let none : run part n [] ≡ None = rw e refl in
     let s : Some number.0 ≡ None = sym (spelt_run text number.0 number.1) ∙ h ∙ ap (run part n) (drop_of_length-le text le) ∙ none in

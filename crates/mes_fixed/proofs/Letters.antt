@@ -5,7 +5,7 @@ use Rattle.std.specs.Char.{digit_value}
 use Rattle.std.proofs.lemmas.Bool.{cond_both, eqb-true}
 use Rattle.std.proofs.lemmas.Bool.Decides.{nat_tests, eqb_tells}
 use Rattle.std.proofs.lemmas.Str.Parse.{digit_from_value}
-use Rattle.mes_fixed.specs.declared.automaton.Part.{Part}
+use Rattle.mes_fixed.specs.declared.automaton.NumberState.{NumberState}
 use Rattle.mes_fixed.specs.Automaton.{Letter, nought, digit, point, exponent, plus, dash, neither, letter_of, number_next}
 
 abbrev pub LetterIs : Letter → ℕ → Type 0
@@ -38,7 +38,7 @@ pub letter_of_digit : (c : ℕ) → 49 ≤ c → c ≤ 57 → letter_of c ≡ di
 letter_of_digit c low high = grind (arith, nat_tests)
 
 -- the part that both kinds of digits lead to
-pub digit_step : (part next : Part) (c : ℕ) → digit_value c < 10 → number_next part nought ≡ Some next → number_next part digit ≡ Some next → number_next part (letter_of c) ≡ Some next
+pub digit_step : (part next : NumberState) (c : ℕ) → digit_value c < 10 → number_next part nought ≡ Some next → number_next part digit ≡ Some next → number_next part (letter_of c) ≡ Some next
 digit_step part next c h z d =
     let r : (48 ≤ c) × (c ≤ 57) = digit_from_value c h in
     elim (eqb_tells c 48) [

@@ -3,15 +3,15 @@ use Rattle.std.proofs.Common.{◌≡◌, ℕ, Bool, true, false, List, [], ◌�
 use Rattle.std.specs.Option.{option_and_then}
 use Rattle.std.specs.Str.Parse.{AllDigits, IsNumeral}
 use Rattle.std.proofs.lemmas.List.{append-nil}
-use Rattle.mes_fixed.specs.declared.automaton.Part.{Part}
-use Rattle.mes_fixed.specs.declared.automaton.Part.TheVariants.{AtStart, AfterMinus, AfterZero, InWhole, AfterPoint, InFraction, AfterExponent, AfterSign, InExponent}
+use Rattle.mes_fixed.specs.declared.automaton.NumberState.{NumberState}
+use Rattle.mes_fixed.specs.declared.automaton.NumberState.TheVariants.{AtStart, AfterMinus, AfterZero, InWhole, AfterPoint, InFraction, AfterExponent, AfterSign, InExponent}
 use Rattle.mes_fixed.specs.Number.{Numeral, Spells, IsMinus, IsInt, IsFrac, IsSign, IsExp}
 use Rattle.mes_fixed.specs.Automaton.{nought, digit, point, exponent, letter_of, number_next, is_final}
 use Rattle.mes_fixed.specs.Gathering.{made, blank, gathered, run}
 use Rattle.mes_fixed.proofs.Letters.{digit_step, letter_of_digit}
 
-pub run_step : (part next : Part) (n : Numeral) (c : ℕ) (rest : List ℕ) → number_next part (letter_of c) ≡ Some next → run part n (c ∷ rest) ≡ run next (gathered next c n) rest
-run_step part next n c rest e = ap (option_and_then (λ (p : Part). run p (gathered p c n) rest)) e
+pub run_step : (part next : NumberState) (n : Numeral) (c : ℕ) (rest : List ℕ) → number_next part (letter_of c) ≡ Some next → run part n (c ∷ rest) ≡ run next (gathered next c n) rest
+run_step part next n c rest e = ap (option_and_then (λ (p : NumberState). run p (gathered p c n) rest)) e
 
 over_whole : (ds rest : List ℕ) (n : Numeral) → AllDigits 10 ds → run InWhole n (ds ++ rest) ≡ run InWhole (record n { whole = n.whole ++ ds }) rest
 over_whole [] rest n h = ap (λ (w : List ℕ). run InWhole (record n { whole = w }) rest) (sym (append-nil n.whole))
@@ -35,7 +35,7 @@ over_power (d ∷ ds) n h =
     ∙ ap (λ (w : List ℕ). Some (record n { power = w })) (append_assoc n.power (d ∷ []) ds)
 
 -- the digits of an exponent, behind its e or its sign
-power_run : (part : Part) (ds : List ℕ) (n : Numeral) → number_next part nought ≡ Some InExponent → number_next part digit ≡ Some InExponent → n.power ≡ [] → IsNumeral 10 ds → run part n ds ≡ Some (record n { power = ds })
+power_run : (part : NumberState) (ds : List ℕ) (n : Numeral) → number_next part nought ≡ Some InExponent → number_next part digit ≡ Some InExponent → n.power ≡ [] → IsNumeral 10 ds → run part n ds ≡ Some (record n { power = ds })
 power_run part [] n z d e h = absurd (omega arith)
 power_run part (c ∷ ds) n z d e h =
     run_step part InExponent n c ds (digit_step part InExponent c h.1.0 z d)
@@ -52,11 +52,11 @@ sign_run false sign ds n l e (inl s) h =
 sign_run false sign ds n l e (inr s) h =
     ap (λ (w : List ℕ). run AfterExponent n (w ++ ds)) s ∙ power_run AfterSign ds (record n { lowers = false }) refl refl e h
 
-pub final_run : (part : Part) (n : Numeral) → is_final part ≡ true → run part n [] ≡ Some n
+pub final_run : (part : NumberState) (n : Numeral) → is_final part ≡ true → run part n [] ≡ Some n
 final_run part n e = rw e refl
 
 -- [ exp ]
-exp_run : (part : Part) (lowers : Bool) (power text : List ℕ) (n : Numeral) → is_final part ≡ true → number_next part exponent ≡ Some AfterExponent → n.lowers ≡ false → n.power ≡ [] → IsExp lowers power text → run part n text ≡ Some (record n { lowers = lowers; power = power })
+exp_run : (part : NumberState) (lowers : Bool) (power text : List ℕ) (n : Numeral) → is_final part ≡ true → number_next part exponent ≡ Some AfterExponent → n.lowers ≡ false → n.power ≡ [] → IsExp lowers power text → run part n text ≡ Some (record n { lowers = lowers; power = power })
 exp_run part lowers [] text n fin go l e h =
     ap (run part n) h.1 ∙ final_run part n fin ∙ ap (λ (b : Bool). Some (record n { lowers = b })) (l ∙ sym h.0)
     ∙ ap (λ (w : List ℕ). Some (record n { lowers = lowers; power = w })) e
@@ -66,7 +66,7 @@ exp_run part lowers (d ∷ ds) text n fin go l e h =
     ∙ sign_run lowers h.sign (d ∷ ds) n l e h.is_sign h.is_numeral
 
 -- [ frac ] [ exp ]
-frac_run : (part : Part) (fraction frac : List ℕ) (lowers : Bool) (power exp : List ℕ) (n : Numeral) → is_final part ≡ true → number_next part exponent ≡ Some AfterExponent → number_next part point ≡ Some AfterPoint → n.fraction ≡ [] → n.lowers ≡ false → n.power ≡ [] → IsFrac fraction frac → IsExp lowers power exp → run part n (frac ++ exp) ≡ Some (record n { fraction = fraction; lowers = lowers; power = power })
+frac_run : (part : NumberState) (fraction frac : List ℕ) (lowers : Bool) (power exp : List ℕ) (n : Numeral) → is_final part ≡ true → number_next part exponent ≡ Some AfterExponent → number_next part point ≡ Some AfterPoint → n.fraction ≡ [] → n.lowers ≡ false → n.power ≡ [] → IsFrac fraction frac → IsExp lowers power exp → run part n (frac ++ exp) ≡ Some (record n { fraction = fraction; lowers = lowers; power = power })
 frac_run part [] frac lowers power exp n fin go dot f l e h x =
     ap (λ (w : List ℕ). run part n (w ++ exp)) h ∙ exp_run part lowers power exp n fin go l e x
     ∙ ap (λ (w : List ℕ). Some (record n { fraction = w; lowers = lowers; power = power })) f
@@ -79,7 +79,7 @@ frac_run part (d ∷ ds) frac lowers power exp n fin go dot f l e h x =
     ∙ ap (λ (w : List ℕ). Some (record n { fraction = (w ++ d ∷ []) ++ ds; lowers = lowers; power = power })) f
 
 -- int [ frac ] [ exp ]
-int_run : (part : Part) (negative : Bool) (n : Numeral) (frac exp : List ℕ) → number_next part nought ≡ Some AfterZero → number_next part digit ≡ Some InWhole → IsInt n.whole → IsFrac n.fraction frac → IsExp n.lowers n.power exp → run part (made negative [] [] false []) (n.whole ++ (frac ++ exp)) ≡ Some (record n { negative = negative })
+int_run : (part : NumberState) (negative : Bool) (n : Numeral) (frac exp : List ℕ) → number_next part nought ≡ Some AfterZero → number_next part digit ≡ Some InWhole → IsInt n.whole → IsFrac n.fraction frac → IsExp n.lowers n.power exp → run part (made negative [] [] false []) (n.whole ++ (frac ++ exp)) ≡ Some (record n { negative = negative })
 int_run part negative n frac exp z g i f x = int_by n.whole i
   where
     int_by : (whole : List ℕ) → IsInt whole → run part (made negative [] [] false []) (whole ++ (frac ++ exp)) ≡ Some (record n { negative = negative; whole = whole })

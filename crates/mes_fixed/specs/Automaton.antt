@@ -1,8 +1,8 @@
 -- The automaton that reads a number (RFC 8259 section 6) byte by byte: a table over letters, the
 -- classes of bytes that the productions tell apart.
 use Rattle.std.specs.Prelude.{◌≡◌, ℕ, Bool, true, false, List, [], ◌∷◌, Option, Some, None, if◌then◌else◌, ◌==◌, nat_le, ◌&&◌, ◌||◌}
-use Rattle.mes_fixed.specs.declared.automaton.Part.{Part}
-use Rattle.mes_fixed.specs.declared.automaton.Part.TheVariants.{AtStart, AfterMinus, AfterZero, InWhole, AfterPoint, InFraction, AfterExponent, AfterSign, InExponent}
+use Rattle.mes_fixed.specs.declared.automaton.NumberState.{NumberState}
+use Rattle.mes_fixed.specs.declared.automaton.NumberState.TheVariants.{AtStart, AfterMinus, AfterZero, InWhole, AfterPoint, InFraction, AfterExponent, AfterSign, InExponent}
 
 -- a class of bytes: zero, digit1-9, decimal-point, e, plus, minus, and any other byte
 pub data Letter : Type 0 where
@@ -19,7 +19,7 @@ letter_of c =
     else neither)))))
 
 -- the part that is reached from a part by a letter, where a number can go on so
-abbrev pub number_next : Part → Letter → Option Part
+abbrev pub number_next : NumberState → Letter → Option NumberState
 number_next AtStart nought = Some AfterZero
 number_next AtStart digit = Some InWhole
 number_next AtStart dash = Some AfterMinus
@@ -55,7 +55,7 @@ number_next InExponent digit = Some InExponent
 number_next InExponent _ = None
 
 -- a number may end behind this part
-abbrev pub is_final : Part → Bool
+abbrev pub is_final : NumberState → Bool
 is_final AfterZero = true
 is_final InWhole = true
 is_final InFraction = true
@@ -63,6 +63,6 @@ is_final InExponent = true
 is_final _ = false
 
 -- the automaton goes from this part over the bytes, and may end there
-abbrev pub Ends : Part → List ℕ → Type 0
+abbrev pub Ends : NumberState → List ℕ → Type 0
 Ends part [] = is_final part ≡ true
-Ends part (c ∷ rest) = (next : Part) × (number_next part (letter_of c) ≡ Some next) × Ends next rest
+Ends part (c ∷ rest) = (next : NumberState) × (number_next part (letter_of c) ≡ Some next) × Ends next rest

@@ -1,8 +1,8 @@
 -- The parts of a number as they are gathered byte by byte along the automaton.
 use Rattle.std.specs.Prelude.{◌≡◌, ℕ, ◌≤◌, Bool, true, false, List, [], ◌∷◌, ◌++◌, ◌==◌, if◌then◌else◌, Option, Some, None}
 use Rattle.std.specs.Option.{option_and_then}
-use Rattle.mes_fixed.specs.declared.automaton.Part.{Part}
-use Rattle.mes_fixed.specs.declared.automaton.Part.TheVariants.{AtStart, AfterMinus, AfterZero, InWhole, InFraction, AfterSign, InExponent}
+use Rattle.mes_fixed.specs.declared.automaton.NumberState.{NumberState}
+use Rattle.mes_fixed.specs.declared.automaton.NumberState.TheVariants.{AtStart, AfterMinus, AfterZero, InWhole, InFraction, AfterSign, InExponent}
 use Rattle.mes_fixed.specs.Number.{Numeral}
 use Rattle.mes_fixed.specs.Automaton.{letter_of, number_next, is_final}
 
@@ -21,7 +21,7 @@ abbrev pub blank : Numeral
 blank = made false [] [] false []
 
 -- the parts with one more byte, which led to this part
-abbrev pub gathered : Part → ℕ → Numeral → Numeral
+abbrev pub gathered : NumberState → ℕ → Numeral → Numeral
 gathered AfterMinus c n = record n { negative = true }
 gathered AfterZero c n = record n { whole = n.whole ++ c ∷ [] }
 gathered InWhole c n = record n { whole = n.whole ++ c ∷ [] }
@@ -31,17 +31,17 @@ gathered InExponent c n = record n { power = n.power ++ c ∷ [] }
 gathered _ c n = n
 
 -- the parts behind the bytes, where a number ends there
-abbrev pub run : Part → Numeral → List ℕ → Option Numeral
+abbrev pub run : NumberState → Numeral → List ℕ → Option Numeral
 run part n [] = if is_final part then Some n else None
 run part n (c ∷ rest) = option_and_then (λ next. run next (gathered next c n) rest) (number_next part (letter_of c))
 
 -- a digit of the exponent is a digit
-abbrev pub IsExponentDigit : Part → ℕ → Type 0
+abbrev pub IsExponentDigit : NumberState → ℕ → Type 0
 IsExponentDigit InExponent c = (48 ≤ c) × (c ≤ 57)
 IsExponentDigit _ c = Unit {0}
 
 -- digits of int come before any of frac
-abbrev pub IsBeforePoint : Part → Numeral → Type 0
+abbrev pub IsBeforePoint : NumberState → Numeral → Type 0
 IsBeforePoint AtStart n = n.fraction ≡ []
 IsBeforePoint AfterMinus n = n.fraction ≡ []
 IsBeforePoint AfterZero n = n.fraction ≡ []

@@ -6,7 +6,7 @@ ghost use Rattle.mes_fixed.specs.Number.{IsNumber};
 
 /// What of a number has been read.
 #[derive(Clone, Copy, Debug, PartialEq, Eq)]
-pub enum Part {
+pub enum NumberState {
     /// Nothing yet.
     AtStart,
     /// The minus sign.
@@ -27,37 +27,43 @@ pub enum Part {
     InExponent,
 }
 
-/// The part that `byte` leads to, or `None` where no number goes on with it.
+/// The state that `byte` leads to, or `None` where no number goes on with it.
 #[inline(always)]
-pub fn next_part(part: Part, byte: u8) -> Option<Part>
-    ensures next { result ≡ number_next part (letter_of byte) }
+pub fn next_state(state: NumberState, byte: u8) -> Option<NumberState>
+    ensures next { result ≡ number_next state (letter_of byte) }
     ensures digit { IfSome result (λ next. IsExponentDigit next byte) }
 {
-    match (part, byte) {
-        (Part::AtStart, b'-') => Some(Part::AfterMinus),
-        (Part::AtStart | Part::AfterMinus, b'0') => Some(Part::AfterZero),
-        (Part::AtStart | Part::AfterMinus | Part::InWhole, b'0'..=b'9') => Some(Part::InWhole),
-        (Part::AfterZero | Part::InWhole, b'.') => Some(Part::AfterPoint),
-        (Part::AfterPoint | Part::InFraction, b'0'..=b'9') => Some(Part::InFraction),
-        (Part::AfterZero | Part::InWhole | Part::InFraction, b'e' | b'E') => Some(
-            Part::AfterExponent,
+    match (state, byte) {
+        (NumberState::AtStart, b'-') => Some(NumberState::AfterMinus),
+        (NumberState::AtStart | NumberState::AfterMinus, b'0') => Some(NumberState::AfterZero),
+        (NumberState::AtStart | NumberState::AfterMinus | NumberState::InWhole, b'0'..=b'9') =>
+            Some(NumberState::InWhole),
+        (NumberState::AfterZero | NumberState::InWhole, b'.') => Some(NumberState::AfterPoint),
+        (NumberState::AfterPoint | NumberState::InFraction, b'0'..=b'9') => Some(
+            NumberState::InFraction,
         ),
-        (Part::AfterExponent, b'+' | b'-') => Some(Part::AfterSign),
-        (Part::AfterExponent | Part::AfterSign | Part::InExponent, b'0'..=b'9') => Some(
-            Part::InExponent,
-        ),
+        (NumberState::AfterZero | NumberState::InWhole | NumberState::InFraction, b'e' | b'E') =>
+            Some(NumberState::AfterExponent),
+        (NumberState::AfterExponent, b'+' | b'-') => Some(NumberState::AfterSign),
+        (
+            NumberState::AfterExponent | NumberState::AfterSign | NumberState::InExponent,
+            b'0'..=b'9',
+        ) => Some(NumberState::InExponent),
         _ => None,
     }
 }
 
-/// Whether a number may end behind `part`.
+/// Whether a number may end behind `state`.
 #[inline(always)]
-pub fn may_end(part: Part) -> bool
-    ensures { result ≡ is_final part }
+pub fn may_end(state: NumberState) -> bool
+    ensures { result ≡ is_final state }
 {
     matches!(
-        part,
-        Part::AfterZero | Part::InWhole | Part::InFraction | Part::InExponent
+        state,
+        NumberState::AfterZero
+            | NumberState::InWhole
+            | NumberState::InFraction
+            | NumberState::InExponent
     )
 }
 
@@ -65,12 +71,12 @@ pub fn may_end(part: Part) -> bool
 pub fn is_number(text: &[u8]) -> bool
     ensures { IsTrue result ↔ IsNumber text.now }
 {
-    let mut part = Part::AtStart;
+    let mut state = NumberState::AtStart;
     for byte in text {
-        match next_part(part, *byte) {
-            Some(next) => part = next,
+        match next_state(state, *byte) {
+            Some(next) => state = next,
             None => return false,
         }
     }
-    may_end(part)
+    may_end(state)
 }

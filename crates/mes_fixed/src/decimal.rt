@@ -3,7 +3,7 @@ ghost use Rattle.std.specs.Prelude.{◌≡◌, ℕ, ◌+◌, ◌*◌, ◌^◌, �
 ghost use Rattle.std.specs.Str.Parse.{AllDigits};
 ghost use Rattle.mes_fixed.specs.declared.limits.TheConstants.{TEXT_LIMIT, EXPONENT_CAP};
 
-use crate::automaton::{Part, may_end, next_part};
+use crate::automaton::{NumberState, may_end, next_state};
 use crate::digits::{Cut, are_zeros, cut_of, value_of, with_zeros};
 use crate::fault::NumFault;
 use crate::limits::{EXPONENT_CAP, TEXT_LIMIT};
@@ -62,43 +62,43 @@ impl Decimal {
             return Err(NumFault::TooLong);
         }
         let mut decimal = Self::new();
-        let mut part = Part::AtStart;
+        let mut state = NumberState::AtStart;
         for byte in text {
-            let Some(next) = next_part(part, *byte) else {
+            let Some(next) = next_state(state, *byte) else {
                 return Err(NumFault::Shape);
             };
             decimal.gather(next, *byte);
-            part = next;
+            state = next;
         }
-        if may_end(part) {
+        if may_end(state) {
             Ok(decimal)
         } else {
             Err(NumFault::Shape)
         }
     }
 
-    /// Takes one more byte, which led to `part`.
+    /// Takes one more byte, which led to `state`.
     #[inline(always)]
-    fn gather(&mut self, part: Part, byte: u8)
+    fn gather(&mut self, state: NumberState, byte: u8)
         requires room { length self.old.digits.items < TEXT_LIMIT }
-        requires digit { IsExponentDigit part byte }
-        ensures gathers { (n : Numeral) → IsDecimal n self.old → IsBeforePoint part n
-            → IsDecimal (gathered part byte n) self.new }
+        requires digit { IsExponentDigit state byte }
+        ensures gathers { (n : Numeral) → IsDecimal n self.old → IsBeforePoint state n
+            → IsDecimal (gathered state byte n) self.new }
         ensures room { length self.new.digits.items ≤ length self.old.digits.items + 1 }
     {
-        match part {
-            Part::AfterMinus => self.negative = true,
-            Part::AfterZero | Part::InWhole => self.digits.push(byte),
-            Part::InFraction => {
+        match state {
+            NumberState::AfterMinus => self.negative = true,
+            NumberState::AfterZero | NumberState::InWhole => self.digits.push(byte),
+            NumberState::InFraction => {
                 self.digits.push(byte);
                 self.fraction_digits += 1;
             }
-            Part::AfterSign => self.lowers = byte == b'-',
-            Part::InExponent => {
+            NumberState::AfterSign => self.lowers = byte == b'-',
+            NumberState::InExponent => {
                 let exponent = self.exponent * 10 + usize::from(byte - b'0');
                 self.exponent = exponent.min(EXPONENT_CAP);
             }
-            Part::AtStart | Part::AfterPoint | Part::AfterExponent => {}
+            NumberState::AtStart | NumberState::AfterPoint | NumberState::AfterExponent => {}
         }
     }
 

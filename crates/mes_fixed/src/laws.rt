@@ -2,7 +2,7 @@
 ghost use Rattle.std.specs.Prelude.{◌≡◌, ◌↔◌, ◌^◌, ℕ, List};
 ghost use Rattle.mes_fixed.specs.Automaton.{Ends};
 ghost use Rattle.mes_fixed.specs.Number.{IsNumber};
-ghost use Rattle.mes_fixed.specs.declared.automaton.Part.TheVariants.{AtStart};
+ghost use Rattle.mes_fixed.specs.declared.automaton.NumberState.TheVariants.{AtStart};
 
 use crate::limits::{EXPONENT_CAP, TEXT_LIMIT, UNITS_LIMIT};
 

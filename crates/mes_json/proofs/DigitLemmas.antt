@@ -1,10 +1,11 @@
 -- How digits move the reader where they leave a number in its part, all at once.
---     digits_taken    a run of them is taken
-use Rattle.std.proofs.Common.{◌≡◌, ℕ, ◌+◌, ◌-◌, ◌≤◌, ◌==◌, Bool, true, false, List, [], ◌∷◌, ◌++◌, length, take, drop, Some, option_and_then, refl, ap, sym, ◌∙◌, arith, append_assoc, append-nil}
+--     digits_taken         a run of them is taken
+--     digit_front_taken    or none of it
+use Rattle.std.proofs.Common.{◌≡◌, ℕ, ◌+◌, ◌-◌, ◌≤◌, ◌==◌, Bool, true, false, List, [], ◌∷◌, ◌++◌, length, take, drop, Some, option_and_then, refl, ap, sym, ◌∙◌, subst, arith, append_assoc, append-nil, ◌⊎◌, inl, inr}
 use Rattle.std.proofs.lemmas.Bool.Decides.{nat_tests}
 use Rattle.std.specs.List.{AllByRecursion}
 use Rattle.mes_fixed.specs.Automaton.{nought, digit, letter_of, number_next}
-use Rattle.mes_fixed.specs.declared.automaton.Part.{Part}
+use Rattle.mes_fixed.specs.declared.automaton.NumberState.{NumberState}
 use Rattle.mes_json.specs.Machine as m
 use Rattle.mes_json.specs.Machine.{Frame, State, run, on_digits}
 use Rattle.mes_json.specs.Machine.State.{state}
@@ -14,7 +15,7 @@ use Rattle.mes_json.specs.declared.limits.TheConstants.{NESTING_LIMIT}
 use Rattle.mes_json.specs.declared.at.At as at
 use Rattle.mes_json.specs.declared.reader.Reader.{Reader}
 use Rattle.mes_json.proofs.ReaderLemmas.{part}
-use Rattle.mes_json.proofs.TakenLemmas.{runs_over}
+use Rattle.mes_json.proofs.TakenLemmas.{runs_over, none_kept}
 
 -- ---- the machine's run over them
 is_nought : (c : ℕ) → c == 48 ≡ true → letter_of c ≡ nought
@@ -23,14 +24,14 @@ is_nought c e = grind (arith, nat_tests)
 is_other : (c : ℕ) → 48 ≤ c → c ≤ 57 → c == 48 ≡ false → letter_of c ≡ digit
 is_other c least most e = grind (arith, nat_tests)
 
-leads : (x : Part) (c : ℕ) → KeepsOn x → IsDigit c → number_next x (letter_of c) ≡ Some x
+leads : (x : NumberState) (c : ℕ) → KeepsOn x → IsDigit c → number_next x (letter_of c) ≡ Some x
 leads x c keeps is = by (c == 48) refl
   where
     by : (b : Bool) → c == 48 ≡ b → number_next x (letter_of c) ≡ Some x
     by true e = ap (number_next x) (is_nought c e) ∙ keeps.0
     by false e = ap (number_next x) (is_other c is.0 is.1 e) ∙ keeps.1
 
-over_digits : (d : ℕ) (fs : List Frame) (x : Part) (b q : List ℕ) → KeepsOn x → AllByRecursion IsDigit q
+over_digits : (d : ℕ) (fs : List Frame) (x : NumberState) (b q : List ℕ) → KeepsOn x → AllByRecursion IsDigit q
     → run d (state fs (m.At.token (digits x b))) q ≡ Some (state fs (m.At.token (digits x (b ++ q))))
 unfolding run
 over_digits d fs x b [] keeps h = ap (λ (n : List ℕ). Some (state fs (m.At.token (digits x n)))) (sym (append-nil b))
@@ -39,7 +40,7 @@ over_digits d fs x b (c ∷ q) keeps h =
     ∙ ap (λ (n : List ℕ). Some (state fs (m.At.token (digits x n)))) (append_assoc b (c ∷ []) q)
 
 -- ---- the reader's, over the bytes behind the place, as they are cut out
-pub digits_taken : (old new : Reader) (x : Part) (b : List ℕ) (from n : ℕ) → Fits old → old.at ≡ at.TheVariants.Digits x → KeepsOn x → from ≤ length b
+pub digits_taken : (old new : Reader) (x : NumberState) (b : List ℕ) (from n : ℕ) → Fits old → old.at ≡ at.TheVariants.Digits x → KeepsOn x → from ≤ length b
     → n ≤ length (take (length b - from) (drop from b)) → AllByRecursion IsDigit (take n (take (length b - from) (drop from b)))
     → Keeps old (take n (take (length b - from) (drop from b))) (at.TheVariants.Digits x) new → RunsTo old b from (from + n) new
 digits_taken old new x b from n fits is_at keeps_on within few all keeps =
@@ -50,3 +51,13 @@ digits_taken old new x b from n fits is_at keeps_on within few all keeps =
     ∙ over_digits NESTING_LIMIT h.frames x (part old) q keeps_on all
     ∙ ap (λ (t : State). Some (with_read there (part old ++ q) t)) (sym h.is))
     keeps
+
+-- or none of them is
+pub digit_front_taken : (old new : Reader) (x : NumberState) (b : List ℕ) (from run n : ℕ) → Fits old → old.at ≡ at.TheVariants.Digits x → KeepsOn x → from ≤ length b
+    → run ≤ length (take (length b - from) (drop from b)) → AllByRecursion IsDigit (take run (take (length b - from) (drop from b))) → (n ≡ run) ⊎ (n ≡ 0)
+    → Keeps old (take n (take (length b - from) (drop from b))) (at.TheVariants.Digits x) new → RunsTo old b from (from + n) new
+digit_front_taken old new x b from run n fits is_at keeps_on within few all (inl whole) keeps =
+    digits_taken old new x b from n fits is_at keeps_on within (omega (arith, whole, few))
+    (subst (λ (k : ℕ). AllByRecursion IsDigit (take k (take (length b - from) (drop from b)))) (sym whole) all) keeps
+digit_front_taken old new x b from run n fits is_at keeps_on within few all (inr none) keeps =
+    none_kept old new (at.TheVariants.Digits x) b (take (length b - from) (drop from b)) from n none fits is_at within keeps

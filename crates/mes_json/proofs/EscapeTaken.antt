@@ -1,6 +1,6 @@
 -- How the bytes of an escape move the reader, all at once.
 --     inside              the reader within an escape
---     none_taken          none of them
+--     runs_inside         none of them
 --     on_taken            one that leads to more of it
 --     end_taken           the last one
 use Rattle.std.proofs.Common.{◌≡◌, ℕ, ◌+◌, ◌<◌, ◌≤◌, List, [], ◌∷◌, length, get_or, Some, Ok, refl, ap, sym, ◌∙◌, subst, append-nil, encode_utf8}
@@ -19,7 +19,7 @@ use Rattle.mes_json.specs.declared.at.At as at
 use Rattle.mes_json.specs.declared.reader.Reader.{Reader}
 use Rattle.mes_json.proofs.RunLemmas.{run_one}
 use Rattle.mes_json.proofs.StringLemmas.{Reads, string_grows, escape_reads}
-use Rattle.mes_json.proofs.TakenLemmas.{nothing_taken, one_more, reached_over}
+use Rattle.mes_json.proofs.TakenLemmas.{one_more, reached_over}
 
 abbrev pub within : purpose.Purpose → escape.Escape → at.At
 within p x = at.TheVariants.Quoted p (mid.TheVariants.Escape x)
@@ -34,10 +34,8 @@ is_inside p x r is_at = ap (λ (a : at.At). record { at = a; nesting = r.nesting
 pub none_reached : (p : purpose.Purpose) (x : escape.Escape) (r : Reader) → r.at ≡ within p x → Reached r → Reached (inside p x r)
 none_reached p x r is_at h = subst Reached (is_inside p x r is_at) h
 
-pub none_taken : (p : purpose.Purpose) (x : escape.Escape) (r : Reader) (b : List ℕ) (from : ℕ) → r.at ≡ within p x → Fits r → from ≤ length b
-    → RunsTo r b from from (inside p x r)
-none_taken p x r b from is_at fits within =
-    subst (RunsTo r b from from) (is_inside p x r is_at) (nothing_taken r b from fits within)
+pub runs_inside : (p : purpose.Purpose) (x : escape.Escape) (old r : Reader) (b : List ℕ) (from place : ℕ) → r.at ≡ within p x → RunsTo old b from place r → RunsTo old b from place (inside p x r)
+runs_inside p x old r b from place is_at h = subst (RunsTo old b from place) (is_inside p x r is_at) h
 
 -- one that leads to more of it
 on_reads : (x next : escape.Escape) (c : ℕ) → e.Move.on (escape_view next) ≡ escape_step (escape_view x) c

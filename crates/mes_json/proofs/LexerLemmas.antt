@@ -1,5 +1,5 @@
 -- What a lexer stands for after more bytes, and at their end.
---     kept_at, reading_at, faulty_at     what a lexer keeps, seen by its fields
+--     state_at, reading_at, faulty_at     what a lexer keeps, seen by its fields
 --     goes_on                            the bytes are taken
 --     gets_stuck, sticks                 one is refused: in a run, or alone
 --     stays_faulty                       and more come
@@ -20,7 +20,7 @@ use Rattle.mes_json.specs.Place.{Begins}
 use Rattle.mes_json.specs.Reader.{Fits, Stops, state_view}
 use Rattle.mes_json.specs.Read.{Stuck, StopsIn}
 use Rattle.mes_json.specs.Inner.{inner}
-use Rattle.mes_json.specs.Lexer.{IsCountedFault, IsReading, IsFaulty, KeepsOf, HasLexed, text_of, nodes_of, HasNoMemory, IsOutOfMemory, held, nodes_held, IsBounded, HoldsNothing}
+use Rattle.mes_json.specs.Lexer.{IsCountedFault, IsReading, IsFaulty, StandsFor, HasLexed, text_of, nodes_of, HasNoMemory, IsOutOfMemory, held, nodes_held, IsBounded, HoldsNothing}
 use Rattle.mes_json.specs.declared.limits.TheConstants.{NESTING_LIMIT}
 use Rattle.mes_json.specs.declared.fault.Why.{Why}
 use Rattle.mes_json.specs.declared.fault.Why.TheVariants.{End}
@@ -29,8 +29,8 @@ use Rattle.mes_json.specs.declared.fault.ReadFault as fault
 use Rattle.mes_json.specs.declared.stop.Stop.{Stop}
 use Rattle.mes_json.specs.declared.stop.Stop.TheVariants.{Refused}
 use Rattle.mes_json.specs.declared.reader.Reader.{Reader}
-use Rattle.mes_json.specs.declared.lexer.Kept.{Kept}
-use Rattle.mes_json.specs.declared.lexer.Kept.TheVariants.{Reading, Faulty, OutOfMemory}
+use Rattle.mes_json.specs.declared.lexer.LexerState.{LexerState}
+use Rattle.mes_json.specs.declared.lexer.LexerState.TheVariants.{Reading, Faulty, OutOfMemory}
 use Rattle.mes_json.specs.declared.lexer.Lexer.{Lexer}
 use Rattle.mes_json.proofs.RunLemmas.{run_on}
 use Rattle.mes_json.proofs.OwnedLemmas.{text_owned, nodes_owned}
@@ -38,15 +38,15 @@ use Rattle.mes_json.proofs.ViableLemmas.{begins_from_run}
 use Rattle.mes_json.proofs.ReadLemmas.{stuck_fault, stuck_no_text, ended_fault}
 
 -- ---- the fields
-pub kept_at : (l : Lexer) (n : ℕ) (k : Kept) (p : List ℕ) → (n, k) ≡ l → HasLexed l p → KeepsOf n k p
+pub state_at : (l : Lexer) (n : ℕ) (k : LexerState) (p : List ℕ) → (n, k) ≡ l → HasLexed l p → StandsFor n k p
 unfolding HasLexed
-kept_at l n k p is h = subst (λ (x : Lexer). HasLexed x p) (sym is) h
+state_at l n k p is h = subst (λ (x : Lexer). HasLexed x p) (sym is) h
 
-pub reading_at : (n : ℕ) (k : Kept) (r : Reader) (p : List ℕ) → k ≡ Reading r → KeepsOf n k p → IsReading n r p
-reading_at n k r p at h = subst (λ (x : Kept). KeepsOf n x p) at h
+pub reading_at : (n : ℕ) (k : LexerState) (r : Reader) (p : List ℕ) → k ≡ Reading r → StandsFor n k p → IsReading n r p
+reading_at n k r p at h = subst (λ (x : LexerState). StandsFor n x p) at h
 
-pub faulty_at : (n : ℕ) (k : Kept) (f : TextFault) (p : List ℕ) → k ≡ Faulty f → KeepsOf n k p → IsFaulty f p
-faulty_at n k f p at h = subst (λ (x : Kept). KeepsOf n x p) at h
+pub faulty_at : (n : ℕ) (k : LexerState) (f : TextFault) (p : List ℕ) → k ≡ Faulty f → StandsFor n k p → IsFaulty f p
+faulty_at n k f p at h = subst (λ (x : LexerState). StandsFor n x p) at h
 
 -- ---- the bytes are taken
 pub goes_on : (n next : ℕ) (r now : Reader) (p b : List ℕ) → IsReading n r p → next ≡ min (n + length b) (2 ^ 64 - 1) → run NESTING_LIMIT (state_view r) b ≡ Some (state_view now) → Fits now
@@ -100,8 +100,8 @@ still p b f stuck = record {
 stays_stuck : (f : TextFault) (p b : List ℕ) → IsFaulty f p → IsFaulty f (p ++ b)
 stays_stuck f p b h = record { exact = h.exact; stuck = still p b h.exact h.stuck; rounds = h.rounds }
 
-pub stays_faulty : (n : ℕ) (k : Kept) (f : TextFault) (p b : List ℕ) → k ≡ Faulty f → KeepsOf n k p → KeepsOf n k (p ++ b)
-stays_faulty n k f p b at h = subst (λ (x : Kept). KeepsOf n x (p ++ b)) (sym at) (stays_stuck f p b (faulty_at n k f p at h))
+pub stays_faulty : (n : ℕ) (k : LexerState) (f : TextFault) (p b : List ℕ) → k ≡ Faulty f → StandsFor n k p → StandsFor n k (p ++ b)
+stays_faulty n k f p b at h = subst (λ (x : LexerState). StandsFor n x (p ++ b)) (sym at) (stays_stuck f p b (faulty_at n k f p at h))
 
 -- ---- at the end
 pub counted_fault : (f : TextFault) (p : List ℕ) → IsFaulty f p → IsCountedFault NESTING_LIMIT p f
@@ -115,12 +115,12 @@ pub counted_end : (n : ℕ) (r : Reader) (p : List ℕ) (found : Option (List To
 counted_end n r p found h is none = record { exact = _; is_fault = ended_fault p (state_view r) found h.reached is none; rounds = record { byte = h.count; why = refl } }
 
 -- ---- what it owns
-text_kept : (n : ℕ) (k : Kept) (p : List ℕ) → KeepsOf n k p → text_of k ≤ inner p
+text_kept : (n : ℕ) (k : LexerState) (p : List ℕ) → StandsFor n k p → text_of k ≤ inner p
 text_kept n (Reading r) p h = text_owned r p h.fits h.reached
 text_kept n (Faulty f) p h = omega arith
 text_kept n OutOfMemory p h = omega arith
 
-nodes_kept : (n : ℕ) (k : Kept) (p : List ℕ) → KeepsOf n k p → nodes_of k ≤ length p
+nodes_kept : (n : ℕ) (k : LexerState) (p : List ℕ) → StandsFor n k p → nodes_of k ≤ length p
 nodes_kept n (Reading r) p h = nodes_owned r p h.fits h.reached
 nodes_kept n (Faulty f) p h = omega arith
 nodes_kept n OutOfMemory p h = omega arith
@@ -133,16 +133,20 @@ is_bounded l p h = record { texts = text_kept l.0 l.1 p h; nodes = nodes_kept l.
 pub reading_begins : (n : ℕ) (r : Reader) (p : List ℕ) → IsReading n r p → Begins NESTING_LIMIT p
 reading_begins n r p h = begins_from_run NESTING_LIMIT (state_view r) p h.reached
 
+-- nor do the bytes that it takes behind them
+pub front_begins : (n : ℕ) (r : Reader) (p b : List ℕ) (s : State) → IsReading n r p → run NESTING_LIMIT (state_view r) b ≡ Some s → Begins NESTING_LIMIT (p ++ b)
+front_begins n r p b s h runs = begins_from_run NESTING_LIMIT s (p ++ b) (run_on NESTING_LIMIT start (state_view r) p b h.reached ∙ runs)
+
 -- a text begins with itself
 pub text_begins : (p : List ℕ) (t : Tree) → IsText NESTING_LIMIT p t → Begins NESTING_LIMIT p
 text_begins p t h = ([], t, subst (λ (b : List ℕ). IsText NESTING_LIMIT b t) (sym (append-nil p)) h)
 
-no_text_kept : (n : ℕ) (k : Kept) (p : List ℕ) → KeepsOf n k p → (Begins NESTING_LIMIT p → ⊥) → (text_of k ≡ 0) × (nodes_of k ≡ 0)
+no_text_kept : (n : ℕ) (k : LexerState) (p : List ℕ) → StandsFor n k p → (Begins NESTING_LIMIT p → ⊥) → (text_of k ≡ 0) × (nodes_of k ≡ 0)
 no_text_kept n (Reading r) p h no_text = absurd (no_text (reading_begins n r p h))
 no_text_kept n (Faulty f) p h no_text = (refl, refl)
 no_text_kept n OutOfMemory p h no_text = (refl, refl)
 
-no_memory_kept : (k : Kept) → HasNoMemory k → (text_of k ≡ 0) × (nodes_of k ≡ 0)
+no_memory_kept : (k : LexerState) → HasNoMemory k → (text_of k ≡ 0) × (nodes_of k ≡ 0)
 no_memory_kept (Reading r) h = absurd h
 no_memory_kept (Faulty f) h = absurd h
 no_memory_kept OutOfMemory h = (refl, refl)

@@ -1,32 +1,32 @@
 -- A text that merely is a number is one: `number_had`.
 use Rattle.std.proofs.Common.{◌≡◌, ℕ, Bool, true, false, List, [], ◌∷◌, Option, Some, None, refl, sym, ◌∙◌, subst}
 use Rattle.std.proofs.Math.Logic.{∥∥₁_elim}
-use Rattle.mes_fixed.specs.declared.automaton.Part.{Part}
-use Rattle.mes_fixed.specs.declared.automaton.Part.TheVariants.{AtStart}
+use Rattle.mes_fixed.specs.declared.automaton.NumberState.{NumberState}
+use Rattle.mes_fixed.specs.declared.automaton.NumberState.TheVariants.{AtStart}
 use Rattle.mes_fixed.specs.Number.{IsNumber}
 use Rattle.mes_fixed.specs.Automaton.{letter_of, number_next, is_final, Ends}
 use Rattle.mes_fixed.proofs.Grammar.{number_from_ends, ends_from_number}
 
-some_one : {a b : Part} → Some a ≡ Some b → a ≡ b
+some_one : {a b : NumberState} → Some a ≡ Some b → a ≡ b
 some_one e = cc
 
 -- the automaton answers
-may : (part : Part) → Dec (is_final part ≡ true)
+may : (part : NumberState) → Dec (is_final part ≡ true)
 may part = by (is_final part) refl
   where
     by : (x : Bool) → is_final part ≡ x → Dec (is_final part ≡ true)
     by true e = yes e
     by false e = no (λ h. absurd (cc))
 
-over : (part : Part) (c : ℕ) (rest : List ℕ) → ((next : Part) → Dec (Ends next rest)) → (o : Option Part) → number_next part (letter_of c) ≡ o → Dec (Ends part (c ∷ rest))
+over : (part : NumberState) (c : ℕ) (rest : List ℕ) → ((next : NumberState) → Dec (Ends next rest)) → (o : Option NumberState) → number_next part (letter_of c) ≡ o → Dec (Ends part (c ∷ rest))
 over part c rest go None e = no (λ h. absurd (cc (e, h.1)))
 over part c rest go (Some next) e = by (go next)
   where
     by : Dec (Ends next rest) → Dec (Ends part (c ∷ rest))
     by (yes h) = yes (next, e, h)
-    by (no n) = no (λ h. n (subst (λ (p : Part). Ends p rest) (some_one (sym h.1 ∙ e)) h.2))
+    by (no n) = no (λ h. n (subst (λ (p : NumberState). Ends p rest) (some_one (sym h.1 ∙ e)) h.2))
 
-goes : (text : List ℕ) (part : Part) → Dec (Ends part text)
+goes : (text : List ℕ) (part : NumberState) → Dec (Ends part text)
 goes [] part = may part
 goes (c ∷ rest) part = over part c rest (λ next. goes rest next) (number_next part (letter_of c)) refl
 

@@ -8,8 +8,8 @@ use Rattle.std.specs.List.{AllByRecursion}
 use Rattle.std.proofs.lemmas.Bool.{cond_both, eqb-false}
 use Rattle.std.proofs.lemmas.Bool.Decides.{nat_tests}
 use Rattle.mes_fixed.specs.Automaton.{Letter, nought, digit, point, exponent, plus, dash, neither, letter_of, number_next}
-use Rattle.mes_fixed.specs.declared.automaton.Part.{Part}
-use Rattle.mes_fixed.specs.declared.automaton.Part.TheVariants.{AtStart, AfterMinus, AfterZero, InWhole, AfterPoint, InFraction, AfterExponent, AfterSign, InExponent}
+use Rattle.mes_fixed.specs.declared.automaton.NumberState.{NumberState}
+use Rattle.mes_fixed.specs.declared.automaton.NumberState.TheVariants.{AtStart, AfterMinus, AfterZero, InWhole, AfterPoint, InFraction, AfterExponent, AfterSign, InExponent}
 use Rattle.mes_fixed.proofs.Letters.{LetterIs, letter_is}
 use Rattle.mes_json.specs.Tree.Tree.{null, boolean}
 use Rattle.mes_json.specs.Inner.{Stand, is_of_number, behind}
@@ -99,7 +99,7 @@ Paid m cost c s next = (stand_of next ≡ behind (stand_of s) c) × (of_state m 
 pub stays : (c : ℕ) → c ≢ 34 → outside ≡ behind outside c
 stays c no_quote = cond_both (c == 34) inside outside (λ x. outside ≡ x) (λ e. absurd (no_quote (eqb-true c 34 e))) (λ _. refl)
 
-letter_counts : (part next : Part) (l : Letter) (c : ℕ) → LetterIs l c → number_next part l ≡ Some next → is_of_number c ≡ true
+letter_counts : (part next : NumberState) (l : Letter) (c : ℕ) → LetterIs l c → number_next part l ≡ Some next → is_of_number c ≡ true
 letter_counts part next nought c is e = ap is_of_number is
 letter_counts part next digit c is e = grind (arith, nat_tests)
 letter_counts part next point c is e = ap is_of_number is
@@ -118,7 +118,7 @@ letter_counts AfterSign next neither c is e = none_some e
 letter_counts InExponent next neither c is e = none_some e
 
 -- a byte that a number goes on with is one of a number
-pub number_counts : (part next : Part) (c : ℕ) → number_next part (letter_of c) ≡ Some next → is_of_number c ≡ true
+pub number_counts : (part next : NumberState) (c : ℕ) → number_next part (letter_of c) ≡ Some next → is_of_number c ≡ true
 number_counts part next c e = letter_counts part next (letter_of c) c (letter_is c) e
 
 pub foreign : (c : ℕ) → is_of_number c ≡ true → c ≢ 34
@@ -152,7 +152,7 @@ true_sound m = ((λ q. cc), ((λ q. cc), ((λ q. cc), tt)), refl)
 false_sound : (m : Measure) → IsSoundToken m (literal 0x61 (0x6C ∷ 0x73 ∷ 0x65 ∷ []) (boolean false))
 false_sound m = ((λ q. cc), ((λ q. cc), ((λ q. cc), ((λ q. cc), tt))), refl)
 
-kind_unless_tells : (m : Measure) (c : ℕ) (o : Option Part) → number_next AtStart (letter_of c) ≡ o → Tells m (kind_unless c o) c
+kind_unless_tells : (m : Measure) (c : ℕ) (o : Option NumberState) → number_next AtStart (letter_of c) ≡ o → Tells m (kind_unless c o) c
 kind_unless_tells m c (Some part) e = let counts = number_counts AtStart part c e in (foreign c counts, (counts, refl))
 kind_unless_tells m c None e =
     let P = λ (k : Kind). Tells m k c in

@@ -3,7 +3,7 @@
 --     spent, paid_run
 use Rattle.std.proofs.Common.{◌≡◌, ◌≢◌, ℕ, ◌+◌, ◌≤◌, inl, inr, List, [], ◌∷◌, length, Option, Some, None, option_and_then, ◌==◌, nat_lt, refl, ap, sym, ◌∙◌, subst, arith, eqb-true}
 use Rattle.mes_fixed.specs.Automaton.{letter_of, number_next, is_final}
-use Rattle.mes_fixed.specs.declared.automaton.Part.{Part}
+use Rattle.mes_fixed.specs.declared.automaton.NumberState.{NumberState}
 use Rattle.mes_json.specs.Tree.{Tree, Members}
 use Rattle.mes_json.specs.Tree.Tree.{number}
 use Rattle.mes_json.specs.Tree.Items.{no_items}
@@ -149,7 +149,7 @@ due_paid : (m : Measure) (cost : Stand → ℕ → ℕ) (fs : List Frame) (a : �
 due_paid m cost fs a [] t c pays sound n = (stays c n, omega (arith, pays.mark c, sound.2), tt)
 due_paid m cost fs a (x ∷ rest) t c pays sound n = (stays c n, omega arith, (sound.1.0, sound.1.1, sound.2))
 
-on_digits_paid : (m : Measure) (cost : Stand → ℕ → ℕ) (fs : List Frame) (part : Part) (b : List ℕ) (c : ℕ) (next : State) (o : Option Part) → Pays m cost
+on_digits_paid : (m : Measure) (cost : Stand → ℕ → ℕ) (fs : List Frame) (part : NumberState) (b : List ℕ) (c : ℕ) (next : State) (o : Option NumberState) → Pays m cost
     → number_next part (letter_of c) ≡ o → on_digits fs part b c o ≡ Some next → Paid m cost c (state fs (token (digits part b))) next
 on_digits_paid m cost fs part b c next (Some x) pays is e =
     let counts = number_counts part x c is in

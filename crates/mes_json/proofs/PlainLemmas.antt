@@ -1,9 +1,10 @@
 -- How characters of a string that stand for themselves move the reader, all at once.
 --     characters_taken    a run of them is taken
+--     front_taken         or none of it
 --     string_taken        the quotation mark behind them
 --     runs_further        and what is taken behind that
 --     colon_taken         a colon
-use Rattle.std.proofs.Common.{◌≡◌, ℕ, ◌+◌, ◌-◌, ◌<◌, ◌≤◌, List, ◌∷◌, ◌++◌, length, take, drop, Some, Ok, get_or, ap, sym, ◌∙◌, refl, arith}
+use Rattle.std.proofs.Common.{◌≡◌, ℕ, ◌+◌, ◌-◌, ◌<◌, ◌≤◌, List, ◌∷◌, ◌++◌, length, take, drop, Some, Ok, get_or, ap, sym, ◌∙◌, refl, subst, arith, ◌⊎◌, inl, inr}
 use Rattle.mes_json.specs.Machine as m
 use Rattle.mes_json.specs.Machine.{Frame, State, step, run}
 use Rattle.mes_json.specs.Machine.Frame.{frame}
@@ -17,7 +18,7 @@ use Rattle.mes_json.specs.declared.at.Purpose as purpose
 use Rattle.mes_json.specs.declared.at.At as at
 use Rattle.mes_json.specs.declared.reader.Reader.{Reader}
 use Rattle.mes_json.proofs.ReaderLemmas.{part, due, view_at, form_at, covered_at}
-use Rattle.mes_json.proofs.TakenLemmas.{runs_over, nothing_taken, one_more}
+use Rattle.mes_json.proofs.TakenLemmas.{runs_over, nothing_taken, none_kept, one_more}
 use Rattle.mes_json.proofs.StringLemmas.{string_ends}
 
 abbrev pub inside : purpose.Purpose → at.At
@@ -46,6 +47,15 @@ pub characters_taken : (old new : Reader) (p : purpose.Purpose) (b : List ℕ) (
 characters_taken old new p b from n fits is_at within few alone keeps =
     let q = take n (take (length b - from) (drop from b)) in
     runs_over old new (inside p) b from n fits is_at (λ start end last. refl) within few (λ s h. spelled_run p old.nesting.items (part old) q q s h alone.runs) keeps
+
+-- or none of it was
+pub front_taken : (old new : Reader) (p : purpose.Purpose) (b : List ℕ) (from run n : ℕ) → Fits old → old.at ≡ inside p → from ≤ length b
+    → run ≤ length (take (length b - from) (drop from b)) → StandAlone (take run (take (length b - from) (drop from b))) → (n ≡ run) ⊎ (n ≡ 0)
+    → Keeps old (take n (take (length b - from) (drop from b))) (inside p) new → RunsTo old b from (from + n) new
+front_taken old new p b from run n fits is_at within few alone (inl all) keeps =
+    characters_taken old new p b from n fits is_at within (omega (arith, all, few)) (subst (λ (k : ℕ). StandAlone (take k (take (length b - from) (drop from b)))) (sym all) alone) keeps
+front_taken old new p b from run n fits is_at within few alone (inr none) keeps =
+    none_kept old new (inside p) b (take (length b - from) (drop from b)) from n none fits is_at within keeps
 
 -- the quotation mark that ends a string
 pub string_taken : (old new : Reader) (p : purpose.Purpose) (b : List ℕ) (from : ℕ) → Puts old old.nesting.items (string_node p old) (behind_string p) new

@@ -10,8 +10,8 @@ use Rattle.std.proofs.lemmas.Str.{IsUtf8-append, IsUtf8-encode, IsUtf8-nil, IsUt
 use Rattle.std.proofs.lemmas.Str.Ascii.{IsAscii-from_all}
 use Rattle.mes_fixed.specs.Number.{IsNumber}
 use Rattle.mes_fixed.specs.Automaton.{Letter, nought, digit, point, exponent, plus, dash, neither, letter_of, number_next, is_final, Ends}
-use Rattle.mes_fixed.specs.declared.automaton.Part.{Part}
-use Rattle.mes_fixed.specs.declared.automaton.Part.TheVariants.{AtStart, AfterMinus, AfterZero, InWhole, AfterPoint, InFraction, AfterExponent, AfterSign, InExponent}
+use Rattle.mes_fixed.specs.declared.automaton.NumberState.{NumberState}
+use Rattle.mes_fixed.specs.declared.automaton.NumberState.TheVariants.{AtStart, AfterMinus, AfterZero, InWhole, AfterPoint, InFraction, AfterExponent, AfterSign, InExponent}
 use Rattle.mes_fixed.proofs.Letters.{LetterIs, letter_is}
 use Rattle.mes_fixed.proofs.Grammar.{number_ends}
 use Rattle.mes_json.specs.Tree.{Members}
@@ -58,7 +58,7 @@ readable_escape d p fs purpose e s is =
 
 -- ---- numbers
 -- a byte of a number is ASCII
-letter_ascii : (part next : Part) (l : Letter) (c : ℕ) → LetterIs l c → number_next part l ≡ Some next → c < 128
+letter_ascii : (part next : NumberState) (l : Letter) (c : ℕ) → LetterIs l c → number_next part l ≡ Some next → c < 128
 letter_ascii part next nought c is e = omega arith
 letter_ascii part next digit c is e = omega arith
 letter_ascii part next point c is e = omega arith
@@ -76,7 +76,7 @@ letter_ascii AfterExponent next neither c is e = none_some e
 letter_ascii AfterSign next neither c is e = none_some e
 letter_ascii InExponent next neither c is e = none_some e
 
-ends_ascii : (part : Part) (n : List ℕ) → Ends part n → All (λ b. b < 128) n
+ends_ascii : (part : NumberState) (n : List ℕ) → Ends part n → All (λ b. b < 128) n
 ends_ascii part [] h = All-nil (λ b. b < 128)
 ends_ascii part (c ∷ n) (next, e, h) = All-cons (λ b. b < 128) c n (letter_ascii part next (letter_of c) c (letter_is c) e) (ends_ascii next n h)
 
@@ -84,7 +84,7 @@ number_utf8 : (n : List ℕ) → IsNumber n → IsUtf8 n
 number_utf8 n h = IsUtf8-from_ascii n (IsAscii-from_all n (ends_ascii AtStart n ((number_ends n).0 h)))
 
 -- a number that may end is one
-pub number_read : (d : ℕ) (p : List ℕ) (fs : List Frame) (part : Part) (n : List ℕ) → run d start p ≡ Some (state fs (token (digits part n))) → is_final part ≡ true
+pub number_read : (d : ℕ) (p : List ℕ) (fs : List Frame) (part : NumberState) (n : List ℕ) → run d start p ≡ Some (state fs (token (digits part n))) → is_final part ≡ true
     → IsNumber n × IsUtf8 n
 number_read d p fs part n e f =
     let x = (held_run d (state fs (token (digits part n))) p e).1 in

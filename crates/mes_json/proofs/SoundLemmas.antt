@@ -9,8 +9,8 @@
 use Rattle.std.proofs.Common.{◌≡◌, ℕ, zero, suc, ◌+◌, ◌<◌, ◌⊎◌, inl, inr, Bool, true, false, ◌||◌, List, [], ◌∷◌, ◌++◌, length, Option, Some, None, if◌then◌else◌, ◌==◌, nat_lt, refl, ap, sym, ◌∙◌, subst, arith, append_assoc, ltb-true, eqb-true}
 use Rattle.std.proofs.lemmas.Bool.Decides.{nat_tests}
 use Rattle.mes_fixed.specs.Automaton.{letter_of, number_next}
-use Rattle.mes_fixed.specs.declared.automaton.Part.{Part}
-use Rattle.mes_fixed.specs.declared.automaton.Part.TheVariants.{AtStart}
+use Rattle.mes_fixed.specs.declared.automaton.NumberState.{NumberState}
+use Rattle.mes_fixed.specs.declared.automaton.NumberState.TheVariants.{AtStart}
 use Rattle.mes_json.specs.Tree.{Tree, Items, Members}
 use Rattle.mes_json.specs.Tree.Tree.{null, boolean}
 use Rattle.mes_json.specs.Tree.Members.{no_members}
@@ -57,7 +57,7 @@ blank_is : (c : ℕ) → (c == 32 || c == 9 || c == 10 || c == 13) ≡ true → 
 blank_is c e = grind (arith, nat_tests)
 
 -- first by where the byte leads from the start of a number
-kind_unless_is : (c : ℕ) (o : Option Part) → number_next AtStart (letter_of c) ≡ o → KindIs (kind_unless c o) c
+kind_unless_is : (c : ℕ) (o : Option NumberState) → number_next AtStart (letter_of c) ≡ o → KindIs (kind_unless c o) c
 kind_unless_is c (Some part) e = (refl, λ q h. (part, e, h))
 kind_unless_is c None e =
     let P = λ (k : Kind). KindIs k c in

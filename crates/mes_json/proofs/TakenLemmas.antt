@@ -2,14 +2,16 @@
 --     runs_over               a run of them is taken
 --     runs_to                 the same, where they make other bytes of text
 --     nothing_taken           none of them
+--     stays_taken             the same, where the room may have grown
+--     none_kept               the same, where some were looked at
 --     one_more                and one more byte
 --     reached_over            some bytes lead to the state behind a run
 --     rest_is, rest_length, within_rest    the bytes behind the place
-use Rattle.std.proofs.Common.{◌≡◌, ℕ, ◌+◌, ◌-◌, ◌<◌, ◌≤◌, List, [], ◌∷◌, ◌++◌, length, take, drop, get_or, Some, refl, ap, sym, ◌∙◌, subst, arith, length-drop}
+use Rattle.std.proofs.Common.{◌≡◌, ℕ, ◌+◌, ◌-◌, ◌<◌, ◌≤◌, List, [], ◌∷◌, ◌++◌, length, take, drop, get_or, Some, refl, ap, sym, ◌∙◌, subst, arith, append-nil, length-drop}
 use Rattle.std.proofs.lemmas.Grind.{common_steps}
 use Rattle.std.proofs.Math.Seq.{take-add}
 use Rattle.mes_json.specs.Machine.{State, start, step, run}
-use Rattle.mes_json.specs.Reader.{with_read, state_view, IsAt, Fits, Reached, Keeps, RunsTo}
+use Rattle.mes_json.specs.Reader.{with_read, state_view, IsAt, Fits, Reached, Keeps, Stays, RunsTo}
 use Rattle.mes_json.specs.declared.limits.TheConstants.{NESTING_LIMIT}
 use Rattle.mes_json.specs.declared.nesting.Open.{Open}
 use Rattle.mes_json.specs.declared.at.At as at
@@ -38,6 +40,35 @@ reached_over old new q reached runs = (reached.0 ++ q, run_on NESTING_LIMIT star
 -- none of them
 pub nothing_taken : (r : Reader) (b : List ℕ) (from : ℕ) → Fits r → from ≤ length b → RunsTo r b from from r
 nothing_taken r b from fits within = record { forward = omega arith; inside = within; fits = fits; runs = λ s e. e; reached = λ r. r }
+
+-- nor has anything else changed
+pub stays_taken : (old new : Reader) (b : List ℕ) (from : ℕ) → Fits old → from ≤ length b → Stays old new → RunsTo old b from from new
+stays_taken old new b from fits within h =
+    let same : state_view new ≡ state_view old = rw (h.at, h.start, h.text, h.nodes) refl in
+    record {
+      forward = omega arith;
+      inside = within;
+      fits = record {
+        at = rw (h.at, h.nesting, h.text, h.nodes) fits.at;
+        tape = rw (h.text, h.nodes) fits.tape;
+        start = rw (h.start, h.text) fits.start;
+        covered = rw (h.at, h.start, h.text, h.nodes) fits.covered;
+      };
+      runs = λ s e. e ∙ ap (λ (t : State). Some t) (sym same);
+      reached = λ r. (r.0, r.1 ∙ ap (λ (t : State). Some t) (sym same));
+    }
+
+-- none of some bytes
+pub none_kept : (old new : Reader) (there : at.At) (b q : List ℕ) (from n : ℕ) → n ≡ 0 → Fits old → old.at ≡ there → from ≤ length b → Keeps old (take n q) there new → RunsTo old b from (from + n) new
+none_kept old new there b q from n none fits is_at within keeps =
+    let same : from ≡ from + n = omega (arith, none) in
+    subst (λ (to : ℕ). RunsTo old b from to new) same (stays_taken old new b from fits within (record {
+      at = keeps.at ∙ sym is_at;
+      text = keeps.text ∙ ap (λ (k : ℕ). old.text.items ++ take k q) none ∙ append-nil old.text.items;
+      nodes = keeps.nodes;
+      nesting = keeps.nesting;
+      start = keeps.start;
+    }))
 
 pub one_more : (old mid new : Reader) (b : List ℕ) (from to : ℕ) → RunsTo old b from to mid → to < length b
     → step NESTING_LIMIT (state_view mid) (get_or b to 0) ≡ Some (state_view new) → Fits new → RunsTo old b from (to + 1) new

@@ -6,7 +6,7 @@ use Rattle.std.proofs.Common.{◌≡◌, ℕ, arith, List, [], ◌∷◌, ◌++�
 use Rattle.std.specs.Str.{IsUtf8}
 use Rattle.mes_fixed.specs.Number.{IsNumber}
 use Rattle.mes_fixed.specs.Automaton.{letter_of, number_next, is_final}
-use Rattle.mes_fixed.specs.declared.automaton.Part.{Part}
+use Rattle.mes_fixed.specs.declared.automaton.NumberState.{NumberState}
 use Rattle.mes_json.specs.Tree.{Tree}
 use Rattle.mes_json.specs.Tree.Tree.{number}
 use Rattle.mes_json.specs.Machine as m
@@ -46,7 +46,7 @@ literal_ends old new result c w x t fits is_at has takes applied leads ok err =
     ok err
 
 -- ---- the bytes of a number
-pub number_begins : {A : Type 0} (old new : Reader) (result : Result A Stop) (c : ℕ) (x : Part) → Fits old → old.at ≡ at.TheVariants.Value
+pub number_begins : {A : Type 0} (old new : Reader) (result : Result A Stop) (c : ℕ) (x : NumberState) → Fits old → old.at ≡ at.TheVariants.Value
     → kind_of c ≡ m.Kind.begins (digits x (c ∷ [])) → OnOk result (Begins old (c ∷ []) (at.TheVariants.Digits x) new)
     → IfErr result (λ e. e ≡ NoMemory) → Owes result (state_view old) c new
 number_begins old new result c x fits is_at kind ok err =
@@ -59,7 +59,7 @@ number_begins old new result c x fits is_at kind ok err =
     (λ (begins : Begins old (c ∷ []) (at.TheVariants.Digits x) new). begun_fits old new (c ∷ []) (at.TheVariants.Digits x) fits begins (covered_at old at.TheVariants.Value is_at fits) h)
     ok err
 
-pub number_grows : {A : Type 0} (old new : Reader) (result : Result A Stop) (c : ℕ) (x next : Part) → Fits old → old.at ≡ at.TheVariants.Digits x
+pub number_grows : {A : Type 0} (old new : Reader) (result : Result A Stop) (c : ℕ) (x next : NumberState) → Fits old → old.at ≡ at.TheVariants.Digits x
     → number_next x (letter_of c) ≡ Some next → OnOk result (Keeps old (c ∷ []) (at.TheVariants.Digits next) new)
     → IfErr result (λ e. e ≡ NoMemory) → Owes result (state_view old) c new
 number_grows old new result c x next fits is_at leads ok err =
@@ -72,13 +72,13 @@ number_grows old new result c x next fits is_at leads ok err =
 
 -- ---- its end
 -- the reader in the number and behind it
-pub record EndsNumber (old new : Reader) (x : Part) : Type 0 where
+pub record EndsNumber (old new : Reader) (x : NumberState) : Type 0 where
   pub frames : List Frame
   pub before : state_view old ≡ state frames (m.At.token (digits x (part old)))
   pub behind : state_view new ≡ state frames (m.At.after (number (part old)))
   pub fits : Fits new
 
-pub number_ends : (old new : Reader) (x : Part) → Fits old → Reached old → old.at ≡ at.TheVariants.Digits x → is_final x ≡ true
+pub number_ends : (old new : Reader) (x : NumberState) → Fits old → Reached old → old.at ≡ at.TheVariants.Digits x → is_final x ≡ true
     → Puts old old.nesting.items (Number old.start (length old.text.items)) at.TheVariants.After new → EndsNumber old new x
 number_ends old new x fits reached is_at final puts =
     let from = at.TheVariants.Digits x in
@@ -101,22 +101,22 @@ number_ends old new x fits reached is_at final puts =
           (h.frames, h.is) (record { frames = h.frames; tree = number (part old); is = whole; are_open = h.are_open }) puts;
     }
 
-foreign : (d : ℕ) (fs : List Frame) (x : Part) (n : List ℕ) (c : ℕ) → (let none : Option Part = None in number_next x (letter_of c) ≡ none) → is_final x ≡ true
+foreign : (d : ℕ) (fs : List Frame) (x : NumberState) (n : List ℕ) (c : ℕ) → (let none : Option NumberState = None in number_next x (letter_of c) ≡ none) → is_final x ≡ true
     → step d (state fs (m.At.token (digits x n))) c ≡ step d (state fs (m.At.after (number n))) c
 foreign d fs x n c leads final =
     ap (on_digits fs x n c) leads ∙ ap (λ (b : Bool). if b then on_after fs (number n) (kind_of c) else None) final
 
 -- the byte behind it leads where it leads behind the value
-pub number_gives : {A : Type 0} (old new : Reader) (result : Result A Stop) (c : ℕ) (x : Part) (next : State) → EndsNumber old new x
-    → (let none : Option Part = None in number_next x (letter_of c) ≡ none) → is_final x ≡ true → Gives result (state_view new) c next → Gives result (state_view old) c next
+pub number_gives : {A : Type 0} (old new : Reader) (result : Result A Stop) (c : ℕ) (x : NumberState) (next : State) → EndsNumber old new x
+    → (let none : Option NumberState = None in number_next x (letter_of c) ≡ none) → is_final x ≡ true → Gives result (state_view new) c next → Gives result (state_view old) c next
 number_gives old new result c x next h leads final gives =
     gives_as result (state_view old) (state_view new) c next
     (λ d. ap (λ (s : State). step d s c) h.before ∙ foreign d h.frames x (part old) c leads final ∙ ap (λ (s : State). step d s c) (sym h.behind)) gives
 
-finish_as : (fs : List Frame) (x : Part) (n : List ℕ) → is_final x ≡ true → finish (state fs (m.At.after (number n))) ≡ finish (state fs (m.At.token (digits x n)))
+finish_as : (fs : List Frame) (x : NumberState) (n : List ℕ) → is_final x ≡ true → finish (state fs (m.At.after (number n))) ≡ finish (state fs (m.At.token (digits x n)))
 finish_as [] x n final = sym (ap (λ (b : Bool). finish_number b n) final)
 finish_as (f ∷ fs) x n final = refl
 
 -- the value behind it is the one that it ends
-pub number_finished : (old new : Reader) (x : Part) → EndsNumber old new x → is_final x ≡ true → finish (state_view new) ≡ finish (state_view old)
+pub number_finished : (old new : Reader) (x : NumberState) → EndsNumber old new x → is_final x ≡ true → finish (state_view new) ≡ finish (state_view old)
 number_finished old new x h final = ap finish h.behind ∙ finish_as h.frames x (part old) final ∙ ap finish (sym h.before)

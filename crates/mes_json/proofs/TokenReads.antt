@@ -9,8 +9,8 @@ use Rattle.std.proofs.lemmas.Bool.Decides.{nat_tests}
 use Rattle.mes_fixed.specs.Number.{IsNumber}
 use Rattle.mes_fixed.specs.Automaton.{letter_of, number_next, is_final, Ends}
 use Rattle.mes_fixed.specs.Automaton.Letter.{neither}
-use Rattle.mes_fixed.specs.declared.automaton.Part.{Part}
-use Rattle.mes_fixed.specs.declared.automaton.Part.TheVariants.{AtStart, AfterMinus, AfterZero, InWhole, AfterPoint, InFraction, AfterExponent, AfterSign, InExponent}
+use Rattle.mes_fixed.specs.declared.automaton.NumberState.{NumberState}
+use Rattle.mes_fixed.specs.declared.automaton.NumberState.TheVariants.{AtStart, AfterMinus, AfterZero, InWhole, AfterPoint, InFraction, AfterExponent, AfterSign, InExponent}
 use Rattle.mes_fixed.proofs.Grammar.{number_ends}
 use Rattle.mes_json.specs.Tree.{Tree}
 use Rattle.mes_json.specs.Tree.Tree.{null, boolean, number}
@@ -50,7 +50,7 @@ foreign c q (inr (inl e)) = ap letter_of e
 foreign c q (inr (inr (inl e))) = ap letter_of e
 foreign c q (inr (inr (inr e))) = ap letter_of e
 
-leads_nowhere : (part : Part) → number_next part neither ≡ None
+leads_nowhere : (part : NumberState) → number_next part neither ≡ None
 leads_nowhere AtStart = refl
 leads_nowhere AfterMinus = refl
 leads_nowhere AfterZero = refl
@@ -61,12 +61,12 @@ leads_nowhere AfterExponent = refl
 leads_nowhere AfterSign = refl
 leads_nowhere InExponent = refl
 
-foreign_step : (fs : List Frame) (part : Part) (n : List ℕ) (c : ℕ) (q : List ℕ) → is_final part ≡ true → Follows (c ∷ q) → on_token fs (digits part n) c ≡ on_after fs (number n) (kind_of c)
+foreign_step : (fs : List Frame) (part : NumberState) (n : List ℕ) (c : ℕ) (q : List ℕ) → is_final part ≡ true → Follows (c ∷ q) → on_token fs (digits part n) c ≡ on_after fs (number n) (kind_of c)
 foreign_step fs part n c q final h =
     ap (on_digits fs part n c) (ap (number_next part) (foreign c q h) ∙ leads_nowhere part)
     ∙ ap (λ x. if x then on_after fs (number n) (kind_of c) else None) final
 
-pub at_final : (d : ℕ) (fs : List Frame) (part : Part) (n : List ℕ) → is_final part ≡ true → Leads d (state fs (token (digits part n))) [] (state fs (after (number n)))
+pub at_final : (d : ℕ) (fs : List Frame) (part : NumberState) (n : List ℕ) → is_final part ≡ true → Leads d (state fs (token (digits part n))) [] (state fs (after (number n)))
 unfolding run
 at_final d [] part n final = by
   where
@@ -80,7 +80,7 @@ at_final d (f ∷ fs) part n final = by
     by (c ∷ q) h = ap (λ o. option_and_then finish (option_and_then (λ next. run d next q) o)) (foreign_step (f ∷ fs) part n c q final h)
 
 -- ---- numbers
-pub over_digits : (d : ℕ) (fs : List Frame) (part : Part) (n b : List ℕ) → Ends part b → Leads d (state fs (token (digits part n))) b (state fs (after (number (n ++ b))))
+pub over_digits : (d : ℕ) (fs : List Frame) (part : NumberState) (n b : List ℕ) → Ends part b → Leads d (state fs (token (digits part n))) b (state fs (after (number (n ++ b))))
 over_digits d fs part n [] h = subst (λ (x : List ℕ). Leads d (state fs (token (digits part n))) [] (state fs (after (number x)))) (sym (append-nil n)) (at_final d fs part n h)
 over_digits d fs part n (c ∷ b) h =
     subst (λ (x : List ℕ). Leads d (state fs (token (digits part n))) (c ∷ b) (state fs (after (number x)))) (append_assoc n (c ∷ []) b)
@@ -88,7 +88,7 @@ over_digits d fs part n (c ∷ b) h =
 
 -- a number's first byte, and the rest of it
 abbrev pub NumberStarts : List ℕ → Type 0
-NumberStarts b = (part : Part) × (c : ℕ) × (rest : List ℕ) × (b ≡ c ∷ rest) × (kind_of c ≡ begins (digits part (c ∷ []))) × Ends part rest
+NumberStarts b = (part : NumberState) × (c : ℕ) × (rest : List ℕ) × (b ≡ c ∷ rest) × (kind_of c ≡ begins (digits part (c ∷ []))) × Ends part rest
 
 pub number_starts : (b : List ℕ) → IsNumber b → NumberStarts b
 number_starts b h = by b ((number_ends b).0 h)

@@ -1,6 +1,6 @@
 -- The machine on some numbers and literals, computed.
 use Rattle.std.proofs.Common.{◌≡◌, true, false, [], ◌∷◌, Some, None, refl}
-use Rattle.mes_fixed.specs.declared.automaton.Part.TheVariants.{InWhole, AfterExponent}
+use Rattle.mes_fixed.specs.declared.automaton.NumberState.TheVariants.{InWhole, AfterExponent}
 use Rattle.mes_json.specs.Tree.Tree.{null, boolean, number}
 use Rattle.mes_json.specs.Tree.Members.{no_members}
 use Rattle.mes_json.specs.Machine.{start, run, ends}

@@ -5,8 +5,8 @@
 use Rattle.std.proofs.Common.{◌≡◌, ℕ, inl, inr, true, List, [], ◌∷◌, ◌++◌, Option, Some, None, ◌==◌, refl, ap, sym, ◌∙◌, subst, append_assoc, append-nil, eqb-true}
 use Rattle.mes_fixed.specs.Number.{IsNumber}
 use Rattle.mes_fixed.specs.Automaton.{letter_of, number_next, is_final, Ends}
-use Rattle.mes_fixed.specs.declared.automaton.Part.{Part}
-use Rattle.mes_fixed.specs.declared.automaton.Part.TheVariants.{AtStart}
+use Rattle.mes_fixed.specs.declared.automaton.NumberState.{NumberState}
+use Rattle.mes_fixed.specs.declared.automaton.NumberState.TheVariants.{AtStart}
 use Rattle.mes_fixed.proofs.Grammar.{number_ends}
 use Rattle.mes_json.specs.Tree.{Tree}
 use Rattle.mes_json.specs.Tree.Tree.{number}
@@ -79,10 +79,10 @@ literal_goes_on d fs e (a ∷ rest) t b h = let x = h.1 in (
 )
 
 -- ---- numbers
-pub number_is : (part : Part) (n b : List ℕ) → HeldToken (digits part n) b → is_final part ≡ true → IsNumber n
+pub number_is : (part : NumberState) (n b : List ℕ) → HeldToken (digits part n) b → is_final part ≡ true → IsNumber n
 number_is part n b h f = (number_ends n).1 (subst (Ends AtStart) (append-nil n) (h.1 [] f))
 
-pub number_held : (d : ℕ) (fs : List Frame) (part : Part) (n b : List ℕ) → Held d (state fs (token (digits part n))) b → is_final part ≡ true
+pub number_held : (d : ℕ) (fs : List Frame) (part : NumberState) (n b : List ℕ) → Held d (state fs (token (digits part n))) b → is_final part ≡ true
     → Held d (state fs (after (number n))) b
 number_held d fs part n b h f = let x = h.1 in (
   h.0,
@@ -97,7 +97,7 @@ number_held d fs part n b h f = let x = h.1 in (
   },
 )
 
-number_goes_on : (d : ℕ) (fs : List Frame) (part next : Part) (n b : List ℕ) (c : ℕ) → Held d (state fs (token (digits part n))) b → number_next part (letter_of c) ≡ Some next
+number_goes_on : (d : ℕ) (fs : List Frame) (part next : NumberState) (n b : List ℕ) (c : ℕ) → Held d (state fs (token (digits part n))) b → number_next part (letter_of c) ≡ Some next
     → Held d (state fs (token (digits next (n ++ c ∷ [])))) (b ++ c ∷ [])
 number_goes_on d fs part next n b c h e = let x = h.1 in (
   h.0,
@@ -110,7 +110,7 @@ number_goes_on d fs part next n b c h e = let x = h.1 in (
   },
 )
 
-on_digits_sound : (d : ℕ) (fs : List Frame) (part : Part) (n b : List ℕ) (c : ℕ) (next : State) (o : Option Part) → number_next part (letter_of c) ≡ o
+on_digits_sound : (d : ℕ) (fs : List Frame) (part : NumberState) (n b : List ℕ) (c : ℕ) (next : State) (o : Option NumberState) → number_next part (letter_of c) ≡ o
     → Held d (state fs (token (digits part n))) b
     → on_digits fs part n c o ≡ Some next → Held d next (b ++ c ∷ [])
 on_digits_sound d fs part n b c next (Some p) is h e = subst (λ (s : State). Held d s (b ++ c ∷ [])) (some_is e) (number_goes_on d fs part p n b c h is)

@@ -3,7 +3,7 @@
 --     step_deeper, run_deeper           a higher limit takes no step away
 use Rattle.std.proofs.Common.{◌≡◌, ℕ, zero, suc, ◌+◌, ◌<◌, ◌≤◌, inl, inr, Bool, true, false, List, [], ◌∷◌, ◌++◌, length, Option, Some, None, option_and_then, if◌then◌else◌, nat_lt, refl, ap, sym, ◌∙◌, arith, lt-ltb, ltb-true}
 use Rattle.mes_fixed.specs.Automaton.{is_final}
-use Rattle.mes_fixed.specs.declared.automaton.Part.{Part}
+use Rattle.mes_fixed.specs.declared.automaton.NumberState.{NumberState}
 use Rattle.mes_fixed.proofs.Grammar.{ended_by_zero}
 use Rattle.mes_json.specs.Tree.{Tree, Members}
 use Rattle.mes_json.specs.Tree.Tree.{string, number, array, object}
@@ -68,7 +68,7 @@ unfolding run
 name_closes d fs ms = closes_by d _ (state fs (named ms [])) (34 ∷ 34 ∷ []) (λ q. refl) (named_closes d fs ms [])
 
 -- a number that may not end here may do so behind a zero
-digits_close : (d : ℕ) (fs : List Frame) (part : Part) (n : List ℕ) → Closes d (state fs (token (digits part n)))
+digits_close : (d : ℕ) (fs : List Frame) (part : NumberState) (n : List ℕ) → Closes d (state fs (token (digits part n)))
 digits_close d fs part n = by (is_final part) refl
   where
     by : (final : Bool) → is_final part ≡ final → Closes d (state fs (token (digits part n)))

@@ -9,8 +9,8 @@ use Rattle.mes_json.specs.declared.limits.TheConstants.{NESTING_LIMIT}
 use Rattle.mes_json.specs.declared.fault.TextFault.{TextFault}
 use Rattle.mes_json.specs.declared.fault.ReadFault as fault
 use Rattle.mes_json.specs.declared.reader.Reader.{Reader}
-use Rattle.mes_json.specs.declared.lexer.Kept.{Kept}
-use Rattle.mes_json.specs.declared.lexer.Kept.TheVariants.{Reading, Faulty, OutOfMemory}
+use Rattle.mes_json.specs.declared.lexer.LexerState.{LexerState}
+use Rattle.mes_json.specs.declared.lexer.LexerState.TheVariants.{Reading, Faulty, OutOfMemory}
 use Rattle.mes_json.specs.declared.lexer.Lexer.{Lexer}
 
 -- so many bytes, as far as a u64 counts
@@ -45,22 +45,22 @@ pub record IsFaulty (f : TextFault) (p : List ℕ) : Type 0 where
   pub stuck : Stuck start p exact
   pub rounds : Rounds exact f
 
--- what is kept of the bytes
-abbrev pub KeepsOf : ℕ → Kept → List ℕ → Type 0
-KeepsOf n (Reading r) p = IsReading n r p
-KeepsOf n (Faulty f) p = IsFaulty f p
-KeepsOf n OutOfMemory p = Unit {0}
+-- what the bytes brought a lexer to
+abbrev pub StandsFor : ℕ → LexerState → List ℕ → Type 0
+StandsFor n (Reading r) p = IsReading n r p
+StandsFor n (Faulty f) p = IsFaulty f p
+StandsFor n OutOfMemory p = Unit {0}
 
 -- these are the bytes that were pushed, in whatever runs they came
 unfoldable pub HasLexed : Lexer → List ℕ → Type 0
-HasLexed l p = KeepsOf l.0 l.1 p
+HasLexed l p = StandsFor l.0 l.1 p
 
 -- some bytes were pushed
-abbrev pub IsPossible : ℕ × Kept → Type 0
-IsPossible l = (p : List ℕ) × KeepsOf l.0 l.1 p
+abbrev pub IsPossible : ℕ × LexerState → Type 0
+IsPossible l = (p : List ℕ) × StandsFor l.0 l.1 p
 
 -- a growth was refused memory
-abbrev pub HasNoMemory : Kept → Type 0
+abbrev pub HasNoMemory : LexerState → Type 0
 HasNoMemory (Reading r) = ⊥
 HasNoMemory (Faulty f) = ⊥
 HasNoMemory OutOfMemory = Unit {0}
@@ -75,13 +75,13 @@ Tells (Ok _) l = IsOutOfMemory l → ⊥
 Tells (Err _) l = IsOutOfMemory l
 
 -- how many bytes of texts and numbers are kept
-abbrev pub text_of : Kept → ℕ
+abbrev pub text_of : LexerState → ℕ
 text_of (Reading r) = length r.text.items
 text_of (Faulty f) = 0
 text_of OutOfMemory = 0
 
 -- how many nodes are kept
-abbrev pub nodes_of : Kept → ℕ
+abbrev pub nodes_of : LexerState → ℕ
 nodes_of (Reading r) = length r.nodes.items
 nodes_of (Faulty f) = 0
 nodes_of OutOfMemory = 0

@@ -2,8 +2,8 @@
 -- the grammar is proved.
 use Rattle.std.specs.Prelude.{ℕ, zero, suc, ◌&&◌, ◌||◌, Bool, true, false, List, [], ◌∷◌, ◌++◌, length, Option, Some, None, option_and_then, if◌then◌else◌, ◌==◌, nat_lt, nat_le, encode_utf8}
 use Rattle.mes_fixed.specs.Automaton.{letter_of, number_next, is_final}
-use Rattle.mes_fixed.specs.declared.automaton.Part.{Part}
-use Rattle.mes_fixed.specs.declared.automaton.Part.TheVariants.{AtStart}
+use Rattle.mes_fixed.specs.declared.automaton.NumberState.{NumberState}
+use Rattle.mes_fixed.specs.declared.automaton.NumberState.TheVariants.{AtStart}
 use Rattle.mes_json.specs.Tree.{Tree, Items, Members}
 use Rattle.mes_json.specs.Tree.Tree.{null, boolean, number, string, array, object}
 use Rattle.mes_json.specs.Tree.Items.{no_items, item}
@@ -16,7 +16,7 @@ use Rattle.mes_json.specs.Escape.Move.{on, makes, refused}
 -- part of a number that its bytes so far lead to
 pub data Token : Type 0 where
   literal : ℕ → List ℕ → Tree → Token
-  digits : Part → List ℕ → Token
+  digits : NumberState → List ℕ → Token
 
 -- what a byte is outside a string
 pub data Kind : Type 0 where
@@ -24,7 +24,7 @@ pub data Kind : Type 0 where
   begins : Token → Kind
 
 -- the kind of a byte, by where it leads from the start of a number
-abbrev pub kind_unless : ℕ → Option Part → Kind
+abbrev pub kind_unless : ℕ → Option NumberState → Kind
 kind_unless c (Some part) = begins (digits part (c ∷ []))
 kind_unless c None =
     if c == 34 then quote
@@ -202,7 +202,7 @@ due [] t = after t
 due (e ∷ rest) t = token (literal e rest t)
 
 -- in a number, by the part that the byte leads to: a byte that leads nowhere stands behind the number, where that may end
-abbrev pub on_digits : List Frame → Part → List ℕ → ℕ → Option Part → Option State
+abbrev pub on_digits : List Frame → NumberState → List ℕ → ℕ → Option NumberState → Option State
 on_digits fs part n c (Some next) = Some (state fs (token (digits next (n ++ c ∷ []))))
 on_digits fs part n c None = if is_final part then on_after fs (number n) (kind_of c) else None
 

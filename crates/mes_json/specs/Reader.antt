@@ -1,7 +1,7 @@
 -- What the reader stands for: a state of the machine. Private clauses alone cite it.
 use Rattle.std.specs.Prelude.{◌≡◌, ◌≢◌, ℕ, ◌-◌, ◌<◌, ◌≤◌, ◌⊎◌, Bool, true, false, List, [], ◌∷◌, ◌++◌, length, take, drop, Option, Some, None, Result, Ok, Err, slice_get}
 use Rattle.mes_fixed.specs.Automaton.{nought, digit, number_next}
-use Rattle.mes_fixed.specs.declared.automaton.Part.{Part}
+use Rattle.mes_fixed.specs.declared.automaton.NumberState.{NumberState}
 use Rattle.mes_json.specs.Tree.{Tree, Members}
 use Rattle.mes_json.specs.Tree.Tree.{null, boolean}
 use Rattle.mes_json.specs.Tree.Members.{no_members, member}
@@ -232,7 +232,7 @@ abbrev pub IsBlank : ℕ → Type 0
 IsBlank c = (c ≡ 0x20) ⊎ ((c ≡ 0x09) ⊎ ((c ≡ 0x0A) ⊎ (c ≡ 0x0D)))
 
 -- a digit leaves a number in this part of it
-abbrev pub KeepsOn : Part → Type 0
+abbrev pub KeepsOn : NumberState → Type 0
 KeepsOn x = (number_next x nought ≡ Some x) × (number_next x digit ≡ Some x)
 
 -- one more node, the place behind it, and what is open there
@@ -241,6 +241,14 @@ pub record Puts (old : Reader) (nesting : List Open) (x : node.Node) (place : at
   pub nodes : new.nodes.items ≡ old.nodes.items ++ x ∷ []
   pub text : new.text.items ≡ old.text.items
   pub nesting_is : new.nesting.items ≡ nesting
+  pub start : new.start ≡ old.start
+
+-- nothing has changed but, perhaps, the room
+pub record Stays (old new : Reader) : Type 0 where
+  pub at : new.at ≡ old.at
+  pub text : new.text.items ≡ old.text.items
+  pub nodes : new.nodes.items ≡ old.nodes.items
+  pub nesting : new.nesting.items ≡ old.nesting.items
   pub start : new.start ≡ old.start
 
 -- more bytes of text, and the place behind them

@@ -2,7 +2,7 @@
 
 use crate::utf8::Mid;
 use crate::word::Word;
-use mes_fixed::automaton::Part;
+use mes_fixed::automaton::NumberState;
 
 /// What a string is read for.
 #[derive(Clone, Copy)]
@@ -33,5 +33,5 @@ pub(crate) enum At {
     /// The rest of a literal.
     Literal(Word),
     /// The rest of a number.
-    Digits(Part),
+    Digits(NumberState),
 }

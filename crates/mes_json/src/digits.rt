@@ -3,16 +3,16 @@ ghost use Rattle.std.specs.Prelude.{◌↔◌, ◌<◌, ◌≤◌, IsTrue, lengt
 ghost use Rattle.std.specs.List.{AllByRecursion};
 ghost use Rattle.mes_json.specs.Reader.{IsDigit, KeepsOn};
 
-use mes_fixed::automaton::Part;
+use mes_fixed::automaton::NumberState;
 
 /// Whether a digit leaves a number in the part that it is in (RFC 8259, section 6).
-pub(crate) fn keeps_on(part: Part) -> bool
+pub(crate) fn keeps_on(part: NumberState) -> bool
     ensures { IsTrue result ↔ KeepsOn part }
 {
     match part {
-        Part::InWhole => true,
-        Part::InFraction => true,
-        Part::InExponent => true,
+        NumberState::InWhole => true,
+        NumberState::InFraction => true,
+        NumberState::InExponent => true,
         _ => false,
     }
 }

@@ -4,7 +4,7 @@ ghost use Rattle.mes_json.specs.Machine.{kind_of};
 ghost use Rattle.mes_json.specs.Reader.{kind_view};
 
 use crate::word::Word;
-use mes_fixed::automaton::Part;
+use mes_fixed::automaton::NumberState;
 
 /// What a byte is outside a string (RFC 8259, sections 2, 3 and 6).
 #[derive(Clone, Copy)]
@@ -20,7 +20,7 @@ pub(crate) enum Kind {
     /// The first byte of a literal.
     Word(Word),
     /// The first byte of a number, with the part that it leads to.
-    Digits(Part),
+    Digits(NumberState),
     Other,
 }
 
@@ -39,9 +39,9 @@ impl Kind {
             b']' => Kind::ClosingArray,
             b':' => Kind::Colon,
             b',' => Kind::Comma,
-            b'-' => Kind::Digits(Part::AfterMinus),
-            b'0' => Kind::Digits(Part::AfterZero),
-            b'1'..=b'9' => Kind::Digits(Part::InWhole),
+            b'-' => Kind::Digits(NumberState::AfterMinus),
+            b'0' => Kind::Digits(NumberState::AfterZero),
+            b'1'..=b'9' => Kind::Digits(NumberState::InWhole),
             b'n' => Kind::Word(Word::N),
             b't' => Kind::Word(Word::T),
             b'f' => Kind::Word(Word::F),

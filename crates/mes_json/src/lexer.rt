@@ -1,6 +1,6 @@
 #![tactic(auto, unfolding(crate::specs::Lexer::HasLexed, crate::specs::Lexer::IsOutOfMemory, crate::specs::Lexer::held))]
 //! Reads a JSON text that comes in pieces.
-ghost use Rattle.std.specs.Prelude.{◌≡◌, ◌≢◌, ◌<◌, ℕ, List, [], ◌∷◌, ◌++◌, length, Err, IfOk, IfErr, MatchResult};
+ghost use Rattle.std.specs.Prelude.{◌≡◌, ◌≢◌, ◌<◌, ℕ, List, [], ◌∷◌, ◌++◌, length, take, Err, IfOk, IfErr, MatchResult};
 ghost use Rattle.mes_json.specs.Tree.{Tree};
 ghost use Rattle.mes_json.specs.Grammar.{IsText};
 ghost use Rattle.mes_json.specs.Machine.{start};
@@ -22,9 +22,9 @@ use crate::value::Json;
 use std::alloc::Global;
 use std::marker::Model;
 
-/// What is kept of the bytes.
+/// How far a text was read.
 #[derive(Drop)]
-enum Kept {
+enum LexerState {
     /// Some text goes on from them.
     Reading(Reader),
     /// None does.
@@ -40,39 +40,39 @@ pub struct Lexer {
     alloc: Global,
     /// How many bytes were taken before a fault, as far as a u64 counts.
     count: u64,
-    kept: Kept,
+    state: LexerState,
 }
 
 // Not inlined, so that taking a byte makes no room for what is let go here.
-impl Kept {
+impl LexerState {
     /// No text goes on from the bytes.
     #[inline(never)]
     fn fail(&mut self, fault: TextFault)
-        ensures { self.new ≡ Kept.Faulty fault }
+        ensures { self.new ≡ LexerState.Faulty fault }
     {
-        *self = Kept::Faulty(fault);
+        *self = LexerState::Faulty(fault);
     }
 
     /// A growth was refused memory.
     #[inline(never)]
     fn lose(&mut self)
-        ensures { self.new ≡ Kept.OutOfMemory }
+        ensures { self.new ≡ LexerState.OutOfMemory }
     {
-        *self = Kept::OutOfMemory;
+        *self = LexerState::OutOfMemory;
     }
 }
 
 impl Model for Lexer {
     ghost use Rattle.std.specs.Prelude.{ℕ};
-    ghost use Rattle.mes_json.specs.declared.lexer.Kept.{Kept};
+    ghost use Rattle.mes_json.specs.declared.lexer.LexerState.{LexerState};
 
-    ghost Value = { ℕ × Kept };
+    ghost Value = { ℕ × LexerState };
 
     ghost use Rattle.mes_json.specs.Lexer.{IsPossible};
 
-    ghost view = { λ l. (l.count, l.kept) };
+    ghost view = { λ l. (l.count, l.state) };
 
-    ghost invariant = { λ l. IsPossible (l.count, l.kept) };
+    ghost invariant = { λ l. IsPossible (l.count, l.state) };
 }
 
 impl Lexer {
@@ -103,7 +103,7 @@ impl Lexer {
         Lexer {
             alloc,
             count: 0,
-            kept: Kept::Reading(reader),
+            state: LexerState::Reading(reader),
         }
     }
 
@@ -116,26 +116,26 @@ impl Lexer {
         // Behind a fault nothing wants memory.
         ensures swallows { (p : List ℕ) → HasLexed self.old p → (Begins NESTING_LIMIT p → ⊥) → (IsOutOfMemory self.old → ⊥) → IsOutOfMemory self.new → ⊥ }
     {
-        match &mut self.kept {
-            Kept::Reading(reader) => match reader.step(byte) {
+        match &mut self.state {
+            LexerState::Reading(reader) => match reader.step(byte) {
                 Ok(()) => {
                     self.count = self.count.saturating_add(1);
                     Ok(())
                 }
                 Err(Stop::Refused(why)) => {
-                    self.kept.fail(TextFault {
+                    self.state.fail(TextFault {
                         byte: self.count,
                         why,
                     });
                     Ok(())
                 }
                 Err(Stop::NoMemory) => {
-                    self.kept.lose();
+                    self.state.lose();
                     Err(NoMemory)
                 }
             },
-            Kept::Faulty(_) => Ok(()),
-            Kept::OutOfMemory => Err(NoMemory),
+            LexerState::Faulty(_) => Ok(()),
+            LexerState::OutOfMemory => Err(NoMemory),
         }
     }
 
@@ -146,32 +146,34 @@ impl Lexer {
         ensures stays { IsOutOfMemory self.old → IsOutOfMemory self.new }
         // Behind a fault nothing wants memory.
         ensures swallows { (p : List ℕ) → HasLexed self.old p → (Begins NESTING_LIMIT p → ⊥) → (IsOutOfMemory self.old → ⊥) → IsOutOfMemory self.new → ⊥ }
-        // Memory was refused for a byte of the run; behind a refusal it is so for the first one again.
+        // Memory was refused for a byte of the run, which `push` could not take; behind a refusal it is so for the first one again.
         ensures taken { IfErr result (λ refused. 0 < length bytes.now → refused.taken < length bytes.now) }
+        // Those before it were taken, and some text goes on from them.
+        ensures before { (p : List ℕ) → HasLexed self.old p → (IsOutOfMemory self.old → ⊥) → IfErr result (λ refused. Begins NESTING_LIMIT (p ++ take refused.taken bytes.now)) }
         ensures again { IsOutOfMemory self.old → IfErr result (λ refused. refused.taken ≡ 0) }
     {
-        match &mut self.kept {
-            Kept::Reading(reader) => match reader.take_bytes(bytes) {
+        match &mut self.state {
+            LexerState::Reading(reader) => match reader.take_bytes(bytes) {
                 Ok(()) => {
                     self.count = self.count.saturating_add(bytes.len() as u64);
                     Ok(())
                 }
                 Err(RunStop { place, stop }) => match stop {
                     Stop::Refused(why) => {
-                        self.kept = Kept::Faulty(TextFault {
+                        self.state = LexerState::Faulty(TextFault {
                             byte: self.count.saturating_add(place as u64),
                             why,
                         });
                         Ok(())
                     }
                     Stop::NoMemory => {
-                        self.kept = Kept::OutOfMemory;
+                        self.state = LexerState::OutOfMemory;
                         Err(NoMemoryAt { taken: place })
                     }
                 },
             },
-            Kept::Faulty(_) => Ok(()),
-            Kept::OutOfMemory => Err(NoMemoryAt { taken: 0 }),
+            LexerState::Faulty(_) => Ok(()),
+            LexerState::OutOfMemory => Err(NoMemoryAt { taken: 0 }),
         }
     }
 
@@ -182,10 +184,10 @@ impl Lexer {
         ensures fault { (p : List ℕ) → HasLexed self.now p → (Begins NESTING_LIMIT p → ⊥) → result ≡ 0 }
         ensures memory { IsOutOfMemory self.now → result ≡ 0 }
     {
-        match &self.kept {
-            Kept::Reading(reader) => reader.held(),
-            Kept::Faulty(_) => 0,
-            Kept::OutOfMemory => 0,
+        match &self.state {
+            LexerState::Reading(reader) => reader.held(),
+            LexerState::Faulty(_) => 0,
+            LexerState::OutOfMemory => 0,
         }
     }
 
@@ -223,18 +225,18 @@ impl Lexer {
         let Lexer {
             alloc: _alloc,
             count,
-            kept,
+            state,
         } = self;
-        match kept {
-            Kept::Reading(reader) => match reader.into_tape()? {
+        match state {
+            LexerState::Reading(reader) => match reader.into_tape()? {
                 Some(tape) => Ok(tape),
                 None => Err(ReadFault::Text(TextFault {
                     byte: count,
                     why: Why::End,
                 })),
             },
-            Kept::Faulty(fault) => Err(ReadFault::Text(fault)),
-            Kept::OutOfMemory => Err(ReadFault::NoMemory),
+            LexerState::Faulty(fault) => Err(ReadFault::Text(fault)),
+            LexerState::OutOfMemory => Err(ReadFault::NoMemory),
         }
     }
 }

@@ -1,9 +1,9 @@
 //! The reader: takes a JSON text a byte at a time and keeps it as a tape.
-ghost use Rattle.std.specs.Prelude.{◌≡◌, ◌+◌, ◌<◌, ◌≤◌, [], ◌∷◌, length, option_map, slice_index, encode_utf8, IfOk, IfErr, OnOk};
+ghost use Rattle.std.specs.Prelude.{◌≡◌, ◌+◌, ◌<◌, ◌≤◌, [], ◌∷◌, length, option_map, slice_index, encode_utf8, IfOk, IfErr, OnOk, OnErr};
 ghost use Rattle.mes_json.specs.declared.stop.Stop.TheVariants.{NoMemory as no_memory};
 ghost use Rattle.mes_json.specs.Machine.{start, finish};
 ghost use Rattle.mes_json.specs.Tokens.{tokens};
-ghost use Rattle.mes_json.specs.Reader.{Fits, Reached, EndsWhole, Gives, RunsTo, Enters, Puts, Keeps, Begins, innermost, outer, string_node, behind_string, state_view};
+ghost use Rattle.mes_json.specs.Reader.{Fits, Reached, EndsWhole, Gives, RunsTo, Enters, Puts, Keeps, Stays, Begins, innermost, outer, string_node, behind_string, state_view};
 
 use crate::at::{At, Purpose};
 use crate::blank::blank_run;
@@ -13,7 +13,7 @@ use crate::escape::{Escape, Move, whole_escape};
 use crate::fault::Why;
 use crate::kind::Kind;
 use crate::limits::NESTING_LIMIT;
-use crate::memory::{NoMemory, NoMemoryAt};
+use crate::memory::NoMemory;
 use crate::nesting::Open;
 use crate::plain::append_front;
 use crate::stop::Stop;
@@ -21,7 +21,7 @@ use crate::tape::{Node, Tape, put_node, text_span};
 use crate::utf8::Mid;
 use crate::word::{Said, Word};
 use arrayvec::ArrayVec;
-use mes_fixed::automaton::{Part, may_end, next_part};
+use mes_fixed::automaton::{NumberState, may_end, next_state};
 use std::alloc::Global;
 
 /// What was read of a JSON text.
@@ -84,150 +84,121 @@ impl Reader {
     }
 
     /// Takes the bytes behind this place, whose byte was the last, that need no look each: characters of a string with the
-    /// quotation mark and the colon that may follow, digits of a number, or white space between tokens. The result is the place
-    /// behind them.
+    /// quotation mark and the colon that may follow, digits of a number, or white space between tokens. What would need memory
+    /// that is refused is left. The result is the place behind what was taken.
     #[inline(always)]
-    pub(crate) fn take_run(&mut self, bytes: &[u8], place: usize) -> Result<usize, NoMemoryAt>
+    pub(crate) fn take_run(&mut self, bytes: &[u8], place: usize) -> usize
         requires inside { place < length bytes.now }
         requires fits { Fits self.old }
         requires reached { Reached self.old }
-        ensures { IfOk result (λ to. RunsTo self.old bytes.now (place + 1) to self.new) }
+        ensures { RunsTo self.old bytes.now (place + 1) result self.new }
     {
         let from = place + 1;
         match self.at {
             At::Quoted(purpose, mid) => match mid {
                 Mid::Between => self.take_string(purpose, bytes, from),
                 Mid::Escape(escape) => self.take_escape(purpose, escape, bytes, from),
-                Mid::Within { .. } => Ok(from),
+                Mid::Within { .. } => from,
             },
             At::Digits(part) if keeps_on(part) => {
                 let rest = &bytes[from..];
-                let run = digit_run(rest);
-                match append_front(&mut self.text, rest, run) {
-                    Ok(()) => Ok(from + run),
-                    Err(NoMemory) => Err(NoMemoryAt { taken: from }),
-                }
+                from + append_front(&mut self.text, rest, digit_run(rest))
             }
-            At::Digits(_) | At::Literal(_) => Ok(from),
+            At::Digits(_) | At::Literal(_) => from,
             At::Value | At::FirstItem | At::FirstName | At::Name | At::Colon | At::After => {
                 if bytes[place] > b' ' {
-                    return Ok(from);
+                    return from;
                 }
-                Ok(from + blank_run(&bytes[from..]))
+                from + blank_run(&bytes[from..])
             }
         }
     }
 
     /// Takes the characters of a string from this place, the quotation mark behind them, and the colon behind a name.
     #[inline(always)]
-    fn take_string(
-        &mut self,
-        purpose: Purpose,
-        bytes: &[u8],
-        from: usize,
-    ) -> Result<usize, NoMemoryAt>
+    fn take_string(&mut self, purpose: Purpose, bytes: &[u8], from: usize) -> usize
         requires at { self.old.at ≡ At.Quoted purpose Mid.Between }
         requires inside { from ≤ length bytes.now }
         requires fits { Fits self.old }
         requires reached { Reached self.old }
-        ensures { IfOk result (λ to. RunsTo self.old bytes.now from to self.new) }
+        ensures { RunsTo self.old bytes.now from result self.new }
     {
-        let end = self.take_characters(purpose, bytes, from)?;
+        let end = self.take_characters(purpose, bytes, from);
         if end == bytes.len() {
-            return Ok(end);
+            return end;
         }
         match bytes[end] {
             b'"' => self.take_end(purpose, bytes, end),
             b'\\' => self.take_escapes(purpose, bytes, end),
-            _ => Ok(end),
+            _ => end,
         }
     }
 
     /// Takes the characters of a string from this place that stand for themselves.
     #[inline(always)]
-    fn take_characters(
-        &mut self,
-        purpose: Purpose,
-        bytes: &[u8],
-        from: usize,
-    ) -> Result<usize, NoMemoryAt>
+    fn take_characters(&mut self, purpose: Purpose, bytes: &[u8], from: usize) -> usize
         requires at { self.old.at ≡ At.Quoted purpose Mid.Between }
         requires inside { from ≤ length bytes.now }
         requires fits { Fits self.old }
-        ensures runs { IfOk result (λ to. RunsTo self.old bytes.now from to self.new) }
-        ensures at { OnOk result (self.new.at ≡ At.Quoted purpose Mid.Between) }
+        ensures runs { RunsTo self.old bytes.now from result self.new }
+        ensures at { self.new.at ≡ At.Quoted purpose Mid.Between }
     {
         let rest = &bytes[from..];
-        let run = character_run(rest);
-        match append_front(&mut self.text, rest, run) {
-            Ok(()) => Ok(from + run),
-            Err(NoMemory) => Err(NoMemoryAt { taken: from }),
-        }
+        from + append_front(&mut self.text, rest, character_run(rest))
     }
 
     /// Takes the quotation mark at this place, which ends the string, and the colon behind a name.
     #[inline(always)]
-    fn take_end(&mut self, purpose: Purpose, bytes: &[u8], from: usize) -> Result<usize, NoMemoryAt>
+    fn take_end(&mut self, purpose: Purpose, bytes: &[u8], from: usize) -> usize
         requires at { self.old.at ≡ At.Quoted purpose Mid.Between }
         requires inside { from < length bytes.now }
         requires quote { slice_index bytes.now from ≡ 34 }
         requires fits { Fits self.old }
         requires reached { Reached self.old }
-        ensures { IfOk result (λ to. RunsTo self.old bytes.now from to self.new) }
+        ensures { RunsTo self.old bytes.now from result self.new }
     {
         match self.close_string(purpose) {
-            Ok(()) => Ok(self.take_colon(bytes, from + 1)),
-            Err(NoMemory) => Err(NoMemoryAt { taken: from }),
+            Ok(()) => self.take_colon(bytes, from + 1),
+            Err(NoMemory) => from,
         }
     }
 
     /// Takes the escapes from this place that are whole, the characters between and behind them, the quotation mark, and the
     /// colon behind a name. Not inlined, since most strings have no escape.
     #[inline(never)]
-    fn take_escapes(
-        &mut self,
-        purpose: Purpose,
-        bytes: &[u8],
-        from: usize,
-    ) -> Result<usize, NoMemoryAt>
+    fn take_escapes(&mut self, purpose: Purpose, bytes: &[u8], from: usize) -> usize
         requires at { self.old.at ≡ At.Quoted purpose Mid.Between }
         requires inside { from ≤ length bytes.now }
         requires fits { Fits self.old }
         requires reached { Reached self.old }
-        ensures { IfOk result (λ to. RunsTo self.old bytes.now from to self.new) }
+        ensures { RunsTo self.old bytes.now from result self.new }
     {
         let mut place = from;
         while place < bytes.len() && bytes[place] == b'\\' {
             let Some((character, taken)) = whole_escape(&bytes[place + 1..]) else {
-                return Ok(place);
+                return place;
             };
             if let Err(NoMemory) = self.append_character(
                 character,
                 At::Quoted(purpose, Mid::Between),
             ) {
-                return Err(NoMemoryAt { taken: place });
+                return place;
             }
-            place = self.take_characters(purpose, bytes, place + 1 + taken)?;
+            place = self.take_characters(purpose, bytes, place + 1 + taken);
         }
         if place == bytes.len() || bytes[place] != b'"' {
-            return Ok(place);
+            return place;
         }
         self.take_end(purpose, bytes, place)
     }
 
     /// Takes the rest of an escape from this place, and what follows it in the string. A byte that leads nowhere is left.
-    fn take_escape(
-        &mut self,
-        purpose: Purpose,
-        first: Escape,
-        bytes: &[u8],
-        from: usize,
-    ) -> Result<usize, NoMemoryAt>
+    fn take_escape(&mut self, purpose: Purpose, first: Escape, bytes: &[u8], from: usize) -> usize
         requires at { self.old.at ≡ At.Quoted purpose (Mid.Escape first) }
         requires inside { from ≤ length bytes.now }
         requires fits { Fits self.old }
         requires reached { Reached self.old }
-        ensures { IfOk result (λ to. RunsTo self.old bytes.now from to self.new) }
+        ensures { RunsTo self.old bytes.now from result self.new }
     {
         let mut place = from;
         let mut escape = first;
@@ -240,15 +211,15 @@ impl Reader {
                         At::Quoted(purpose, Mid::Between),
                     ) {
                         Ok(()) => self.take_string(purpose, bytes, place + 1),
-                        Err(NoMemory) => Err(NoMemoryAt { taken: place }),
+                        Err(NoMemory) => place,
                     };
                 }
-                Move::Refused => break,
+                Move::Refused => return place,
             }
+            self.at = At::Quoted(purpose, Mid::Escape(escape));
             place += 1;
         }
-        self.at = At::Quoted(purpose, Mid::Escape(escape));
-        Ok(place)
+        place
     }
 
     /// Takes the colon at this place, where one is due.
@@ -502,14 +473,14 @@ impl Reader {
     }
 
     #[inline(always)]
-    fn digits(&mut self, part: Part, byte: u8) -> Result<(), Stop>
+    fn digits(&mut self, part: NumberState, byte: u8) -> Result<(), Stop>
         requires at { self.old.at ≡ At.Digits part }
         requires fits { Fits self.old }
         requires reached { Reached self.old }
         ensures gives { Gives result (state_view self.old) byte (state_view self.new) }
         ensures fits { OnOk result (Fits self.new) }
     {
-        match next_part(part, byte) {
+        match next_state(part, byte) {
             Some(next) => self.keep(byte, At::Digits(next)),
             None => {
                 if !may_end(part) {
@@ -580,7 +551,8 @@ impl Reader {
     #[inline(always)]
     fn close_string(&mut self, purpose: Purpose) -> Result<(), NoMemory>
         requires { self.old.start ≤ length self.old.text.items }
-        ensures { OnOk result (Puts self.old self.old.nesting.items (string_node purpose self.old) (behind_string purpose) self.new) }
+        ensures ok { OnOk result (Puts self.old self.old.nesting.items (string_node purpose self.old) (behind_string purpose) self.new) }
+        ensures err { OnErr result (Stays self.old self.new) }
     {
         let (from, to) = text_span(self.start, self.text.len())?;
         match purpose {
@@ -597,7 +569,7 @@ impl Reader {
     }
 
     /// A number begins with a byte that leads to this part of it.
-    fn begin_number(&mut self, byte: u8, part: Part) -> Result<(), Stop>
+    fn begin_number(&mut self, byte: u8, part: NumberState) -> Result<(), Stop>
         ensures ok { OnOk result (Begins self.old (byte ∷ []) (At.Digits part) self.new) }
         ensures err { IfErr result (λ e. e ≡ no_memory) }
     {
@@ -639,7 +611,8 @@ impl Reader {
     /// The same, where no byte can be refused.
     #[inline(always)]
     fn append_character(&mut self, character: char, at: At) -> Result<(), NoMemory>
-        ensures { OnOk result (Keeps self.old (encode_utf8 character) at self.new) }
+        ensures ok { OnOk result (Keeps self.old (encode_utf8 character) at self.new) }
+        ensures err { OnErr result (Stays self.old self.new) }
     {
         let mut bytes = [0; 4];
         let text = character.encode_utf8(&mut bytes);

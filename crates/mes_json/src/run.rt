@@ -1,12 +1,11 @@
 //! Bytes taken by the reader all at once.
-ghost use Rattle.std.specs.Prelude.{◌≡◌, ◌<◌, Some, IfErr, OnOk, length};
-ghost use Rattle.mes_json.specs.Machine.{run};
+ghost use Rattle.std.specs.Prelude.{◌≡◌, ◌<◌, Some, IfErr, OnOk, length, take};
+ghost use Rattle.mes_json.specs.Machine.{State, run};
 ghost use Rattle.mes_json.specs.Reader.{Fits, Reached, state_view};
 ghost use Rattle.mes_json.specs.Read.{StopsIn, fault_at};
 
 use crate::fault::{ReadFault, TextFault};
 use crate::limits::NESTING_LIMIT;
-use crate::memory::NoMemoryAt;
 use crate::reader::Reader;
 use crate::stop::Stop;
 
@@ -34,8 +33,8 @@ impl Reader {
         }
     }
 
-    /// Takes the bytes in turn, those of a string that need no look each a run at a time. After an error the reader holds
-    /// nothing of use.
+    /// Takes the bytes in turn, those of a string that need no look each a run at a time: where a run is refused memory, one
+    /// at a time, so an error is that of one byte. After an error the reader holds nothing of use.
     pub(crate) fn take_bytes(&mut self, bytes: &[u8]) -> Result<(), RunStop>
         requires fits { Fits self.old }
         requires reached { Reached self.old }
@@ -43,34 +42,21 @@ impl Reader {
         ensures fits { OnOk result (Fits self.new) }
         ensures fault { IfErr result (λ e. StopsIn (state_view self.old) bytes.now (fault_at e.place e.stop)) }
         ensures inside { IfErr result (λ e. e.place < length bytes.now) }
+        // The bytes before it were taken.
+        ensures before { IfErr result (λ e. (s : State) × (run NESTING_LIMIT (state_view self.old) (take e.place bytes.now) ≡ Some s)) }
     {
         let mut place = 0;
         while place < bytes.len() {
             if let Err(stop) = self.step(bytes[place]) {
                 return Err(RunStop { place, stop });
             }
-            match self.take_run(bytes, place) {
-                Ok(next) => place = next,
-                Err(refused) => return Err(RunStop::no_memory(refused, bytes)),
-            }
+            place = self.take_run(bytes, place);
         }
         Ok(())
     }
 }
 
 impl RunStop {
-    /// Memory was refused for a byte of the run. Where none was left the growth was for nothing, and the last byte is told.
-    fn no_memory(refused: NoMemoryAt, bytes: &[u8]) -> RunStop
-        requires { 0 < length bytes.now }
-        ensures place { result.place < length bytes.now }
-        ensures stop { result.stop ≡ Stop.NoMemory }
-    {
-        RunStop {
-            place: refused.taken.min(bytes.len() - 1),
-            stop: Stop::NoMemory,
-        }
-    }
-
     /// The fault of a stop behind so many bytes.
     fn fault(self) -> ReadFault
         ensures { result ≡ fault_at self.place self.stop }

@@ -1,5 +1,5 @@
 //! The tape: a JSON value as one flat list of nodes over one buffer of texts.
-ghost use Rattle.std.specs.Prelude.{◌≡◌, ◌<◌, ◌≤◌, [], ◌∷◌, ◌++◌, vec_len, vec_capacity, IfOk, IfErr, OnOk};
+ghost use Rattle.std.specs.Prelude.{◌≡◌, ◌<◌, ◌≤◌, [], ◌∷◌, ◌++◌, vec_len, vec_capacity, IfOk, IfErr, OnOk, OnErr};
 ghost use Rattle.std.specs.List.{AllByRecursion};
 ghost use Rattle.mes_json.specs.Tape.{span, IsSpan, HasSpan};
 ghost use Rattle.mes_json.specs.Cursor.{tokens_held};
@@ -131,7 +131,8 @@ pub(crate) fn text_span(from: usize, to: usize) -> Result<(u32, u32), NoMemory>
 /// Puts a node behind the others. Only the growth is out of line, so a node costs a few instructions wherever one is put.
 #[inline(always)]
 pub(crate) fn put_node(nodes: &mut Vec<Node>, node: Node) -> Result<(), NoMemory>
-    ensures { OnOk result (nodes.new.items ≡ nodes.old.items ++ node ∷ []) }
+    ensures ok { OnOk result (nodes.new.items ≡ nodes.old.items ++ node ∷ []) }
+    ensures err { OnErr result (nodes.new.items ≡ nodes.old.items) }
 {
     if nodes.len() >= nodes.capacity() {
         make_room(nodes)?;

@@ -1,6 +1,6 @@
 //! Rows whose values come from outside: from RFC 8259, and from exact rational arithmetic.
 use arrayvec::ArrayString;
-use mes_fixed::automaton::{Part, may_end, next_part};
+use mes_fixed::automaton::{NumberState, may_end, next_state};
 use mes_fixed::{Fixed, Micros, NumFault, Thousandths, UNITS_LIMIT, is_number, read_i32, read_u64};
 use std::alloc::{AllocError, Global};
 use std::fmt::Display;
@@ -85,9 +85,9 @@ fn knows_the_shape_of_a_number(rt: HostRuntime) {
     ] {
         assert!(rt; !is_number(text.as_bytes()), "at {text}");
     }
-    assert_eq!(rt; next_part(Part::AtStart, b'0'), Some(Part::AfterZero));
-    assert_eq!(rt; next_part(Part::AfterZero, b'1'), None);
-    assert!(rt; may_end(Part::AfterZero));
+    assert_eq!(rt; next_state(NumberState::AtStart, b'0'), Some(NumberState::AfterZero));
+    assert_eq!(rt; next_state(NumberState::AfterZero, b'1'), None);
+    assert!(rt; may_end(NumberState::AfterZero));
 }
 
 #[test]

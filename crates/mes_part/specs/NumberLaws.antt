@@ -9,7 +9,7 @@ use Rattle.std.proofs.lemmas.Bool.Decides.{eqb_tells, leb_tells}
 use Rattle.std.proofs.lemmas.Nat.{div-add-mod', mod_below}
 use Rattle.std.proofs.Math.Nat.{one-le-pow, mul-div_cancel, mul-mod_left}
 use Rattle.mes_fixed.specs.declared.limits.TheConstants.{TEXT_LIMIT, UNITS_LIMIT}
-use Rattle.mes_fixed.specs.declared.automaton.Part.TheVariants.{AtStart}
+use Rattle.mes_fixed.specs.declared.automaton.NumberState.TheVariants.{AtStart}
 use Rattle.mes_fixed.specs.declared.fault.NumFault.{NumFault}
 use Rattle.mes_fixed.specs.Number.{Numeral, Spells}
 use Rattle.mes_fixed.specs.Gathering.{blank, run}

@@ -4,7 +4,7 @@ use Rattle.std.specs.Option.{option_and_then}
 use Rattle.std.specs.Fmt.{signed_decimal}
 use Rattle.std.specs.Int.Signed.{mag}
 use Rattle.mes_fixed.specs.declared.limits.TheConstants.{TEXT_LIMIT, UNITS_LIMIT}
-use Rattle.mes_fixed.specs.declared.automaton.Part.TheVariants.{AtStart}
+use Rattle.mes_fixed.specs.declared.automaton.NumberState.TheVariants.{AtStart}
 use Rattle.mes_fixed.specs.Number.{Numeral}
 use Rattle.mes_fixed.specs.Gathering.{blank, run}
 use Rattle.mes_fixed.specs.Value.{mantissa, exponent, signed, GivesUnits, GivesWhole, GivesSigned}

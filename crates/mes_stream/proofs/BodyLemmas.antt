@@ -9,7 +9,7 @@ use Rattle.mes_stream.specs.Stream.{saturated, Records, Behind, BodyLive, number
 use Rattle.mes_stream.specs.Framings.{GoesIn, EndsRecordIn, StopsIn, SaysIn, StopsWithin}
 use Rattle.mes_stream.specs.declared.stream_reader.Framing.{Framing}
 use Rattle.mes_stream.specs.declared.stream_reader.Framing.TheVariants.{Plain}
-use Rattle.mes_stream.specs.Taking.{BodyStands, Ends, answer_of, fault_of_record}
+use Rattle.mes_stream.specs.Taking.{BodyStands, Ends, record_answer, fault_of_record}
 use Rattle.mes_stream.specs.declared.refusal.RecordRefusal.{RecordRefusal}
 use Rattle.mes_stream.specs.declared.refusal.RecordRefusal.TheVariants as refusal
 use Rattle.mes_stream.specs.declared.fault.Fault.{Fault}
@@ -20,7 +20,7 @@ use Rattle.mes_stream.specs.declared.body.Body.{Body}
 pub saturated_more : (n : ℕ) → saturated (saturated n + 1) ≡ saturated (n + 1)
 saturated_more n = omega arith
 
-module _ {R E : Type 0} (holds : R → List ℕ → Type 0) (spells : List ℕ → E → Type 0) where
+module _ {R E : Type 0} (holds : R → List ℕ → Type 0) (spells : List ℕ → E → Type 0) (ahead : ℕ) where
   -- one record more
   pub records_more : (limit : ℕ) (b f r : List ℕ) (values : List E) (value : E) → Records spells limit b values → IsRecord f r limit → spells r value
       → Records spells limit (b ++ f) (values ++ value ∷ [])
@@ -29,15 +29,15 @@ module _ {R E : Type 0} (holds : R → List ℕ → Type 0) (spells : List ℕ �
       (front, rest ++ f, r0, is_front, before, (ap (λ (x : List ℕ). x ++ f) spelt ∙ append_assoc front rest f), records_more limit rest f r values value behind is says)
 
   -- what stands is live
-  pub live_of : (d : Body R) (b : List ℕ) (values : List E) → BodyStands holds spells d b values → BodyLive spells (limit_of d.records) b values
+  pub live_of : (d : Body R) (b : List ℕ) (values : List E) → BodyStands holds spells ahead d b values → BodyLive spells (limit_of d.records) b values
   live_of d b values s = record { whole = s.whole; x = s.x; spelt = s.spelt; records = s.records; is = (s.r, begun_of d.records s.x s.r s.state) }
 
   -- so many records have ended
-  pub number_of : (d : Body R) (b : List ℕ) (values : List E) → BodyStands holds spells d b values → saturated (d.done + 1) ≡ number_after values
-  number_of d b values s = ap (λ (n : ℕ). saturated (n + 1)) s.count ∙ saturated_more (length values)
+  pub number_of : (d : Body R) (b : List ℕ) (values : List E) → BodyStands holds spells ahead d b values → saturated (d.done + 1) ≡ number_after ahead values
+  number_of d b values s = ap (λ (n : ℕ). saturated (n + 1)) s.count ∙ saturated_more (ahead + length values)
 
   -- p more bytes stand behind the records
-  pub behind_on : (d : Body R) (b p : List ℕ) (values : List E) (s : BodyStands holds spells d b values) (Is : List ℕ → Type 0) → Is (s.x ++ p)
+  pub behind_on : (d : Body R) (b p : List ℕ) (values : List E) (s : BodyStands holds spells ahead d b values) (Is : List ℕ → Type 0) → Is (s.x ++ p)
       → Behind spells (limit_of d.records) Is (b ++ p) values
   behind_on d b p values s Is h = record {
     whole = s.whole;
@@ -48,8 +48,8 @@ module _ {R E : Type 0} (holds : R → List ℕ → Type 0) (spells : List ℕ �
   }
 
   -- bytes were taken that end no record
-  pub stands_on : (d new : Body R) (b p r : List ℕ) (values : List E) (s : BodyStands holds spells d b values) → new.done ≡ d.done
-      → limit_of new.records ≡ limit_of d.records → holds new.reader r → RecordStands new.records (s.x ++ p) r → BodyStands holds spells new (b ++ p) values
+  pub stands_on : (d new : Body R) (b p r : List ℕ) (values : List E) (s : BodyStands holds spells ahead d b values) → new.done ≡ d.done
+      → limit_of new.records ≡ limit_of d.records → holds new.reader r → RecordStands new.records (s.x ++ p) r → BodyStands holds spells ahead new (b ++ p) values
   stands_on d new b p r values s done limit kept state = record {
     whole = s.whole;
     x = s.x ++ p;
@@ -63,9 +63,9 @@ module _ {R E : Type 0} (holds : R → List ℕ → Type 0) (spells : List ℕ �
   }
 
   -- a record has ended with a run of data, and has a value
-  pub stands_value : (d new : Body R) (b p r : List ℕ) (values : List E) (value : E) (s : BodyStands holds spells d b values) → new.done ≡ saturated (d.done + 1)
+  pub stands_value : (d new : Body R) (b p r : List ℕ) (values : List E) (value : E) (s : BodyStands holds spells ahead d b values) → new.done ≡ saturated (d.done + 1)
       → limit_of new.records ≡ limit_of d.records → holds new.reader [] → IsRecord (s.x ++ p) r (limit_of d.records)
-      → RecordStands new.records [] [] → spells r value → BodyStands holds spells new (b ++ p) (values ++ value ∷ [])
+      → RecordStands new.records [] [] → spells r value → BodyStands holds spells ahead new (b ++ p) (values ++ value ∷ [])
   stands_value d new b p r values value s done limit kept is state says = record {
     whole = s.whole ++ (s.x ++ p);
     x = [];
@@ -79,38 +79,38 @@ module _ {R E : Type 0} (holds : R → List ℕ → Type 0) (spells : List ℕ �
   }
 
   -- before the first byte of a run
-  pub first_live : (d : Body R) (b run : List ℕ) (values : List E) (n : ℕ) → BodyStands holds spells d b values → n < 1
+  pub first_live : (d : Body R) (b run : List ℕ) (values : List E) (n : ℕ) → BodyStands holds spells ahead d b values → n < 1
       → BodyLive spells (limit_of d.records) (b ++ take n run) values
   first_live d b run values n s first =
       let none : 0 ≡ n = omega arith in
       subst (λ (m : ℕ). BodyLive spells (limit_of d.records) (b ++ take m run) values) none (rw (append-nil b) (live_of d b values s))
 
   -- within a size line the record goes on
-  pub size_live : (d : Body R) (b run r : List ℕ) (values : List E) (n limit : ℕ) (s : BodyStands holds spells d b values) → limit ≡ limit_of d.records
+  pub size_live : (d : Body R) (b run r : List ℕ) (values : List E) (n limit : ℕ) (s : BodyStands holds spells ahead d b values) → limit ≡ limit_of d.records
       → Begun (s.x ++ take n run) r limit → BodyLive spells limit (b ++ take n run) values
   size_live d b run r values n limit s same begun =
       rw same (behind_on d b (take n run) values s (λ x. (r : List ℕ) × Begun x r (limit_of d.records)) (r, rw same at begun))
 
   -- within a run of data the record goes on
-  pub data_on : (d : Body R) (b run : List ℕ) (values : List E) (n left : ℕ) (s : BodyStands holds spells d b values) → n < left → n ≤ length run
+  pub data_on : (d : Body R) (b run : List ℕ) (values : List E) (n left : ℕ) (s : BodyStands holds spells ahead d b values) → n < left → n ≤ length run
       → DataBegun s.x s.r left (limit_of d.records) → DataBegun (s.x ++ take n run) (s.r ++ take n run) (left - n) (limit_of d.records)
   data_on d b run values n left s inside within begun =
       let len : length (take n run) ≡ n = length-take-le n run within in
       subst (λ (m : ℕ). DataBegun (s.x ++ take n run) (s.r ++ take n run) (left - m) (limit_of d.records)) len
       (data_goes_on s.x s.r (take n run) left (limit_of d.records) begun (omega arith))
 
-  pub data_live : (d : Body R) (b run : List ℕ) (values : List E) (n left : ℕ) (s : BodyStands holds spells d b values) → n < left → n ≤ length run
+  pub data_live : (d : Body R) (b run : List ℕ) (values : List E) (n left : ℕ) (s : BodyStands holds spells ahead d b values) → n < left → n ≤ length run
       → DataBegun s.x s.r left (limit_of d.records) → BodyLive spells (limit_of d.records) (b ++ take n run) values
   data_live d b run values n left s inside within begun =
       behind_on d b (take n run) values s (λ x. (r : List ℕ) × Begun x r (limit_of d.records)) (s.r ++ take n run, inr (left - n, data_on d b run values n left s inside within begun))
 
-  pub data_next : (d : Body R) (b run : List ℕ) (values : List E) (n left : ℕ) (s : BodyStands holds spells d b values) → n < left → n ≤ length run
+  pub data_next : (d : Body R) (b run : List ℕ) (values : List E) (n left : ℕ) (s : BodyStands holds spells ahead d b values) → n < left → n ≤ length run
       → DataBegun s.x s.r left (limit_of d.records) → InData spells (limit_of d.records) (b ++ take n run) values
   data_next d b run values n left s inside within begun =
       behind_on d b (take n run) values s (λ x. (r : List ℕ) × (left : ℕ) × DataBegun x r left (limit_of d.records)) (s.r ++ take n run, left - n, data_on d b run values n left s inside within begun)
 
   -- the record ends with the last of so many bytes of a run
-  pub ends_with : (d : Body R) (b run r : List ℕ) (values : List E) (count : ℕ) (s : BodyStands holds spells d b values) (Is : List ℕ → Type 0) → 0 < count → count ≤ length run
+  pub ends_with : (d : Body R) (b run r : List ℕ) (values : List E) (count : ℕ) (s : BodyStands holds spells ahead d b values) (Is : List ℕ → Type 0) → 0 < count → count ≤ length run
       → IsRecord (s.x ++ take count run) r (limit_of d.records) → Is r
       → EndsRecord spells (limit_of d.records) (b ++ take (count - 1) run) values (slice_index run (count - 1)) Is
   ends_with d b run r values count s Is some within is h =
@@ -121,9 +121,9 @@ module _ {R E : Type 0} (holds : R → List ℕ → Type 0) (spells : List ℕ �
 
   module _ (breaks : List ℕ → RecordRefusal → Type 0) where
     -- the record that ended so has no value, or its value wanted memory
-    pub refused_with : (d : Body R) (b run r : List ℕ) (values : List E) (count : ℕ) (why : RecordRefusal) (s : BodyStands holds spells d b values) → 0 < count → count ≤ length run
+    pub refused_with : (d : Body R) (b run r : List ℕ) (values : List E) (count : ℕ) (why : RecordRefusal) (s : BodyStands holds spells ahead d b values) → 0 < count → count ≤ length run
         → IsRecord (s.x ++ take count run) r (limit_of d.records) → breaks r why → (why ≡ refusal.NoMemory → InData spells (limit_of d.records) (b ++ take (count - 1) run) values)
-        → BodyStops spells breaks (limit_of d.records) (b ++ take (count - 1) run) values (slice_index run (count - 1)) (fault_of_record d.done why)
+        → BodyStops spells breaks ahead (limit_of d.records) (b ++ take (count - 1) run) values (slice_index run (count - 1)) (fault_of_record d.done why)
     refused_with d b run r values count (refusal.Text f) s some within is h memory =
         inl (ends_with d b run r values count s (λ r. breaks r (refusal.Text (record { byte = f.byte; why = f.why }))) some within is h, number_of d b values s)
     refused_with d b run r values count (refusal.Field f) s some within is h memory =
@@ -133,20 +133,20 @@ module _ {R E : Type 0} (holds : R → List ℕ → Type 0) (spells : List ℕ �
     refused_with d b run r values count refusal.NoMemory s some within is h memory = inr (refl, memory refl)
 
     -- the record has ended with a run of data
-    pub ends_as : (d mid new : Body R) (b run : List ℕ) (values : List E) (count left : ℕ) (answer : Result E Fault) (s : BodyStands holds spells d b values) → 0 < count → count ≤ length run → count ≤ left
+    pub ends_as : (d mid new : Body R) (b run : List ℕ) (values : List E) (count left : ℕ) (answer : Result E RecordRefusal) (s : BodyStands holds spells ahead d b values) → 0 < count → count ≤ length run → count ≤ left
         → DataBegun s.x s.r left (limit_of d.records) → mid.done ≡ d.done → limit_of new.records ≡ limit_of d.records
         → IsRecord (s.x ++ take count run) (s.r ++ take count run) (limit_of d.records) → RecordStands new.records [] []
-        → Ends holds spells breaks mid new (s.r ++ take count run) answer → SaysIn Plain (BodyStands holds spells new) spells breaks (limit_of new.records) b values run count (answer_of answer)
+        → Ends holds spells breaks mid new (s.r ++ take count run) answer → SaysIn Plain (BodyStands holds spells ahead new) spells breaks ahead (limit_of new.records) b values run count (record_answer new.done answer)
     ends_as d mid new b run values count left (Ok value) s some within inside begun done limit is state (says, ready, more) = (
       stands_value d new b (take count run) (s.r ++ take count run) values value s (more ∙ ap (λ (n : ℕ). saturated (n + 1)) done) limit ready is state says,
       rw limit (ends_with d b run (s.r ++ take count run) values count s (λ r. spells r value) some within is says),
     )
-    ends_as d mid new b run values count left (Err fault) s some within inside begun done limit is state (why, h, eq) =
-        rw (eq, done, limit) (refused_with d b run (s.r ++ take count run) values count why s some within is h
+    ends_as d mid new b run values count left (Err why) s some within inside begun done limit is state (h, more) =
+        rw (more, done, limit) (refused_with d b run (s.r ++ take count run) values count why s some within is h
         (λ none. data_next d b run values (count - 1) left s (omega (arith, some, inside)) (omega (arith, within)) begun))
 
   -- the data of a record that is whole
-  pub whole_fits : (d : Body R) (b x r : List ℕ) (values : List E) → BodyStands holds spells d b values → IsRecord x r (limit_of d.records) → length r < 2 ^ 64
+  pub whole_fits : (d : Body R) (b x r : List ℕ) (values : List E) → BodyStands holds spells ahead d b values → IsRecord x r (limit_of d.records) → length r < 2 ^ 64
   whole_fits d b x r values s is = let within = is.within in let small = s.limit in omega arith
 
 -- a run of bytes and the byte behind it
@@ -154,13 +154,13 @@ run_split : (rest : List ℕ) (m : ℕ) → m < length rest → rest ≡ take m 
 run_split rest m lt =
     sym (take-append-drop (m + 1) rest) ∙ rw (take_more rest m 0 lt) (append_assoc (take m rest) (get_or rest m 0 ∷ []) (drop (m + 1) rest))
 
-module _ {E : Type 0} (framing : Framing) (spells : List ℕ → E → Type 0) (breaks : List ℕ → RecordRefusal → Type 0) where
+module _ {E : Type 0} (framing : Framing) (spells : List ℕ → E → Type 0) (breaks : List ℕ → RecordRefusal → Type 0) (ahead : ℕ) where
   -- a byte of what is left of a piece stops the reading
   pub stops_in : (limit : ℕ) (b piece : List ℕ) (values : List E) (fault : Fault) (at used : ℕ) → at ≤ length piece → 0 < used → used ≤ length (drop at piece)
       → GoesIn framing spells limit ((b ++ take at piece) ++ take (used - 1) (drop at piece)) values
-      → StopsIn framing spells breaks limit ((b ++ take at piece) ++ take (used - 1) (drop at piece)) values (slice_index (drop at piece) (used - 1)) fault
+      → StopsIn framing spells breaks ahead limit ((b ++ take at piece) ++ take (used - 1) (drop at piece)) values (slice_index (drop at piece) (used - 1)) fault
       ⊎ ((fault ≡ NoMemory) × ((value : E) × EndsRecordIn framing spells limit ((b ++ take at piece) ++ take (used - 1) (drop at piece)) values (slice_index (drop at piece) (used - 1)) value))
-      → StopsWithin framing spells breaks limit (b ++ piece) values fault (length b + (at + used))
+      → StopsWithin framing spells breaks ahead limit (b ++ piece) values fault (length b + (at + used))
   stops_in limit b piece values fault at used inside some within live stops = record {
     front = (b ++ take at piece) ++ take (used - 1) (drop at piece);
     byte = slice_index (drop at piece) (used - 1);

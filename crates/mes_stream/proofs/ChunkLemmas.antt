@@ -28,45 +28,45 @@ pub take_whole : (piece : List ℕ) (used : ℕ) → used ≡ length piece → t
 take_whole piece used all = grind (arith, common_steps)
 
 -- a byte of the body shows what it shows of the body
-pub shows_data : {E : Type 0} (spells : List ℕ → E → Type 0) (breaks : List ℕ → RecordRefusal → Type 0) (limit : ℕ) (w body : List ℕ) (values : List E) (c : ℕ) (fault : Fault)
-    → IsOpen w body → IsOpen (w ++ c ∷ []) (body ++ c ∷ []) → BodyShows spells breaks limit body values c fault → Shows spells breaks limit w values c fault
-shows_data spells breaks limit w body values c (Frame f) before behind h = inr (body, before, behind, h)
-shows_data spells breaks limit w body values c (Text at byte why) before behind h = (body, before, behind, h)
-shows_data spells breaks limit w body values c (Field at path why) before behind h = (body, before, behind, h)
-shows_data spells breaks limit w body values c EndsInsideChunks before behind h = absurd h
-shows_data spells breaks limit w body values c EndsInsideRecord before behind h = absurd h
-shows_data spells breaks limit w body values c NoMemory before behind h = absurd h
-shows_data spells breaks limit w body values c Read before behind h = absurd h
-shows_data spells breaks limit w body values c ReadsSpent before behind h = absurd h
-shows_data spells breaks limit w body values c (BadEntry at_record) before behind h = (body, before, behind, h)
+pub shows_data : {E : Type 0} (spells : List ℕ → E → Type 0) (breaks : List ℕ → RecordRefusal → Type 0) (ahead limit : ℕ) (w body : List ℕ) (values : List E) (c : ℕ) (fault : Fault)
+    → IsOpen w body → IsOpen (w ++ c ∷ []) (body ++ c ∷ []) → BodyShows spells breaks ahead limit body values c fault → Shows spells breaks ahead limit w values c fault
+shows_data spells breaks ahead limit w body values c (Frame f) before behind h = inr (body, before, behind, h)
+shows_data spells breaks ahead limit w body values c (Text at byte why) before behind h = (body, before, behind, h)
+shows_data spells breaks ahead limit w body values c (Field at path why) before behind h = (body, before, behind, h)
+shows_data spells breaks ahead limit w body values c EndsInsideChunks before behind h = absurd h
+shows_data spells breaks ahead limit w body values c EndsInsideRecord before behind h = absurd h
+shows_data spells breaks ahead limit w body values c NoMemory before behind h = absurd h
+shows_data spells breaks ahead limit w body values c Read before behind h = absurd h
+shows_data spells breaks ahead limit w body values c ReadsSpent before behind h = absurd h
+shows_data spells breaks ahead limit w body values c (BadEntry at_record) before behind h = (body, before, behind, h)
 
-pub stops_data : {E : Type 0} (spells : List ℕ → E → Type 0) (breaks : List ℕ → RecordRefusal → Type 0) (limit : ℕ) (w body : List ℕ) (values : List E) (c : ℕ) (fault : Fault)
-    → IsOpen w body → IsOpen (w ++ c ∷ []) (body ++ c ∷ []) → BodyStops spells breaks limit body values c fault → Stops spells breaks limit w values c fault
-stops_data spells breaks limit w body values c fault before behind stops = elim stops [
-  | inl h ↦ inl (shows_data spells breaks limit w body values c fault before behind h)
+pub stops_data : {E : Type 0} (spells : List ℕ → E → Type 0) (breaks : List ℕ → RecordRefusal → Type 0) (ahead limit : ℕ) (w body : List ℕ) (values : List E) (c : ℕ) (fault : Fault)
+    → IsOpen w body → IsOpen (w ++ c ∷ []) (body ++ c ∷ []) → BodyStops spells breaks ahead limit body values c fault → Stops spells breaks ahead limit w values c fault
+stops_data spells breaks ahead limit w body values c fault before behind stops = elim stops [
+  | inl h ↦ inl (shows_data spells breaks ahead limit w body values c fault before behind h)
   | inr h ↦ inr (h.0, (body, before, behind, h.1))
 ]
 
-module _ {R E : Type 0} (holds : R → List ℕ → Type 0) (spells : List ℕ → E → Type 0) where
+module _ {R E : Type 0} (holds : R → List ℕ → Type 0) (spells : List ℕ → E → Type 0) (ahead : ℕ) where
   -- what stands is live
-  pub chunked_live : (d : ChunkedBody R) (w : List ℕ) (values : List E) → ChunkedStands holds spells d w values → Live spells (limit_of d.body.records) w values
-  chunked_live d w values s = (s.content, open_of d.chunks w s.content s.chunks, live_of holds spells d.body s.content values s.body)
+  pub chunked_live : (d : ChunkedBody R) (w : List ℕ) (values : List E) → ChunkedStands holds spells ahead d w values → Live spells (limit_of d.body.records) w values
+  chunked_live d w values s = (s.content, open_of d.chunks w s.content s.chunks, live_of holds spells ahead d.body s.content values s.body)
 
   -- before the first byte of a piece
-  pub first_before : (d : ChunkedBody R) (w rest : List ℕ) (values : List E) (n : ℕ) → ChunkedStands holds spells d w values → n < 1
+  pub first_before : (d : ChunkedBody R) (w rest : List ℕ) (values : List E) (n : ℕ) → ChunkedStands holds spells ahead d w values → n < 1
       → Live spells (limit_of d.body.records) (w ++ take n rest) values
   first_before d w rest values n s first =
       let none : 0 ≡ n = omega arith in
       subst (λ (m : ℕ). Live spells (limit_of d.body.records) (w ++ take m rest) values) none (rw (append-nil w) (chunked_live d w values s))
 
   -- within a run of data
-  pub run_before : (d : ChunkedBody R) (limit : ℕ) (w run : List ℕ) (values : List E) (n count : ℕ) (s : ChunkedStands holds spells d w values) → length run ≡ count → count ≤ room_of d.chunks → n ≤ count
+  pub run_before : (d : ChunkedBody R) (limit : ℕ) (w run : List ℕ) (values : List E) (n count : ℕ) (s : ChunkedStands holds spells ahead d w values) → length run ≡ count → count ≤ room_of d.chunks → n ≤ count
       → BodyLive spells limit (s.content ++ take n run) values → Live spells limit (w ++ take n run) values
   run_before d limit w run values n count s len room within live =
       (s.content ++ take n run, fronts_of d.chunks w s.content run n count room len within s.chunks, live)
 
   -- a byte of a run of data is a byte of the body
-  pub run_at : (d : ChunkedBody R) (w run : List ℕ) (values : List E) (used count : ℕ) (Is : List ℕ → List E → Type 0) (s : ChunkedStands holds spells d w values) → length run ≡ count → count ≤ room_of d.chunks
+  pub run_at : (d : ChunkedBody R) (w run : List ℕ) (values : List E) (used count : ℕ) (Is : List ℕ → List E → Type 0) (s : ChunkedStands holds spells ahead d w values) → length run ≡ count → count ≤ room_of d.chunks
       → 0 < used → used ≤ count → Is (s.content ++ take (used - 1) run) values → AtData Is (w ++ take (used - 1) run) values (slice_index run (used - 1))
   run_at d w run values used count Is s len room some within is =
       let fronts : (n : ℕ) → n ≤ count → IsOpen (w ++ take n run) (s.content ++ take n run) = λ n inside. fronts_of d.chunks w s.content run n count room len inside s.chunks in
@@ -84,17 +84,17 @@ module _ {R E : Type 0} (holds : R → List ℕ → Type 0) (spells : List ℕ �
 
   module _ (breaks : List ℕ → RecordRefusal → Type 0) where
     -- a byte of a run of data stops the reading
-    run_stops : (d : ChunkedBody R) (limit : ℕ) (w run : List ℕ) (values : List E) (used count : ℕ) (fault : Fault) (s : ChunkedStands holds spells d w values) → length run ≡ count → count ≤ room_of d.chunks
-        → 0 < used → used ≤ count → BodyStops spells breaks limit (s.content ++ take (used - 1) run) values (slice_index run (used - 1)) fault
-        → Stops spells breaks limit (w ++ take (used - 1) run) values (slice_index run (used - 1)) fault
+    run_stops : (d : ChunkedBody R) (limit : ℕ) (w run : List ℕ) (values : List E) (used count : ℕ) (fault : Fault) (s : ChunkedStands holds spells ahead d w values) → length run ≡ count → count ≤ room_of d.chunks
+        → 0 < used → used ≤ count → BodyStops spells breaks ahead limit (s.content ++ take (used - 1) run) values (slice_index run (used - 1)) fault
+        → Stops spells breaks ahead limit (w ++ take (used - 1) run) values (slice_index run (used - 1)) fault
     run_stops d limit w run values used count fault s len room some within stops =
-        let at = run_at d w run values used count (λ body vs. BodyStops spells breaks limit body vs (slice_index run (used - 1)) fault) s len room some within stops in
-        stops_data spells breaks limit (w ++ take (used - 1) run) at.0 values (slice_index run (used - 1)) fault at.1 at.2 at.3
+        let at = run_at d w run values used count (λ body vs. BodyStops spells breaks ahead limit body vs (slice_index run (used - 1)) fault) s len room some within stops in
+        stops_data spells breaks ahead limit (w ++ take (used - 1) run) at.0 values (slice_index run (used - 1)) fault at.1 at.2 at.3
 
     -- what a body says of a run of data
-    pub run_says : (d new : ChunkedBody R) (w run : List ℕ) (values : List E) (used count : ℕ) (answer : Out E) (s : ChunkedStands holds spells d w values) → length run ≡ count → count ≤ room_of d.chunks
+    pub run_says : (d new : ChunkedBody R) (w run : List ℕ) (values : List E) (used count : ℕ) (answer : Out E) (s : ChunkedStands holds spells ahead d w values) → length run ≡ count → count ≤ room_of d.chunks
         → 0 < used → used ≤ count → ChunkStands new.chunks (w ++ take used run) (s.content ++ take used run)
-        → SaysIn Plain (BodyStands holds spells new.body) spells breaks (limit_of new.body.records) s.content values run used answer → SaysIn Chunked (ChunkedStands holds spells new) spells breaks (limit_of new.body.records) w values run used answer
+        → SaysIn Plain (BodyStands holds spells ahead new.body) spells breaks ahead (limit_of new.body.records) s.content values run used answer → SaysIn Chunked (ChunkedStands holds spells ahead new) spells breaks ahead (limit_of new.body.records) w values run used answer
     run_says d new w run values used count out.More s len room some within chunks taken =
         record { content = s.content ++ take used run; chunks = chunks; body = taken }
     run_says d new w run values used count (out.Event value) s len room some within chunks taken = (
@@ -105,10 +105,10 @@ module _ {R E : Type 0} (holds : R → List ℕ → Type 0) (spells : List ℕ �
     run_says d new w run values used count (out.Fault fault) s len room some within chunks taken =
         run_stops d (limit_of new.body.records) w run values used count fault s len room some within taken
 
-module _ {E : Type 0} (framing : Framing) (Stands : List ℕ → List E → Type 0) (spells : List ℕ → E → Type 0) (breaks : List ℕ → RecordRefusal → Type 0) (limit : ℕ) where
+module _ {E : Type 0} (framing : Framing) (Stands : List ℕ → List E → Type 0) (spells : List ℕ → E → Type 0) (breaks : List ℕ → RecordRefusal → Type 0) (ahead limit : ℕ) where
   -- the same bytes seen behind others
   pub says_as : (w v run rest : List ℕ) (values : List E) (used most : ℕ) (answer : Out E) → w ++ take used run ≡ v ++ take most rest → w ++ take (used - 1) run ≡ v ++ take (most - 1) rest
-      → slice_index run (used - 1) ≡ slice_index rest (most - 1) → SaysIn framing Stands spells breaks limit w values run used answer → SaysIn framing Stands spells breaks limit v values rest most answer
+      → slice_index run (used - 1) ≡ slice_index rest (most - 1) → SaysIn framing Stands spells breaks ahead limit w values run used answer → SaysIn framing Stands spells breaks ahead limit v values rest most answer
   says_as w v run rest values used most out.More same front last h = subst (λ (y : List ℕ). Stands y values) same h
   says_as w v run rest values used most (out.Event value) same front last h = (
     subst (λ (y : List ℕ). Stands y (values ++ value ∷ [])) same h.0,
@@ -117,12 +117,12 @@ module _ {E : Type 0} (framing : Framing) (Stands : List ℕ → List E → Type
   )
   says_as w v run rest values used most out.End same front last h = subst (λ (y : List ℕ). EndsIn framing spells limit y values) same h
   says_as w v run rest values used most (out.Fault fault) same front last h =
-      subst (λ (y : List ℕ). StopsIn framing spells breaks limit y values (slice_index rest (most - 1)) fault) front
-      (subst (λ (c : ℕ). StopsIn framing spells breaks limit (w ++ take (used - 1) run) values c fault) last h)
+      subst (λ (y : List ℕ). StopsIn framing spells breaks ahead limit y values (slice_index rest (most - 1)) fault) front
+      (subst (λ (c : ℕ). StopsIn framing spells breaks ahead limit (w ++ take (used - 1) run) values c fault) last h)
 
   -- of a byte
-  pub says_first : (w rest : List ℕ) (values : List E) (answer : Out E) → 0 < length rest → SaysIn framing Stands spells breaks limit w values (slice_index rest 0 ∷ []) 1 answer
-      → SaysIn framing Stands spells breaks limit w values rest 1 answer
+  pub says_first : (w rest : List ℕ) (values : List E) (answer : Out E) → 0 < length rest → SaysIn framing Stands spells breaks ahead limit w values (slice_index rest 0 ∷ []) 1 answer
+      → SaysIn framing Stands spells breaks ahead limit w values rest 1 answer
   says_first w [] values answer some h = absurd (omega (arith, some))
   says_first w (c ∷ rest) values answer some h = says_as w w (c ∷ []) (c ∷ rest) values 1 1 answer refl refl refl h
 
@@ -136,15 +136,15 @@ module _ {E : Type 0} (framing : Framing) (Stands : List ℕ → List E → Type
   index_drop m n xs = grind (arith, common_steps)
 
   -- of a longer piece
-  pub says_more : (w rest : List ℕ) (values : List E) (used count : ℕ) (answer : Out E) → 0 < used → used ≤ count → SaysIn framing Stands spells breaks limit w values (take count rest) used answer
-      → SaysIn framing Stands spells breaks limit w values rest used answer
+  pub says_more : (w rest : List ℕ) (values : List E) (used count : ℕ) (answer : Out E) → 0 < used → used ≤ count → SaysIn framing Stands spells breaks ahead limit w values (take count rest) used answer
+      → SaysIn framing Stands spells breaks ahead limit w values rest used answer
   says_more w rest values used count answer some within h =
       says_as w w (take count rest) rest values used used answer (ap (λ (y : List ℕ). w ++ y) (take_take used count rest within)) (ap (λ (y : List ℕ). w ++ y) (take_take (used - 1) count rest (omega (arith, within))))
       (index_take (used - 1) count rest (omega (arith, some, within))) h
 
   -- of what is left of a piece
-  pub says_on : (w piece : List ℕ) (values : List E) (at used : ℕ) (answer : Out E) → 0 < used → SaysIn framing Stands spells breaks limit (w ++ take at piece) values (drop at piece) used answer
-      → SaysIn framing Stands spells breaks limit w values piece (at + used) answer
+  pub says_on : (w piece : List ℕ) (values : List E) (at used : ℕ) (answer : Out E) → 0 < used → SaysIn framing Stands spells breaks ahead limit (w ++ take at piece) values (drop at piece) used answer
+      → SaysIn framing Stands spells breaks ahead limit w values piece (at + used) answer
   says_on w piece values at used answer some h =
       let less : at + (used - 1) ≡ at + used - 1 = omega (arith, some) in
       says_as (w ++ take at piece) w (drop at piece) piece values used (at + used) answer (piece_on w piece at used)

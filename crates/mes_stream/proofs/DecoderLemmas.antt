@@ -8,17 +8,17 @@ use Rattle.mes_stream.specs.declared.decoder.Ended.{Ended}
 use Rattle.mes_stream.specs.declared.taken.Out.{Out}
 use Rattle.mes_stream.specs.declared.taken.Out.TheVariants as out
 
-pub says_ended : {E : Type 0} (framing : Framing) (Old New : List ℕ → List E → Type 0) (spells : List ℕ → E → Type 0) (breaks : List ℕ → RecordRefusal → Type 0) (limit : ℕ) (w piece : List ℕ) (values : List E) (used : ℕ) (end : Ended) (answer : Out E)
-    → EndsBy (Some end) answer → SaysIn framing Old spells breaks limit w values piece used answer → SaysIn framing New spells breaks limit w values piece used answer
-says_ended framing Old New spells breaks limit w piece values used end out.More ends h = let clash : Some end ≡ None = ends in absurd (cc)
-says_ended framing Old New spells breaks limit w piece values used end (out.Event value) ends h = let clash : Some end ≡ None = ends in absurd (cc)
-says_ended framing Old New spells breaks limit w piece values used end out.End ends h = h
-says_ended framing Old New spells breaks limit w piece values used end (out.Fault fault) ends h = h
+pub says_ended : {E : Type 0} (framing : Framing) (Old New : List ℕ → List E → Type 0) (spells : List ℕ → E → Type 0) (breaks : List ℕ → RecordRefusal → Type 0) (ahead limit : ℕ) (w piece : List ℕ) (values : List E) (used : ℕ) (end : Ended) (answer : Out E)
+    → EndsBy (Some end) answer → SaysIn framing Old spells breaks ahead limit w values piece used answer → SaysIn framing New spells breaks ahead limit w values piece used answer
+says_ended framing Old New spells breaks ahead limit w piece values used end out.More ends h = let clash : Some end ≡ None = ends in absurd (cc)
+says_ended framing Old New spells breaks ahead limit w piece values used end (out.Event value) ends h = let clash : Some end ≡ None = ends in absurd (cc)
+says_ended framing Old New spells breaks ahead limit w piece values used end out.End ends h = h
+says_ended framing Old New spells breaks ahead limit w piece values used end (out.Fault fault) ends h = h
 
 -- what is said is kept where what stands is
-pub says_as_well : {E : Type 0} (framing : Framing) (Old New : List ℕ → List E → Type 0) (spells : List ℕ → E → Type 0) (breaks : List ℕ → RecordRefusal → Type 0) (limit : ℕ) (w piece : List ℕ) (values : List E) (used : ℕ) (answer : Out E)
-    → ((v : List ℕ) (vs : List E) → Old v vs → New v vs) → SaysIn framing Old spells breaks limit w values piece used answer → SaysIn framing New spells breaks limit w values piece used answer
-says_as_well framing Old New spells breaks limit w piece values used out.More on h = on _ _ h
-says_as_well framing Old New spells breaks limit w piece values used (out.Event value) on h = (on _ _ h.0, h.1)
-says_as_well framing Old New spells breaks limit w piece values used out.End on h = h
-says_as_well framing Old New spells breaks limit w piece values used (out.Fault fault) on h = h
+pub says_as_well : {E : Type 0} (framing : Framing) (Old New : List ℕ → List E → Type 0) (spells : List ℕ → E → Type 0) (breaks : List ℕ → RecordRefusal → Type 0) (ahead limit : ℕ) (w piece : List ℕ) (values : List E) (used : ℕ) (answer : Out E)
+    → ((v : List ℕ) (vs : List E) → Old v vs → New v vs) → SaysIn framing Old spells breaks ahead limit w values piece used answer → SaysIn framing New spells breaks ahead limit w values piece used answer
+says_as_well framing Old New spells breaks ahead limit w piece values used out.More on h = on _ _ h
+says_as_well framing Old New spells breaks ahead limit w piece values used (out.Event value) on h = (on _ _ h.0, h.1)
+says_as_well framing Old New spells breaks ahead limit w piece values used out.End on h = h
+says_as_well framing Old New spells breaks ahead limit w piece values used (out.Fault fault) on h = h

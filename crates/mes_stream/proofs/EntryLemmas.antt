@@ -16,16 +16,16 @@ use Rattle.mes_stream.specs.declared.taken.Out.{Out}
 use Rattle.mes_stream.specs.declared.taken.Out.TheVariants as out
 
 module _ {E : Type 0} (spells : List ℕ → E → Type 0) (breaks : List ℕ → RecordRefusal → Type 0) (none : (r : List ℕ) → breaks r refusal.BadEntry → ⊥) where
-  no_entry : (framing : Framing) (limit : ℕ) (w : List ℕ) (values : List E) (c n : ℕ) → StopsIn framing spells breaks limit w values c (BadEntry n) → ⊥
-  no_entry Plain limit w values c n (inl h) = none h.0.is.0 h.0.is.2
-  no_entry Plain limit w values c n (inr h) = let clash : BadEntry n ≡ NoMemory = h.0 in absurd (cc)
-  no_entry Chunked limit w values c n (inl h) = none h.3.0.is.0 h.3.0.is.2
-  no_entry Chunked limit w values c n (inr h) = let clash : BadEntry n ≡ NoMemory = h.0 in absurd (cc)
+  no_entry : (framing : Framing) (ahead limit : ℕ) (w : List ℕ) (values : List E) (c n : ℕ) → StopsIn framing spells breaks ahead limit w values c (BadEntry n) → ⊥
+  no_entry Plain ahead limit w values c n (inl h) = none h.0.is.0 h.0.is.2
+  no_entry Plain ahead limit w values c n (inr h) = let clash : BadEntry n ≡ NoMemory = h.0 in absurd (cc)
+  no_entry Chunked ahead limit w values c n (inl h) = none h.3.0.is.0 h.3.0.is.2
+  no_entry Chunked ahead limit w values c n (inr h) = let clash : BadEntry n ≡ NoMemory = h.0 in absurd (cc)
 
-  pub none_said : (framing : Framing) (Stands : List ℕ → List E → Type 0) (limit : ℕ) (w : List ℕ) (values : List E) (piece : List ℕ) (used : ℕ) (answer : Out E) (n : ℕ)
-      → SaysIn framing Stands spells breaks limit w values piece used answer → answer ≢ out.Fault (BadEntry n)
-  none_said framing Stands limit w values piece used answer n says is =
-      no_entry framing limit _ values _ n (subst (λ (o : Out E). SaysIn framing Stands spells breaks limit w values piece used o) is says)
+  pub none_said : (framing : Framing) (Stands : List ℕ → List E → Type 0) (ahead limit : ℕ) (w : List ℕ) (values : List E) (piece : List ℕ) (used : ℕ) (answer : Out E) (n : ℕ)
+      → SaysIn framing Stands spells breaks ahead limit w values piece used answer → answer ≢ out.Fault (BadEntry n)
+  none_said framing Stands ahead limit w values piece used answer n says is =
+      no_entry framing ahead limit _ values _ n (subst (λ (o : Out E). SaysIn framing Stands spells breaks ahead limit w values piece used o) is says)
 
   -- what the end of the input means is none
   no_entry_at_end : (framing : Framing) (limit : ℕ) (w : List ℕ) (values : List E) (n : ℕ) → InputEnds {T = Unit {0}} framing spells limit w values (Err (BadEntry n)) → ⊥
@@ -38,7 +38,7 @@ module _ {E : Type 0} (spells : List ℕ → E → Type 0) (breaks : List ℕ �
   none_read framing limit reads old new last w values (Err stop) (inl (at, asked)) = λ n is.
       let s = at.stops in
       elim s.stops [
-        | inl h ↦ no_entry framing limit s.front values s.byte n (subst (λ (f : Fault). StopsIn framing spells breaks limit s.front values s.byte f) is h)
+        | inl h ↦ no_entry framing 0 limit s.front values s.byte n (subst (λ (f : Fault). StopsIn framing spells breaks 0 limit s.front values s.byte f) is h)
         | inr h ↦ let no_memory : stop.fault ≡ NoMemory = h.0 in absurd (cc)
       ]
   none_read framing limit reads old new last w values (Err stop) (inr (inl (means, end, asked))) = λ n is.

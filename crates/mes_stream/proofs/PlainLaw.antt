@@ -1,5 +1,5 @@
 -- Bytes are read as plain RecordIO in at most one way: the records are found one by one, and what stands behind them decides.
-use Rattle.std.proofs.Common.{◌≡◌, ◌≢◌, ℕ, List, [], ◌∷◌, ◌++◌, length, refl, ap, ap₂, sym, ◌∙◌, subst, append_assoc, append-nil, arith, inl}
+use Rattle.std.proofs.Common.{◌≡◌, ◌≢◌, ℕ, ◌+◌, List, [], ◌∷◌, ◌++◌, length, refl, ap, ap₂, sym, ◌∙◌, subst, append_assoc, append-nil, arith, inl}
 use Rattle.mes_frame.proofs.OneReading.{one_reading, one_record}
 use Rattle.mes_frame.specs.Record.{IsRecord, Begun, SizeShows}
 use Rattle.mes_frame.specs.RecordReading.{RecordReading, ReadsRecord, Begins, Whole, Broken}
@@ -31,7 +31,7 @@ same_last (a ∷ x) (b ∷ y) c d same =
     let front : x ≡ y = one.0 in
     (cc, one.1)
 
-module _ {E : Type 0} (spells : List ℕ → E → Type 0) (breaks : List ℕ → RecordRefusal → Type 0) (exact : IsExact spells breaks) (limit : ℕ) where
+module _ {E : Type 0} (spells : List ℕ → E → Type 0) (breaks : List ℕ → RecordRefusal → Type 0) (exact : IsExact spells breaks) (ahead limit : ℕ) where
   IsTail : List ℕ → Tail → Type 0
   IsTail t Front = (r : List ℕ) × Begun t r limit
   IsTail t (Bad x c fault) = (rest : List ℕ) × (t ≡ x ++ c ∷ rest) × SizeShows x c limit fault
@@ -109,7 +109,7 @@ module _ {E : Type 0} (spells : List ℕ → E → Type 0) (breaks : List ℕ �
   reading_of : List ℕ → List E → Tail → PlainReading E
   reading_of whole values Front = Goes values
   reading_of whole values (Bad x c fault) = Stops (whole ++ x) c values (Frame fault)
-  reading_of whole values (Refused x c why) = Stops (whole ++ x) c values (fault_of_record (length values) why)
+  reading_of whole values (Refused x c why) = Stops (whole ++ x) c values (fault_of_record (ahead + length values) why)
 
   record Found (w : List ℕ) (reading : PlainReading E) : Type 0 where
     whole : List ℕ
@@ -121,7 +121,7 @@ module _ {E : Type 0} (spells : List ℕ → E → Type 0) (breaks : List ℕ �
     spelt : w ≡ whole ++ t
     is : reading ≡ reading_of whole values tail
 
-  found_stop : (w front : List ℕ) (byte : ℕ) (values : List E) (fault : Fault) (rest : List ℕ) → w ≡ front ++ byte ∷ rest → BodyShows spells breaks limit front values byte fault → Found w (Stops front byte values fault)
+  found_stop : (w front : List ℕ) (byte : ℕ) (values : List E) (fault : Fault) (rest : List ℕ) → w ≡ front ++ byte ∷ rest → BodyShows spells breaks ahead limit front values byte fault → Found w (Stops front byte values fault)
   unfolding IsTail reading_of
   found_stop w front byte values (Frame fault) rest is shows = record {
     whole = shows.whole;
@@ -169,12 +169,12 @@ module _ {E : Type 0} (spells : List ℕ → E → Type 0) (breaks : List ℕ �
     is = ap₂ (λ (y : List ℕ) (n : ℕ). Stops y byte values (BadEntry n)) shows.spelt number;
   }
 
-  found : (w : List ℕ) (reading : PlainReading E) → ReadsPlain spells breaks limit w reading → Found w reading
+  found : (w : List ℕ) (reading : PlainReading E) → ReadsPlain spells breaks ahead limit w reading → Found w reading
   unfolding IsTail reading_of
   found w (Goes values) live = record { whole = live.whole; t = live.x; values = values; tail = Front; records = live.records; is_tail = live.is; spelt = live.spelt; is = refl }
   found w (Stops front byte values fault) (rest, is, shows) = found_stop w front byte values fault rest is shows
 
-  pub one_plain : (w : List ℕ) (reading other : PlainReading E) → ReadsPlain spells breaks limit w reading → ReadsPlain spells breaks limit w other → reading ≡ other
+  pub one_plain : (w : List ℕ) (reading other : PlainReading E) → ReadsPlain spells breaks ahead limit w reading → ReadsPlain spells breaks ahead limit w other → reading ≡ other
   one_plain w reading other reads too =
       let f = found w reading reads in
       let g = found w other too in

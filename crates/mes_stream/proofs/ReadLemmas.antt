@@ -54,15 +54,16 @@ one_more_call : (old new later : Counts) (reads most len : ℕ) (w : List ℕ) �
 one_more_call old new later reads most len w before full counted =
     counted ∙ asked len new.calls full ∙ ap (λ (n : ℕ). up n 1) before.calls ∙ up_more old.calls reads
 
-pub asked_more : (old new later : Counts) (reads most len count : ℕ) (w p : List ℕ) → Asked reads old new w reads 0 0 → reads < most → 0 < count → length p ≤ READ_MOST → 0 < len
+pub asked_more : (old new later : Counts) (reads most len count : ℕ) (w p : List ℕ) → Asked reads old new w reads 0 0 → reads < most → 0 < count → length p ≡ count → length p ≤ READ_MOST → 0 < len
     → Counted new later len count → Asked most old later (w ++ p) (reads + 1) 0 0
-asked_more old new later reads most len count w p before left some short full counted = record {
+asked_more old new later reads most len count w p before left some size short full counted = record {
   most = omega (arith, left);
   bytes = (let bytes = before.bytes in omega (arith, bytes, length-append w p, short));
   calls = one_more_call old new later reads most len w before full counted.0;
   failures = counted.1 ∙ before.failures;
   idle = counted.2 ∙ moved len count new.idle some ∙ before.idle;
   ends = omega arith;
+  gave = (let gave = before.gave in omega (arith, gave, some, size, length-append w p));
 }
 
 pub asked_failed : (old new later : Counts) (reads most len : ℕ) (w : List ℕ) → Asked reads old new w reads 0 0 → reads < most → 0 < len → CountedFailure new later len
@@ -74,6 +75,7 @@ asked_failed old new later reads most len w before left full counted = record {
   failures = counted.1 ∙ ap (λ (n : ℕ). up n 1) (before.failures ∙ up_none old.failures);
   idle = counted.2 ∙ before.idle;
   ends = omega arith;
+  gave = (let gave = before.gave in omega (arith, gave));
 }
 
 pub asked_ended : (old new later : Counts) (reads most len : ℕ) (w : List ℕ) → Asked reads old new w reads 0 0 → reads < most → 0 < len → Counted new later len 0
@@ -85,18 +87,19 @@ asked_ended old new later reads most len w before left full counted = record {
   failures = counted.1 ∙ before.failures;
   idle = counted.2 ∙ ended_idle len new.idle full ∙ ap (λ (n : ℕ). up n 1) (before.idle ∙ up_none old.idle);
   ends = omega arith;
+  gave = (let gave = before.gave in omega (arith, gave));
 }
 
--- what the reads came to
-abbrev pub Ended : {Z : Type 0} → (List ℕ → Type 0) → (List ℕ → List ℕ → Z → Type 0) → ℕ → Option (List ℕ) → Option (List ℕ) → Counts → Counts → ReadsEnd Z → Type 0
-Ended Goes Stops most first last old new end = (w : List ℕ) × Consumes first last w × EndsReads Goes Stops most old new last w end
+-- the bytes that were taken, and how the reads ended
+abbrev pub HaveEnded : {Z : Type 0} → (List ℕ → Type 0) → (List ℕ → List ℕ → Z → Type 0) → ℕ → Option (List ℕ) → Option (List ℕ) → Counts → Counts → ReadsEnd Z → Type 0
+HaveEnded Goes Stops most first last old new end = (w : List ℕ) × Consumes first last w × EndsReads Goes Stops most old new last w end
 
 pub reads_start : (Goes : List ℕ → Type 0) (first : Option (List ℕ)) (old : Counts) → Goes [] → Reads Goes first first old old 0
 reads_start Goes first old goes = record {
   w = [];
   consumes = Consumes-nil first;
   goes = goes;
-  asked = record { most = omega arith; bytes = omega arith; calls = omega arith; failures = omega arith; idle = omega arith; ends = omega arith };
+  asked = record { most = omega arith; bytes = omega arith; calls = omega arith; failures = omega arith; idle = omega arith; ends = omega arith; gave = omega arith };
 }
 
 module _ (Goes Later : List ℕ → Type 0) (first now next : Option (List ℕ)) (old new later : Counts) (reads most len : ℕ) (r : Reads Goes first now old new reads) (left : reads < most) (full : 0 < len) where
@@ -107,12 +110,12 @@ module _ (Goes Later : List ℕ → Type 0) (first now next : Option (List ℕ))
     w = r.w ++ take count buffer;
     consumes = Consumes-trans first now next r.w (take count buffer) r.consumes gives;
     goes = goes;
-    asked = asked_more old new later reads (reads + 1) len count r.w (take count buffer) r.asked (omega arith) some (omega (arith, within, small, length-take-le count buffer within)) full counted;
+    asked = asked_more old new later reads (reads + 1) len count r.w (take count buffer) r.asked (omega arith) some (length-take-le count buffer within) (omega (arith, within, small, length-take-le count buffer within)) full counted;
   }
 
   -- or with which no more were wanted
   pub reads_stop : {Z : Type 0} (Stops : List ℕ → List ℕ → Z → Type 0) (count : ℕ) (buffer : List ℕ) (why : Z) → 0 < count → count ≤ length buffer → length buffer ≤ READ_MOST → Consumes now next (take count buffer)
-      → Counted new later len count → Stops r.w (take count buffer) why → Ended Later Stops most first next old later (Stopped why)
+      → Counted new later len count → Stops r.w (take count buffer) why → HaveEnded Later Stops most first next old later (Stopped why)
   reads_stop Stops count buffer why some within small gives counted stops =
       let size : length (take count buffer) ≡ count = length-take-le count buffer within in (
         r.w ++ take count buffer,
@@ -122,17 +125,17 @@ module _ (Goes Later : List ℕ → Type 0) (first now next : Option (List ℕ))
           take count buffer,
           record { is = refl; some = omega (arith, size, some); most = omega (arith, size, within, small) },
           stops,
-          (reads + 1, asked_more old new later reads most len count r.w (take count buffer) r.asked left some (omega (arith, within, small, size)) full counted),
+          (reads + 1, asked_more old new later reads most len count r.w (take count buffer) r.asked left some size (omega (arith, within, small, size)) full counted),
         ),
       )
 
   -- one more read failed
-  pub reads_fail : {Z : Type 0} (Stops : List ℕ → List ℕ → Z → Type 0) → Keeps now next → CountedFailure new later len → Ended Goes Stops most first next old later Failed
+  pub reads_fail : {Z : Type 0} (Stops : List ℕ → List ℕ → Z → Type 0) → Keeps now next → CountedFailure new later len → HaveEnded Goes Stops most first next old later Failed
   reads_fail Stops kept counted =
       (r.w, Consumes-kept first now next r.w r.consumes kept, (r.goes, (reads + 1, asked_failed old new later reads most len r.w r.asked left full counted)))
 
   -- the device is at its end
-  pub reads_end : {Z : Type 0} (Stops : List ℕ → List ℕ → Z → Type 0) → Consumes now next [] → IsAtEnd next → Counted new later len 0 → Ended Goes Stops most first next old later AtEnd
+  pub reads_end : {Z : Type 0} (Stops : List ℕ → List ℕ → Z → Type 0) → Consumes now next [] → IsAtEnd next → Counted new later len 0 → HaveEnded Goes Stops most first next old later AtEnd
   reads_end Stops none last counted = (
     r.w,
     rw (append-nil r.w) at (Consumes-trans first now next r.w [] r.consumes none),
@@ -141,5 +144,5 @@ module _ (Goes Later : List ℕ → Type 0) (first now next : Option (List ℕ))
 
 -- the reads are spent
 pub reads_spent : {Z : Type 0} (Goes : List ℕ → Type 0) (Stops : List ℕ → List ℕ → Z → Type 0) (first now : Option (List ℕ)) (old new : Counts) (reads most : ℕ) → Reads Goes first now old new reads → reads ≡ most
-    → Ended Goes Stops most first now old new Spent
+    → HaveEnded Goes Stops most first now old new Spent
 reads_spent Goes Stops first now old new reads most r all = (r.w, r.consumes, (r.goes, subst (λ (n : ℕ). Asked n old new r.w n 0 0) all r.asked))

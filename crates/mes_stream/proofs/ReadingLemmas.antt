@@ -1,11 +1,13 @@
 -- The reading of a stream, piece by piece and at its end.
-use Rattle.std.proofs.Common.{◌≡◌, ℕ, ◌+◌, ◌<◌, ◌≤◌, Option, List, [], ◌++◌, length, take, drop, sym, ◌∙◌, ap, append_assoc, append-nil, arith, refl, length-append, length-take-le, take-append-drop, Result, Ok, Err, inl, inr, subst}
-use Rattle.std.specs.Prelude.{OnOk, IfErr}
+use Rattle.std.proofs.Common.{◌≡◌, ℕ, ◌+◌, ◌-◌, ◌<◌, ◌≤◌, Option, List, [], ◌∷◌, ◌++◌, length, take, drop, sym, ◌∙◌, ap, append_assoc, append-nil, arith, refl, length-append, length-take-le, take-append-drop, Result, Ok, Err, inl, inr, subst}
+use Rattle.std.proofs.lemmas.List.{take_more}
+use Rattle.std.specs.Prelude.{OnOk, IfErr, slice_index}
 use Rattle.mes_frame.specs.declared.counts.Counts.{Counts}
-use Rattle.mes_stream.specs.Framings.{EndsIn}
+use Rattle.mes_stream.specs.Framings.{GoesIn, EndsIn, WholeIn, EndsRecordIn, StopsIn, StopsWithin}
 use Rattle.mes_stream.specs.Reads.{EndsReads}
-use Rattle.mes_stream.specs.Reading.{EndsAt, ByteEnds, EndsReading, ReadingStands, ReadingTakes, Means, Gathers, GathersLast}
-use Rattle.mes_stream.specs.Stream.{saturated}
+use Rattle.mes_stream.specs.Reading.{Ahead, EndsAt, StopsAt, ByteEnds, EndsReading, ReadingStands, ReadingTakes, Means, Gathers, GathersLast}
+use Rattle.mes_stream.specs.Stream.{saturated, Records, EndsRecord}
+use Rattle.mes_stream.specs.declared.fault.Fault.{Fault}
 use Rattle.mes_stream.specs.declared.fault.Report.{Report}
 use Rattle.mes_stream.specs.declared.fault.Stop.{Stop}
 use Rattle.mes_stream.specs.declared.limits.TheConstants.{READ_MOST}
@@ -14,12 +16,14 @@ use Rattle.mes_stream.specs.declared.reads.ReadsEnd.{ReadsEnd}
 use Rattle.mes_stream.specs.declared.reads.ReadsEnd.TheVariants.{Stopped, AtEnd, Failed, Spent}
 use Rattle.mes_stream.specs.declared.refusal.RecordRefusal.{RecordRefusal}
 use Rattle.mes_stream.specs.declared.stream_reader.Framing.{Framing}
+use Rattle.mes_stream.specs.declared.stream_reader.Framing.TheVariants.{Plain, Chunked}
+use Rattle.mes_stream.proofs.BodyLemmas.{records_more, stops_in}
 
 -- a byte of the piece ended the stream
-pub ends_at : {E : Type 0} (framing : Framing) (spells : List ℕ → E → Type 0) (limit : ℕ) (w piece : List ℕ) (values : List E) (used end : ℕ) (report : Report) → 0 < end → end ≤ length piece → length piece ≤ READ_MOST
-    → used ≡ saturated (length w) → report.used ≡ saturated (used + end) → report.rest.items ≡ drop end piece → EndsIn framing spells limit (w ++ take end piece) values
-    → EndsAt framing spells limit (w ++ piece) values report.used report.rest.items
-ends_at framing spells limit w piece values used end report some within small counted is rest ends =
+pub ends_at : {E : Type 0} (framing : Framing) (spells : List ℕ → E → Type 0) (ahead : Ahead) (limit : ℕ) (w piece : List ℕ) (values : List E) (used end : ℕ) (report : Report) → 0 < end → end ≤ length piece → length piece ≤ READ_MOST
+    → used ≡ saturated (ahead.bytes + length w) → report.used ≡ saturated (used + end) → report.rest.items ≡ drop end piece → EndsIn framing spells limit (w ++ take end piece) values
+    → EndsAt framing spells ahead limit (w ++ piece) values report.used report.rest.items
+ends_at framing spells ahead limit w piece values used end report some within small counted is rest ends =
     let size = length-append (take end piece) (drop end piece) in
     let whole = ap length (take-append-drop end piece) in
     record {
@@ -29,6 +33,35 @@ ends_at framing spells limit w piece values used end report some within small co
       ends = ends;
       last = rw rest (omega (arith, some, within, small, size, whole, length-take-le end piece within));
     }
+
+-- a byte of it stops the reading
+pub stops_at : {E : Type 0} (framing : Framing) (spells : List ℕ → E → Type 0) (breaks : List ℕ → RecordRefusal → Type 0) (ahead : Ahead) (limit : ℕ) (w piece : List ℕ) (values : List E) (fault : Fault) (used : ℕ)
+    → 0 < used → used ≤ length piece → GoesIn framing spells limit (w ++ take (used - 1) piece) values
+    → StopsIn framing spells breaks ahead.records limit (w ++ take (used - 1) piece) values (slice_index piece (used - 1)) fault
+    → StopsWithin framing spells breaks ahead.records limit (w ++ piece) values fault (length w + used)
+stops_at framing spells breaks ahead limit w piece values fault used some within live stops =
+    let count : length w + (0 + used) ≡ length w + used = omega arith in
+    subst (λ (n : ℕ). StopsWithin framing spells breaks ahead.records limit (w ++ piece) values fault n) count (stops_in framing spells breaks ahead.records limit w piece values fault 0 used (omega arith) some within (rw append-nil live) (inl (rw append-nil stops)))
+
+-- behind the last byte of a record the records so far are whole
+record_whole : {E : Type 0} (spells : List ℕ → E → Type 0) (limit : ℕ) (b : List ℕ) (values : List E) (c : ℕ) (value : E) → EndsRecord spells limit b values c (λ r. spells r value)
+    → Records spells limit (b ++ c ∷ []) (values ++ value ∷ [])
+record_whole spells limit b values c value ends =
+    rw (ends.spelt, append_assoc) (records_more {R = Unit {0}} (λ d r. Unit {0}) spells 0 limit ends.whole (ends.x ++ c ∷ []) ends.is.0 values value ends.records ends.is.1 ends.is.2)
+
+whole_more : {E : Type 0} (framing : Framing) (spells : List ℕ → E → Type 0) (limit : ℕ) (u : List ℕ) (values : List E) (c : ℕ) (value : E) → EndsRecordIn framing spells limit u values c value
+    → WholeIn framing spells limit (u ++ c ∷ []) (values ++ value ∷ [])
+whole_more Plain spells limit u values c value ends = record_whole spells limit u values c value ends
+whole_more Chunked spells limit u values c value (body, before, behind, ends) = (body ++ c ∷ [], behind, record_whole spells limit body values c value ends)
+
+pub whole_at : {E : Type 0} (framing : Framing) (spells : List ℕ → E → Type 0) (limit : ℕ) (w piece : List ℕ) (values : List E) (value : E) (used : ℕ) → 0 < used → used ≤ length piece
+    → EndsRecordIn framing spells limit (w ++ take (used - 1) piece) values (slice_index piece (used - 1)) value → WholeIn framing spells limit (w ++ take used piece) (values ++ value ∷ [])
+whole_at framing spells limit w piece values value used some within ends =
+    let sum : used ≡ (used - 1) + 1 = omega (arith, some) in
+    let more : take used piece ≡ take (used - 1) piece ++ slice_index piece (used - 1) ∷ [] = ap (λ (n : ℕ). take n piece) sum ∙ take_more piece (used - 1) 0 (omega (arith, some, within)) in
+    let join : (w ++ take (used - 1) piece) ++ slice_index piece (used - 1) ∷ [] ≡ w ++ take used piece =
+    append_assoc w (take (used - 1) piece) (slice_index piece (used - 1) ∷ []) ∙ sym (ap (λ (y : List ℕ). w ++ y) more) in
+    subst (λ (y : List ℕ). WholeIn framing spells limit y (values ++ value ∷ [])) join (whole_more framing spells limit (w ++ take (used - 1) piece) values (slice_index piece (used - 1)) value ends)
 
 module _ {R E : Type 0} (holds : R → List ℕ → Type 0) (spells : List ℕ → E → Type 0) (breaks : List ℕ → RecordRefusal → Type 0) where
   -- the list of a reader that has taken one more piece

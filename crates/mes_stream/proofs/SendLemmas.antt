@@ -41,7 +41,7 @@ plain_of_more limit events i event old new inside here plain is good framed spel
       good = All-append Good front (event ∷ []) plain.good (All-cons Good event [] good (All-nil Good));
       written = is ∙ ap (λ (b : List ℕ). b ++ record_bytes text) plain.written
           ∙ sym (flat_map-append (λ (e : Event). record_bytes (canonical_text e)) front (event ∷ []) ∙ ap (λ (b : List ℕ). records_of front ++ b) last);
-      read = subst R (sym is) (records_more HoldsData Spells limit old (record_bytes text) text front event plain.read framed spelt);
+      read = subst R (sym is) (records_more HoldsData Spells 0 limit old (record_bytes text) text front event plain.read framed spelt);
     })
 
 -- the event at this place is the first that is not good

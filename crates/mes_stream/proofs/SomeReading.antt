@@ -53,10 +53,10 @@ start_stands = record {
   content = refl;
 }
 
-module _ {E : Type 0} (spells : List ℕ → E → Type 0) (breaks : List ℕ → RecordRefusal → Type 0) (decided : IsDecided spells breaks) (limit : ℕ) where
+module _ {E : Type 0} (spells : List ℕ → E → Type 0) (breaks : List ℕ → RecordRefusal → Type 0) (decided : IsDecided spells breaks) (ahead limit : ℕ) where
   -- one more byte behind a live body leaves it live, or shows a fault
   Next : List ℕ → List E → ℕ → Type 0
-  Next b values c = ((more : List E) × BodyLive spells limit (b ++ c ∷ []) more) ⊎ ((fault : Fault) × BodyShows spells breaks limit b values c fault)
+  Next b values c = ((more : List E) × BodyLive spells limit (b ++ c ∷ []) more) ⊎ ((fault : Fault) × BodyShows spells breaks ahead limit b values c fault)
 
   none_begun : Begun [] [] limit
   none_begun = inl (record { digits = tt; few = omega arith }, refl)
@@ -71,16 +71,16 @@ module _ {E : Type 0} (spells : List ℕ → E → Type 0) (breaks : List ℕ �
         whole = live.whole ++ (live.x ++ c ∷ []);
         x = [];
         spelt = ap (λ (y : List ℕ). y ++ c ∷ []) live.spelt ∙ append_assoc live.whole live.x (c ∷ []) ∙ sym (append-nil (live.whole ++ (live.x ++ c ∷ [])));
-        records = records_more {R = Unit {0}} (λ u y. Unit {0}) spells limit live.whole (live.x ++ c ∷ []) r values h.0 live.records is h.1;
+        records = records_more {R = Unit {0}} (λ u y. Unit {0}) spells 0 limit live.whole (live.x ++ c ∷ []) r values h.0 live.records is h.1;
         is = ([], none_begun);
       },
     )
     | inr h ↦ inr (refused h.0 h.1 h.2)
   ] where
-    refused : (f : RecordRefusal) → f ≢ refusal.NoMemory → breaks r f → (fault : Fault) × BodyShows spells breaks limit b values c fault
-    refused (refusal.Text f) known h = (Text (number_after values) f.byte f.why, (record { whole = live.whole; x = live.x; spelt = live.spelt; records = live.records; is = (r, is, h) }, refl))
-    refused (refusal.Field f) known h = (Field (number_after values) f.path f.why, (record { whole = live.whole; x = live.x; spelt = live.spelt; records = live.records; is = (r, is, h) }, refl))
-    refused refusal.BadEntry known h = (BadEntry (number_after values), (record { whole = live.whole; x = live.x; spelt = live.spelt; records = live.records; is = (r, is, h) }, refl))
+    refused : (f : RecordRefusal) → f ≢ refusal.NoMemory → breaks r f → (fault : Fault) × BodyShows spells breaks ahead limit b values c fault
+    refused (refusal.Text f) known h = (Text (number_after ahead values) f.byte f.why, (record { whole = live.whole; x = live.x; spelt = live.spelt; records = live.records; is = (r, is, h) }, refl))
+    refused (refusal.Field f) known h = (Field (number_after ahead values) f.path f.why, (record { whole = live.whole; x = live.x; spelt = live.spelt; records = live.records; is = (r, is, h) }, refl))
+    refused refusal.BadEntry known h = (BadEntry (number_after ahead values), (record { whole = live.whole; x = live.x; spelt = live.spelt; records = live.records; is = (r, is, h) }, refl))
     refused refusal.NoMemory known h = absurd (known refl)
 
   -- what the bytes of the record that has begun and one more begin with
@@ -130,7 +130,7 @@ module _ {E : Type 0} (spells : List ℕ → E → Type 0) (breaks : List ℕ �
   -- ---- plain RecordIO
 
   ReadPlain : List ℕ → Type 0
-  ReadPlain w = (reading : PlainReading E) × ReadsPlain spells breaks limit w reading
+  ReadPlain w = (reading : PlainReading E) × ReadsPlain spells breaks ahead limit w reading
 
   plain_on : (rest b : List ℕ) (values : List E) → BodyLive spells limit b values → ReadPlain (b ++ rest)
   unfolding ReadPlain Next
@@ -140,14 +140,14 @@ module _ {E : Type 0} (spells : List ℕ → E → Type 0) (breaks : List ℕ �
     | inr h ↦ (plain.Stops b c values h.0, (rest, refl, h.1))
   ]
 
-  pub some_plain : (w : List ℕ) → (reading : PlainReading E) × ReadsPlain spells breaks limit w reading
+  pub some_plain : (w : List ℕ) → (reading : PlainReading E) × ReadsPlain spells breaks ahead limit w reading
   unfolding ReadPlain
   some_plain w = plain_on w [] [] start_live
 
   -- ---- chunked streams
 
   ReadStream : List ℕ → Type 0
-  ReadStream w = (reading : StreamReading E) × ReadsStream spells breaks limit w reading
+  ReadStream w = (reading : StreamReading E) × ReadsStream spells breaks ahead limit w reading
 
   -- a body that has ended ends between two records or inside one
   ended : (b : List ℕ) (values : List E) → BodyLive spells limit b values → Records spells limit b values ⊎ EndsInside spells limit b values
@@ -163,7 +163,7 @@ module _ {E : Type 0} (spells : List ℕ → E → Type 0) (breaks : List ℕ �
   stream_next w body rest values b s out.Quiet steps begun live read = seam ReadStream w rest b (read body values steps live)
   stream_next w body rest values b s out.Byte steps begun live read = elim (next body values b live) [
     | inl h ↦ seam ReadStream w rest b (read (body ++ b ∷ []) h.0 steps h.1)
-    | inr h ↦ (Stops w b values h.0, (rest, refl, shows_data spells breaks limit w body values b h.0 begun (open_of s (w ++ b ∷ []) (body ++ b ∷ []) steps) h.1))
+    | inr h ↦ (Stops w b values h.0, (rest, refl, shows_data spells breaks ahead limit w body values b h.0 begun (open_of s (w ++ b ∷ []) (body ++ b ∷ []) steps) h.1))
   ]
   stream_next w body rest values b s out.Closed steps begun live read = elim (ended body values live) [
     | inl records ↦ (Ends (w ++ b ∷ []) values, (rest, sym (append_assoc w (b ∷ []) rest), (body, steps.0, records)))
@@ -179,6 +179,6 @@ module _ {E : Type 0} (spells : List ℕ → E → Type 0) (breaks : List ℕ �
       stream_next w body rest values b (record { place = found.place }) found.answer (lift s.place found.place w body b found.answer at found.steps) (open_of s w body at) live
       (λ more vs stands on. stream_on rest (w ++ b ∷ []) more vs (record { place = found.place }) stands on)
 
-  pub some_stream : (w : List ℕ) → (reading : StreamReading E) × ReadsStream spells breaks limit w reading
+  pub some_stream : (w : List ℕ) → (reading : StreamReading E) × ReadsStream spells breaks ahead limit w reading
   unfolding ReadStream
   some_stream w = stream_on w [] [] [] (record { place = Size 0 0 }) start_stands start_live

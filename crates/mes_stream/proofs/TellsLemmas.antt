@@ -7,7 +7,7 @@ use Rattle.mes_frame.specs.declared.record.RecordState.{RecordState}
 use Rattle.mes_stream.specs.Decoding.{ChunkedStands}
 use Rattle.mes_stream.specs.Framings.{SaysIn}
 use Rattle.mes_stream.specs.StreamReaders.{StreamStands}
-use Rattle.mes_stream.specs.Taking.{BodyStands, Tells, answer_of}
+use Rattle.mes_stream.specs.Taking.{BodyStands, Tells, record_answer}
 use Rattle.mes_stream.specs.declared.body.Body.{Body}
 use Rattle.mes_stream.specs.declared.chunked.ChunkedBody.{ChunkedBody}
 use Rattle.mes_stream.specs.declared.refusal.RecordRefusal.{RecordRefusal}
@@ -21,63 +21,63 @@ use Rattle.mes_stream.specs.declared.taken.SoFar.TheVariants.{More, RecordEnded,
 use Rattle.mes_stream.proofs.ChunkLemmas.{run_says}
 use Rattle.mes_stream.proofs.DecoderLemmas.{says_as_well}
 
-module _ {R E : Type 0} (holds : R → List ℕ → Type 0) (spells : List ℕ → E → Type 0) (breaks : List ℕ → RecordRefusal → Type 0) (framing : Framing) where
+module _ {R E : Type 0} (holds : R → List ℕ → Type 0) (spells : List ℕ → E → Type 0) (breaks : List ℕ → RecordRefusal → Type 0) (ahead : ℕ) (framing : Framing) where
   -- the same bytes seen behind others
   pub tells_as : (Stands : Body R → List ℕ → List E → Type 0) (body : Body R) (limit : ℕ) (w v run rest : List ℕ) (values : List E) (used most : ℕ) (s : SoFar)
-      → ((after : Body R) (answer : Out E) → SaysIn framing (Stands after) spells breaks limit w values run used answer → SaysIn framing (Stands after) spells breaks limit v values rest most answer)
-      → Tells holds spells breaks framing Stands body limit w values run used s → Tells holds spells breaks framing Stands body limit v values rest most s
+      → ((after : Body R) (answer : Out E) → SaysIn framing (Stands after) spells breaks ahead limit w values run used answer → SaysIn framing (Stands after) spells breaks ahead limit v values rest most answer)
+      → Tells holds spells breaks ahead framing Stands body limit w values run used s → Tells holds spells breaks ahead framing Stands body limit v values rest most s
   tells_as Stands body limit w v run rest values used most More each h = each body out.More h
-  tells_as Stands body limit w v run rest values used most RecordEnded each (r, kept, fits, so) = (r, kept, fits, λ after answer same ends. each after (answer_of answer) (so after answer same ends))
+  tells_as Stands body limit w v run rest values used most RecordEnded each (r, kept, fits, so) = (r, kept, fits, λ after answer same ends. each after (record_answer after.done answer) (so after answer same ends))
   tells_as Stands body limit w v run rest values used most StreamEnded each h = each body out.End h
   tells_as Stands body limit w v run rest values used most (Fault fault) each h = each body (out.Fault fault) h
 
   -- and seen of another reader with that body
   pub tells_of : (Stands Others : Body R → List ℕ → List E → Type 0) (body : Body R) (limit : ℕ) (w run : List ℕ) (values : List E) (used : ℕ) (s : SoFar)
       → ((after : Body R) → after.records ≡ body.records → (v : List ℕ) (vs : List E) → Stands after v vs → Others after v vs)
-      → Tells holds spells breaks framing Stands body limit w values run used s → Tells holds spells breaks framing Others body limit w values run used s
+      → Tells holds spells breaks ahead framing Stands body limit w values run used s → Tells holds spells breaks ahead framing Others body limit w values run used s
   tells_of Stands Others body limit w run values used More each h = each body refl _ _ h
   tells_of Stands Others body limit w run values used RecordEnded each (r, kept, fits, so) =
-      (r, kept, fits, λ after answer same ends. says_as_well framing (Stands after) (Others after) spells breaks limit w run values used (answer_of answer) (each after same) (so after answer same ends))
+      (r, kept, fits, λ after answer same ends. says_as_well framing (Stands after) (Others after) spells breaks ahead limit w run values used (record_answer after.done answer) (each after same) (so after answer same ends))
   tells_of Stands Others body limit w run values used StreamEnded each h = h
   tells_of Stands Others body limit w run values used (Fault fault) each h = h
 
-module _ {R E : Type 0} (holds : R → List ℕ → Type 0) (spells : List ℕ → E → Type 0) (breaks : List ℕ → RecordRefusal → Type 0) where
+module _ {R E : Type 0} (holds : R → List ℕ → Type 0) (spells : List ℕ → E → Type 0) (breaks : List ℕ → RecordRefusal → Type 0) (ahead : ℕ) where
   -- a run of data
-  pub run_tells : (d : ChunkedBody R) (chunks : ChunkState) (body : Body R) (w run : List ℕ) (values : List E) (used count : ℕ) (so_far : SoFar) (s : ChunkedStands holds spells d w values) → length run ≡ count → count ≤ room_of d.chunks
+  pub run_tells : (d : ChunkedBody R) (chunks : ChunkState) (body : Body R) (w run : List ℕ) (values : List E) (used count : ℕ) (so_far : SoFar) (s : ChunkedStands holds spells ahead d w values) → length run ≡ count → count ≤ room_of d.chunks
       → 0 < used → used ≤ count → ChunkStands chunks (w ++ take used run) (s.content ++ take used run)
-      → Tells holds spells breaks Plain (BodyStands holds spells) body (limit_of body.records) s.content values run used so_far
-      → Tells holds spells breaks Chunked (λ after. ChunkedStands holds spells (record { chunks = chunks; body = after })) body (limit_of body.records) w values run used so_far
+      → Tells holds spells breaks ahead Plain (BodyStands holds spells ahead) body (limit_of body.records) s.content values run used so_far
+      → Tells holds spells breaks ahead Chunked (λ after. ChunkedStands holds spells ahead (record { chunks = chunks; body = after })) body (limit_of body.records) w values run used so_far
   run_tells d chunks body w run values used count More s len room some within stands taken =
-      run_says holds spells breaks d (record { chunks = chunks; body = body }) w run values used count out.More s len room some within stands taken
+      run_says holds spells ahead breaks d (record { chunks = chunks; body = body }) w run values used count out.More s len room some within stands taken
   run_tells d chunks body w run values used count RecordEnded s len room some within stands (r, kept, fits, so) = (
     r,
     kept,
     fits,
     λ after answer same ends.
         let limit = ap (λ (t : RecordState). limit_of t) same in
-        subst (λ (n : ℕ). SaysIn Chunked (ChunkedStands holds spells (record { chunks = chunks; body = after })) spells breaks n w values run used (answer_of answer)) limit
-        (run_says holds spells breaks d (record { chunks = chunks; body = after }) w run values used count (answer_of answer) s len room some within stands
-        (subst (λ (n : ℕ). SaysIn Plain (BodyStands holds spells after) spells breaks n s.content values run used (answer_of answer)) (sym limit) (so after answer same ends))),
+        subst (λ (n : ℕ). SaysIn Chunked (ChunkedStands holds spells ahead (record { chunks = chunks; body = after })) spells breaks ahead n w values run used (record_answer after.done answer)) limit
+        (run_says holds spells ahead breaks d (record { chunks = chunks; body = after }) w run values used count (record_answer after.done answer) s len room some within stands
+        (subst (λ (n : ℕ). SaysIn Plain (BodyStands holds spells ahead after) spells breaks ahead n s.content values run used (record_answer after.done answer)) (sym limit) (so after answer same ends))),
   )
   run_tells d chunks body w run values used count StreamEnded s len room some within stands taken = absurd taken
   run_tells d chunks body w run values used count (Fault fault) s len room some within stands taken =
-      run_says holds spells breaks d (record { chunks = chunks; body = body }) w run values used count (out.Fault fault) s len room some within stands taken
+      run_says holds spells ahead breaks d (record { chunks = chunks; body = body }) w run values used count (out.Fault fault) s len room some within stands taken
 
   -- of a reader of either framing
   pub plain_tells : (body : Body R) (framing : Framing) (limit : ℕ) (w run : List ℕ) (values : List E) (used : ℕ) (so_far : SoFar) → framing ≡ Plain → limit_of body.records ≡ limit
-      → Tells holds spells breaks Plain (BodyStands holds spells) body (limit_of body.records) w values run used so_far
-      → Tells holds spells breaks framing (λ after. StreamStands holds spells (reader.Plain after) framing limit) body limit w values run used so_far
+      → Tells holds spells breaks ahead Plain (BodyStands holds spells ahead) body (limit_of body.records) w values run used so_far
+      → Tells holds spells breaks ahead framing (λ after. StreamStands holds spells ahead (reader.Plain after) framing limit) body limit w values run used so_far
   plain_tells body framing limit w run values used so_far is same h =
-      subst (λ (n : ℕ). Tells holds spells breaks framing (λ after. StreamStands holds spells (reader.Plain after) framing n) body n w values run used so_far) same
-      (subst (λ (f : Framing). Tells holds spells breaks f (λ after. StreamStands holds spells (reader.Plain after) f (limit_of body.records)) body (limit_of body.records) w values run used so_far) (sym is)
-      (tells_of holds spells breaks Plain (BodyStands holds spells) (λ after. StreamStands holds spells (reader.Plain after) Plain (limit_of body.records)) body (limit_of body.records) w run values used so_far
+      subst (λ (n : ℕ). Tells holds spells breaks ahead framing (λ after. StreamStands holds spells ahead (reader.Plain after) framing n) body n w values run used so_far) same
+      (subst (λ (f : Framing). Tells holds spells breaks ahead f (λ after. StreamStands holds spells ahead (reader.Plain after) f (limit_of body.records)) body (limit_of body.records) w values run used so_far) (sym is)
+      (tells_of holds spells breaks ahead Plain (BodyStands holds spells ahead) (λ after. StreamStands holds spells ahead (reader.Plain after) Plain (limit_of body.records)) body (limit_of body.records) w run values used so_far
       (λ after records v vs stands. (refl, stands, ap (λ (t : RecordState). limit_of t) records)) h))
 
   pub chunked_tells : (d : ChunkedBody R) (framing : Framing) (limit : ℕ) (w run : List ℕ) (values : List E) (used : ℕ) (so_far : SoFar) → framing ≡ Chunked → limit_of d.body.records ≡ limit
-      → Tells holds spells breaks Chunked (λ after. ChunkedStands holds spells (record { chunks = d.chunks; body = after })) d.body (limit_of d.body.records) w values run used so_far
-      → Tells holds spells breaks framing (λ after. StreamStands holds spells (reader.Chunked (record { chunks = d.chunks; body = after })) framing limit) d.body limit w values run used so_far
+      → Tells holds spells breaks ahead Chunked (λ after. ChunkedStands holds spells ahead (record { chunks = d.chunks; body = after })) d.body (limit_of d.body.records) w values run used so_far
+      → Tells holds spells breaks ahead framing (λ after. StreamStands holds spells ahead (reader.Chunked (record { chunks = d.chunks; body = after })) framing limit) d.body limit w values run used so_far
   chunked_tells d framing limit w run values used so_far is same h =
-      subst (λ (n : ℕ). Tells holds spells breaks framing (λ after. StreamStands holds spells (reader.Chunked (record { chunks = d.chunks; body = after })) framing n) d.body n w values run used so_far) same
-      (subst (λ (f : Framing). Tells holds spells breaks f (λ after. StreamStands holds spells (reader.Chunked (record { chunks = d.chunks; body = after })) f (limit_of d.body.records)) d.body (limit_of d.body.records) w values run used so_far) (sym is)
-      (tells_of holds spells breaks Chunked (λ after. ChunkedStands holds spells (record { chunks = d.chunks; body = after })) (λ after. StreamStands holds spells (reader.Chunked (record { chunks = d.chunks; body = after })) Chunked (limit_of d.body.records)) d.body (limit_of d.body.records) w run values used so_far
+      subst (λ (n : ℕ). Tells holds spells breaks ahead framing (λ after. StreamStands holds spells ahead (reader.Chunked (record { chunks = d.chunks; body = after })) framing n) d.body n w values run used so_far) same
+      (subst (λ (f : Framing). Tells holds spells breaks ahead f (λ after. StreamStands holds spells ahead (reader.Chunked (record { chunks = d.chunks; body = after })) f (limit_of d.body.records)) d.body (limit_of d.body.records) w values run used so_far) (sym is)
+      (tells_of holds spells breaks ahead Chunked (λ after. ChunkedStands holds spells ahead (record { chunks = d.chunks; body = after })) (λ after. StreamStands holds spells ahead (reader.Chunked (record { chunks = d.chunks; body = after })) Chunked (limit_of d.body.records)) d.body (limit_of d.body.records) w run values used so_far
       (λ after records v vs stands. (refl, stands, ap (λ (t : RecordState). limit_of t) records)) h))

@@ -25,7 +25,7 @@ abbrev pub end_of : {R : Type 0} → RecordDecoder R → Option Ended
 end_of d = end_at d.state
 
 abbrev pub StateStands : {R E : Type 0} → (R → List ℕ → Type 0) → (List ℕ → E → Type 0) → State R → ℕ → List ℕ → List E → Type 0
-StateStands holds spells (state.Going stream) limit w values = StreamStands holds spells stream Chunked limit w values
+StateStands holds spells (state.Going stream) limit w values = StreamStands holds spells 0 stream Chunked limit w values
 StateStands holds spells (state.Ended end) limit w values = ⊥
 
 -- the decoder has taken w, which is live with the values under that limit; after the end or a fault it stands for no bytes

@@ -11,10 +11,10 @@ use Rattle.mes_stream.specs.declared.stream_reader.Framing.TheVariants.{Chunked}
 use Rattle.mes_stream.specs.declared.taken.Out.{Out}
 
 -- the reader has taken w, whose data so far are records that spell the values and perhaps the front of one more
-pub record ChunkedStands {R E : Type 0} (holds : R → List ℕ → Type 0) (spells : List ℕ → E → Type 0) (d : ChunkedBody R) (w : List ℕ) (values : List E) : Type 0 where
+pub record ChunkedStands {R E : Type 0} (holds : R → List ℕ → Type 0) (spells : List ℕ → E → Type 0) (ahead : ℕ) (d : ChunkedBody R) (w : List ℕ) (values : List E) : Type 0 where
   pub content : List ℕ
   pub chunks : ChunkStands d.chunks w content
-  pub body : BodyStands holds spells d.body content values
+  pub body : BodyStands holds spells ahead d.body content values
 
 -- so many bytes of the framing were taken behind w, the front of a body with these data, and it goes on behind each
 abbrev pub PassesFraming : ChunkState → List ℕ → List ℕ → List ℕ → ℕ → Type 0
@@ -23,7 +23,7 @@ PassesFraming new w body rest count =
 
 -- what a call says of the bytes that it used, in a chunked stream
 abbrev pub Says : {E : Type 0} → (List ℕ → List E → Type 0) → (List ℕ → E → Type 0) → (List ℕ → RecordRefusal → Type 0) → ℕ → List ℕ → List E → List ℕ → ℕ → Out E → Type 0
-Says Stands spells breaks limit w values piece used answer = SaysIn Chunked Stands spells breaks limit w values piece used answer
+Says Stands spells breaks limit w values piece used answer = SaysIn Chunked Stands spells breaks 0 limit w values piece used answer
 
 -- before the last byte that was used all is live with the same values
 abbrev pub LiveBefore : {E : Type 0} → (List ℕ → E → Type 0) → ℕ → List ℕ → List E → List ℕ → ℕ → Type 0

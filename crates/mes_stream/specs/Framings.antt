@@ -1,5 +1,6 @@
 -- A stream of values by its framing: records one behind the other, or records in a chunked body.
 use Rattle.std.specs.Prelude.{◌≡◌, ℕ, ◌+◌, ◌-◌, ◌<◌, ◌⊎◌, List, [], ◌∷◌, ◌++◌, length, take, slice_index, Result, Ok, Err}
+use Rattle.mes_frame.specs.ChunkFront.{IsOpen}
 use Rattle.mes_stream.specs.declared.refusal.RecordRefusal.{RecordRefusal}
 use Rattle.mes_stream.specs.Stream.{Records, BodyLive, EndsInside, EndsRecord, BodyStops}
 use Rattle.mes_stream.specs.Chunked.{IsStream, Live, EndsWith, Stops}
@@ -15,6 +16,11 @@ abbrev pub GoesIn : {E : Type 0} → Framing → (List ℕ → E → Type 0) →
 GoesIn Plain spells limit w values = BodyLive spells limit w values
 GoesIn Chunked spells limit w values = Live spells limit w values
 
+-- and its records so far are whole
+abbrev pub WholeIn : {E : Type 0} → Framing → (List ℕ → E → Type 0) → ℕ → List ℕ → List E → Type 0
+WholeIn Plain spells limit w values = Records spells limit w values
+WholeIn Chunked spells limit w values = (body : List ℕ) × IsOpen w body × Records spells limit body values
+
 -- the last byte of w ends a stream of the values; records one behind the other have no such byte
 abbrev pub EndsIn : {E : Type 0} → Framing → (List ℕ → E → Type 0) → ℕ → List ℕ → List E → Type 0
 EndsIn Plain spells limit w values = ⊥
@@ -26,20 +32,20 @@ EndsRecordIn Plain spells limit w values c value = EndsRecord spells limit w val
 EndsRecordIn Chunked spells limit w values c value = EndsWith spells limit w values c value
 
 -- the byte c behind w shows the fault, or memory was refused at it
-abbrev pub StopsIn : {E : Type 0} → Framing → (List ℕ → E → Type 0) → (List ℕ → RecordRefusal → Type 0) → ℕ → List ℕ → List E → ℕ → Fault → Type 0
-StopsIn Plain spells breaks limit w values c fault = BodyStops spells breaks limit w values c fault
-StopsIn Chunked spells breaks limit w values c fault = Stops spells breaks limit w values c fault
+abbrev pub StopsIn : {E : Type 0} → Framing → (List ℕ → E → Type 0) → (List ℕ → RecordRefusal → Type 0) → ℕ → ℕ → List ℕ → List E → ℕ → Fault → Type 0
+StopsIn Plain spells breaks ahead limit w values c fault = BodyStops spells breaks ahead limit w values c fault
+StopsIn Chunked spells breaks ahead limit w values c fault = Stops spells breaks ahead limit w values c fault
 
 -- What a call that uses so many bytes of a piece says of them, behind w, which goes on with the values: they were taken; a
 -- record ended with the last of them; the stream did; or the last of them stops the reading.
-abbrev pub SaysIn : {E : Type 0} → Framing → (List ℕ → List E → Type 0) → (List ℕ → E → Type 0) → (List ℕ → RecordRefusal → Type 0) → ℕ → List ℕ → List E → List ℕ → ℕ → Out E → Type 0
-SaysIn framing Stands spells breaks limit w values piece used out.More = Stands (w ++ take used piece) values
-SaysIn framing Stands spells breaks limit w values piece used (out.Event value) =
+abbrev pub SaysIn : {E : Type 0} → Framing → (List ℕ → List E → Type 0) → (List ℕ → E → Type 0) → (List ℕ → RecordRefusal → Type 0) → ℕ → ℕ → List ℕ → List E → List ℕ → ℕ → Out E → Type 0
+SaysIn framing Stands spells breaks ahead limit w values piece used out.More = Stands (w ++ take used piece) values
+SaysIn framing Stands spells breaks ahead limit w values piece used (out.Event value) =
     Stands (w ++ take used piece) (values ++ value ∷ [])
     × EndsRecordIn framing spells limit (w ++ take (used - 1) piece) values (slice_index piece (used - 1)) value
-SaysIn framing Stands spells breaks limit w values piece used out.End = EndsIn framing spells limit (w ++ take used piece) values
-SaysIn framing Stands spells breaks limit w values piece used (out.Fault fault) =
-    StopsIn framing spells breaks limit (w ++ take (used - 1) piece) values (slice_index piece (used - 1)) fault
+SaysIn framing Stands spells breaks ahead limit w values piece used out.End = EndsIn framing spells limit (w ++ take used piece) values
+SaysIn framing Stands spells breaks ahead limit w values piece used (out.Fault fault) =
+    StopsIn framing spells breaks ahead limit (w ++ take (used - 1) piece) values (slice_index piece (used - 1)) fault
 
 -- before the last byte that was used all goes on with the same values
 abbrev pub GoesBefore : {E : Type 0} → Framing → (List ℕ → E → Type 0) → ℕ → List ℕ → List E → List ℕ → ℕ → Type 0
@@ -55,12 +61,12 @@ InputEnds Chunked spells limit w values (Err fault) = Live spells limit w values
 
 -- The first n bytes of w stop the reading with their last. Want of memory may also come where the value of a record that has
 -- ended is added to the list.
-pub record StopsWithin {E : Type 0} (framing : Framing) (spells : List ℕ → E → Type 0) (breaks : List ℕ → RecordRefusal → Type 0) (limit : ℕ) (w : List ℕ) (values : List E) (fault : Fault) (n : ℕ) : Type 0 where
+pub record StopsWithin {E : Type 0} (framing : Framing) (spells : List ℕ → E → Type 0) (breaks : List ℕ → RecordRefusal → Type 0) (ahead limit : ℕ) (w : List ℕ) (values : List E) (fault : Fault) (n : ℕ) : Type 0 where
   pub front : List ℕ
   pub byte : ℕ
   pub rest : List ℕ
   pub is : w ≡ front ++ byte ∷ rest
   pub used : n ≡ length front + 1
   pub live : GoesIn framing spells limit front values
-  pub stops : StopsIn framing spells breaks limit front values byte fault
+  pub stops : StopsIn framing spells breaks ahead limit front values byte fault
       ⊎ ((fault ≡ NoMemory) × ((value : E) × EndsRecordIn framing spells limit front values byte value))

@@ -22,7 +22,7 @@ pub data PlainReading (E : Type 0) : Type 0 where
   Stops : (front : List ℕ) (byte : ℕ) (values : List E) (fault : Fault) → PlainReading E
 
 -- the bytes w read so
-abbrev pub ReadsPlain : {E : Type 0} → (List ℕ → E → Type 0) → (List ℕ → RecordRefusal → Type 0) → ℕ → List ℕ → PlainReading E → Type 0
-ReadsPlain spells breaks limit w (Goes values) = BodyLive spells limit w values
-ReadsPlain spells breaks limit w (Stops front byte values fault) =
-    (rest : List ℕ) × (w ≡ front ++ byte ∷ rest) × BodyShows spells breaks limit front values byte fault
+abbrev pub ReadsPlain : {E : Type 0} → (List ℕ → E → Type 0) → (List ℕ → RecordRefusal → Type 0) → ℕ → ℕ → List ℕ → PlainReading E → Type 0
+ReadsPlain spells breaks ahead limit w (Goes values) = BodyLive spells limit w values
+ReadsPlain spells breaks ahead limit w (Stops front byte values fault) =
+    (rest : List ℕ) × (w ≡ front ++ byte ∷ rest) × BodyShows spells breaks ahead limit front values byte fault

@@ -1,5 +1,5 @@
 -- How the reading of a stream from a device ends.
-use Rattle.std.specs.Prelude.{◌≡◌, ℕ, ◌+◌, ◌<◌, ◌⊎◌, Option, List, [], ◌++◌, length, Result, Ok, Err}
+use Rattle.std.specs.Prelude.{◌≡◌, ℕ, ◌+◌, ◌<◌, ◌⊎◌, Option, ◌≤◌, List, [], ◌∷◌, ◌++◌, length, take, None, Some, Result, Ok, Err}
 use Rattle.std.specs.Io.KnownBytes.{IsAtEnd}
 use Rattle.mes_frame.specs.declared.counts.Counts.{Counts}
 use Rattle.mes_event.specs.Events.{Spells}
@@ -8,61 +8,80 @@ use Rattle.mes_stream.specs.Refusals.{IsEventRefusal}
 use Rattle.mes_stream.specs.declared.refusal.RecordRefusal.{RecordRefusal}
 use Rattle.mes_stream.specs.Reads.{Asked, AskedSome}
 use Rattle.mes_stream.specs.Stream.{saturated}
-use Rattle.mes_stream.specs.Framings.{GoesIn, EndsIn, InputEnds, StopsWithin}
+use Rattle.mes_stream.specs.Framings.{GoesIn, EndsIn, WholeIn, InputEnds, StopsWithin}
 use Rattle.mes_stream.specs.StreamReaders.{StreamStands}
 use Rattle.mes_stream.specs.declared.fault.Fault.{Fault}
 use Rattle.mes_stream.specs.declared.fault.Fault.TheVariants.{Read, ReadsSpent}
 use Rattle.mes_stream.specs.declared.fault.Report.{Report}
 use Rattle.mes_stream.specs.declared.fault.Stop.{Stop}
 use Rattle.mes_stream.specs.declared.limits.TheConstants.{READ_MOST}
+use Rattle.mes_stream.specs.declared.reading.EndedRecord.{EndedRecord}
 use Rattle.mes_stream.specs.declared.reading.Reading.{Reading}
 use Rattle.mes_stream.specs.declared.reads.ReadsEnd.{ReadsEnd}
 use Rattle.mes_stream.specs.declared.reads.ReadsEnd.TheVariants.{Stopped, AtEnd, Failed, Spent}
 use Rattle.mes_stream.specs.declared.stream_reader.Framing.{Framing}
 use Rattle.mes_stream.specs.declared.stream_reader.Framing.TheVariants.{Plain, Chunked}
 
+-- what stands ahead of the bytes that are spoken of: so many records, of any kind, in so many bytes
+pub record Ahead : Type 0 where
+  pub records : ℕ
+  pub bytes : ℕ
+
+abbrev pub nothing_ahead : Ahead
+nothing_ahead = record { records = 0; bytes = 0 }
+
 -- a byte among the last 512 of w stops the reading
-pub record StopsAt {E : Type 0} (framing : Framing) (spells : List ℕ → E → Type 0) (breaks : List ℕ → RecordRefusal → Type 0) (limit : ℕ) (w : List ℕ) (values : List E) (used : ℕ) (fault : Fault) : Type 0 where
+pub record StopsAt {E : Type 0} (framing : Framing) (spells : List ℕ → E → Type 0) (breaks : List ℕ → RecordRefusal → Type 0) (ahead : Ahead) (limit : ℕ) (w : List ℕ) (values : List E) (used : ℕ) (fault : Fault) : Type 0 where
   pub n : ℕ
-  pub count : used ≡ saturated n
-  pub stops : StopsWithin framing spells breaks limit w values fault n
+  pub count : used ≡ saturated (ahead.bytes + n)
+  pub stops : StopsWithin framing spells breaks ahead.records limit w values fault n
   pub last : length w < n + READ_MOST
 
 -- a byte among the last 512 of w ends the stream, and the rest are the bytes behind it
-pub record EndsAt {E : Type 0} (framing : Framing) (spells : List ℕ → E → Type 0) (limit : ℕ) (w : List ℕ) (values : List E) (used : ℕ) (rest : List ℕ) : Type 0 where
+pub record EndsAt {E : Type 0} (framing : Framing) (spells : List ℕ → E → Type 0) (ahead : Ahead) (limit : ℕ) (w : List ℕ) (values : List E) (used : ℕ) (rest : List ℕ) : Type 0 where
   pub stream : List ℕ
   pub is : w ≡ stream ++ rest
-  pub count : used ≡ saturated (length stream)
+  pub count : used ≡ saturated (ahead.bytes + length stream)
   pub ends : EndsIn framing spells limit stream values
   pub last : length rest < READ_MOST
 
--- what a byte of the last read did: it ended the stream, or it stops the reading
-abbrev pub ByteEnds : {E : Type 0} → Framing → (List ℕ → E → Type 0) → (List ℕ → RecordRefusal → Type 0) → ℕ → List ℕ → List E → Result Report Stop → Type 0
-ByteEnds framing spells breaks limit w values (Ok report) = EndsAt framing spells limit w values report.used report.rest.items
-ByteEnds framing spells breaks limit w values (Err stop) = StopsAt framing spells breaks limit w values stop.used stop.fault
+-- what a byte among the last 512 of w did: it ended the stream, or it stops the reading
+abbrev pub ByteEndsBehind : {E : Type 0} → Framing → (List ℕ → E → Type 0) → (List ℕ → RecordRefusal → Type 0) → Ahead → ℕ → List ℕ → List E → Result Report Stop → Type 0
+ByteEndsBehind framing spells breaks ahead limit w values (Ok report) = EndsAt framing spells ahead limit w values report.used report.rest.items
+ByteEndsBehind framing spells breaks ahead limit w values (Err stop) = StopsAt framing spells breaks ahead limit w values stop.used stop.fault
 
 -- what the end of the input means behind w, all of which was used
-abbrev pub EndMeans : {E : Type 0} → Framing → (List ℕ → E → Type 0) → ℕ → List ℕ → List E → Result Report Stop → Type 0
-EndMeans framing spells limit w values (Ok report) =
-    InputEnds {T = Unit {0}} framing spells limit w values (Ok tt) × (report.used ≡ saturated (length w)) × (report.rest.items ≡ [])
-EndMeans framing spells limit w values (Err stop) =
-    InputEnds {T = Unit {0}} framing spells limit w values (Err stop.fault) × (stop.used ≡ saturated (length w))
+abbrev pub EndMeans : {E : Type 0} → Framing → (List ℕ → E → Type 0) → Ahead → ℕ → List ℕ → List E → Result Report Stop → Type 0
+EndMeans framing spells ahead limit w values (Ok report) =
+    InputEnds {T = Unit {0}} framing spells limit w values (Ok tt) × (report.used ≡ saturated (ahead.bytes + length w)) × (report.rest.items ≡ [])
+EndMeans framing spells ahead limit w values (Err stop) =
+    InputEnds {T = Unit {0}} framing spells limit w values (Err stop.fault) × (stop.used ≡ saturated (ahead.bytes + length w))
 
 -- the stream goes on behind w, all of which was used, and this is why no more was read
-abbrev pub BreaksOff : {E : Type 0} → Fault → Framing → (List ℕ → E → Type 0) → ℕ → List ℕ → List E → Result Report Stop → Type 0
-BreaksOff fault framing spells limit w values (Ok report) = ⊥
-BreaksOff fault framing spells limit w values (Err stop) =
-    (stop.fault ≡ fault) × GoesIn framing spells limit w values × (stop.used ≡ saturated (length w))
+abbrev pub BreaksOff : {E : Type 0} → Fault → Framing → (List ℕ → E → Type 0) → Ahead → ℕ → List ℕ → List E → Result Report Stop → Type 0
+BreaksOff fault framing spells ahead limit w values (Ok report) = ⊥
+BreaksOff fault framing spells ahead limit w values (Err stop) =
+    (stop.fault ≡ fault) × GoesIn framing spells limit w values × (stop.used ≡ saturated (ahead.bytes + length w))
 
 -- How reading ended, where w are the bytes that were taken, old and new what the device counted before and after, and last
 -- what it has left: a byte ended the stream or stops the reading; the device told its end; a call failed (F14); or as many
--- calls were made as allowed (F15).
+-- calls were made as allowed (F15). What each of these means of the bytes is given.
+abbrev pub EndsReadingAs : {E : Type 0} → (List ℕ → List E → Result Report Stop → Type 0) → (List ℕ → List E → Result Report Stop → Type 0) → (Fault → List ℕ → List E → Result Report Stop → Type 0)
+    → ℕ → Counts → Counts → Option (List ℕ) → List ℕ → List E → Result Report Stop → Type 0
+EndsReadingAs Byte End Off reads old new last w values outcome =
+    (Byte w values outcome × AskedSome reads old new w 0 0)
+    ⊎ (End w values outcome × IsAtEnd last × AskedSome reads old new w 0 1)
+    ⊎ (Off Read w values outcome × AskedSome reads old new w 1 0)
+    ⊎ (Off ReadsSpent w values outcome × Asked reads old new w reads 0 0)
+
+-- the same where nothing stands ahead
+abbrev pub ByteEnds : {E : Type 0} → Framing → (List ℕ → E → Type 0) → (List ℕ → RecordRefusal → Type 0) → ℕ → List ℕ → List E → Result Report Stop → Type 0
+ByteEnds framing spells breaks limit w values outcome = ByteEndsBehind framing spells breaks nothing_ahead limit w values outcome
+
+-- and how reading ended
 abbrev pub EndsReading : {E : Type 0} → Framing → (List ℕ → E → Type 0) → (List ℕ → RecordRefusal → Type 0) → ℕ → ℕ → Counts → Counts → Option (List ℕ) → List ℕ → List E → Result Report Stop → Type 0
 EndsReading framing spells breaks limit reads old new last w values outcome =
-    (ByteEnds framing spells breaks limit w values outcome × AskedSome reads old new w 0 0)
-    ⊎ (EndMeans framing spells limit w values outcome × IsAtEnd last × AskedSome reads old new w 0 1)
-    ⊎ (BreaksOff Read framing spells limit w values outcome × AskedSome reads old new w 1 0)
-    ⊎ (BreaksOff ReadsSpent framing spells limit w values outcome × Asked reads old new w reads 0 0)
+    EndsReadingAs (ByteEnds framing spells breaks limit) (EndMeans framing spells nothing_ahead limit) (λ fault. BreaksOff fault framing spells nothing_ahead limit) reads old new last w values outcome
 
 -- the same of events in plain RecordIO
 abbrev pub EndsPlain : ℕ → ℕ → Counts → Counts → Option (List ℕ) → List ℕ → List Event → Result Report Stop → Type 0
@@ -73,25 +92,53 @@ abbrev pub EndsStream : ℕ → ℕ → Counts → Counts → Option (List ℕ) 
 EndsStream limit reads old new last w events outcome = EndsReading Chunked Spells IsEventRefusal limit reads old new last w events outcome
 
 -- the reading has taken w, which goes on with the values, and counted it
+abbrev pub ReadingStandsBehind : {R E : Type 0} → (R → List ℕ → Type 0) → (List ℕ → E → Type 0) → Ahead → Reading R → Framing → ℕ → List ℕ → List E → Type 0
+ReadingStandsBehind holds spells ahead d framing limit w values = StreamStands holds spells ahead.records d.stream framing limit w values × (d.used ≡ saturated (ahead.bytes + length w))
+
 abbrev pub ReadingStands : {R E : Type 0} → (R → List ℕ → Type 0) → (List ℕ → E → Type 0) → Reading R → Framing → ℕ → List ℕ → List E → Type 0
-ReadingStands holds spells d framing limit w values = StreamStands holds spells d.stream framing limit w values × (d.used ≡ saturated (length w))
+ReadingStands holds spells d framing limit w values = ReadingStandsBehind holds spells nothing_ahead d framing limit w values
 
 -- what became of a piece behind w, where the list got the values of the records that ended in it
+abbrev pub ReadingTakesBehind : {R E T : Type 0} → (R → List ℕ → Type 0) → (List ℕ → E → Type 0) → (List ℕ → RecordRefusal → Type 0) → Ahead → Reading R → Framing → ℕ → List ℕ → List E → List ℕ → List E → List E → Result T (Result Report Stop) → Type 0
+ReadingTakesBehind {E = E} holds spells breaks ahead new framing limit w values piece old now (Ok done) =
+    (more : List E) × (now ≡ old ++ more) × ReadingStandsBehind holds spells ahead new framing limit (w ++ piece) (values ++ more)
+ReadingTakesBehind {E = E} holds spells breaks ahead new framing limit w values piece old now (Err outcome) =
+    (more : List E) × (now ≡ old ++ more) × ByteEndsBehind framing spells breaks ahead limit (w ++ piece) (values ++ more) outcome
+
 abbrev pub ReadingTakes : {R E T : Type 0} → (R → List ℕ → Type 0) → (List ℕ → E → Type 0) → (List ℕ → RecordRefusal → Type 0) → Reading R → Framing → ℕ → List ℕ → List E → List ℕ → List E → List E → Result T (Result Report Stop) → Type 0
-ReadingTakes {E = E} holds spells breaks new framing limit w values piece old now (Ok done) =
-    (more : List E) × (now ≡ old ++ more) × ReadingStands holds spells new framing limit (w ++ piece) (values ++ more)
-ReadingTakes {E = E} holds spells breaks new framing limit w values piece old now (Err outcome) =
-    (more : List E) × (now ≡ old ++ more) × ByteEnds framing spells breaks limit (w ++ piece) (values ++ more) outcome
+ReadingTakes holds spells breaks new framing limit w values piece old now result = ReadingTakesBehind holds spells breaks nothing_ahead new framing limit w values piece old now result
+
+-- what became of a piece up to the end of a record
+abbrev pub ReadingTakesRecord : {R E : Type 0} → (R → List ℕ → Type 0) → (List ℕ → E → Type 0) → (List ℕ → RecordRefusal → Type 0) → Ahead → Reading R → Framing → ℕ → List ℕ → List E → List ℕ → Result (Option (EndedRecord E)) (Result Report Stop) → Type 0
+ReadingTakesRecord holds spells breaks ahead new framing limit w values piece (Ok None) = ReadingStandsBehind holds spells ahead new framing limit (w ++ piece) values
+ReadingTakesRecord holds spells breaks ahead new framing limit w values piece (Ok (Some ended)) =
+    ReadingStandsBehind holds spells ahead new framing limit (w ++ take ended.used piece) (values ++ ended.value ∷ [])
+    × WholeIn framing spells limit (w ++ take ended.used piece) (values ++ ended.value ∷ [])
+ReadingTakesRecord holds spells breaks ahead new framing limit w values piece (Err outcome) = ByteEndsBehind framing spells breaks ahead limit (w ++ piece) values outcome
+
+-- it ended with a byte of the piece
+abbrev pub EndsWithin : {E T : Type 0} → ℕ → Result (Option (EndedRecord E)) T → Type 0
+EndsWithin len (Ok None) = Unit {0}
+EndsWithin len (Ok (Some ended)) = (0 < ended.used) × (ended.used ≤ len)
+EndsWithin len (Err outcome) = Unit {0}
 
 -- what the end of the reads means: a stop is told as it is; else what the reading stands for decides
+abbrev pub MeansBehind : {R E : Type 0} → (R → List ℕ → Type 0) → (List ℕ → E → Type 0) → Ahead → Reading R → ReadsEnd (Result Report Stop) → Result Report Stop → Type 0
+MeansBehind holds spells ahead d (Stopped outcome) answer = answer ≡ outcome
+MeansBehind {E = E} holds spells ahead d AtEnd answer =
+    (framing : Framing) (limit : ℕ) (w : List ℕ) (values : List E) → ReadingStandsBehind holds spells ahead d framing limit w values → EndMeans framing spells ahead limit w values answer
+MeansBehind {E = E} holds spells ahead d Failed answer =
+    (framing : Framing) (limit : ℕ) (w : List ℕ) (values : List E) → ReadingStandsBehind holds spells ahead d framing limit w values → BreaksOff Read framing spells ahead limit w values answer
+MeansBehind {E = E} holds spells ahead d Spent answer =
+    (framing : Framing) (limit : ℕ) (w : List ℕ) (values : List E) → ReadingStandsBehind holds spells ahead d framing limit w values → BreaksOff ReadsSpent framing spells ahead limit w values answer
+
 abbrev pub Means : {R E : Type 0} → (R → List ℕ → Type 0) → (List ℕ → E → Type 0) → Reading R → ReadsEnd (Result Report Stop) → Result Report Stop → Type 0
-Means holds spells d (Stopped outcome) answer = answer ≡ outcome
-Means {E = E} holds spells d AtEnd answer =
-    (framing : Framing) (limit : ℕ) (w : List ℕ) (values : List E) → ReadingStands holds spells d framing limit w values → EndMeans framing spells limit w values answer
-Means {E = E} holds spells d Failed answer =
-    (framing : Framing) (limit : ℕ) (w : List ℕ) (values : List E) → ReadingStands holds spells d framing limit w values → BreaksOff Read framing spells limit w values answer
-Means {E = E} holds spells d Spent answer =
-    (framing : Framing) (limit : ℕ) (w : List ℕ) (values : List E) → ReadingStands holds spells d framing limit w values → BreaksOff ReadsSpent framing spells limit w values answer
+Means holds spells d end answer = MeansBehind holds spells nothing_ahead d end answer
+
+-- where it came to a stop nothing is kept
+abbrev pub KeepsNoneOnStop : {A B : Type 0} → ℕ → Result A B → Type 0
+KeepsNoneOnStop kept (Ok more) = Unit {0}
+KeepsNoneOnStop kept (Err outcome) = kept ≡ 0
 
 -- the list got the values of the stream so far, from its first byte on
 abbrev pub Gathers : {R E : Type 0} → (R → List ℕ → Type 0) → (List ℕ → E → Type 0) → Reading R → List E → Reading R → List E → List ℕ → Type 0

@@ -15,14 +15,15 @@ pub record Asked (reads : ℕ) (old new : Counts) (w : List ℕ) (made failed en
   pub calls : new.calls ≡ up old.calls made
   pub failures : new.failures ≡ up old.failures failed
   pub idle : new.idle ≡ up old.idle ended
-  -- no call both failed and told the end
+  -- no call both failed and told the end, and each of the others gave a byte
   pub ends : failed + ended ≤ made
+  pub gave : made ≤ length w + failed + ended
 
 -- so often
 abbrev pub AskedSome : ℕ → Counts → Counts → List ℕ → ℕ → ℕ → Type 0
 AskedSome reads old new w failed ended = (made : ℕ) × Asked reads old new w made failed ended
 
--- the last read gave the piece, which is not empty, behind the front
+-- w is the front, and then the piece that the last read gave: at least one byte, and at most 512
 pub record LastRead (w front piece : List ℕ) : Type 0 where
   pub is : w ≡ front ++ piece
   pub some : 0 < length piece

@@ -34,9 +34,9 @@ BodyLive spells limit b values = Behind spells limit (λ x. (r : List ℕ) × Be
 abbrev pub EndsInside : {E : Type 0} → (List ℕ → E → Type 0) → ℕ → List ℕ → List E → Type 0
 EndsInside spells limit b values = Behind spells limit (λ x. (x ≢ []) × ((r : List ℕ) × Begun x r limit)) b values
 
--- the number of the record behind the values, from 1
-abbrev pub number_after : {E : Type 0} → List E → ℕ
-number_after values = saturated (length values + 1)
+-- the number, from 1, of the record behind the values, where so many records stand ahead of theirs
+abbrev pub number_after : {E : Type 0} → ℕ → List E → ℕ
+number_after ahead values = saturated (ahead + length values + 1)
 
 -- the byte c behind the bytes b ends a record whose data are r
 abbrev pub EndsRecord : {E : Type 0} → (List ℕ → E → Type 0) → ℕ → List ℕ → List E → ℕ → (List ℕ → Type 0) → Type 0
@@ -44,25 +44,25 @@ EndsRecord spells limit b values c Is = Behind spells limit (λ x. (r : List ℕ
 
 -- behind the bytes b, which are live, the byte c shows the fault: no size line has it there, or it ends a record that
 -- spells no value
-abbrev pub BodyShows : {E : Type 0} → (List ℕ → E → Type 0) → (List ℕ → RecordRefusal → Type 0) → ℕ → List ℕ → List E → ℕ → Fault → Type 0
-BodyShows spells breaks limit b values c (Frame fault) = Behind spells limit (λ x. SizeShows x c limit fault) b values
-BodyShows spells breaks limit b values c (Text at_record byte why) =
-    EndsRecord spells limit b values c (λ r. breaks r (refusal.Text (record { byte = byte; why = why }))) × (at_record ≡ number_after values)
-BodyShows spells breaks limit b values c (Field at_record path why) =
-    EndsRecord spells limit b values c (λ r. breaks r (refusal.Field (record { path = path; why = why }))) × (at_record ≡ number_after values)
-BodyShows spells breaks limit b values c EndsInsideChunks = ⊥
-BodyShows spells breaks limit b values c EndsInsideRecord = ⊥
-BodyShows spells breaks limit b values c NoMemory = ⊥
-BodyShows spells breaks limit b values c Read = ⊥
-BodyShows spells breaks limit b values c ReadsSpent = ⊥
-BodyShows spells breaks limit b values c (BadEntry at_record) =
-    EndsRecord spells limit b values c (λ r. breaks r refusal.BadEntry) × (at_record ≡ number_after values)
+abbrev pub BodyShows : {E : Type 0} → (List ℕ → E → Type 0) → (List ℕ → RecordRefusal → Type 0) → ℕ → ℕ → List ℕ → List E → ℕ → Fault → Type 0
+BodyShows spells breaks ahead limit b values c (Frame fault) = Behind spells limit (λ x. SizeShows x c limit fault) b values
+BodyShows spells breaks ahead limit b values c (Text at_record byte why) =
+    EndsRecord spells limit b values c (λ r. breaks r (refusal.Text (record { byte = byte; why = why }))) × (at_record ≡ number_after ahead values)
+BodyShows spells breaks ahead limit b values c (Field at_record path why) =
+    EndsRecord spells limit b values c (λ r. breaks r (refusal.Field (record { path = path; why = why }))) × (at_record ≡ number_after ahead values)
+BodyShows spells breaks ahead limit b values c EndsInsideChunks = ⊥
+BodyShows spells breaks ahead limit b values c EndsInsideRecord = ⊥
+BodyShows spells breaks ahead limit b values c NoMemory = ⊥
+BodyShows spells breaks ahead limit b values c Read = ⊥
+BodyShows spells breaks ahead limit b values c ReadsSpent = ⊥
+BodyShows spells breaks ahead limit b values c (BadEntry at_record) =
+    EndsRecord spells limit b values c (λ r. breaks r refusal.BadEntry) × (at_record ≡ number_after ahead values)
 
 -- the next byte behind the bytes b is a byte of a record's data
 abbrev pub InData : {E : Type 0} → (List ℕ → E → Type 0) → ℕ → List ℕ → List E → Type 0
 InData spells limit b values = Behind spells limit (λ x. (r : List ℕ) × (left : ℕ) × DataBegun x r left limit) b values
 
 -- a fault that the byte c shows, or want of memory at a byte of data: that says only what stood before
-abbrev pub BodyStops : {E : Type 0} → (List ℕ → E → Type 0) → (List ℕ → RecordRefusal → Type 0) → ℕ → List ℕ → List E → ℕ → Fault → Type 0
-BodyStops spells breaks limit b values c fault =
-    BodyShows spells breaks limit b values c fault ⊎ ((fault ≡ NoMemory) × InData spells limit b values)
+abbrev pub BodyStops : {E : Type 0} → (List ℕ → E → Type 0) → (List ℕ → RecordRefusal → Type 0) → ℕ → ℕ → List ℕ → List E → ℕ → Fault → Type 0
+BodyStops spells breaks ahead limit b values c fault =
+    BodyShows spells breaks ahead limit b values c fault ⊎ ((fault ≡ NoMemory) × InData spells limit b values)

@@ -11,6 +11,8 @@ use Rattle.mes_stream.specs.declared.stream_reader.Framing.TheVariants.{Plain, C
 use Rattle.mes_stream.specs.declared.stream_reader.StreamReader.{StreamReader}
 use Rattle.mes_stream.specs.declared.stream_reader.StreamReader.TheVariants as reader
 use Rattle.mes_stream.specs.declared.taken.FaultAt.{FaultAt}
+use Rattle.mes_stream.specs.declared.taken.Out.{Out}
+use Rattle.mes_stream.specs.declared.taken.Out.TheVariants as out
 
 -- what reads the records, and the same reader with another
 abbrev pub body_of : {R : Type 0} → StreamReader R → Body R
@@ -23,21 +25,21 @@ with_body (reader.Chunked chunked) after = reader.Chunked (record { chunks = chu
 
 -- The reader of streams of that framing has taken w, which goes on with the values, under that limit. Behind the end or a
 -- fault nothing is said of it.
-abbrev pub StreamStands : {R E : Type 0} → (R → List ℕ → Type 0) → (List ℕ → E → Type 0) → StreamReader R → Framing → ℕ → List ℕ → List E → Type 0
-StreamStands holds spells (reader.Plain body) framing limit w values = (framing ≡ Plain) × BodyStands holds spells body w values × (limit_of body.records ≡ limit)
-StreamStands holds spells (reader.Chunked chunked) framing limit w values =
-    (framing ≡ Chunked) × ChunkedStands holds spells chunked w values × (limit_of chunked.body.records ≡ limit)
+abbrev pub StreamStands : {R E : Type 0} → (R → List ℕ → Type 0) → (List ℕ → E → Type 0) → ℕ → StreamReader R → Framing → ℕ → List ℕ → List E → Type 0
+StreamStands holds spells ahead (reader.Plain body) framing limit w values = (framing ≡ Plain) × BodyStands holds spells ahead body w values × (limit_of body.records ≡ limit)
+StreamStands holds spells ahead (reader.Chunked chunked) framing limit w values =
+    (framing ≡ Chunked) × ChunkedStands holds spells ahead chunked w values × (limit_of chunked.body.records ≡ limit)
 
 -- What became of a piece behind w: all of it was taken; or a byte of it ended the stream, or stops the reading, and so many
 -- bytes were used. The list got the values of the records that ended before.
-abbrev pub StreamFeeds : {R E : Type 0} → (R → List ℕ → Type 0) → (List ℕ → E → Type 0) → (List ℕ → RecordRefusal → Type 0) → StreamReader R → Framing → ℕ → List ℕ → List E → List ℕ → List E → List E → Result (Option ℕ) FaultAt → Type 0
-StreamFeeds {E = E} holds spells breaks new framing limit w values piece old now (Ok None) =
-    (more : List E) × (now ≡ old ++ more) × StreamStands holds spells new framing limit (w ++ piece) (values ++ more)
-StreamFeeds {E = E} holds spells breaks new framing limit w values piece old now (Ok (Some used)) =
+abbrev pub StreamFeeds : {R E : Type 0} → (R → List ℕ → Type 0) → (List ℕ → E → Type 0) → (List ℕ → RecordRefusal → Type 0) → ℕ → StreamReader R → Framing → ℕ → List ℕ → List E → List ℕ → List E → List E → Result (Option ℕ) FaultAt → Type 0
+StreamFeeds {E = E} holds spells breaks ahead new framing limit w values piece old now (Ok None) =
+    (more : List E) × (now ≡ old ++ more) × StreamStands holds spells ahead new framing limit (w ++ piece) (values ++ more)
+StreamFeeds {E = E} holds spells breaks ahead new framing limit w values piece old now (Ok (Some used)) =
     (more : List E) × (now ≡ old ++ more) × (0 < used) × EndsIn framing spells limit (w ++ take used piece) (values ++ more)
-StreamFeeds {E = E} holds spells breaks new framing limit w values piece old now (Err stop) =
+StreamFeeds {E = E} holds spells breaks ahead new framing limit w values piece old now (Err stop) =
     (more : List E) × (now ≡ old ++ more) × (0 < stop.used)
-    × StopsWithin framing spells breaks limit (w ++ piece) (values ++ more) stop.fault (length w + stop.used)
+    × StopsWithin framing spells breaks ahead limit (w ++ piece) (values ++ more) stop.fault (length w + stop.used)
 
 -- no more bytes were used than the piece has
 abbrev pub UsesWithin : ℕ → Result (Option ℕ) FaultAt → Type 0
@@ -50,3 +52,10 @@ abbrev pub LetsGo : ℕ → Result (Option ℕ) FaultAt → Type 0
 LetsGo kept (Ok None) = Unit {0}
 LetsGo kept (Ok (Some used)) = kept ≡ 0
 LetsGo kept (Err stop) = kept ≡ 0
+
+-- the same behind an answer
+abbrev pub KeepsNoneAt : {E : Type 0} → ℕ → Out E → Type 0
+KeepsNoneAt kept out.More = Unit {0}
+KeepsNoneAt kept (out.Event value) = Unit {0}
+KeepsNoneAt kept out.End = kept ≡ 0
+KeepsNoneAt kept (out.Fault fault) = kept ≡ 0

@@ -13,8 +13,20 @@ pub data StreamReading (E : Type 0) : Type 0 where
   Stops : (front : List ℕ) (byte : ℕ) (values : List E) (fault : Fault) → StreamReading E
 
 -- the bytes w read so
-abbrev pub ReadsStream : {E : Type 0} → (List ℕ → E → Type 0) → (List ℕ → RecordRefusal → Type 0) → ℕ → List ℕ → StreamReading E → Type 0
-ReadsStream spells breaks limit w (Goes values) = Live spells limit w values
-ReadsStream spells breaks limit w (Ends front values) = (rest : List ℕ) × (w ≡ front ++ rest) × IsStream spells limit front values
-ReadsStream spells breaks limit w (Stops front byte values fault) =
-    (rest : List ℕ) × (w ≡ front ++ byte ∷ rest) × Shows spells breaks limit front values byte fault
+abbrev pub ReadsStream : {E : Type 0} → (List ℕ → E → Type 0) → (List ℕ → RecordRefusal → Type 0) → ℕ → ℕ → List ℕ → StreamReading E → Type 0
+ReadsStream spells breaks ahead limit w (Goes values) = Live spells limit w values
+ReadsStream spells breaks ahead limit w (Ends front values) = (rest : List ℕ) × (w ≡ front ++ rest) × IsStream spells limit front values
+ReadsStream spells breaks ahead limit w (Stops front byte values fault) =
+    (rest : List ℕ) × (w ≡ front ++ byte ∷ rest) × Shows spells breaks ahead limit front values byte fault
+
+-- the same values, and the same end
+abbrev pub IsAlike : {E : Type 0} → StreamReading E → StreamReading E → Type 0
+IsAlike (Goes values) (Goes others) = values ≡ others
+IsAlike (Goes values) (Ends front others) = ⊥
+IsAlike (Goes values) (Stops front byte others fault) = ⊥
+IsAlike (Ends front values) (Goes others) = ⊥
+IsAlike (Ends front values) (Ends other others) = values ≡ others
+IsAlike (Ends front values) (Stops other byte others fault) = ⊥
+IsAlike (Stops front byte values fault) (Goes others) = ⊥
+IsAlike (Stops front byte values fault) (Ends other others) = ⊥
+IsAlike (Stops front byte values fault) (Stops other last others also) = (values ≡ others) × (fault ≡ also)

@@ -18,7 +18,7 @@ use Rattle.mes_stream.specs.declared.body.Front.{Front}
 use Rattle.mes_stream.specs.declared.body.Front.TheVariants.{Size, Data, Empty, Bad}
 
 -- it has taken the bytes b, which are records that spell the values and perhaps the front of one more
-pub record BodyStands {R E : Type 0} (holds : R → List ℕ → Type 0) (spells : List ℕ → E → Type 0) (d : Body R) (b : List ℕ) (values : List E) : Type 0 where
+pub record BodyStands {R E : Type 0} (holds : R → List ℕ → Type 0) (spells : List ℕ → E → Type 0) (ahead : ℕ) (d : Body R) (b : List ℕ) (values : List E) : Type 0 where
   pub whole : List ℕ
   pub x : List ℕ
   pub r : List ℕ
@@ -26,7 +26,7 @@ pub record BodyStands {R E : Type 0} (holds : R → List ℕ → Type 0) (spells
   pub records : Records spells (limit_of d.records) whole values
   pub state : RecordStands d.records x r
   pub kept : holds d.reader r
-  pub count : d.done ≡ saturated (length values)
+  pub count : d.done ≡ saturated (ahead + length values)
   pub limit : limit_of d.records < 2 ^ 64
 
 -- the front of a run has at least one byte, and no more than the run
@@ -49,27 +49,27 @@ Fronts new x r run (Bad fault) = SizeShows x (slice_index run 0) (limit_of new) 
 abbrev pub fault_of_record : ℕ → RecordRefusal → Fault
 fault_of_record done why = fault_at_record (saturated (done + 1)) why
 
--- the value of the record whose data r has ended, or why there is none
-abbrev pub Ends : {R E : Type 0} → (R → List ℕ → Type 0) → (List ℕ → E → Type 0) → (List ℕ → RecordRefusal → Type 0) → Body R → Body R → List ℕ → Result E Fault → Type 0
+-- the value of the record whose data r has ended, or why there is none; one more record has ended
+abbrev pub Ends : {R E : Type 0} → (R → List ℕ → Type 0) → (List ℕ → E → Type 0) → (List ℕ → RecordRefusal → Type 0) → Body R → Body R → List ℕ → Result E RecordRefusal → Type 0
 Ends holds spells breaks old new r (Ok value) = spells r value × holds new.reader [] × (new.done ≡ saturated (old.done + 1))
-Ends holds spells breaks old new r (Err fault) = (why : RecordRefusal) × breaks r why × (fault ≡ fault_of_record old.done why)
+Ends holds spells breaks old new r (Err why) = breaks r why × (new.done ≡ saturated (old.done + 1))
 
--- what the end of a record is for who reads it
-abbrev pub answer_of : {E : Type 0} → Result E Fault → Out E
-answer_of (Ok value) = out.Event value
-answer_of (Err fault) = out.Fault fault
+-- what the end of the record of that number is for who reads it
+abbrev pub record_answer : {E : Type 0} → ℕ → Result E RecordRefusal → Out E
+record_answer number (Ok value) = out.Event value
+record_answer number (Err why) = out.Fault (fault_at_record number why)
 
 -- a record has ended, and whatever its value is read to, that is so
 abbrev pub HasEnded : {R E : Type 0} → (R → List ℕ → Type 0) → (List ℕ → E → Type 0) → (List ℕ → RecordRefusal → Type 0) → Body R → (Body R → Out E → Type 0) → Type 0
 HasEnded {R} {E} holds spells breaks d IsSo =
     (r : List ℕ) × holds d.reader r × (length r < 2 ^ 64)
-    × ((after : Body R) (answer : Result E Fault) → after.records ≡ d.records → Ends holds spells breaks d after r answer → IsSo after (answer_of answer))
+    × ((after : Body R) (answer : Result E RecordRefusal) → after.records ≡ d.records → Ends holds spells breaks d after r answer → IsSo after (record_answer after.done answer))
 
 -- What became of the front of a piece, where the value of a record that ended with it is still to be read. What it stands for
 -- then is by its body.
-abbrev pub Tells : {R E : Type 0} → (R → List ℕ → Type 0) → (List ℕ → E → Type 0) → (List ℕ → RecordRefusal → Type 0) → Framing → (Body R → List ℕ → List E → Type 0) → Body R → ℕ → List ℕ → List E → List ℕ → ℕ → SoFar → Type 0
-Tells holds spells breaks framing Stands body limit w values piece used so_far.More = SaysIn framing (Stands body) spells breaks limit w values piece used out.More
-Tells holds spells breaks framing Stands body limit w values piece used so_far.RecordEnded =
-    HasEnded holds spells breaks body (λ after answer. SaysIn framing (Stands after) spells breaks limit w values piece used answer)
-Tells holds spells breaks framing Stands body limit w values piece used so_far.StreamEnded = SaysIn framing (Stands body) spells breaks limit w values piece used out.End
-Tells holds spells breaks framing Stands body limit w values piece used (so_far.Fault fault) = SaysIn framing (Stands body) spells breaks limit w values piece used (out.Fault fault)
+abbrev pub Tells : {R E : Type 0} → (R → List ℕ → Type 0) → (List ℕ → E → Type 0) → (List ℕ → RecordRefusal → Type 0) → ℕ → Framing → (Body R → List ℕ → List E → Type 0) → Body R → ℕ → List ℕ → List E → List ℕ → ℕ → SoFar → Type 0
+Tells holds spells breaks ahead framing Stands body limit w values piece used so_far.More = SaysIn framing (Stands body) spells breaks ahead limit w values piece used out.More
+Tells holds spells breaks ahead framing Stands body limit w values piece used so_far.RecordEnded =
+    HasEnded holds spells breaks body (λ after answer. SaysIn framing (Stands after) spells breaks ahead limit w values piece used answer)
+Tells holds spells breaks ahead framing Stands body limit w values piece used so_far.StreamEnded = SaysIn framing (Stands body) spells breaks ahead limit w values piece used out.End
+Tells holds spells breaks ahead framing Stands body limit w values piece used (so_far.Fault fault) = SaysIn framing (Stands body) spells breaks ahead limit w values piece used (out.Fault fault)

@@ -6,7 +6,8 @@ ghost use Rattle.mes_frame.specs.RecordState.{RecordStands, limit_of};
 ghost use Rattle.mes_stream.specs.Stream.{Records, EndsInside, saturated};
 ghost use Rattle.mes_stream.specs.Decoders.{HoldsInBody};
 ghost use Rattle.mes_stream.specs.Framings.{GoesBefore};
-ghost use Rattle.mes_stream.specs.Taking.{BodyStands, Fronts, IsWithin, Tells, Ends, fault_of_record};
+ghost use Rattle.mes_stream.specs.Refusals.{fault_at_record};
+ghost use Rattle.mes_stream.specs.Taking.{BodyStands, Fronts, IsWithin, Tells, Ends};
 ghost use Rattle.mes_stream.specs.declared.stream_reader.Framing.TheVariants as framing;
 
 use crate::record_reader::RecordReader;
@@ -38,17 +39,16 @@ impl<R: RecordReader> Body<R> {
     /// A body before its first byte.
     pub fn new(reader: R, limit: Limit) -> Body<R>
         requires { R.holds reader [] }
-        ensures stands { BodyStands R.holds R.spells result [] [] }
+        ensures stands { BodyStands R.holds R.spells 0 result [] [] }
         ensures limit { limit_of result.records ≡ limit }
     {
         Body::behind(reader, limit, 0)
     }
 
-    /// A body behind so many records of its values: the numbers of the others count from there.
+    /// A body before its first byte, behind so many records of any kind: the numbers of its own count from there.
     pub fn behind(reader: R, limit: Limit, done: u64) -> Body<R>
         requires { R.holds reader [] }
-        ensures stands { (b : List ℕ) (values : List R.Value) → Records R.spells limit b values → done ≡ saturated (length values)
-            → BodyStands R.holds R.spells result b values }
+        ensures stands { (ahead : ℕ) → done ≡ saturated ahead → BodyStands R.holds R.spells ahead result [] [] }
         ensures limit { limit_of result.records ≡ limit }
     {
         Body {
@@ -60,9 +60,9 @@ impl<R: RecordReader> Body<R> {
 
     /// No record has begun and not ended.
     pub fn between(&self) -> bool
-        ensures whole { (b : List ℕ) (values : List R.Value) → BodyStands R.holds R.spells self.now b values → result ≡ true
+        ensures whole { (ahead : ℕ) (b : List ℕ) (values : List R.Value) → BodyStands R.holds R.spells ahead self.now b values → result ≡ true
             → Records R.spells (limit_of self.now.records) b values }
-        ensures inside { (b : List ℕ) (values : List R.Value) → BodyStands R.holds R.spells self.now b values → result ≡ false
+        ensures inside { (ahead : ℕ) (b : List ℕ) (values : List R.Value) → BodyStands R.holds R.spells ahead self.now b values → result ≡ false
             → EndsInside R.spells (limit_of self.now.records) b values }
     {
         self.records.between()
@@ -71,10 +71,10 @@ impl<R: RecordReader> Body<R> {
     /// Takes bytes of a size line or a run of data from the front of a run.
     pub(crate) fn take(&mut self, run: &[u8]) -> Taken
         requires { 0 < length run.now }
-        ensures tells { (b : List ℕ) (values : List R.Value) → BodyStands R.holds R.spells self.old b values
-            → Tells R.holds R.spells R.breaks framing.Plain (BodyStands R.holds R.spells) self.new (limit_of self.new.records) b values run.now result.used result.so_far }
+        ensures tells { (ahead : ℕ) (b : List ℕ) (values : List R.Value) → BodyStands R.holds R.spells ahead self.old b values
+            → Tells R.holds R.spells R.breaks ahead framing.Plain (BodyStands R.holds R.spells ahead) self.new (limit_of self.new.records) b values run.now result.used result.so_far }
         // Up to the last byte that was used all is live.
-        ensures before { (b : List ℕ) (values : List R.Value) → BodyStands R.holds R.spells self.old b values
+        ensures before { (ahead : ℕ) (b : List ℕ) (values : List R.Value) → BodyStands R.holds R.spells ahead self.old b values
             → GoesBefore framing.Plain R.spells (limit_of self.new.records) b values run.now result.used }
         ensures used { (0 < result.used) × (result.used ≤ length run.now) }
         ensures limit { limit_of self.new.records ≡ limit_of self.old.records }
@@ -86,6 +86,7 @@ impl<R: RecordReader> Body<R> {
                 so_far: SoFar::Fault(SmallFault::frame(fault)),
             },
             Front::Empty => {
+                self.done = self.done.saturating_add(1);
                 let why = self.reader.refuse_empty();
                 Taken {
                     used: 1,
@@ -106,25 +107,21 @@ impl<R: RecordReader> Body<R> {
         }
     }
 
-    /// The value of the record that has ended, or why it has none.
-    pub(crate) fn end_record(&mut self) -> Result<R::Value, SmallFault>
+    /// The value of the record that has ended, or why it has none: what the reader of records gives, which is handed on as it is,
+    /// since a value may be large.
+    pub(crate) fn end_record(&mut self) -> Result<R::Value, RecordRefusal>
         ensures ends { (r : List ℕ) → R.holds self.old.reader r → length r < 2 ^ 64
             → Ends R.holds R.spells R.breaks self.old self.new r result }
         ensures records { self.new.records ≡ self.old.records }
     {
-        match self.reader.finish() {
-            Ok(value) => {
-                self.done = self.done.saturating_add(1);
-                Ok(value)
-            }
-            Err(why) => Err(self.refused(why)),
-        }
+        self.done = self.done.saturating_add(1);
+        self.reader.finish()
     }
 
     /// How many bytes of the record that has begun are kept.
     pub fn held(&self) -> u64
         ensures count { result ≡ R.kept self.now.reader }
-        ensures most { (b : List ℕ) (values : List R.Value) → BodyStands R.holds R.spells self.now b values
+        ensures most { (ahead : ℕ) (b : List ℕ) (values : List R.Value) → BodyStands R.holds R.spells ahead self.now b values
             → HoldsInBody R.spells R.room (limit_of self.now.records) b values result }
     {
         self.reader.held()
@@ -137,11 +134,11 @@ impl<R: RecordReader> Body<R> {
         self.reader.let_go();
     }
 
-    // The fault of the record that has ended.
-    fn refused(&self, why: RecordRefusal) -> SmallFault
-        ensures { result ≡ fault_of_record self.now.done why }
+    /// The fault of the record that has ended without a value.
+    pub(crate) fn refused(&self, why: RecordRefusal) -> SmallFault
+        ensures { result ≡ fault_at_record self.now.done why }
     {
-        SmallFault::of_record(self.done.saturating_add(1), why)
+        SmallFault::of_record(self.done, why)
     }
 }
 

@@ -23,8 +23,7 @@ pub struct ChunkedBody<R> {
 impl<R: RecordReader> ChunkedBody<R> {
     /// Before the first byte.
     pub(crate) fn new(body: Body<R>) -> ChunkedBody<R>
-        requires { BodyStands R.holds R.spells body [] [] }
-        ensures stands { ChunkedStands R.holds R.spells result [] [] }
+        ensures stands { (ahead : ℕ) → BodyStands R.holds R.spells ahead body [] [] → ChunkedStands R.holds R.spells ahead result [] [] }
         ensures body { result.body ≡ body }
     {
         ChunkedBody {
@@ -36,10 +35,10 @@ impl<R: RecordReader> ChunkedBody<R> {
     /// Takes bytes of the framing or a run of data from the front of a piece.
     pub(crate) fn take(&mut self, rest: &[u8]) -> Taken
         requires { 0 < length rest.now }
-        ensures tells { (w : List ℕ) (values : List R.Value) → ChunkedStands R.holds R.spells self.old w values
-            → Tells R.holds R.spells R.breaks framing.Chunked (λ body. ChunkedStands R.holds R.spells (record { chunks = self.new.chunks; body = body }))
+        ensures tells { (ahead : ℕ) (w : List ℕ) (values : List R.Value) → ChunkedStands R.holds R.spells ahead self.old w values
+            → Tells R.holds R.spells R.breaks ahead framing.Chunked (λ body. ChunkedStands R.holds R.spells ahead (record { chunks = self.new.chunks; body = body }))
             self.new.body (limit_of self.new.body.records) w values rest.now result.used result.so_far }
-        ensures before { (w : List ℕ) (values : List R.Value) → ChunkedStands R.holds R.spells self.old w values
+        ensures before { (ahead : ℕ) (w : List ℕ) (values : List R.Value) → ChunkedStands R.holds R.spells ahead self.old w values
             → LiveBefore R.spells (limit_of self.new.body.records) w values rest.now result.used }
         ensures used { (0 < result.used) × (result.used ≤ length rest.now) }
         ensures limit { limit_of self.new.body.records ≡ limit_of self.old.body.records }
@@ -67,8 +66,8 @@ impl<R: RecordReader> ChunkedBody<R> {
 
     // Takes a byte of the framing.
     fn frame(&mut self, byte: u8) -> SoFar
-        ensures tells { (w : List ℕ) (values : List R.Value) → ChunkedStands R.holds R.spells self.old w values → room_of self.old.chunks ≡ 0
-            → Tells R.holds R.spells R.breaks framing.Chunked (λ body. ChunkedStands R.holds R.spells (record { chunks = self.new.chunks; body = body }))
+        ensures tells { (ahead : ℕ) (w : List ℕ) (values : List R.Value) → ChunkedStands R.holds R.spells ahead self.old w values → room_of self.old.chunks ≡ 0
+            → Tells R.holds R.spells R.breaks ahead framing.Chunked (λ body. ChunkedStands R.holds R.spells ahead (record { chunks = self.new.chunks; body = body }))
             self.new.body (limit_of self.new.body.records) w values (byte ∷ []) 1 result }
         ensures body { self.new.body ≡ self.old.body }
     {

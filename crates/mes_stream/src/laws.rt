@@ -5,9 +5,10 @@ ghost use Rattle.mes_event.specs.Events.{Spells};
 ghost use Rattle.mes_stream.specs.Refusals.{IsEventRefusal};
 ghost use Rattle.mes_event.specs.declared.event.Event.{Event as EventValue};
 ghost use Rattle.mes_frame.specs.Chunk.{IsChunked};
-ghost use Rattle.mes_stream.specs.Chunked.{IsStream};
+ghost use Rattle.mes_frame.specs.ChunkFront.{IsOpen};
+ghost use Rattle.mes_stream.specs.Chunked.{IsStream, Live};
 ghost use Rattle.mes_stream.specs.PlainReading.{IsDecided, IsExact, PlainReading, ReadsPlain};
-ghost use Rattle.mes_stream.specs.StreamReading.{StreamReading, ReadsStream};
+ghost use Rattle.mes_stream.specs.StreamReading.{StreamReading, ReadsStream, IsAlike};
 
 use crate::event_reader::EventReader;
 use crate::limits::{COUNT_LINE_MOST, FAULT_LINE_MOST, READ_MOST, REST_MOST};
@@ -17,23 +18,28 @@ use mes_msg::{Event, one_message};
 /// Any bytes are live, with their values, or have a byte that shows a fault, behind the values before it.
 pub fn one_plain_reading<R: RecordReader>()
     // Where the data of any record have a value or a fault, at least one of these holds.
-    ensures some { IsDecided R.spells R.breaks → (limit : ℕ) (w : List ℕ) → (reading : PlainReading R.Value) × ReadsPlain R.spells R.breaks limit w reading }
+    ensures some { IsDecided R.spells R.breaks → (ahead limit : ℕ) (w : List ℕ) → (reading : PlainReading R.Value) × ReadsPlain R.spells R.breaks ahead limit w reading }
     // Where they have one value or one fault at most, at most one does, in one way.
-    ensures one { IsExact R.spells R.breaks → (limit : ℕ) (w : List ℕ) (reading other : PlainReading R.Value)
-        → ReadsPlain R.spells R.breaks limit w reading → ReadsPlain R.spells R.breaks limit w other → reading ≡ other }
+    ensures one { IsExact R.spells R.breaks → (ahead limit : ℕ) (w : List ℕ) (reading other : PlainReading R.Value)
+        → ReadsPlain R.spells R.breaks ahead limit w reading → ReadsPlain R.spells R.breaks ahead limit w other → reading ≡ other }
 {}
 
 /// The same of a chunked stream: any bytes are live, or begin with a whole stream, or have a byte that shows a fault, behind
 /// the values before it.
 pub fn one_stream_reading<R: RecordReader>()
-    ensures some { IsDecided R.spells R.breaks → (limit : ℕ) (w : List ℕ) → (reading : StreamReading R.Value) × ReadsStream R.spells R.breaks limit w reading }
-    ensures one { IsExact R.spells R.breaks → (limit : ℕ) (w : List ℕ) (reading other : StreamReading R.Value)
-        → ReadsStream R.spells R.breaks limit w reading → ReadsStream R.spells R.breaks limit w other → reading ≡ other }
+    ensures some { IsDecided R.spells R.breaks → (ahead limit : ℕ) (w : List ℕ) → (reading : StreamReading R.Value) × ReadsStream R.spells R.breaks ahead limit w reading }
+    ensures one { IsExact R.spells R.breaks → (ahead limit : ℕ) (w : List ℕ) (reading other : StreamReading R.Value)
+        → ReadsStream R.spells R.breaks ahead limit w reading → ReadsStream R.spells R.breaks ahead limit w other → reading ≡ other }
 {}
 
-/// Any other chunking of the same body is a stream of the same values.
+/// Two chunkings of one body are read alike, whole ones and fronts: to the same values, and to the same fault where they stop.
 pub fn one_chunking<R: RecordReader>()
-    ensures { (limit : ℕ) (w v body : List ℕ) (values : List R.Value) → IsChunked w body → IsChunked v body → IsStream R.spells limit w values → IsStream R.spells limit v values }
+    ensures stream { (limit : ℕ) (w v body : List ℕ) (values : List R.Value) → IsChunked w body → IsChunked v body → IsStream R.spells limit w values → IsStream R.spells limit v values }
+    ensures live { (limit : ℕ) (w v body : List ℕ) (values : List R.Value) → IsOpen w body → IsOpen v body → Live R.spells limit w values → Live R.spells limit v values }
+    ensures whole { IsExact R.spells R.breaks → (ahead limit : ℕ) (w v body : List ℕ) (reading other : StreamReading R.Value) → IsChunked w body → IsChunked v body
+        → ReadsStream R.spells R.breaks ahead limit w reading → ReadsStream R.spells R.breaks ahead limit v other → IsAlike reading other }
+    ensures front { IsExact R.spells R.breaks → (ahead limit : ℕ) (w v body : List ℕ) (reading other : StreamReading R.Value) → IsOpen w body → IsOpen v body
+        → ReadsStream R.spells R.breaks ahead limit w reading → ReadsStream R.spells R.breaks ahead limit v other → IsAlike reading other }
 {}
 
 /// One read takes at most 512 bytes, and a report holds at most as many behind the end of a stream; and how long a line is.
@@ -44,14 +50,20 @@ pub fn stream_limits()
 
 /// Of events no premise is left: any bytes are read as a stream of events in exactly one way, plain or chunked.
 pub fn one_event_reading()
-    ensures some_plain { (limit : ℕ) (w : List ℕ) → (reading : PlainReading EventValue) × ReadsPlain Spells IsEventRefusal limit w reading }
+    ensures some_plain { (limit : ℕ) (w : List ℕ) → (reading : PlainReading EventValue) × ReadsPlain Spells IsEventRefusal 0 limit w reading }
     ensures one_plain { (limit : ℕ) (w : List ℕ) (reading other : PlainReading EventValue)
-        → ReadsPlain Spells IsEventRefusal limit w reading → ReadsPlain Spells IsEventRefusal limit w other → reading ≡ other }
-    ensures some_stream { (limit : ℕ) (w : List ℕ) → (reading : StreamReading EventValue) × ReadsStream Spells IsEventRefusal limit w reading }
+        → ReadsPlain Spells IsEventRefusal 0 limit w reading → ReadsPlain Spells IsEventRefusal 0 limit w other → reading ≡ other }
+    ensures some_stream { (limit : ℕ) (w : List ℕ) → (reading : StreamReading EventValue) × ReadsStream Spells IsEventRefusal 0 limit w reading }
     ensures one_stream { (limit : ℕ) (w : List ℕ) (reading other : StreamReading EventValue)
-        → ReadsStream Spells IsEventRefusal limit w reading → ReadsStream Spells IsEventRefusal limit w other → reading ≡ other }
+        → ReadsStream Spells IsEventRefusal 0 limit w reading → ReadsStream Spells IsEventRefusal 0 limit w other → reading ≡ other }
+    // However a body is chunked, it is read to the same events and the same fault of its records.
+    ensures one_body { (limit : ℕ) (w v body : List ℕ) (reading other : StreamReading EventValue) → IsChunked w body → IsChunked v body
+        → ReadsStream Spells IsEventRefusal 0 limit w reading → ReadsStream Spells IsEventRefusal 0 limit v other → IsAlike reading other }
+    ensures one_front { (limit : ℕ) (w v body : List ℕ) (reading other : StreamReading EventValue) → IsOpen w body → IsOpen v body
+        → ReadsStream Spells IsEventRefusal 0 limit w reading → ReadsStream Spells IsEventRefusal 0 limit v other → IsAlike reading other }
 {
     one_message::<Event>();
     one_plain_reading::<EventReader>();
     one_stream_reading::<EventReader>();
+    one_chunking::<EventReader>();
 }

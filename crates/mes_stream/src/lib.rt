@@ -35,7 +35,7 @@ pub use limits::{COUNT_LINE_MOST, FAULT_LINE_MOST, READ_MOST, REST_MOST};
 pub use line::{count_line, fault_line};
 pub use mes_msg::{EncodeWhy, SendFault};
 pub use read::{read_events, read_plain, read_stream};
-pub use reading::Reading;
+pub use reading::{EndedRecord, Reading};
 pub use reads::{Consumer, ReadsEnd, read_device};
 pub use record_reader::RecordReader;
 pub use refusal::RecordRefusal;

@@ -1,7 +1,10 @@
 //! The reading of a stream from a device: what it came to, read by read.
 
-ghost use Rattle.std.specs.Prelude.{◌≡◌, ◌<◌, ◌≤◌, ℕ, List, [], length};
-ghost use Rattle.mes_stream.specs.Reading.{ReadingStands, ReadingTakes, Means, Gathers, GathersLast};
+ghost use Rattle.std.specs.Prelude.{◌≡◌, ◌+◌, ◌<◌, ◌≤◌, ℕ, List, [], length};
+ghost use Rattle.mes_stream.specs.Decoders.{HoldsIn};
+ghost use Rattle.mes_stream.specs.Reading.{Ahead, ReadingStands, ReadingStandsBehind, ReadingTakesBehind, ReadingTakesRecord, EndsWithin, MeansBehind, KeepsNoneOnStop, Gathers, GathersLast};
+ghost use Rattle.mes_stream.specs.Stream.{saturated};
+ghost use Rattle.mes_stream.specs.StreamReaders.{body_of};
 ghost use Rattle.mes_stream.specs.declared.stream_reader.Framing.{Framing as FramingValue};
 
 use crate::fault::{Fault, Report, Stop};
@@ -9,6 +12,7 @@ use crate::limits::{READ_MOST, REST_MOST};
 use crate::reads::{Consumer, ReadsEnd};
 use crate::record_reader::RecordReader;
 use crate::stream_reader::{Framing, StreamReader};
+use crate::taken::{Out, Step};
 use arrayvec::ArrayVec;
 use mes_frame::Limit;
 
@@ -19,15 +23,73 @@ pub struct Reading<R> {
     used: u64,
 }
 
+/// A record that has ended.
+#[derive(Drop)]
+pub struct EndedRecord<V> {
+    /// Its value.
+    pub value: V,
+    /// How many bytes of the piece were used, its last one the last of them.
+    pub used: usize,
+}
+
 impl<R: RecordReader> Reading<R> {
     /// Before the first byte, by what reads the records.
     pub fn new(framing: Framing, records: R, limit: Limit) -> Reading<R>
         requires { R.holds records [] }
         ensures { ReadingStands R.holds R.spells result framing limit [] [] }
     {
+        Reading::behind(framing, records, limit, 0, 0)
+    }
+
+    /// The same, where so many records of any kind, in so many bytes, stand ahead of the stream: the numbers of its own records and
+    /// the bytes that were used count from there.
+    pub fn behind(framing: Framing, records: R, limit: Limit, done: u64, used: u64) -> Reading<R>
+        requires { R.holds records [] }
+        ensures { (ahead : Ahead) → done ≡ saturated ahead.records → used ≡ saturated ahead.bytes → ReadingStandsBehind R.holds R.spells ahead result framing limit [] [] }
+    {
         Reading {
-            stream: StreamReader::new(framing, records, limit),
-            used: 0,
+            stream: StreamReader::behind(framing, records, limit, done),
+            used,
+        }
+    }
+
+    /// How many bytes were used, those ahead of the stream with them.
+    pub fn used(&self) -> u64
+        ensures { (ahead : Ahead) (framing : FramingValue) (limit : ℕ) (w : List ℕ) (values : List R.Value) → ReadingStandsBehind R.holds R.spells ahead self.now framing limit w values
+            → result ≡ saturated (ahead.bytes + length w) }
+    {
+        self.used
+    }
+
+    /// How many bytes of the record that has begun are kept: none where the reading has stopped.
+    pub fn held(&self) -> u64
+        ensures count { result ≡ R.kept (body_of self.now.stream).reader }
+        ensures most { (ahead : Ahead) (framing : FramingValue) (limit : ℕ) (w : List ℕ) (values : List R.Value) → ReadingStandsBehind R.holds R.spells ahead self.now framing limit w values
+            → HoldsIn framing R.spells R.room limit w values result }
+    {
+        self.stream.held()
+    }
+
+    /// Takes what one read gave up to the end of a record. Ok of none where all of it was taken and none ended. Err: what the
+    /// stream came to.
+    pub fn next(
+        &mut self,
+        piece: &[u8],
+    ) -> Result<Option<EndedRecord<R::Value>>, Result<Report, Stop>>
+        requires { length piece.now ≤ READ_MOST }
+        ensures reads { (ahead : Ahead) (framing : FramingValue) (limit : ℕ) (w : List ℕ) (values : List R.Value) → ReadingStandsBehind R.holds R.spells ahead self.old framing limit w values
+            → ReadingTakesRecord R.holds R.spells R.breaks ahead self.new framing limit w values piece.now result }
+        ensures within { EndsWithin (length piece.now) result }
+        // Where the reading has stopped nothing is kept.
+        ensures kept { KeepsNoneOnStop (R.kept (body_of self.new.stream).reader) result }
+    {
+        let Step { used, out } = self.stream.next(piece);
+        self.used = self.used.saturating_add(used as u64);
+        match out {
+            Out::More => Ok(None),
+            Out::Event(value) => Ok(Some(EndedRecord { value, used })),
+            Out::End => Err(Ok(report(self.used, &piece[used..]))),
+            Out::Fault(fault) => Err(Err(stop_at(fault, self.used))),
         }
     }
 
@@ -38,8 +100,10 @@ impl<R: RecordReader> Reading<R> {
         values: &mut Vec<R::Value>,
     ) -> Result<(), Result<Report, Stop>>
         requires { length piece.now ≤ READ_MOST }
-        ensures { (framing : FramingValue) (limit : ℕ) (w : List ℕ) (before : List R.Value) → ReadingStands R.holds R.spells self.old framing limit w before
-            → ReadingTakes R.holds R.spells R.breaks self.new framing limit w before piece.now values.old.items values.new.items result }
+        ensures takes { (ahead : Ahead) (framing : FramingValue) (limit : ℕ) (w : List ℕ) (before : List R.Value) → ReadingStandsBehind R.holds R.spells ahead self.old framing limit w before
+            → ReadingTakesBehind R.holds R.spells R.breaks ahead self.new framing limit w before piece.now values.old.items values.new.items result }
+        // Where the reading has stopped nothing is kept.
+        ensures kept { KeepsNoneOnStop (R.kept (body_of self.new.stream).reader) result }
     {
         match self.stream.feed(piece, values) {
             Ok(None) => {
@@ -59,7 +123,7 @@ impl<R: RecordReader> Reading<R> {
 
     /// What the stream came to, where the reads ended so.
     pub fn outcome(&self, end: ReadsEnd<Result<Report, Stop>>) -> Result<Report, Stop>
-        ensures { Means R.holds R.spells self.now end result }
+        ensures { (ahead : Ahead) → MeansBehind R.holds R.spells ahead self.now end result }
     {
         match end {
             ReadsEnd::Stopped(outcome) => outcome,

@@ -3,7 +3,9 @@
 ghost use Rattle.std.specs.Prelude.{◌≡◌, ◌≢◌, ℕ, ◌^◌, ◌<◌, ◌≤◌, List, [], length};
 ghost use Rattle.mes_stream.specs.Decoders.{HoldsIn};
 ghost use Rattle.mes_stream.specs.Framings.{InputEnds, SaysIn, GoesBefore};
-ghost use Rattle.mes_stream.specs.StreamReaders.{StreamStands, StreamFeeds, UsesWithin, LetsGo, body_of, with_body};
+ghost use Rattle.mes_stream.specs.Refusals.{fault_at_record};
+ghost use Rattle.mes_stream.specs.Stream.{saturated};
+ghost use Rattle.mes_stream.specs.StreamReaders.{StreamStands, StreamFeeds, UsesWithin, LetsGo, KeepsNoneAt, body_of, with_body};
 ghost use Rattle.mes_stream.specs.Taking.{Ends, Tells};
 ghost use Rattle.mes_stream.specs.declared.stream_reader.Framing.{Framing as FramingValue};
 
@@ -11,6 +13,7 @@ use crate::body::Body;
 use crate::chunked::ChunkedBody;
 use crate::fault::Fault;
 use crate::record_reader::RecordReader;
+use crate::refusal::RecordRefusal;
 use crate::small_fault::SmallFault;
 use crate::taken::{FaultAt, Out, SoFar, Step, Taken};
 use mes_frame::Limit;
@@ -38,19 +41,48 @@ impl<R: RecordReader> StreamReader<R> {
     /// A reader before the first byte, by what reads its records.
     pub fn new(framing: Framing, reader: R, limit: Limit) -> StreamReader<R>
         requires { R.holds reader [] }
-        ensures stands { StreamStands R.holds R.spells result framing limit [] [] }
+        ensures stands { StreamStands R.holds R.spells 0 result framing limit [] [] }
     {
+        StreamReader::behind(framing, reader, limit, 0)
+    }
+
+    /// The same, where so many records of any kind stand ahead of the stream: the numbers of its own count from there.
+    pub fn behind(framing: Framing, reader: R, limit: Limit, done: u64) -> StreamReader<R>
+        requires { R.holds reader [] }
+        ensures stands { (ahead : ℕ) → done ≡ saturated ahead → StreamStands R.holds R.spells ahead result framing limit [] [] }
+    {
+        let body = Body::behind(reader, limit, done);
         match framing {
-            Framing::Plain => StreamReader::Plain(Body::new(reader, limit)),
-            Framing::Chunked => StreamReader::Chunked(ChunkedBody::new(Body::new(reader, limit))),
+            Framing::Plain => StreamReader::Plain(body),
+            Framing::Chunked => StreamReader::Chunked(ChunkedBody::new(body)),
         }
     }
 
     /// Takes a piece up to the end of a record or of the stream, or a fault, or the piece's end: an answer behind each record.
     pub fn next(&mut self, piece: &[u8]) -> Step<R::Value>
-        ensures says { (framing : FramingValue) (limit : ℕ) (w : List ℕ) (values : List R.Value) → StreamStands R.holds R.spells self.old framing limit w values
-            → SaysIn framing (StreamStands R.holds R.spells self.new framing limit) R.spells R.breaks limit w values piece.now result.used result.out }
-        ensures before { (framing : FramingValue) (limit : ℕ) (w : List ℕ) (values : List R.Value) → StreamStands R.holds R.spells self.old framing limit w values
+        ensures says { (ahead : ℕ) (framing : FramingValue) (limit : ℕ) (w : List ℕ) (values : List R.Value) → StreamStands R.holds R.spells ahead self.old framing limit w values
+            → SaysIn framing (StreamStands R.holds R.spells ahead self.new framing limit) R.spells R.breaks ahead limit w values piece.now result.used result.out }
+        ensures before { (ahead : ℕ) (framing : FramingValue) (limit : ℕ) (w : List ℕ) (values : List R.Value) → StreamStands R.holds R.spells ahead self.old framing limit w values
+            → GoesBefore framing R.spells limit w values piece.now result.used }
+        ensures more { result.out ≡ Out.More → result.used ≡ length piece.now }
+        ensures some { result.out ≢ Out.More → 0 < result.used }
+        ensures used { result.used ≤ length piece.now }
+        // After the end or a fault nothing is kept.
+        ensures kept { KeepsNoneAt (R.kept (body_of self.new).reader) result.out }
+    {
+        let step = self.next_on(piece);
+        match &step.out {
+            Out::More | Out::Event(_) => {}
+            Out::End | Out::Fault(_) => self.let_go(),
+        }
+        step
+    }
+
+    // The same, but what was kept stays.
+    fn next_on(&mut self, piece: &[u8]) -> Step<R::Value>
+        ensures says { (ahead : ℕ) (framing : FramingValue) (limit : ℕ) (w : List ℕ) (values : List R.Value) → StreamStands R.holds R.spells ahead self.old framing limit w values
+            → SaysIn framing (StreamStands R.holds R.spells ahead self.new framing limit) R.spells R.breaks ahead limit w values piece.now result.used result.out }
+        ensures before { (ahead : ℕ) (framing : FramingValue) (limit : ℕ) (w : List ℕ) (values : List R.Value) → StreamStands R.holds R.spells ahead self.old framing limit w values
             → GoesBefore framing R.spells limit w values piece.now result.used }
         ensures more { result.out ≡ Out.More → result.used ≡ length piece.now }
         ensures some { result.out ≢ Out.More → 0 < result.used }
@@ -61,7 +93,7 @@ impl<R: RecordReader> StreamReader<R> {
             SoFar::More => Out::More,
             SoFar::RecordEnded => match self.end_record() {
                 Ok(value) => Out::Event(value),
-                Err(fault) => Out::Fault(fault.into_fault()),
+                Err(why) => Out::Fault(self.refused(why).into_fault()),
             },
             SoFar::StreamEnded => Out::End,
             SoFar::Fault(fault) => Out::Fault(fault.into_fault()),
@@ -76,8 +108,8 @@ impl<R: RecordReader> StreamReader<R> {
         piece: &[u8],
         values: &mut Vec<R::Value>,
     ) -> Result<Option<usize>, FaultAt>
-        ensures feeds { (framing : FramingValue) (limit : ℕ) (w : List ℕ) (before : List R.Value) → StreamStands R.holds R.spells self.old framing limit w before
-            → StreamFeeds R.holds R.spells R.breaks self.new framing limit w before piece.now values.old.items values.new.items result }
+        ensures feeds { (ahead : ℕ) (framing : FramingValue) (limit : ℕ) (w : List ℕ) (before : List R.Value) → StreamStands R.holds R.spells ahead self.old framing limit w before
+            → StreamFeeds R.holds R.spells R.breaks ahead self.new framing limit w before piece.now values.old.items values.new.items result }
         ensures within { UsesWithin (length piece.now) result }
         ensures kept { LetsGo (R.kept (body_of self.new).reader) result }
     {
@@ -95,8 +127,8 @@ impl<R: RecordReader> StreamReader<R> {
         piece: &[u8],
         values: &mut Vec<R::Value>,
     ) -> Result<Option<usize>, FaultAt>
-        ensures feeds { (framing : FramingValue) (limit : ℕ) (w : List ℕ) (before : List R.Value) → StreamStands R.holds R.spells self.old framing limit w before
-            → StreamFeeds R.holds R.spells R.breaks self.new framing limit w before piece.now values.old.items values.new.items result }
+        ensures feeds { (ahead : ℕ) (framing : FramingValue) (limit : ℕ) (w : List ℕ) (before : List R.Value) → StreamStands R.holds R.spells ahead self.old framing limit w before
+            → StreamFeeds R.holds R.spells R.breaks ahead self.new framing limit w before piece.now values.old.items values.new.items result }
         ensures within { UsesWithin (length piece.now) result }
     {
         let mut at = 0;
@@ -105,18 +137,22 @@ impl<R: RecordReader> StreamReader<R> {
             at += taken.used;
             match taken.so_far {
                 SoFar::More => {}
-                SoFar::RecordEnded => {
-                    let value = match self.end_record() {
-                        Ok(value) => value,
-                        Err(fault) => return Err(FaultAt { fault, used: at }),
-                    };
-                    if let Err(_) = values.push(value) {
+                SoFar::RecordEnded => match self.end_record() {
+                    Ok(value) => {
+                        if let Err(_) = values.push(value) {
+                            return Err(FaultAt {
+                                fault: SmallFault::no_memory(),
+                                used: at,
+                            });
+                        }
+                    }
+                    Err(why) => {
                         return Err(FaultAt {
-                            fault: SmallFault::no_memory(),
+                            fault: self.refused(why),
                             used: at,
                         });
                     }
-                }
+                },
                 SoFar::StreamEnded => return Ok(Some(at)),
                 SoFar::Fault(fault) => return Err(FaultAt { fault, used: at }),
             }
@@ -127,7 +163,7 @@ impl<R: RecordReader> StreamReader<R> {
     /// The input has no more bytes. Of plain records: Ok between two of them, else F10. Of a chunked stream, which has not
     /// shown its end: F6.
     pub fn finish(&self) -> Result<(), Fault>
-        ensures { (framing : FramingValue) (limit : ℕ) (w : List ℕ) (values : List R.Value) → StreamStands R.holds R.spells self.now framing limit w values
+        ensures { (ahead : ℕ) (framing : FramingValue) (limit : ℕ) (w : List ℕ) (values : List R.Value) → StreamStands R.holds R.spells ahead self.now framing limit w values
             → InputEnds framing R.spells limit w values result }
     {
         match self {
@@ -142,10 +178,10 @@ impl<R: RecordReader> StreamReader<R> {
         }
     }
 
-    /// How many bytes of the record that has begun are kept: by `feed` none behind the end or a fault.
+    /// How many bytes of the record that has begun are kept: none behind the end or a fault.
     pub fn held(&self) -> u64
         ensures count { result ≡ R.kept (body_of self.now).reader }
-        ensures most { (framing : FramingValue) (limit : ℕ) (w : List ℕ) (values : List R.Value) → StreamStands R.holds R.spells self.now framing limit w values
+        ensures most { (ahead : ℕ) (framing : FramingValue) (limit : ℕ) (w : List ℕ) (values : List R.Value) → StreamStands R.holds R.spells ahead self.now framing limit w values
             → HoldsIn framing R.spells R.room limit w values result }
     {
         match self {
@@ -157,10 +193,10 @@ impl<R: RecordReader> StreamReader<R> {
     // Takes the front of a piece.
     fn take(&mut self, piece: &[u8]) -> Taken
         requires { 0 < length piece.now }
-        ensures tells { (framing : FramingValue) (limit : ℕ) (w : List ℕ) (values : List R.Value) → StreamStands R.holds R.spells self.old framing limit w values
-            → Tells R.holds R.spells R.breaks framing (λ body. StreamStands R.holds R.spells (with_body self.new body) framing limit) (body_of self.new)
+        ensures tells { (ahead : ℕ) (framing : FramingValue) (limit : ℕ) (w : List ℕ) (values : List R.Value) → StreamStands R.holds R.spells ahead self.old framing limit w values
+            → Tells R.holds R.spells R.breaks ahead framing (λ body. StreamStands R.holds R.spells ahead (with_body self.new body) framing limit) (body_of self.new)
             limit w values piece.now result.used result.so_far }
-        ensures before { (framing : FramingValue) (limit : ℕ) (w : List ℕ) (values : List R.Value) → StreamStands R.holds R.spells self.old framing limit w values
+        ensures before { (ahead : ℕ) (framing : FramingValue) (limit : ℕ) (w : List ℕ) (values : List R.Value) → StreamStands R.holds R.spells ahead self.old framing limit w values
             → GoesBefore framing R.spells limit w values piece.now result.used }
         ensures used { (0 < result.used) × (result.used ≤ length piece.now) }
     {
@@ -173,10 +209,10 @@ impl<R: RecordReader> StreamReader<R> {
     // Takes a piece up to the end of a record or of the stream, or what stops the reading, or the piece's end. The value of a
     // record that ended is still to be read.
     fn skim(&mut self, piece: &[u8]) -> Taken
-        ensures tells { (framing : FramingValue) (limit : ℕ) (w : List ℕ) (values : List R.Value) → StreamStands R.holds R.spells self.old framing limit w values
-            → Tells R.holds R.spells R.breaks framing (λ body. StreamStands R.holds R.spells (with_body self.new body) framing limit) (body_of self.new)
+        ensures tells { (ahead : ℕ) (framing : FramingValue) (limit : ℕ) (w : List ℕ) (values : List R.Value) → StreamStands R.holds R.spells ahead self.old framing limit w values
+            → Tells R.holds R.spells R.breaks ahead framing (λ body. StreamStands R.holds R.spells ahead (with_body self.new body) framing limit) (body_of self.new)
             limit w values piece.now result.used result.so_far }
-        ensures before { (framing : FramingValue) (limit : ℕ) (w : List ℕ) (values : List R.Value) → StreamStands R.holds R.spells self.old framing limit w values
+        ensures before { (ahead : ℕ) (framing : FramingValue) (limit : ℕ) (w : List ℕ) (values : List R.Value) → StreamStands R.holds R.spells ahead self.old framing limit w values
             → GoesBefore framing R.spells limit w values piece.now result.used }
         ensures more { result.so_far ≡ SoFar.More → result.used ≡ length piece.now }
         ensures some { result.so_far ≢ SoFar.More → 0 < result.used }
@@ -195,7 +231,7 @@ impl<R: RecordReader> StreamReader<R> {
     }
 
     // The value of the record that has ended, or why it has none.
-    fn end_record(&mut self) -> Result<R::Value, SmallFault>
+    fn end_record(&mut self) -> Result<R::Value, RecordRefusal>
         ensures ends { (r : List ℕ) → R.holds (body_of self.old).reader r → length r < 2 ^ 64
             → Ends R.holds R.spells R.breaks (body_of self.old) (body_of self.new) r result }
         ensures same { self.new ≡ with_body self.old (body_of self.new) }
@@ -204,6 +240,16 @@ impl<R: RecordReader> StreamReader<R> {
         match self {
             StreamReader::Plain(body) => body.end_record(),
             StreamReader::Chunked(chunked) => chunked.body.end_record(),
+        }
+    }
+
+    // The fault of the record that has ended without a value.
+    fn refused(&self, why: RecordRefusal) -> SmallFault
+        ensures { result ≡ fault_at_record (body_of self.now).done why }
+    {
+        match self {
+            StreamReader::Plain(body) => body.refused(why),
+            StreamReader::Chunked(chunked) => chunked.body.refused(why),
         }
     }
 

@@ -1,8 +1,8 @@
--- The text is a number exactly where what is left goes on from the part to an end.
+-- The text is a number exactly where what is left goes on from the state to an end.
 use Rattle.std.proofs.Common.{◌↔◌, drop}
-use Rattle.mes_fixed.specs.declared.automaton.Part.TheVariants.{AtStart}
+use Rattle.mes_fixed.specs.declared.automaton.NumberState.TheVariants.{AtStart}
 use Rattle.mes_fixed.specs.Automaton.{Ends}
 use Rattle.mes_fixed.proofs.automaton.is_number.Given as goal
 
 abbrev pub invariant-loop-byte : goal.invariant-loop-byte
-invariant-loop-byte l = Ends AtStart l.text ↔ Ends l.part (drop l.byte-index l.text)
+invariant-loop-byte l = Ends AtStart l.text ↔ Ends l.state (drop l.byte-index l.text)

@@ -8,7 +8,7 @@ front_stays : (t b : List ℕ) (n k end : ℕ) → end ≡ length t + k → k �
 front_stays t b n k end is few =
     ap (λ (e : ℕ). take e (t ++ take n b)) is ∙ take-append-add t (take n b) k ∙ ap (λ (x : List ℕ). t ++ x) (take-take k n b few)
 
-pub returns-in_ok-extend_from_slice : goal.returns-in_ok-extend_from_slice
-returns-in_ok-extend_from_slice c =
-    c.truncate.ensures.items ∙ ap (take (c.len.result + c.args.count)) c.in_ok-extend_from_slice.ensures.items
+pub returns-in_default-clause-text : goal.returns-in_default-clause-text
+returns-in_default-clause-text c =
+    c.truncate.ensures.items ∙ ap (take (c.len.result + c.args.count)) c.in_default.ensures.items
     ∙ front_stays c.args.text.now.items c.args.bytes.now 16 c.args.count (c.len.result + c.args.count) (omega (arith, c.len.ensures)) c.if-count-le-BLOCK.true

@@ -10,11 +10,11 @@ loop-byte-preserved c =
     let text = c.args.text.now in
     let i = c.loop-byte.byte-index in
     let next = sym c.in-Some.ensures.next in
-    let before = step_before_point c.loop-byte.part c.in-Some.next (get_or text i 0) kept.0 next kept.3 in (
+    let before = step_before_point c.loop-byte.state c.in-Some.next (get_or text i 0) kept.0 next kept.3 in (
       omega (arith, c.gather.ensures.room),
       (
         gathered c.in-Some.next (get_or text i 0) kept.0,
-        more_run text i c.loop-byte.part c.in-Some.next kept.0 kept.1 (omega arith) next,
+        more_run text i c.loop-byte.state c.in-Some.next kept.0 kept.1 (omega arith) next,
         c.gather.ensures.gathers kept.0 kept.2 before,
         gathered_before_point c.in-Some.next (get_or text i 0) kept.0 before,
       ),
@@ -23,7 +23,7 @@ loop-byte-preserved c =
 pub returns-in_default-clause-err : goal.returns-in_default-clause-err
 returns-in_default-clause-err c =
     let kept = c.loop-byte.invariant.1 in
-    (omega arith, stuck_run c.args.text.now c.loop-byte.byte-index c.loop-byte.part kept.0 kept.1 (omega arith) (sym c.in_default.ensures.next))
+    (omega arith, stuck_run c.args.text.now c.loop-byte.byte-index c.loop-byte.state kept.0 kept.1 (omega arith) (sym c.in_default.ensures.next))
 
 pub returns-then-may_end-clause-ok : goal.returns-then-may_end-clause-ok
 returns-then-may_end-clause-ok c =
@@ -31,11 +31,11 @@ returns-then-may_end-clause-ok c =
     record {
       short = omega arith;
       numeral = kept.0;
-      spells = end_run c.args.text.now c.loop-byte.byte-index c.loop-byte.part kept.0 kept.1 (omega arith) (sym c.may_end.ensures ∙ c.if-may_end.true);
+      spells = end_run c.args.text.now c.loop-byte.byte-index c.loop-byte.state kept.0 kept.1 (omega arith) (sym c.may_end.ensures ∙ c.if-may_end.true);
       gives = kept.2;
     }
 
 pub returns-else-may_end-clause-err : goal.returns-else-may_end-clause-err
 returns-else-may_end-clause-err c =
     let kept = c.loop-byte.invariant.1 in
-    (omega arith, no_end_run c.args.text.now c.loop-byte.byte-index c.loop-byte.part kept.0 kept.1 (omega arith) (sym c.may_end.ensures ∙ c.if-may_end.false))
+    (omega arith, no_end_run c.args.text.now c.loop-byte.byte-index c.loop-byte.state kept.0 kept.1 (omega arith) (sym c.may_end.ensures ∙ c.if-may_end.false))

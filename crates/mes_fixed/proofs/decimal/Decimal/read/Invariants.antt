@@ -1,6 +1,6 @@
 -- What the text is gathered into is what is gathered so far and of what is left.
 use Rattle.std.proofs.Common.{◌≡◌, ◌≤◌, length, drop}
-use Rattle.mes_fixed.specs.declared.automaton.Part.TheVariants.{AtStart}
+use Rattle.mes_fixed.specs.declared.automaton.NumberState.TheVariants.{AtStart}
 use Rattle.mes_fixed.specs.Number.{Numeral}
 use Rattle.mes_fixed.specs.Gathering.{blank, IsBeforePoint}
 use Rattle.mes_fixed.specs.Decimal.{IsDecimal}
@@ -10,4 +10,4 @@ use Rattle.mes_fixed.proofs.decimal.Decimal.read.Given as goal
 abbrev pub invariant-loop-byte : goal.invariant-loop-byte
 invariant-loop-byte l =
     (length l.decimal.digits.items ≤ l.byte-index)
-    × ((n : Numeral) × (run AtStart blank l.text ≡ run l.part n (drop l.byte-index l.text)) × IsDecimal n l.decimal × IsBeforePoint l.part n)
+    × ((n : Numeral) × (run AtStart blank l.text ≡ run l.state n (drop l.byte-index l.text)) × IsDecimal n l.decimal × IsBeforePoint l.state n)

@@ -1,7 +1,7 @@
 use Rattle.std.proofs.Common.{ap}
 use Rattle.mes_json.specs.Lexer.{HasLexed}
 use Rattle.mes_json.specs.Read.{fault_at}
-use Rattle.mes_json.proofs.LexerLemmas.{kept_at, reading_at, goes_on, stuck_at, gets_stuck, stays_faulty, reading_begins}
+use Rattle.mes_json.proofs.LexerLemmas.{state_at, reading_at, goes_on, stuck_at, gets_stuck, stays_faulty, reading_begins, front_begins}
 use Rattle.mes_json.proofs.lexer.Lexer.push_run.Goals as goal
 
 pub invariant_of-self : goal.invariant_of-self
@@ -14,7 +14,7 @@ invariant_of-self c = (
 pub returns-in-Ok-clause-lexed : goal.returns-in-Ok-clause-lexed
 unfolding HasLexed
 returns-in-Ok-clause-lexed c p h =
-    goes_on _ _ _ c.take_bytes.new.self p c.args.bytes.now (reading_at _ _ _ p c.in-Reading.is (kept_at _ _ _ p c.self.view_is h))
+    goes_on _ _ _ c.take_bytes.new.self p c.args.bytes.now (reading_at _ _ _ p c.in-Reading.is (state_at _ _ _ p c.self.view_is h))
     c.saturating_add-self-inside.ensures c.in-Ok.ensures.runs c.in-Ok.ensures.fits
 
 pub invariant_of-self-in-Refused : goal.invariant_of-self-in-Refused
@@ -27,13 +27,17 @@ invariant_of-self-in-Refused c = (
 pub returns-in-Refused-clause-lexed : goal.returns-in-Refused-clause-lexed
 unfolding HasLexed
 returns-in-Refused-clause-lexed c p h =
-    gets_stuck _ _ c.in-Reading.reader p c.args.bytes.now (record { byte = c.in-Err.field-0.place; why = c.in-Refused.why }) (reading_at _ _ _ p c.in-Reading.is (kept_at _ _ _ p c.self.view_is h))
+    gets_stuck _ _ c.in-Reading.reader p c.args.bytes.now (record { byte = c.in-Err.field-0.place; why = c.in-Refused.why }) (reading_at _ _ _ p c.in-Reading.is (state_at _ _ _ p c.self.view_is h))
     (stuck_at _ _ _ _ (ap (fault_at c.in-Err.field-0.place) c.in-Refused.is) c.in-Err.ensures.fault) c.saturating_add.ensures
 
 pub returns-in-Faulty-clause-lexed : goal.returns-in-Faulty-clause-lexed
 unfolding HasLexed
-returns-in-Faulty-clause-lexed c p h = stays_faulty _ _ _ p c.args.bytes.now c.in-Faulty.is (kept_at _ _ _ p c.self.view_is h)
+returns-in-Faulty-clause-lexed c p h = stays_faulty _ _ _ p c.args.bytes.now c.in-Faulty.is (state_at _ _ _ p c.self.view_is h)
 
 pub returns-in-NoMemory-clause-swallows : goal.returns-in-NoMemory-clause-swallows
 returns-in-NoMemory-clause-swallows c p h no_text before after =
-    absurd (no_text (reading_begins _ c.in-Reading.reader p (reading_at _ _ _ p c.in-Reading.is (kept_at _ _ _ p c.self.view_is h))))
+    absurd (no_text (reading_begins _ c.in-Reading.reader p (reading_at _ _ _ p c.in-Reading.is (state_at _ _ _ p c.self.view_is h))))
+
+pub returns-in-NoMemory-clause-before : goal.returns-in-NoMemory-clause-before
+returns-in-NoMemory-clause-before c = λ p h memory.
+    front_begins _ c.in-Reading.reader p _ c.in-Err.ensures.before.0 (reading_at _ _ _ p c.in-Reading.is (state_at _ _ _ p c.self.view_is h)) c.in-Err.ensures.before.1

@@ -13,15 +13,15 @@ loop-place-init c = record { fits = c.requires.fits; inside = omega arith; reach
 pub step-requires-clause-reached : goal.step-requires-clause-reached
 step-requires-clause-reached c = reached_over c.args.self.now c.loop-place.self (take c.loop-place.place c.args.bytes.now) c.requires.reached c.loop-place.invariant.reached
 
-pub take_run-requires-clause-reached : goal.take_run-requires-clause-reached
-take_run-requires-clause-reached c =
+pub take_run-place-requires-clause-reached : goal.take_run-place-requires-clause-reached
+take_run-place-requires-clause-reached c =
     reached_over c.args.self.now c.step.new.self (take (c.loop-place.place + 1) c.args.bytes.now) c.requires.reached
     (run_take NESTING_LIMIT _ _ c.args.bytes.now c.loop-place.place c.loop-place-test.true c.loop-place.invariant.reached ∙ c.in_default.ensures.gives)
 
 pub loop-place-preserved : goal.loop-place-preserved
 loop-place-preserved c = record {
-  fits = c.in-Ok.ensures.fits;
-  inside = c.in-Ok.ensures.inside;
-  reached = c.in-Ok.ensures.runs (state_view c.args.self.now)
+  fits = c.take_run-place.ensures.fits;
+  inside = c.take_run-place.ensures.inside;
+  reached = c.take_run-place.ensures.runs (state_view c.args.self.now)
       (run_take NESTING_LIMIT _ _ c.args.bytes.now c.loop-place.place c.loop-place-test.true c.loop-place.invariant.reached ∙ c.in_default.ensures.gives);
 }

@@ -1,15 +1,15 @@
-use Rattle.std.proofs.Common.{[], sym, append-nil, rules}
+use Rattle.std.proofs.Common.{[], ◌+◌, ◌∙◌, ap, arith, refl, ℕ, rules}
 use Rattle.mes_stream.proofs.body.Body.behind.Goals as goal
 
 pub returns-clause-stands : goal.returns-clause-stands
-returns-clause-stands g c = λ b values records many. record {
-  whole = b;
+returns-clause-stands g c = λ ahead many. record {
+  whole = [];
   x = [];
   r = [];
-  spelt = sym (append-nil b);
-  records = rw c.new.ensures.limit records;
+  spelt = refl;
+  records = refl;
   state = c.new.ensures.stands;
   kept = c.requires;
-  count = many;
+  count = omega (arith, many);
   limit = rw c.new.ensures.limit (search rules);
 }

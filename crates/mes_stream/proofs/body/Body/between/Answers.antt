@@ -3,7 +3,7 @@ use Rattle.mes_frame.proofs.Records.{begun_of}
 use Rattle.mes_stream.proofs.body.Body.between.Goals as goal
 
 pub returns-clause-inside : goal.returns-clause-inside
-returns-clause-inside g c = λ b values s no_end. record {
+returns-clause-inside g c = λ ahead b values s no_end. record {
   whole = s.whole;
   x = s.x;
   spelt = s.spelt;

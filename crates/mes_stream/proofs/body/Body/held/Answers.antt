@@ -2,7 +2,7 @@ use Rattle.mes_frame.proofs.Records.{begun_of}
 use Rattle.mes_stream.proofs.body.Body.held.Goals as goal
 
 pub returns-clause-most : goal.returns-clause-most
-returns-clause-most g c = λ b values s. record {
+returns-clause-most g c = λ ahead b values s. record {
   whole = s.whole;
   x = s.x;
   spelt = s.spelt;

@@ -13,31 +13,31 @@ use Rattle.mes_stream.proofs.chunked.ChunkedBody.take.Goals as goal
 use Rattle.mes_stream.proofs.chunked.ChunkedBody.take.Goals.{then-room-rest, else-room-rest}
 
 pub returns-then-framed-gt0-clause-tells : goal.returns-then-framed-gt0-clause-tells
-returns-then-framed-gt0-clause-tells g c = λ w values s.
-    rw c.more.ensures (framed_stands g.R.RecordReader.holds g.R.RecordReader.spells c.args.self.now c.frame_run-framed.new.chunks w c.args.rest.now values c.frame_run-framed.result
+returns-then-framed-gt0-clause-tells g c = λ ahead w values s.
+    rw c.more.ensures (framed_stands g.R.RecordReader.holds g.R.RecordReader.spells ahead c.args.self.now c.frame_run-framed.new.chunks w c.args.rest.now values c.frame_run-framed.result
     c.frame_run-framed.ensures.passes s)
 
 pub returns-then-framed-gt0-clause-before : goal.returns-then-framed-gt0-clause-before
-returns-then-framed-gt0-clause-before g c = λ w values s.
-    rw c.more.ensures (framed_live g.R.RecordReader.holds g.R.RecordReader.spells c.args.self.now c.frame_run-framed.new.chunks w c.args.rest.now values c.frame_run-framed.result
+returns-then-framed-gt0-clause-before g c = λ ahead w values s.
+    rw c.more.ensures (framed_live g.R.RecordReader.holds g.R.RecordReader.spells ahead c.args.self.now c.frame_run-framed.new.chunks w c.args.rest.now values c.frame_run-framed.result
     c.frame_run-framed.ensures.passes s)
 
 pub returns-then-room-eq0-clause-tells : goal.returns-then-room-eq0-clause-tells
-returns-then-room-eq0-clause-tells g c = λ w values s.
+returns-then-room-eq0-clause-tells g c = λ ahead w values s.
     let same = c.frame_run-framed.ensures.none (omega (arith, c.if-framed-gt0.false)) in
-    let Stands : Body g.row.R.Denot → List ℕ → List g.row.R-Value.Denot → Type 0 = λ body. ChunkedStands g.R.RecordReader.holds g.R.RecordReader.spells (record { chunks = c.frame.new.self.chunks; body = body }) in
-    tells_as g.R.RecordReader.holds g.R.RecordReader.spells g.R.RecordReader.breaks Chunked Stands c.frame.new.self.body (limit_of c.frame.new.self.body.records) w w (slice_index c.args.rest.now 0 ∷ []) c.args.rest.now values 1 1 c.frame.result
-    (λ after answer h. says_first Chunked (Stands after) g.R.RecordReader.spells g.R.RecordReader.breaks (limit_of c.frame.new.self.body.records) w c.args.rest.now values answer c.requires h)
-    (c.frame.ensures.tells w values (none_framed g.R.RecordReader.holds g.R.RecordReader.spells c.args.self.now c.frame_run-framed.new.chunks w values same s)
+    let Stands : Body g.row.R.Denot → List ℕ → List g.row.R-Value.Denot → Type 0 = λ body. ChunkedStands g.R.RecordReader.holds g.R.RecordReader.spells ahead (record { chunks = c.frame.new.self.chunks; body = body }) in
+    tells_as g.R.RecordReader.holds g.R.RecordReader.spells g.R.RecordReader.breaks ahead Chunked Stands c.frame.new.self.body (limit_of c.frame.new.self.body.records) w w (slice_index c.args.rest.now 0 ∷ []) c.args.rest.now values 1 1 c.frame.result
+    (λ after answer h. says_first Chunked (Stands after) g.R.RecordReader.spells g.R.RecordReader.breaks ahead (limit_of c.frame.new.self.body.records) w c.args.rest.now values answer c.requires h)
+    (c.frame.ensures.tells ahead w values (none_framed g.R.RecordReader.holds g.R.RecordReader.spells ahead c.args.self.now c.frame_run-framed.new.chunks w values same s)
     (ap room_of same ∙ (sym c.room-room.ensures ∙ c.if-room-eq0.true)))
 
 pub returns-then-room-eq0-clause-before : goal.returns-then-room-eq0-clause-before
-returns-then-room-eq0-clause-before g c = λ w values s n first.
+returns-then-room-eq0-clause-before g c = λ ahead w values s n first.
     let same = ap (λ (b : Body g.row.R.Denot). limit_of b.records) c.frame.ensures.body in
-    rw same (first_before g.R.RecordReader.holds g.R.RecordReader.spells c.args.self.now w c.args.rest.now values n s first)
+    rw same (first_before g.R.RecordReader.holds g.R.RecordReader.spells ahead c.args.self.now w c.args.rest.now values n s first)
 
 pub returns-clause-tells : goal.returns-clause-tells
-returns-clause-tells g c = λ w values s.
+returns-clause-tells g c = λ ahead w values s.
     let fits : (c.if-room-rest.count ≤ room_of c.args.self.now.chunks) × (c.if-room-rest.count ≤ length c.args.rest.now) =
     elim c.if-room-rest.branch [
       | then-room-rest b ↦ (omega (arith, b.count-is, b.if-room-rest.true, c.room-room.ensures), omega (arith, b.count-is, b.if-room-rest.true, c.room-room.ensures))
@@ -49,14 +49,14 @@ returns-clause-tells g c = λ w values s.
     let some = c.take-taken.ensures.used.0 in
     let inside : used ≤ length run = c.take-taken.ensures.used.1 in
     let within : used ≤ c.if-room-rest.count = omega (arith, inside, len) in
-    let Stands : Body g.row.R.Denot → List ℕ → List g.row.R-Value.Denot → Type 0 = λ body. ChunkedStands g.R.RecordReader.holds g.R.RecordReader.spells (record { chunks = c.pass.new.self; body = body }) in
-    tells_as g.R.RecordReader.holds g.R.RecordReader.spells g.R.RecordReader.breaks Chunked Stands c.take-taken.new.self (limit_of c.take-taken.new.self.records) w w run c.args.rest.now values used used c.take-taken.result.so_far
-    (λ after answer h. says_more Chunked (Stands after) g.R.RecordReader.spells g.R.RecordReader.breaks (limit_of c.take-taken.new.self.records) w c.args.rest.now values used c.if-room-rest.count answer some within h)
-    (run_tells g.R.RecordReader.holds g.R.RecordReader.spells g.R.RecordReader.breaks c.args.self.now c.pass.new.self c.take-taken.new.self w run values used c.if-room-rest.count c.take-taken.result.so_far s len fits.0 some within
-    (c.pass.ensures.passes w s.content (take used run) (length-take-le used run inside) s.chunks) (c.take-taken.ensures.tells s.content values s.body))
+    let Stands : Body g.row.R.Denot → List ℕ → List g.row.R-Value.Denot → Type 0 = λ body. ChunkedStands g.R.RecordReader.holds g.R.RecordReader.spells ahead (record { chunks = c.pass.new.self; body = body }) in
+    tells_as g.R.RecordReader.holds g.R.RecordReader.spells g.R.RecordReader.breaks ahead Chunked Stands c.take-taken.new.self (limit_of c.take-taken.new.self.records) w w run c.args.rest.now values used used c.take-taken.result.so_far
+    (λ after answer h. says_more Chunked (Stands after) g.R.RecordReader.spells g.R.RecordReader.breaks ahead (limit_of c.take-taken.new.self.records) w c.args.rest.now values used c.if-room-rest.count answer some within h)
+    (run_tells g.R.RecordReader.holds g.R.RecordReader.spells g.R.RecordReader.breaks ahead c.args.self.now c.pass.new.self c.take-taken.new.self w run values used c.if-room-rest.count c.take-taken.result.so_far s len fits.0 some within
+    (c.pass.ensures.passes w s.content (take used run) (length-take-le used run inside) s.chunks) (c.take-taken.ensures.tells ahead s.content values s.body))
 
 pub returns-clause-before : goal.returns-clause-before
-returns-clause-before g c = λ w values s.
+returns-clause-before g c = λ ahead w values s.
     let fits : (c.if-room-rest.count ≤ room_of c.args.self.now.chunks) × (c.if-room-rest.count ≤ length c.args.rest.now) =
     elim c.if-room-rest.branch [
       | then-room-rest b ↦ (omega (arith, b.count-is, b.if-room-rest.true, c.room-room.ensures), omega (arith, b.count-is, b.if-room-rest.true, c.room-room.ensures))
@@ -68,6 +68,6 @@ returns-clause-before g c = λ w values s.
     let some = c.take-taken.ensures.used.0 in
     let inside : used ≤ length run = c.take-taken.ensures.used.1 in
     let within : used ≤ c.if-room-rest.count = omega (arith, inside, len) in
-    before_more Chunked (ChunkedStands g.R.RecordReader.holds g.R.RecordReader.spells c.args.self.now) g.R.RecordReader.spells g.R.RecordReader.breaks (limit_of c.take-taken.new.self.records) w c.args.rest.now values used c.if-room-rest.count within
-    (λ n early. run_before g.R.RecordReader.holds g.R.RecordReader.spells c.args.self.now (limit_of c.take-taken.new.self.records) w run values n c.if-room-rest.count s len fits.0 (omega (arith, early, within))
-    (c.take-taken.ensures.before s.content values s.body n early))
+    before_more Chunked (ChunkedStands g.R.RecordReader.holds g.R.RecordReader.spells ahead c.args.self.now) g.R.RecordReader.spells g.R.RecordReader.breaks ahead (limit_of c.take-taken.new.self.records) w c.args.rest.now values used c.if-room-rest.count within
+    (λ n early. run_before g.R.RecordReader.holds g.R.RecordReader.spells ahead c.args.self.now (limit_of c.take-taken.new.self.records) w run values n c.if-room-rest.count s len fits.0 (omega (arith, early, within))
+    (c.take-taken.ensures.before ahead s.content values s.body n early))

@@ -3,24 +3,24 @@ use Rattle.std.proofs.lemmas.List.{take_rest}
 use Rattle.mes_stream.proofs.ReadingLemmas.{ends_at}
 use Rattle.mes_stream.proofs.reading.Reading.feed.Goals as goal
 
-pub returns-in-Ok-None : goal.returns-in-Ok-None
-returns-in-Ok-None g c = λ framing limit w before s.
-    let fed = rw c.in-Ok-None.field-0-is at (c.in-Ok-None.ensures.feeds framing limit w before s.0) in
+pub returns-in-Ok-None-clause-takes : goal.returns-in-Ok-None-clause-takes
+returns-in-Ok-None-clause-takes g c = λ ahead framing limit w before s.
+    let fed = rw c.in-Ok-None.field-0-is at (c.in-Ok-None.ensures.feeds ahead.records framing limit w before s.0) in
     let counted = s.1 in
     (fed.0, fed.1, (fed.2, omega (arith, counted, c.saturating_add-self.ensures, length-append w c.args.piece.now)))
 
-pub returns-in-Ok-Some : goal.returns-in-Ok-Some
-returns-in-Ok-Some g c = λ framing limit w before s.
-    let fed = rw c.in-Ok-Some.field-0-is at (c.in-Ok-Some.ensures.feeds framing limit w before s.0) in (
+pub returns-in-Ok-Some-clause-takes : goal.returns-in-Ok-Some-clause-takes
+returns-in-Ok-Some-clause-takes g c = λ ahead framing limit w before s.
+    let fed = rw c.in-Ok-Some.field-0-is at (c.in-Ok-Some.ensures.feeds ahead.records framing limit w before s.0) in (
       fed.0,
       fed.1,
-      ends_at framing g.R.RecordReader.spells limit w c.args.piece.now (before ++ fed.0) c.args.self.now.used c.in-Ok-Some.end c.report.result fed.2
+      ends_at framing g.R.RecordReader.spells ahead limit w c.args.piece.now (before ++ fed.0) c.args.self.now.used c.in-Ok-Some.end c.report.result fed.2
           (rw c.in-Ok-Some.field-0-is at c.in-Ok-Some.ensures.within) c.requires s.1 (c.report.ensures.0 ∙ c.saturating_add-used.ensures) (c.report.ensures.1 ∙ take_rest c.args.piece.now c.in-Ok-Some.end) fed.3,
     )
 
-pub returns-in-Err : goal.returns-in-Err
-returns-in-Err g c = λ framing limit w before s.
-    let fed = c.in-Err.ensures.feeds framing limit w before s.0 in
+pub returns-in-Err-clause-takes : goal.returns-in-Err-clause-takes
+returns-in-Err-clause-takes g c = λ ahead framing limit w before s.
+    let fed = c.in-Err.ensures.feeds ahead.records framing limit w before s.0 in
     let one = fed.2 in
     let small = c.requires in
     let counted = s.1 in (

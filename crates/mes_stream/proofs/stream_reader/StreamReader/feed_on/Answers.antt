@@ -9,56 +9,56 @@ use Rattle.mes_stream.proofs.StreamLemmas.{same_body}
 use Rattle.mes_stream.proofs.stream_reader.StreamReader.feed_on.Goals as goal
 
 pub loop-at-init : goal.loop-at-init
-loop-at-init g c = (omega arith, λ framing limit w values s. ([], sym (append-nil _), rw (append-nil, append-nil) s))
+loop-at-init g c = (omega arith, λ ahead framing limit w values s. ([], sym (append-nil _), rw (append-nil, append-nil) s))
 
 pub loop-at-preserved-in-More : goal.loop-at-preserved-in-More
 loop-at-preserved-in-More g c =
     let rest = take_rest c.args.piece.now c.loop-at.at in
     let all = c.skim-taken.ensures.more c.in-More.is in (
       omega (arith, all, c.loop-at-test.true, ap length rest, length-drop c.loop-at.at c.args.piece.now),
-      λ framing limit w values s.
-          let before = c.loop-at.invariant.1 framing limit w values s in
-          let told = rw rest at (c.skim-taken.ensures.tells framing limit (w ++ take c.loop-at.at c.args.piece.now) (values ++ before.0) before.2) in (
+      λ ahead framing limit w values s.
+          let before = c.loop-at.invariant.1 ahead framing limit w values s in
+          let told = rw rest at (c.skim-taken.ensures.tells ahead framing limit (w ++ take c.loop-at.at c.args.piece.now) (values ++ before.0) before.2) in (
             before.0,
             before.1,
-            subst (λ (y : List ℕ). StreamStands g.R.RecordReader.holds g.R.RecordReader.spells c.skim-taken.new.self framing limit y (values ++ before.0)) (piece_on w c.args.piece.now c.loop-at.at c.skim-taken.result.used)
+            subst (λ (y : List ℕ). StreamStands g.R.RecordReader.holds g.R.RecordReader.spells ahead c.skim-taken.new.self framing limit y (values ++ before.0)) (piece_on w c.args.piece.now c.loop-at.at c.skim-taken.result.used)
                 (rw (same_body c.skim-taken.new.self) at (rw c.in-More.is at told)),
           ),
     )
 
 pub returns-in-Err-clause-feeds : goal.returns-in-Err-clause-feeds
-returns-in-Err-clause-feeds g c = λ framing limit w values s.
+returns-in-Err-clause-feeds g c = λ ahead framing limit w values s.
     let rest = take_rest c.args.piece.now c.loop-at.at in
-    let before = c.loop-at.invariant.1 framing limit w values s in
-    let told = rw rest at (c.skim-taken.ensures.tells framing limit (w ++ take c.loop-at.at c.args.piece.now) (values ++ before.0) before.2) in
+    let before = c.loop-at.invariant.1 ahead framing limit w values s in
+    let told = rw rest at (c.skim-taken.ensures.tells ahead framing limit (w ++ take c.loop-at.at c.args.piece.now) (values ++ before.0) before.2) in
     let ended = rw c.in-RecordEnded.is at told in
     let said = ended.3 _ c.end_record.result c.end_record.ensures.records (c.end_record.ensures.ends ended.0 ended.1 ended.2) in
     let refused = rw c.in-Err.is at said in
     let is : c.skim-taken.result.so_far ≡ so_far.RecordEnded = c.in-RecordEnded.is in
     let some : 0 < c.skim-taken.result.used = c.skim-taken.ensures.some (λ more. absurd (cc)) in
-    let lives = c.skim-taken.ensures.before framing limit (w ++ take c.loop-at.at c.args.piece.now) (values ++ before.0) before.2 (c.skim-taken.result.used - 1) (omega (arith, some)) in (
+    let lives = c.skim-taken.ensures.before ahead framing limit (w ++ take c.loop-at.at c.args.piece.now) (values ++ before.0) before.2 (c.skim-taken.result.used - 1) (omega (arith, some)) in (
       before.0,
       before.1,
       omega (arith, some),
-      stops_in framing g.R.RecordReader.spells g.R.RecordReader.breaks limit w c.args.piece.now (values ++ before.0) c.in-Err.fault c.loop-at.at c.skim-taken.result.used c.loop-at.invariant.0 some
-          (omega (arith, c.skim-taken.ensures.used, ap length rest)) (rw rest at lives) (inl refused),
+      rw c.refused.ensures (stops_in framing g.R.RecordReader.spells g.R.RecordReader.breaks ahead limit w c.args.piece.now (values ++ before.0) _ c.loop-at.at c.skim-taken.result.used c.loop-at.invariant.0 some
+          (omega (arith, c.skim-taken.ensures.used, ap length rest)) (rw rest at lives) (inl refused)),
     )
 
 pub returns-in-Err-push-clause-feeds : goal.returns-in-Err-push-clause-feeds
-returns-in-Err-push-clause-feeds g c = λ framing limit w values s.
+returns-in-Err-push-clause-feeds g c = λ ahead framing limit w values s.
     let rest = take_rest c.args.piece.now c.loop-at.at in
-    let before = c.loop-at.invariant.1 framing limit w values s in
-    let told = rw rest at (c.skim-taken.ensures.tells framing limit (w ++ take c.loop-at.at c.args.piece.now) (values ++ before.0) before.2) in
+    let before = c.loop-at.invariant.1 ahead framing limit w values s in
+    let told = rw rest at (c.skim-taken.ensures.tells ahead framing limit (w ++ take c.loop-at.at c.args.piece.now) (values ++ before.0) before.2) in
     let ended = rw c.in-RecordEnded.is at told in
     let said = ended.3 _ c.end_record.result c.end_record.ensures.records (c.end_record.ensures.ends ended.0 ended.1 ended.2) in
     let taken = rw c.in-Ok.is at said in
     let is : c.skim-taken.result.so_far ≡ so_far.RecordEnded = c.in-RecordEnded.is in
     let some : 0 < c.skim-taken.result.used = c.skim-taken.ensures.some (λ more. absurd (cc)) in
-    let lives = c.skim-taken.ensures.before framing limit (w ++ take c.loop-at.at c.args.piece.now) (values ++ before.0) before.2 (c.skim-taken.result.used - 1) (omega (arith, some)) in (
+    let lives = c.skim-taken.ensures.before ahead framing limit (w ++ take c.loop-at.at c.args.piece.now) (values ++ before.0) before.2 (c.skim-taken.result.used - 1) (omega (arith, some)) in (
       before.0,
       c.in-Err-push.ensures.items ∙ before.1,
       omega (arith, some),
-      rw c.no_memory.ensures (stops_in framing g.R.RecordReader.spells g.R.RecordReader.breaks limit w c.args.piece.now (values ++ before.0) NoMemory c.loop-at.at c.skim-taken.result.used c.loop-at.invariant.0 some
+      rw c.no_memory.ensures (stops_in framing g.R.RecordReader.spells g.R.RecordReader.breaks ahead limit w c.args.piece.now (values ++ before.0) NoMemory c.loop-at.at c.skim-taken.result.used c.loop-at.invariant.0 some
           (omega (arith, c.skim-taken.ensures.used, ap length rest)) (rw rest at lives) (inr (refl, (_, taken.1)))),
     )
 
@@ -66,23 +66,23 @@ pub loop-at-preserved : goal.loop-at-preserved
 loop-at-preserved g c =
     let rest = take_rest c.args.piece.now c.loop-at.at in (
       omega (arith, c.skim-taken.ensures.used, c.loop-at-test.true, ap length rest, length-drop c.loop-at.at c.args.piece.now),
-      λ framing limit w values s.
-          let before = c.loop-at.invariant.1 framing limit w values s in
-          let told = rw rest at (c.skim-taken.ensures.tells framing limit (w ++ take c.loop-at.at c.args.piece.now) (values ++ before.0) before.2) in
+      λ ahead framing limit w values s.
+          let before = c.loop-at.invariant.1 ahead framing limit w values s in
+          let told = rw rest at (c.skim-taken.ensures.tells ahead framing limit (w ++ take c.loop-at.at c.args.piece.now) (values ++ before.0) before.2) in
           let ended = rw c.in-RecordEnded.is at told in
           let said = ended.3 _ c.end_record.result c.end_record.ensures.records (c.end_record.ensures.ends ended.0 ended.1 ended.2) in
           let taken = rw (← c.end_record.ensures.same) at (rw c.in-Ok.is at said).0 in (
             before.0 ++ c.in-Ok.value ∷ [],
             c.in_default.ensures.items ∙ ap (λ (x : List g.row.R-Value.Denot). x ++ c.in-Ok.value ∷ []) before.1 ∙ append_assoc _ before.0 (c.in-Ok.value ∷ []),
-            value_on (StreamStands g.R.RecordReader.holds g.R.RecordReader.spells c.end_record.new.self framing limit) w c.args.piece.now values before.0 c.in-Ok.value c.loop-at.at c.skim-taken.result.used taken,
+            value_on (StreamStands g.R.RecordReader.holds g.R.RecordReader.spells ahead c.end_record.new.self framing limit) w c.args.piece.now values before.0 c.in-Ok.value c.loop-at.at c.skim-taken.result.used taken,
           ),
     )
 
 pub returns-in-StreamEnded-clause-feeds : goal.returns-in-StreamEnded-clause-feeds
-returns-in-StreamEnded-clause-feeds g c = λ framing limit w values s.
+returns-in-StreamEnded-clause-feeds g c = λ ahead framing limit w values s.
     let rest = take_rest c.args.piece.now c.loop-at.at in
-    let before = c.loop-at.invariant.1 framing limit w values s in
-    let told = rw rest at (c.skim-taken.ensures.tells framing limit (w ++ take c.loop-at.at c.args.piece.now) (values ++ before.0) before.2) in
+    let before = c.loop-at.invariant.1 ahead framing limit w values s in
+    let told = rw rest at (c.skim-taken.ensures.tells ahead framing limit (w ++ take c.loop-at.at c.args.piece.now) (values ++ before.0) before.2) in
     let is : c.skim-taken.result.so_far ≡ so_far.StreamEnded = c.in-StreamEnded.is in
     let some : 0 < c.skim-taken.result.used = c.skim-taken.ensures.some (λ more. absurd (cc)) in (
       before.0,
@@ -92,21 +92,21 @@ returns-in-StreamEnded-clause-feeds g c = λ framing limit w values s.
     )
 
 pub returns-in-Fault-clause-feeds : goal.returns-in-Fault-clause-feeds
-returns-in-Fault-clause-feeds g c = λ framing limit w values s.
+returns-in-Fault-clause-feeds g c = λ ahead framing limit w values s.
     let rest = take_rest c.args.piece.now c.loop-at.at in
-    let before = c.loop-at.invariant.1 framing limit w values s in
-    let told = rw rest at (c.skim-taken.ensures.tells framing limit (w ++ take c.loop-at.at c.args.piece.now) (values ++ before.0) before.2) in
+    let before = c.loop-at.invariant.1 ahead framing limit w values s in
+    let told = rw rest at (c.skim-taken.ensures.tells ahead framing limit (w ++ take c.loop-at.at c.args.piece.now) (values ++ before.0) before.2) in
     let is : c.skim-taken.result.so_far ≡ so_far.Fault c.in-Fault.fault = c.in-Fault.is in
     let some : 0 < c.skim-taken.result.used = c.skim-taken.ensures.some (λ more. absurd (cc)) in
-    let lives = c.skim-taken.ensures.before framing limit (w ++ take c.loop-at.at c.args.piece.now) (values ++ before.0) before.2 (c.skim-taken.result.used - 1) (omega (arith, some)) in (
+    let lives = c.skim-taken.ensures.before ahead framing limit (w ++ take c.loop-at.at c.args.piece.now) (values ++ before.0) before.2 (c.skim-taken.result.used - 1) (omega (arith, some)) in (
       before.0,
       before.1,
       omega (arith, some),
-      rw c.in-Fault.fault-is (stops_in framing g.R.RecordReader.spells g.R.RecordReader.breaks limit w c.args.piece.now (values ++ before.0) _ c.loop-at.at c.skim-taken.result.used c.loop-at.invariant.0 some
+      rw c.in-Fault.fault-is (stops_in framing g.R.RecordReader.spells g.R.RecordReader.breaks ahead limit w c.args.piece.now (values ++ before.0) _ c.loop-at.at c.skim-taken.result.used c.loop-at.invariant.0 some
           (omega (arith, c.skim-taken.ensures.used, ap length rest)) (rw rest at lives) (inl (rw c.in-Fault.is at told))),
     )
 
 pub returns-clause-feeds : goal.returns-clause-feeds
-returns-clause-feeds g c = λ framing limit w values s.
-    let before = c.loop-at.invariant.1 framing limit w values s in
+returns-clause-feeds g c = λ ahead framing limit w values s.
+    let before = c.loop-at.invariant.1 ahead framing limit w values s in
     (before.0, before.1, rw (take_all c.loop-at.at c.args.piece.now c.loop-at-test.false) at before.2)

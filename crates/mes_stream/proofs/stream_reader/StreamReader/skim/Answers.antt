@@ -9,38 +9,38 @@ use Rattle.mes_stream.proofs.TellsLemmas.{tells_as}
 use Rattle.mes_stream.proofs.stream_reader.StreamReader.skim.Goals as goal
 
 pub returns-in_default-clause-tells : goal.returns-in_default-clause-tells
-returns-in_default-clause-tells g c = λ framing limit w values s.
+returns-in_default-clause-tells g c = λ ahead framing limit w values s.
     let rest = take_rest c.args.piece.now c.loop-at.at in
-    let before = c.loop-at.invariant.1 framing limit w values s in
-    let Stands : Body g.row.R.Denot → List ℕ → List g.row.R-Value.Denot → Type 0 = λ body. StreamStands g.R.RecordReader.holds g.R.RecordReader.spells (with_body c.take-taken.new.self body) framing limit in
-    tells_as g.R.RecordReader.holds g.R.RecordReader.spells g.R.RecordReader.breaks framing Stands (body_of c.take-taken.new.self) limit (w ++ take c.loop-at.at c.args.piece.now) w (drop c.loop-at.at c.args.piece.now) c.args.piece.now
+    let before = c.loop-at.invariant.1 ahead framing limit w values s in
+    let Stands : Body g.row.R.Denot → List ℕ → List g.row.R-Value.Denot → Type 0 = λ body. StreamStands g.R.RecordReader.holds g.R.RecordReader.spells ahead (with_body c.take-taken.new.self body) framing limit in
+    tells_as g.R.RecordReader.holds g.R.RecordReader.spells g.R.RecordReader.breaks ahead framing Stands (body_of c.take-taken.new.self) limit (w ++ take c.loop-at.at c.args.piece.now) w (drop c.loop-at.at c.args.piece.now) c.args.piece.now
     values c.take-taken.result.used (c.loop-at.at + c.take-taken.result.used) c.take-taken.result.so_far
-    (λ after answer h. says_on framing (Stands after) g.R.RecordReader.spells g.R.RecordReader.breaks limit w c.args.piece.now values c.loop-at.at c.take-taken.result.used answer c.take-taken.ensures.used.0 h)
-    (rw rest at (c.take-taken.ensures.tells framing limit (w ++ take c.loop-at.at c.args.piece.now) values before.0))
+    (λ after answer h. says_on framing (Stands after) g.R.RecordReader.spells g.R.RecordReader.breaks ahead limit w c.args.piece.now values c.loop-at.at c.take-taken.result.used answer c.take-taken.ensures.used.0 h)
+    (rw rest at (c.take-taken.ensures.tells ahead framing limit (w ++ take c.loop-at.at c.args.piece.now) values before.0))
 
 pub returns-in_default-clause-before : goal.returns-in_default-clause-before
-returns-in_default-clause-before g c = λ framing limit w values s.
+returns-in_default-clause-before g c = λ ahead framing limit w values s.
     let rest = take_rest c.args.piece.now c.loop-at.at in
-    let before = c.loop-at.invariant.1 framing limit w values s in
-    before_on framing (StreamStands g.R.RecordReader.holds g.R.RecordReader.spells c.take-taken.new.self framing limit) g.R.RecordReader.spells g.R.RecordReader.breaks limit w c.args.piece.now values c.loop-at.at c.take-taken.result.used before.1
-    (rw rest at (c.take-taken.ensures.before framing limit (w ++ take c.loop-at.at c.args.piece.now) values before.0))
+    let before = c.loop-at.invariant.1 ahead framing limit w values s in
+    before_on framing (StreamStands g.R.RecordReader.holds g.R.RecordReader.spells ahead c.take-taken.new.self framing limit) g.R.RecordReader.spells g.R.RecordReader.breaks ahead limit w c.args.piece.now values c.loop-at.at c.take-taken.result.used before.1
+    (rw rest at (c.take-taken.ensures.before ahead framing limit (w ++ take c.loop-at.at c.args.piece.now) values before.0))
 
 pub loop-at-preserved : goal.loop-at-preserved
 loop-at-preserved g c =
     let rest = take_rest c.args.piece.now c.loop-at.at in (
       omega (arith, c.take-taken.ensures.used.1, c.loop-at-test.true, ap length rest, length-drop c.loop-at.at c.args.piece.now),
-      λ framing limit w values s.
-          let before = c.loop-at.invariant.1 framing limit w values s in
-          let told = rw rest at (c.take-taken.ensures.tells framing limit (w ++ take c.loop-at.at c.args.piece.now) values before.0) in (
-            says_on framing (StreamStands g.R.RecordReader.holds g.R.RecordReader.spells c.take-taken.new.self framing limit) g.R.RecordReader.spells g.R.RecordReader.breaks limit w c.args.piece.now values c.loop-at.at c.take-taken.result.used out.More c.take-taken.ensures.used.0
+      λ ahead framing limit w values s.
+          let before = c.loop-at.invariant.1 ahead framing limit w values s in
+          let told = rw rest at (c.take-taken.ensures.tells ahead framing limit (w ++ take c.loop-at.at c.args.piece.now) values before.0) in (
+            says_on framing (StreamStands g.R.RecordReader.holds g.R.RecordReader.spells ahead c.take-taken.new.self framing limit) g.R.RecordReader.spells g.R.RecordReader.breaks ahead limit w c.args.piece.now values c.loop-at.at c.take-taken.result.used out.More c.take-taken.ensures.used.0
                 (rw (same_body c.take-taken.new.self) at (rw c.in-More.is at told)),
-            before_on framing (StreamStands g.R.RecordReader.holds g.R.RecordReader.spells c.take-taken.new.self framing limit) g.R.RecordReader.spells g.R.RecordReader.breaks limit w c.args.piece.now values c.loop-at.at c.take-taken.result.used before.1
-                (rw rest at (c.take-taken.ensures.before framing limit (w ++ take c.loop-at.at c.args.piece.now) values before.0)),
+            before_on framing (StreamStands g.R.RecordReader.holds g.R.RecordReader.spells ahead c.take-taken.new.self framing limit) g.R.RecordReader.spells g.R.RecordReader.breaks ahead limit w c.args.piece.now values c.loop-at.at c.take-taken.result.used before.1
+                (rw rest at (c.take-taken.ensures.before ahead framing limit (w ++ take c.loop-at.at c.args.piece.now) values before.0)),
           ),
     )
 
 pub returns-clause-tells : goal.returns-clause-tells
-returns-clause-tells g c = λ framing limit w values s. rw (c.more.ensures, same_body c.loop-at.self) (c.loop-at.invariant.1 framing limit w values s).0
+returns-clause-tells g c = λ ahead framing limit w values s. rw (c.more.ensures, same_body c.loop-at.self) (c.loop-at.invariant.1 ahead framing limit w values s).0
 
 pub returns-clause-before : goal.returns-clause-before
-returns-clause-before g c = λ framing limit w values s. rw c.more.ensures (c.loop-at.invariant.1 framing limit w values s).1
+returns-clause-before g c = λ ahead framing limit w values s. rw c.more.ensures (c.loop-at.invariant.1 ahead framing limit w values s).1

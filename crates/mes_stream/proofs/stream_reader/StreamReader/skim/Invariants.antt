@@ -7,8 +7,8 @@ use Rattle.mes_stream.proofs.stream_reader.StreamReader.skim.Given as goal
 abbrev pub invariant-loop-at : goal.invariant-loop-at
 invariant-loop-at g l =
     (l.at ≤ length l.piece)
-    × ((framing : Framing) (limit : ℕ) (w : List ℕ) (values : List g.row.R-Value.Denot) → StreamStands g.R.RecordReader.holds g.R.RecordReader.spells l.fn.self framing limit w values
-    → StreamStands g.R.RecordReader.holds g.R.RecordReader.spells l.self framing limit (w ++ take l.at l.piece) values
+    × ((ahead : ℕ) (framing : Framing) (limit : ℕ) (w : List ℕ) (values : List g.row.R-Value.Denot) → StreamStands g.R.RecordReader.holds g.R.RecordReader.spells ahead l.fn.self framing limit w values
+    → StreamStands g.R.RecordReader.holds g.R.RecordReader.spells ahead l.self framing limit (w ++ take l.at l.piece) values
     × GoesBefore framing g.R.RecordReader.spells limit w values l.piece l.at)
 
 abbrev pub decreases-loop-at : goal.decreases-loop-at
