@@ -21,7 +21,7 @@ use Rattle.mes_fit.proofs.ListLemmas.{get-at}
 or-skip : (a b : Bool) → a ≡ false → (a || b) ≡ b
 or-skip a b e = rw e refl
 
-asked-parts : (test : Resource → Bool) (ts us : List TaskInfo) → list_any test (asked (ts ++ us)) ≡ (list_any test (asked ts) || list_any test (asked us))
+pub asked-parts : (test : Resource → Bool) (ts us : List TaskInfo) → list_any test (asked (ts ++ us)) ≡ (list_any test (asked ts) || list_any test (asked us))
 asked-parts test ts us = ap (list_any test) (flat_map-append (λ (t : TaskInfo). t.resources) ts us) ∙ list_any-append test (asked ts) (asked us)
 
 module _ {G : Type 0} (of : G → List TaskInfo) (os : List G) (at : ℕ) (o : G) (within : at < length os) (is : o ≡ get_or os at o) (t : ℕ) (tasks : List TaskInfo) (are : tasks ≡ of o) (inside : t < length (of o)) where

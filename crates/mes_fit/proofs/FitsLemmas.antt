@@ -97,6 +97,13 @@ some-of k (r ∷ rs) h = elim (either (is_of k r)) [
       or-right _ _ (some-of k rs (omega (arith, none, all))))
 ]
 
+-- and where there is none, there is no amount
+pub none-of : (k : Key) (rs : List Resource) → list_any (is_of k) rs ≡ false → amount k rs ≡ 0
+none-of k rs e = elim (leb_tells (amount k rs) 0) [
+  | inl none ↦ omega (arith, none.1)
+  | inr some ↦ (let has : list_any (is_of k) rs ≡ true = some-of k rs (omega (arith, some.1)) in absurd (cc))
+]
+
 no-thousandths : (v : ResourceValue) → (type_of v ≡ scalar → ⊥) → thousandths_in v ≡ 0
 no-thousandths (Scalar n) none = absurd (none refl)
 no-thousandths (Ranges g) none = refl

@@ -52,14 +52,18 @@ module _ {G : Type 0} (of : G → List TaskInfo) (os : List G) (at : ℕ) (o : G
       ∙ take-append-add (launched of (take at os)) (of o ++ launched of (drop (at + 1) os)) t
       ∙ ap (λ (ts : List TaskInfo). launched of (take at os) ++ ts) (take-append-le t (of o) (launched of (drop (at + 1) os)) h)
 
+  -- those from one on
+  pub drop-from : (t : ℕ) → t ≤ length (of o) → drop (place of os at t) (launched of os) ≡ drop t (of o) ++ launched of (drop (at + 1) os)
+  drop-from t h =
+      ap (drop (place of os at t)) (split of os at o within is)
+      ∙ drop-append-add (launched of (take at os)) (of o ++ launched of (drop (at + 1) os)) t
+      ∙ drop-append-le t (of o) (launched of (drop (at + 1) os)) h
+
   -- those behind it
   pub drop-place : (t : ℕ) → t < length (of o) → drop (place of os at t + 1) (launched of os) ≡ drop (t + 1) (of o) ++ launched of (drop (at + 1) os)
   drop-place t h =
-      let sum : place of os at t + 1 ≡ length (launched of (take at os)) + (t + 1) = omega arith in
-      ap (λ n. drop n (launched of os)) sum
-      ∙ ap (drop (length (launched of (take at os)) + (t + 1))) (split of os at o within is)
-      ∙ drop-append-add (launched of (take at os)) (of o ++ launched of (drop (at + 1) os)) (t + 1)
-      ∙ drop-append-le (t + 1) (of o) (launched of (drop (at + 1) os)) (omega arith)
+      let sum : place of os at t + 1 ≡ place of os at (t + 1) = omega arith in
+      ap (λ n. drop n (launched of os)) sum ∙ drop-from (t + 1) (omega arith)
 
   -- the task itself
   pub get-place : (t : ℕ) (x : TaskInfo) → t < length (of o) → x ≡ get_or (of o) t x → slice_get (launched of os) (place of os at t) ≡ Some x

@@ -1,3 +1,4 @@
+pub mod BatchLemmas
 pub mod BreachLemmas
 pub mod FitsLemmas
 pub mod KeyLemmas

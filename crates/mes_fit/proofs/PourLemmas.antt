@@ -1,13 +1,19 @@
 -- What is left of an amount while it is poured out.
-use Rattle.std.proofs.Common.{◌≡◌, ℕ, zero, suc, ◌+◌, ◌≤◌, ◌<◌, Some, List, [], ◌∷◌, ◌++◌, length, take, drop, get_or, slice_get, refl, sym, ◌∙◌, ap, add-one, arith}
-use Rattle.std.specs.List.{flat_map, sum_by}
+use Rattle.std.proofs.Common.{◌≡◌, ℕ, zero, suc, ◌+◌, ◌≤◌, ◌<◌, Some, List, [], ◌∷◌, ◌++◌, length, take, drop, get_or, slice_get, Bool, true, false, not, IsTrue, IsFalse, ◌↔◌, refl, sym, ◌∙◌, ap, add-one, arith}
+use Rattle.std.specs.List.{list_any, flat_map, sum_by}
 use Rattle.std.proofs.lemmas.Option.{slice_get_within}
-use Rattle.std.proofs.lemmas.List.Sums.{sum_by-cons}
+use Rattle.std.proofs.lemmas.List.{take-append-drop}
+use Rattle.std.proofs.lemmas.List.Sums.{sum_by-cons, sum_by-append}
+use Rattle.std.proofs.lemmas.Grind.{flat_map-append}
 use Rattle.mes_resource.specs.declared.resource.Resource.{Resource}
 use Rattle.mes_offer.specs.declared.offer.Offer.{Offer}
-use Rattle.mes_fit.specs.Keys.{Key}
-use Rattle.mes_fit.specs.Fits.{amount_of, amount, offered}
+use Rattle.mes_fit.specs.Keys.{Key, is_of}
+use Rattle.mes_task.specs.declared.task_info.TaskInfo.{TaskInfo}
+use Rattle.mes_fit.specs.Fits.{amount_of, amount, offered, asked}
+use Rattle.mes_fit.specs.Launched.{launched, place}
 use Rattle.mes_fit.specs.Pouring.{from}
+use Rattle.mes_fit.proofs.FitsLemmas.{none-of}
+use Rattle.mes_fit.proofs.LaunchedLemmas.{drop-from}
 use Rattle.mes_fit.proofs.ListLemmas.{sum-flat_map, get-of}
 
 module _ {X : Type 0} where
@@ -70,3 +76,29 @@ sum-more f (y ∷ ys) (suc i) x h e = omega (arith, sum_by-cons f y ys, sum_by-c
 
 pub parts-more : {X Y : Type 0} (g : Y → ℕ) (f : X → List Y) (xs : List X) (i : ℕ) (x : X) → i < length xs → x ≡ get_or xs i x → sum_by g (flat_map f (take i xs)) + sum_by g (f x) ≤ sum_by g (flat_map f xs)
 parts-more {X = X} g f xs i x h e = omega (arith, sum-more (λ (z : X). sum_by g (f z)) xs i x h e, sum-flat_map g f xs, sum-flat_map g f (take i xs))
+
+asked-both : (k : Key) (ts us : List TaskInfo) → amount k (asked (ts ++ us)) ≡ amount k (asked ts) + amount k (asked us)
+asked-both k ts us = ap (amount k) (flat_map-append (λ (t : TaskInfo). t.resources) ts us) ∙ sum_by-append (amount_of k) (asked ts) (asked us)
+
+-- Where the tasks before one have nothing of a key, all have what it and those behind it have.
+pub amount-from : {G : Type 0} (of : G → List TaskInfo) (os : List G) (at : ℕ) (o : G) → at < length os → o ≡ get_or os at o → (t : ℕ) (tasks : List TaskInfo) → tasks ≡ of o → t ≤ length (of o)
+    → (k : Key) → list_any (is_of k) (asked (take (place of os at t) (launched of os))) ≡ false
+    → amount k (asked (launched of os)) ≡ amount k (asked (drop t tasks)) + amount k (asked (launched of (drop (at + 1) os)))
+amount-from of os at o within is t tasks are inside k none =
+    let all = ap (λ ts. amount k (asked ts)) (take-append-drop (place of os at t) (launched of os)) in
+    let behind = ap (λ ts. amount k (asked ts)) (drop-from of os at o within is t inside) in
+    let own = ap (λ ts. amount k (asked (drop t ts))) are in
+    omega (
+      arith,
+      all,
+      behind,
+      own,
+      asked-both k (take (place of os at t) (launched of os)) (drop (place of os at t) (launched of os)),
+      asked-both k (drop t (of o)) (launched of (drop (at + 1) os)),
+      none-of k (asked (take (place of os at t) (launched of os))) none,
+    )
+
+-- What is taken as long as there is enough: more was asked for exactly where it failed.
+pub taken-all : (taken : Bool) (has wanted : ℕ) → (IsTrue taken → wanted ≤ has) → (IsFalse taken → has < wanted) → IsTrue (not taken) ↔ has < wanted
+taken-all true has wanted enough short = (λ e. absurd (cc), λ h. absurd (omega (arith, enough refl)))
+taken-all false has wanted enough short = (λ e. short refl, λ h. refl)

@@ -3,3 +3,4 @@ pub mod Fits
 pub mod Launched
 pub mod Looking
 pub mod Pouring
+pub mod Batches

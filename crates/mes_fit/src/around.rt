@@ -1,11 +1,14 @@
 //! What stands around a resource: the tasks before its own, and those behind.
-ghost use Rattle.std.specs.Prelude.{◌≡◌, ◌+◌, ◌++◌, drop, take};
+ghost use Rattle.std.specs.Prelude.{◌≡◌, ◌+◌, ◌<◌, ◌++◌, drop, take, IsTrue};
 ghost use Rattle.std.specs.List.{list_any};
 ghost use Rattle.mes_fit.specs.Keys.{key_of, is_of};
 ghost use Rattle.mes_fit.specs.Fits.{piece_in, has_piece, asked};
+ghost use Rattle.mes_fit.specs.Fits.Piece.{point};
 ghost use Rattle.mes_fit.specs.Launched.{launched, place, Stands};
+ghost use Rattle.mes_fit.specs.Batches.{FreeFrom, IsBatch};
 ghost use Rattle.mes_fit.specs.Looking.{Meets};
 
+use crate::batch::Batch;
 use crate::key::same_key;
 use crate::launches::Launches;
 use crate::shared::{groups_meet, tasks_meet};
@@ -57,12 +60,7 @@ pub(crate) fn has_key_before<L: Launches>(
 }
 
 /// Whether a task behind one takes a piece of this resource.
-pub(crate) fn meets_behind<L: Launches>(
-    launches: &[L],
-    at: usize,
-    task: usize,
-    resource: &Resource,
-) -> bool
+fn meets_behind<L: Launches>(launches: &[L], at: usize, task: usize, resource: &Resource) -> bool
     requires { Stands L.tasks launches.now at task }
     ensures { Meets (λ p. piece_in p resource.now.value) (λ p. has_piece (key_of resource.now) p (asked (drop (place L.tasks launches.now at task + 1) (launched L.tasks launches.now)))) result }
 {
@@ -71,4 +69,28 @@ pub(crate) fn meets_behind<L: Launches>(
     }
     let tasks = launches[at].tasks();
     tasks_meet(resource, &tasks[task + 1..]) || groups_meet(resource, &launches[at + 1..])
+}
+
+/// Whether a task behind one takes a piece of this resource, where the task is one of a batch: where that stands apart, points are
+/// looked for in the batch alone.
+pub(crate) fn meets_another<L: Launches>(
+    launches: &[L],
+    at: usize,
+    task: usize,
+    resource: &Resource,
+    batch: Batch,
+) -> bool
+    requires stands { Stands L.tasks launches.now at task }
+    requires inside { task < batch.end }
+    requires is { IsBatch L.tasks launches.now at batch }
+    requires free { IsTrue batch.apart → FreeFrom L.tasks launches.now at batch.end (λ x. piece_in (point x) resource.now.value) }
+    ensures { Meets (λ p. piece_in p resource.now.value) (λ p. has_piece (key_of resource.now) p (asked (drop (place L.tasks launches.now at task + 1) (launched L.tasks launches.now)))) result }
+{
+    match &resource.value {
+        ResourceValue::Ranges(_) if batch.apart => {
+            let tasks = launches[at].tasks();
+            tasks_meet(resource, &tasks[task + 1..batch.end])
+        }
+        _ => meets_behind(launches, at, task, resource),
+    }
 }

@@ -4,8 +4,10 @@ ghost use Rattle.std.specs.List.{list_any};
 ghost use Rattle.mes_fit.specs.Keys.{key_of, is_of};
 ghost use Rattle.mes_fit.specs.Fits.{amount, offered, asked, Fits, BreaksAt, NoneAhead, NoneBefore, IsFirstBreach};
 ghost use Rattle.mes_fit.specs.Launched.{launched, place, as_index, Stands};
+ghost use Rattle.mes_fit.specs.Batches.{has_point, FreeFrom, IsBatch};
 
-use crate::around::{has_key_before, meets_behind, resources_have_key};
+use crate::around::{has_key_before, meets_another, resources_have_key};
+use crate::batch::{Batch, batch_of};
 use crate::launches::Launches;
 use crate::missing::lacks_piece;
 use crate::offer_list::OfferList;
@@ -38,7 +40,7 @@ fn exceeds_anew<O: OfferList, L: Launches>(
         ResourceValue::Scalar(_) => {
             !has_key_before(launches, at, index, resource)
                 && !resources_have_key(own, resource)
-                && exceeds(offers, resource, launches)
+                && exceeds(offers, resource, launches, at, index)
         }
         ResourceValue::Ranges(_) => false,
         ResourceValue::Set(_) => false,
@@ -48,13 +50,18 @@ fn exceeds_anew<O: OfferList, L: Launches>(
 /// Whether a resource of a task breaks the rule, where none before it does.
 fn breaks<O: OfferList, L: Launches>(
     offers: &O,
+    near: &mut usize,
     launches: &[L],
     at: usize,
     index: usize,
+    batch: Batch,
     task: &TaskInfo,
     resource: usize,
 ) -> bool
     requires stands { Stands L.tasks launches.now at index }
+    requires inside { index < batch.end }
+    requires batch { IsBatch L.tasks launches.now at batch }
+    requires free { IsTrue batch.apart → FreeFrom L.tasks launches.now at batch.end (λ x. has_point x task.now.resources) }
     requires is { slice_get (launched L.tasks launches.now) (place L.tasks launches.now at index) ≡ Some task.now }
     requires within { resource < length task.now.resources }
     requires first { NoneAhead (O.offers offers.now) (launched L.tasks launches.now) (place L.tasks launches.now at index) resource }
@@ -66,28 +73,33 @@ fn breaks<O: OfferList, L: Launches>(
     if exceeds_anew(offers, launches, at, index, own, resource) {
         return true;
     }
-    if lacks_piece(offers, own, resource) {
+    if lacks_piece(offers, near, own, resource) {
         return true;
     }
-    meets_behind(launches, at, index, resource)
+    meets_another(launches, at, index, resource, batch)
 }
 
 /// The first resource of a task that breaks the rule, where no task before it has one.
 fn breach_of_task<O: OfferList, L: Launches>(
     offers: &O,
+    near: &mut usize,
     launches: &[L],
     at: usize,
     index: usize,
+    batch: Batch,
     task: &TaskInfo,
 ) -> Option<usize>
     requires stands { Stands L.tasks launches.now at index }
+    requires inside { index < batch.end }
+    requires batch { IsBatch L.tasks launches.now at batch }
+    requires free { IsTrue batch.apart → FreeFrom L.tasks launches.now at batch.end (λ x. has_point x task.now.resources) }
     requires is { slice_get (launched L.tasks launches.now) (place L.tasks launches.now at index) ≡ Some task.now }
     requires first { NoneBefore (O.offers offers.now) (launched L.tasks launches.now) (place L.tasks launches.now at index) }
     ensures some { IfSome result (λ j. IsFirstBreach (O.offers offers.now) (launched L.tasks launches.now) (place L.tasks launches.now at index) j) }
     ensures none { IfNone result (NoneBefore (O.offers offers.now) (launched L.tasks launches.now) (place L.tasks launches.now at index + 1)) }
 {
     for resource in 0..task.resources.len() {
-        if breaks(offers, launches, at, index, task, resource) {
+        if breaks(offers, near, launches, at, index, batch, task, resource) {
             return Some(resource);
         }
     }
@@ -97,6 +109,7 @@ fn breach_of_task<O: OfferList, L: Launches>(
 /// The first task of a group that has a breach, and the resource, where no group before it has one.
 fn breach_of_group<O: OfferList, L: Launches>(
     offers: &O,
+    near: &mut usize,
     launches: &[L],
     at: usize,
 ) -> Option<(usize, usize)>
@@ -106,8 +119,22 @@ fn breach_of_group<O: OfferList, L: Launches>(
     ensures none { IfNone result (NoneBefore (O.offers offers.now) (launched L.tasks launches.now) (place L.tasks launches.now (at + 1) 0)) }
 {
     let tasks = launches[at].tasks();
+    let mut batch = Batch {
+        first: 0,
+        end: 0,
+        apart: false,
+    };
     for index in 0..tasks.len() {
-        if let Some(resource) = breach_of_task(offers, launches, at, index, &tasks[index]) {
+        batch = batch_of(launches, at, index, batch);
+        if let Some(resource) = breach_of_task(
+            offers,
+            near,
+            launches,
+            at,
+            index,
+            batch,
+            &tasks[index],
+        ) {
             return Some((index, resource));
         }
     }
@@ -125,8 +152,9 @@ pub fn first_breach<O: OfferList, L: Launches>(offers: &O, launches: &[L]) -> Op
     ensures none { IfNone result (Fits (O.offers offers.now) (launched L.tasks launches.now)) }
 {
     let mut before: usize = 0;
+    let mut near = 0;
     for at in 0..launches.len() {
-        if let Some((task, resource)) = breach_of_group(offers, launches, at) {
+        if let Some((task, resource)) = breach_of_group(offers, &mut near, launches, at) {
             let task = before.saturating_add(task);
             return Some(Breach { task, resource });
         }

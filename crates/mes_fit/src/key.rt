@@ -9,7 +9,7 @@ use mes_model::{Kept, Label, Labels, Reservation, Resource, ResourceValue};
 /// The role of a resource that names none.
 const ANY_ROLE: &str = "*";
 
-/// Whether both are of one key: all that they tell is alike, but the value and the allocation. The name is compared first.
+/// Whether both are of one key: all that they tell is alike, but the value and the allocation. The name is compared first, and of it the last byte.
 pub(crate) fn same_key(resource: &Resource, other: &Resource) -> bool
     ensures { result ≡ keys_agree (key_of resource.now) (key_of other.now) }
 {
@@ -19,7 +19,7 @@ pub(crate) fn same_key(resource: &Resource, other: &Resource) -> bool
 fn is_same_key(resource: &Resource, other: &Resource) -> bool
     ensures { IsTrue result ↔ key_of resource.now ≡ key_of other.now }
 {
-    resource.name == other.name
+    is_same_text(&resource.name, &other.name)
         && same_type(&resource.value, &other.value)
         && resource.revocable == other.revocable
         && resource.shared == other.shared
@@ -40,7 +40,7 @@ pub(crate) fn same_text(text: &Text, other: &Text) -> bool
     is_same_text(text, other)
 }
 
-/// Whether both are one text. Items often differ at their end alone, so the last bytes are compared first.
+/// Whether both are one text. Items and names often differ at their end alone, so the last bytes are compared first.
 fn is_same_text(text: &Text, other: &Text) -> bool
     ensures { IsTrue result ↔ text.now ≡ other.now }
 {

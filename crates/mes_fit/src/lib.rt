@@ -2,6 +2,7 @@
 //! Whether tasks fit the offers that they are launched on (mesos.proto, `Offer.Operation.Launch`).
 
 mod around;
+mod batch;
 mod breach;
 mod key;
 mod launches;

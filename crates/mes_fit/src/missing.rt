@@ -79,6 +79,7 @@ fn lacks_range<O: OfferList>(
 /// Whether the offers lack a point of ranges. Those of the task's own resources in front are offered.
 fn lacks_ranges<O: OfferList>(
     offers: &O,
+    near: &mut usize,
     own: &[Resource],
     key: &Resource,
     ranges: &[Range],
@@ -86,16 +87,8 @@ fn lacks_ranges<O: OfferList>(
     requires { (x : ℕ) → has_piece (key_of key.now) (point x) own.now ≡ true → has_piece (key_of key.now) (point x) (offered (O.offers offers.now)) ≡ true }
     ensures { Lacks (λ x. in_ranges x ranges.now) (λ x. has_piece (key_of key.now) (point x) (offered (O.offers offers.now))) result }
 {
-    let mut near = 0;
     for index in 0..ranges.len() {
-        if lacks_range(
-            offers,
-            &mut near,
-            own,
-            key,
-            &ranges[..index],
-            &ranges[index],
-        ) {
+        if lacks_range(offers, near, own, key, &ranges[..index], &ranges[index]) {
             return true;
         }
     }
@@ -146,7 +139,12 @@ fn lacks_items<O: OfferList>(offers: &O, key: &Resource, items: &[Text]) -> bool
 }
 
 /// Whether the offers lack a piece of a resource. Those of the task's own resources in front are offered.
-pub(crate) fn lacks_piece<O: OfferList>(offers: &O, own: &[Resource], resource: &Resource) -> bool
+pub(crate) fn lacks_piece<O: OfferList>(
+    offers: &O,
+    near: &mut usize,
+    own: &[Resource],
+    resource: &Resource,
+) -> bool
     requires { (x : ℕ) → has_piece (key_of resource.now) (point x) own.now ≡ true → has_piece (key_of resource.now) (point x) (offered (O.offers offers.now)) ≡ true }
     ensures { Lacks (λ p. piece_in p resource.now.value) (λ p. has_piece (key_of resource.now) p (offered (O.offers offers.now))) result }
 {
@@ -154,6 +152,7 @@ pub(crate) fn lacks_piece<O: OfferList>(offers: &O, own: &[Resource], resource: 
         ResourceValue::Scalar(_) => false,
         ResourceValue::Ranges(ranges) => lacks_ranges(
             offers,
+            near,
             own,
             resource,
             ranges.range.as_slice(),

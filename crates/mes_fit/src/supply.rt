@@ -1,8 +1,9 @@
 //! Amounts compared without a sum: each that is asked for is taken from what the offers still have.
-ghost use Rattle.std.specs.Prelude.{◌≡◌, ◌+◌, ◌<◌, ◌≤◌, ◌↔◌, IsTrue, IsFalse};
-ghost use Rattle.mes_fit.specs.Keys.{key_of};
+ghost use Rattle.std.specs.Prelude.{◌≡◌, ◌+◌, ◌<◌, ◌≤◌, ◌↔◌, take, IsTrue, IsFalse, false};
+ghost use Rattle.std.specs.List.{list_any};
+ghost use Rattle.mes_fit.specs.Keys.{key_of, is_of};
 ghost use Rattle.mes_fit.specs.Fits.{amount_of, amount, asked, offered, thousandths_in};
-ghost use Rattle.mes_fit.specs.Launched.{launched};
+ghost use Rattle.mes_fit.specs.Launched.{launched, place, Stands};
 ghost use Rattle.mes_fit.specs.Pouring.{rest, steps};
 
 use crate::key::same_key;
@@ -97,10 +98,36 @@ impl Supply {
         }
         true
     }
+
+    /// Takes what the tasks of groups ask for under the key; false where less is left.
+    fn take_groups<O: OfferList, L: Launches>(
+        &mut self,
+        offers: &O,
+        key: &Resource,
+        launches: &[L],
+    ) -> bool
+        ensures enough { IsTrue result → amount (key_of key.now) (asked (launched L.tasks launches.now)) + rest (key_of key.now) (O.offers offers.now) self.new ≡ rest (key_of key.now) (O.offers offers.now) self.old }
+        ensures short { IsFalse result → rest (key_of key.now) (O.offers offers.now) self.old < amount (key_of key.now) (asked (launched L.tasks launches.now)) }
+    {
+        for group in launches {
+            if !self.take_tasks(offers, key, group.tasks()) {
+                return false;
+            }
+        }
+        true
+    }
 }
 
-/// Whether the tasks of groups take more of a key than the offers have.
-pub(crate) fn exceeds<O: OfferList, L: Launches>(offers: &O, key: &Resource, launches: &[L]) -> bool
+/// Whether tasks take more of a key than the offers have, where those before this one have nothing of the key.
+pub(crate) fn exceeds<O: OfferList, L: Launches>(
+    offers: &O,
+    key: &Resource,
+    launches: &[L],
+    at: usize,
+    task: usize,
+) -> bool
+    requires stands { Stands L.tasks launches.now at task }
+    requires first { list_any (is_of (key_of key.now)) (asked (take (place L.tasks launches.now at task) (launched L.tasks launches.now))) ≡ false }
     ensures { IsTrue result ↔ amount (key_of key.now) (offered (O.offers offers.now)) < amount (key_of key.now) (asked (launched L.tasks launches.now)) }
 {
     let mut supply = Supply {
@@ -108,10 +135,9 @@ pub(crate) fn exceeds<O: OfferList, L: Launches>(offers: &O, key: &Resource, lau
         resource: 0,
         left: 0,
     };
-    for group in launches {
-        if !supply.take_tasks(offers, key, group.tasks()) {
-            return true;
-        }
+    let tasks = launches[at].tasks();
+    if !supply.take_tasks(offers, key, &tasks[task..]) {
+        return true;
     }
-    false
+    !supply.take_groups(offers, key, &launches[at + 1..])
 }

@@ -1,7 +1,13 @@
+use Rattle.std.proofs.Common.{◌≤◌}
 use Rattle.mes_fit.specs.Fits.{NoneBefore}
 use Rattle.mes_fit.specs.Launched.{launched, place}
+use Rattle.mes_fit.specs.Batches.{IsBatch}
 use Rattle.mes_fit.proofs.breach.breach_of_group.Given as goal
 
--- no task so far has a breach
+-- no task so far has a breach, and the batch began among them
 abbrev pub invariant-loop-index : goal.invariant-loop-index
-invariant-loop-index g l = NoneBefore (g.O.OfferList.offers l.offers) (launched g.L.Launches.tasks l.launches) (place g.L.Launches.tasks l.launches l.at l.index)
+invariant-loop-index g l = record {
+  none : NoneBefore (g.O.OfferList.offers l.offers) (launched g.L.Launches.tasks l.launches) (place g.L.Launches.tasks l.launches l.at l.index);
+  begun : l.batch.first ≤ l.index;
+  is : IsBatch g.L.Launches.tasks l.launches l.at l.batch;
+}
