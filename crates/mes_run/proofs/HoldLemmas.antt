@@ -1,8 +1,9 @@
 -- Lines that are held, event by event.
-use Rattle.std.proofs.Common.{◌≡◌, ℕ, ◌+◌, ◌<◌, List, [], ◌∷◌, ◌++◌, length, take, drop, get_or, sym, ◌∙◌, ap, subst, append_assoc, append-nil}
+use Rattle.std.proofs.Common.{◌≡◌, ℕ, ◌+◌, ◌<◌, ◌≤◌, List, [], ◌∷◌, ◌++◌, length, take, drop, get_or, sym, ◌∙◌, ap, subst, append_assoc, append-nil, arith}
+use Rattle.std.proofs.lemmas.List.{take_all}
 use Rattle.mes_frame.proofs.Parts.{passes_with, passes_then, out_then, stops_then, stops_long, all_held}
 use Rattle.mes_frame.specs.Devices.{Device}
-use Rattle.mes_frame.specs.Written.{Stops}
+use Rattle.mes_frame.specs.Written.{Stops, WentOut}
 use Rattle.mes_frame.specs.declared.write.WriteFault.{WriteFault}
 use Rattle.mes_event.specs.Shown.{event_lines}
 use Rattle.mes_event.specs.declared.event.Event.{Event}
@@ -43,15 +44,20 @@ holds_not first mid a b c events x i n number fault inside is same before stops 
     (stops_then a.bytes b.bytes c.bytes a.counts b.counts c.counts ((first.held.items ++ lines) ++ text) (mid.held.items ++ text) first.sent mid.sent fault
     (passes_with a.bytes b.bytes a.counts b.counts (first.held.items ++ lines) mid.held.items text first.sent mid.sent before) (rw same at stops)))
 
--- what is held goes out
-sends : (first mid new : LineBuffer) (a b c : Device) (w : List ℕ) → HoldsText first mid a b w → SendsText mid new b c [] → SendsText first new a c w
-sends first mid new a b c w holds (out, none) =
-    (out_then a.bytes b.bytes c.bytes a.counts b.counts c.counts (first.held.items ++ w) mid.held.items first.sent mid.sent new.sent holds (rw (append-nil mid.held.items) at out), none)
+-- so those of all events are held
+pub holds_all : (first new : LineBuffer) (a b : Device) (events : List Event) (i n number : ℕ) → length events ≤ i → i ≤ length events → number ≡ saturated (n + i) → HoldsText first new a b (lines_from n (take i events))
+    → HoldsText first new a b (lines_from n events) × (number ≡ saturated (n + length events))
+holds_all first new a b events i n number above below is holds =
+    (subst (λ (es : List Event). HoldsText first new a b (lines_from n es)) (take_all i events above) holds, omega (arith, above, below, is))
 
-pub sends_shown : (first mid new : LineBuffer) (a b c : Device) (n : ℕ) (events : List Event) (shown : Shown) → ShowsFrom (HoldsText first mid a b) n events shown → SendsText mid new b c []
+-- what is held goes out
+sends : (first mid new : LineBuffer) (a b c : Device) (w : List ℕ) → HoldsText first mid a b w → WentOut b.bytes c.bytes b.counts c.counts mid.held.items mid.sent new.sent → new.held.items ≡ [] → SendsText first new a c w
+sends first mid new a b c w holds out none = (out_then a.bytes b.bytes c.bytes a.counts b.counts c.counts (first.held.items ++ w) mid.held.items first.sent mid.sent new.sent holds out, none)
+
+pub sends_shown : (first mid new : LineBuffer) (a b c : Device) (n : ℕ) (events : List Event) (shown : Shown) → ShowsFrom (HoldsText first mid a b) n events shown → WentOut b.bytes c.bytes b.counts c.counts mid.held.items mid.sent new.sent → new.held.items ≡ []
     → ShowsFrom (SendsText first new a c) n events shown
-sends_shown first mid new a b c n events (All next) (holds, is) out = (sends first mid new a b c (lines_from n events) holds out, is)
-sends_shown first mid new a b c n events NoMemory (front, event, rest, is, holds) out = (front, event, rest, is, sends first mid new a b c (lines_from n front) holds out)
+sends_shown first mid new a b c n events (All next) (holds, is) out none = (sends first mid new a b c (lines_from n events) holds out none, is)
+sends_shown first mid new a b c n events NoMemory (front, event, rest, is, holds) out none = (front, event, rest, is, sends first mid new a b c (lines_from n front) holds out none)
 
 -- or the output failed inside them
 pub sends_not : (first mid : LineBuffer) (a b c : Device) (n : ℕ) (events : List Event) (shown : Shown) (fault : WriteFault) → ShowsFrom (HoldsText first mid a b) n events shown

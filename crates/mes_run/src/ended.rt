@@ -1,6 +1,6 @@
 //! How what prints ended: with a status, or where its output failed.
 
-ghost use Rattle.std.specs.Prelude.{◌≡◌};
+ghost use Rattle.std.specs.Prelude.{◌≡◌, false};
 ghost use Rattle.mes_frame.specs.Devices.{device_of};
 ghost use Rattle.mes_run.specs.Printing.{Finishes, ended_behind, status_of};
 
@@ -64,7 +64,7 @@ pub fn finish<E: Sink>(ended: Ended, closed: bool, err: &mut E) -> u8
 
 /// Tells that an output failed behind so many bytes. Answers the exit status.
 fn tell_failed<E: Sink>(err: &mut E, sent: u64) -> u8
-    ensures { Finishes Bool.false (device_of E.written E.counts err.old) (device_of E.written E.counts err.new) (Ended.OutputFailed sent) result }
+    ensures { Finishes false (device_of E.written E.counts err.old) (device_of E.written E.counts err.new) (Ended.OutputFailed sent) result }
 {
     let why = WriteWhy::Device;
     print_send_fault(err, &SendFault::Write(WriteFault { sent, why })).status()

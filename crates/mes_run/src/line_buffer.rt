@@ -1,9 +1,10 @@
 //! What the lines of one read's events are gathered in, so that they go out by one write.
 
-ghost use Rattle.std.specs.Prelude.{◌≡◌, [], ◌++◌, OnOk, IfOk, IfErr};
-ghost use Rattle.mes_frame.specs.Devices.{device_of};
-ghost use Rattle.mes_frame.specs.Written.{Stops, WentOut};
-ghost use Rattle.mes_run.specs.Following.{HoldsText, SendsText};
+ghost use Rattle.std.specs.Prelude.{◌≡◌, [], ◌++◌, length, OnOk, IfOk, IfErr};
+ghost use Rattle.std.specs.Io.KnownBytes.{Appends};
+ghost use Rattle.mes_frame.specs.Counts.{up};
+ghost use Rattle.mes_frame.specs.Write.{CallsFor, NoneFails, StopsWrite};
+ghost use Rattle.mes_frame.specs.Written.{Passes, Stops, WentOut, WrotePart};
 
 use crate::limits::LINES_MOST;
 use arrayvec::ArrayVec;
@@ -37,7 +38,8 @@ impl LineBuffer {
     /// Holds these lines behind those that are held. Where there is no room those go out first, and these too, alone, if they are
     /// more than the buffer has room for.
     pub(crate) fn hold<O: Sink>(&mut self, out: &mut O, lines: &[u8]) -> Result<(), WriteFault>
-        ensures ok { OnOk result (HoldsText self.old self.new (device_of O.written O.counts out.old) (device_of O.written O.counts out.new) lines.now) }
+        ensures ok { OnOk result (Passes (O.written out.old) (O.written out.new) (O.counts out.old) (O.counts out.new)
+            (self.old.held.items ++ lines.now) self.new.held.items self.old.sent self.new.sent) }
         ensures err { IfErr result (λ fault. Stops (O.written out.old) (O.written out.new) (O.counts out.old) (O.counts out.new)
             (self.old.held.items ++ lines.now) self.old.sent fault) }
     {
@@ -53,7 +55,9 @@ impl LineBuffer {
 
     /// Writes what is held.
     pub(crate) fn flush<O: Sink>(&mut self, out: &mut O) -> Result<(), WriteFault>
-        ensures ok { OnOk result (SendsText self.old self.new (device_of O.written O.counts out.old) (device_of O.written O.counts out.new) []) }
+        ensures ok { OnOk result (WentOut (O.written out.old) (O.written out.new) (O.counts out.old) (O.counts out.new)
+            self.old.held.items self.old.sent self.new.sent) }
+        ensures ok_held { OnOk result (self.new.held.items ≡ []) }
         ensures err { IfErr result (λ fault. Stops (O.written out.old) (O.written out.new) (O.counts out.old) (O.counts out.new)
             self.old.held.items self.old.sent fault) }
     {
@@ -65,8 +69,12 @@ impl LineBuffer {
 
 /// Writes all of these bytes, behind so many that went out before, and answers how many went out then.
 fn write_behind<O: Sink>(out: &mut O, bytes: &[u8], before: u64) -> Result<u64, WriteFault>
-    ensures ok { IfOk result (λ all. WentOut (O.written out.old) (O.written out.new) (O.counts out.old) (O.counts out.new) bytes.now before all) }
-    ensures err { IfErr result (λ fault. Stops (O.written out.old) (O.written out.new) (O.counts out.old) (O.counts out.new) bytes.now before fault) }
+    ensures ok { OnOk result (Appends (O.written out.old) (O.written out.new) bytes.now) }
+    ensures ok_counts { OnOk result (NoneFails (O.counts out.old) (O.counts out.new)) }
+    ensures ok_sent { IfOk result (λ all. all ≡ up before (length bytes.now)) }
+    ensures err { IfErr result (λ fault. WrotePart (O.written out.old) (O.written out.new) bytes.now before fault.sent) }
+    ensures err_counts { IfErr result (λ fault. StopsWrite fault.why (O.counts out.old) (O.counts out.new)) }
+    ensures calls { CallsFor (length bytes.now) (O.counts out.old) (O.counts out.new) }
 {
     match write_all(out, bytes) {
         Ok(()) => Ok(before.saturating_add(bytes.len() as u64)),

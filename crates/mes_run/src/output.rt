@@ -3,7 +3,7 @@
 ghost use Rattle.std.specs.Prelude.{◌≡◌, ◌≤◌, false, length, IfOk};
 ghost use Rattle.std.specs.Io.KnownBytes.{WriteAppends};
 ghost use Rattle.mes_frame.specs.Counts.{CountsCall};
-ghost use Rattle.mes_run.specs.Outputs.{closed_by};
+ghost use Rattle.mes_run.specs.Outputs.{closed_by, is_closed};
 
 use mes_frame::Sink;
 use std::io;
@@ -49,7 +49,7 @@ impl<W: Sink> Sink for Output<W> {
     {
         let answer = self.inner.put(bytes);
         if let Err(error) = &answer
-            && is_closed(error.kind())
+            && is_closed_pipe(error.kind())
         {
             self.closed = true;
         }
@@ -58,7 +58,7 @@ impl<W: Sink> Sink for Output<W> {
 }
 
 /// Whether this is how a pipe fails whose reader has gone.
-fn is_closed(kind: ErrorKind) -> bool
+fn is_closed_pipe(kind: ErrorKind) -> bool
     ensures { result ≡ is_closed kind }
 {
     match kind {
