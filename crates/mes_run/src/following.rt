@@ -123,15 +123,14 @@ pub fn follow<I: Source, O: Sink>(
         lines: LineBuffer::new(),
         number: 1,
     };
-    let end = ended(read_device(input, max_reads, &mut follower, out));
-    let before = follower.lines.sent();
-    match end {
+    match ended(read_device(input, max_reads, &mut follower, out)) {
         Ok(end) => {
             let events = follower.number.saturating_sub(1);
-            print_outcome(out, events, &follower.reading.outcome(end)).behind(before)
+            print_outcome(out, events, &follower.reading.outcome(end))
+                .behind(follower.lines.sent())
         }
         Err(Unshown::Output(fault)) => Ended::OutputFailed(fault.sent),
-        Err(Unshown::NoMemory) => out_of_memory(out).behind(before),
+        Err(Unshown::NoMemory) => out_of_memory(out).behind(follower.lines.sent()),
     }
 }
 
