@@ -39,7 +39,7 @@ holds_not first mid a b c events x i n number fault inside is same before stops 
     let rest = lines_from (n + length (take (i + 1) events)) (drop (i + 1) events) in
     let to : lines_from n events ≡ (lines ++ text) ++ rest = lines_on events (i + 1) n ∙ ap (λ (t : List ℕ). t ++ rest) (lines_to events x i n inside is) in
     let whole : first.held.items ++ lines_from n events ≡ ((first.held.items ++ lines) ++ text) ++ rest =
-        ap (λ (t : List ℕ). first.held.items ++ t) to ∙ sym (append_assoc first.held.items (lines ++ text) rest) ∙ ap (λ (t : List ℕ). t ++ rest) (sym (append_assoc first.held.items lines text)) in
+    ap (λ (t : List ℕ). first.held.items ++ t) to ∙ sym (append_assoc first.held.items (lines ++ text) rest) ∙ ap (λ (t : List ℕ). t ++ rest) (sym (append_assoc first.held.items lines text)) in
     rw whole (stops_long a.bytes c.bytes a.counts c.counts ((first.held.items ++ lines) ++ text) rest first.sent fault
     (stops_then a.bytes b.bytes c.bytes a.counts b.counts c.counts ((first.held.items ++ lines) ++ text) (mid.held.items ++ text) first.sent mid.sent fault
     (passes_with a.bytes b.bytes a.counts b.counts (first.held.items ++ lines) mid.held.items text first.sent mid.sent before) (rw same at stops)))

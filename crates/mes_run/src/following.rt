@@ -13,9 +13,7 @@ use crate::line_buffer::LineBuffer;
 use crate::print::{out_of_memory, print_outcome};
 use mes_frame::{Limit, Sink, Source, WriteFault};
 use mes_msg::Event;
-use mes_stream::{
-    Consumer, EventReader, Framing, Reading, ReadsEnd, Report, Stop, read_device,
-};
+use mes_stream::{Consumer, EventReader, Framing, Reading, ReadsEnd, Report, Stop, read_device};
 use std::alloc::Global;
 
 /// What is printed of the events before the line that ends the stream.
@@ -126,8 +124,7 @@ pub fn follow<I: Source, O: Sink>(
     match ended(read_device(input, max_reads, &mut follower, out)) {
         Ok(end) => {
             let events = follower.number.saturating_sub(1);
-            print_outcome(out, events, &follower.reading.outcome(end))
-                .behind(follower.lines.sent())
+            print_outcome(out, events, &follower.reading.outcome(end)).behind(follower.lines.sent())
         }
         Err(Unshown::Output(fault)) => Ended::OutputFailed(fault.sent),
         Err(Unshown::NoMemory) => out_of_memory(out).behind(follower.lines.sent()),
