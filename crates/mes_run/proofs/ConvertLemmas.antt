@@ -15,7 +15,7 @@ use Rattle.mes_stream.specs.declared.fault.Stop.{Stop}
 use Rattle.mes_stream.specs.declared.stream_reader.Framing.{Framing}
 use Rattle.mes_run.specs.Converting.{Converts, IsConverted, Sends, SendsRead}
 use Rattle.mes_frame.specs.Devices.{Device, device_of}
-use Rattle.mes_run.specs.Printing.{Prints}
+use Rattle.mes_run.specs.Printing.{PrintsStatus}
 use Rattle.mes_run.specs.declared.limits.TheConstants.{READS_MOST}
 
 module _ {W : Type 0} (written : W → Option (List ℕ)) (counts : W → Counts) where
@@ -32,7 +32,7 @@ module _ {W : Type 0} (written : W → Option (List ℕ)) (counts : W → Counts
   stops limit most events old new (Write fault) (w, is, some) = (w, is, record { out = some.out; last = some.last; calls = some.calls })
 
   pub sends_none : (limit : ℕ) (most : Option ℕ) (events : List Event) (old new : W) (err told : Device) (fault : SendFault) (status : ℕ)
-      → StopsSending written counts (IsConverted limit most events) limit events old new fault → Prints err told (send_text fault ++ 10 ∷ []) 1 status
+      → StopsSending written counts (IsConverted limit most events) limit events old new fault → PrintsStatus err told (send_text fault ++ 10 ∷ []) 1 status
       → Sends limit most events (device_of written counts old) (device_of written counts new) err told status
   sends_none limit most events old new err told fault status stopped prints = inr (fault, stops limit most events old new fault stopped, prints)
 

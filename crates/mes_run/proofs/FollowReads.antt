@@ -1,7 +1,11 @@
 -- A stream followed read by read, with what was printed of its events.
 use Rattle.std.proofs.Common.{◌≡◌, ℕ, ◌+◌, ◌-◌, ◌*◌, ◌<◌, ◌≤◌, Option, List, [], ◌∷◌, ◌++◌, length, ◌∙◌, ap, sym, subst, append_assoc, append-nil, arith, refl, inl, inr, length-append, lit≤, Result, Ok, Err}
 use Rattle.std.specs.Io.KnownBytes.{Consumes}
+use Rattle.std.proofs.KnownBytes.{Appends-nil}
+use Rattle.mes_frame.proofs.Parts.{both_out}
 use Rattle.mes_frame.specs.Devices.{Device}
+use Rattle.mes_frame.specs.Written.{WentOut}
+use Rattle.mes_frame.specs.declared.write.WriteFault.{WriteFault}
 use Rattle.mes_event.specs.Events.{Spells}
 use Rattle.mes_event.specs.declared.event.Event.{Event}
 use Rattle.mes_stream.specs.EventData.{HoldsData}
@@ -20,19 +24,25 @@ use Rattle.mes_stream.specs.declared.reads.ReadsEnd.{ReadsEnd}
 use Rattle.mes_stream.specs.declared.reads.ReadsEnd.TheVariants.{Stopped, AtEnd, Failed, Spent}
 use Rattle.mes_stream.specs.declared.stream_reader.Framing.{Framing}
 use Rattle.mes_stream.proofs.StreamLemmas.{goes_of}
-use Rattle.mes_run.specs.Following.{IsFresh, Followed, FollowedTo, GoesFrom, StopsFrom, ended_of}
-use Rattle.mes_run.specs.Printing.{GoesOut, IsCutOff, Prints, outcome_line, outcome_status}
-use Rattle.mes_run.specs.Showing.{lines_from, printed_from, PrintsEvents, Spelt, Follows}
+use Rattle.mes_run.specs.Following.{Brings, IsFresh, Followed, FollowedTo, GoesFrom, HasShown, PrintsEvents, StopsFrom, ended_of}
+use Rattle.mes_run.specs.Printing.{IsCutOff, Prints, ended_behind, outcome_line, outcome_status}
+use Rattle.mes_run.specs.Showing.{lines_from, printed_from, Spelt, Follows}
+use Rattle.mes_run.specs.declared.ended.Ended.{Ended}
+use Rattle.mes_run.specs.declared.ended.Ended.TheVariants.{OutputFailed}
 use Rattle.mes_run.specs.declared.limits.TheConstants.{READS_MOST}
 use Rattle.mes_run.specs.declared.following.Detail.{Detail}
 use Rattle.mes_run.specs.declared.following.Detail.TheVariants.{Counts, Lines}
 use Rattle.mes_run.specs.declared.following.Follower.{Follower}
 use Rattle.mes_run.specs.declared.following.FollowStop.{FollowStop}
 use Rattle.mes_run.specs.declared.following.FollowStop.TheVariants.{Outcome, Unshown}
+use Rattle.mes_run.specs.declared.following.Shown.{Shown as Amount}
+use Rattle.mes_run.specs.declared.following.Shown.TheVariants.{All}
+use Rattle.mes_run.specs.declared.following.Shown.TheVariants as seen
 use Rattle.mes_run.specs.declared.following.Unshown.{Unshown as Why}
 use Rattle.mes_run.specs.declared.following.Unshown.TheVariants as why
+use Rattle.mes_run.specs.declared.line_buffer.LineBuffer.{LineBuffer}
 use Rattle.mes_run.proofs.FewEvents.{goes_few, ends_few}
-use Rattle.mes_run.proofs.ShowLemmas.{goes_none, goes_both, goes_then_cut, prints_behind, lines_both}
+use Rattle.mes_run.proofs.ShowLemmas.{goes_counted, goes_then_stops, prints_behind, lines_both}
 
 -- however a piece was taken, a front of the bytes has the events
 spelt_of : (framing : Framing) (limit : ℕ) (f : Reading EventReader) (w piece : List ℕ) (values old now : List Event) (fed : Result (Unit {0}) (Result Report Stop)) → old ≡ []
@@ -48,38 +58,46 @@ spelt_of framing limit f w piece values old now (Err (Err stop)) none (more, add
     let used = s.used in
     (s.front, s.byte ∷ s.rest, s.is, omega (arith, last, whole, used, length-append s.front (s.byte ∷ s.rest)), inl (rw (added, none) s.live))
 
--- what was printed of events behind others
-printed_both : (detail : Detail) (n : ℕ) (xs ys : List Event) → printed_from detail n (xs ++ ys) ≡ printed_from detail n xs ++ printed_from detail (n + length xs) ys
-printed_both Counts n xs ys = refl
-printed_both Lines n xs ys = lines_both n xs ys
+-- nothing went out
+none_out : (a : Device) (sent : ℕ) → sent ≡ 0 → WentOut a.bytes a.bytes a.counts a.counts [] 0 sent
+none_out a sent none = record { out = Appends-nil a.bytes; good = (refl, refl); count = omega (arith, none); calls = (omega arith, omega arith) }
 
--- what is wanted of the events went out
-printed : (detail : Detail) (number : ℕ) (events : List Event) (old new : Device) (next : ℕ) → PrintsEvents detail number events old new (Ok next)
-    → GoesOut old new (printed_from detail number events) × (next ≡ saturated (number + length events))
-printed Counts number events old new next h = (rw h.0 (goes_none old), h.1)
-printed Lines number events old new next h = h
+-- What is wanted of the events went out, and what becomes of that of more events behind them.
+module _ (events more : List Event) (before after : LineBuffer) (out mid new : Device) (none : before.held.items ≡ []) where
+  -- it goes out too
+  shown_more : (detail : Detail) (next : ℕ) → WentOut out.bytes mid.bytes out.counts mid.counts (printed_from detail 1 events) 0 before.sent → PrintsEvents detail before after mid new (1 + length events) more (Ok (All next))
+      → WentOut out.bytes new.bytes out.counts new.counts (printed_from detail 1 (events ++ more)) 0 after.sent × (after.held.items ≡ []) × (next ≡ saturated ((1 + length events) + length more))
+  shown_more Counts next shown h = (rw (h.0, h.1) shown, rw h.1 none, h.2)
+  shown_more Lines next shown h =
+      (rw (lines_both 1 events more) (both_out out.bytes mid.bytes new.bytes out.counts mid.counts new.counts (lines_from 1 events) (lines_from (1 + length events) more) 0 before.sent after.sent shown (rw none at h.0.0)), h.0.1, h.1)
 
--- or was cut off behind those before
-cut : (detail : Detail) (events more : List Event) (out mid printed : Device) → GoesOut out mid (printed_from detail 1 events) → PrintsEvents detail (1 + length events) more mid printed (Err why.Output)
-    → (detail ≡ Lines) × IsCutOff out printed (lines_from 1 (events ++ more))
-cut Counts events more out mid printed shown none = absurd none
-cut Lines events more out mid printed shown off = (refl, rw (lines_both 1 events more) (goes_then_cut out mid printed (lines_from 1 events) (lines_from (1 + length events) more) shown off))
+  -- or the output failed inside it
+  cut : (detail : Detail) (fault : WriteFault) → WentOut out.bytes mid.bytes out.counts mid.counts (printed_from detail 1 events) 0 before.sent → PrintsEvents detail before after mid new (1 + length events) more (Err fault)
+      → (detail ≡ Lines) × IsCutOff out new (lines_from 1 events) (lines_from (1 + length events) more) fault.sent
+  cut Counts fault shown h = absurd h
+  cut Lines fault shown h = (refl, goes_then_stops out mid new (lines_from 1 events) (lines_from (1 + length events) more) before.sent fault shown (rw none at h))
 
--- or memory was refused for one of them
-record Lacks (events more : List Event) (out printed : Device) : Type 0 where
-  front : List Event
-  event : Event
-  rest : List Event
-  is : more ≡ front ++ event ∷ rest
-  shown : GoesOut out printed (lines_from 1 (events ++ front))
+  -- or memory was refused for one of them
+  record Lacks : Type 0 where
+    front : List Event
+    event : Event
+    rest : List Event
+    is : more ≡ front ++ event ∷ rest
+    shown : WentOut out.bytes new.bytes out.counts new.counts (lines_from 1 (events ++ front)) 0 after.sent
 
-lacks : (detail : Detail) (events more : List Event) (out mid printed : Device) → GoesOut out mid (printed_from detail 1 events) → PrintsEvents detail (1 + length events) more mid printed (Err why.NoMemory)
-    → (detail ≡ Lines) × Lacks events more out printed
-lacks Counts events more out mid printed shown none = absurd none
-lacks Lines events more out mid printed shown (front, event, rest, is, some) = (
-  refl,
-  record { front = front; event = event; rest = rest; is = is; shown = rw (lines_both 1 events front) (goes_both out mid printed (lines_from 1 events) (lines_from (1 + length events) front) shown some) },
-)
+  lacks : (detail : Detail) → WentOut out.bytes mid.bytes out.counts mid.counts (printed_from detail 1 events) 0 before.sent → PrintsEvents detail before after mid new (1 + length events) more (Ok seen.NoMemory)
+      → (detail ≡ Lines) × Lacks
+  lacks Counts shown h = absurd h
+  lacks Lines shown (front, event, rest, is, some) = (
+    refl,
+    record {
+      front = front;
+      event = event;
+      rest = rest;
+      is = is;
+      shown = rw (lines_both 1 events front) (both_out out.bytes mid.bytes new.bytes out.counts mid.counts new.counts (lines_from 1 events) (lines_from (1 + length events) front) 0 before.sent after.sent shown (rw none at some.0));
+    },
+  )
 
 pub goes_start : (first : Follower) (out : Device) → GoesFrom first out first out []
 goes_start first out framing limit fresh = record {
@@ -88,11 +106,12 @@ goes_start first out framing limit fresh = record {
   shown = nothing first.detail;
   number = fresh.number;
   cleared = fresh.events;
+  lines = fresh.lines;
   detail_is = refl;
 } where
-  nothing : (kind : Detail) → GoesOut out out (printed_from kind 1 [])
-  nothing Counts = goes_none out
-  nothing Lines = goes_none out
+  nothing : (kind : Detail) → HasShown kind out out first []
+  nothing Counts = none_out out first.lines.sent fresh.sent
+  nothing Lines = none_out out first.lines.sent fresh.sent
 
 module _ (first d after : Follower) (out mid printed_out : Device) (w piece : List ℕ) (now : List Event) (before : GoesFrom first out d mid w) where
   -- what became of one more piece
@@ -101,63 +120,72 @@ module _ (first d after : Follower) (out mid printed_out : Device) (w piece : Li
       → ReadingTakes HoldsData Spells IsEventRefusal after.reading framing limit v values piece d.events.items now fed
 
   -- and of its events
-  abbrev pub Shown : Result ℕ Why → Type 0
-  Shown result = (n : ℕ) → d.number ≡ saturated n → PrintsEvents d.detail n now mid printed_out result
+  abbrev pub Shows : Result Amount WriteFault → Type 0
+  Shows result = (n : ℕ) → d.number ≡ saturated n → PrintsEvents d.detail d.lines after.lines mid printed_out n now result
 
-  pub follows_on : after.events.items ≡ [] → after.detail ≡ d.detail → Takes (Ok tt) → Shown (Ok after.number) → GoesFrom first out after printed_out (w ++ piece)
-  follows_on cleared same takes shown framing limit fresh =
+  pub follows_on : after.events.items ≡ [] → after.detail ≡ d.detail → Takes (Ok tt) → Shows (Ok (All after.number)) → GoesFrom first out after printed_out (w ++ piece)
+  follows_on cleared same takes shows framing limit fresh =
       let s = before framing limit fresh in
       let t = takes framing limit w s.events s.stands in
-      let went = printed d.detail (1 + length s.events) now mid printed_out after.number (shown (1 + length s.events) s.number) in
+      let went = shown_more s.events now d.lines after.lines out mid printed_out s.lines first.detail after.number s.shown (rw s.detail_is at (shows (1 + length s.events) s.number)) in
       let added : now ≡ t.0 = t.1 ∙ ap (λ (l : List Event). l ++ t.0) s.cleared in
-      let is = went.1 in
+      let is = went.2 in
       record {
         events = s.events ++ now;
         stands = rw added t.2;
-        shown = rw (printed_both first.detail 1 s.events now) (goes_both out mid printed_out (printed_from first.detail 1 s.events) (printed_from first.detail (1 + length s.events) now) s.shown (rw s.detail_is at went.0));
+        shown = went.0;
         number = omega (arith, is, length-append s.events now);
         cleared = cleared;
+        lines = went.1;
         detail_is = same ∙ s.detail_is;
       }
 
-  pub follows_to : (outcome : Result Report Stop) → Takes (Err outcome) → Shown (Ok after.number) → StopsFrom first out after printed_out w piece (Outcome outcome)
-  follows_to outcome takes shown framing limit fresh =
+  pub follows_to : (outcome : Result Report Stop) → Takes (Err outcome) → Shows (Ok (All after.number)) → StopsFrom first out after printed_out w piece (Outcome outcome)
+  follows_to outcome takes shows framing limit fresh =
       let s = before framing limit fresh in
       let t = takes framing limit w s.events s.stands in
-      let went = printed d.detail (1 + length s.events) now mid printed_out after.number (shown (1 + length s.events) s.number) in
+      let went = shown_more s.events now d.lines after.lines out mid printed_out s.lines first.detail after.number s.shown (rw s.detail_is at (shows (1 + length s.events) s.number)) in
       let added : now ≡ t.0 = t.1 ∙ ap (λ (l : List Event). l ++ t.0) s.cleared in
-      let is = went.1 in
+      let is = went.2 in
       record {
         events = s.events ++ now;
         ends = rw added t.2;
-        shown = rw (printed_both first.detail 1 s.events now) (goes_both out mid printed_out (printed_from first.detail 1 s.events) (printed_from first.detail (1 + length s.events) now) s.shown (rw s.detail_is at went.0));
+        shown = went.0;
         number = omega (arith, is, length-append s.events now);
       }
 
-  pub follows_not : (fed : Result (Unit {0}) (Result Report Stop)) (reason : Why) → Takes fed → Shown (Err reason) → StopsFrom first out after printed_out w piece (Unshown reason)
-  follows_not fed why.Output takes shown framing limit fresh =
+  -- what the piece brought
+  brings : (framing : Framing) (limit : ℕ) (events : List Event) (fed : Result (Unit {0}) (Result Report Stop)) → d.events.items ≡ [] → ReadingStands HoldsData Spells d.reading framing limit w events → Takes fed
+      → Brings framing limit w piece events now
+  brings framing limit events fed none stands takes = record {
+    had = goes_of HoldsData Spells d.reading.stream framing limit w events stands.0;
+    has = spelt_of framing limit after.reading w piece events d.events.items now fed none (takes framing limit w events stands);
+  }
+
+  pub follows_cut_off : (fed : Result (Unit {0}) (Result Report Stop)) (fault : WriteFault) → Takes fed → Shows (Err fault) → StopsFrom first out after printed_out w piece (Unshown (why.Output fault))
+  follows_cut_off fed fault takes shows framing limit fresh =
       let s = before framing limit fresh in
-      let off = cut first.detail s.events now out mid printed_out s.shown (rw s.detail_is at (shown (1 + length s.events) s.number)) in
-      (s.events ++ now, spelt_of framing limit after.reading w piece s.events d.events.items now fed s.cleared (takes framing limit w s.events s.stands), off.0, off.1)
-  follows_not fed why.NoMemory takes shown framing limit fresh =
+      let off = cut s.events now d.lines after.lines out mid printed_out s.lines first.detail fault s.shown (rw s.detail_is at (shows (1 + length s.events) s.number)) in
+      (s.events, now, brings framing limit s.events fed s.cleared s.stands takes, off.0, off.1)
+
+  pub follows_without : (fed : Result (Unit {0}) (Result Report Stop)) → Takes fed → Shows (Ok seen.NoMemory) → StopsFrom first out after printed_out w piece (Unshown why.NoMemory)
+  follows_without fed takes shows framing limit fresh =
       let s = before framing limit fresh in
-      let none = lacks first.detail s.events now out mid printed_out s.shown (rw s.detail_is at (shown (1 + length s.events) s.number)) in
+      let none = lacks s.events now d.lines after.lines out mid printed_out s.lines first.detail s.shown (rw s.detail_is at (shows (1 + length s.events) s.number)) in
       let l = none.1 in
-      let spelt = spelt_of framing limit after.reading w piece s.events d.events.items now fed s.cleared (takes framing limit w s.events s.stands) in
-      let same : s.events ++ now ≡ (s.events ++ l.front) ++ l.event ∷ l.rest = ap (λ (es : List Event). s.events ++ es) l.is ∙ sym (append_assoc s.events l.front (l.event ∷ l.rest)) in
-      (s.events ++ l.front, l.event, l.rest, subst (λ (es : List Event). Spelt framing limit (w ++ piece) es) same spelt, none.0, l.shown)
+      (s.events, l.front, l.event, l.rest, subst (λ (es : List Event). Brings framing limit w piece s.events es) l.is (brings framing limit s.events fed s.cleared s.stands takes), none.0, l.shown)
 
 -- the reading came to its outcome, and its line was printed
-outcome_printed : (detail : Detail) (framing : Framing) (limit reads : ℕ) (input rest out mid late : Device) (w : List ℕ) (events : List Event) (outcome : Result Report Stop) (status : ℕ)
-    → Consumes input.bytes rest.bytes w → EndsReading framing Spells IsEventRefusal limit reads input.counts rest.counts rest.bytes w events outcome → GoesOut out mid (printed_from detail 1 events)
-    → Prints mid late (outcome_line (length events) outcome ++ 10 ∷ []) (outcome_status outcome) status → Follows detail framing limit reads input rest out late status
-outcome_printed Counts framing limit reads input rest out mid late w events outcome status consumes ends shown prints =
-    (w, events, outcome, (consumes, ends), prints_behind out mid late [] (outcome_line (length events) outcome ++ 10 ∷ []) (outcome_status outcome) status shown prints)
-outcome_printed Lines framing limit reads input rest out mid late w events outcome status consumes ends shown prints = (
-  w,
-  events,
-  inl (outcome, (consumes, ends), prints_behind out mid late (lines_from 1 events) (outcome_line (length events) outcome ++ 10 ∷ []) (outcome_status outcome) status shown prints),
-)
+outcome_printed : (detail : Detail) (framing : Framing) (limit reads : ℕ) (input rest out mid late : Device) (w : List ℕ) (events : List Event) (outcome : Result Report Stop) (sent : ℕ) (ended : Ended)
+    → Consumes input.bytes rest.bytes w → EndsReading framing Spells IsEventRefusal limit reads input.counts rest.counts rest.bytes w events outcome
+    → WentOut out.bytes mid.bytes out.counts mid.counts (printed_from detail 1 events) 0 sent → Prints mid late (outcome_line (length events) outcome ++ 10 ∷ []) (outcome_status outcome) ended
+    → Follows detail framing limit reads input rest out late (ended_behind sent ended)
+outcome_printed Counts framing limit reads input rest out mid late w events outcome sent ended consumes ends shown prints =
+    let went = goes_counted out mid [] sent shown in
+    (w, events, outcome, (consumes, ends), prints_behind out mid late [] (outcome_line (length events) outcome ++ 10 ∷ []) sent (outcome_status outcome) ended went.0 went.1 prints)
+outcome_printed Lines framing limit reads input rest out mid late w events outcome sent ended consumes ends shown prints =
+    let went = goes_counted out mid (lines_from 1 events) sent shown in
+    (w, events, inl (outcome, (consumes, ends), prints_behind out mid late (lines_from 1 events) (outcome_line (length events) outcome ++ 10 ∷ []) sent (outcome_status outcome) ended went.0 went.1 prints))
 
 -- a stream has no more events than bytes
 byte_few : (framing : Framing) (limit : ℕ) (w : List ℕ) (events : List Event) (outcome : Result Report Stop) → ByteEnds framing Spells IsEventRefusal limit w events outcome → length events ≤ length w
@@ -181,58 +209,60 @@ module _ (framing : Framing) (limit reads : ℕ) (few : reads ≤ READS_MOST) (i
   HasEnded end = EndsReads (GoesFrom first out now mid) (StopsFrom first out now mid) reads input.counts rest.counts rest.bytes w end
 
   -- the stream came to its outcome
-  pub follows_outcome : (end : ReadsEnd FollowStop) (read : ReadsEnd (Result Report Stop)) (outcome : Result Report Stop) (late : Device) (events status : ℕ) → HasEnded end → ended_of end ≡ Ok read → Means HoldsData Spells now.reading read outcome
-      → events ≡ now.number - 1 → Prints mid late (outcome_line events outcome ++ 10 ∷ []) (outcome_status outcome) status → Follows first.detail framing limit reads input rest out late status
-  follows_outcome (Stopped (Unshown reason)) read outcome late events status ends is means count prints =
+  pub follows_outcome : (end : ReadsEnd FollowStop) (read : ReadsEnd (Result Report Stop)) (outcome : Result Report Stop) (late : Device) (events : ℕ) (ended : Ended) → HasEnded end → ended_of end ≡ Ok read → Means HoldsData Spells now.reading read outcome
+      → events ≡ now.number - 1 → Prints mid late (outcome_line events outcome ++ 10 ∷ []) (outcome_status outcome) ended → Follows first.detail framing limit reads input rest out late (ended_behind now.lines.sent ended)
+  follows_outcome (Stopped (Unshown reason)) read outcome late events ended ends is means count prints =
       let clash : Err reason ≡ Ok read = is in absurd (cc)
-  follows_outcome (Stopped (Outcome told)) read outcome late events status (front, piece, at, stops, asked) is means count prints =
+  follows_outcome (Stopped (Outcome told)) read outcome late events ended (front, piece, at, stops, asked) is means count prints =
       let same : read ≡ Stopped told = cc in
       let one : outcome ≡ told = subst (λ (r : ReadsEnd (Result Report Stop)). Means HoldsData Spells now.reading r outcome) same means in
       let s = stops framing limit fresh in
       let ends : ByteEnds framing Spells IsEventRefusal limit w s.events outcome = rw (one, at.is) s.ends in
       let all = count ∙ counted reads asked.0 now.number w s.events few asked.1.most asked.1.bytes (byte_few framing limit w s.events outcome ends) s.number in
-      outcome_printed first.detail framing limit reads input rest out mid late w s.events outcome status consumes (inl (ends, asked)) s.shown (rw all at prints)
-  follows_outcome AtEnd read outcome late events status (goes, last, asked) is means count prints =
+      outcome_printed first.detail framing limit reads input rest out mid late w s.events outcome now.lines.sent ended consumes (inl (ends, asked)) s.shown (rw all at prints)
+  follows_outcome AtEnd read outcome late events ended (goes, last, asked) is means count prints =
       let same : read ≡ AtEnd = cc in
       let s = goes framing limit fresh in
       let told = subst (λ (r : ReadsEnd (Result Report Stop)). Means HoldsData Spells now.reading r outcome) same means in
       let fewer = goes_few framing limit w s.events (goes_of HoldsData Spells now.reading.stream framing limit w s.events s.stands.0) in
       let all = count ∙ counted reads asked.0 now.number w s.events few asked.1.most asked.1.bytes fewer s.number in
-      outcome_printed first.detail framing limit reads input rest out mid late w s.events outcome status consumes (inr (inl (told framing limit w s.events s.stands, last, asked))) s.shown (rw all at prints)
-  follows_outcome Failed read outcome late events status (goes, asked) is means count prints =
+      outcome_printed first.detail framing limit reads input rest out mid late w s.events outcome now.lines.sent ended consumes (inr (inl (told framing limit w s.events s.stands, last, asked))) s.shown (rw all at prints)
+  follows_outcome Failed read outcome late events ended (goes, asked) is means count prints =
       let same : read ≡ Failed = cc in
       let s = goes framing limit fresh in
       let told = subst (λ (r : ReadsEnd (Result Report Stop)). Means HoldsData Spells now.reading r outcome) same means in
       let fewer = goes_few framing limit w s.events (goes_of HoldsData Spells now.reading.stream framing limit w s.events s.stands.0) in
       let all = count ∙ counted reads asked.0 now.number w s.events few asked.1.most asked.1.bytes fewer s.number in
-      outcome_printed first.detail framing limit reads input rest out mid late w s.events outcome status consumes (inr (inr (inl (told framing limit w s.events s.stands, asked)))) s.shown (rw all at prints)
-  follows_outcome Spent read outcome late events status (goes, asked) is means count prints =
+      outcome_printed first.detail framing limit reads input rest out mid late w s.events outcome now.lines.sent ended consumes (inr (inr (inl (told framing limit w s.events s.stands, asked)))) s.shown (rw all at prints)
+  follows_outcome Spent read outcome late events ended (goes, asked) is means count prints =
       let same : read ≡ Spent = cc in
       let s = goes framing limit fresh in
       let told = subst (λ (r : ReadsEnd (Result Report Stop)). Means HoldsData Spells now.reading r outcome) same means in
       let fewer = goes_few framing limit w s.events (goes_of HoldsData Spells now.reading.stream framing limit w s.events s.stands.0) in
       let all = count ∙ counted reads reads now.number w s.events few asked.most asked.bytes fewer s.number in
-      outcome_printed first.detail framing limit reads input rest out mid late w s.events outcome status consumes (inr (inr (inr (told framing limit w s.events s.stands, asked)))) s.shown (rw all at prints)
+      outcome_printed first.detail framing limit reads input rest out mid late w s.events outcome now.lines.sent ended consumes (inr (inr (inr (told framing limit w s.events s.stands, asked)))) s.shown (rw all at prints)
 
-  -- or the lines of its events were cut off
-  pub follows_cut : (end : ReadsEnd FollowStop) → HasEnded end → ended_of end ≡ Err why.Output → Follows first.detail framing limit reads input rest out mid 1
-  follows_cut (Stopped (Unshown why.Output)) (front, piece, at, stops, asked) is =
+  -- or the output failed in the lines of the last events
+  pub follows_cut : (end : ReadsEnd FollowStop) (fault : WriteFault) → HasEnded end → ended_of end ≡ Err (why.Output fault) → Follows first.detail framing limit reads input rest out mid (OutputFailed fault.sent)
+  follows_cut (Stopped (Unshown (why.Output told))) fault (front, piece, at, stops, asked) is =
+      let same : told ≡ fault = cc in
       let s = stops framing limit fresh in
-      rw s.2 (w, s.0, inr (inl ((consumes, rw at.is s.1, asked), s.3, refl)))
-  follows_cut (Stopped (Unshown why.NoMemory)) ends is = absurd (cc)
-  follows_cut (Stopped (Outcome told)) ends is = absurd (cc)
-  follows_cut AtEnd ends is = absurd (cc)
-  follows_cut Failed ends is = absurd (cc)
-  follows_cut Spent ends is = absurd (cc)
+      rw s.3 (w, s.0, inr (inl (s.1, fault.sent, (consumes, record { front = front; piece = piece; read = at; had = s.2.had; has = rw at.is s.2.has }, asked), rw same at s.4, refl)))
+  follows_cut (Stopped (Unshown why.NoMemory)) fault ends is = absurd (cc)
+  follows_cut (Stopped (Outcome told)) fault ends is = absurd (cc)
+  follows_cut AtEnd fault ends is = absurd (cc)
+  follows_cut Failed fault ends is = absurd (cc)
+  follows_cut Spent fault ends is = absurd (cc)
 
-  -- or memory was refused for one of them
-  pub follows_lacking : (end : ReadsEnd FollowStop) (late : Device) (status : ℕ) → HasEnded end → ended_of end ≡ Err why.NoMemory → Prints mid late (fault_text NoMemory 0 ++ 10 ∷ []) 1 status
-      → Follows first.detail framing limit reads input rest out late status
-  follows_lacking (Stopped (Unshown why.NoMemory)) late status (front, piece, at, stops, asked) is prints =
+  -- or memory was refused for those of one of them
+  pub follows_lacking : (end : ReadsEnd FollowStop) (late : Device) (ended : Ended) → HasEnded end → ended_of end ≡ Err why.NoMemory → Prints mid late (fault_text NoMemory 0 ++ 10 ∷ []) 1 ended
+      → Follows first.detail framing limit reads input rest out late (ended_behind now.lines.sent ended)
+  follows_lacking (Stopped (Unshown why.NoMemory)) late ended (front, piece, at, stops, asked) is prints =
       let s = stops framing limit fresh in
-      rw s.4 (w, s.0, inr (inr (s.1, s.2, (consumes, rw at.is s.3, asked), prints_behind out mid late (lines_from 1 s.0) (fault_text NoMemory 0 ++ 10 ∷ []) 1 status s.5 prints)))
-  follows_lacking (Stopped (Unshown why.Output)) late status ends is prints = absurd (cc)
-  follows_lacking (Stopped (Outcome told)) late status ends is prints = absurd (cc)
-  follows_lacking AtEnd late status ends is prints = absurd (cc)
-  follows_lacking Failed late status ends is prints = absurd (cc)
-  follows_lacking Spent late status ends is prints = absurd (cc)
+      let went = goes_counted out mid (lines_from 1 (s.0 ++ s.1)) now.lines.sent s.6 in
+      rw s.5 (w, s.0, inr (inr (s.1, s.2, s.3, (consumes, record { front = front; piece = piece; read = at; had = s.4.had; has = rw at.is s.4.has }, asked), prints_behind out mid late (lines_from 1 (s.0 ++ s.1)) (fault_text NoMemory 0 ++ 10 ∷ []) now.lines.sent 1 ended went.0 went.1 prints)))
+  follows_lacking (Stopped (Unshown (why.Output fault))) late ended ends is prints = absurd (cc)
+  follows_lacking (Stopped (Outcome told)) late ended ends is prints = absurd (cc)
+  follows_lacking AtEnd late ended ends is prints = absurd (cc)
+  follows_lacking Failed late ended ends is prints = absurd (cc)
+  follows_lacking Spent late ended ends is prints = absurd (cc)

@@ -1,4 +1,5 @@
 mod ConvertLemmas
 pub mod FewEvents
 mod FollowReads
+mod HoldLemmas
 pub mod ShowLemmas

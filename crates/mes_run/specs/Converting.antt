@@ -9,7 +9,7 @@ use Rattle.mes_stream.specs.declared.fault.Stop.{Stop}
 use Rattle.mes_msg.specs.declared.send_fault.SendFault.{SendFault}
 use Rattle.mes_stream.specs.declared.stream_reader.Framing.{Framing}
 use Rattle.mes_frame.specs.Devices.{Device}
-use Rattle.mes_run.specs.Printing.{Prints, ReadsInput}
+use Rattle.mes_run.specs.Printing.{PrintsStatus, ReadsInput}
 use Rattle.mes_run.specs.declared.limits.TheConstants.{READS_MOST}
 
 -- the bytes w are the events, which are good, as plain RecordIO, or in chunks of a size
@@ -24,14 +24,14 @@ Sends limit most events out written err told status =
     ((w : List ℕ) × IsConverted limit most events w × WroteAll {W = Device} (λ d. d.bytes) (λ d. d.counts) out written w
     × (told ≡ err) × (status ≡ 0))
     ⊎ ((fault : SendFault) × StopsSending {W = Device} (λ d. d.bytes) (λ d. d.counts) (IsConverted limit most events) limit events out written fault
-    × Prints err told (send_text fault ++ 10 ∷ []) 1 status)
+    × PrintsStatus err told (send_text fault ++ 10 ∷ []) 1 status)
 
 -- what became of the events that were read: sent, where the stream was read to its end; else the fault was told, and nothing
 -- was written
 abbrev pub SendsRead : ℕ → Option ℕ → List Event → Result Report Stop → Device → Device → Device → Device → ℕ → Type 0
 SendsRead limit most events (Ok report) out written err told status = Sends limit most events out written err told status
 SendsRead limit most events (Err stop) out written err told status =
-    (written ≡ out) × Prints err told (fault_text stop.fault stop.used ++ 10 ∷ []) 1 status
+    (written ≡ out) × PrintsStatus err told (fault_text stop.fault stop.used ++ 10 ∷ []) 1 status
 
 -- the bytes w were taken from the input and read as the events up to the outcome, and that became of them
 abbrev pub Converts : Framing → ℕ → Option ℕ → Device → Device → Device → Device → Device → Device → ℕ → Type 0

@@ -1,9 +1,12 @@
 -- What a follower of a stream came to, read by read.
 use Rattle.std.specs.Prelude.{◌≡◌, ℕ, ◌+◌, List, [], ◌∷◌, ◌++◌, length, Option, Result, Ok, Err}
 use Rattle.mes_frame.specs.Devices.{Device}
+use Rattle.mes_frame.specs.Written.{Passes, WentOut, Stops}
+use Rattle.mes_frame.specs.declared.write.WriteFault.{WriteFault}
 use Rattle.mes_event.specs.Events.{Spells}
 use Rattle.mes_event.specs.declared.event.Event.{Event}
 use Rattle.mes_stream.specs.EventData.{HoldsData}
+use Rattle.mes_stream.specs.Framings.{GoesIn}
 use Rattle.mes_stream.specs.Reading.{ReadingStands, ByteEnds}
 use Rattle.mes_stream.specs.Refusals.{IsEventRefusal}
 use Rattle.mes_stream.specs.Stream.{saturated}
@@ -12,47 +15,92 @@ use Rattle.mes_stream.specs.declared.fault.Stop.{Stop}
 use Rattle.mes_stream.specs.declared.reads.ReadsEnd.{ReadsEnd}
 use Rattle.mes_stream.specs.declared.reads.ReadsEnd.TheVariants.{Stopped, AtEnd, Failed, Spent}
 use Rattle.mes_stream.specs.declared.stream_reader.Framing.{Framing}
-use Rattle.mes_run.specs.Printing.{GoesOut, IsCutOff}
+use Rattle.mes_run.specs.Printing.{IsCutOff}
 use Rattle.mes_run.specs.Showing.{lines_from, printed_from, Spelt}
 use Rattle.mes_run.specs.declared.following.Detail.{Detail}
-use Rattle.mes_run.specs.declared.following.Detail.TheVariants.{Lines}
+use Rattle.mes_run.specs.declared.following.Detail.TheVariants.{Counts, Lines}
 use Rattle.mes_run.specs.declared.following.Follower.{Follower}
 use Rattle.mes_run.specs.declared.following.FollowStop.{FollowStop}
 use Rattle.mes_run.specs.declared.following.FollowStop.TheVariants.{Outcome, Unshown}
+use Rattle.mes_run.specs.declared.following.Shown.{Shown}
+use Rattle.mes_run.specs.declared.following.Shown.TheVariants.{All}
+use Rattle.mes_run.specs.declared.following.Shown.TheVariants as seen
 use Rattle.mes_run.specs.declared.following.Unshown.{Unshown as Why}
 use Rattle.mes_run.specs.declared.following.Unshown.TheVariants as why
+use Rattle.mes_run.specs.declared.line_buffer.LineBuffer.{LineBuffer}
+
+-- a text behind what the buffer held is on its way: a front of both went out, and the rest is held
+abbrev pub HoldsText : LineBuffer → LineBuffer → Device → Device → List ℕ → Type 0
+HoldsText before after old new text =
+    Passes old.bytes new.bytes old.counts new.counts (before.held.items ++ text) after.held.items before.sent after.sent
+
+-- it went out whole, and nothing is held
+abbrev pub SendsText : LineBuffer → LineBuffer → Device → Device → List ℕ → Type 0
+SendsText before after old new text =
+    WentOut old.bytes new.bytes old.counts new.counts (before.held.items ++ text) before.sent after.sent × (after.held.items ≡ [])
+
+-- what became of the lines of the events, where `Goes` says what becomes of a text: it became of those of all; or memory was refused
+-- for those of one, and it became of those before
+abbrev pub ShowsFrom : (List ℕ → Type 0) → ℕ → List Event → Shown → Type 0
+ShowsFrom Goes number events (All next) = Goes (lines_from number events) × (next ≡ saturated (number + length events))
+ShowsFrom Goes number events seen.NoMemory =
+    (front : List Event) × (event : Event) × (rest : List Event) × (events ≡ front ++ event ∷ rest) × Goes (lines_from number front)
+
+-- What became of what is wanted of the events: nothing was printed where they are counted alone. Else their lines went out, or the
+-- output failed inside them.
+abbrev pub PrintsEvents : Detail → LineBuffer → LineBuffer → Device → Device → ℕ → List Event → Result Shown WriteFault → Type 0
+PrintsEvents Counts before after old new number events (Ok (All next)) =
+    (new ≡ old) × (after ≡ before) × (next ≡ saturated (number + length events))
+PrintsEvents Counts before after old new number events (Ok seen.NoMemory) = ⊥
+PrintsEvents Counts before after old new number events (Err fault) = ⊥
+PrintsEvents Lines before after old new number events (Ok done) = ShowsFrom (SendsText before after old new) number events done
+PrintsEvents Lines before after old new number events (Err fault) =
+    Stops old.bytes new.bytes old.counts new.counts (before.held.items ++ lines_from number events) before.sent fault
 
 -- before the first byte
 pub record IsFresh (d : Follower) (framing : Framing) (limit : ℕ) : Type 0 where
   pub stands : ReadingStands HoldsData Spells d.reading framing limit [] []
   pub number : d.number ≡ 1
   pub events : d.events.items ≡ []
+  pub lines : d.lines.held.items ≡ []
+  pub sent : d.lines.sent ≡ 0
+
+-- what is wanted of the events was printed, all of it
+abbrev pub HasShown : Detail → Device → Device → Follower → List Event → Type 0
+HasShown detail out printed d events = WentOut out.bytes printed.bytes out.counts printed.counts (printed_from detail 1 events) 0 d.lines.sent
 
 -- it has taken the bytes w, and what is wanted of their events was printed
 pub record Followed (detail : Detail) (framing : Framing) (limit : ℕ) (out printed : Device) (d : Follower) (w : List ℕ) : Type 0 where
   pub events : List Event
   pub stands : ReadingStands HoldsData Spells d.reading framing limit w events
-  pub shown : GoesOut out printed (printed_from detail 1 events)
+  pub shown : HasShown detail out printed d events
   pub number : d.number ≡ saturated (1 + length events)
   pub cleared : d.events.items ≡ []
+  pub lines : d.lines.held.items ≡ []
   pub detail_is : d.detail ≡ detail
 
 -- a byte of the bytes w ended the stream, or stops the reading, and what is wanted of their events was printed
 pub record FollowedTo (detail : Detail) (framing : Framing) (limit : ℕ) (out printed : Device) (d : Follower) (w : List ℕ) (outcome : Result Report Stop) : Type 0 where
   pub events : List Event
   pub ends : ByteEnds framing Spells IsEventRefusal limit w events outcome
-  pub shown : GoesOut out printed (printed_from detail 1 events)
+  pub shown : HasShown detail out printed d events
   pub number : d.number ≡ saturated (1 + length events)
 
--- why it wants no more bytes: the stream came to its outcome; or the lines of the events were cut off; or memory was refused for
--- those of one, behind the lines of the events before it
-abbrev pub StopsAs : Detail → Framing → ℕ → Device → Device → Follower → List ℕ → FollowStop → Type 0
-StopsAs detail framing limit out printed d w (Outcome outcome) = FollowedTo detail framing limit out printed d w outcome
-StopsAs detail framing limit out printed d w (Unshown why.Output) =
-    (events : List Event) × Spelt framing limit w events × (detail ≡ Lines) × IsCutOff out printed (lines_from 1 events)
-StopsAs detail framing limit out printed d w (Unshown why.NoMemory) =
-    (events : List Event) × (event : Event) × (more : List Event) × Spelt framing limit w (events ++ event ∷ more) × (detail ≡ Lines)
-    × GoesOut out printed (lines_from 1 events)
+-- the bytes w have the events before, and with the piece behind them `last` too
+pub record Brings (framing : Framing) (limit : ℕ) (w piece : List ℕ) (before last : List Event) : Type 0 where
+  pub had : GoesIn framing Spells limit w before
+  pub has : Spelt framing limit (w ++ piece) (before ++ last)
+
+-- Why it wants no more bytes behind this piece: the stream came to its outcome; or the output failed in the lines of the events that
+-- the piece brought; or memory was refused for those of one, behind the lines of the events before it.
+abbrev pub StopsAs : Detail → Framing → ℕ → Device → Device → Follower → List ℕ → List ℕ → FollowStop → Type 0
+StopsAs detail framing limit out printed d w piece (Outcome outcome) = FollowedTo detail framing limit out printed d (w ++ piece) outcome
+StopsAs detail framing limit out printed d w piece (Unshown (why.Output fault)) =
+    (before : List Event) × (last : List Event) × Brings framing limit w piece before last × (detail ≡ Lines)
+    × IsCutOff out printed (lines_from 1 before) (lines_from (1 + length before) last) fault.sent
+StopsAs detail framing limit out printed d w piece (Unshown why.NoMemory) =
+    (before : List Event) × (last : List Event) × (event : Event) × (more : List Event) × Brings framing limit w piece before (last ++ event ∷ more)
+    × (detail ≡ Lines) × HasShown Lines out printed d (before ++ last)
 
 -- the same from its first byte on, whichever stream it follows
 abbrev pub GoesFrom : Follower → Device → Follower → Device → List ℕ → Type 0
@@ -60,7 +108,7 @@ GoesFrom first out d printed w = (framing : Framing) (limit : ℕ) → IsFresh f
 
 abbrev pub StopsFrom : Follower → Device → Follower → Device → List ℕ → List ℕ → FollowStop → Type 0
 StopsFrom first out d printed w piece stop =
-    (framing : Framing) (limit : ℕ) → IsFresh first framing limit → StopsAs first.detail framing limit out printed d (w ++ piece) stop
+    (framing : Framing) (limit : ℕ) → IsFresh first framing limit → StopsAs first.detail framing limit out printed d w piece stop
 
 -- how the reads ended, where the events were shown so far; else why they were not
 abbrev pub ended_of : ReadsEnd FollowStop → Result (ReadsEnd (Result Report Stop)) Why

@@ -1,4 +1,5 @@
 pub mod Printing
+pub mod Outputs
 pub mod Converting
 pub mod Showing
 pub mod Following

@@ -6,8 +6,9 @@ ghost use Rattle.mes_run.specs.Converting.{Converts, IsConverted, Sends};
 ghost use Rattle.mes_frame.specs.Devices.{device_of};
 
 use crate::chunk_size::ChunkSize;
+use crate::ended::GOOD;
 use crate::limits::READS_MOST;
-use crate::print::{GOOD, print_fault, print_send_fault};
+use crate::print::{print_fault, print_send_fault};
 use mes_frame::{Limit, Sink, Source};
 use mes_msg::Event;
 use mes_stream::{Framing, SendFault, read_events, write_plain, write_stream};
@@ -33,7 +34,7 @@ pub fn convert<I: Source, O: Sink, E: Sink>(
     let mut events = Vec::new(alloc);
     match read_events(alloc, input, framing, limit, READS_MOST, &mut events) {
         Ok(_report) => send(alloc, events.as_slice(), limit, most, out, err),
-        Err(stop) => print_fault(err, &stop.fault, stop.used),
+        Err(stop) => print_fault(err, &stop.fault, stop.used).status(),
     }
 }
 
@@ -53,7 +54,7 @@ fn send<O: Sink, E: Sink>(
 {
     match write_events(alloc, events, limit, most, out) {
         Ok(()) => GOOD,
-        Err(fault) => print_send_fault(err, &fault),
+        Err(fault) => print_send_fault(err, &fault).status(),
     }
 }
 

@@ -1,18 +1,19 @@
 //! `check` and `show`: a stream followed read by read, and what is printed of its events as they come.
 
-ghost use Rattle.std.specs.Prelude.{◌≡◌, ◌≤◌, ℕ};
+ghost use Rattle.std.specs.Prelude.{◌≡◌, ◌≤◌, ◌++◌, ℕ, IfErr, IfOk};
+ghost use Rattle.mes_frame.specs.Written.{Stops};
 ghost use Rattle.mes_stream.specs.Stream.{saturated};
 ghost use Rattle.mes_frame.specs.Devices.{device_of};
-ghost use Rattle.mes_run.specs.Following.{ended_of};
-ghost use Rattle.mes_run.specs.Showing.{ShowsOne, ShowsFrom, PrintsEvents, Follows};
+ghost use Rattle.mes_run.specs.Following.{HoldsText, PrintsEvents, SendsText, ShowsFrom, ended_of};
+ghost use Rattle.mes_run.specs.Showing.{Follows, lines_from};
 
+use crate::ended::Ended;
 use crate::limits::READS_MOST;
-use crate::print::{FAULT, print_fault, print_outcome};
-use mes_frame::{Limit, Sink, Source, write_all};
+use crate::line_buffer::LineBuffer;
+use crate::print::{out_of_memory, print_outcome};
+use mes_frame::{Limit, Sink, Source, WriteFault};
 use mes_msg::Event;
-use mes_stream::{
-    Consumer, EventReader, Fault, Framing, Reading, ReadsEnd, Report, Stop, read_device,
-};
+use mes_stream::{Consumer, EventReader, Framing, Reading, ReadsEnd, Report, Stop, read_device};
 use std::alloc::Global;
 
 /// What is printed of the events before the line that ends the stream.
@@ -24,12 +25,21 @@ pub enum Detail {
     Lines,
 }
 
-/// Why the lines of an event were not printed.
+/// Why the lines of events were not printed.
 #[derive(Clone, Copy, Debug, PartialEq, Eq)]
 pub(crate) enum Unshown {
     /// The output failed.
-    Output,
+    Output(WriteFault),
     /// Memory was refused.
+    NoMemory,
+}
+
+/// Of how many of the events what is wanted was printed.
+#[derive(Clone, Copy, Debug, PartialEq, Eq)]
+pub(crate) enum Shown {
+    /// Of all, and the event behind them has this number.
+    All(u64),
+    /// Of those before one for whose lines memory was refused.
     NoMemory,
 }
 
@@ -50,6 +60,7 @@ pub(crate) struct Follower {
     detail: Detail,
     reading: Reading<EventReader>,
     events: Vec<Event>,
+    lines: LineBuffer,
     // The number of the next event.
     number: u64,
 }
@@ -71,10 +82,12 @@ impl<O: Sink> Consumer<O> for Follower {
             self.detail,
             self.events.as_slice(),
             self.number,
+            &mut self.lines,
             out,
         ) {
-            Ok(next) => self.number = next,
-            Err(why) => return Err(FollowStop::Unshown(why)),
+            Ok(Shown::All(next)) => self.number = next,
+            Ok(Shown::NoMemory) => return Err(FollowStop::Unshown(Unshown::NoMemory)),
+            Err(fault) => return Err(FollowStop::Unshown(Unshown::Output(fault))),
         }
         self.events.clear();
         match fed {
@@ -84,8 +97,9 @@ impl<O: Sink> Consumer<O> for Follower {
     }
 }
 
-/// Reads a stream in at most `max_reads` reads, prints what is wanted of each event once the read that ends its record was made, and
-/// then how many events there were, or the first fault. Answers the status. Holds the events of one read at a time.
+/// Reads a stream in at most `max_reads` reads, prints what is wanted of each event before the next read behind the one that ends its
+/// record, and then how many events there were, or the first fault. Behind a failed output no more is read. Holds the events of one
+/// read at a time, and at most `LINES_MOST` bytes of their lines, which go out together.
 pub fn follow<I: Source, O: Sink>(
     alloc: Global,
     detail: Detail,
@@ -94,7 +108,7 @@ pub fn follow<I: Source, O: Sink>(
     max_reads: u64,
     input: &mut I,
     out: &mut O,
-) -> u8
+) -> Ended
     requires { max_reads ≤ READS_MOST }
     ensures { Follows detail framing limit max_reads (device_of I.left I.counts input.old) (device_of I.left I.counts input.new)
         (device_of O.written O.counts out.old) (device_of O.written O.counts out.new) result }
@@ -104,16 +118,16 @@ pub fn follow<I: Source, O: Sink>(
         detail,
         reading: Reading::new(framing, EventReader::new(alloc), limit),
         events: Vec::new(alloc),
+        lines: LineBuffer::new(),
         number: 1,
     };
     match ended(read_device(input, max_reads, &mut follower, out)) {
-        Ok(end) => print_outcome(
-            out,
-            follower.number.saturating_sub(1),
-            &follower.reading.outcome(end),
-        ),
-        Err(Unshown::Output) => FAULT,
-        Err(Unshown::NoMemory) => print_fault(out, &Fault::NoMemory, 0),
+        Ok(end) => {
+            let events = follower.number.saturating_sub(1);
+            print_outcome(out, events, &follower.reading.outcome(end)).behind(follower.lines.sent())
+        }
+        Err(Unshown::Output(fault)) => Ended::OutputFailed(fault.sent),
+        Err(Unshown::NoMemory) => out_of_memory(out).behind(follower.lines.sent()),
     }
 }
 
@@ -130,61 +144,70 @@ fn ended(end: ReadsEnd<FollowStop>) -> Result<ReadsEnd<Result<Report, Stop>>, Un
     }
 }
 
-/// Prints what is wanted of the events, the first under this number, and answers the number of the event behind them.
+/// Prints what is wanted of the events, the first under this number.
 fn print_events<O: Sink>(
     alloc: Global,
     detail: Detail,
     events: &[Event],
     first: u64,
+    lines: &mut LineBuffer,
     out: &mut O,
-) -> Result<u64, Unshown>
-    ensures { (number : ℕ) → first ≡ saturated number → PrintsEvents detail number events.now
+) -> Result<Shown, WriteFault>
+    ensures { (number : ℕ) → first ≡ saturated number → PrintsEvents detail lines.old lines.new
         (device_of O.written O.counts out.old) (device_of O.written O.counts out.new)
-        result }
+        number events.now result }
 {
     match detail {
-        Detail::Counts => Ok(first.saturating_add(events.len() as u64)),
-        Detail::Lines => show_events(alloc, events, first, out),
+        Detail::Counts => Ok(Shown::All(first.saturating_add(events.len() as u64))),
+        Detail::Lines => show_events(alloc, events, first, lines, out),
     }
 }
 
-/// Prints the lines of the events, the first under this number, and answers the number of the event behind them.
+/// Prints the lines of the events, the first under this number.
 fn show_events<O: Sink>(
     alloc: Global,
     events: &[Event],
     first: u64,
+    lines: &mut LineBuffer,
     out: &mut O,
-) -> Result<u64, Unshown>
-    ensures { (number : ℕ) → first ≡ saturated number → ShowsFrom number events.now
-        (device_of O.written O.counts out.old) (device_of O.written O.counts out.new)
-        result }
+) -> Result<Shown, WriteFault>
+    ensures ok { IfOk result (λ shown. (number : ℕ) → first ≡ saturated number → ShowsFrom
+        (SendsText lines.old lines.new (device_of O.written O.counts out.old) (device_of O.written O.counts out.new)) number events.now shown) }
+    ensures err { IfErr result (λ fault. (number : ℕ) → first ≡ saturated number → Stops (O.written out.old) (O.written out.new)
+        (O.counts out.old) (O.counts out.new) (lines.old.held.items ++ lines_from number events.now) lines.old.sent fault) }
+{
+    let shown = match hold_events(alloc, events, first, lines, out) {
+        Ok(shown) => shown,
+        Err(fault) => return Err(fault),
+    };
+    match lines.flush(out) {
+        Ok(()) => Ok(shown),
+        Err(fault) => Err(fault),
+    }
+}
+
+/// Holds the lines of the events, the first under this number.
+fn hold_events<O: Sink>(
+    alloc: Global,
+    events: &[Event],
+    first: u64,
+    lines: &mut LineBuffer,
+    out: &mut O,
+) -> Result<Shown, WriteFault>
+    ensures ok { IfOk result (λ shown. (number : ℕ) → first ≡ saturated number → ShowsFrom
+        (HoldsText lines.old lines.new (device_of O.written O.counts out.old) (device_of O.written O.counts out.new)) number events.now shown) }
+    ensures err { IfErr result (λ fault. (number : ℕ) → first ≡ saturated number → Stops (O.written out.old) (O.written out.new)
+        (O.counts out.old) (O.counts out.new) (lines.old.held.items ++ lines_from number events.now) lines.old.sent fault) }
 {
     let mut number = first;
     for event in events {
-        if let Err(why) = show_event(alloc, event, number, out) {
-            return Err(why);
+        let Ok(text) = event.show_lines(alloc, number) else {
+            return Ok(Shown::NoMemory);
+        };
+        if let Err(fault) = lines.hold(out, text.as_slice()) {
+            return Err(fault);
         }
         number = number.saturating_add(1);
     }
-    Ok(number)
-}
-
-/// Prints the lines of an event.
-fn show_event<O: Sink>(
-    alloc: Global,
-    event: &Event,
-    number: u64,
-    out: &mut O,
-) -> Result<(), Unshown>
-    ensures { ShowsOne number event.now
-        (device_of O.written O.counts out.old) (device_of O.written O.counts out.new)
-        result }
-{
-    match event.show_lines(alloc, number) {
-        Ok(lines) => match write_all(out, lines.as_slice()) {
-            Ok(()) => Ok(()),
-            Err(_) => Err(Unshown::Output),
-        },
-        Err(_) => Err(Unshown::NoMemory),
-    }
+    Ok(Shown::All(number))
 }

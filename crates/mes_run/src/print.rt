@@ -1,4 +1,4 @@
-//! Texts and lines that are printed, and the exit status.
+//! Texts and lines that are printed.
 
 ghost use Rattle.std.specs.Prelude.{◌≡◌, ◌≤◌, [], ◌∷◌, ◌++◌, length};
 ghost use Rattle.mes_frame.specs.Devices.{device_of};
@@ -6,6 +6,7 @@ ghost use Rattle.mes_stream.specs.Lines.{fault_text, count_text};
 ghost use Rattle.mes_stream.specs.SendLines.{send_text};
 ghost use Rattle.mes_run.specs.Printing.{LacksMemory, Prints, outcome_line, outcome_status};
 
+use crate::ended::{Ended, FAULT, GOOD};
 use crate::limits::LINE_MOST;
 use arrayvec::ArrayString;
 use mes_frame::{Sink, write_all};
@@ -13,42 +14,56 @@ use mes_stream::{
     FAULT_LINE_MOST, Fault, Report, SendFault, Stop, count_line, fault_line, send_line,
 };
 
-/// The status of a good run.
-pub const GOOD: u8 = 0;
-
-/// The status where a fault was told, or an output failed.
-pub const FAULT: u8 = 1;
-
-/// Prints a text, and answers the status that is meant, or 1 where the writer failed.
-pub fn print_text<O: Sink>(out: &mut O, text: &str, status: u8) -> u8
+/// Prints these bytes, and answers the status that is meant, or where the output failed.
+pub fn print_bytes<O: Sink>(out: &mut O, bytes: &[u8], status: u8) -> Ended
     ensures { Prints (device_of O.written O.counts out.old) (device_of O.written O.counts out.new)
-        text.now status result }
+        bytes.now status result }
 {
-    match write_all(out, text.as_bytes()) {
-        Ok(()) => status,
-        Err(_) => FAULT,
+    match write_all(out, bytes) {
+        Ok(()) => Ended::Status(status),
+        Err(fault) => Ended::OutputFailed(fault.sent),
     }
 }
 
-/// Tells that memory was refused before any byte was read. Answers the status.
-pub fn out_of_memory<O: Sink>(out: &mut O) -> u8
+/// Prints a text, and answers the status that is meant, or where the output failed.
+pub fn print_text<O: Sink>(out: &mut O, text: &str, status: u8) -> Ended
+    ensures { Prints (device_of O.written O.counts out.old) (device_of O.written O.counts out.new)
+        text.now status result }
+{
+    print_bytes(out, text.as_bytes(), status)
+}
+
+/// Prints a line and its LF, and answers the status that is meant, or where the output failed. Takes no memory.
+pub fn print_line<O: Sink>(out: &mut O, line: &str, status: u8) -> Ended
+    requires { length line.now ≤ FAULT_LINE_MOST }
+    ensures { Prints (device_of O.written O.counts out.old) (device_of O.written O.counts out.new)
+        (line.now ++ 10 ∷ []) status result }
+{
+    let mut text = ArrayString::<LINE_MOST>::new();
+    text.push_str(line);
+    text.push_str("\n");
+    print_text(out, text.as_str(), status)
+}
+
+/// Tells that memory was refused before any byte was read: F13 after 0, with the status 1.
+pub fn out_of_memory<O: Sink>(out: &mut O) -> Ended
     ensures { LacksMemory (device_of O.written O.counts out.old) (device_of O.written O.counts out.new) result }
 {
     print_fault(out, &Fault::NoMemory, 0)
 }
 
-/// Prints the line of so many events in so many bytes. Answers the status.
-pub(crate) fn print_count<O: Sink>(out: &mut O, events: u64, used: u64) -> u8
+/// Prints the line of so many events in so many bytes, with the status 0.
+pub(crate) fn print_count<O: Sink>(out: &mut O, events: u64, used: u64) -> Ended
     ensures { Prints (device_of O.written O.counts out.old) (device_of O.written O.counts out.new)
         (count_text events used ++ 10 ∷ []) 0 result }
 {
     let mut line = ArrayString::new();
     count_line(events, used, &mut line);
-    print(out, line.as_str(), GOOD)
+    print_line(out, line.as_str(), GOOD)
 }
 
-/// Prints the line of what a stream came to, behind so many events. Answers the status.
-pub(crate) fn print_outcome<O: Sink>(out: &mut O, events: u64, outcome: &Result<Report, Stop>) -> u8
+/// Prints the line of what a stream came to, behind so many events, with the status 0 where it was read to its end, else 1.
+pub fn print_outcome<O: Sink>(out: &mut O, events: u64, outcome: &Result<Report, Stop>) -> Ended
     ensures { Prints (device_of O.written O.counts out.old) (device_of O.written O.counts out.new)
         (outcome_line events outcome.now ++ 10 ∷ []) (outcome_status outcome.now) result }
 {
@@ -58,34 +73,22 @@ pub(crate) fn print_outcome<O: Sink>(out: &mut O, events: u64, outcome: &Result<
     }
 }
 
-/// Prints the line of a fault behind so many bytes. Answers the status.
-pub(crate) fn print_fault<O: Sink>(out: &mut O, fault: &Fault, used: u64) -> u8
+/// Prints the line of a fault behind so many bytes, with the status 1.
+pub fn print_fault<O: Sink>(out: &mut O, fault: &Fault, used: u64) -> Ended
     ensures { Prints (device_of O.written O.counts out.old) (device_of O.written O.counts out.new)
         (fault_text fault.now used ++ 10 ∷ []) 1 result }
 {
     let mut line = ArrayString::new();
     fault_line(fault, used, &mut line);
-    print(out, line.as_str(), FAULT)
+    print_line(out, line.as_str(), FAULT)
 }
 
-/// Prints the line of what stopped the sending of events. Answers the status.
-pub(crate) fn print_send_fault<O: Sink>(out: &mut O, fault: &SendFault) -> u8
+/// Prints the line of what stopped the sending of events, with the status 1.
+pub fn print_send_fault<O: Sink>(out: &mut O, fault: &SendFault) -> Ended
     ensures { Prints (device_of O.written O.counts out.old) (device_of O.written O.counts out.new)
         (send_text fault.now ++ 10 ∷ []) 1 result }
 {
     let mut line = ArrayString::new();
     send_line(fault, &mut line);
-    print(out, line.as_str(), FAULT)
-}
-
-/// Prints a line, and answers the status, or 1 where the writer failed.
-fn print<O: Sink>(out: &mut O, line: &str, status: u8) -> u8
-    requires { length line.now ≤ FAULT_LINE_MOST }
-    ensures { Prints (device_of O.written O.counts out.old) (device_of O.written O.counts out.new)
-        (line.now ++ 10 ∷ []) status result }
-{
-    let mut text = ArrayString::<LINE_MOST>::new();
-    text.push_str(line);
-    text.push_str("\n");
-    print_text(out, text.as_str(), status)
+    print_line(out, line.as_str(), FAULT)
 }

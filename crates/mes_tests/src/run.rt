@@ -1,7 +1,7 @@
 //! What `check`, `show` and `convert` do over devices in memory that give and take a few bytes at a time, or fail.
 
 use mes_frame::{Limit, MemorySink, MemorySource, MemoryStop};
-use mes_run::{Detail, READS_MOST, convert, follow};
+use mes_run::{Detail, Ended, READS_MOST, convert, finish, follow};
 use mes_stream::Framing;
 use std::alloc::{AllocGlobal, Global};
 use std::process::Abort;
@@ -16,13 +16,13 @@ const LINES: &str = "1 HEARTBEAT\nevents 1 bytes 23\n";
 /// How many bytes the writer takes by one call.
 const WRITE_SIZE: usize = 5;
 
-/// Follows plain RecordIO under the usual limit, and answers the status.
+/// Follows plain RecordIO under the usual limit, and answers how that ended.
 fn followed(
     alloc: Global,
     detail: Detail,
     source: &mut MemorySource<'_>,
     out: &mut MemorySink,
-) -> u8 {
+) -> Ended {
     follow(
         alloc,
         detail,
@@ -38,8 +38,8 @@ fn followed(
 fn expect_lines<R: Abort + AllocGlobal>(rt: &R, detail: Detail, lines: &str, size: usize) {
     let mut source = MemorySource::new(HEARTBEAT.as_bytes(), size);
     let mut out = MemorySink::new(rt.alloc(), WRITE_SIZE);
-    let status = followed(rt.alloc(), detail, &mut source, &mut out);
-    assert_eq!(rt; (out.bytes(), status), (lines.as_bytes(), 0));
+    let ended = followed(rt.alloc(), detail, &mut source, &mut out);
+    assert_eq!(rt; (out.bytes(), ended), (lines.as_bytes(), Ended::Status(0)));
 }
 
 #[test]
@@ -54,8 +54,8 @@ fn records_are_read_by_pieces(rt: HostRuntime) {
 fn expect_failed_read<R: Abort + AllocGlobal>(rt: &R, detail: Detail, taken: usize, lines: &str) {
     let mut source = MemorySource::failing_after(HEARTBEAT.as_bytes(), 1, taken);
     let mut out = MemorySink::new(rt.alloc(), WRITE_SIZE);
-    let status = followed(rt.alloc(), detail, &mut source, &mut out);
-    assert_eq!(rt; (out.bytes(), status), (lines.as_bytes(), 1));
+    let ended = followed(rt.alloc(), detail, &mut source, &mut out);
+    assert_eq!(rt; (out.bytes(), ended), (lines.as_bytes(), Ended::Status(1)));
 }
 
 // The reader fails behind each front of the record, and behind all of it.
@@ -80,10 +80,10 @@ fn expect_cut<R: Abort + AllocGlobal>(
 ) {
     let mut source = MemorySource::new(HEARTBEAT.as_bytes(), 7);
     let mut out = MemorySink::stopping_after(rt.alloc(), WRITE_SIZE, good, stop);
-    let status = followed(rt.alloc(), detail, &mut source, &mut out);
+    let ended = followed(rt.alloc(), detail, &mut source, &mut out);
     assert_eq!(rt;
-        (Some(out.bytes()), status),
-        (lines.as_bytes().get(..good), 1)
+        (Some(out.bytes()), ended),
+        (lines.as_bytes().get(..good), Ended::OutputFailed(good as u64))
     );
 }
 
@@ -114,7 +114,7 @@ fn spent_reads_are_told(rt: HostRuntime) -> Result<(), Fail> {
         let mut out = MemorySink::new(rt.alloc(), WRITE_SIZE);
         let limit = Limit::USUAL;
         let framing = Framing::Plain;
-        let status = follow(
+        let ended = follow(
             rt.alloc(),
             Detail::Lines,
             framing,
@@ -125,7 +125,7 @@ fn spent_reads_are_told(rt: HostRuntime) -> Result<(), Fail> {
         );
         let shown = if max_reads == 23 { "1 HEARTBEAT\n" } else { "" };
         let lines = format!(in rt.alloc(); "{shown}fault F15 ReadsSpent after {max_reads}\n")?;
-        assert_eq!(rt; (out.bytes(), status), (lines.as_bytes(), 1));
+        assert_eq!(rt; (out.bytes(), ended), (lines.as_bytes(), Ended::Status(1)));
         assert_eq!(rt; source.counts().calls, max_reads);
     }
     Ok(())
@@ -138,8 +138,8 @@ fn a_stream_is_followed_by_few_reads(rt: HostRuntime) -> Result<(), Fail> {
     for _ in 0..100 {
         let mut source = MemorySource::new(bytes.as_slice(), usize::MAX);
         let mut out = MemorySink::new(rt.alloc(), usize::MAX);
-        let status = followed(rt.alloc(), Detail::Counts, &mut source, &mut out);
-        assert_eq!(rt; status, 0);
+        let ended = followed(rt.alloc(), Detail::Counts, &mut source, &mut out);
+        assert_eq!(rt; ended, Ended::Status(0));
         assert_eq!(rt; source.counts().calls, bytes.len().div_ceil(512) as u64 + 1);
         bytes.extend_from_slice(HEARTBEAT.as_bytes())?;
     }
@@ -155,10 +155,45 @@ fn nothing_is_read_behind_a_failed_output(rt: HostRuntime) -> Result<(), Fail> {
     }
     let mut source = MemorySource::new(bytes.as_slice(), usize::MAX);
     let mut out = MemorySink::stopping_after(rt.alloc(), WRITE_SIZE, 3, MemoryStop::Fails);
-    let status = followed(rt.alloc(), Detail::Lines, &mut source, &mut out);
-    assert_eq!(rt; status, 1);
+    let ended = followed(rt.alloc(), Detail::Lines, &mut source, &mut out);
+    assert_eq!(rt; ended, Ended::OutputFailed(3));
     assert_eq!(rt; source.counts().calls, 1);
     Ok(())
+}
+
+/// Shows the stream to a writer that takes all it is given, and answers how often that was called.
+fn writes_of_show(alloc: Global, bytes: &[u8]) -> u64 {
+    let mut source = MemorySource::new(bytes, usize::MAX);
+    let mut out = MemorySink::new(alloc, usize::MAX);
+    let _ended = followed(alloc, Detail::Lines, &mut source, &mut out);
+    out.counts().calls
+}
+
+// The lines of a read's events go out by one write: 22 of them end in the first 512 bytes. The last line is a write of its own.
+#[test]
+fn lines_go_out_by_few_writes(rt: HostRuntime) -> Result<(), Fail> {
+    let mut bytes = Vec::new(rt.alloc());
+    assert_eq!(rt; writes_of_show(rt.alloc(), bytes.as_slice()), 1);
+    for (records, writes) in [(1, 2), (22, 2), (23, 3), (45, 4)] {
+        while bytes.len() < records * HEARTBEAT.len() {
+            bytes.extend_from_slice(HEARTBEAT.as_bytes())?;
+        }
+        assert_eq!(rt; writes_of_show(rt.alloc(), bytes.as_slice()), writes);
+    }
+    Ok(())
+}
+
+/// Ends a run whose output failed behind 7 bytes, and asserts what is told.
+fn expect_told<R: Abort + AllocGlobal>(rt: &R, closed: bool, line: &str) {
+    let mut err = MemorySink::new(rt.alloc(), WRITE_SIZE);
+    let status = finish(Ended::OutputFailed(7), closed, &mut err);
+    assert_eq!(rt; (err.bytes(), status), (line.as_bytes(), 1));
+}
+
+#[test]
+fn an_output_that_failed_is_told(rt: HostRuntime) {
+    expect_told(&rt, false, "write failed after 7\n");
+    expect_told(&rt, true, "");
 }
 
 /// Converts the record into plain RecordIO, whose writer stops behind so many bytes, and asserts what is written and told.

@@ -1,11 +1,13 @@
 -- What the command does with its words, its input and its outputs.
-use Rattle.std.specs.Prelude.{◌≡◌, ◌⊎◌, ℕ, List, []}
+use Rattle.std.specs.Prelude.{◌≡◌, ◌⊎◌, ℕ, Bool, List, []}
 use Rattle.clap.specs.Words.{Text, IsAmong, fault_of, kind_of}
 use Rattle.clap.specs.declared.error.Error.{Error}
 use Rattle.mes_run.specs.Converting.{Converts}
 use Rattle.mes_frame.specs.Devices.{Device}
-use Rattle.mes_run.specs.Printing.{Prints, Checks, LacksMemory}
+use Rattle.mes_run.specs.Printing.{Prints, Checks, Finishes, LacksMemory}
 use Rattle.mes_run.specs.Showing.{Shows}
+use Rattle.mes_run.specs.declared.ended.Ended.{Ended}
+use Rattle.mes_run.specs.declared.ended.Ended.TheVariants.{Status}
 use Rattle.mes_run.specs.declared.limits.TheConstants.{READS_MOST}
 use Rattle.mesosev.specs.CommandLine.{command_app}
 use Rattle.mesosev.specs.NamedOptions.{IsInRange, LackValue, NameOptions, NameNoOptions}
@@ -14,19 +16,33 @@ use Rattle.mesosev.specs.declared.words.Options.{Options}
 use Rattle.mesosev.specs.declared.words.Options.TheVariants.{Check, Show, Convert}
 
 -- what the options name was done; `check` and `show` leave standard error as it was
-abbrev pub Performs : Options → Device → Device → Device → Device → Device → Device → ℕ → Type 0
-Performs (Check framing limit) input rest out printed err told status = Checks framing limit READS_MOST input rest out printed status × (told ≡ err)
-Performs (Show framing limit) input rest out printed err told status = Shows framing limit READS_MOST input rest out printed status × (told ≡ err)
-Performs (Convert framing limit most) input rest out printed err told status = Converts framing limit most input rest out printed err told status
+abbrev pub Performs : Options → Device → Device → Device → Device → Device → Device → Ended → Type 0
+Performs (Check framing limit) input rest out printed err told ended = Checks framing limit READS_MOST input rest out printed ended × (told ≡ err)
+Performs (Show framing limit) input rest out printed err told ended = Shows framing limit READS_MOST input rest out printed ended × (told ≡ err)
+Performs (Convert framing limit most) input rest out printed err told ended =
+    (status : ℕ) × Converts framing limit most input rest out printed err told status × (ended ≡ Status status)
+
+-- it was, or memory was refused
+abbrev pub PerformsSaid : Options → Device → Device → Device → Device → Device → Device → Ended → Type 0
+PerformsSaid options input rest out printed err told ended =
+    Performs options input rest out printed err told ended ⊎ (LacksMemory out printed ended × (told ≡ err))
 
 -- What became of the words: the options that they name were performed; or clap's error for them was told; or they name no
 -- options, which was told with the option that lacks a value; or memory was refused. What isn't named stays as it was.
-abbrev pub Runs : List Text → Device → Device → Device → Device → Device → Device → ℕ → Type 0
-Runs words input rest out printed err told status =
+abbrev pub Runs : List Text → Device → Device → Device → Device → Device → Device → Ended → Type 0
+Runs words input rest out printed err told ended =
     ((options : Options) × (fault_of command_app words ≡ []) × NameOptions words options × IsInRange options
-    × Performs options input rest out printed err told status)
+    × Performs options input rest out printed err told ended)
     ⊎ ((error : Error) × IsAmong (kind_of error) (fault_of command_app words)
-    × TellsError error out printed err told status × (rest ≡ input))
+    × TellsError error out printed err told ended × (rest ≡ input))
     ⊎ ((option : Text) × (fault_of command_app words ≡ []) × NameNoOptions words × LackValue words option
-    × Prints err told (bad_value_line option) 2 status × (printed ≡ out) × (rest ≡ input))
-    ⊎ (LacksMemory out printed status × (told ≡ err) × (rest ≡ input))
+    × Prints err told (bad_value_line option) 2 ended × (printed ≡ out) × (rest ≡ input))
+    ⊎ (LacksMemory out printed ended × (told ≡ err) × (rest ≡ input))
+
+-- what was done leaves standard error as it was
+abbrev pub LeavesError : (Ended → Type 0) → Device → Device → Ended → Type 0
+LeavesError Does err told ended = Does ended × (told ≡ err)
+
+-- That was done, and told on standard error up to there; and then an output that failed was told behind it, where it is not closed.
+abbrev pub Ends : (Device → Ended → Type 0) → Bool → Device → ℕ → Type 0
+Ends Does closed last status = (told : Device) × (ended : Ended) × Does told ended × Finishes closed told last ended status

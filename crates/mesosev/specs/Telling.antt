@@ -5,6 +5,7 @@ use Rattle.clap.specs.declared.error.Error.{Error}
 use Rattle.clap.specs.declared.error.kind.ErrorKind.TheVariants.{DisplayHelp, DisplayVersion}
 use Rattle.mes_frame.specs.Devices.{Device}
 use Rattle.mes_run.specs.Printing.{Prints, LacksMemory}
+use Rattle.mes_run.specs.declared.ended.Ended.{Ended}
 use Rattle.mesosev.specs.declared.words.WordsFault.{WordsFault}
 use Rattle.mesosev.specs.declared.words.WordsFault.TheVariants.{Clap, BadValue, NoMemory}
 
@@ -13,22 +14,22 @@ abbrev pub IsMistake : Error → Type 0
 IsMistake error = (kind_of error ≢ DisplayHelp) × (kind_of error ≢ DisplayVersion)
 
 -- an error of clap was told: a mistake on standard error with status 2, help on standard output with status 0
-abbrev pub TellsError : Error → Device → Device → Device → Device → ℕ → Type 0
-TellsError error out printed err told status =
-    (text : List ℕ) × ((IsMistake error × Prints err told text 2 status × (printed ≡ out))
-    ⊎ (¬ (IsMistake error) × Prints out printed text 0 status × (told ≡ err)))
+abbrev pub TellsError : Error → Device → Device → Device → Device → Ended → Type 0
+TellsError error out printed err told ended =
+    (text : List ℕ) × ((IsMistake error × Prints err told text 2 ended × (printed ≡ out))
+    ⊎ (¬ (IsMistake error) × Prints out printed text 0 ended × (told ≡ err)))
 
 -- the line of an option without a value in its range
 abbrev pub bad_value_line : List ℕ → List ℕ
 bad_value_line option = codes "bad value --" ++ (option ++ 10 ∷ [])
 
 -- why the words name no options, told
-abbrev pub Tells : WordsFault → Device → Device → Device → Device → ℕ → Type 0
-Tells (Clap error) out printed err told status =
-    TellsError error out printed err told status ⊎ (LacksMemory out printed status × (told ≡ err))
-Tells (BadValue option) out printed err told status =
-    (Prints err told (bad_value_line option.now) 2 status × (printed ≡ out)) ⊎ (LacksMemory out printed status × (told ≡ err))
-Tells NoMemory out printed err told status = LacksMemory out printed status × (told ≡ err)
+abbrev pub Tells : WordsFault → Device → Device → Device → Device → Ended → Type 0
+Tells (Clap error) out printed err told ended =
+    TellsError error out printed err told ended ⊎ (LacksMemory out printed ended × (told ≡ err))
+Tells (BadValue option) out printed err told ended =
+    (Prints err told (bad_value_line option.now) 2 ended × (printed ≡ out)) ⊎ (LacksMemory out printed ended × (told ≡ err))
+Tells NoMemory out printed err told ended = LacksMemory out printed ended × (told ≡ err)
 
 -- the line where a word is no text
 abbrev pub not_text_line : List ℕ

@@ -11,8 +11,8 @@ mod values;
 mod words;
 
 use mes_frame::FromStd;
-use mes_run::out_of_memory;
-use run::{run, tell_not_text};
+use mes_run::Output;
+use run::{end_without_memory, end_without_text, run};
 use std::env;
 use std::io::{BufReader, ErrorKind};
 use std::process::ExitCode;
@@ -21,23 +21,23 @@ use std::process::ExitCode;
 const READ_AHEAD: usize = 65_536;
 
 fn main(rt: HostRuntime) -> ExitCode {
-    let mut out = FromStd::new(rt.stdout());
+    let mut out = Output::new(FromStd::new(rt.stdout()));
     let mut err = FromStd::new(rt.stderr());
     let words = match env::args(&rt) {
         Ok(args) => args.collect::<Vec<String>>(rt.alloc()),
         Err(error) => {
             return ExitCode::from(if error.kind() == ErrorKind::OutOfMemory {
-                out_of_memory(&mut out)
+                end_without_memory(&mut out, &mut err)
             } else {
-                tell_not_text(&mut err)
+                end_without_text(&mut err)
             });
         }
     };
     let Ok(words) = words else {
-        return ExitCode::from(out_of_memory(&mut out));
+        return ExitCode::from(end_without_memory(&mut out, &mut err));
     };
     let Ok(input) = BufReader::with_capacity(rt.alloc(), READ_AHEAD, rt.stdin()) else {
-        return ExitCode::from(out_of_memory(&mut out));
+        return ExitCode::from(end_without_memory(&mut out, &mut err));
     };
     let mut input = FromStd::new(input);
     ExitCode::from(run(&rt, words.as_slice(), &mut input, &mut out, &mut err))

@@ -1,17 +1,20 @@
 //! The command: its words, its input, and what it prints.
 
 ghost use Rattle.mes_frame.specs.Devices.{device_of};
-ghost use Rattle.std.specs.Prelude.{◌≡◌, codes, ◌⊎◌, map};
+ghost use Rattle.std.specs.Prelude.{◌≡◌, codes, ◌⊎◌, false, map};
+ghost use Rattle.mes_run.specs.Outputs.{output_of};
 ghost use Rattle.mes_run.specs.Printing.{LacksMemory, Prints};
 ghost use Rattle.mesosev.specs.NamedOptions.{SayPlainly, IsInRange};
-ghost use Rattle.mesosev.specs.Running.{Performs, Runs};
+ghost use Rattle.mesosev.specs.Running.{Ends, LeavesError, Performs, PerformsSaid, Runs};
 ghost use Rattle.mesosev.specs.Telling.{Tells, TellsError, not_text_line};
 ghost use Rattle.mesosev.specs.declared.words.Options.{Options as OptionsValue};
 
 use crate::options::options;
 use crate::words::{LIMIT_DEFAULT, Options, WordsFault};
 use mes_frame::{Sink, Source};
-use mes_run::{Detail, GOOD, READS_MOST, convert, follow, out_of_memory, print_text};
+use mes_run::{
+    Detail, Ended, GOOD, Output, READS_MOST, convert, finish, follow, out_of_memory, print_text,
+};
 use std::alloc::{AllocGlobal, Global};
 use std::convert::AsStr;
 
@@ -21,34 +24,59 @@ const BAD_WORDS: u8 = 2;
 /// What is told where a word is not UTF-8.
 const NOT_TEXT: &str = "error: a word is not UTF-8\n";
 
-/// Runs the command and answers its exit status: 0 for a good run, 1 for a fault that was told in a line, or where an
-/// output failed, 2 for bad words. The first word is the program's name.
+/// Runs the command and answers its exit status: 0 for a good run, 1 for a fault that was told in a line, or where an output
+/// failed, 2 for bad words. The first word is the program's name. An output that failed is told on standard error too, where it is
+/// not closed.
 pub fn run<R: AllocGlobal, W: AsStr, I: Source, O: Sink, E: Sink>(
     rt: &R,
     words: &[W],
     input: &mut I,
-    out: &mut O,
+    out: &mut Output<O>,
     err: &mut E,
 ) -> u8
+    ensures runs { Ends (Runs (map W.text words.now)
+        (device_of I.left I.counts input.old) (device_of I.left I.counts input.new)
+        (output_of O.written O.counts out.old) (output_of O.written O.counts out.new)
+        (device_of E.written E.counts err.old))
+        out.new.closed (device_of E.written E.counts err.new) result }
+
+    // Words that name options plainly: they are performed, unless memory was refused.
+    ensures plain { (said : OptionsValue) → SayPlainly (map W.text words.now) said → IsInRange said
+        → Ends (PerformsSaid said
+        (device_of I.left I.counts input.old) (device_of I.left I.counts input.new)
+        (output_of O.written O.counts out.old) (output_of O.written O.counts out.new)
+        (device_of E.written E.counts err.old))
+        out.new.closed (device_of E.written E.counts err.new) result }
+
+    // The default of `--limit`; the other limits that the clauses name are pinned where they stand.
+    ensures limit { LIMIT_DEFAULT.now ≡ codes "4194304" }
+{
+    let ended = perform_words(rt.alloc(), words, input, out, err);
+    finish(ended, out.is_closed(), err)
+}
+
+// Does what the words name, or tells why they name nothing.
+fn perform_words<W: AsStr, I: Source, O: Sink, E: Sink>(
+    alloc: Global,
+    words: &[W],
+    input: &mut I,
+    out: &mut O,
+    err: &mut E,
+) -> Ended
     ensures runs { Runs (map W.text words.now)
         (device_of I.left I.counts input.old) (device_of I.left I.counts input.new)
         (device_of O.written O.counts out.old) (device_of O.written O.counts out.new)
         (device_of E.written E.counts err.old) (device_of E.written E.counts err.new)
         result }
 
-    // Words that name options plainly: they are performed, unless memory was refused.
+    // Words that name options plainly.
     ensures plain { (said : OptionsValue) → SayPlainly (map W.text words.now) said → IsInRange said
-        → Performs said
+        → PerformsSaid said
         (device_of I.left I.counts input.old) (device_of I.left I.counts input.new)
         (device_of O.written O.counts out.old) (device_of O.written O.counts out.new)
         (device_of E.written E.counts err.old) (device_of E.written E.counts err.new)
-        result
-        ⊎ LacksMemory (device_of O.written O.counts out.old) (device_of O.written O.counts out.new) result }
-
-    // The default of `--limit`; the other limits that the clauses name are pinned where they stand.
-    ensures limit { LIMIT_DEFAULT.now ≡ codes "4194304" }
+        result }
 {
-    let alloc = rt.alloc();
     match options(alloc, words) {
         Ok(options) => perform(alloc, &options, input, out, err),
         Err(fault) => tell(alloc, &fault, out, err),
@@ -62,7 +90,7 @@ fn perform<I: Source, O: Sink, E: Sink>(
     input: &mut I,
     out: &mut O,
     err: &mut E,
-) -> u8
+) -> Ended
     ensures { Performs options.now
         (device_of I.left I.counts input.old) (device_of I.left I.counts input.new)
         (device_of O.written O.counts out.old) (device_of O.written O.counts out.new)
@@ -96,19 +124,30 @@ fn perform<I: Source, O: Sink, E: Sink>(
             framing,
             limit,
             most,
-        } => convert(alloc, *framing, *limit, *most, input, out, err),
+        } => Ended::Status(convert(alloc, *framing, *limit, *most, input, out, err)),
     }
 }
 
-/// Tells on standard error that a word is no text, before any word is read.
-pub(crate) fn tell_not_text<E: Sink>(err: &mut E) -> u8
-    ensures { Prints (device_of E.written E.counts err.old) (device_of E.written E.counts err.new) not_text_line 2 result }
+/// Tells that memory was refused before any word was read, and answers the exit status.
+pub(crate) fn end_without_memory<O: Sink, E: Sink>(out: &mut Output<O>, err: &mut E) -> u8
+    ensures { Ends (LeavesError (LacksMemory (output_of O.written O.counts out.old) (output_of O.written O.counts out.new)) (device_of E.written E.counts err.old))
+        out.new.closed (device_of E.written E.counts err.new) result }
 {
-    print_text(err, NOT_TEXT, BAD_WORDS)
+    let ended = out_of_memory(out);
+    finish(ended, out.is_closed(), err)
+}
+
+/// Tells on standard error that a word is no text, before any word is read, and answers the exit status.
+pub(crate) fn end_without_text<E: Sink>(err: &mut E) -> u8
+    ensures { Ends (λ told ended. Prints (device_of E.written E.counts err.old) told not_text_line 2 ended)
+        false (device_of E.written E.counts err.new) result }
+{
+    let ended = print_text(err, NOT_TEXT, BAD_WORDS);
+    finish(ended, false, err)
 }
 
 /// Tells why the words name no options.
-fn tell<O: Sink, E: Sink>(alloc: Global, fault: &WordsFault, out: &mut O, err: &mut E) -> u8
+fn tell<O: Sink, E: Sink>(alloc: Global, fault: &WordsFault, out: &mut O, err: &mut E) -> Ended
     ensures { Tells fault.now
         (device_of O.written O.counts out.old) (device_of O.written O.counts out.new)
         (device_of E.written E.counts err.old) (device_of E.written E.counts err.new)
@@ -125,7 +164,7 @@ fn tell<O: Sink, E: Sink>(alloc: Global, fault: &WordsFault, out: &mut O, err: &
 }
 
 /// Tells an error of clap: help on standard output, a mistake on standard error.
-fn tell_error<O: Sink, E: Sink>(alloc: Global, error: &clap::Error, out: &mut O, err: &mut E) -> u8
+fn tell_error<O: Sink, E: Sink>(alloc: Global, error: &clap::Error, out: &mut O, err: &mut E) -> Ended
     ensures { TellsError error.now
         (device_of O.written O.counts out.old) (device_of O.written O.counts out.new)
         (device_of E.written E.counts err.old) (device_of E.written E.counts err.new)

@@ -1,21 +1,15 @@
-use Rattle.std.proofs.Common.{arith}
 use Rattle.mes_frame.specs.Devices.{device_of}
-use Rattle.mes_run.proofs.ShowLemmas.{one_more, one_fault}
+use Rattle.mes_run.proofs.HoldLemmas.{sends_shown, sends_not}
 use Rattle.mes_run.proofs.following.show_events.Goals as goal
 
-pub returns-in-Err : goal.returns-in-Err
-returns-in-Err g c = λ n is.
-    one_fault (device_of g.O.Sink.written g.O.Sink.counts c.args.out.now)
-    (device_of g.O.Sink.written g.O.Sink.counts c.loop-event.out)
-    (device_of g.O.Sink.written g.O.Sink.counts c.show_event.new.out)
-    c.args.events.now c.event-item.result c.loop-event.event-index n c.loop-event.number c.in-Err.why c.loop-event-test.true c.event-item.is (c.loop-event.invariant n is).1
-    (c.loop-event.invariant n is).0 c.in-Err.ensures
+pub returns-in-Ok-flush-clause-ok : goal.returns-in-Ok-flush-clause-ok
+returns-in-Ok-flush-clause-ok g c = λ n is.
+    sends_shown c.args.lines.now c.hold_events.new.lines c.flush.new.self (device_of g.O.Sink.written g.O.Sink.counts c.args.out.now)
+    (device_of g.O.Sink.written g.O.Sink.counts c.hold_events.new.out) (device_of g.O.Sink.written g.O.Sink.counts c.flush.new.out) n c.args.events.now c.in-Ok.shown (c.in-Ok.ensures.ok n is)
+    c.in-Ok-flush.ensures.ok c.in-Ok-flush.ensures.ok_held
 
-pub loop-event-preserved : goal.loop-event-preserved
-loop-event-preserved g c = λ n is. let before = c.loop-event.invariant n is in (
-  one_more (device_of g.O.Sink.written g.O.Sink.counts c.args.out.now)
-      (device_of g.O.Sink.written g.O.Sink.counts c.loop-event.out)
-      (device_of g.O.Sink.written g.O.Sink.counts c.show_event.new.out)
-      c.args.events.now c.event-item.result c.loop-event.event-index n c.loop-event.number c.loop-event-test.true c.event-item.is before.1 before.0 c.in_default.ensures,
-  omega (arith, c.saturating_add-number.ensures, before.1),
-)
+pub returns-in-Err-flush-clause-err : goal.returns-in-Err-flush-clause-err
+returns-in-Err-flush-clause-err g c = λ n is.
+    sends_not c.args.lines.now c.hold_events.new.lines (device_of g.O.Sink.written g.O.Sink.counts c.args.out.now)
+    (device_of g.O.Sink.written g.O.Sink.counts c.hold_events.new.out) (device_of g.O.Sink.written g.O.Sink.counts c.flush.new.out) n c.args.events.now c.in-Ok.shown c.in-Err-flush.fault (c.in-Ok.ensures.ok n is)
+    c.in-Err-flush.ensures.err

@@ -1,6 +1,9 @@
-use Rattle.std.proofs.Common.{map}
-use Rattle.mesosev.proofs.CommandLemmas.{told_words}
+use Rattle.mes_frame.specs.Devices.{device_of}
 use Rattle.mesosev.proofs.run.run.Goals as goal
 
-pub returns-in-Err-clause-runs : goal.returns-in-Err-clause-runs
-returns-in-Err-clause-runs g c = told_words (map g.W.AsStr.text c.args.words.now) c.in-Err.fault _ _ _ _ _ _ c.in-Err.ensures.err c.tell.ensures
+pub returns-clause-runs : goal.returns-clause-runs
+returns-clause-runs g c = (device_of g.E.Sink.written g.E.Sink.counts c.perform_words-ended.new.err, c.perform_words-ended.result, c.perform_words-ended.ensures.runs, rw c.is_closed.ensures at c.finish.ensures)
+
+pub returns-clause-plain : goal.returns-clause-plain
+returns-clause-plain g c = λ said plainly range.
+    (device_of g.E.Sink.written g.E.Sink.counts c.perform_words-ended.new.err, c.perform_words-ended.result, c.perform_words-ended.ensures.plain said plainly range, rw c.is_closed.ensures at c.finish.ensures)
