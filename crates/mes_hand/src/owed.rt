@@ -1,5 +1,5 @@
 //! The updates whose acknowledgement is owed.
-ghost use Rattle.std.specs.Prelude.{◌≡◌, ◌↔◌, not, [], length, slice_get, option_copied, IsTrue, OnOk, OnErr};
+ghost use Rattle.std.specs.Prelude.{◌≡◌, ◌↔◌, not, [], length, slice_get, option_copied, IsTrue, OnOk, OnErr, false};
 ghost use Rattle.mes_hand.specs.Held.{same_key, is_owed, with_key, without_key};
 
 use indexmap::IndexSet;
@@ -76,6 +76,7 @@ impl Owed {
     pub fn add(&mut self, key: OwedKey) -> Result<(), NoMemory>
         ensures ok { OnOk result (self.new ≡ with_key self.old key) }
         ensures err { OnErr result (self.new ≡ self.old) }
+        ensures absent { OnErr result (is_owed key self.old ≡ false) }
     {
         self.keys.insert(key)?;
         Ok(())

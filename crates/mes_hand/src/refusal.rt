@@ -4,7 +4,8 @@ use mes_json::NoMemory;
 /// Why a session refuses a call, in the order in which the reasons are looked for.
 #[derive(Clone, Copy, Debug, PartialEq, Eq)]
 pub enum Refusal {
-    /// S1: no SUBSCRIBED was heard since the stream broke, or the call names another framework.
+    /// S1: no SUBSCRIBED was heard since the stream broke, or the call names another framework. A SUBSCRIBE needs no stream: of it S1 is
+    /// told only where a framework is known and it names another.
     NotSubscribed,
     /// S2: an ACCEPT or a DECLINE names an offer twice, or an ACCEPT a task.
     NamedTwice,

@@ -1,5 +1,5 @@
 //! Whether an identifier stands twice.
-ghost use Rattle.std.specs.Prelude.{◌≡◌, ◌++◌, false};
+ghost use Rattle.std.specs.Prelude.{◌≡◌, ◌++◌, false, bytes_eq};
 ghost use Rattle.std.specs.List.{list_any};
 ghost use Rattle.mes_fit.specs.Launched.{launched};
 ghost use Rattle.mes_hand.specs.Refusals.{stands_twice, ids_of, stands_in};
@@ -8,11 +8,21 @@ ghost use Rattle.mes_hand.specs.Looking.{is_task};
 use mes_fit::Launches;
 use mes_model::{Id, TaskInfo};
 
+/// Whether two identifiers are one. Their lengths and their last bytes are compared first: identifiers that were made by counting differ
+/// there, and each of a call is compared with each.
+fn is_same(id: &Id, other: &Id) -> bool
+    ensures { result ≡ bytes_eq id.now.value other.now.value }
+{
+    let id = id.value.as_str().as_bytes();
+    let other = other.value.as_str().as_bytes();
+    id.len() == other.len() && id.last() == other.last() && id == other
+}
+
 /// Whether the identifier is one of these.
 fn stands_in(ids: &[Id], id: &Id) -> bool
     ensures { result ≡ stands_in id.now ids.now }
 {
-    ids.iter().any(|other| id == other)
+    ids.iter().any(|other| is_same(id, other))
 }
 
 /// Whether one of the identifiers stands twice.
@@ -31,7 +41,7 @@ pub(crate) fn stands_twice(ids: &[Id]) -> bool
 fn tasks_have(tasks: &[TaskInfo], id: &Id) -> bool
     ensures { result ≡ list_any (is_task id.now) tasks.now }
 {
-    tasks.iter().any(|task| id == &task.task_id)
+    tasks.iter().any(|task| is_same(id, &task.task_id))
 }
 
 /// Whether a task of the groups has the identifier.

@@ -1,8 +1,8 @@
 -- What an entry of each kind leaves, and what a session stands for then.
-use Rattle.std.proofs.Common.{Result, Ok, Err, IfOk, IfErr, OnOk, ◌≡◌, ℕ, zero, suc, Bool, true, false, not, ◌⊎◌, inl, inr, Option, Some, None, IfSome, List, [], ◌∷◌, ◌++◌, slice_get, refl, sym, ◌∙◌, ap, subst, arith}
+use Rattle.std.proofs.Common.{Result, Ok, Err, IfOk, IfErr, OnOk, ◌≡◌, ℕ, zero, suc, Bool, true, false, not, ◌⊎◌, inl, inr, Option, Some, None, IfSome, List, [], ◌∷◌, ◌++◌, slice_get, refl, sym, ◌∙◌, ap, subst, arith, is_some, IsTrue, ◌↔◌}
 use Rattle.std.specs.List.{filter, fold}
 use Rattle.std.specs.Option.{option_or, option_to_list}
-use Rattle.mes_task.specs.Owed.{owed_key_of}
+use Rattle.mes_task.specs.Owed.{owed_key_of, Owes}
 use Rattle.mes_resource.specs.declared.id.Id.{Id}
 use Rattle.mes_offer.specs.declared.offer.Offer.{Offer}
 use Rattle.mes_task.specs.declared.owed_key.OwedKey.{OwedKey}
@@ -93,6 +93,13 @@ module _ (s t : Held) (same : s ≡ t) {T E : Type 0} where
 
 pub unowed-next : (s : Held) (b : Update) (found : Option OwedKey) → found ≡ None → found ≡ owed_key_of b.status → s ≡ after s (Heard (heard.Update b))
 unowed-next s b found is k = updated-next s s refl b None s.owed (sym is ∙ k) refl
+
+pub unowing-next : (s : Held) (b : Update) (owes : Bool) → (IsTrue owes ↔ Owes b.status) → owes ≡ false → s ≡ after s (Heard (heard.Update b))
+unowing-next s b owes same never = go (owed_key_of b.status) refl
+  where
+    go : (found : Option OwedKey) → found ≡ owed_key_of b.status → s ≡ after s (Heard (heard.Update b))
+    go None k = unowed-next s b None refl k
+    go (Some key) k = let owed : Owes b.status = ap is_some (sym k) in let answered : owes ≡ true = same.1 owed in absurd (cc)
 
 -- ---- an event that neither brings nor takes anything
 

@@ -6,10 +6,11 @@ use Rattle.std.specs.Str.{bytes_eq}
 use Rattle.mes_resource.specs.declared.id.Id.{Id}
 use Rattle.mes_offer.specs.declared.offer.Offer.{Offer}
 use Rattle.mes_task.specs.declared.owed_key.OwedKey.{OwedKey}
-use Rattle.mes_task.specs.Owed.{owed_key_of}
+use Rattle.mes_task.specs.Owed.{owed_key_of, Owes}
 use Rattle.mes_call.specs.declared.call.Call.{Call}
 use Rattle.mes_msg.specs.declared.entry.Entry.{Entry}
 use Rattle.mes_msg.specs.declared.entry.Entry.TheVariants.{Heard, Said, Broken}
+use Rattle.mes_event.specs.declared.event.Event.{Event}
 use Rattle.mes_event.specs.declared.event.Event.TheVariants as heard
 use Rattle.mes_hand.specs.Keeping.{put}
 use Rattle.mes_hand.specs.Held.{Held, name_of, same_key}
@@ -123,9 +124,16 @@ RefusedAfter h call fault = (s : Held) × StandsFor h s × IsRefused s call faul
 abbrev pub IsLegal : List Entry → Type 0
 IsLegal h = (i : ℕ) (call : Call) (fault : Refusal) → slice_get h i ≡ Some (Said call) → RefusedAfter (take i h) call fault → ⊥
 
--- An entry that is not taken after a history: a call that is refused, as it is told; or an event, where memory is.
+-- An event takes memory where something of it is kept: the framework of a SUBSCRIBED, offers, the key that an UPDATE owes.
+abbrev pub NeedsMemory : Event → Type 0
+NeedsMemory (heard.Subscribed s) = Unit {0}
+NeedsMemory (heard.Offers offers) = Unit {0}
+NeedsMemory (heard.Update u) = Owes u.status
+NeedsMemory _ = ⊥
+
+-- An entry that is not taken after a history: a call that is refused, as it is told; or an event that needs memory, where that is.
 abbrev pub IsStopped : List Entry → Entry → Refusal → Type 0
-IsStopped h (Heard event) told = told ≡ NoMemory
+IsStopped h (Heard event) told = (told ≡ NoMemory) × NeedsMemory event
 IsStopped h (Said call) told = (fault : Refusal) × (told ≡ as_told fault) × RefusedAfter h call fault
 IsStopped h Broken told = ⊥
 

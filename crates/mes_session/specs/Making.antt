@@ -12,7 +12,7 @@ use Rattle.mes_hand.specs.declared.refusal.Refusal.{Refusal}
 use Rattle.mes_hand.specs.declared.refusal.Refusal.TheVariants.{NoMemory}
 use Rattle.mes_hand.specs.Held.{Held}
 use Rattle.mes_hand.specs.Refusals.{Answers, IsOwn}
-use Rattle.mes_session.specs.History.{after, StandsNext}
+use Rattle.mes_session.specs.History.{after, StandsNext, NeedsMemory}
 
 -- ---- calls by what is told in them
 
@@ -64,8 +64,8 @@ Passes held (Heard event) = Unit {0}
 Passes held (Said call) = Answers held call None
 Passes held Broken = Unit {0}
 
--- one that is not: an event where memory is refused, or a call with something to be said against it
+-- one that is not: an event that needs memory, where that is refused, or a call with something to be said against it
 abbrev pub IsTurnedAway : Held → Entry → Refusal → Type 0
-IsTurnedAway held (Heard event) told = told ≡ NoMemory
+IsTurnedAway held (Heard event) told = (told ≡ NoMemory) × NeedsMemory event
 IsTurnedAway held (Said call) told = Answers held call (Some told)
 IsTurnedAway held Broken told = ⊥

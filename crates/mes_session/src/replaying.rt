@@ -8,13 +8,13 @@ use mes_msg::Entry;
 use std::alloc::Global;
 
 /// The session that a history leads to; or the number of entries in front of the first call that is refused, and why it is. S8 comes at
-/// an event, where memory is refused.
+/// an event that needs memory, where that is refused.
 pub fn replay(alloc: Global, entries: &[Entry]) -> Result<Session, (usize, Refusal)>
     // Ok: no call is refused, and the session stands for the history.
     ensures legal { IfOk result (λ _. IsLegal entries.now) }
     ensures stands { IfOk result (λ session. StandsFor entries.now session) }
 
-    // Err: the first call that is refused; or an event, where memory was refused and no call in front is.
+    // Err: the first call that is refused; or an event that needs memory, where that was refused and no call in front is.
     ensures err { IfErr result (λ stop. StopsAt entries.now stop.0 stop.1) }
 {
     let mut session = Session::new(alloc);

@@ -3,7 +3,8 @@ ghost use Rattle.std.specs.Prelude.{◌≡◌, None, Some, [], length, slice_get
 ghost use Rattle.mes_msg.specs.declared.entry.Entry.TheVariants.{Heard, Said, Broken};
 ghost use Rattle.mes_hand.specs.Held.{offer_in};
 ghost use Rattle.mes_hand.specs.Refusals.{Answers};
-ghost use Rattle.mes_session.specs.History.{StandsFor, StandsNext, at_first, after};
+ghost use Rattle.mes_task.specs.Owed.{Owes};
+ghost use Rattle.mes_session.specs.History.{StandsFor, StandsNext, at_first, after, NeedsMemory};
 ghost use Rattle.mes_session.specs.Making.{Applied, Passes, IsTurnedAway};
 
 use mes_hand::{Hand, Owed, Refusal, Standing};
@@ -104,14 +105,16 @@ impl Session {
     /// Hears an event. SUBSCRIBED sets the framework and empties the hand; OFFERS brings its offers, of two with one identifier the
     /// last; RESCIND takes an offer out, if it is there; UPDATE owes its key, where its status owes one.
     ///
-    /// S8 alone is answered, where memory is refused: then nothing has changed.
+    /// S8 alone is answered, where memory is refused: then nothing has changed. Only SUBSCRIBED, OFFERS and an UPDATE that owes an
+    /// acknowledgement take memory.
     pub fn heard(&mut self, event: &Event) -> Result<(), Refusal>
         // Ok: it is as the event leaves it.
         ensures next { OnOk result (self.new ≡ after self.old (Heard event.now)) }
         ensures stands { OnOk result (StandsNext (Heard event.now) self.old self.new) }
 
-        // Err: want of memory.
+        // Err: want of memory, of an event that needs it.
         ensures err { IfErr result (λ refusal. refusal ≡ Refusal.NoMemory) }
+        ensures needs { OnErr result (NeedsMemory event.now) }
         ensures same { OnErr result (self.new ≡ self.old) }
     {
         self.take_in(event)?;
@@ -160,6 +163,7 @@ impl Session {
     /// Hears an event.
     fn take_in(&mut self, event: &Event) -> Result<(), NoMemory>
         ensures next { OnOk result (self.new ≡ after self.old (Heard event.now)) }
+        ensures needs { OnErr result (NeedsMemory event.now) }
         ensures same { OnErr result (self.new ≡ self.old) }
     {
         match event {
@@ -208,8 +212,12 @@ impl Session {
     /// Hears an UPDATE.
     fn updated(&mut self, body: &Update) -> Result<(), NoMemory>
         ensures next { OnOk result (self.new ≡ after self.old (Heard (Event.Update body.now))) }
+        ensures needs { OnErr result (Owes body.now.status) }
         ensures same { OnErr result (self.new ≡ self.old) }
     {
+        if !body.status.owes() {
+            return Ok(());
+        }
         match body.status.owed_key(self.alloc)? {
             Some(key) => self.owed.add(key),
             None => Ok(()),

@@ -76,6 +76,21 @@ M {"type":"ACCEPT","framework_id":{"value":"F1"},"accept":{"offer_ids":[{"value"
 M {"type":"ACCEPT","framework_id":{"value":"F1"},"accept":{}} => same | F1 on O1=h ;
 "#;
 
+/// Tasks of two operations of one ACCEPT are counted over both; what is to be filtered goes with the call.
+const OPERATIONS: &str =
+    r#"E {"type":"SUBSCRIBED","subscribed":{"framework_id":{"value":"F1"}}} => ok | F1 on ;
+E {"type":"OFFERS","offers":{"offers":[{"id":{"value":"O1"},"framework_id":{"value":"F1"},"agent_id":{"value":"A1"},"hostname":"h","resources":[{"name":"cpus","type":"SCALAR","scalar":{"value":1.0}}]},{"id":{"value":"O2"},"framework_id":{"value":"F1"},"agent_id":{"value":"A1"},"hostname":"h","resources":[{"name":"cpus","type":"SCALAR","scalar":{"value":0.5}}]}]}} => ok | F1 on O1=h O2=h ;
+C {"type":"ACCEPT","framework_id":{"value":"F1"},"accept":{"offer_ids":[{"value":"O1"}],"operations":[{"type":"LAUNCH","launch":{"task_infos":[{"name":"t","task_id":{"value":"T1"},"agent_id":{"value":"A1"}}]}},{"type":"LAUNCH","launch":{"task_infos":[{"name":"t","task_id":{"value":"T2"},"agent_id":{"value":"A2"}}]}}]}} => S5 1 | F1 on O1=h O2=h ;
+C {"type":"ACCEPT","framework_id":{"value":"F1"},"accept":{"offer_ids":[{"value":"O1"}],"operations":[{"type":"LAUNCH","launch":{"task_infos":[{"name":"t","task_id":{"value":"T1"},"agent_id":{"value":"A1"}},{"name":"t","task_id":{"value":"T2"},"agent_id":{"value":"A1"}}]}},{"type":"LAUNCH","launch":{"task_infos":[{"name":"t","task_id":{"value":"T3"},"agent_id":{"value":"A1"}},{"name":"t","task_id":{"value":"T4"},"agent_id":{"value":"A2"}}]}}]}} => S5 3 | F1 on O1=h O2=h ;
+C {"type":"ACCEPT","framework_id":{"value":"F1"},"accept":{"offer_ids":[{"value":"O1"}],"operations":[{"type":"LAUNCH","launch":{"task_infos":[{"name":"t","task_id":{"value":"T1"},"agent_id":{"value":"A1"},"resources":[{"name":"cpus","type":"SCALAR","scalar":{"value":0.5}}]}]}},{"type":"LAUNCH","launch":{"task_infos":[{"name":"t","task_id":{"value":"T2"},"agent_id":{"value":"A1"},"resources":[{"name":"cpus","type":"SCALAR","scalar":{"value":0.6}}]}]}}]}} => S6 0 0 | F1 on O1=h O2=h ;
+C {"type":"ACCEPT","framework_id":{"value":"F1"},"accept":{"offer_ids":[{"value":"O1"}],"operations":[{"type":"LAUNCH","launch":{"task_infos":[{"name":"t","task_id":{"value":"T1"},"agent_id":{"value":"A1"}}]}},{"type":"LAUNCH","launch":{"task_infos":[{"name":"t","task_id":{"value":"T2"},"agent_id":{"value":"A1"},"resources":[{"name":"cpus","type":"SCALAR","scalar":{"value":1.5}}]}]}}]}} => S6 1 0 | F1 on O1=h O2=h ;
+C {"type":"ACCEPT","framework_id":{"value":"F1"},"accept":{"offer_ids":[{"value":"O1"}],"operations":[{"type":"LAUNCH","launch":{"task_infos":[{"name":"t","task_id":{"value":"T1"},"agent_id":{"value":"A1"}}]}},{"type":"LAUNCH","launch":{"task_infos":[{"name":"t","task_id":{"value":"T1"},"agent_id":{"value":"A1"}}]}}]}} => S2 | F1 on O1=h O2=h ;
+C {"type":"ACCEPT","framework_id":{"value":"F1"},"accept":{"offer_ids":[{"value":"O1"},{"value":"O2"}],"operations":[{"type":"LAUNCH","launch":{"task_infos":[{"name":"t","task_id":{"value":"T1"},"agent_id":{"value":"A1"},"resources":[{"name":"cpus","type":"SCALAR","scalar":{"value":1.0}}]}]}},{"type":"LAUNCH","launch":{"task_infos":[{"name":"t","task_id":{"value":"T2"},"agent_id":{"value":"A1"},"resources":[{"name":"cpus","type":"SCALAR","scalar":{"value":0.5}}]}]}}]}} => ok | F1 on ;
+E {"type":"OFFERS","offers":{"offers":[{"id":{"value":"O1"},"framework_id":{"value":"F1"},"agent_id":{"value":"A1"},"hostname":"h","resources":[{"name":"cpus","type":"SCALAR","scalar":{"value":1.0}}]},{"id":{"value":"O2"},"framework_id":{"value":"F1"},"agent_id":{"value":"A1"},"hostname":"h","resources":[{"name":"cpus","type":"SCALAR","scalar":{"value":0.5}}]}]}} => ok | F1 on O1=h O2=h ;
+M {"type":"ACCEPT","framework_id":{"value":"F1"},"accept":{"offer_ids":[{"value":"O1"}],"operations":[{"type":"LAUNCH","launch":{"task_infos":[{"name":"t","task_id":{"value":"T3"},"agent_id":{"value":"A1"}}]}}],"filters":{"refuse_seconds":7.5}}} => same | F1 on O2=h ;
+M {"type":"DECLINE","framework_id":{"value":"F1"},"decline":{"offer_ids":[{"value":"O2"}],"filters":{"refuse_seconds":0.25}}} => same | F1 on ;
+"#;
+
 /// A DECLINE may name offers of several agents.
 const TWO_AGENTS: &str =
     r#"E {"type":"SUBSCRIBED","subscribed":{"framework_id":{"value":"F1"}}} => ok | F1 on ;
@@ -86,37 +101,27 @@ M {"type":"DECLINE","framework_id":{"value":"F1"},"decline":{"offer_ids":[{"valu
 /// An update is owed until it is acknowledged, and again where it comes again; one without a uuid never is.
 const ACKNOWLEDGED: &str =
     r#"E {"type":"SUBSCRIBED","subscribed":{"framework_id":{"value":"F1"}}} => ok | F1 on ;
-E {"type":"UPDATE","update":{"status":{"task_id":{"value":"T1"},"state":"TASK_RUNNING","agent_id":{"value":"A1"},"uuid":"AAECAwQFBgcICQoLDA0ODw=="}}} => ok | F1 on ; T1
+E {"type":"UPDATE","update":{"status":{"task_id":{"value":"T1"},"state":"TASK_RUNNING","agent_id":{"value":"A1"},"uuid":"AAECAwQFBgcICQoLDA0ODw=="}}} => ok | F1 on ; A1/T1/000102030405060708090a0b0c0d0e0f
 M {"type":"ACKNOWLEDGE","framework_id":{"value":"F1"},"acknowledge":{"agent_id":{"value":"A1"},"task_id":{"value":"T1"},"uuid":"AAECAwQFBgcICQoLDA0ODw=="}} => same | F1 on ;
 C {"type":"ACKNOWLEDGE","framework_id":{"value":"F1"},"acknowledge":{"agent_id":{"value":"A1"},"task_id":{"value":"T1"},"uuid":"AAECAwQFBgcICQoLDA0ODw=="}} => S7 | F1 on ;
 M {"type":"ACKNOWLEDGE","framework_id":{"value":"F1"},"acknowledge":{"agent_id":{"value":"A1"},"task_id":{"value":"T1"},"uuid":"AAECAwQFBgcICQoLDA0ODw=="}} => S7 | F1 on ;
-E {"type":"UPDATE","update":{"status":{"task_id":{"value":"T1"},"state":"TASK_RUNNING","agent_id":{"value":"A1"},"uuid":"AAECAwQFBgcICQoLDA0ODw=="}}} => ok | F1 on ; T1
+E {"type":"UPDATE","update":{"status":{"task_id":{"value":"T1"},"state":"TASK_RUNNING","agent_id":{"value":"A1"},"uuid":"AAECAwQFBgcICQoLDA0ODw=="}}} => ok | F1 on ; A1/T1/000102030405060708090a0b0c0d0e0f
 C {"type":"ACKNOWLEDGE","framework_id":{"value":"F1"},"acknowledge":{"agent_id":{"value":"A1"},"task_id":{"value":"T1"},"uuid":"AAECAwQFBgcICQoLDA0ODw=="}} => ok | F1 on ;
 E {"type":"UPDATE","update":{"status":{"task_id":{"value":"T1"},"state":"TASK_RUNNING","agent_id":{"value":"A1"}}}} => ok | F1 on ;
 E {"type":"UPDATE","update":{"status":{"task_id":{"value":"T1"},"state":"TASK_RUNNING","agent_id":{"value":"A1"},"uuid":""}}} => ok | F1 on ;
 "#;
 
 #[test]
-fn before_a_subscribed_only_subscribe(rt: HostRuntime) -> Result<(), Fail> {
-    expect_script(&rt, BEFORE)
-}
-
-#[test]
-fn plain_calls_name_the_framework(rt: HostRuntime) -> Result<(), Fail> {
-    expect_script(&rt, PLAIN)
-}
-
-#[test]
-fn tasks_are_launched_on_offers(rt: HostRuntime) -> Result<(), Fail> {
-    expect_script(&rt, LAUNCHES)
-}
-
-#[test]
-fn offers_of_two_agents_are_declined(rt: HostRuntime) -> Result<(), Fail> {
-    expect_script(&rt, TWO_AGENTS)
-}
-
-#[test]
-fn updates_are_acknowledged(rt: HostRuntime) -> Result<(), Fail> {
-    expect_script(&rt, ACKNOWLEDGED)
+fn calls_as_they_are_made(rt: HostRuntime) -> Result<(), Fail> {
+    for script in [
+        BEFORE,
+        PLAIN,
+        LAUNCHES,
+        OPERATIONS,
+        TWO_AGENTS,
+        ACKNOWLEDGED,
+    ] {
+        expect_script(&rt, script)?;
+    }
+    Ok(())
 }

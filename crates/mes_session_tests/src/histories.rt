@@ -23,14 +23,18 @@ E {"type":"OFFERS","offers":{"offers":[]}} => ok | F2 on ;
 /// What is owed outlives a SUBSCRIBED and a break, in the order in which it came.
 const OWED: &str =
     r#"E {"type":"SUBSCRIBED","subscribed":{"framework_id":{"value":"F1"}}} => ok | F1 on ;
-E {"type":"UPDATE","update":{"status":{"task_id":{"value":"T1"},"state":"TASK_RUNNING","agent_id":{"value":"A1"},"uuid":"AAECAwQFBgcICQoLDA0ODw=="}}} => ok | F1 on ; T1
-E {"type":"UPDATE","update":{"status":{"task_id":{"value":"T2"},"state":"TASK_RUNNING","agent_id":{"value":"A1"},"uuid":"AAECAwQFBgcICQoLDA0ODw=="}}} => ok | F1 on ; T1 T2
-E {"type":"UPDATE","update":{"status":{"task_id":{"value":"T1"},"state":"TASK_RUNNING","agent_id":{"value":"A1"},"uuid":"AAECAwQFBgcICQoLDA0ODw=="}}} => ok | F1 on ; T1 T2
-E {"type":"SUBSCRIBED","subscribed":{"framework_id":{"value":"F1"}}} => ok | F1 on ; T1 T2
-B => ok | F1 off ; T1 T2
-E {"type":"SUBSCRIBED","subscribed":{"framework_id":{"value":"F1"}}} => ok | F1 on ; T1 T2
-C {"type":"ACKNOWLEDGE","framework_id":{"value":"F1"},"acknowledge":{"agent_id":{"value":"A1"},"task_id":{"value":"T1"},"uuid":"AAECAwQFBgcICQoLDA0ODw=="}} => ok | F1 on ; T2
-E {"type":"UPDATE","update":{"status":{"task_id":{"value":"T1"},"state":"TASK_RUNNING","agent_id":{"value":"A1"},"uuid":"AAECAwQFBgcICQoLDA0ODw=="}}} => ok | F1 on ; T2 T1
+E {"type":"UPDATE","update":{"status":{"task_id":{"value":"T1"},"state":"TASK_RUNNING","agent_id":{"value":"A1"},"uuid":"AAECAwQFBgcICQoLDA0ODw=="}}} => ok | F1 on ; A1/T1/000102030405060708090a0b0c0d0e0f
+E {"type":"UPDATE","update":{"status":{"task_id":{"value":"T2"},"state":"TASK_RUNNING","agent_id":{"value":"A1"},"uuid":"AAECAwQFBgcICQoLDA0ODw=="}}} => ok | F1 on ; A1/T1/000102030405060708090a0b0c0d0e0f A1/T2/000102030405060708090a0b0c0d0e0f
+E {"type":"UPDATE","update":{"status":{"task_id":{"value":"T1"},"state":"TASK_RUNNING","agent_id":{"value":"A1"},"uuid":"AAECAwQFBgcICQoLDA0ODw=="}}} => ok | F1 on ; A1/T1/000102030405060708090a0b0c0d0e0f A1/T2/000102030405060708090a0b0c0d0e0f
+E {"type":"SUBSCRIBED","subscribed":{"framework_id":{"value":"F1"}}} => ok | F1 on ; A1/T1/000102030405060708090a0b0c0d0e0f A1/T2/000102030405060708090a0b0c0d0e0f
+B => ok | F1 off ; A1/T1/000102030405060708090a0b0c0d0e0f A1/T2/000102030405060708090a0b0c0d0e0f
+E {"type":"SUBSCRIBED","subscribed":{"framework_id":{"value":"F1"}}} => ok | F1 on ; A1/T1/000102030405060708090a0b0c0d0e0f A1/T2/000102030405060708090a0b0c0d0e0f
+C {"type":"ACKNOWLEDGE","framework_id":{"value":"F1"},"acknowledge":{"agent_id":{"value":"A1"},"task_id":{"value":"T1"},"uuid":"AAECAwQFBgcICQoLDA0ODw=="}} => ok | F1 on ; A1/T2/000102030405060708090a0b0c0d0e0f
+E {"type":"UPDATE","update":{"status":{"task_id":{"value":"T1"},"state":"TASK_RUNNING","agent_id":{"value":"A1"},"uuid":"AAECAwQFBgcICQoLDA0ODw=="}}} => ok | F1 on ; A1/T2/000102030405060708090a0b0c0d0e0f A1/T1/000102030405060708090a0b0c0d0e0f
+E {"type":"UPDATE","update":{"status":{"task_id":{"value":"T1"},"state":"TASK_RUNNING","agent_id":{"value":"A2"},"uuid":"AAECAwQFBgcICQoLDA0ODw=="}}} => ok | F1 on ; A1/T2/000102030405060708090a0b0c0d0e0f A1/T1/000102030405060708090a0b0c0d0e0f A2/T1/000102030405060708090a0b0c0d0e0f
+E {"type":"UPDATE","update":{"status":{"task_id":{"value":"T1"},"state":"TASK_RUNNING","agent_id":{"value":"A1"},"uuid":"/wA="}}} => ok | F1 on ; A1/T2/000102030405060708090a0b0c0d0e0f A1/T1/000102030405060708090a0b0c0d0e0f A2/T1/000102030405060708090a0b0c0d0e0f A1/T1/ff00
+M {"type":"ACKNOWLEDGE","framework_id":{"value":"F1"},"acknowledge":{"agent_id":{"value":"A1"},"task_id":{"value":"T1"},"uuid":"AAECAwQFBgcICQoLDA0ODw=="}} => same | F1 on ; A1/T2/000102030405060708090a0b0c0d0e0f A2/T1/000102030405060708090a0b0c0d0e0f A1/T1/ff00
+C {"type":"ACKNOWLEDGE","framework_id":{"value":"F1"},"acknowledge":{"agent_id":{"value":"A2"},"task_id":{"value":"T1"},"uuid":"AAECAwQFBgcICQoLDA0ODw=="}} => ok | F1 on ; A1/T2/000102030405060708090a0b0c0d0e0f A1/T1/ff00
 "#;
 
 /// A history of which no call is refused.
@@ -58,20 +62,23 @@ C {"type":"REVIVE","framework_id":{"value":"F1"}}
 "#;
 
 #[test]
-fn offers_keep_their_places(rt: HostRuntime) -> Result<(), Fail> {
-    expect_script(&rt, HAND)
-}
-
-#[test]
-fn what_is_owed_stays(rt: HostRuntime) -> Result<(), Fail> {
-    expect_script(&rt, OWED)
-}
-
-#[test]
 fn histories_are_replayed(rt: HostRuntime) -> Result<(), Fail> {
-    expect_replay(&rt, "", "- off ;")?;
-    expect_replay(&rt, "B", "- off ;")?;
-    expect_replay(&rt, LEGAL, "F1 on O2=g ; T1")?;
-    expect_replay(&rt, REFUSED, "5 S3 1")?;
-    expect_replay(&rt, LOST, "2 S1")
+    for (history, expected) in [
+        ("", "- off ;"),
+        ("B", "- off ;"),
+        (LEGAL, "F1 on O2=g ; A1/T1/000102030405060708090a0b0c0d0e0f"),
+        (REFUSED, "5 S3 1"),
+        (LOST, "2 S1"),
+    ] {
+        expect_replay(&rt, history, expected)?;
+    }
+    Ok(())
+}
+
+#[test]
+fn histories_entry_by_entry(rt: HostRuntime) -> Result<(), Fail> {
+    for script in [HAND, OWED] {
+        expect_script(&rt, script)?;
+    }
+    Ok(())
 }

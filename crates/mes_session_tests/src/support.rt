@@ -3,12 +3,15 @@
 //! A line is `WHAT => ANSWER | HELD`. What is done is one of these: `E` and an event that is heard; `C` and a call that is said; `M` and
 //! a call that the session is asked to make; `B`, the stream breaks. The answer is `ok` or the refusal; of a call that was made `same`,
 //! or its canonical text where that is another. What is held then is told by the calls that only look: the framework or `-`, `on` or
-//! `off`, the offers in hand, each with its host, and `;` with the tasks of the updates that are owed.
+//! `off`, the offers in hand, each with its host, and `;` with the keys of the updates that are owed: the agent, the task, and the uuid in hexadecimal digits.
 //!
 //! A value that is read lives in a small function of its own: it makes each later step of its function dear to check.
 
 use mes_model::{OwedKey, Part, TaskInfo};
-use mes_msg::{Accept, Acknowledge, Call, Entry, Event, Limit, Operation};
+use mes_msg::{
+    Accept, Acknowledge, Call, Decline, Entry, Event, Kill, Limit, Message, Operation, Reconcile,
+    Shutdown, Subscribe,
+};
 use mes_session::{Refusal, Session, replay};
 use std::alloc::Global;
 use std::process::Abort;
@@ -61,37 +64,70 @@ fn tasks_of(body: &Accept) -> &[TaskInfo] {
     }
 }
 
-/// Asks for an ACKNOWLEDGE of a key that stands in another.
-fn acknowledge(alloc: Global, session: &mut Session, body: &Acknowledge) -> Result<Call, Refusal> {
+/// The key that an ACKNOWLEDGE tells.
+fn key_of(alloc: Global, body: &Acknowledge) -> Result<OwedKey, Refusal> {
     let agent = body.agent_id.copy(alloc)?;
     let task = body.task_id.copy(alloc)?;
     let uuid = body.uuid.copy(alloc)?;
-    let key = OwedKey { agent, task, uuid };
+    Ok(OwedKey { agent, task, uuid })
+}
+
+/// Asks for an ACKNOWLEDGE like another.
+fn acknowledge(alloc: Global, session: &mut Session, body: &Acknowledge) -> Result<Call, Refusal> {
+    let key = key_of(alloc, body)?;
     session.acknowledge(&key)
+}
+
+/// Asks for an ACCEPT like another.
+fn accept(session: &mut Session, body: &Accept) -> Result<Call, Refusal> {
+    let ids = body.offer_ids.as_slice();
+    session.accept(ids, tasks_of(body), body.filters.as_ref())
+}
+
+/// Asks for a DECLINE like another.
+fn decline(session: &mut Session, body: &Decline) -> Result<Call, Refusal> {
+    session.decline(body.offer_ids.as_slice(), body.filters.as_ref())
+}
+
+/// Asks for a KILL like another.
+fn kill(session: &mut Session, body: &Kill) -> Result<Call, Refusal> {
+    session.kill(&body.task_id, body.agent_id.as_ref())
+}
+
+/// Asks for a MESSAGE like another.
+fn message(session: &mut Session, body: &Message) -> Result<Call, Refusal> {
+    session.message(&body.agent_id, &body.executor_id, body.payload.as_slice())
+}
+
+/// Asks for a SUBSCRIBE like another.
+fn subscribe(session: &mut Session, body: &Subscribe) -> Result<Call, Refusal> {
+    session.subscribe(&body.framework_info)
+}
+
+/// Asks for a RECONCILE like another.
+fn reconcile(session: &mut Session, body: &Reconcile) -> Result<Call, Refusal> {
+    session.reconcile(body.tasks.as_slice())
+}
+
+/// Asks for a SHUTDOWN like another.
+fn shutdown(session: &mut Session, body: &Shutdown) -> Result<Call, Refusal> {
+    session.shutdown(&body.executor_id, &body.agent_id)
 }
 
 /// Asks for a call made of what stands in another.
 fn make(alloc: Global, session: &mut Session, call: &Call) -> Result<Call, Refusal> {
     match call {
-        Call::Subscribe { body, .. } => session.subscribe(&body.framework_info),
-        Call::Accept { body, .. } => session.accept(
-            body.offer_ids.as_slice(),
-            tasks_of(body),
-            body.filters.as_ref(),
-        ),
-        Call::Decline { body, .. } => {
-            session.decline(body.offer_ids.as_slice(), body.filters.as_ref())
-        }
+        Call::Subscribe { body, .. } => subscribe(session, body),
+        Call::Accept { body, .. } => accept(session, body),
+        Call::Decline { body, .. } => decline(session, body),
         Call::Revive { .. } => session.revive(),
-        Call::Kill { body, .. } => session.kill(&body.task_id, body.agent_id.as_ref()),
+        Call::Kill { body, .. } => kill(session, body),
         Call::Acknowledge { body, .. } => acknowledge(alloc, session, body),
-        Call::Reconcile { body, .. } => session.reconcile(body.tasks.as_slice()),
+        Call::Reconcile { body, .. } => reconcile(session, body),
         Call::Teardown { .. } => session.teardown(),
         Call::Suppress { .. } => session.suppress(),
-        Call::Shutdown { body, .. } => session.shutdown(&body.executor_id, &body.agent_id),
-        Call::Message { body, .. } => {
-            session.message(&body.agent_id, &body.executor_id, body.payload.as_slice())
-        }
+        Call::Shutdown { body, .. } => shutdown(session, body),
+        Call::Message { body, .. } => message(session, body),
     }
 }
 
@@ -152,38 +188,67 @@ fn step(alloc: Global, session: &mut Session, line: &str) -> Result<String, Fail
     }
 }
 
+/// The host of the offer in hand of an identifier.
+fn host_of<'a>(session: &'a Session, id: &str) -> Result<&'a str, Fail> {
+    let offer = session.offer(id).ok_or("an offer of this identifier")?;
+    Ok(offer.hostname.as_str())
+}
+
 /// The offers in hand, each with its host, found by its place and by its identifier.
 fn hand_in_words(alloc: Global, session: &Session) -> Result<String, Fail> {
     let mut text = String::new(alloc);
     for index in 0..session.hand_len() {
         let offer = session.hand_at(index).ok_or("an offer in hand")?;
         let id = offer.id.value.as_str();
-        let found = session.offer(id).ok_or("an offer of this identifier")?;
         text.push_str(" ")?;
         text.push_str(id)?;
         text.push_str("=")?;
-        text.push_str(found.hostname.as_str())?;
+        text.push_str(host_of(session, id)?)?;
     }
     Ok(text)
 }
 
-/// The tasks of the updates that are owed.
+/// The agent, the task and the uuid of a key, the last in hexadecimal digits.
+fn key_in_words(alloc: Global, key: &OwedKey) -> Result<String, Fail> {
+    let agent = key.agent.value.as_str();
+    let task = key.task.value.as_str();
+    let mut text = format!(in alloc; " {agent}/{task}/")?;
+    for byte in key.uuid.as_slice() {
+        let digits = format!(in alloc; "{byte:02x}")?;
+        text.push_str(digits.as_str())?;
+    }
+    Ok(text)
+}
+
+/// The keys of the updates that are owed.
 fn owed_in_words(alloc: Global, session: &Session) -> Result<String, Fail> {
     let mut text = String::new(alloc);
     for index in 0..session.owed_len() {
         let key = session.owed_at(index).ok_or("a key that is owed")?;
-        text.push_str(" ")?;
-        text.push_str(key.task.value.as_str())?;
+        let words = key_in_words(alloc, key)?;
+        text.push_str(words.as_str())?;
     }
     Ok(text)
 }
 
-/// What a session holds, in words.
-fn held_in_words(alloc: Global, session: &Session) -> Result<String, Fail> {
-    let framework = match session.framework() {
+/// The framework, or `-`.
+fn framework_in_words(session: &Session) -> &str {
+    match session.framework() {
         Some(id) => id.value.as_str(),
         None => "-",
-    };
+    }
+}
+
+/// Whether nothing stands behind the last offer and the last key, nor under an identifier that no offer has.
+fn ends(session: &Session) -> bool {
+    session.hand_at(session.hand_len()).is_none()
+        && session.owed_at(session.owed_len()).is_none()
+        && session.offer("none").is_none()
+}
+
+/// What a session holds, in words.
+fn held_in_words(alloc: Global, session: &Session) -> Result<String, Fail> {
+    let framework = framework_in_words(session);
     let stream = if session.connected() { "on" } else { "off" };
     let hand = hand_in_words(alloc, session)?;
     let owed = owed_in_words(alloc, session)?;
@@ -208,7 +273,7 @@ fn expect_line<R: Abort + AllocGlobal>(
     assert_eq!(rt; told.as_str(), answer, "{what}");
     let left = held_in_words(rt.alloc(), session)?;
     assert_eq!(rt; left.as_str(), held, "{what}");
-    assert!(rt; session.offer("none").is_none());
+    assert!(rt; ends(session), "{what}");
     Ok(())
 }
 

@@ -1,5 +1,8 @@
-use Rattle.mes_session.proofs.SessionLemmas.{updated-ok, unowed-next}
+use Rattle.mes_session.proofs.SessionLemmas.{updated-ok, unowed-next, unowing-next}
 use Rattle.mes_session.proofs.session.Session.updated.Goals as goal
+
+pub returns-then-not-owes-clause-next : goal.returns-then-not-owes-clause-next
+returns-then-not-owes-clause-next c = unowing-next c.args.self.now c.args.body.now c.owes.result c.owes.ensures c.if-not-owes.true
 
 pub returns-in-Some-clause-next : goal.returns-in-Some-clause-next
 returns-in-Some-clause-next c =
