@@ -1,8 +1,9 @@
 //! Requests: their heads, the shapes by which one is smuggled, and their bodies.
 
-use crate::support::{CALL, CALL_LINES, answer_of, bytes_of, row_of};
-use mes_frame::{MemorySource, Source};
-use mes_http::{Request, read_request};
+use crate::support::{
+    CALL, CALL_LINES, Reads, answered, bytes_of, expect_breaks, expect_rows, gives, leaves, row_of,
+};
+use mes_frame::MemorySource;
 use std::alloc::AllocGlobal;
 use std::process::Abort;
 use std::test::Fail;
@@ -80,17 +81,7 @@ const BYTES: [(&str, &str); 7] = [
 
 #[test]
 fn the_first_fault_is_told(rt: HostRuntime) -> Result<(), Fail> {
-    for line in FAULTS.lines() {
-        let (lines, expected) = row_of(line)?;
-        let bytes = bytes_of(rt.alloc(), lines, CALL)?;
-        let mut source = MemorySource::new(bytes.as_slice(), 64);
-        assert_eq!(rt;
-            answer_of(&read_request(rt.alloc(), &mut source)),
-            expected,
-            "{lines}"
-        );
-    }
-    Ok(())
+    expect_rows(&rt, Reads::Request, FAULTS, CALL)
 }
 
 const FRONT: &str = "POST /api/v1/scheduler HTTP/1.1|Host: h|Content-Type: application/json|";
@@ -111,21 +102,12 @@ fn expect_shape<R: Abort + AllocGlobal>(rt: &R, lines: &str, expected: &str) -> 
     let mut bytes = bytes_of(rt.alloc(), FRONT, b"")?;
     bytes.extend_from_slice(bytes_of(rt.alloc(), lines, b"\r\n\r\n")?.as_slice())?;
     bytes.extend_from_slice(CALL)?;
-    let mut source = MemorySource::new(bytes.as_slice(), 64);
     assert_eq!(rt;
-        answer_of(&read_request(rt.alloc(), &mut source)),
+        answered(rt.alloc(), Reads::Request, bytes.as_slice()),
         expected,
         "{lines}"
     );
     Ok(())
-}
-
-/// The stream that a request names, where it is one.
-fn stream_of(request: &Request) -> &str {
-    match &request.stream {
-        Some(id) => id.as_str(),
-        None => "-",
-    }
 }
 
 #[test]
@@ -134,64 +116,47 @@ fn a_body_is_taken_exactly(rt: HostRuntime) -> Result<(), Fail> {
     bytes.extend_from_slice(b"XY")?;
     for most in [1, 7, 4096] {
         let mut source = MemorySource::new(bytes.as_slice(), most);
-        let request = read_request(rt.alloc(), &mut source)
-            .ok()
-            .ok_or("a request")?;
-        assert_eq!(rt; request.body.as_slice(), CALL);
-        assert_eq!(rt; stream_of(&request), "s1");
-        let mut buffer = [0; 8];
-        assert_eq!(rt; source.fetch(&mut buffer)?, most.min(2));
-        assert_eq!(rt; buffer[0], b'X');
+        assert!(rt; gives(rt.alloc(), &mut source, CALL, "s1"), "{most}");
+        assert!(rt;
+            leaves(&mut source, if most == 1 { b"X" } else { b"XY" })?,
+            "{most}"
+        );
     }
     Ok(())
 }
 
+/// The lines of requests, and how many bytes their bodies have.
+const BODIES: [(&str, usize); 2] = [
+    (
+        "POST /api/v1/scheduler HTTP/1.1|Content-Type: application/json|Content-Length: 00||",
+        0,
+    ),
+    (
+        "POST /api/v1/scheduler HTTP/1.1|Content-Type: application/json|Content-Length: 1048576||",
+        1_048_576,
+    ),
+];
+
 #[test]
 fn a_body_may_be_empty_and_large(rt: HostRuntime) -> Result<(), Fail> {
-    let lines =
-        "POST /api/v1/scheduler HTTP/1.1|Content-Type: application/json|Content-Length: 00||";
-    let bytes = bytes_of(rt.alloc(), lines, b"X")?;
-    let mut source = MemorySource::new(bytes.as_slice(), 64);
-    let request = read_request(rt.alloc(), &mut source)
-        .ok()
-        .ok_or("a request")?;
-    assert_eq!(rt; request.body.len(), 0);
-    assert_eq!(rt; stream_of(&request), "-");
-    let lines =
-        "POST /api/v1/scheduler HTTP/1.1|Content-Type: application/json|Content-Length: 1048576||";
-    let mut bytes = bytes_of(rt.alloc(), lines, b"")?;
-    bytes.resize(bytes.len() + 1_048_576, b'a')?;
-    let mut source = MemorySource::new(bytes.as_slice(), 100_000);
-    let request = read_request(rt.alloc(), &mut source)
-        .ok()
-        .ok_or("a request")?;
-    assert_eq!(rt; request.body.len(), 1_048_576);
+    for (lines, size) in BODIES {
+        let mut body = Vec::new(rt.alloc());
+        body.resize(size, b'a')?;
+        let mut bytes = bytes_of(rt.alloc(), lines, body.as_slice())?;
+        bytes.push(b'X')?;
+        let mut source = MemorySource::new(bytes.as_slice(), 100_000);
+        assert!(rt;
+            gives(rt.alloc(), &mut source, body.as_slice(), "-"),
+            "{size}"
+        );
+    }
     Ok(())
 }
 
-/// A reader that fails is H1, in the body too; one that ends is H3 in the head and H12 in the body.
 #[test]
 fn requests_break_off(rt: HostRuntime) -> Result<(), Fail> {
     let bytes = bytes_of(rt.alloc(), CALL_LINES, CALL)?;
     let head = bytes.len().saturating_sub(CALL.len());
-    for good in 0..bytes.len() {
-        let mut failing = MemorySource::failing_after(bytes.as_slice(), 5, good);
-        assert_eq!(rt;
-            answer_of(&read_request(rt.alloc(), &mut failing)),
-            "H1 Read",
-            "{good}"
-        );
-        let mut ending = MemorySource::new(&bytes[..good], 5);
-        let expected = if good < head {
-            "H3 BadHead"
-        } else {
-            "H12 ShortBody"
-        };
-        assert_eq!(rt;
-            answer_of(&read_request(rt.alloc(), &mut ending)),
-            expected,
-            "{good}"
-        );
-    }
+    expect_breaks(&rt, Reads::Request, bytes.as_slice(), head);
     Ok(())
 }

@@ -1,9 +1,11 @@
 //! Heads of answers.
 
-use crate::support::{ACCEPTED_LINES, OK_LINES, answer_of, bytes_of, row_of};
+use crate::support::{
+    ACCEPTED_LINES, OK_LINES, Reads, asked, bytes_of, expect_breaks, expect_rows, leaves,
+};
 use arrayvec::ArrayString;
-use mes_frame::{MemorySource, Source};
-use mes_http::{HEAD_FAULT_MOST, HeadFault, StreamId, read_answer, read_head};
+use mes_frame::MemorySource;
+use mes_http::{HEAD_FAULT_MOST, HeadFault, StreamId, read_head};
 use std::alloc::AllocGlobal;
 use std::process::Abort;
 use std::test::Fail;
@@ -39,17 +41,6 @@ HTTP/1.1 200 OK|A: b| c|| => H3 BadHead
 HTTP/1.1 200 OK| => H3 BadHead
  => H3 BadHead";
 
-#[test]
-fn heads_open_streams(rt: HostRuntime) -> Result<(), Fail> {
-    for line in HEADS.lines() {
-        let (lines, expected) = row_of(line)?;
-        let bytes = bytes_of(rt.alloc(), lines, b"")?;
-        let mut source = MemorySource::new(bytes.as_slice(), 64);
-        assert_eq!(rt; answer_of(&read_head(&mut source)), expected, "{lines}");
-    }
-    Ok(())
-}
-
 /// Heads of answers to other calls, and what `read_answer` answers.
 const ANSWERS: &str = "HTTP/1.1 202 Accepted|Content-Length: 0|Connection: close|| => ok
 HTTP/1.1 202|| => ok
@@ -60,14 +51,17 @@ HTTP/1.1 042 Low|| => H3 BadHead
 HTTP/1.1 202 Accepted| => H3 BadHead";
 
 #[test]
-fn answers_accept(rt: HostRuntime) -> Result<(), Fail> {
-    for line in ANSWERS.lines() {
-        let (lines, expected) = row_of(line)?;
-        let bytes = bytes_of(rt.alloc(), lines, b"")?;
-        let mut source = MemorySource::new(bytes.as_slice(), 64);
-        assert_eq!(rt; answer_of(&read_answer(&mut source)), expected, "{lines}");
+fn heads_of_answers_are_taken(rt: HostRuntime) -> Result<(), Fail> {
+    expect_rows(&rt, Reads::Head, HEADS, b"")?;
+    expect_rows(&rt, Reads::Answer, ANSWERS, b"")
+}
+
+/// Whether the source gives a head that opens the stream of this id.
+fn opens(source: &mut MemorySource<'_>, stream: &str) -> bool {
+    match read_head(source) {
+        Ok(id) => id.as_str() == stream,
+        Err(_) => false,
     }
-    Ok(())
 }
 
 /// The stream's id is the field's, and the body behind the head is left.
@@ -75,75 +69,75 @@ fn answers_accept(rt: HostRuntime) -> Result<(), Fail> {
 fn a_head_is_taken_alone(rt: HostRuntime) -> Result<(), Fail> {
     let bytes = bytes_of(rt.alloc(), OK_LINES, b"XY")?;
     let mut source = MemorySource::new(bytes.as_slice(), 64);
-    let id = read_head(&mut source).map(|id| id.as_str() == "s1");
-    assert_eq!(rt; id.ok(), Some(true));
-    expect_left(&rt, &mut source, b"XY")?;
+    assert!(rt; opens(&mut source, "s1"));
+    assert!(rt; leaves(&mut source, b"XY")?);
     let bytes = bytes_of(rt.alloc(), ACCEPTED_LINES, b"XY")?;
     let mut source = MemorySource::new(bytes.as_slice(), 64);
-    assert_eq!(rt; read_answer(&mut source), Ok(()));
-    expect_left(&rt, &mut source, b"XY")
-}
-
-fn expect_left<R: Abort>(rt: &R, source: &mut MemorySource<'_>, left: &[u8]) -> Result<(), Fail> {
-    let mut buffer = [0; 8];
-    let count = source.fetch(&mut buffer)?;
-    assert_eq!(rt; &buffer[..count], left);
+    assert_eq!(rt; asked(rt.alloc(), Reads::Answer, &mut source), "ok");
+    assert!(rt; leaves(&mut source, b"XY")?);
     Ok(())
 }
 
-/// A reader that fails in a head is H1, one that ends there H3, wherever in it.
 #[test]
 fn heads_break_off(rt: HostRuntime) -> Result<(), Fail> {
-    let bytes = bytes_of(rt.alloc(), OK_LINES, b"")?;
-    for good in 0..bytes.len() {
-        let mut failing = MemorySource::failing_after(bytes.as_slice(), 64, good);
-        assert_eq!(rt; answer_of(&read_head(&mut failing)), "H1 Read", "{good}");
-        let mut ending = MemorySource::new(&bytes[..good], 64);
-        assert_eq!(rt; answer_of(&read_head(&mut ending)), "H3 BadHead", "{good}");
-    }
-    let bytes = bytes_of(rt.alloc(), ACCEPTED_LINES, b"")?;
-    for good in 0..bytes.len() {
-        let mut failing = MemorySource::failing_after(bytes.as_slice(), 64, good);
-        assert_eq!(rt; answer_of(&read_answer(&mut failing)), "H1 Read", "{good}");
-        let mut ending = MemorySource::new(&bytes[..good], 64);
-        assert_eq!(rt;
-            answer_of(&read_answer(&mut ending)),
-            "H3 BadHead",
-            "{good}"
-        );
+    for (reads, lines) in [(Reads::Head, OK_LINES), (Reads::Answer, ACCEPTED_LINES)] {
+        let bytes = bytes_of(rt.alloc(), lines, b"")?;
+        expect_breaks(&rt, reads, bytes.as_slice(), bytes.len());
     }
     Ok(())
 }
 
-#[test]
-fn a_status_is_told(rt: HostRuntime) -> Result<(), Fail> {
-    let bytes = bytes_of(rt.alloc(), "HTTP/1.1 403 Forbidden||", b"")?;
-    let mut source = MemorySource::new(bytes.as_slice(), 1);
-    let mut text = ArrayString::<HEAD_FAULT_MOST>::new();
-    if let Err(fault) = &read_head(&mut source) {
+/// The text of the fault of these bytes, empty where they are a head.
+fn text_of(bytes: &[u8]) -> ArrayString<HEAD_FAULT_MOST> {
+    let mut text = ArrayString::new();
+    if let Err(fault) = &read_head(&mut MemorySource::new(bytes, 1)) {
         fault.text(&mut text);
     }
-    assert_eq!(rt; text.as_str(), "H4 Status 403");
-    HeadFault::NoStreamId.text(&mut text);
-    assert_eq!(rt; text.as_str(), "H7 NoStreamId");
-    HeadFault::ShortBody.text(&mut text);
-    assert_eq!(rt; text.as_str(), "H12 ShortBody");
-    Ok(())
+    text
 }
+
+fn expect_text<R: Abort>(rt: &R, fault: &HeadFault, expected: &str) {
+    let mut text = ArrayString::new();
+    fault.text(&mut text);
+    assert_eq!(rt; text.as_str(), expected);
+}
+
+#[test]
+fn a_status_is_told(rt: HostRuntime) {
+    assert_eq!(rt;
+        text_of(b"HTTP/1.1 403 Forbidden\r\n\r\n").as_str(),
+        "H4 Status 403"
+    );
+    expect_text(&rt, &HeadFault::NoStreamId, "H7 NoStreamId");
+    expect_text(&rt, &HeadFault::ShortBody, "H12 ShortBody");
+}
+
+fn is_an_id(text: &str) -> bool {
+    StreamId::new(text).is_some()
+}
+
+/// Texts, and whether each is a stream's id; the last two have 128 and 129 bytes.
+const IDS: [(&str, bool); 7] = [
+    ("", false),
+    ("a b", false),
+    ("é", false),
+    ("\u{7f}", false),
+    ("!~", true),
+    (
+        "0123456789abcdef0123456789abcdef0123456789abcdef0123456789abcdef0123456789abcdef0123456789abcdef0123456789abcdef0123456789abcdef",
+        true,
+    ),
+    (
+        "0123456789abcdef0123456789abcdef0123456789abcdef0123456789abcdef0123456789abcdef0123456789abcdef0123456789abcdef0123456789abcdefX",
+        false,
+    ),
+];
 
 #[test]
 fn stream_ids_have_a_form(rt: HostRuntime) {
-    assert!(rt; StreamId::new("").is_none());
-    assert!(rt; StreamId::new("a b").is_none());
-    assert!(rt; StreamId::new("é").is_none());
-    assert!(rt; StreamId::new("\u{7f}").is_none());
-    assert!(rt; StreamId::new("!~").is_some());
-    let long =
-        "0123456789abcdef0123456789abcdef0123456789abcdef0123456789abcdef0123456789abcdef0123456789abcdef0123456789abcdef0123456789abcdef";
-    assert!(rt; StreamId::new(long).is_some());
-    let longer =
-        "0123456789abcdef0123456789abcdef0123456789abcdef0123456789abcdef0123456789abcdef0123456789abcdef0123456789abcdef0123456789abcdefX";
-    assert!(rt; StreamId::new(longer).is_none());
+    for (text, is_one) in IDS {
+        assert_eq!(rt; is_an_id(text), is_one, "{text}");
+    }
 }
 
 #[test]

@@ -1,10 +1,7 @@
 //! Heads as widespread software writes them: calls by clients and through a proxy, answers by a master and through a proxy. Each was
 //! captured on a loopback socket, but that of Mesos, which stands in the documentation of its scheduler API.
 
-use crate::support::{answer_of, bytes_of, row_of};
-use mes_frame::MemorySource;
-use mes_http::{read_answer, read_head, read_request};
-use std::alloc::AllocGlobal;
+use crate::support::{Reads, expect_rows};
 use std::test::Fail;
 
 /// Calls: curl 7.88, Python's requests 2.34 and urllib, aiohttp 3.8, node 20 (`http` and `fetch`), wget 1.21, and nginx 1.22 between,
@@ -36,38 +33,8 @@ HTTP/1.1 202 Accepted|Server: nginx/1.22.1|Date: Wed, 25 Nov 2026 19:45:24 GMT|C
 HTTP/1.1 503 Service Unavailable|Server: nginx/1.22.1|Content-Type: text/html|Content-Length: 197|| => H4 Status";
 
 #[test]
-fn calls_of_clients_are_taken(rt: HostRuntime) -> Result<(), Fail> {
-    for line in CALLS.lines() {
-        let (lines, expected) = row_of(line)?;
-        let bytes = bytes_of(rt.alloc(), lines, b"{}")?;
-        let mut source = MemorySource::new(bytes.as_slice(), 64);
-        assert_eq!(rt;
-            answer_of(&read_request(rt.alloc(), &mut source)),
-            expected,
-            "{lines}"
-        );
-    }
-    Ok(())
-}
-
-#[test]
-fn streams_of_masters_are_opened(rt: HostRuntime) -> Result<(), Fail> {
-    for line in STREAMS.lines() {
-        let (lines, expected) = row_of(line)?;
-        let bytes = bytes_of(rt.alloc(), lines, b"")?;
-        let mut source = MemorySource::new(bytes.as_slice(), 64);
-        assert_eq!(rt; answer_of(&read_head(&mut source)), expected, "{lines}");
-    }
-    Ok(())
-}
-
-#[test]
-fn answers_of_masters_are_taken(rt: HostRuntime) -> Result<(), Fail> {
-    for line in ANSWERS.lines() {
-        let (lines, expected) = row_of(line)?;
-        let bytes = bytes_of(rt.alloc(), lines, b"")?;
-        let mut source = MemorySource::new(bytes.as_slice(), 64);
-        assert_eq!(rt; answer_of(&read_answer(&mut source)), expected, "{lines}");
-    }
-    Ok(())
+fn heads_of_software_are_taken(rt: HostRuntime) -> Result<(), Fail> {
+    expect_rows(&rt, Reads::Request, CALLS, b"{}")?;
+    expect_rows(&rt, Reads::Head, STREAMS, b"")?;
+    expect_rows(&rt, Reads::Answer, ANSWERS, b"")
 }

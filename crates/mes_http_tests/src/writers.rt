@@ -1,131 +1,162 @@
 //! Heads and calls that are written: their texts, and what went out where the writer stops.
 
-use crate::support::{ACCEPTED_LINES, CALL, CALL_LINES, OK_LINES, bytes_of};
+use crate::support::{ACCEPTED_LINES, CALL, CALL_LINES, OK_LINES, bytes_of, gives};
 use http::StatusCode;
 use mes_frame::{MemorySink, MemorySource, MemoryStop, WriteFault, WriteWhy};
-use mes_http::{StreamId, read_request, write_call, write_ok, write_status};
+use mes_http::{StreamId, write_call, write_ok, write_status};
 use mes_msg::{Call, EncodeWhy, SendFault};
 use std::alloc::{AllocError, AllocGlobal, Global};
+use std::process::Abort;
 use std::test::Fail;
 
-fn some_stream() -> Result<StreamId, Fail> {
-    Ok(StreamId::new("s1").ok_or("a stream's id")?)
+/// What is written.
+#[derive(Clone, Copy)]
+enum Written<'a> {
+    /// The head before a stream of this id.
+    Stream(&'a str),
+    /// The head of an answer with this status.
+    Status(u16),
+    /// The call of this text, for a stream of this id or for none, to the host of the examples.
+    Call(Option<&'a str>, &'a [u8]),
+}
+
+fn write_stream(sink: &mut MemorySink, id: &str) -> Result<(), SendFault> {
+    match StreamId::new(id) {
+        Some(id) => Ok(write_ok(sink, &id)?),
+        None => Err(SendFault::NoMemory),
+    }
+}
+
+fn write_code(sink: &mut MemorySink, code: u16) -> Result<(), SendFault> {
+    match StatusCode::from_u16(code) {
+        Ok(status) => Ok(write_status(sink, status)?),
+        Err(_) => Err(SendFault::NoMemory),
+    }
+}
+
+fn write_text(
+    alloc: Global,
+    sink: &mut MemorySink,
+    id: Option<&str>,
+    text: &[u8],
+) -> Result<(), SendFault> {
+    let stream = id.and_then(StreamId::new);
+    match Call::read_record(alloc, text) {
+        Ok(call) => write_call(alloc, sink, "127.0.0.1:5050", stream.as_ref(), &call),
+        Err(_) => Err(SendFault::NoMemory),
+    }
+}
+
+fn write(alloc: Global, sink: &mut MemorySink, what: Written<'_>) -> Result<(), SendFault> {
+    match what {
+        Written::Stream(id) => write_stream(sink, id),
+        Written::Status(code) => write_code(sink, code),
+        Written::Call(id, text) => write_text(alloc, sink, id, text),
+    }
+}
+
+/// A writer that takes all gets these bytes; one that stops behind so many of them gets those, and so it is told.
+fn expect_written<R: Abort + AllocGlobal>(
+    rt: &R,
+    what: Written<'_>,
+    stop: MemoryStop,
+    why: WriteWhy,
+    expected: &[u8],
+) {
+    let mut whole = MemorySink::new(rt.alloc(), 7);
+    assert_eq!(rt; write(rt.alloc(), &mut whole, what), Ok(()));
+    assert_eq!(rt; whole.bytes(), expected);
+    for good in 0..expected.len() {
+        let mut sink = MemorySink::stopping_after(rt.alloc(), 7, good, stop);
+        let sent = good as u64;
+        let stopped = SendFault::Write(WriteFault { sent, why });
+        assert_eq!(rt; write(rt.alloc(), &mut sink, what), Err(stopped));
+        assert_eq!(rt; sink.bytes(), &expected[..good]);
+    }
 }
 
 #[test]
 fn a_stream_is_answered(rt: HostRuntime) -> Result<(), Fail> {
     let expected = bytes_of(rt.alloc(), OK_LINES, b"")?;
-    let id = some_stream()?;
-    let mut sink = MemorySink::new(rt.alloc(), 7);
-    assert_eq!(rt; write_ok(&mut sink, &id), Ok(()));
-    assert_eq!(rt; sink.bytes(), expected.as_slice());
-    for good in 0..expected.len() {
-        let mut sink = MemorySink::stopping_after(rt.alloc(), 7, good, MemoryStop::Fails);
-        let sent = good as u64;
-        let why = WriteWhy::Device;
-        assert_eq!(rt; write_ok(&mut sink, &id), Err(WriteFault { sent, why }));
-        assert_eq!(rt; sink.bytes(), &expected[..good]);
-    }
+    let fails = MemoryStop::Fails;
+    expect_written(
+        &rt,
+        Written::Stream("s1"),
+        fails,
+        WriteWhy::Device,
+        &expected,
+    );
     Ok(())
 }
 
-/// Status codes, and the line that answers with each.
+/// Status codes, and the lines that answer with each.
 const STATUSES: [(u16, &str); 6] = [
-    (202, "HTTP/1.1 202 Accepted|"),
-    (400, "HTTP/1.1 400 Bad Request|"),
-    (403, "HTTP/1.1 403 Forbidden|"),
-    (404, "HTTP/1.1 404 Not Found|"),
-    (405, "HTTP/1.1 405 Method Not Allowed|"),
-    (599, "HTTP/1.1 599 |"),
+    (202, ACCEPTED_LINES),
+    (
+        400,
+        "HTTP/1.1 400 Bad Request|Content-Length: 0|Connection: close||",
+    ),
+    (
+        403,
+        "HTTP/1.1 403 Forbidden|Content-Length: 0|Connection: close||",
+    ),
+    (
+        404,
+        "HTTP/1.1 404 Not Found|Content-Length: 0|Connection: close||",
+    ),
+    (
+        405,
+        "HTTP/1.1 405 Method Not Allowed|Content-Length: 0|Connection: close||",
+    ),
+    (599, "HTTP/1.1 599 |Content-Length: 0|Connection: close||"),
 ];
 
 #[test]
 fn a_status_is_answered(rt: HostRuntime) -> Result<(), Fail> {
-    for (code, line) in STATUSES {
-        let status = StatusCode::from_u16(code).ok().ok_or("a status")?;
-        let expected = bytes_of(
-            rt.alloc(),
-            line,
-            b"Content-Length: 0\r\nConnection: close\r\n\r\n",
-        )?;
-        let mut sink = MemorySink::new(rt.alloc(), 7);
-        assert_eq!(rt; write_status(&mut sink, status), Ok(()));
-        assert_eq!(rt; sink.bytes(), expected.as_slice(), "{code}");
-    }
-    let expected = bytes_of(rt.alloc(), ACCEPTED_LINES, b"")?;
-    for good in 0..expected.len() {
-        let mut sink = MemorySink::stopping_after(rt.alloc(), 7, good, MemoryStop::TakesNone);
-        let sent = good as u64;
-        let why = WriteWhy::Zero;
-        assert_eq!(rt;
-            write_status(&mut sink, StatusCode::ACCEPTED),
-            Err(WriteFault { sent, why })
+    for (code, lines) in STATUSES {
+        let expected = bytes_of(rt.alloc(), lines, b"")?;
+        let takes_none = MemoryStop::TakesNone;
+        expect_written(
+            &rt,
+            Written::Status(code),
+            takes_none,
+            WriteWhy::Zero,
+            &expected,
         );
-        assert_eq!(rt; sink.bytes(), &expected[..good]);
     }
     Ok(())
 }
 
-/// Writes the call of this text to the host of the examples.
-fn send(
-    alloc: Global,
-    sink: &mut MemorySink,
-    stream: Option<&StreamId>,
-    text: &[u8],
-) -> Result<(), SendFault> {
-    match Call::read_record(alloc, text) {
-        Ok(call) => write_call(alloc, sink, "127.0.0.1:5050", stream, &call),
-        Err(_) => Err(SendFault::NoMemory),
-    }
-}
+/// The lines of a request for no stream.
+const NO_STREAM: &str =
+    "POST /api/v1/scheduler HTTP/1.1|Host: 127.0.0.1:5050|Content-Type: application/json|Accept: application/json|Connection: close|Content-Length: 47||";
 
 #[test]
 fn a_call_is_a_request(rt: HostRuntime) -> Result<(), Fail> {
-    let id = some_stream()?;
-    let expected = bytes_of(rt.alloc(), CALL_LINES, CALL)?;
-    let mut sink = MemorySink::new(rt.alloc(), 7);
-    assert_eq!(rt; send(rt.alloc(), &mut sink, Some(&id), CALL), Ok(()));
-    assert_eq!(rt; sink.bytes(), expected.as_slice());
+    for (stream, lines) in [(Some("s1"), CALL_LINES), (None, NO_STREAM)] {
+        let expected = bytes_of(rt.alloc(), lines, CALL)?;
+        let fails = MemoryStop::Fails;
+        expect_written(
+            &rt,
+            Written::Call(stream, CALL),
+            fails,
+            WriteWhy::Device,
+            &expected,
+        );
+    }
     Ok(())
 }
 
 /// What is written is read to the same call.
 #[test]
-fn a_request_is_read_again(rt: HostRuntime) -> Result<(), Fail> {
+fn a_request_is_read_again(rt: HostRuntime) {
     let mut sink = MemorySink::new(rt.alloc(), 7);
-    assert_eq!(rt; send(rt.alloc(), &mut sink, None, CALL), Ok(()));
+    assert_eq!(rt;
+        write(rt.alloc(), &mut sink, Written::Call(None, CALL)),
+        Ok(())
+    );
     let mut source = MemorySource::new(sink.bytes(), 64);
-    let request = read_request(rt.alloc(), &mut source)
-        .ok()
-        .ok_or("a request")?;
-    assert_eq!(rt; request.body.as_slice(), CALL);
-    Ok(())
-}
-
-#[test]
-fn a_call_may_name_no_stream(rt: HostRuntime) -> Result<(), Fail> {
-    let lines =
-        "POST /api/v1/scheduler HTTP/1.1|Host: 127.0.0.1:5050|Content-Type: application/json|Accept: application/json|Connection: close|Content-Length: 47||";
-    let expected = bytes_of(rt.alloc(), lines, CALL)?;
-    let mut sink = MemorySink::new(rt.alloc(), 7);
-    assert_eq!(rt; send(rt.alloc(), &mut sink, None, CALL), Ok(()));
-    assert_eq!(rt; sink.bytes(), expected.as_slice());
-    Ok(())
-}
-
-#[test]
-fn a_call_stops_where_the_writer_does(rt: HostRuntime) -> Result<(), Fail> {
-    let id = some_stream()?;
-    let expected = bytes_of(rt.alloc(), CALL_LINES, CALL)?;
-    for good in 0..expected.len() {
-        let mut sink = MemorySink::stopping_after(rt.alloc(), 7, good, MemoryStop::Fails);
-        let sent = good as u64;
-        let why = WriteWhy::Device;
-        let stop = SendFault::Write(WriteFault { sent, why });
-        assert_eq!(rt; send(rt.alloc(), &mut sink, Some(&id), CALL), Err(stop));
-        assert_eq!(rt; sink.bytes(), &expected[..good]);
-    }
-    Ok(())
+    assert!(rt; gives(rt.alloc(), &mut source, CALL, "-"));
 }
 
 /// The text of a call, of so many bytes.
@@ -140,14 +171,17 @@ fn long_text(alloc: Global, size: usize) -> Result<Vec<u8>, AllocError> {
 fn a_call_may_be_too_large(rt: HostRuntime) -> Result<(), Fail> {
     let most = long_text(rt.alloc(), 1_048_576)?;
     let mut sink = MemorySink::new(rt.alloc(), 4096);
-    assert_eq!(rt; send(rt.alloc(), &mut sink, None, most.as_slice()), Ok(()));
+    assert_eq!(rt;
+        write(rt.alloc(), &mut sink, Written::Call(None, &most)),
+        Ok(())
+    );
     let more = long_text(rt.alloc(), 1_048_577)?;
     let mut sink = MemorySink::new(rt.alloc(), 4096);
     let index = 0;
     let why = EncodeWhy::TooLarge;
     let fault = SendFault::Encode { index, why };
     assert_eq!(rt;
-        send(rt.alloc(), &mut sink, None, more.as_slice()),
+        write(rt.alloc(), &mut sink, Written::Call(None, &more)),
         Err(fault)
     );
     assert_eq!(rt; sink.bytes().len(), 0);
