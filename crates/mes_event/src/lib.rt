@@ -13,3 +13,4 @@ mod words;
 pub use bodies::{ErrorBody, Failure, Rescind, Subscribed, Update};
 pub use event::Event;
 pub use other_name::OtherName;
+pub use words::{put_id, put_number, put_uuid, put_word};

@@ -1,4 +1,4 @@
-//! The words of a printed line: each is appended behind a space.
+//! The words of a printed line, of an event and of what is told of one elsewhere: each is appended behind a space.
 
 ghost use Rattle.std.specs.Prelude.{◌≡◌, ◌++◌, codes, decimal, IfOk};
 ghost use Rattle.std.specs.Fmt.{signed_decimal};
@@ -14,7 +14,7 @@ use mes_resource::Id;
 use uuid::Uuid;
 
 /// Appends a space and a plain word.
-pub(crate) fn put_word(word: &str, line: &mut Vec<u8>) -> Result<(), NoMemory>
+pub fn put_word(word: &str, line: &mut Vec<u8>) -> Result<(), NoMemory>
     ensures { IfOk result (λ _. line.new.items ≡ line.old.items ++ (codes " " ++ word.now)) }
 {
     line.extend_from_slice(b" ")?;
@@ -31,7 +31,7 @@ pub(crate) fn put_text(text: &str, line: &mut Vec<u8>) -> Result<(), NoMemory>
 }
 
 /// Appends a space and an identifier.
-pub(crate) fn put_id(id: &Id, line: &mut Vec<u8>) -> Result<(), NoMemory>
+pub fn put_id(id: &Id, line: &mut Vec<u8>) -> Result<(), NoMemory>
     ensures { IfOk result (λ _. line.new.items ≡ line.old.items ++ (codes " " ++ id_text id.now)) }
 {
     put_text(id.value.as_str(), line)
@@ -48,7 +48,7 @@ pub(crate) fn put_some_id(id: &Option<Id>, line: &mut Vec<u8>) -> Result<(), NoM
 }
 
 /// Appends a space and a whole number.
-pub(crate) fn put_number(number: u64, line: &mut Vec<u8>) -> Result<(), NoMemory>
+pub fn put_number(number: u64, line: &mut Vec<u8>) -> Result<(), NoMemory>
     ensures { IfOk result (λ _. line.new.items ≡ line.old.items ++ (codes " " ++ decimal number)) }
 {
     put_word(Buffer::new().format(number), line)
@@ -90,7 +90,7 @@ pub(crate) fn put_some_uuid(uuid: &Option<Bytes>, line: &mut Vec<u8>) -> Result<
 }
 
 /// Appends a space and a uuid: 16 bytes in the hyphenated form, others as `hex:` and two digits for each.
-fn put_uuid(bytes: &[u8], line: &mut Vec<u8>) -> Result<(), NoMemory>
+pub fn put_uuid(bytes: &[u8], line: &mut Vec<u8>) -> Result<(), NoMemory>
     ensures { IfOk result (λ _. line.new.items ≡ line.old.items ++ (codes " " ++ uuid_text bytes.now)) }
 {
     match Uuid::from_slice(bytes) {

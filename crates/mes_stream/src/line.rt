@@ -84,7 +84,7 @@ fn push_path(line: &mut ArrayString<FAULT_LINE_MOST>, path: &Path)
 }
 
 /// Appends a space and the number in decimal.
-pub(crate) fn push_number<const N: usize>(line: &mut ArrayString<N>, number: u64)
+pub fn push_number<const N: usize>(line: &mut ArrayString<N>, number: u64)
     requires { array_string_len line.old + 21 ≤ N }
     ensures text { line.new.bytes ≡ line.old.bytes ++ (codes " " ++ decimal number) }
     ensures bound { array_string_len line.new ≤ array_string_len line.old + 21 }
@@ -94,7 +94,7 @@ pub(crate) fn push_number<const N: usize>(line: &mut ArrayString<N>, number: u64
 }
 
 /// Appends a space and the word.
-pub(crate) fn push_word<const N: usize>(line: &mut ArrayString<N>, word: &str)
+pub fn push_word<const N: usize>(line: &mut ArrayString<N>, word: &str)
     requires { array_string_len line.old + 1 + length word.now ≤ N }
     ensures text { line.new.bytes ≡ line.old.bytes ++ (codes " " ++ word.now) }
     ensures bound { array_string_len line.new ≤ array_string_len line.old + 1 + length word.now }
