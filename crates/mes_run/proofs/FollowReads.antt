@@ -1,5 +1,5 @@
 -- A stream followed read by read, with what was printed of its events.
-use Rattle.std.proofs.Common.{◌≡◌, ℕ, ◌+◌, ◌-◌, ◌*◌, ◌<◌, ◌≤◌, Option, List, [], ◌∷◌, ◌++◌, length, ◌∙◌, ap, sym, subst, append_assoc, append-nil, arith, refl, inl, inr, length-append, lit≤, Result, Ok, Err}
+use Rattle.std.proofs.Common.{◌≡◌, ℕ, ◌+◌, ◌-◌, ◌*◌, ◌≤◌, List, [], ◌∷◌, ◌++◌, length, ◌∙◌, ap, sym, subst, append-nil, arith, refl, inl, inr, length-append, lit≤, Result, Ok, Err}
 use Rattle.std.specs.Io.KnownBytes.{Consumes}
 use Rattle.std.proofs.KnownBytes.{Appends-nil}
 use Rattle.mes_frame.proofs.Parts.{both_out}
@@ -11,7 +11,7 @@ use Rattle.mes_event.specs.declared.event.Event.{Event}
 use Rattle.mes_stream.specs.EventData.{HoldsData}
 use Rattle.mes_stream.specs.Lines.{fault_text}
 use Rattle.mes_stream.specs.Reading.{ReadingStands, ReadingTakes, ByteEnds, EndsReading, Means}
-use Rattle.mes_stream.specs.Reads.{Asked, EndsReads}
+use Rattle.mes_stream.specs.Reads.{EndsReads}
 use Rattle.mes_stream.specs.Refusals.{IsEventRefusal}
 use Rattle.mes_stream.specs.Stream.{saturated}
 use Rattle.mes_stream.specs.declared.event_reader.EventReader.{EventReader}
@@ -24,7 +24,7 @@ use Rattle.mes_stream.specs.declared.reads.ReadsEnd.{ReadsEnd}
 use Rattle.mes_stream.specs.declared.reads.ReadsEnd.TheVariants.{Stopped, AtEnd, Failed, Spent}
 use Rattle.mes_stream.specs.declared.stream_reader.Framing.{Framing}
 use Rattle.mes_stream.proofs.StreamLemmas.{goes_of}
-use Rattle.mes_run.specs.Following.{Brings, IsFresh, Followed, FollowedTo, GoesFrom, HasShown, PrintsEvents, StopsFrom, ended_of}
+use Rattle.mes_run.specs.Following.{Brings, IsFresh, GoesFrom, HasShown, PrintsEvents, StopsFrom, ended_of}
 use Rattle.mes_run.specs.Printing.{IsCutOff, Prints, ended_behind, outcome_line, outcome_status}
 use Rattle.mes_run.specs.Showing.{lines_from, printed_from, Spelt, Follows}
 use Rattle.mes_run.specs.declared.ended.Ended.{Ended}
@@ -38,7 +38,6 @@ use Rattle.mes_run.specs.declared.following.FollowStop.TheVariants.{Outcome, Uns
 use Rattle.mes_run.specs.declared.following.Shown.{Shown as Amount}
 use Rattle.mes_run.specs.declared.following.Shown.TheVariants.{All}
 use Rattle.mes_run.specs.declared.following.Shown.TheVariants as seen
-use Rattle.mes_run.specs.declared.following.Unshown.{Unshown as Why}
 use Rattle.mes_run.specs.declared.following.Unshown.TheVariants as why
 use Rattle.mes_run.specs.declared.line_buffer.LineBuffer.{LineBuffer}
 use Rattle.mes_run.proofs.FewEvents.{goes_few, ends_few}

@@ -1,7 +1,6 @@
 -- Texts that went out behind one another, and the lines of events.
 use Rattle.std.proofs.Common.{◌≡◌, ℕ, suc, ◌+◌, ◌<◌, List, [], ◌∷◌, ◌++◌, length, take, drop, get_or, take-append-drop, length-take-le, sym, ◌∙◌, ap, subst, append_assoc, append-nil, arith, refl, length-append}
 use Rattle.std.proofs.KnownBytes.{Appends-nil, Appends-trans}
-use Rattle.std.proofs.Math.Seq.{take-append-add}
 use Rattle.std.proofs.lemmas.List.{take-append-le, take_more, drop_more}
 use Rattle.mes_frame.proofs.Parts.{none_then_stops, none_then_none}
 use Rattle.mes_frame.specs.Written.{WentOut, Stops}

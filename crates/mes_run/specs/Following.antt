@@ -1,5 +1,5 @@
 -- What a follower of a stream came to, read by read.
-use Rattle.std.specs.Prelude.{◌≡◌, ℕ, ◌+◌, List, [], ◌∷◌, ◌++◌, length, Option, Result, Ok, Err}
+use Rattle.std.specs.Prelude.{◌≡◌, ℕ, ◌+◌, List, [], ◌∷◌, ◌++◌, length, Result, Ok, Err}
 use Rattle.mes_frame.specs.Devices.{Device}
 use Rattle.mes_frame.specs.Written.{Passes, WentOut, Stops}
 use Rattle.mes_frame.specs.declared.write.WriteFault.{WriteFault}

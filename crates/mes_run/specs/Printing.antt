@@ -1,5 +1,5 @@
 -- What is taken from the input, and what becomes of the texts that are printed.
-use Rattle.std.specs.Prelude.{◌≡◌, ℕ, ◌+◌, ◌<◌, Bool, true, false, Option, List, [], ◌∷◌, ◌++◌, length, take, Result, Ok, Err}
+use Rattle.std.specs.Prelude.{◌≡◌, ℕ, ◌+◌, ◌<◌, Bool, true, false, List, [], ◌∷◌, ◌++◌, length, take, Result, Ok, Err}
 use Rattle.std.specs.Io.KnownBytes.{Appends, Consumes}
 use Rattle.mes_frame.specs.Devices.{Device}
 use Rattle.mes_frame.specs.Write.{NoneFails, StopsWrite}
@@ -13,7 +13,6 @@ use Rattle.mes_stream.specs.declared.stream_reader.Framing.{Framing}
 use Rattle.mes_event.specs.Events.{Spells}
 use Rattle.mes_stream.specs.Refusals.{IsEventRefusal}
 use Rattle.mes_event.specs.declared.event.Event.{Event}
-use Rattle.mes_stream.specs.declared.fault.Fault.{Fault}
 use Rattle.mes_stream.specs.declared.fault.Fault.TheVariants.{NoMemory}
 use Rattle.mes_stream.specs.declared.fault.Report.{Report}
 use Rattle.mes_stream.specs.declared.fault.Stop.{Stop}

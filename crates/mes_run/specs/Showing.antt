@@ -1,5 +1,5 @@
 -- What `show` prints: the lines of each event, and then the line that ends the stream.
-use Rattle.std.specs.Prelude.{◌≡◌, ℕ, ◌+◌, ◌≤◌, ◌⊎◌, List, [], ◌∷◌, ◌++◌, length, Result, Ok, Err}
+use Rattle.std.specs.Prelude.{◌≡◌, ℕ, ◌+◌, ◌≤◌, ◌⊎◌, List, [], ◌∷◌, ◌++◌, length, Result}
 use Rattle.std.specs.Io.KnownBytes.{Consumes}
 use Rattle.mes_event.specs.Events.{Spells}
 use Rattle.mes_event.specs.Shown.{event_lines}

@@ -83,7 +83,10 @@ fn expect_cut<R: Abort + AllocGlobal>(
     let ended = followed(rt.alloc(), detail, &mut source, &mut out);
     assert_eq!(rt;
         (Some(out.bytes()), ended),
-        (lines.as_bytes().get(..good), Ended::OutputFailed(good as u64))
+        (
+            lines.as_bytes().get(..good),
+            Ended::OutputFailed(good as u64)
+        )
     );
 }
 
