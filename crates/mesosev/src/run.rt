@@ -164,7 +164,12 @@ fn tell<O: Sink, E: Sink>(alloc: Global, fault: &WordsFault, out: &mut O, err: &
 }
 
 /// Tells an error of clap: help on standard output, a mistake on standard error.
-fn tell_error<O: Sink, E: Sink>(alloc: Global, error: &clap::Error, out: &mut O, err: &mut E) -> Ended
+fn tell_error<O: Sink, E: Sink>(
+    alloc: Global,
+    error: &clap::Error,
+    out: &mut O,
+    err: &mut E,
+) -> Ended
     ensures { TellsError error.now
         (device_of O.written O.counts out.old) (device_of O.written O.counts out.new)
         (device_of E.written E.counts err.old) (device_of E.written E.counts err.new)
