@@ -85,7 +85,10 @@ fn knows_the_shape_of_a_number(rt: HostRuntime) {
     ] {
         assert!(rt; !is_number(text.as_bytes()), "at {text}");
     }
-    assert_eq!(rt; next_state(NumberState::AtStart, b'0'), Some(NumberState::AfterZero));
+    assert_eq!(rt;
+        next_state(NumberState::AtStart, b'0'),
+        Some(NumberState::AfterZero)
+    );
     assert_eq!(rt; next_state(NumberState::AfterZero, b'1'), None);
     assert!(rt; may_end(NumberState::AfterZero));
 }
