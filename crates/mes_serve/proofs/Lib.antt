@@ -1,0 +1,3 @@
+mod CarriedLemmas
+mod OpeningLemmas
+mod WritingLemmas

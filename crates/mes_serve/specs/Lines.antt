@@ -1,0 +1,66 @@
+-- The lines that are printed of a connection.
+use Rattle.std.specs.Prelude.{◌≡◌, ℕ, List, ◌++◌, Result, Ok, Err, codes, decimal}
+use Rattle.mes_call.specs.declared.call.Call.{Call}
+use Rattle.mes_call.specs.declared.call.Call.TheVariants as of
+use Rattle.mes_frame.specs.Devices.{Device}
+use Rattle.mes_frame.specs.declared.write.WriteFault.{WriteFault}
+use Rattle.mes_serve.specs.Writing.{Stopped, Wrote}
+use Rattle.mes_serve.specs.declared.asked.Asked.{Asked}
+use Rattle.mes_serve.specs.declared.asked.Asked.TheVariants.{NoRequest, NoCall, Calls}
+use Rattle.mes_serve.specs.declared.reply.Reply.{Reply}
+use Rattle.mes_serve.specs.declared.reply.Reply.TheVariants.{Nothing, Status, Stream}
+use Rattle.mes_serve.specs.declared.served.Served.{Served}
+use Rattle.mes_serve.specs.declared.served.Served.TheVariants.{Answered, Unwritten}
+use Rattle.mes_serve.specs.declared.writing.Unsent.{Unsent}
+use Rattle.mes_serve.specs.declared.writing.Unsent.TheVariants as unsent
+
+-- the name of the call's type
+abbrev pub call_name : Call → List ℕ
+call_name (of.Subscribe framework body) = codes "SUBSCRIBE"
+call_name (of.Accept framework body) = codes "ACCEPT"
+call_name (of.Decline framework body) = codes "DECLINE"
+call_name (of.Revive framework) = codes "REVIVE"
+call_name (of.Kill framework body) = codes "KILL"
+call_name (of.Acknowledge framework body) = codes "ACKNOWLEDGE"
+call_name (of.Reconcile framework body) = codes "RECONCILE"
+call_name (of.Teardown framework) = codes "TEARDOWN"
+call_name (of.Suppress framework) = codes "SUPPRESS"
+call_name (of.Shutdown framework body) = codes "SHUTDOWN"
+call_name (of.Message framework body) = codes "MESSAGE"
+
+-- `-` where no call was asked
+abbrev pub asked_name : Asked → List ℕ
+asked_name (Calls stream c) = call_name c
+asked_name _ = codes "-"
+
+-- the status that is answered, or `-`
+abbrev pub reply_name : Reply → List ℕ
+reply_name Nothing = codes "-"
+reply_name (Status code) = decimal code
+reply_name (Stream id events) = codes "200"
+
+-- `202 REVIVE`, `404 -`
+abbrev pub served_line : List ℕ → List ℕ → List ℕ
+served_line status name = status ++ codes " " ++ name ++ codes "\n"
+
+abbrev pub write_failed_line : List ℕ
+write_failed_line = codes "net write failed\n"
+
+-- a reply that can't be encoded or written has one more line; where memory was refused, nothing was answered
+abbrev pub served_lines : {T : Type 0} → Reply → Asked → Result T Unsent → List ℕ
+served_lines reply asked (Ok done) = served_line (reply_name reply) (asked_name asked)
+served_lines reply asked (Err unsent.NoMemory) = served_line (codes "-") (asked_name asked)
+served_lines reply asked (Err unsent.Encode) = served_line (reply_name reply) (asked_name asked) ++ write_failed_line
+served_lines reply asked (Err unsent.Write) = served_line (reply_name reply) (asked_name asked) ++ write_failed_line
+
+abbrev pub outcome : {T : Type 0} → Result T Unsent → Served
+outcome (Ok done) = Answered
+outcome (Err unsent.NoMemory) = Answered
+outcome (Err unsent.Encode) = Unwritten
+outcome (Err unsent.Write) = Unwritten
+
+-- the text was printed, and this is meant; or the output stopped in it
+abbrev pub Tells : List ℕ → Served → Device → Device → Result Served WriteFault → Type 0
+Tells text meant old new (Ok served) = Wrote old new text × (served ≡ meant)
+Tells text meant old new (Err fault) = Stopped old new text fault
+

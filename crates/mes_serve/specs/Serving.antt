@@ -1,0 +1,30 @@
+-- One connection served: what is asked, what is answered, and what is printed of it.
+use Rattle.std.specs.Prelude.{ℕ, List, Result}
+use Rattle.std.specs.Io.KnownBytes.{Consumes}
+use Rattle.mes_event.specs.declared.event.Event.{Event}
+use Rattle.mes_frame.specs.Devices.{Device}
+use Rattle.mes_frame.specs.declared.write.WriteFault.{WriteFault}
+use Rattle.mes_master.specs.Masters.{MasterState}
+use Rattle.mes_serve.specs.Asking.{IsAsked}
+use Rattle.mes_serve.specs.Lines.{Tells, outcome, served_lines}
+use Rattle.mes_serve.specs.Replying.{Replies}
+use Rattle.mes_serve.specs.Writing.{Writes}
+use Rattle.mes_serve.specs.declared.asked.Asked.{Asked}
+use Rattle.mes_serve.specs.declared.reply.Reply.{Reply}
+use Rattle.mes_serve.specs.declared.served.Served.{Served}
+use Rattle.mes_serve.specs.declared.writing.Unsent.{Unsent}
+
+-- These devices and masters are those before and after a connection that was given these events for a stream in chunks of `most` bytes.
+pub record ServesOne (before : MasterState) (given : List Event) (most : ℕ) (input rest writer written out told : Device) (later : MasterState) (served : Result Served WriteFault) : Type 0 where
+  -- a request was taken, and nothing behind it
+  pub taken : List ℕ
+  pub consumes : Consumes input.bytes rest.bytes taken
+  pub asked : Asked
+  pub asks : IsAsked taken input.counts rest.counts asked
+  -- it was answered, which left the master so
+  pub reply : Reply
+  pub replies : Replies before given asked reply later
+  pub sent : Result (Unit {0}) Unsent
+  pub writes : Writes most reply writer written sent
+  -- and that was printed
+  pub tells : Tells (served_lines reply asked sent) (outcome sent) out told served
