@@ -1,0 +1,220 @@
+//! How a world makes a move.
+ghost use Rattle.std.specs.Prelude.{◌≡◌, ◌+◌, ◌<◌, ◌++◌, [], ◌∷◌, None, IfOk, OnOk, IsErr};
+ghost use Rattle.std.specs.Option.{option_copied};
+ghost use Rattle.mes_master.specs.declared.refusal.MasterRefusal.TheVariants.{NoMemory as no_memory};
+ghost use Rattle.mes_master.specs.Sending.{offers_sent, rescind_sent, update_sent, resend_sent};
+ghost use Rattle.mes_double.specs.declared.moves.Move.TheVariants as moves;
+ghost use Rattle.mes_double.specs.Worlds.{HasRoom, skip, sending, hearing, is_done, arriving, world_info, resubscribing, subscribe_answer, Happens};
+
+use super::World;
+use crate::moves::Move;
+use crate::sent::Sent;
+use http::StatusCode;
+use mes_json::{NoMemory, Text};
+use mes_master::{Answer, MasterRefusal};
+use mes_model::{FrameworkInfo, List, Offer, Part, TaskStatus};
+use mes_msg::{Call, Event};
+use std::alloc::Global;
+
+impl World {
+    /// Makes a move, or counts it as skipped where it can't be made, or is refused.
+    pub(crate) fn make(&mut self, next: &Move) -> Result<(), NoMemory>
+        requires { HasRoom self.old }
+        ensures { OnOk result (Happens self.old next.now self.new) }
+    {
+        match next {
+            Move::Offer(offers) => self.offer(offers.as_slice()),
+            Move::Rescind(id) => self.rescind(id.as_str()),
+            Move::Update(status) => self.update(status),
+            Move::Resend(index) => self.resend(*index),
+            Move::Hear => self.hear(),
+            Move::Wish(call) => self.wish(call),
+            Move::Arrive(index) => self.arrive(*index),
+            Move::Resubscribe => self.resubscribe(),
+        }
+    }
+
+    /// Counts a move that was not made.
+    fn skip(&mut self)
+        requires { HasRoom self.old }
+        ensures { self.new ≡ skip self.old }
+    {
+        self.skipped += 1;
+    }
+
+    // ---- what the master sends of its own
+
+    /// An event waits.
+    fn push(&mut self, event: Event) -> Result<(), NoMemory>
+        ensures { OnOk result (self.new ≡ record self.old { waiting = self.old.waiting ++ event ∷ [] }) }
+    {
+        self.waiting.push(event)?;
+        Ok(())
+    }
+
+    /// The master refused to send: that is counted, where it is for M1 to M5. Want of memory is told on.
+    fn skip_for(&mut self, why: MasterRefusal) -> Result<(), NoMemory>
+        requires { HasRoom self.old }
+        ensures ok { OnOk result (self.new ≡ skip self.old) }
+        ensures err { why ≡ no_memory → IsErr result }
+    {
+        if why == MasterRefusal::NoMemory {
+            return Err(NoMemory);
+        }
+        self.skip();
+        Ok(())
+    }
+
+    /// The master makes offers.
+    fn offer(&mut self, offers: &[Offer]) -> Result<(), NoMemory>
+        requires { HasRoom self.old }
+        ensures { OnOk result (self.new ≡ sending self.old (offers_sent self.old.master offers.now)) }
+    {
+        match self.master.offer(offers) {
+            Ok(event) => self.push(event),
+            Err(why) => self.skip_for(why),
+        }
+    }
+
+    /// The master takes an offer back.
+    fn rescind(&mut self, id: &str) -> Result<(), NoMemory>
+        requires { HasRoom self.old }
+        ensures { OnOk result (self.new ≡ sending self.old (rescind_sent self.old.master id.now)) }
+    {
+        match self.master.rescind(id) {
+            Ok(event) => self.push(event),
+            Err(why) => self.skip_for(why),
+        }
+    }
+
+    /// The master tells a status.
+    fn update(&mut self, status: &TaskStatus) -> Result<(), NoMemory>
+        requires { HasRoom self.old }
+        ensures { OnOk result (self.new ≡ sending self.old (update_sent self.old.master status.now)) }
+    {
+        match self.master.update(status) {
+            Ok(event) => self.push(event),
+            Err(why) => self.skip_for(why),
+        }
+    }
+
+    /// The master tells an update again.
+    fn resend(&mut self, index: usize) -> Result<(), NoMemory>
+        requires { HasRoom self.old }
+        ensures { OnOk result (self.new ≡ sending self.old (resend_sent self.old.master index)) }
+    {
+        match self.master.resend(index) {
+            Ok(event) => self.push(event),
+            Err(why) => self.skip_for(why),
+        }
+    }
+
+    // ---- what the session hears and says
+
+    /// The first event that waits is heard.
+    fn hear(&mut self) -> Result<(), NoMemory>
+        requires { HasRoom self.old }
+        ensures { OnOk result (self.new ≡ hearing self.old self.old.waiting) }
+    {
+        if self.waiting.is_empty() {
+            self.skip();
+            return Ok(());
+        }
+        let event = self.waiting.remove(0);
+        match self.session.heard(&event) {
+            Ok(()) => Ok(()),
+            Err(_) => Err(NoMemory),
+        }
+    }
+
+    /// The session says a call, which is sent with the id of the current stream.
+    fn wish(&mut self, call: &Call) -> Result<(), NoMemory>
+        requires { HasRoom self.old }
+        ensures { OnOk result (Happens self.old (moves.Wish call.now) self.new) }
+    {
+        let Some(stream) = self.master.stream() else {
+            self.skip();
+            return Ok(());
+        };
+        let stream = stream.copy();
+        if self.session.said(call).is_err() {
+            self.skip();
+            return Ok(());
+        }
+        let call = call.copy(self.alloc)?;
+        self.sent.push(Sent { call, stream })?;
+        Ok(())
+    }
+
+    // ---- what reaches the master
+
+    /// The call that was sent at that place reaches the master.
+    fn arrive(&mut self, index: usize) -> Result<(), NoMemory>
+        requires { HasRoom self.old }
+        ensures { OnOk result (Happens self.old (moves.Arrive index) self.new) }
+    {
+        let Some(sent) = self.sent.get(index) else {
+            self.skip();
+            return Ok(());
+        };
+        let answer = self.master.handle(&sent.call, Some(&sent.stream))?;
+        if !is_done(answer.status) {
+            self.skip();
+            return Ok(());
+        }
+        push_all(&mut self.waiting, answer.events)
+    }
+
+    /// A SUBSCRIBE reaches the master. Where it is carried out the session's stream has broken, and what waited is lost.
+    fn resubscribe(&mut self) -> Result<(), NoMemory>
+        requires { HasRoom self.old }
+        ensures { OnOk result (self.new ≡ resubscribing self.old (subscribe_answer self.old)) }
+    {
+        let info = world_info(self.alloc)?;
+        let Ok(call) = self.session.subscribe(&info) else {
+            return Err(NoMemory);
+        };
+        let answer = self.master.handle(&call, None)?;
+        if !is_done(answer.status) {
+            self.skip();
+            return Ok(());
+        }
+        self.session.broken();
+        self.waiting = answer.events;
+        Ok(())
+    }
+}
+
+/// Adds events behind the others.
+fn push_all(waiting: &mut Vec<Event>, events: Vec<Event>) -> Result<(), NoMemory>
+    ensures { OnOk result (waiting.new.items ≡ waiting.old.items ++ events.items) }
+{
+    for event in events {
+        waiting.push(event)?;
+    }
+    Ok(())
+}
+
+/// Whether an answer of that status carried a call out.
+fn is_done(status: StatusCode) -> bool
+    ensures { result ≡ is_done status }
+{
+    status == StatusCode::OK || status == StatusCode::ACCEPTED
+}
+
+/// What the framework of a world tells of itself: the user `root` and the name `world`.
+fn world_info(alloc: Global) -> Result<FrameworkInfo, NoMemory>
+    ensures { IfOk result (λ info. info ≡ world_info) }
+{
+    Ok(FrameworkInfo {
+        user: Text::of(alloc, "root")?,
+        name: Text::of(alloc, "world")?,
+        id: None,
+        failover_timeout: None,
+        checkpoint: None,
+        roles: List::new(Vec::new(alloc)),
+        hostname: None,
+        principal: None,
+        capabilities: List::new(Vec::new(alloc)),
+    })
+}
