@@ -5,6 +5,8 @@ ghost use Rattle.mes_double.specs.declared.moves.Move.{Move};
 ghost use Rattle.mes_double.specs.Courses.{Course, IsCourse};
 ghost use Rattle.mes_double.specs.Promises.{AckedWereHeard, LaunchedOnce, TakenOnce, WhatRanFits, AgainMovesNothing, HandAgrees, AllAgrees};
 
+use mes_hand::refusal_laws;
+
 /// Whatever is lost, late and repeated, by whatever list of moves: each update that counts as acknowledged was heard. No task is launched
 /// twice, no offer is taken away twice, and what one call launches fits the offers that it took. A call that was carried out moves nothing
 /// when it comes again, now or later. Where a stream is current, the session's hand, once all that waits is heard, is the list of
@@ -18,4 +20,6 @@ pub fn world_laws()
     ensures again { (framework : Id) (ids : List (List ℕ)) (list : List Move) (c : Course) → IsCourse framework ids list c → AgainMovesNothing c }
     ensures agrees { (framework : Id) (ids : List (List ℕ)) (list : List Move) (c : Course) → IsCourse framework ids list c → HandAgrees c }
     ensures same { (framework : Id) (ids : List (List ℕ)) (list : List Move) (c : Course) → IsCourse framework ids list c → AllAgrees c }
-{}
+{
+    refusal_laws();
+}

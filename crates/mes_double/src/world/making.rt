@@ -58,11 +58,13 @@ impl World {
         ensures ok { OnOk result (self.new ≡ skip self.old) }
         ensures err { why ≡ no_memory → IsErr result }
     {
-        if why == MasterRefusal::NoMemory {
-            return Err(NoMemory);
+        match why {
+            MasterRefusal::NoMemory => Err(NoMemory),
+            _ => {
+                self.skip();
+                Ok(())
+            }
         }
-        self.skip();
-        Ok(())
     }
 
     /// The master makes offers.
