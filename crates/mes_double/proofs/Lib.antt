@@ -14,6 +14,7 @@ pub mod OneLemmas
 pub mod RanLemmas
 pub mod ReachLemmas
 pub mod RepeatLemmas
+pub mod RunningLemmas
 pub mod TurnLemmas
 pub mod WayLemmas
 pub mod WishLemmas

@@ -7,7 +7,7 @@ use Rattle.mes_hand.specs.Held.{Held}
 use Rattle.mes_hand.specs.Refusals.{as_told, IsRefused, Answers}
 use Rattle.mes_double.specs.declared.moves.Move.{Move}
 use Rattle.mes_double.specs.declared.moves.Move.TheVariants as moves
-use Rattle.mes_double.specs.Worlds.{WorldState, wishing, Happens}
+use Rattle.mes_double.specs.Worlds.{WorldState, wishing, Wishes, Happens}
 use Rattle.mes_double.specs.Courses.{Course, begun, heard_by, arrived_by, Follows, Leads, IsCourse}
 
 module _ (once : (held : Held) (call : Call) (fault other : Refusal) → IsRefused held call fault → IsRefused held call other → fault ≡ other) where
@@ -19,14 +19,17 @@ module _ (once : (held : Held) (call : Call) (fault other : Refusal) → IsRefus
   one-answer held call (Some x) (Some y) f g =
       ap (λ (r : Refusal). Some r) (f.1 ∙ ap as_told (once held call f.0 g.0 f.2 g.2) ∙ sym g.1)
 
+  one-wish : (w u v : WorldState) (call : Call) (s : Option (List ℕ)) → Wishes w call s u → Wishes w call s v → u ≡ v
+  one-wish w u v call None f g = f ∙ sym g
+  one-wish w u v call (Some stream) f g = f.2 ∙ ap (wishing w call stream) (one-answer w.session call f.0 g.0 f.1 g.1) ∙ sym g.2
+
   one-world : (w u v : WorldState) (move : Move) → Happens w move u → Happens w move v → u ≡ v
   one-world w u v (moves.Offer list) f g = f ∙ sym g
   one-world w u v (moves.Rescind name) f g = f ∙ sym g
   one-world w u v (moves.Update status) f g = f ∙ sym g
   one-world w u v (moves.Resend index) f g = f ∙ sym g
   one-world w u v moves.Hear f g = f ∙ sym g
-  one-world w u v (moves.Wish call) f g =
-      f.2 ∙ ap (wishing w call w.master.stream) (one-answer w.session call f.0 g.0 f.1 g.1) ∙ sym g.2
+  one-world w u v (moves.Wish call) f g = one-wish w u v call w.master.stream f g
   one-world w u v (moves.Arrive index) f g = f ∙ sym g
   one-world w u v moves.Resubscribe f g = f ∙ sym g
 

@@ -24,7 +24,7 @@ use Rattle.mes_master.proofs.AgainLemmas.{IsOpen}
 use Rattle.mes_double.specs.declared.moves.Move.{Move}
 use Rattle.mes_double.specs.declared.moves.Move.TheVariants as moves
 use Rattle.mes_double.specs.declared.sent.Sent.{Sent}
-use Rattle.mes_double.specs.Worlds.{WorldState, skip, sending, hearing, wishing, is_done, answer_to, answering, arriving, world_info, subscribe_answer, resubscribing, Happens}
+use Rattle.mes_double.specs.Worlds.{WorldState, skip, sending, hearing, wishing, Wishes, is_done, answer_to, answering, arriving, world_info, subscribe_answer, resubscribing, Happens}
 use Rattle.mes_double.specs.Courses.{Arrival, Course, arrival, Follows}
 use Rattle.mes_double.proofs.ListLemmas.{apart}
 use Rattle.mes_double.proofs.ReachLemmas.{out-status, Reached, reach}
@@ -147,13 +147,16 @@ module _ (c d : Course) where
         by f None g = refused-turn _ NoSuchUpdate f (ap (resent c.world.master) g)
         by f (Some x) g = resends index x g (sent-turn _ _ _ f (ap (resent c.world.master) g))
 
-    wish-turn : (call : Call) (answer : Option Refusal) → Answers c.world.session call answer → d.world ≡ wishing c.world call c.world.master.stream answer → Turn c d
-    wish-turn call answer answers e = by c.world.master.stream refl answer answers e
+    wish-turn : (call : Call) → Wishes c.world call c.world.master.stream d.world → Turn c d
+    wish-turn call e = by c.world.master.stream refl e
       where
-        by : (s : Option (List ℕ)) → c.world.master.stream ≡ s → (o : Option Refusal) → Answers c.world.session call o → d.world ≡ wishing c.world call c.world.master.stream o → Turn c d
-        by None f o g e = skips (stays _ (e ∙ ap (λ (t : Option (List ℕ)). wishing c.world call t o) f) h a)
-        by (Some stream) f None g e = wishes call stream f g (stays _ (e ∙ ap (λ (t : Option (List ℕ)). wishing c.world call t None) f) h a)
-        by (Some stream) f (Some why) g e = skips (stays _ (e ∙ ap (λ (t : Option (List ℕ)). wishing c.world call t (Some why)) f) h a)
+        by : (s : Option (List ℕ)) → c.world.master.stream ≡ s → Wishes c.world call s d.world → Turn c d
+        by None f e = skips (stays _ e h a)
+        by (Some stream) f e = answered e.0 e.1 e.2
+          where
+            answered : (o : Option Refusal) → Answers c.world.session call o → d.world ≡ wishing c.world call stream o → Turn c d
+            answered None g k = wishes call stream f g (stays _ k h a)
+            answered (Some why) g k = skips (stays _ k h a)
 
     subscribe-turn : d.world ≡ resubscribing c.world (subscribe_answer c.world) → Turn c d
     subscribe-turn e = by (reach c.world.master (subscribe_call c.world.session.framework world_info) None)
@@ -208,6 +211,6 @@ turn c d (moves.Rescind name) f = rescind-turn c d f.heard f.arrivals (record { 
 turn c d (moves.Update status) f = update-turn c d f.heard f.arrivals status f.world
 turn c d (moves.Resend index) f = resend-turn c d f.heard f.arrivals index f.world
 turn c d moves.Hear f = hear-turn c d f.world f.heard f.arrivals
-turn c d (moves.Wish call) f = wish-turn c d f.heard f.arrivals call f.world.0 f.world.1 f.world.2
+turn c d (moves.Wish call) f = wish-turn c d f.heard f.arrivals call f.world
 turn c d (moves.Arrive index) f = arrive-turn c d index f.world f.heard f.arrivals
 turn c d moves.Resubscribe f = subscribe-turn c d f.heard f.arrivals f.world

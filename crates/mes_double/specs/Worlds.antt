@@ -53,10 +53,15 @@ hearing w (event ∷ events) = record w { session = after w.session (Heard event
 
 -- ---- calls
 
--- a call that the session may say, on the stream that is current, is said and sent with its id; without a stream nothing is asked of it
-abbrev pub wishing : WorldState → Call → Option (List ℕ) → Option Refusal → WorldState
-wishing w call (Some stream) None = record w { session = after w.session (Said call); sent = w.sent ++ record { call = call; stream = stream } ∷ [] }
-wishing w call _ _ = skip w
+-- a call that the session may say is said, and sent with the id of the stream; one that it refuses is not
+abbrev pub wishing : WorldState → Call → List ℕ → Option Refusal → WorldState
+wishing w call stream None = record w { session = after w.session (Said call); sent = w.sent ++ record { call = call; stream = stream } ∷ [] }
+wishing w call stream (Some why) = skip w
+
+-- what the session answers to a call decides; without a stream nothing is asked of it
+abbrev pub Wishes : WorldState → Call → Option (List ℕ) → WorldState → Type 0
+Wishes w call None later = later ≡ skip w
+Wishes w call (Some stream) later = (answer : Option Refusal) × Answers w.session call answer × (later ≡ wishing w call stream answer)
 
 -- whether a call was carried out
 abbrev pub is_done : ℕ → Bool
@@ -99,6 +104,14 @@ subscribe_answer w = handled w.master (subscribe_call w.session.framework world_
 abbrev pub resubscribing : WorldState → MasterAnswer → WorldState
 resubscribing w answer = if is_done answer.status then record w { master = answer.master; session = after w.session Broken; waiting = answer.events } else skip w
 
+-- ---- the same once the master has answered
+
+abbrev pub taking : WorldState → ℕ → List Event → WorldState
+taking w status events = if is_done status then record w { waiting = w.waiting ++ events } else skip w
+
+abbrev pub reopening : WorldState → ℕ → List Event → WorldState
+reopening w status events = if is_done status then record w { session = after w.session Broken; waiting = events } else skip w
+
 -- ---- each move
 
 -- what a move leaves; of a call that is wished, by what the session answers to it
@@ -108,6 +121,6 @@ Happens w (moves.Rescind name) later = later ≡ sending w (rescind_sent w.maste
 Happens w (moves.Update status) later = later ≡ sending w (update_sent w.master status)
 Happens w (moves.Resend index) later = later ≡ sending w (resend_sent w.master index)
 Happens w moves.Hear later = later ≡ hearing w w.waiting
-Happens w (moves.Wish call) later = (answer : Option Refusal) × Answers w.session call answer × (later ≡ wishing w call w.master.stream answer)
+Happens w (moves.Wish call) later = Wishes w call w.master.stream later
 Happens w (moves.Arrive index) later = later ≡ arriving w (slice_get w.sent index)
 Happens w moves.Resubscribe later = later ≡ resubscribing w (subscribe_answer w)

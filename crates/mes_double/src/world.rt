@@ -5,7 +5,6 @@ ghost use Rattle.mes_double.specs.Worlds.{new_world};
 mod making;
 
 use crate::sent::Sent;
-use mes_http::StreamId;
 use mes_master::Master;
 use mes_model::Id;
 use mes_msg::Event;

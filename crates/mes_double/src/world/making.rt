@@ -1,17 +1,20 @@
 //! How a world makes a move.
-ghost use Rattle.std.specs.Prelude.{◌≡◌, ◌+◌, ◌<◌, ◌++◌, [], ◌∷◌, None, IfOk, OnOk, IsErr};
-ghost use Rattle.std.specs.Option.{option_copied};
+ghost use Rattle.std.specs.Prelude.{◌≡◌, ◌++◌, [], ◌∷◌, None, Some, IfSome, IfNone, IfOk, OnOk, IsErr};
+ghost use Rattle.mes_msg.specs.declared.entry.Entry.TheVariants.{Heard};
+ghost use Rattle.mes_session.specs.History.{after};
+ghost use Rattle.mes_master.specs.Masters.{handled};
 ghost use Rattle.mes_master.specs.declared.refusal.MasterRefusal.TheVariants.{NoMemory as no_memory};
 ghost use Rattle.mes_master.specs.Sending.{offers_sent, rescind_sent, update_sent, resend_sent};
 ghost use Rattle.mes_double.specs.declared.moves.Move.TheVariants as moves;
-ghost use Rattle.mes_double.specs.Worlds.{HasRoom, skip, sending, hearing, is_done, arriving, world_info, resubscribing, subscribe_answer, Happens};
+ghost use Rattle.mes_double.specs.Worlds.{HasRoom, skip, sending, hearing, is_done, taking, world_info, reopening, resubscribing, subscribe_answer, Happens};
 
 use super::World;
 use crate::moves::Move;
 use crate::sent::Sent;
 use http::StatusCode;
 use mes_json::{NoMemory, Text};
-use mes_master::{Answer, MasterRefusal};
+use mes_http::StreamId;
+use mes_master::{Answer, Master, MasterRefusal};
 use mes_model::{FrameworkInfo, List, Offer, Part, TaskStatus};
 use mes_msg::{Call, Event};
 use std::alloc::Global;
@@ -118,12 +121,20 @@ impl World {
         requires { HasRoom self.old }
         ensures { OnOk result (self.new ≡ hearing self.old self.old.waiting) }
     {
-        if self.waiting.is_empty() {
-            self.skip();
-            return Ok(());
+        match take_first(&mut self.waiting) {
+            Some(event) => self.hear_event(&event),
+            None => {
+                self.skip();
+                Ok(())
+            }
         }
-        let event = self.waiting.remove(0);
-        match self.session.heard(&event) {
+    }
+
+    /// The session hears an event.
+    fn hear_event(&mut self, event: &Event) -> Result<(), NoMemory>
+        ensures { OnOk result (self.new ≡ record self.old { session = after self.old.session (Heard event.now) }) }
+    {
+        match self.session.heard(event) {
             Ok(()) => Ok(()),
             Err(_) => Err(NoMemory),
         }
@@ -134,15 +145,34 @@ impl World {
         requires { HasRoom self.old }
         ensures { OnOk result (Happens self.old (moves.Wish call.now) self.new) }
     {
-        let Some(stream) = self.master.stream() else {
-            self.skip();
-            return Ok(());
-        };
-        let stream = stream.copy();
-        if self.session.said(call).is_err() {
-            self.skip();
-            return Ok(());
+        match current(&self.master) {
+            Some(stream) => self.say(call, stream),
+            None => {
+                self.skip();
+                Ok(())
+            }
         }
+    }
+
+    /// The session says a call, which is sent with the id of this stream, the current one.
+    fn say(&mut self, call: &Call, stream: StreamId) -> Result<(), NoMemory>
+        requires room { HasRoom self.old }
+        requires current { self.old.master.stream ≡ Some stream }
+        ensures { OnOk result (Happens self.old (moves.Wish call.now) self.new) }
+    {
+        match self.session.said(call) {
+            Ok(()) => self.send(call, stream),
+            Err(_) => {
+                self.skip();
+                Ok(())
+            }
+        }
+    }
+
+    /// A call that was said is sent with the id of this stream.
+    fn send(&mut self, call: &Call, stream: StreamId) -> Result<(), NoMemory>
+        ensures { OnOk result (self.new ≡ record self.old { sent = self.old.sent ++ record { call = call.now; stream = stream } ∷ [] }) }
+    {
         let call = call.copy(self.alloc)?;
         self.sent.push(Sent { call, stream })?;
         Ok(())
@@ -155,35 +185,86 @@ impl World {
         requires { HasRoom self.old }
         ensures { OnOk result (Happens self.old (moves.Arrive index) self.new) }
     {
-        let Some(sent) = self.sent.get(index) else {
-            self.skip();
-            return Ok(());
-        };
-        let answer = self.master.handle(&sent.call, Some(&sent.stream))?;
-        if !is_done(answer.status) {
-            self.skip();
-            return Ok(());
+        match self.sent.get(index) {
+            Some(sent) => {
+                let answer = self.master.handle(&sent.call, Some(&sent.stream))?;
+                self.answered(answer)
+            }
+            None => {
+                self.skip();
+                Ok(())
+            }
         }
-        push_all(&mut self.waiting, answer.events)
     }
 
-    /// A SUBSCRIBE reaches the master. Where it is carried out the session's stream has broken, and what waited is lost.
+    /// The master answered a call: its events wait, or it was refused.
+    fn answered(&mut self, answer: Answer) -> Result<(), NoMemory>
+        requires { HasRoom self.old }
+        ensures { OnOk result (self.new ≡ taking self.old answer.status answer.events.items) }
+    {
+        if is_done(answer.status) {
+            push_all(&mut self.waiting, answer.events)
+        } else {
+            self.skip();
+            Ok(())
+        }
+    }
+
+    /// A SUBSCRIBE reaches the master.
     fn resubscribe(&mut self) -> Result<(), NoMemory>
         requires { HasRoom self.old }
         ensures { OnOk result (self.new ≡ resubscribing self.old (subscribe_answer self.old)) }
     {
         let info = world_info(self.alloc)?;
-        let Ok(call) = self.session.subscribe(&info) else {
-            return Err(NoMemory);
-        };
-        let answer = self.master.handle(&call, None)?;
-        if !is_done(answer.status) {
-            self.skip();
-            return Ok(());
+        match self.session.subscribe(&info) {
+            Ok(call) => self.subscribe(&call),
+            Err(_) => Err(NoMemory),
         }
-        self.session.broken();
-        self.waiting = answer.events;
+    }
+
+    /// This SUBSCRIBE reaches the master, and is answered.
+    fn subscribe(&mut self, call: &Call) -> Result<(), NoMemory>
+        requires { HasRoom self.old }
+        ensures { OnOk result (self.new ≡ resubscribing self.old (handled self.old.master call.now None)) }
+    {
+        let answer = self.master.handle(call, None)?;
+        self.reopen(answer);
         Ok(())
+    }
+
+    /// The master answered a SUBSCRIBE. Where it was carried out the session's stream has broken, and what waited is lost.
+    fn reopen(&mut self, answer: Answer)
+        requires { HasRoom self.old }
+        ensures { self.new ≡ reopening self.old answer.status answer.events.items }
+    {
+        if is_done(answer.status) {
+            self.session.broken();
+            self.waiting = answer.events;
+        } else {
+            self.skip();
+        }
+    }
+}
+
+/// Takes the first event out, if there is one.
+fn take_first(waiting: &mut Vec<Event>) -> Option<Event>
+    ensures some { IfSome result (λ event. waiting.old.items ≡ event ∷ waiting.new.items) }
+    ensures none { IfNone result ((waiting.old.items ≡ []) × (waiting.new.items ≡ [])) }
+{
+    if waiting.is_empty() {
+        None
+    } else {
+        Some(waiting.remove(0))
+    }
+}
+
+/// The id of the current stream.
+fn current(master: &Master) -> Option<StreamId>
+    ensures { result ≡ master.now.stream }
+{
+    match master.stream() {
+        Some(stream) => Some(stream.copy()),
+        None => None,
     }
 }
 
