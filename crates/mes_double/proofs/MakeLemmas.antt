@@ -18,7 +18,7 @@ use Rattle.mes_master.specs.declared.refusal.MasterRefusal.TheVariants.{NoMemory
 use Rattle.mes_master.specs.Masters.{MasterState, MasterAnswer, IsAnswer, plain, handled}
 use Rattle.mes_master.specs.Sending.{Sends}
 use Rattle.mes_double.specs.declared.sent.Sent.{Sent}
-use Rattle.mes_double.specs.Worlds.{WorldState, skip, sending, hearing, Wishes, is_done, answer_to, answering, arriving, resubscribing, taking, reopening}
+use Rattle.mes_double.specs.Worlds.{WorldState, skip, sending, hearing, Wishes, is_done, answer_to, answering, arriving, resubscribing, subscribe_answer, world_info, taking, reopening}
 use Rattle.mes_double.proofs.ListLemmas.{apart, filter-all}
 use Rattle.mes_double.proofs.ReachLemmas.{out-status, Reached, reach}
 use Rattle.mes_double.proofs.ReachLemmas.Reached.{turned, opened, did}
@@ -118,3 +118,12 @@ wish-none w v call none h = subst (λ (o : Option (List ℕ)). Wishes w call o v
 -- what the session says of a SUBSCRIBE changes nothing of it
 pub subscribe-said : (s : Held) (known : Option Id) (info : FrameworkInfo) → after s (Said (subscribe_call known info)) ≡ s
 subscribe-said s known info = λ i. record { framework = s.framework; connected = s.connected; hand = filter-all s.hand i; owed = filter-all s.owed i }
+
+module _ {T E : Type 0} where
+  pub resubscribed-ok : (result : Result T E) (w v : WorldState) (s : Held) (call : Call) (info : FrameworkInfo) → info ≡ world_info → call ≡ subscribe_call w.session.framework info → Applied w.session call s
+      → OnOk result (v ≡ resubscribing (record w { session = s }) (handled w.master call None)) → OnOk result (v ≡ resubscribing w (subscribe_answer w))
+  resubscribed-ok (Ok t) w v s call info known is a h =
+      let asked : call ≡ subscribe_call w.session.framework world_info = is ∙ ap (subscribe_call w.session.framework) known in
+      let same : s ≡ w.session = a.next ∙ ap (λ (x : Call). after w.session (Said x)) asked ∙ subscribe-said w.session w.session.framework world_info in
+      h ∙ (λ i. resubscribing (record w { session = same i }) (handled w.master (asked i) None))
+  resubscribed-ok (Err x) w v s call info known is a h = tt

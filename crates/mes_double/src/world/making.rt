@@ -217,13 +217,13 @@ impl World {
     {
         let info = world_info(self.alloc)?;
         match self.session.subscribe(&info) {
-            Ok(call) => self.subscribe(&call),
+            Ok(call) => self.open_stream(&call),
             Err(_) => Err(NoMemory),
         }
     }
 
     /// This SUBSCRIBE reaches the master, and is answered.
-    fn subscribe(&mut self, call: &Call) -> Result<(), NoMemory>
+    fn open_stream(&mut self, call: &Call) -> Result<(), NoMemory>
         requires { HasRoom self.old }
         ensures { OnOk result (self.new ≡ resubscribing self.old (handled self.old.master call.now None)) }
     {

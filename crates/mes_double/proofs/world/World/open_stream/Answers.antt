@@ -2,7 +2,7 @@ use Rattle.std.proofs.Common.{None, ap, ◌∙◌}
 use Rattle.mes_master.specs.Masters.{handled}
 use Rattle.mes_double.specs.Worlds.{WorldState, resubscribing}
 use Rattle.mes_double.proofs.MakeLemmas.{reopened}
-use Rattle.mes_double.proofs.world.World.subscribe.Goals as goal
+use Rattle.mes_double.proofs.world.World.open_stream.Goals as goal
 
 pub returns : goal.returns
 returns c =
