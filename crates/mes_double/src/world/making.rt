@@ -1,5 +1,5 @@
 //! How a world makes a move.
-ghost use Rattle.std.specs.Prelude.{◌≡◌, ◌++◌, [], ◌∷◌, None, Some, IfSome, IfNone, IfOk, OnOk, IsErr};
+ghost use Rattle.std.specs.Prelude.{◌≡◌, ◌++◌, [], ◌∷◌, slice_get, option_copied, None, Some, IfSome, IfNone, IfOk, OnOk, IsErr};
 ghost use Rattle.mes_msg.specs.declared.entry.Entry.TheVariants.{Heard};
 ghost use Rattle.mes_session.specs.History.{after};
 ghost use Rattle.mes_master.specs.Masters.{handled};
@@ -185,7 +185,7 @@ impl World {
         requires { HasRoom self.old }
         ensures { OnOk result (Happens self.old (moves.Arrive index) self.new) }
     {
-        match self.sent.get(index) {
+        match sent_at(self.sent.as_slice(), index) {
             Some(sent) => {
                 let answer = self.master.handle(&sent.call, Some(&sent.stream))?;
                 self.answered(answer)
@@ -256,6 +256,13 @@ fn take_first(waiting: &mut Vec<Event>) -> Option<Event>
     } else {
         Some(waiting.remove(0))
     }
+}
+
+/// The call that was sent at that place.
+fn sent_at(sent: &[Sent], index: usize) -> Option<&Sent>
+    ensures { option_copied result ≡ slice_get sent.now index }
+{
+    sent.get(index)
 }
 
 /// The id of the current stream.

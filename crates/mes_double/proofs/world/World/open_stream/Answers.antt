@@ -7,5 +7,5 @@ use Rattle.mes_double.proofs.world.World.open_stream.Goals as goal
 pub returns : goal.returns
 returns c =
     c.reopen.ensures
-    ∙ reopened _ c.args.call.now c.in_ok-answer.answer.status c.in_ok-answer.answer.events.items c.handle-answer.new.self c.in_ok-answer.ensures.ok
+    ∙ reopened _ c.args.call.now c.in_ok-answer.answer.status c.in_ok-answer.answer.events.items c.handle.new.self c.in_ok-answer.ensures.ok
     ∙ ap (λ (w : WorldState). resubscribing w (handled w.master c.args.call.now None)) c.self.view_is
