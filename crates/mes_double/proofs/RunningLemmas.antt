@@ -1,5 +1,6 @@
 -- A world that was led to by the moves so far.
-use Rattle.std.proofs.Common.{Ok, Err, ◌≡◌, ℕ, ◌+◌, ◌≤◌, ◌<◌, Bool, true, false, if◌then◌else◌, List, [], ◌∷◌, ◌++◌, take, Option, Some, None, refl, sym, ap, subst, ◌∙◌, arith}
+use Rattle.std.proofs.Common.{Ok, Err, ◌≡◌, ℕ, zero, suc, length, get_or, ◌+◌, ◌≤◌, ◌<◌, Bool, true, false, if◌then◌else◌, List, [], ◌∷◌, ◌++◌, take, Option, Some, None, refl, sym, ap, subst, ◌∙◌, arith}
+use Rattle.std.proofs.lemmas.List.{take_more}
 use Rattle.mes_resource.specs.declared.id.Id.{Id}
 use Rattle.mes_event.specs.declared.event.Event.{Event}
 use Rattle.mes_call.specs.declared.call.Call.{Call}
@@ -82,3 +83,25 @@ so-far-more framework ids made count world later move s h =
       is = refl;
       skipped = omega (arith, few world later move h, s.skipped);
     }
+
+-- ---- over a list of moves
+
+take-past : (list : List Move) (n : ℕ) → length list ≤ n → take n list ≡ list
+take-past [] zero past = refl
+take-past [] (suc n) past = refl
+take-past (move ∷ list) zero past = absurd (omega (arith, past))
+take-past (move ∷ list) (suc n) past = ap (λ (l : List Move). move ∷ l) (take-past list n (omega (arith, past)))
+
+module _ (framework : Id) (ids : List (List ℕ)) (list : List Move) (index : ℕ) (world : WorldState) (s : SoFar framework ids (take index list) index world) where
+  pub so-far-next : (move : Move) (later : WorldState) → index < length list → move ≡ get_or list index move → Happens world move later
+      → SoFar framework ids (take (index + 1) list) (index + 1) later
+  so-far-next move later within is h =
+      subst (λ (l : List Move). SoFar framework ids l (index + 1) later) (sym (take_more list index move within ∙ ap (λ (z : Move). take index list ++ z ∷ []) (sym is)))
+      (so-far-more framework ids (take index list) index world later move s h)
+
+  pub so-far-whole : length list ≤ index → (c : Course) × IsCourse framework ids list c × (c.world ≡ world)
+  so-far-whole past = (s.course, subst (λ (l : List Move). IsCourse framework ids l s.course) (take-past list index past) s.leads, s.is)
+
+  -- there is room to count one more as skipped
+  pub so-far-room : index < length list → length list ≤ 18446744073709551615 → world.skipped < 18446744073709551615
+  so-far-room within most = omega (arith, s.skipped, within, most)
