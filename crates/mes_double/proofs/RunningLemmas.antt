@@ -10,7 +10,7 @@ use Rattle.mes_master.specs.Sending.{Sends}
 use Rattle.mes_double.specs.declared.moves.Move.{Move}
 use Rattle.mes_double.specs.declared.moves.Move.TheVariants as moves
 use Rattle.mes_double.specs.declared.sent.Sent.{Sent}
-use Rattle.mes_double.specs.Worlds.{WorldState, new_world, skip, sending, hearing, wishing, Wishes, is_done, answering, arriving, resubscribing, Happens}
+use Rattle.mes_double.specs.Worlds.{WorldState, new_world, skip, sending, hearing, wishing, Wishes, is_done, answer_to, answering, arriving, resubscribing, Happens}
 use Rattle.mes_double.specs.Courses.{Course, begun, heard_by, arrived_by, Follows, Leads, IsCourse}
 use Rattle.mes_double.proofs.OneLemmas.{leads-more}
 
@@ -41,7 +41,7 @@ few-answered w a = few-if (is_done a.status) w _ _ (omega arith) (omega arith)
 
 few-arrived : (w : WorldState) (o : Option Sent) → (arriving w o).skipped ≤ w.skipped + 1
 few-arrived w None = omega arith
-few-arrived w (Some p) = few-answered w _
+few-arrived w (Some p) = few-answered w (answer_to w p)
 
 few-opened : (w : WorldState) (a : MasterAnswer) → (resubscribing w a).skipped ≤ w.skipped + 1
 few-opened w a = few-if (is_done a.status) w _ _ (omega arith) (omega arith)

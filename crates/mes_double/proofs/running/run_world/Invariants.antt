@@ -4,4 +4,4 @@ use Rattle.mes_double.proofs.running.run_world.Given as goal
 
 -- the world that the moves so far lead to
 abbrev pub invariant-loop-next : goal.invariant-loop-next
-invariant-loop-next l = SoFar l.framework l.ids.items (take l.next-index l.moves) l.next-index l.world
+invariant-loop-next l = SoFar l.fn.framework l.fn.ids.items (take l.next-index l.moves) l.next-index l.world
