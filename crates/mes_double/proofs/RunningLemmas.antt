@@ -1,16 +1,16 @@
 -- A world that was led to by the moves so far.
-use Rattle.std.proofs.Common.{Ok, Err, ◌≡◌, ℕ, zero, suc, length, get_or, ◌+◌, ◌≤◌, ◌<◌, Bool, true, false, if◌then◌else◌, List, [], ◌∷◌, ◌++◌, take, Option, Some, None, refl, sym, ap, subst, ◌∙◌, arith}
+use Rattle.std.proofs.Common.{Ok, Err, ◌≡◌, ℕ, zero, suc, length, get_or, ◌+◌, ◌≤◌, ◌<◌, Bool, true, false, if◌then◌else◌, List, [], ◌∷◌, ◌++◌, take, slice_get, Option, Some, None, refl, sym, ap, subst, ◌∙◌, arith}
 use Rattle.std.proofs.lemmas.List.{take_more}
 use Rattle.mes_resource.specs.declared.id.Id.{Id}
 use Rattle.mes_event.specs.declared.event.Event.{Event}
 use Rattle.mes_call.specs.declared.call.Call.{Call}
 use Rattle.mes_hand.specs.declared.refusal.Refusal.{Refusal}
 use Rattle.mes_master.specs.Masters.{MasterAnswer}
-use Rattle.mes_master.specs.Sending.{Sends}
+use Rattle.mes_master.specs.Sending.{Sends, offers_sent, rescind_sent, update_sent, resend_sent}
 use Rattle.mes_double.specs.declared.moves.Move.{Move}
 use Rattle.mes_double.specs.declared.moves.Move.TheVariants as moves
 use Rattle.mes_double.specs.declared.sent.Sent.{Sent}
-use Rattle.mes_double.specs.Worlds.{WorldState, new_world, skip, sending, hearing, wishing, Wishes, is_done, answer_to, answering, arriving, resubscribing, Happens}
+use Rattle.mes_double.specs.Worlds.{WorldState, new_world, skip, sending, hearing, wishing, Wishes, is_done, answer_to, answering, arriving, resubscribing, subscribe_answer, Happens}
 use Rattle.mes_double.specs.Courses.{Course, begun, heard_by, arrived_by, Follows, Leads, IsCourse}
 use Rattle.mes_double.proofs.OneLemmas.{leads-more}
 
@@ -47,14 +47,14 @@ few-opened : (w : WorldState) (a : MasterAnswer) → (resubscribing w a).skipped
 few-opened w a = few-if (is_done a.status) w _ _ (omega arith) (omega arith)
 
 pub few : (w later : WorldState) (move : Move) → Happens w move later → later.skipped ≤ w.skipped + 1
-few w later (moves.Offer list) h = subst (λ (x : WorldState). x.skipped ≤ w.skipped + 1) (sym h) (few-sent w _)
-few w later (moves.Rescind name) h = subst (λ (x : WorldState). x.skipped ≤ w.skipped + 1) (sym h) (few-sent w _)
-few w later (moves.Update status) h = subst (λ (x : WorldState). x.skipped ≤ w.skipped + 1) (sym h) (few-sent w _)
-few w later (moves.Resend index) h = subst (λ (x : WorldState). x.skipped ≤ w.skipped + 1) (sym h) (few-sent w _)
-few w later moves.Hear h = subst (λ (x : WorldState). x.skipped ≤ w.skipped + 1) (sym h) (few-heard w _)
+few w later (moves.Offer list) h = subst (λ (x : WorldState). x.skipped ≤ w.skipped + 1) (sym h) (few-sent w (offers_sent w.master list))
+few w later (moves.Rescind name) h = subst (λ (x : WorldState). x.skipped ≤ w.skipped + 1) (sym h) (few-sent w (rescind_sent w.master name))
+few w later (moves.Update status) h = subst (λ (x : WorldState). x.skipped ≤ w.skipped + 1) (sym h) (few-sent w (update_sent w.master status))
+few w later (moves.Resend index) h = subst (λ (x : WorldState). x.skipped ≤ w.skipped + 1) (sym h) (few-sent w (resend_sent w.master index))
+few w later moves.Hear h = subst (λ (x : WorldState). x.skipped ≤ w.skipped + 1) (sym h) (few-heard w w.waiting)
 few w later (moves.Wish call) h = few-wished w later call w.master.stream h
-few w later (moves.Arrive index) h = subst (λ (x : WorldState). x.skipped ≤ w.skipped + 1) (sym h) (few-arrived w _)
-few w later moves.Resubscribe h = subst (λ (x : WorldState). x.skipped ≤ w.skipped + 1) (sym h) (few-opened w _)
+few w later (moves.Arrive index) h = subst (λ (x : WorldState). x.skipped ≤ w.skipped + 1) (sym h) (few-arrived w (slice_get w.sent index))
+few w later moves.Resubscribe h = subst (λ (x : WorldState). x.skipped ≤ w.skipped + 1) (sym h) (few-opened w (subscribe_answer w))
 
 -- ---- the moves so far
 
