@@ -6,7 +6,7 @@ loop-next-init c = so-far-begun c.args.framework c.args.ids.items c.new-world.re
 
 pub loop-next-preserved : goal.loop-next-preserved
 loop-next-preserved c =
-    so-far-next c.args.framework c.args.ids.items c.args.moves.now c.loop-next.next-index c.loop-next.world c.loop-next.invariant c.next-item.result c.make.new.world
+    so-far-next c.args.framework c.args.ids.items c.args.moves.now c.loop-next.next-index c.loop-next.world c.loop-next.invariant c.next-item.result c.make.new.self
     c.loop-next-test.true c.next-item.is c.in_ok-make.ensures
 
 pub returns : goal.returns
