@@ -1,0 +1,13 @@
+use Rattle.mes_double.proofs.RunningLemmas.{so-far-begun, so-far-next, so-far-whole}
+use Rattle.mes_double.proofs.running.run_world.Goals as goal
+
+pub loop-next-init : goal.loop-next-init
+loop-next-init c = so-far-begun c.args.framework c.args.ids.items c.new-world.result c.new-world.ensures
+
+pub loop-next-preserved : goal.loop-next-preserved
+loop-next-preserved c =
+    so-far-next c.args.framework c.args.ids.items c.args.moves.now c.loop-next.next-index c.loop-next.world c.loop-next.invariant c.next-item.result c.make.new.self
+    c.loop-next-test.true c.next-item.is c.in_ok-make.ensures
+
+pub returns : goal.returns
+returns c = so-far-whole c.args.framework c.args.ids.items c.args.moves.now c.loop-next.next-index c.loop-next.world c.loop-next.invariant c.loop-next-test.false

@@ -1,0 +1,10 @@
+use Rattle.std.proofs.Common.{◌≡◌, ◌++◌}
+use Rattle.std.specs.Vec.Iter.{into_iter_items}
+use Rattle.mes_double.proofs.world.making.push_all.Given as goal
+
+-- what is there and what is still to come is what there was and all that comes
+abbrev pub invariant-loop-event : goal.invariant-loop-event
+invariant-loop-event l =
+    (goal.iterator-loop-event).can_next l.event-iterator
+    × (goal.iterator-loop-event).is_finite l.event-iterator
+    × (l.waiting.items ++ into_iter_items l.event-iterator ≡ l.initial.waiting.items ++ l.fn.events.items)

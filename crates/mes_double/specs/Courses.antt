@@ -1,0 +1,60 @@
+-- One move after the other, with what was heard and what arrived on the way.
+use Rattle.std.specs.Prelude.{◌≡◌, ℕ, List, [], ◌∷◌, ◌++◌, take, slice_get, Option, Some, None}
+use Rattle.mes_resource.specs.declared.id.Id.{Id}
+use Rattle.mes_offer.specs.declared.offer.Offer.{Offer}
+use Rattle.mes_task.specs.declared.task_info.TaskInfo.{TaskInfo}
+use Rattle.mes_event.specs.declared.event.Event.{Event}
+use Rattle.mes_double.specs.declared.moves.Move.{Move}
+use Rattle.mes_double.specs.declared.moves.Move.TheVariants as moves
+use Rattle.mes_double.specs.declared.sent.Sent.{Sent}
+use Rattle.mes_double.specs.Worlds.{WorldState, new_world, answer_to, Happens}
+
+-- a call that was sent and reached the master, for the first time or again, refused or not
+pub record Arrival : Type 0 where
+  -- its place among the calls that were sent
+  pub index : ℕ
+  pub sent : Sent
+  -- what it was answered, and the offers that it took away and the tasks that it launched
+  pub status : ℕ
+  pub took : List Offer
+  pub ran : List TaskInfo
+
+-- a world, and what was heard and what arrived so far
+pub record Course : Type 0 where
+  pub world : WorldState
+  pub heard : List Event
+  pub arrivals : List Arrival
+
+abbrev pub begun : Id → List (List ℕ) → Course
+begun framework ids = record { world = new_world framework ids; heard = []; arrivals = [] }
+
+-- what a move makes the session hear
+abbrev pub heard_by : WorldState → Move → List Event
+heard_by w moves.Hear = take 1 w.waiting
+heard_by w _ = []
+
+abbrev pub arrival : WorldState → ℕ → Option Sent → List Arrival
+arrival w index None = []
+arrival w index (Some p) =
+    let answer = answer_to w p in
+    record { index = index; sent = p; status = answer.status; took = answer.took; ran = answer.ran } ∷ []
+
+-- what a move makes arrive
+abbrev pub arrived_by : WorldState → Move → List Arrival
+arrived_by w (moves.Arrive index) = arrival w index (slice_get w.sent index)
+arrived_by w _ = []
+
+-- one move further
+pub record Follows (c : Course) (move : Move) (d : Course) : Type 0 where
+  pub world : Happens c.world move d.world
+  pub heard : d.heard ≡ c.heard ++ heard_by c.world move
+  pub arrivals : d.arrivals ≡ c.arrivals ++ arrived_by c.world move
+
+-- to where these moves lead
+abbrev pub Leads : Course → List Move → Course → Type 0
+Leads c [] d = d ≡ c
+Leads c (move ∷ more) d = (e : Course) × Follows c move e × Leads e more d
+
+-- the course that these moves take in a new world
+abbrev pub IsCourse : Id → List (List ℕ) → List Move → Course → Type 0
+IsCourse framework ids list c = Leads (begun framework ids) list c

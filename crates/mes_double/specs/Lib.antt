@@ -1,0 +1,3 @@
+pub mod Worlds
+pub mod Courses
+pub mod Promises

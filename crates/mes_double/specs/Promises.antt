@@ -1,0 +1,102 @@
+-- What holds of every course, whatever is lost, late and repeated on it.
+use Rattle.std.specs.Prelude.{◌≡◌, ℕ, Bool, true, false, ◌&&◌, not, ◌==◌, if◌then◌else◌, fold, filter, List, [], ◌∷◌, suc, slice_get, Some}
+use Rattle.std.specs.List.{flat_map, list_any}
+use Rattle.std.specs.Str.{bytes_eq}
+use Rattle.mes_offer.specs.declared.offer.Offer.{Offer}
+use Rattle.mes_task.specs.declared.owed_key.OwedKey.{OwedKey}
+use Rattle.mes_task.specs.declared.task_info.TaskInfo.{TaskInfo}
+use Rattle.mes_event.specs.declared.event.Event.{Event}
+use Rattle.mes_call.specs.declared.call.Call.{Call}
+use Rattle.mes_call.specs.declared.call.Call.TheVariants as of
+use Rattle.mes_msg.specs.declared.entry.Entry.TheVariants.{Heard}
+use Rattle.mes_fit.specs.Fits.{Fits}
+use Rattle.mes_hand.specs.Held.{Held, names, is_owed}
+use Rattle.mes_hand.specs.Calls.{named_by}
+use Rattle.mes_hand.specs.Refusals.{stands_twice, ids_of}
+use Rattle.mes_session.specs.History.{after, owed_by}
+use Rattle.mes_master.specs.Masters.{MasterState}
+use Rattle.mes_master.specs.Sending.{offer_ids}
+use Rattle.mes_double.specs.declared.moves.Move.TheVariants as moves
+use Rattle.mes_double.specs.declared.sent.Sent.{Sent}
+use Rattle.mes_double.specs.Worlds.{WorldState}
+use Rattle.mes_double.specs.Courses.{Arrival, Course, Follows}
+
+-- ---- acknowledgements
+
+-- each key that was acknowledged is that of an UPDATE that the session heard
+abbrev pub AckedWereHeard : Course → Type 0
+AckedWereHeard c = (key : OwedKey) → is_owed key c.world.master.acked ≡ true → list_any (λ (e : Event). is_owed key (owed_by (Heard e))) c.heard ≡ true
+
+-- ---- tasks and offers
+
+-- the tasks that were launched, and the offers that were taken away, in order
+abbrev pub all_ran : List Arrival → List TaskInfo
+all_ran arrivals = flat_map (λ (a : Arrival). a.ran) arrivals
+
+abbrev pub all_took : List Arrival → List Offer
+all_took arrivals = flat_map (λ (a : Arrival). a.took) arrivals
+
+-- what was launched is what arrivals launched, and no task was launched twice
+pub record LaunchedOnce (c : Course) : Type 0 where
+  pub launched : c.world.master.launched ≡ ids_of (all_ran c.arrivals)
+  pub once : stands_twice c.world.master.launched ≡ false
+
+-- no offer was taken away twice
+abbrev pub TakenOnce : Course → Type 0
+TakenOnce c = stands_twice (offer_ids (all_took c.arrivals)) ≡ false
+
+-- what an arrival launched fits the offers that it took away
+abbrev pub WhatRanFits : Course → Type 0
+WhatRanFits c = (i : ℕ) (a : Arrival) → slice_get c.arrivals i ≡ Some a → Fits a.took a.ran
+
+-- ---- calls that come again
+
+-- an ACCEPT, a DECLINE or an ACKNOWLEDGE
+abbrev pub may_repeat : Call → Bool
+may_repeat (of.Accept framework body) = true
+may_repeat (of.Decline framework body) = true
+may_repeat (of.Acknowledge framework body) = true
+may_repeat _ = false
+
+-- the same offers are outstanding, and the same tasks were launched and updates acknowledged
+pub record IsUnmoved (before later : MasterState) : Type 0 where
+  pub outstanding : later.outstanding ≡ before.outstanding
+  pub launched : later.launched ≡ before.launched
+  pub acked : later.acked ≡ before.acked
+
+-- a call that was answered 202 moves nothing when it arrives again, now or at any later time
+abbrev pub AgainMovesNothing : Course → Type 0
+AgainMovesNothing c = (i : ℕ) (a : Arrival) (d : Course) → slice_get c.arrivals i ≡ Some a → a.status ≡ 202 → may_repeat a.sent.call ≡ true
+    → Follows c (moves.Arrive a.index) d → IsUnmoved c.world.master d.world.master
+
+-- ---- hand and outstanding offers
+
+-- the session once all that waits is heard
+abbrev pub caught_up : WorldState → Held
+caught_up w = fold (λ (s : Held) (e : Event). after s (Heard e)) w.session w.waiting
+
+-- whether the call that was sent at that place has arrived
+abbrev pub has_arrived : List Arrival → ℕ → Bool
+has_arrived arrivals index = list_any (λ (a : Arrival). a.index == index) arrivals
+
+-- those of the calls that were sent, from that place on, that have not arrived
+abbrev pub on_the_way : List Arrival → ℕ → List Sent → List Sent
+on_the_way arrivals at [] = []
+on_the_way arrivals at (p ∷ more) = if has_arrived arrivals at then on_the_way arrivals (suc at) more else p ∷ on_the_way arrivals (suc at) more
+
+-- the calls that have not arrived
+abbrev pub not_arrived : Course → List Sent
+not_arrived c = on_the_way c.arrivals 0 c.world.sent
+
+-- whether an ACCEPT or a DECLINE of the offer was sent with this stream and has not arrived
+abbrev pub is_under_way : Course → List ℕ → Offer → Bool
+is_under_way c stream o = list_any (λ (p : Sent). bytes_eq stream p.stream && names (named_by p.call) o) (not_arrived c)
+
+-- Where a stream is current, the hand, once all that waits is heard, is what is outstanding without what is under way.
+abbrev pub HandAgrees : Course → Type 0
+HandAgrees c = (stream : List ℕ) → c.world.master.stream ≡ Some stream
+    → (caught_up c.world).hand ≡ filter (λ (o : Offer). not (is_under_way c stream o)) c.world.master.outstanding
+
+-- Where a stream is current, nothing waits and all has arrived, the hand is what is outstanding.
+abbrev pub AllAgrees : Course → Type 0
+AllAgrees c = (stream : List ℕ) → c.world.master.stream ≡ Some stream → c.world.waiting ≡ [] → not_arrived c ≡ [] → c.world.session.hand ≡ c.world.master.outstanding

@@ -1,0 +1,126 @@
+-- A framework's session and a test master, and between them what is lost, late and repeated: what they hold, and what each move leaves.
+use Rattle.std.specs.Prelude.{◌≡◌, ℕ, Bool, ◌+◌, ◌<◌, ◌==◌, ◌||◌, if◌then◌else◌, List, [], ◌∷◌, ◌++◌, slice_get, Option, Some, None, Result, Ok, Err, codes}
+use Rattle.mes_resource.specs.declared.id.Id.{Id}
+use Rattle.mes_model.specs.declared.framework_info.FrameworkInfo.{FrameworkInfo}
+use Rattle.mes_event.specs.declared.event.Event.{Event}
+use Rattle.mes_call.specs.declared.call.Call.{Call}
+use Rattle.mes_msg.specs.declared.entry.Entry.TheVariants.{Heard, Said, Broken}
+use Rattle.mes_hand.specs.declared.refusal.Refusal.{Refusal}
+use Rattle.mes_hand.specs.Held.{Held}
+use Rattle.mes_hand.specs.Refusals.{Answers}
+use Rattle.mes_session.specs.History.{at_first, after}
+use Rattle.mes_session.specs.Making.{subscribe_call}
+use Rattle.mes_master.specs.Masters.{MasterState, MasterAnswer, handled}
+use Rattle.mes_master.specs.Sending.{Sends, offers_sent, rescind_sent, update_sent, resend_sent}
+use Rattle.mes_master.specs.Runs.{new_master}
+use Rattle.mes_double.specs.declared.moves.Move.{Move}
+use Rattle.mes_double.specs.declared.moves.Move.TheVariants as moves
+use Rattle.mes_double.specs.declared.sent.Sent.{Sent}
+
+-- what a world holds
+pub record WorldState : Type 0 where
+  pub master : MasterState
+  pub session : Held
+  -- the events that were sent and not heard yet, in order
+  pub waiting : List Event
+  -- each call that the session said, with the id of the stream that was current then, in order
+  pub sent : List Sent
+  -- how many moves could not be made, or were refused
+  pub skipped : ℕ
+
+abbrev pub new_world : Id → List (List ℕ) → WorldState
+new_world framework ids = record { master = new_master framework ids; session = at_first; waiting = []; sent = []; skipped = 0 }
+
+-- one more skipped move can be counted
+abbrev pub HasRoom : WorldState → Type 0
+HasRoom w = w.skipped < 18446744073709551615
+
+-- a move that can't be made, or is refused, changes nothing but this
+abbrev pub skip : WorldState → WorldState
+skip w = record w { skipped = w.skipped + 1 }
+
+-- ---- events
+
+-- what the master sends of its own waits
+abbrev pub sending : WorldState → Sends → WorldState
+sending w (Ok sent) = record w { master = sent.1; waiting = w.waiting ++ sent.0 ∷ [] }
+sending w (Err why) = skip w
+
+-- the first of the events is heard, and the others wait
+abbrev pub hearing : WorldState → List Event → WorldState
+hearing w [] = skip w
+hearing w (event ∷ events) = record w { session = after w.session (Heard event); waiting = events }
+
+-- ---- calls
+
+-- a call that the session may say is said, and sent with the id of the stream; one that it refuses is not
+abbrev pub wishing : WorldState → Call → List ℕ → Option Refusal → WorldState
+wishing w call stream None = record w { session = after w.session (Said call); sent = w.sent ++ record { call = call; stream = stream } ∷ [] }
+wishing w call stream (Some why) = skip w
+
+-- what the session answers to a call decides; without a stream nothing is asked of it
+abbrev pub Wishes : WorldState → Call → Option (List ℕ) → WorldState → Type 0
+Wishes w call None later = later ≡ skip w
+Wishes w call (Some stream) later = (answer : Option Refusal) × Answers w.session call answer × (later ≡ wishing w call stream answer)
+
+-- whether a call was carried out
+abbrev pub is_done : ℕ → Bool
+is_done status = status == 200 || status == 202
+
+-- what the master answers to a call that was sent
+abbrev pub answer_to : WorldState → Sent → MasterAnswer
+answer_to w p = handled w.master p.call (Some p.stream)
+
+-- a call was carried out, and the events of its answer wait
+abbrev pub answering : WorldState → MasterAnswer → WorldState
+answering w answer = if is_done answer.status then record w { master = answer.master; waiting = w.waiting ++ answer.events } else skip w
+
+-- a call that was sent reaches the master
+abbrev pub arriving : WorldState → Option Sent → WorldState
+arriving w None = skip w
+arriving w (Some p) = answering w (answer_to w p)
+
+-- ---- streams
+
+-- what the framework of a world tells of itself: the user `root` and the name `world`
+abbrev pub world_info : FrameworkInfo
+world_info = record {
+  user = codes "root";
+  name = codes "world";
+  id = None;
+  failover_timeout = None;
+  checkpoint = None;
+  roles = [];
+  hostname = None;
+  principal = None;
+  capabilities = [];
+}
+
+-- what the master answers to a SUBSCRIBE, which names no stream, and the framework where the session knows it
+abbrev pub subscribe_answer : WorldState → MasterAnswer
+subscribe_answer w = handled w.master (subscribe_call w.session.framework world_info) None
+
+-- Where it was carried out the session's stream has broken, and what waited is lost.
+abbrev pub resubscribing : WorldState → MasterAnswer → WorldState
+resubscribing w answer = if is_done answer.status then record w { master = answer.master; session = after w.session Broken; waiting = answer.events } else skip w
+
+-- ---- the same once the master has answered
+
+abbrev pub taking : WorldState → ℕ → List Event → WorldState
+taking w status events = if is_done status then record w { waiting = w.waiting ++ events } else skip w
+
+abbrev pub reopening : WorldState → ℕ → List Event → WorldState
+reopening w status events = if is_done status then record w { session = after w.session Broken; waiting = events } else skip w
+
+-- ---- each move
+
+-- what a move leaves; of a call that is wished, by what the session answers to it
+abbrev pub Happens : WorldState → Move → WorldState → Type 0
+Happens w (moves.Offer offers) later = later ≡ sending w (offers_sent w.master offers)
+Happens w (moves.Rescind name) later = later ≡ sending w (rescind_sent w.master name)
+Happens w (moves.Update status) later = later ≡ sending w (update_sent w.master status)
+Happens w (moves.Resend index) later = later ≡ sending w (resend_sent w.master index)
+Happens w moves.Hear later = later ≡ hearing w w.waiting
+Happens w (moves.Wish call) later = Wishes w call w.master.stream later
+Happens w (moves.Arrive index) later = later ≡ arriving w (slice_get w.sent index)
+Happens w moves.Resubscribe later = later ≡ resubscribing w (subscribe_answer w)
