@@ -1,5 +1,5 @@
 -- A stream written: its head, and behind it its records in chunks.
-use Rattle.std.proofs.Common.{◌≡◌, ℕ, ◌^◌, ◌<◌, ◌≤◌, List, ◌++◌, Option, Result, Ok, Err, length, take, refl, subst, arith}
+use Rattle.std.proofs.Common.{◌≡◌, ℕ, ◌^◌, ◌<◌, ◌≤◌, List, ◌++◌, Result, Ok, Err, length, take, refl, subst}
 use Rattle.std.specs.Io.KnownBytes.{Appends}
 use Rattle.mes_event.specs.declared.event.Event.{Event}
 use Rattle.mes_frame.proofs.Framings.{one_framing, some_framing}

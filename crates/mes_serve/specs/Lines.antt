@@ -6,7 +6,7 @@ use Rattle.mes_frame.specs.Devices.{Device}
 use Rattle.mes_frame.specs.declared.write.WriteFault.{WriteFault}
 use Rattle.mes_serve.specs.Writing.{Stopped, Wrote}
 use Rattle.mes_serve.specs.declared.asked.Asked.{Asked}
-use Rattle.mes_serve.specs.declared.asked.Asked.TheVariants.{NoRequest, NoCall, Calls}
+use Rattle.mes_serve.specs.declared.asked.Asked.TheVariants.{Calls}
 use Rattle.mes_serve.specs.declared.reply.Reply.{Reply}
 use Rattle.mes_serve.specs.declared.reply.Reply.TheVariants.{Nothing, Status, Stream}
 use Rattle.mes_serve.specs.declared.served.Served.{Served}
@@ -63,4 +63,3 @@ outcome (Err unsent.Write) = Unwritten
 abbrev pub Tells : List ℕ → Served → Device → Device → Result Served WriteFault → Type 0
 Tells text meant old new (Ok served) = Wrote old new text × (served ≡ meant)
 Tells text meant old new (Err fault) = Stopped old new text fault
-

@@ -29,9 +29,7 @@ pub(crate) fn served_lines(
     match sent {
         Ok(()) => served_line(status, asked.name(), ""),
         Err(Unsent::NoMemory) => served_line("-", asked.name(), ""),
-        Err(Unsent::Encode | Unsent::Write) => {
-            served_line(status, asked.name(), WRITE_FAILED)
-        }
+        Err(Unsent::Encode | Unsent::Write) => { served_line(status, asked.name(), WRITE_FAILED) }
     }
 }
 
