@@ -172,15 +172,20 @@ fn writes_of_show(alloc: Global, bytes: &[u8]) -> u64 {
     out.counts().calls
 }
 
+/// So many heartbeats.
+fn heartbeats(alloc: Global, count: usize) -> Result<Vec<u8>, Fail> {
+    let mut bytes = Vec::new(alloc);
+    for _ in 0..count {
+        bytes.extend_from_slice(HEARTBEAT.as_bytes())?;
+    }
+    Ok(bytes)
+}
+
 // The lines of a read's events go out by one write: 22 of them end in the first 512 bytes. The last line is a write of its own.
 #[test]
 fn lines_go_out_by_few_writes(rt: HostRuntime) -> Result<(), Fail> {
-    let mut bytes = Vec::new(rt.alloc());
-    assert_eq!(rt; writes_of_show(rt.alloc(), bytes.as_slice()), 1);
-    for (records, writes) in [(1, 2), (22, 2), (23, 3), (45, 4)] {
-        while bytes.len() < records * HEARTBEAT.len() {
-            bytes.extend_from_slice(HEARTBEAT.as_bytes())?;
-        }
+    for (records, writes) in [(0, 1), (1, 2), (22, 2), (23, 3), (45, 4)] {
+        let bytes = heartbeats(rt.alloc(), records)?;
         assert_eq!(rt; writes_of_show(rt.alloc(), bytes.as_slice()), writes);
     }
     Ok(())
