@@ -185,7 +185,7 @@ module _ (c : Course) (j : Joined c) (k : Counted c) (t : Fitted c) where
       | inl e ↦ t.given i p e
       | inr e ↦ subst (Given c.world.master.outstanding) e.1
           (let named : AreOf (accepted_by call) (offers_named c.world.session.hand (accepted_by call)) × AllSame c.world.master.outstanding (offers_named c.world.session.hand (accepted_by call)) =
-            named-are c.world.master.outstanding c.world.session.hand t.hand (accepted_by call) (λ n d at. named-found c.world.session call said n d (accepted-at call n d at)) in
+          named-are c.world.master.outstanding c.world.session.hand t.hand (accepted_by call) (λ n d at. named-found c.world.session call said n d (accepted-at call n d at)) in
           record {
             list = offers_named c.world.session.hand (accepted_by call);
             are = named.0;

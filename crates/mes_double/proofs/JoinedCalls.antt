@@ -122,7 +122,7 @@ module _ (c : Course) (j : Joined c) (index : ℕ) (p : Sent) (there : slice_get
   way-other stream o e =
       sym (or-none _)
       ∙ ap (λ (b : Bool). any_way (λ (q : Sent). bytes_eq stream q.stream && names (named_by q.call) o) (c.arrivals ++ a ∷ []) 0 c.world.sent || b)
-        (sym ((λ i. not (has_arrived c.arrivals a.index) && (bytes_eq stream p.stream && e i)) ∙ none (not (has_arrived c.arrivals a.index)) (bytes_eq stream p.stream)))
+      (sym ((λ i. not (has_arrived c.arrivals a.index) && (bytes_eq stream p.stream && e i)) ∙ none (not (has_arrived c.arrivals a.index)) (bytes_eq stream p.stream)))
       ∙ moved stream o
     where
       none : (x y : Bool) → (x && (y && false)) ≡ false
@@ -196,7 +196,7 @@ module _ (c : Course) (j : Joined c) (index : ℕ) (p : Sent) (there : slice_get
           ∙ j.agrees stream e
           ∙ sym (same-in _ _ c.world.master.outstanding (as-before stream e))
           ∙ sym (filter-two (λ (o : Offer). not (any_way (λ (q : Sent). bytes_eq stream q.stream && names (named_by q.call) o) (c.arrivals ++ a ∷ []) 0 c.world.sent)) (λ (o : Offer). not (names (named_by p.call) o))
-            (λ (o : Offer). not (names (named_by p.call) o) && not (any_way (λ (q : Sent). bytes_eq stream q.stream && names (named_by q.call) o) (c.arrivals ++ a ∷ []) 0 c.world.sent)) (λ o. refl) c.world.master.outstanding)
+          (λ (o : Offer). not (names (named_by p.call) o) && not (any_way (λ (q : Sent). bytes_eq stream q.stream && names (named_by q.call) o) (c.arrivals ++ a ∷ []) 0 c.world.sent)) (λ o. refl) c.world.master.outstanding)
           ∙ ap (filter (λ (o : Offer). not (any_way (λ (q : Sent). bytes_eq stream q.stream && names (named_by q.call) o) (c.arrivals ++ a ∷ []) 0 c.world.sent))) (sym gone);
     }
 

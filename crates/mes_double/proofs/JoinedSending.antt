@@ -113,8 +113,13 @@ module _ (c : Course) (j : Joined c) where
         known = λ x.
             let all : count x c.world.session.hand + count x (brought (e ∷ events)) ≤ times x c.world.master.offered =
             subst (λ (l : List Event). count x c.world.session.hand + count x (brought l) ≤ times x c.world.master.offered) w (j.known x) in
-            omega (arith, all, count-append x (offers_of (Heard e)) (brought events), count-with x (filter (λ (o : Offer). not (takes_offer (name_of o) (Heard e))) c.world.session.hand) (offers_of (Heard e)),
-              count-filter x (λ (o : Offer). not (takes_offer (name_of o) (Heard e))) c.world.session.hand);
+            omega (
+              arith,
+              all,
+              count-append x (offers_of (Heard e)) (brought events),
+              count-with x (filter (λ (o : Offer). not (takes_offer (name_of o) (Heard e))) c.world.session.hand) (offers_of (Heard e)),
+              count-filter x (λ (o : Offer). not (takes_offer (name_of o) (Heard e))) c.world.session.hand,
+            );
         named = j.named;
         live = j.live;
         framework = λ known is. named-now own_all.0 (subscribed_by (Heard e)) refl known is;
