@@ -17,11 +17,13 @@ pub enum Move {
     Resend(usize),
     /// The first event that waits is heard, if one waits.
     Hear,
-    /// The session says a call, or refuses it by S1 to S7, and it is sent with the id of the current stream, if there is one.
+    /// The session says a call, or refuses it by S1 to S7, and it is sent with the id of the current stream. Where no stream is current
+    /// it can't be said.
     Wish(Call),
     /// The call that was sent at this place reaches the master, for the first time or again. Its answer is 202, or 200 for a SUBSCRIBE,
     /// and the events of it wait; or else the move was refused.
     Arrive(usize),
-    /// The stream breaks, what waits is lost, and a SUBSCRIBE reaches the master; nothing breaks where that is refused.
+    /// A SUBSCRIBE reaches the master, and where it is carried out the stream breaks first, and what waits is lost. Where it is refused,
+    /// nothing breaks and what waits stays.
     Resubscribe,
 }

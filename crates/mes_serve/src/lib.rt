@@ -1,6 +1,5 @@
 #![tactic(auto)]
-//! The two ends of the scheduler API over any devices: a connection to a test master served, and a stream of events subscribed to
-//! and followed.
+//! A connection to a test master, served over any devices.
 
 mod asked;
 mod laws;
