@@ -12,15 +12,15 @@ use Rattle.mes_part.specs.declared.field.FieldWhy.TheVariants.{LeftOut}
 use Rattle.mes_resource.specs.Ids.{id, lawful_id}
 use Rattle.mes_resource.specs.declared.id.Id.{Id}
 use Rattle.mes_record.specs.Messages.{message_body, lawful_message_body}
-use Rattle.mes_call.specs.CallBodies.{subscribe, accept, decline, kill, acknowledge, reconcile, shutdown, lawful_subscribe, lawful_accept, lawful_decline, lawful_kill, lawful_acknowledge, lawful_reconcile, lawful_shutdown}
+use Rattle.mes_call_body.specs.CallBodies.{subscribe, accept, decline, kill, acknowledge, reconcile, shutdown, lawful_subscribe, lawful_accept, lawful_decline, lawful_kill, lawful_acknowledge, lawful_reconcile, lawful_shutdown}
 use Rattle.mes_record.specs.declared.message.Message.{Message}
-use Rattle.mes_call.specs.declared.call_bodies.Subscribe.{Subscribe}
-use Rattle.mes_call.specs.declared.call_bodies.Accept.{Accept}
-use Rattle.mes_call.specs.declared.call_bodies.Decline.{Decline}
-use Rattle.mes_call.specs.declared.call_bodies.Kill.{Kill}
-use Rattle.mes_call.specs.declared.call_bodies.Acknowledge.{Acknowledge}
-use Rattle.mes_call.specs.declared.call_bodies.Reconcile.{Reconcile}
-use Rattle.mes_call.specs.declared.call_bodies.Shutdown.{Shutdown}
+use Rattle.mes_call_body.specs.declared.call_bodies.Subscribe.{Subscribe}
+use Rattle.mes_call_body.specs.declared.call_bodies.Accept.{Accept}
+use Rattle.mes_call_body.specs.declared.call_bodies.Decline.{Decline}
+use Rattle.mes_call_body.specs.declared.call_bodies.Kill.{Kill}
+use Rattle.mes_call_body.specs.declared.call_bodies.Acknowledge.{Acknowledge}
+use Rattle.mes_call_body.specs.declared.call_bodies.Reconcile.{Reconcile}
+use Rattle.mes_call_body.specs.declared.call_bodies.Shutdown.{Shutdown}
 use Rattle.mes_call.specs.declared.call.Call.{Call}
 use Rattle.mes_call.specs.declared.call.Call.TheVariants as of
 

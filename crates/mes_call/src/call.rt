@@ -14,7 +14,7 @@ ghost use Rattle.mes_resource.specs.Ids.{id};
 ghost use Rattle.mes_call.specs.Calls.{call, call_rows, with_body, without_body};
 ghost use Rattle.mes_record.specs.Texts.{IsTextOf, IsFaultOf, canonical_of, Fits, IsRefusalOf};
 
-use crate::call_bodies::{Accept, Acknowledge, Decline, Kill, Reconcile, Shutdown, Subscribe};
+use mes_call_body::{Accept, Acknowledge, Decline, Kill, Reconcile, Shutdown, Subscribe};
 use mes_frame::Limit;
 use mes_json::{Element, Json, NoMemory, Text};
 use mes_part::{

@@ -3,9 +3,8 @@
 //! copied, and written as its canonical text.
 
 mod call;
-mod call_bodies;
-mod operation;
 
 pub use call::Call;
-pub use call_bodies::{Accept, Acknowledge, Decline, Kill, Reconcile, Shutdown, Subscribe};
-pub use operation::Operation;
+pub use mes_call_body::{
+    Accept, Acknowledge, Decline, Kill, Operation, Reconcile, Shutdown, Subscribe,
+};

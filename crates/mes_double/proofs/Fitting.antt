@@ -14,7 +14,7 @@ use Rattle.mes_event.specs.declared.event.Event.{Event}
 use Rattle.mes_event.specs.declared.event.Event.TheVariants as event
 use Rattle.mes_call.specs.declared.call.Call.{Call}
 use Rattle.mes_call.specs.declared.call.Call.TheVariants as of
-use Rattle.mes_call.specs.declared.call_bodies.Accept.{Accept}
+use Rattle.mes_call_body.specs.declared.call_bodies.Accept.{Accept}
 use Rattle.mes_msg.specs.declared.entry.Entry.TheVariants.{Heard, Said, Broken}
 use Rattle.mes_fit.specs.Fits.{Fits}
 use Rattle.mes_fit.specs.Launched.{launched, launched_by}

@@ -2,8 +2,8 @@
 use Rattle.std.specs.Prelude.{◌≡◌, ℕ, ◌+◌, ◌<◌, List, length, get_or, take, min}
 use Rattle.std.specs.List.{flat_map}
 use Rattle.mes_task.specs.declared.task_info.TaskInfo.{TaskInfo}
-use Rattle.mes_call.specs.declared.operation.Operation.{Operation}
-use Rattle.mes_call.specs.declared.operation.Operation.TheVariants as of
+use Rattle.mes_call_body.specs.declared.operation.Operation.{Operation}
+use Rattle.mes_call_body.specs.declared.operation.Operation.TheVariants as of
 
 -- the tasks of one operation
 abbrev pub launched_by : Operation → List TaskInfo

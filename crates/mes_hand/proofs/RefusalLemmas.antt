@@ -9,10 +9,10 @@ use Rattle.std.specs.Str.{bytes_eq}
 use Rattle.std.specs.Cmp.Lexicographic.{bytes_decides}
 use Rattle.mes_call.specs.declared.call.Call.{Call}
 use Rattle.mes_call.specs.declared.call.Call.TheVariants as of
-use Rattle.mes_call.specs.declared.call_bodies.Accept.{Accept}
-use Rattle.mes_call.specs.declared.call_bodies.Decline.{Decline}
-use Rattle.mes_call.specs.declared.call_bodies.Acknowledge.{Acknowledge}
-use Rattle.mes_call.specs.declared.operation.Operation.{Operation}
+use Rattle.mes_call_body.specs.declared.call_bodies.Accept.{Accept}
+use Rattle.mes_call_body.specs.declared.call_bodies.Decline.{Decline}
+use Rattle.mes_call_body.specs.declared.call_bodies.Acknowledge.{Acknowledge}
+use Rattle.mes_call_body.specs.declared.operation.Operation.{Operation}
 use Rattle.mes_fit.specs.Fits.{Fits, BreaksAt, IsFirstBreach}
 use Rattle.mes_fit.specs.Launched.{as_index, launched, launched_by}
 use Rattle.mes_fit.proofs.FitsLemmas.{no-breach, fits-none as fits-of}

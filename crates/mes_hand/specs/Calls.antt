@@ -6,8 +6,8 @@ use Rattle.mes_task.specs.declared.owed_key.OwedKey.{OwedKey}
 use Rattle.mes_task.specs.declared.task_info.TaskInfo.{TaskInfo}
 use Rattle.mes_call.specs.declared.call.Call.{Call}
 use Rattle.mes_call.specs.declared.call.Call.TheVariants as of
-use Rattle.mes_call.specs.declared.operation.Operation.{Operation}
-use Rattle.mes_call.specs.declared.operation.Operation.TheVariants.{Launch}
+use Rattle.mes_call_body.specs.declared.operation.Operation.{Operation}
+use Rattle.mes_call_body.specs.declared.operation.Operation.TheVariants.{Launch}
 use Rattle.mes_fit.specs.Launched.{launched, launched_by}
 
 -- the framework that it names; a SUBSCRIBE may name none

@@ -14,7 +14,7 @@ use Rattle.mes_event.specs.declared.bodies.Subscribed.{Subscribed}
 use Rattle.mes_event.specs.declared.bodies.Update.{Update}
 use Rattle.mes_call.specs.declared.call.Call.{Call}
 use Rattle.mes_call.specs.declared.call.Call.TheVariants as of
-use Rattle.mes_call.specs.declared.call_bodies.Acknowledge.{Acknowledge}
+use Rattle.mes_call_body.specs.declared.call_bodies.Acknowledge.{Acknowledge}
 use Rattle.mes_event.specs.declared.event.Event.{Event}
 use Rattle.mes_event.specs.declared.event.Event.TheVariants as event
 use Rattle.mes_fit.specs.Launched.{launched, launched_by}

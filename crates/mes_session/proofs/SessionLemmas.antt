@@ -14,9 +14,9 @@ use Rattle.mes_record.specs.declared.message.Message.{Message}
 use Rattle.mes_event.specs.declared.bodies.Rescind.{Rescind}
 use Rattle.mes_event.specs.declared.bodies.Update.{Update}
 use Rattle.mes_event.specs.declared.event.Event.TheVariants as heard
-use Rattle.mes_call.specs.declared.call_bodies.Accept.{Accept}
-use Rattle.mes_call.specs.declared.call_bodies.Acknowledge.{Acknowledge}
-use Rattle.mes_call.specs.declared.call_bodies.Decline.{Decline}
+use Rattle.mes_call_body.specs.declared.call_bodies.Accept.{Accept}
+use Rattle.mes_call_body.specs.declared.call_bodies.Acknowledge.{Acknowledge}
+use Rattle.mes_call_body.specs.declared.call_bodies.Decline.{Decline}
 use Rattle.mes_event.specs.declared.event.Event.{Event}
 use Rattle.mes_call.specs.declared.call.Call.{Call}
 use Rattle.mes_call.specs.declared.call.Call.TheVariants as of

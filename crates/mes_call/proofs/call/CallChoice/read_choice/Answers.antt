@@ -3,7 +3,7 @@ use Rattle.std.specs.Prelude.{codes}
 use Rattle.mes_part.specs.Rows.{optional, required}
 use Rattle.mes_resource.specs.Ids.{id}
 use Rattle.mes_record.specs.Messages.{message_body}
-use Rattle.mes_call.specs.CallBodies.{reconcile, shutdown, subscribe}
+use Rattle.mes_call_body.specs.CallBodies.{reconcile, shutdown, subscribe}
 use Rattle.mes_call.specs.Calls.{with_body, without_body}
 use Rattle.mes_part.proofs.ChoiceLemmas.{found_in, gives_fault}
 use Rattle.mes_call.proofs.call.CallChoice.read_choice.Goals as goal

@@ -24,7 +24,7 @@ const SUBSCRIBE_NAMES: [&str; 1] = ["framework_info"];
 type SubscribeRows = Rows1<Must<FrameworkInfo>>;
 
 impl MadeOf<<SubscribeRows as RowList>::Values> for Subscribe {
-    ghost use Rattle.mes_call.specs.CallBodies.{subscribe_layout};
+    ghost use Rattle.mes_call_body.specs.CallBodies.{subscribe_layout};
 
     ghost to = { subscribe_layout.to };
 
@@ -41,7 +41,7 @@ macro_rules! subscribe_rows {
 }
 
 impl Part for Subscribe {
-    ghost use Rattle.mes_call.specs.CallBodies.{subscribe, lawful_subscribe};
+    ghost use Rattle.mes_call_body.specs.CallBodies.{subscribe, lawful_subscribe};
 
     ghost kind = { subscribe };
 
@@ -88,7 +88,7 @@ const ACCEPT_NAMES: [&str; 3] = ["offer_ids", "operations", "filters"];
 type AcceptRows = Rows3<Many<Id>, Many<Operation>, Maybe<Filters>>;
 
 impl MadeOf<<AcceptRows as RowList>::Values> for Accept {
-    ghost use Rattle.mes_call.specs.CallBodies.{accept_layout};
+    ghost use Rattle.mes_call_body.specs.CallBodies.{accept_layout};
 
     ghost to = { accept_layout.to };
 
@@ -109,7 +109,7 @@ macro_rules! accept_rows {
 }
 
 impl Part for Accept {
-    ghost use Rattle.mes_call.specs.CallBodies.{accept, lawful_accept};
+    ghost use Rattle.mes_call_body.specs.CallBodies.{accept, lawful_accept};
 
     ghost kind = { accept };
 
@@ -154,7 +154,7 @@ const DECLINE_NAMES: [&str; 2] = ["offer_ids", "filters"];
 type DeclineRows = Rows2<Many<Id>, Maybe<Filters>>;
 
 impl MadeOf<<DeclineRows as RowList>::Values> for Decline {
-    ghost use Rattle.mes_call.specs.CallBodies.{decline_layout};
+    ghost use Rattle.mes_call_body.specs.CallBodies.{decline_layout};
 
     ghost to = { decline_layout.to };
 
@@ -174,7 +174,7 @@ macro_rules! decline_rows {
 }
 
 impl Part for Decline {
-    ghost use Rattle.mes_call.specs.CallBodies.{decline, lawful_decline};
+    ghost use Rattle.mes_call_body.specs.CallBodies.{decline, lawful_decline};
 
     ghost kind = { decline };
 
@@ -219,7 +219,7 @@ const KILL_NAMES: [&str; 2] = ["task_id", "agent_id"];
 type KillRows = Rows2<Must<Id>, Maybe<Id>>;
 
 impl MadeOf<<KillRows as RowList>::Values> for Kill {
-    ghost use Rattle.mes_call.specs.CallBodies.{kill_layout};
+    ghost use Rattle.mes_call_body.specs.CallBodies.{kill_layout};
 
     ghost to = { kill_layout.to };
 
@@ -239,7 +239,7 @@ macro_rules! kill_rows {
 }
 
 impl Part for Kill {
-    ghost use Rattle.mes_call.specs.CallBodies.{kill, lawful_kill};
+    ghost use Rattle.mes_call_body.specs.CallBodies.{kill, lawful_kill};
 
     ghost kind = { kill };
 
@@ -286,7 +286,7 @@ const ACKNOWLEDGE_NAMES: [&str; 3] = ["agent_id", "task_id", "uuid"];
 type AcknowledgeRows = Rows3<Must<Id>, Must<Id>, Must<Bytes>>;
 
 impl MadeOf<<AcknowledgeRows as RowList>::Values> for Acknowledge {
-    ghost use Rattle.mes_call.specs.CallBodies.{acknowledge_layout};
+    ghost use Rattle.mes_call_body.specs.CallBodies.{acknowledge_layout};
 
     ghost to = { acknowledge_layout.to };
 
@@ -307,7 +307,7 @@ macro_rules! acknowledge_rows {
 }
 
 impl Part for Acknowledge {
-    ghost use Rattle.mes_call.specs.CallBodies.{acknowledge, lawful_acknowledge};
+    ghost use Rattle.mes_call_body.specs.CallBodies.{acknowledge, lawful_acknowledge};
 
     ghost kind = { acknowledge };
 
@@ -350,7 +350,7 @@ const RECONCILE_NAMES: [&str; 1] = ["tasks"];
 type ReconcileRows = Rows1<Many<TaskRef>>;
 
 impl MadeOf<<ReconcileRows as RowList>::Values> for Reconcile {
-    ghost use Rattle.mes_call.specs.CallBodies.{reconcile_layout};
+    ghost use Rattle.mes_call_body.specs.CallBodies.{reconcile_layout};
 
     ghost to = { reconcile_layout.to };
 
@@ -367,7 +367,7 @@ macro_rules! reconcile_rows {
 }
 
 impl Part for Reconcile {
-    ghost use Rattle.mes_call.specs.CallBodies.{reconcile, lawful_reconcile};
+    ghost use Rattle.mes_call_body.specs.CallBodies.{reconcile, lawful_reconcile};
 
     ghost kind = { reconcile };
 
@@ -412,7 +412,7 @@ const SHUTDOWN_NAMES: [&str; 2] = ["executor_id", "agent_id"];
 type ShutdownRows = Rows2<Must<Id>, Must<Id>>;
 
 impl MadeOf<<ShutdownRows as RowList>::Values> for Shutdown {
-    ghost use Rattle.mes_call.specs.CallBodies.{shutdown_layout};
+    ghost use Rattle.mes_call_body.specs.CallBodies.{shutdown_layout};
 
     ghost to = { shutdown_layout.to };
 
@@ -429,7 +429,7 @@ macro_rules! shutdown_rows {
 }
 
 impl Part for Shutdown {
-    ghost use Rattle.mes_call.specs.CallBodies.{shutdown, lawful_shutdown};
+    ghost use Rattle.mes_call_body.specs.CallBodies.{shutdown, lawful_shutdown};
 
     ghost kind = { shutdown };
 

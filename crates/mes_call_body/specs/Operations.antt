@@ -11,8 +11,8 @@ use Rattle.mes_part.specs.ChoiceLaws.{lawful_no_other, lawful_typed}
 use Rattle.mes_part.specs.declared.field.FieldWhy.TheVariants.{LeftOut}
 use Rattle.mes_task.specs.Tasks.{task_info, lawful_task_info}
 use Rattle.mes_task.specs.declared.task_info.TaskInfo.{TaskInfo}
-use Rattle.mes_call.specs.declared.operation.Operation.{Operation}
-use Rattle.mes_call.specs.declared.operation.Operation.TheVariants as of
+use Rattle.mes_call_body.specs.declared.operation.Operation.{Operation}
+use Rattle.mes_call_body.specs.declared.operation.Operation.TheVariants as of
 
 -- task_infos *
 abbrev pub launch_layout : Layout (List TaskInfo)

@@ -2,7 +2,7 @@
 ghost use Rattle.std.specs.Prelude.{◌≡◌, IfOk, OnOk};
 ghost use Rattle.mes_json.specs.View.{view};
 ghost use Rattle.mes_part.specs.Kinds.{Returns};
-ghost use Rattle.mes_call.specs.Operations.{launch};
+ghost use Rattle.mes_call_body.specs.Operations.{launch};
 
 use mes_json::{Element, Json, NoMemory, Text};
 use mes_part::{
@@ -28,7 +28,7 @@ pub enum Operation {
 const OPERATION_MEMBERS: [&str; 2] = ["type", "launch"];
 
 impl Choice for Operation {
-    ghost use Rattle.mes_call.specs.Operations.{operation_members, operation_rows, lawful_operation_rows};
+    ghost use Rattle.mes_call_body.specs.Operations.{operation_members, operation_rows, lawful_operation_rows};
     ghost use Rattle.std.specs.Prelude.{refl};
 
     ghost names = { operation_members };
@@ -79,7 +79,7 @@ impl Choice for Operation {
 }
 
 impl Part for Operation {
-    ghost use Rattle.mes_call.specs.Operations.{operation, lawful_operation};
+    ghost use Rattle.mes_call_body.specs.Operations.{operation, lawful_operation};
 
     ghost kind = { operation };
 
@@ -142,7 +142,7 @@ const LAUNCH_NAMES: [&str; 1] = ["task_infos"];
 type LaunchRows = Rows1<Many<TaskInfo>>;
 
 impl MadeOf<<LaunchRows as RowList>::Values> for Launch {
-    ghost use Rattle.mes_call.specs.Operations.{launch_layout};
+    ghost use Rattle.mes_call_body.specs.Operations.{launch_layout};
 
     ghost to = { launch_layout.to };
 
@@ -152,7 +152,7 @@ impl MadeOf<<LaunchRows as RowList>::Values> for Launch {
 }
 
 impl Part for Launch {
-    ghost use Rattle.mes_call.specs.Operations.{launch, lawful_launch};
+    ghost use Rattle.mes_call_body.specs.Operations.{launch, lawful_launch};
 
     ghost kind = { launch };
 

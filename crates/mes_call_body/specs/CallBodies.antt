@@ -9,14 +9,14 @@ use Rattle.mes_model.specs.Filters.{filters, lawful_filters}
 use Rattle.mes_model.specs.Frameworks.{framework_info, lawful_framework_info}
 use Rattle.mes_resource.specs.Ids.{id, lawful_id}
 use Rattle.mes_task.specs.Tasks.{task_ref, lawful_task_ref}
-use Rattle.mes_call.specs.Operations.{operation, lawful_operation}
-use Rattle.mes_call.specs.declared.call_bodies.Subscribe.{Subscribe}
-use Rattle.mes_call.specs.declared.call_bodies.Accept.{Accept}
-use Rattle.mes_call.specs.declared.call_bodies.Decline.{Decline}
-use Rattle.mes_call.specs.declared.call_bodies.Kill.{Kill}
-use Rattle.mes_call.specs.declared.call_bodies.Acknowledge.{Acknowledge}
-use Rattle.mes_call.specs.declared.call_bodies.Reconcile.{Reconcile}
-use Rattle.mes_call.specs.declared.call_bodies.Shutdown.{Shutdown}
+use Rattle.mes_call_body.specs.Operations.{operation, lawful_operation}
+use Rattle.mes_call_body.specs.declared.call_bodies.Subscribe.{Subscribe}
+use Rattle.mes_call_body.specs.declared.call_bodies.Accept.{Accept}
+use Rattle.mes_call_body.specs.declared.call_bodies.Decline.{Decline}
+use Rattle.mes_call_body.specs.declared.call_bodies.Kill.{Kill}
+use Rattle.mes_call_body.specs.declared.call_bodies.Acknowledge.{Acknowledge}
+use Rattle.mes_call_body.specs.declared.call_bodies.Reconcile.{Reconcile}
+use Rattle.mes_call_body.specs.declared.call_bodies.Shutdown.{Shutdown}
 
 -- framework_info !
 abbrev pub subscribe_layout : Layout Subscribe

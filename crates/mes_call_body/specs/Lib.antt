@@ -1,0 +1,2 @@
+pub mod CallBodies
+pub mod Operations
