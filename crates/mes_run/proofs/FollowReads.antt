@@ -10,7 +10,7 @@ use Rattle.mes_event.specs.Events.{Spells}
 use Rattle.mes_event.specs.declared.event.Event.{Event}
 use Rattle.mes_stream.specs.EventData.{HoldsData}
 use Rattle.mes_stream.specs.Lines.{fault_text}
-use Rattle.mes_stream.specs.Reading.{ReadingStands, ReadingTakes, ByteEnds, EndsReading, Means}
+use Rattle.mes_stream.specs.Reading.{ReadingStands, ReadingTakes, ByteEnds, EndsReading, Means, told_as}
 use Rattle.mes_stream.specs.Reads.{EndsReads}
 use Rattle.mes_stream.specs.Refusals.{IsEventRefusal}
 use Rattle.mes_stream.specs.Stream.{saturated}
@@ -20,6 +20,8 @@ use Rattle.mes_stream.specs.declared.fault.Report.{Report}
 use Rattle.mes_stream.specs.declared.fault.Stop.{Stop}
 use Rattle.mes_stream.specs.declared.limits.TheConstants.{READ_MOST}
 use Rattle.mes_stream.specs.declared.reading.Reading.{Reading}
+use Rattle.mes_stream.specs.declared.reading.ReadingStop.{ReadingStop}
+use Rattle.mes_stream.specs.declared.reading.ReadingStop.TheVariants as reading_stop
 use Rattle.mes_stream.specs.declared.reads.ReadsEnd.{ReadsEnd}
 use Rattle.mes_stream.specs.declared.reads.ReadsEnd.TheVariants.{Stopped, AtEnd, Failed, Spent}
 use Rattle.mes_stream.specs.declared.stream_reader.Framing.{Framing}
@@ -34,7 +36,8 @@ use Rattle.mes_run.specs.declared.following.Detail.{Detail}
 use Rattle.mes_run.specs.declared.following.Detail.TheVariants.{Counts, Lines}
 use Rattle.mes_run.specs.declared.following.Follower.{Follower}
 use Rattle.mes_run.specs.declared.following.FollowStop.{FollowStop}
-use Rattle.mes_run.specs.declared.following.FollowStop.TheVariants.{Outcome, Unshown}
+use Rattle.mes_run.specs.declared.following.FollowStop.TheVariants as follow_stop
+use Rattle.mes_run.specs.declared.following.FollowStop.TheVariants.{Unshown}
 use Rattle.mes_run.specs.declared.following.Shown.{Shown as Amount}
 use Rattle.mes_run.specs.declared.following.Shown.TheVariants.{All}
 use Rattle.mes_run.specs.declared.following.Shown.TheVariants as seen
@@ -44,13 +47,13 @@ use Rattle.mes_run.proofs.FewEvents.{goes_few, ends_few}
 use Rattle.mes_run.proofs.ShowLemmas.{goes_counted, goes_then_stops, prints_behind, lines_both}
 
 -- however a piece was taken, a front of the bytes has the events
-spelt_of : (framing : Framing) (limit : ℕ) (f : Reading EventReader) (w piece : List ℕ) (values old now : List Event) (fed : Result (Unit {0}) (Result Report Stop)) → old ≡ []
+spelt_of : (framing : Framing) (limit : ℕ) (f : Reading EventReader) (w piece : List ℕ) (values old now : List Event) (fed : Result (Unit {0}) ReadingStop) → old ≡ []
     → ReadingTakes HoldsData Spells IsEventRefusal f framing limit w values piece old now fed → Spelt framing limit (w ++ piece) (values ++ now)
 spelt_of framing limit f w piece values old now (Ok done) none (more, added, s) =
     (w ++ piece, [], sym (append-nil (w ++ piece)), lit≤ tt, inl (rw (added, none) (goes_of HoldsData Spells f.stream framing limit (w ++ piece) (values ++ more) s.0)))
-spelt_of framing limit f w piece values old now (Err (Ok report)) none (more, added, at) =
-    let last = at.last in (at.stream, report.rest.items, at.is, omega (arith, last), inr (rw (added, none) at.ends))
-spelt_of framing limit f w piece values old now (Err (Err stop)) none (more, added, at) =
+spelt_of framing limit f w piece values old now (Err reading_stop.Ended) none (more, added, at) =
+    let last = at.last in (at.stream, f.rest.items, at.is, omega (arith, last), inr (rw (added, none) at.ends))
+spelt_of framing limit f w piece values old now (Err (reading_stop.Fault fault)) none (more, added, at) =
     let s = at.stops in
     let last = at.last in
     let whole = ap length s.is in
@@ -114,7 +117,7 @@ goes_start first out framing limit fresh = record {
 
 module _ (first d after : Follower) (out mid printed_out : Device) (w piece : List ℕ) (now : List Event) (before : GoesFrom first out d mid w) where
   -- what became of one more piece
-  abbrev pub Takes : Result (Unit {0}) (Result Report Stop) → Type 0
+  abbrev pub Takes : Result (Unit {0}) ReadingStop → Type 0
   Takes fed = (framing : Framing) (limit : ℕ) (v : List ℕ) (values : List Event) → ReadingStands HoldsData Spells d.reading framing limit v values
       → ReadingTakes HoldsData Spells IsEventRefusal after.reading framing limit v values piece d.events.items now fed
 
@@ -139,8 +142,8 @@ module _ (first d after : Follower) (out mid printed_out : Device) (w piece : Li
         detail_is = same ∙ s.detail_is;
       }
 
-  pub follows_to : (outcome : Result Report Stop) → Takes (Err outcome) → Shows (Ok (All after.number)) → StopsFrom first out after printed_out w piece (Outcome outcome)
-  follows_to outcome takes shows framing limit fresh =
+  pub follows_to : (stop : ReadingStop) → Takes (Err stop) → Shows (Ok (All after.number)) → StopsFrom first out after printed_out w piece (follow_stop.Reading stop)
+  follows_to stop takes shows framing limit fresh =
       let s = before framing limit fresh in
       let t = takes framing limit w s.events s.stands in
       let went = shown_more s.events now d.lines after.lines out mid printed_out s.lines first.detail after.number s.shown (rw s.detail_is at (shows (1 + length s.events) s.number)) in
@@ -154,20 +157,20 @@ module _ (first d after : Follower) (out mid printed_out : Device) (w piece : Li
       }
 
   -- what the piece brought
-  brings : (framing : Framing) (limit : ℕ) (events : List Event) (fed : Result (Unit {0}) (Result Report Stop)) → d.events.items ≡ [] → ReadingStands HoldsData Spells d.reading framing limit w events → Takes fed
+  brings : (framing : Framing) (limit : ℕ) (events : List Event) (fed : Result (Unit {0}) ReadingStop) → d.events.items ≡ [] → ReadingStands HoldsData Spells d.reading framing limit w events → Takes fed
       → Brings framing limit w piece events now
   brings framing limit events fed none stands takes = record {
     had = goes_of HoldsData Spells d.reading.stream framing limit w events stands.0;
     has = spelt_of framing limit after.reading w piece events d.events.items now fed none (takes framing limit w events stands);
   }
 
-  pub follows_cut_off : (fed : Result (Unit {0}) (Result Report Stop)) (fault : WriteFault) → Takes fed → Shows (Err fault) → StopsFrom first out after printed_out w piece (Unshown (why.Output fault))
+  pub follows_cut_off : (fed : Result (Unit {0}) ReadingStop) (fault : WriteFault) → Takes fed → Shows (Err fault) → StopsFrom first out after printed_out w piece (Unshown (why.Output fault))
   follows_cut_off fed fault takes shows framing limit fresh =
       let s = before framing limit fresh in
       let off = cut s.events now d.lines after.lines out mid printed_out s.lines first.detail fault s.shown (rw s.detail_is at (shows (1 + length s.events) s.number)) in
       (s.events, now, brings framing limit s.events fed s.cleared s.stands takes, off.0, off.1)
 
-  pub follows_without : (fed : Result (Unit {0}) (Result Report Stop)) → Takes fed → Shows (Ok seen.NoMemory) → StopsFrom first out after printed_out w piece (Unshown why.NoMemory)
+  pub follows_without : (fed : Result (Unit {0}) ReadingStop) → Takes fed → Shows (Ok seen.NoMemory) → StopsFrom first out after printed_out w piece (Unshown why.NoMemory)
   follows_without fed takes shows framing limit fresh =
       let s = before framing limit fresh in
       let none = lacks s.events now d.lines after.lines out mid printed_out s.lines first.detail s.shown (rw s.detail_is at (shows (1 + length s.events) s.number)) in
@@ -208,13 +211,13 @@ module _ (framing : Framing) (limit reads : ℕ) (few : reads ≤ READS_MOST) (i
   HasEnded end = EndsReads (GoesFrom first out now mid) (StopsFrom first out now mid) reads input.counts rest.counts rest.bytes w end
 
   -- the stream came to its outcome
-  pub follows_outcome : (end : ReadsEnd FollowStop) (read : ReadsEnd (Result Report Stop)) (outcome : Result Report Stop) (late : Device) (events : ℕ) (ended : Ended) → HasEnded end → ended_of end ≡ Ok read → Means HoldsData Spells now.reading read outcome
+  pub follows_outcome : (end : ReadsEnd FollowStop) (read : ReadsEnd ReadingStop) (outcome : Result Report Stop) (late : Device) (events : ℕ) (ended : Ended) → HasEnded end → ended_of end ≡ Ok read → Means HoldsData Spells now.reading read outcome
       → events ≡ now.number - 1 → Prints mid late (outcome_line events outcome ++ 10 ∷ []) (outcome_status outcome) ended → Follows first.detail framing limit reads input rest out late (ended_behind now.lines.sent ended)
   follows_outcome (Stopped (Unshown reason)) read outcome late events ended ends is means count prints =
       let clash : Err reason ≡ Ok read = is in absurd (cc)
-  follows_outcome (Stopped (Outcome told)) read outcome late events ended (front, piece, at, stops, asked) is means count prints =
+  follows_outcome (Stopped (follow_stop.Reading told)) read outcome late events ended (front, piece, at, stops, asked) is means count prints =
       let same : read ≡ Stopped told = cc in
-      let one : outcome ≡ told = subst (λ (r : ReadsEnd (Result Report Stop)). Means HoldsData Spells now.reading r outcome) same means in
+      let one : outcome ≡ told_as now.reading told = subst (λ (r : ReadsEnd ReadingStop). Means HoldsData Spells now.reading r outcome) same means in
       let s = stops framing limit fresh in
       let ends : ByteEnds framing Spells IsEventRefusal limit w s.events outcome = rw (one, at.is) s.ends in
       let all = count ∙ counted reads asked.0 now.number w s.events few asked.1.most asked.1.bytes (byte_few framing limit w s.events outcome ends) s.number in
@@ -222,21 +225,21 @@ module _ (framing : Framing) (limit reads : ℕ) (few : reads ≤ READS_MOST) (i
   follows_outcome AtEnd read outcome late events ended (goes, last, asked) is means count prints =
       let same : read ≡ AtEnd = cc in
       let s = goes framing limit fresh in
-      let told = subst (λ (r : ReadsEnd (Result Report Stop)). Means HoldsData Spells now.reading r outcome) same means in
+      let told = subst (λ (r : ReadsEnd ReadingStop). Means HoldsData Spells now.reading r outcome) same means in
       let fewer = goes_few framing limit w s.events (goes_of HoldsData Spells now.reading.stream framing limit w s.events s.stands.0) in
       let all = count ∙ counted reads asked.0 now.number w s.events few asked.1.most asked.1.bytes fewer s.number in
       outcome_printed first.detail framing limit reads input rest out mid late w s.events outcome now.lines.sent ended consumes (inr (inl (told framing limit w s.events s.stands, last, asked))) s.shown (rw all at prints)
   follows_outcome Failed read outcome late events ended (goes, asked) is means count prints =
       let same : read ≡ Failed = cc in
       let s = goes framing limit fresh in
-      let told = subst (λ (r : ReadsEnd (Result Report Stop)). Means HoldsData Spells now.reading r outcome) same means in
+      let told = subst (λ (r : ReadsEnd ReadingStop). Means HoldsData Spells now.reading r outcome) same means in
       let fewer = goes_few framing limit w s.events (goes_of HoldsData Spells now.reading.stream framing limit w s.events s.stands.0) in
       let all = count ∙ counted reads asked.0 now.number w s.events few asked.1.most asked.1.bytes fewer s.number in
       outcome_printed first.detail framing limit reads input rest out mid late w s.events outcome now.lines.sent ended consumes (inr (inr (inl (told framing limit w s.events s.stands, asked)))) s.shown (rw all at prints)
   follows_outcome Spent read outcome late events ended (goes, asked) is means count prints =
       let same : read ≡ Spent = cc in
       let s = goes framing limit fresh in
-      let told = subst (λ (r : ReadsEnd (Result Report Stop)). Means HoldsData Spells now.reading r outcome) same means in
+      let told = subst (λ (r : ReadsEnd ReadingStop). Means HoldsData Spells now.reading r outcome) same means in
       let fewer = goes_few framing limit w s.events (goes_of HoldsData Spells now.reading.stream framing limit w s.events s.stands.0) in
       let all = count ∙ counted reads reads now.number w s.events few asked.most asked.bytes fewer s.number in
       outcome_printed first.detail framing limit reads input rest out mid late w s.events outcome now.lines.sent ended consumes (inr (inr (inr (told framing limit w s.events s.stands, asked)))) s.shown (rw all at prints)
@@ -248,7 +251,7 @@ module _ (framing : Framing) (limit reads : ℕ) (few : reads ≤ READS_MOST) (i
       let s = stops framing limit fresh in
       rw s.3 (w, s.0, inr (inl (s.1, fault.sent, (consumes, record { front = front; piece = piece; read = at; had = s.2.had; has = rw at.is s.2.has }, asked), rw same at s.4, refl)))
   follows_cut (Stopped (Unshown why.NoMemory)) fault ends is = absurd (cc)
-  follows_cut (Stopped (Outcome told)) fault ends is = absurd (cc)
+  follows_cut (Stopped (follow_stop.Reading told)) fault ends is = absurd (cc)
   follows_cut AtEnd fault ends is = absurd (cc)
   follows_cut Failed fault ends is = absurd (cc)
   follows_cut Spent fault ends is = absurd (cc)
@@ -261,7 +264,7 @@ module _ (framing : Framing) (limit reads : ℕ) (few : reads ≤ READS_MOST) (i
       let went = goes_counted out mid (lines_from 1 (s.0 ++ s.1)) now.lines.sent s.6 in
       rw s.5 (w, s.0, inr (inr (s.1, s.2, s.3, (consumes, record { front = front; piece = piece; read = at; had = s.4.had; has = rw at.is s.4.has }, asked), prints_behind out mid late (lines_from 1 (s.0 ++ s.1)) (fault_text NoMemory 0 ++ 10 ∷ []) now.lines.sent 1 ended went.0 went.1 prints)))
   follows_lacking (Stopped (Unshown (why.Output fault))) late ended ends is prints = absurd (cc)
-  follows_lacking (Stopped (Outcome told)) late ended ends is prints = absurd (cc)
+  follows_lacking (Stopped (follow_stop.Reading told)) late ended ends is prints = absurd (cc)
   follows_lacking AtEnd late ended ends is prints = absurd (cc)
   follows_lacking Failed late ended ends is prints = absurd (cc)
   follows_lacking Spent late ended ends is prints = absurd (cc)

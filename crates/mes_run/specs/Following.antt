@@ -7,11 +7,10 @@ use Rattle.mes_event.specs.Events.{Spells}
 use Rattle.mes_event.specs.declared.event.Event.{Event}
 use Rattle.mes_stream.specs.EventData.{HoldsData}
 use Rattle.mes_stream.specs.Framings.{GoesIn}
-use Rattle.mes_stream.specs.Reading.{ReadingStands, ByteEnds}
+use Rattle.mes_stream.specs.Reading.{ReadingStands, ByteEnds, told_as}
 use Rattle.mes_stream.specs.Refusals.{IsEventRefusal}
 use Rattle.mes_stream.specs.Stream.{saturated}
-use Rattle.mes_stream.specs.declared.fault.Report.{Report}
-use Rattle.mes_stream.specs.declared.fault.Stop.{Stop}
+use Rattle.mes_stream.specs.declared.reading.ReadingStop.{ReadingStop}
 use Rattle.mes_stream.specs.declared.reads.ReadsEnd.{ReadsEnd}
 use Rattle.mes_stream.specs.declared.reads.ReadsEnd.TheVariants.{Stopped, AtEnd, Failed, Spent}
 use Rattle.mes_stream.specs.declared.stream_reader.Framing.{Framing}
@@ -21,7 +20,7 @@ use Rattle.mes_run.specs.declared.following.Detail.{Detail}
 use Rattle.mes_run.specs.declared.following.Detail.TheVariants.{Counts, Lines}
 use Rattle.mes_run.specs.declared.following.Follower.{Follower}
 use Rattle.mes_run.specs.declared.following.FollowStop.{FollowStop}
-use Rattle.mes_run.specs.declared.following.FollowStop.TheVariants.{Outcome, Unshown}
+use Rattle.mes_run.specs.declared.following.FollowStop.TheVariants.{Reading, Unshown}
 use Rattle.mes_run.specs.declared.following.Shown.{Shown}
 use Rattle.mes_run.specs.declared.following.Shown.TheVariants.{All}
 use Rattle.mes_run.specs.declared.following.Shown.TheVariants as seen
@@ -80,9 +79,9 @@ pub record Followed (detail : Detail) (framing : Framing) (limit : ℕ) (out pri
   pub detail_is : d.detail ≡ detail
 
 -- a byte of the bytes w ended the stream, or stops the reading, and what is wanted of their events was printed
-pub record FollowedTo (detail : Detail) (framing : Framing) (limit : ℕ) (out printed : Device) (d : Follower) (w : List ℕ) (outcome : Result Report Stop) : Type 0 where
+pub record FollowedTo (detail : Detail) (framing : Framing) (limit : ℕ) (out printed : Device) (d : Follower) (w : List ℕ) (stop : ReadingStop) : Type 0 where
   pub events : List Event
-  pub ends : ByteEnds framing Spells IsEventRefusal limit w events outcome
+  pub ends : ByteEnds framing Spells IsEventRefusal limit w events (told_as d.reading stop)
   pub shown : HasShown detail out printed d events
   pub number : d.number ≡ saturated (1 + length events)
 
@@ -91,10 +90,10 @@ pub record Brings (framing : Framing) (limit : ℕ) (w piece : List ℕ) (before
   pub had : GoesIn framing Spells limit w before
   pub has : Spelt framing limit (w ++ piece) (before ++ last)
 
--- Why it wants no more bytes behind this piece: the stream came to its outcome; or the output failed in the lines of the events that
+-- Why it wants no more bytes behind this piece: the reading of the stream has stopped; or the output failed in the lines of the events that
 -- the piece brought; or memory was refused for those of one, behind the lines of the events before it.
 abbrev pub StopsAs : Detail → Framing → ℕ → Device → Device → Follower → List ℕ → List ℕ → FollowStop → Type 0
-StopsAs detail framing limit out printed d w piece (Outcome outcome) = FollowedTo detail framing limit out printed d (w ++ piece) outcome
+StopsAs detail framing limit out printed d w piece (Reading stop) = FollowedTo detail framing limit out printed d (w ++ piece) stop
 StopsAs detail framing limit out printed d w piece (Unshown (why.Output fault)) =
     (before : List Event) × (last : List Event) × Brings framing limit w piece before last × (detail ≡ Lines)
     × IsCutOff out printed (lines_from 1 before) (lines_from (1 + length before) last) fault.sent
@@ -111,8 +110,8 @@ StopsFrom first out d printed w piece stop =
     (framing : Framing) (limit : ℕ) → IsFresh first framing limit → StopsAs first.detail framing limit out printed d w piece stop
 
 -- how the reads ended, where the events were shown so far; else why they were not
-abbrev pub ended_of : ReadsEnd FollowStop → Result (ReadsEnd (Result Report Stop)) Why
-ended_of (Stopped (Outcome outcome)) = Ok (Stopped outcome)
+abbrev pub ended_of : ReadsEnd FollowStop → Result (ReadsEnd ReadingStop) Why
+ended_of (Stopped (Reading stop)) = Ok (Stopped stop)
 ended_of (Stopped (Unshown why)) = Err why
 ended_of AtEnd = Ok AtEnd
 ended_of Failed = Ok Failed

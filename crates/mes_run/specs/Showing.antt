@@ -7,7 +7,7 @@ use Rattle.mes_event.specs.declared.event.Event.{Event}
 use Rattle.mes_frame.specs.Devices.{Device}
 use Rattle.mes_stream.specs.Lines.{fault_text}
 use Rattle.mes_stream.specs.Framings.{GoesIn, EndsIn}
-use Rattle.mes_stream.specs.Reads.{AskedSome, LastRead}
+use Rattle.mes_stream.specs.Reads.{SomeReadsMade, LastRead}
 use Rattle.mes_stream.specs.Stream.{saturated}
 use Rattle.mes_stream.specs.declared.limits.TheConstants.{READ_MOST}
 use Rattle.mes_stream.specs.declared.stream_reader.Framing.{Framing}
@@ -47,7 +47,7 @@ pub record LastEvents (framing : Framing) (limit : ℕ) (w : List ℕ) (before l
 -- the bytes w were taken from the input by reads that each gave some, the last of which brought the events `last`
 abbrev pub TakesEvents : Framing → ℕ → ℕ → Device → Device → List ℕ → List Event → List Event → Type 0
 TakesEvents framing limit reads input rest w before last = Consumes input.bytes rest.bytes w × LastEvents framing limit w before last
-    × AskedSome reads input.counts rest.counts w 0 0
+    × SomeReadsMade reads input.counts rest.counts w 0 0
 
 -- The bytes w were taken from the input. They were read as the events up to the outcome; the lines of all events went out, and
 -- then the outcome's line was printed. Or the output failed in the lines of the events that the last read brought; those of the

@@ -13,7 +13,7 @@ use crate::line_buffer::LineBuffer;
 use crate::print::{out_of_memory, print_outcome};
 use mes_frame::{Limit, Sink, Source, WriteFault};
 use mes_msg::Event;
-use mes_stream::{Consumer, EventReader, Framing, Reading, ReadsEnd, Report, Stop, read_device};
+use mes_stream::{Consumer, EventReader, Framing, Reading, ReadingStop, ReadsEnd, read_device};
 use std::alloc::Global;
 
 /// What is printed of the events before the line that ends the stream.
@@ -46,8 +46,8 @@ pub(crate) enum Shown {
 /// Why a follower wants no more bytes.
 #[derive(Drop)]
 pub(crate) enum FollowStop {
-    /// The stream came to this.
-    Outcome(Result<Report, Stop>),
+    /// The reading of the stream has stopped.
+    Reading(ReadingStop),
     /// The lines of an event were not printed.
     Unshown(Unshown),
 }
@@ -92,7 +92,7 @@ impl<O: Sink> Consumer<O> for Follower {
         self.events.clear();
         match fed {
             Ok(()) => Ok(()),
-            Err(outcome) => Err(FollowStop::Outcome(outcome)),
+            Err(stop) => Err(FollowStop::Reading(stop)),
         }
     }
 }
@@ -132,11 +132,11 @@ pub fn follow<I: Source, O: Sink>(
 }
 
 /// How the reads ended, where the events were shown so far; else why they were not.
-fn ended(end: ReadsEnd<FollowStop>) -> Result<ReadsEnd<Result<Report, Stop>>, Unshown>
+fn ended(end: ReadsEnd<FollowStop>) -> Result<ReadsEnd<ReadingStop>, Unshown>
     ensures { result ≡ ended_of end }
 {
     match end {
-        ReadsEnd::Stopped(FollowStop::Outcome(outcome)) => Ok(ReadsEnd::Stopped(outcome)),
+        ReadsEnd::Stopped(FollowStop::Reading(stop)) => Ok(ReadsEnd::Stopped(stop)),
         ReadsEnd::Stopped(FollowStop::Unshown(why)) => Err(why),
         ReadsEnd::AtEnd => Ok(ReadsEnd::AtEnd),
         ReadsEnd::Failed => Ok(ReadsEnd::Failed),

@@ -1,19 +1,19 @@
 -- What a reader of a body stands for, over the fronts of a run.
 use Rattle.std.proofs.Common.{◌≡◌, ℕ, ◌+◌, ◌-◌, ◌^◌, ◌<◌, ◌≤◌, List, [], ◌∷◌, ◌++◌, length, take, drop, get_or, sym, ◌∙◌, ap, append_assoc, append-nil, arith, refl, subst, inl, inr, ◌⊎◌, length-append, length-take-le, take-append-drop, take-add}
-use Rattle.std.specs.Prelude.{slice_index, Result, Ok, Err}
+use Rattle.std.specs.Prelude.{slice_index, Result, Ok, Err, OnOk}
 use Rattle.std.proofs.lemmas.List.{take_more}
 use Rattle.mes_frame.proofs.Records.{begun_of, data_goes_on}
 use Rattle.mes_frame.specs.Record.{IsRecord, Begun, DataBegun}
 use Rattle.mes_frame.specs.RecordState.{RecordStands, limit_of}
 use Rattle.mes_stream.specs.Stream.{saturated, Records, Behind, BodyLive, number_after, EndsRecord, InData, BodyStops}
-use Rattle.mes_stream.specs.Framings.{GoesIn, EndsRecordIn, StopsIn, SaysIn, StopsWithin}
+use Rattle.mes_stream.specs.Framings.{GoesIn, StopsIn, SaysIn, StopsWithin}
 use Rattle.mes_stream.specs.declared.stream_reader.Framing.{Framing}
 use Rattle.mes_stream.specs.declared.stream_reader.Framing.TheVariants.{Plain}
-use Rattle.mes_stream.specs.Taking.{BodyStands, Ends, record_answer, fault_of_record}
+use Rattle.mes_stream.specs.RecordValues.{IsRefused, AddsValue}
+use Rattle.mes_stream.specs.Taking.{BodyStands, Ends, EndsInto, record_answer, fault_of_record}
 use Rattle.mes_stream.specs.declared.refusal.RecordRefusal.{RecordRefusal}
 use Rattle.mes_stream.specs.declared.refusal.RecordRefusal.TheVariants as refusal
 use Rattle.mes_stream.specs.declared.fault.Fault.{Fault}
-use Rattle.mes_stream.specs.declared.fault.Fault.TheVariants.{NoMemory}
 use Rattle.mes_stream.specs.declared.body.Body.{Body}
 
 -- a count that has stopped stays
@@ -122,15 +122,16 @@ module _ {R E : Type 0} (holds : R → List ℕ → Type 0) (spells : List ℕ �
   module _ (breaks : List ℕ → RecordRefusal → Type 0) where
     -- the record that ended so has no value, or its value wanted memory
     pub refused_with : (d : Body R) (b run r : List ℕ) (values : List E) (count : ℕ) (why : RecordRefusal) (s : BodyStands holds spells ahead d b values) → 0 < count → count ≤ length run
-        → IsRecord (s.x ++ take count run) r (limit_of d.records) → breaks r why → (why ≡ refusal.NoMemory → InData spells (limit_of d.records) (b ++ take (count - 1) run) values)
+        → IsRecord (s.x ++ take count run) r (limit_of d.records) → IsRefused breaks r why → (why ≡ refusal.NoMemory → InData spells (limit_of d.records) (b ++ take (count - 1) run) values)
         → BodyStops spells breaks ahead (limit_of d.records) (b ++ take (count - 1) run) values (slice_index run (count - 1)) (fault_of_record d.done why)
-    refused_with d b run r values count (refusal.Text f) s some within is h memory =
+    refused_with d b run r values count (refusal.Text f) s some within is (inl h) memory =
         inl (ends_with d b run r values count s (λ r. breaks r (refusal.Text (record { byte = f.byte; why = f.why }))) some within is h, number_of d b values s)
-    refused_with d b run r values count (refusal.Field f) s some within is h memory =
+    refused_with d b run r values count (refusal.Field f) s some within is (inl h) memory =
         inl (ends_with d b run r values count s (λ r. breaks r (refusal.Field (record { path = f.path; why = f.why }))) some within is h, number_of d b values s)
-    refused_with d b run r values count refusal.BadEntry s some within is h memory =
+    refused_with d b run r values count refusal.BadEntry s some within is (inl h) memory =
         inl (ends_with d b run r values count s (λ r. breaks r refusal.BadEntry) some within is h, number_of d b values s)
-    refused_with d b run r values count refusal.NoMemory s some within is h memory = inr (refl, memory refl)
+    refused_with d b run r values count refusal.NoMemory s some within is (inl h) memory = inr (refl, memory refl)
+    refused_with d b run r values count why s some within is (inr none) memory = rw none (inr (refl, memory none))
 
     -- the record has ended with a run of data
     pub ends_as : (d mid new : Body R) (b run : List ℕ) (values : List E) (count left : ℕ) (answer : Result E RecordRefusal) (s : BodyStands holds spells ahead d b values) → 0 < count → count ≤ length run → count ≤ left
@@ -159,7 +160,6 @@ module _ {E : Type 0} (framing : Framing) (spells : List ℕ → E → Type 0) (
   pub stops_in : (limit : ℕ) (b piece : List ℕ) (values : List E) (fault : Fault) (at used : ℕ) → at ≤ length piece → 0 < used → used ≤ length (drop at piece)
       → GoesIn framing spells limit ((b ++ take at piece) ++ take (used - 1) (drop at piece)) values
       → StopsIn framing spells breaks ahead limit ((b ++ take at piece) ++ take (used - 1) (drop at piece)) values (slice_index (drop at piece) (used - 1)) fault
-      ⊎ ((fault ≡ NoMemory) × ((value : E) × EndsRecordIn framing spells limit ((b ++ take at piece) ++ take (used - 1) (drop at piece)) values (slice_index (drop at piece) (used - 1)) value))
       → StopsWithin framing spells breaks ahead limit (b ++ piece) values fault (length b + (at + used))
   stops_in limit b piece values fault at used inside some within live stops = record {
     front = (b ++ take at piece) ++ take (used - 1) (drop at piece);
@@ -179,6 +179,12 @@ module _ {E : Type 0} (framing : Framing) (spells : List ℕ → E → Type 0) (
     live = live;
     stops = stops;
   }
+
+-- the value of a record that has ended was added to a list, or why not
+pub ends_into : {R E T : Type 0} (holds : R → List ℕ → Type 0) (spells : List ℕ → E → Type 0) (breaks : List ℕ → RecordRefusal → Type 0) (old new : Body R) (r : List ℕ) (before after : List E) (result : Result T RecordRefusal)
+    → AddsValue spells breaks r before after result → OnOk result (holds new.reader []) → new.done ≡ saturated (old.done + 1) → EndsInto holds spells breaks old new r before after result
+ends_into holds spells breaks old new r before after (Ok done) (value, says, is) ready more = (value, (says, ready, more), is)
+ends_into holds spells breaks old new r before after (Err why) (h, same) ready more = ((h, more), same)
 
 -- behind the bytes of a piece up to `at` more of it was taken
 pub piece_on : (b piece : List ℕ) (at used : ℕ) → (b ++ take at piece) ++ take used (drop at piece) ≡ b ++ take (at + used) piece

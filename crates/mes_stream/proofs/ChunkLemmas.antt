@@ -9,7 +9,7 @@ use Rattle.mes_frame.specs.ChunkFront.{IsOpen}
 use Rattle.mes_frame.specs.ChunkState.{ChunkStands, room_of}
 use Rattle.mes_stream.specs.declared.refusal.RecordRefusal.{RecordRefusal}
 use Rattle.mes_stream.specs.Stream.{BodyLive, EndsRecord, BodyShows, BodyStops}
-use Rattle.mes_stream.specs.Chunked.{Live, AtData, Shows, Stops}
+use Rattle.mes_stream.specs.Chunked.{Live, AtData, ChunkedShows, ChunkedStops}
 use Rattle.mes_frame.specs.RecordState.{limit_of}
 use Rattle.mes_stream.specs.Framings.{GoesIn, EndsIn, EndsRecordIn, StopsIn, SaysIn, GoesBefore}
 use Rattle.mes_stream.specs.Taking.{BodyStands}
@@ -29,7 +29,7 @@ take_whole piece used all = grind (arith, common_steps)
 
 -- a byte of the body shows what it shows of the body
 pub shows_data : {E : Type 0} (spells : List ℕ → E → Type 0) (breaks : List ℕ → RecordRefusal → Type 0) (ahead limit : ℕ) (w body : List ℕ) (values : List E) (c : ℕ) (fault : Fault)
-    → IsOpen w body → IsOpen (w ++ c ∷ []) (body ++ c ∷ []) → BodyShows spells breaks ahead limit body values c fault → Shows spells breaks ahead limit w values c fault
+    → IsOpen w body → IsOpen (w ++ c ∷ []) (body ++ c ∷ []) → BodyShows spells breaks ahead limit body values c fault → ChunkedShows spells breaks ahead limit w values c fault
 shows_data spells breaks ahead limit w body values c (Frame f) before behind h = inr (body, before, behind, h)
 shows_data spells breaks ahead limit w body values c (Text at byte why) before behind h = (body, before, behind, h)
 shows_data spells breaks ahead limit w body values c (Field at path why) before behind h = (body, before, behind, h)
@@ -41,7 +41,7 @@ shows_data spells breaks ahead limit w body values c ReadsSpent before behind h 
 shows_data spells breaks ahead limit w body values c (BadEntry at_record) before behind h = (body, before, behind, h)
 
 pub stops_data : {E : Type 0} (spells : List ℕ → E → Type 0) (breaks : List ℕ → RecordRefusal → Type 0) (ahead limit : ℕ) (w body : List ℕ) (values : List E) (c : ℕ) (fault : Fault)
-    → IsOpen w body → IsOpen (w ++ c ∷ []) (body ++ c ∷ []) → BodyStops spells breaks ahead limit body values c fault → Stops spells breaks ahead limit w values c fault
+    → IsOpen w body → IsOpen (w ++ c ∷ []) (body ++ c ∷ []) → BodyStops spells breaks ahead limit body values c fault → ChunkedStops spells breaks ahead limit w values c fault
 stops_data spells breaks ahead limit w body values c fault before behind stops = elim stops [
   | inl h ↦ inl (shows_data spells breaks ahead limit w body values c fault before behind h)
   | inr h ↦ inr (h.0, (body, before, behind, h.1))
@@ -86,7 +86,7 @@ module _ {R E : Type 0} (holds : R → List ℕ → Type 0) (spells : List ℕ �
     -- a byte of a run of data stops the reading
     run_stops : (d : ChunkedBody R) (limit : ℕ) (w run : List ℕ) (values : List E) (used count : ℕ) (fault : Fault) (s : ChunkedStands holds spells ahead d w values) → length run ≡ count → count ≤ room_of d.chunks
         → 0 < used → used ≤ count → BodyStops spells breaks ahead limit (s.content ++ take (used - 1) run) values (slice_index run (used - 1)) fault
-        → Stops spells breaks ahead limit (w ++ take (used - 1) run) values (slice_index run (used - 1)) fault
+        → ChunkedStops spells breaks ahead limit (w ++ take (used - 1) run) values (slice_index run (used - 1)) fault
     run_stops d limit w run values used count fault s len room some within stops =
         let at = run_at d w run values used count (λ body vs. BodyStops spells breaks ahead limit body vs (slice_index run (used - 1)) fault) s len room some within stops in
         stops_data spells breaks ahead limit (w ++ take (used - 1) run) at.0 values (slice_index run (used - 1)) fault at.1 at.2 at.3

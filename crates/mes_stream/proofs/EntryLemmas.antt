@@ -37,10 +37,7 @@ module _ {E : Type 0} (spells : List ℕ → E → Type 0) (breaks : List ℕ �
   none_read framing limit reads old new last w values (Ok report) h = tt
   none_read framing limit reads old new last w values (Err stop) (inl (at, asked)) = λ n is.
       let s = at.stops in
-      elim s.stops [
-        | inl h ↦ no_entry framing 0 limit s.front values s.byte n (subst (λ (f : Fault). StopsIn framing spells breaks 0 limit s.front values s.byte f) is h)
-        | inr h ↦ let no_memory : stop.fault ≡ NoMemory = h.0 in absurd (cc)
-      ]
+      no_entry framing 0 limit s.front values s.byte n (subst (λ (f : Fault). StopsIn framing spells breaks 0 limit s.front values s.byte f) is s.stops)
   none_read framing limit reads old new last w values (Err stop) (inr (inl (means, end, asked))) = λ n is.
       no_entry_at_end framing limit w values n (subst (λ (f : Fault). InputEnds {T = Unit {0}} framing spells limit w values (Err f)) is means.0)
   none_read framing limit reads old new last w values (Err stop) (inr (inr (inl (off, asked)))) = λ n is. let failed : stop.fault ≡ Read = off.0 in absurd (cc)

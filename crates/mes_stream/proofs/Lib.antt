@@ -1,3 +1,4 @@
+mod AnswerLaw
 mod BodyLemmas
 mod ChunkLemmas
 mod DecoderLemmas

@@ -7,7 +7,7 @@ use Rattle.std.proofs.Common.{true, false}
 use Rattle.std.proofs.lemmas.Bool.Decides.{nat_tests}
 use Rattle.mes_frame.specs.Counts.{up, up_if}
 use Rattle.mes_frame.specs.declared.counts.Counts.{Counts}
-use Rattle.mes_stream.specs.Reads.{Asked, EndsReads}
+use Rattle.mes_stream.specs.Reads.{ReadsMade, EndsReads}
 use Rattle.mes_stream.specs.declared.limits.TheConstants.{READ_MOST}
 use Rattle.mes_stream.specs.declared.reads.ReadsEnd.{ReadsEnd}
 use Rattle.mes_stream.specs.declared.reads.ReadsEnd.TheVariants.{Stopped, AtEnd, Failed, Spent}
@@ -17,7 +17,7 @@ pub record Reads (Goes : List ℕ → Type 0) (first now : Option (List ℕ)) (o
   pub w : List ℕ
   pub consumes : Consumes first now w
   pub goes : Goes w
-  pub asked : Asked reads old new w reads 0 0
+  pub asked : ReadsMade reads old new w reads 0 0
 
 up_more : (n k : ℕ) → up (up n k) 1 ≡ up n (k + 1)
 up_more n k = omega arith
@@ -49,13 +49,13 @@ abbrev pub CountedFailure : Counts → Counts → ℕ → Type 0
 CountedFailure old new len = (new.calls ≡ up_if (nat_lt 0 len) old.calls) × (new.failures ≡ up old.failures 1) × (new.idle ≡ old.idle)
 
 -- one more read is counted
-one_more_call : (old new later : Counts) (reads most len : ℕ) (w : List ℕ) → Asked reads old new w reads 0 0 → 0 < len → later.calls ≡ up_if (nat_lt 0 len) new.calls
+one_more_call : (old new later : Counts) (reads most len : ℕ) (w : List ℕ) → ReadsMade reads old new w reads 0 0 → 0 < len → later.calls ≡ up_if (nat_lt 0 len) new.calls
     → later.calls ≡ up old.calls (reads + 1)
 one_more_call old new later reads most len w before full counted =
     counted ∙ asked len new.calls full ∙ ap (λ (n : ℕ). up n 1) before.calls ∙ up_more old.calls reads
 
-pub asked_more : (old new later : Counts) (reads most len count : ℕ) (w p : List ℕ) → Asked reads old new w reads 0 0 → reads < most → 0 < count → length p ≡ count → length p ≤ READ_MOST → 0 < len
-    → Counted new later len count → Asked most old later (w ++ p) (reads + 1) 0 0
+pub asked_more : (old new later : Counts) (reads most len count : ℕ) (w p : List ℕ) → ReadsMade reads old new w reads 0 0 → reads < most → 0 < count → length p ≡ count → length p ≤ READ_MOST → 0 < len
+    → Counted new later len count → ReadsMade most old later (w ++ p) (reads + 1) 0 0
 asked_more old new later reads most len count w p before left some size short full counted = record {
   most = omega (arith, left);
   bytes = (let bytes = before.bytes in omega (arith, bytes, length-append w p, short));
@@ -66,8 +66,8 @@ asked_more old new later reads most len count w p before left some size short fu
   gave = (let gave = before.gave in omega (arith, gave, some, size, length-append w p));
 }
 
-pub asked_failed : (old new later : Counts) (reads most len : ℕ) (w : List ℕ) → Asked reads old new w reads 0 0 → reads < most → 0 < len → CountedFailure new later len
-    → Asked most old later w (reads + 1) 1 0
+pub asked_failed : (old new later : Counts) (reads most len : ℕ) (w : List ℕ) → ReadsMade reads old new w reads 0 0 → reads < most → 0 < len → CountedFailure new later len
+    → ReadsMade most old later w (reads + 1) 1 0
 asked_failed old new later reads most len w before left full counted = record {
   most = omega (arith, left);
   bytes = (let bytes = before.bytes in omega (arith, bytes));
@@ -78,8 +78,8 @@ asked_failed old new later reads most len w before left full counted = record {
   gave = (let gave = before.gave in omega (arith, gave));
 }
 
-pub asked_ended : (old new later : Counts) (reads most len : ℕ) (w : List ℕ) → Asked reads old new w reads 0 0 → reads < most → 0 < len → Counted new later len 0
-    → Asked most old later w (reads + 1) 0 1
+pub asked_ended : (old new later : Counts) (reads most len : ℕ) (w : List ℕ) → ReadsMade reads old new w reads 0 0 → reads < most → 0 < len → Counted new later len 0
+    → ReadsMade most old later w (reads + 1) 0 1
 asked_ended old new later reads most len w before left full counted = record {
   most = omega (arith, left);
   bytes = (let bytes = before.bytes in omega (arith, bytes));
@@ -145,4 +145,4 @@ module _ (Goes Later : List ℕ → Type 0) (first now next : Option (List ℕ))
 -- the reads are spent
 pub reads_spent : {Z : Type 0} (Goes : List ℕ → Type 0) (Stops : List ℕ → List ℕ → Z → Type 0) (first now : Option (List ℕ)) (old new : Counts) (reads most : ℕ) → Reads Goes first now old new reads → reads ≡ most
     → HaveEnded Goes Stops most first now old new Spent
-reads_spent Goes Stops first now old new reads most r all = (r.w, r.consumes, (r.goes, subst (λ (n : ℕ). Asked n old new r.w n 0 0) all r.asked))
+reads_spent Goes Stops first now old new reads most r all = (r.w, r.consumes, (r.goes, subst (λ (n : ℕ). ReadsMade n old new r.w n 0 0) all r.asked))

@@ -5,13 +5,14 @@ use Rattle.std.specs.Prelude.{OnOk, IfErr, slice_index}
 use Rattle.mes_frame.specs.declared.counts.Counts.{Counts}
 use Rattle.mes_stream.specs.Framings.{GoesIn, EndsIn, WholeIn, EndsRecordIn, StopsIn, StopsWithin}
 use Rattle.mes_stream.specs.Reads.{EndsReads}
-use Rattle.mes_stream.specs.Reading.{Ahead, EndsAt, StopsAt, ByteEnds, EndsReading, ReadingStands, ReadingTakes, Means, Gathers, GathersLast}
+use Rattle.mes_stream.specs.Reading.{Ahead, nothing_ahead, EndsAt, ByteEndsBehind, EndsReading, ReadingStands, ReadingStandsBehind, ReadingTakesBehind, Means, Gathers, GathersLast, told_as}
 use Rattle.mes_stream.specs.Stream.{saturated, Records, EndsRecord}
 use Rattle.mes_stream.specs.declared.fault.Fault.{Fault}
 use Rattle.mes_stream.specs.declared.fault.Report.{Report}
 use Rattle.mes_stream.specs.declared.fault.Stop.{Stop}
 use Rattle.mes_stream.specs.declared.limits.TheConstants.{READ_MOST}
 use Rattle.mes_stream.specs.declared.reading.Reading.{Reading}
+use Rattle.mes_stream.specs.declared.reading.ReadingStop.{ReadingStop}
 use Rattle.mes_stream.specs.declared.reads.ReadsEnd.{ReadsEnd}
 use Rattle.mes_stream.specs.declared.reads.ReadsEnd.TheVariants.{Stopped, AtEnd, Failed, Spent}
 use Rattle.mes_stream.specs.declared.refusal.RecordRefusal.{RecordRefusal}
@@ -20,18 +21,18 @@ use Rattle.mes_stream.specs.declared.stream_reader.Framing.TheVariants.{Plain, C
 use Rattle.mes_stream.proofs.BodyLemmas.{records_more, stops_in}
 
 -- a byte of the piece ended the stream
-pub ends_at : {E : Type 0} (framing : Framing) (spells : List ℕ → E → Type 0) (ahead : Ahead) (limit : ℕ) (w piece : List ℕ) (values : List E) (used end : ℕ) (report : Report) → 0 < end → end ≤ length piece → length piece ≤ READ_MOST
-    → used ≡ saturated (ahead.bytes + length w) → report.used ≡ saturated (used + end) → report.rest.items ≡ drop end piece → EndsIn framing spells limit (w ++ take end piece) values
-    → EndsAt framing spells ahead limit (w ++ piece) values report.used report.rest.items
-ends_at framing spells ahead limit w piece values used end report some within small counted is rest ends =
+pub ends_at : {E : Type 0} (framing : Framing) (spells : List ℕ → E → Type 0) (ahead : Ahead) (limit : ℕ) (w piece : List ℕ) (values : List E) (used end after : ℕ) (rest : List ℕ) → 0 < end → end ≤ length piece → length piece ≤ READ_MOST
+    → used ≡ saturated (ahead.bytes + length w) → after ≡ saturated (used + end) → rest ≡ drop end piece → EndsIn framing spells limit (w ++ take end piece) values
+    → EndsAt framing spells ahead limit (w ++ piece) values after rest
+ends_at framing spells ahead limit w piece values used end after rest some within small counted is left ends =
     let size = length-append (take end piece) (drop end piece) in
     let whole = ap length (take-append-drop end piece) in
     record {
       stream = w ++ take end piece;
-      is = rw rest (ap (λ (y : List ℕ). w ++ y) (sym (take-append-drop end piece)) ∙ sym (append_assoc w (take end piece) (drop end piece)));
+      is = rw left (ap (λ (y : List ℕ). w ++ y) (sym (take-append-drop end piece)) ∙ sym (append_assoc w (take end piece) (drop end piece)));
       count = is ∙ omega (arith, counted, length-append w (take end piece), length-take-le end piece within);
       ends = ends;
-      last = rw rest (omega (arith, some, within, small, size, whole, length-take-le end piece within));
+      last = rw left (omega (arith, some, within, small, size, whole, length-take-le end piece within));
     }
 
 -- a byte of it stops the reading
@@ -41,7 +42,7 @@ pub stops_at : {E : Type 0} (framing : Framing) (spells : List ℕ → E → Typ
     → StopsWithin framing spells breaks ahead.records limit (w ++ piece) values fault (length w + used)
 stops_at framing spells breaks ahead limit w piece values fault used some within live stops =
     let count : length w + (0 + used) ≡ length w + used = omega arith in
-    subst (λ (n : ℕ). StopsWithin framing spells breaks ahead.records limit (w ++ piece) values fault n) count (stops_in framing spells breaks ahead.records limit w piece values fault 0 used (omega arith) some within (rw append-nil live) (inl (rw append-nil stops)))
+    subst (λ (n : ℕ). StopsWithin framing spells breaks ahead.records limit (w ++ piece) values fault n) count (stops_in framing spells breaks ahead.records limit w piece values fault 0 used (omega arith) some within (rw append-nil live) (rw append-nil stops))
 
 -- behind the last byte of a record the records so far are whole
 record_whole : {E : Type 0} (spells : List ℕ → E → Type 0) (limit : ℕ) (b : List ℕ) (values : List E) (c : ℕ) (value : E) → EndsRecord spells limit b values c (λ r. spells r value)
@@ -64,35 +65,51 @@ whole_at framing spells limit w piece values value used some within ends =
     subst (λ (y : List ℕ). WholeIn framing spells limit y (values ++ value ∷ [])) join (whole_more framing spells limit (w ++ take (used - 1) piece) values (slice_index piece (used - 1)) value ends)
 
 module _ {R E : Type 0} (holds : R → List ℕ → Type 0) (spells : List ℕ → E → Type 0) (breaks : List ℕ → RecordRefusal → Type 0) where
-  -- the list of a reader that has taken one more piece
-  pub gathers_more : {T : Type 0} (first d new : Reading R) (start old now : List E) (w piece : List ℕ) (result : Result T (Result Report Stop)) → Gathers holds spells first start d old w
-      → ((framing : Framing) (limit : ℕ) (v : List ℕ) (before : List E) → ReadingStands holds spells d framing limit v before → ReadingTakes holds spells breaks new framing limit v before piece old now result)
-      → OnOk result (Gathers holds spells first start new now (w ++ piece))
-  gathers_more first d new start old now w piece (Ok done) h fed = λ framing limit stands.
-      let before = h framing limit stands in
-      let more = fed framing limit w before.0 before.2 in
-      (before.0 ++ more.0, more.1 ∙ ap (λ (x : List E). x ++ more.0) before.1 ∙ append_assoc start before.0 more.0, more.2)
-  gathers_more first d new start old now w piece (Err outcome) h fed = tt
+  -- what is asked of a call that takes a piece
+  abbrev pub TakesAll : {T : Type 0} → Reading R → Reading R → List ℕ → List E → List E → Result T ReadingStop → Type 0
+  TakesAll d new piece old now result =
+      (ahead : Ahead) (framing : Framing) (limit : ℕ) (v : List ℕ) (before : List E) → ReadingStandsBehind holds spells ahead d framing limit v before
+      → ReadingTakesBehind holds spells breaks ahead new framing limit v before piece old now result
 
-  pub gathers_last : {T : Type 0} (first d new : Reading R) (start old now : List E) (w piece : List ℕ) (result : Result T (Result Report Stop)) → Gathers holds spells first start d old w
-      → ((framing : Framing) (limit : ℕ) (v : List ℕ) (before : List E) → ReadingStands holds spells d framing limit v before → ReadingTakes holds spells breaks new framing limit v before piece old now result)
-      → IfErr result (λ outcome. GathersLast holds spells breaks first start now w piece outcome)
+  -- before the first piece
+  pub gathers_none : (d : Reading R) (start : List E) → Gathers holds spells d start d start []
+  gathers_none d start = λ ahead framing limit v before stands. ([], sym (append-nil start), rw (append-nil, append-nil) stands)
+
+  -- the list of a reader that has taken one more piece
+  pub gathers_more : {T : Type 0} (first d new : Reading R) (start old now : List E) (w piece : List ℕ) (result : Result T ReadingStop) → Gathers holds spells first start d old w → TakesAll d new piece old now result
+      → OnOk result (Gathers holds spells first start new now (w ++ piece))
+  gathers_more first d new start old now w piece (Ok done) h fed = λ ahead framing limit v before stands.
+      let so_far = h ahead framing limit v before stands in
+      let more = fed ahead framing limit (v ++ w) (before ++ so_far.0) so_far.2 in (
+        so_far.0 ++ more.0,
+        more.1 ∙ ap (λ (x : List E). x ++ more.0) so_far.1 ∙ append_assoc start so_far.0 more.0,
+        subst (λ (y : List ℕ). ReadingStandsBehind holds spells ahead new framing limit y (before ++ (so_far.0 ++ more.0))) (append_assoc v w piece)
+            (subst (λ (vs : List E). ReadingStandsBehind holds spells ahead new framing limit ((v ++ w) ++ piece) vs) (append_assoc before so_far.0 more.0) more.2),
+      )
+  gathers_more first d new start old now w piece (Err stop) h fed = tt
+
+  pub gathers_last : {T : Type 0} (first d new : Reading R) (start old now : List E) (w piece : List ℕ) (result : Result T ReadingStop) → Gathers holds spells first start d old w → TakesAll d new piece old now result
+      → IfErr result (λ stop. GathersLast holds spells breaks first start new now w piece stop)
   gathers_last first d new start old now w piece (Ok done) h fed = tt
-  gathers_last first d new start old now w piece (Err outcome) h fed = λ framing limit stands.
-      let before = h framing limit stands in
-      let more = fed framing limit w before.0 before.2 in
-      (before.0 ++ more.0, more.1 ∙ ap (λ (x : List E). x ++ more.0) before.1 ∙ append_assoc start before.0 more.0, more.2)
+  gathers_last first d new start old now w piece (Err stop) h fed = λ ahead framing limit v before stands.
+      let so_far = h ahead framing limit v before stands in
+      let more = fed ahead framing limit (v ++ w) (before ++ so_far.0) so_far.2 in (
+        so_far.0 ++ more.0,
+        more.1 ∙ ap (λ (x : List E). x ++ more.0) so_far.1 ∙ append_assoc start so_far.0 more.0,
+        subst (λ (y : List ℕ). ByteEndsBehind framing spells breaks ahead limit y (before ++ (so_far.0 ++ more.0)) (told_as new stop)) (append_assoc v w piece)
+            (subst (λ (vs : List E). ByteEndsBehind framing spells breaks ahead limit ((v ++ w) ++ piece) vs (told_as new stop)) (append_assoc before so_far.0 more.0) more.2),
+      )
 
   -- how the reading ended, by how the reads did
-  pub read_through : (first now : Reading R) (start to : List E) (framing : Framing) (limit reads : ℕ) (old new : Counts) (last : Option (List ℕ)) (w : List ℕ) (end : ReadsEnd (Result Report Stop)) (answer : Result Report Stop)
-      → ReadingStands holds spells first framing limit [] [] → EndsReads (Gathers holds spells first start now to) (GathersLast holds spells breaks first start to) reads old new last w end → Means holds spells now end answer
+  pub read_through : (first now : Reading R) (start to : List E) (framing : Framing) (limit reads : ℕ) (old new : Counts) (last : Option (List ℕ)) (w : List ℕ) (end : ReadsEnd ReadingStop) (answer : Result Report Stop)
+      → ReadingStands holds spells first framing limit [] [] → EndsReads (Gathers holds spells first start now to) (GathersLast holds spells breaks first start now to) reads old new last w end → Means holds spells now end answer
       → (more : List E) × (to ≡ start ++ more) × EndsReading framing spells breaks limit reads old new last w more answer
-  read_through first now start to framing limit reads old new last w (Stopped outcome) answer stands (front, piece, at, stops, asked) is =
-      let h = stops framing limit stands in
+  read_through first now start to framing limit reads old new last w (Stopped stop) answer stands (front, piece, at, stops, asked) is =
+      let h = stops nothing_ahead framing limit [] [] stands in
       (h.0, h.1, inl (rw (is, at.is) h.2, asked))
   read_through first now start to framing limit reads old new last w AtEnd answer stands (goes, end, asked) means =
-      let h = goes framing limit stands in (h.0, h.1, inr (inl (means framing limit w h.0 h.2, end, asked)))
+      let h = goes nothing_ahead framing limit [] [] stands in (h.0, h.1, inr (inl (means framing limit w h.0 h.2, end, asked)))
   read_through first now start to framing limit reads old new last w Failed answer stands (goes, asked) means =
-      let h = goes framing limit stands in (h.0, h.1, inr (inr (inl (means framing limit w h.0 h.2, asked))))
+      let h = goes nothing_ahead framing limit [] [] stands in (h.0, h.1, inr (inr (inl (means framing limit w h.0 h.2, asked))))
   read_through first now start to framing limit reads old new last w Spent answer stands (goes, asked) means =
-      let h = goes framing limit stands in (h.0, h.1, inr (inr (inr (means framing limit w h.0 h.2, asked))))
+      let h = goes nothing_ahead framing limit [] [] stands in (h.0, h.1, inr (inr (inr (means framing limit w h.0 h.2, asked))))

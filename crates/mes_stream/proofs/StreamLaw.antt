@@ -8,7 +8,7 @@ use Rattle.mes_frame.specs.ChunkReading.{ChunkReading, Begins, Whole, Broken, Re
 use Rattle.mes_stream.specs.declared.refusal.RecordRefusal.{RecordRefusal}
 use Rattle.mes_stream.specs.Stream.{Records, BodyLive, BodyShows, EndsInside}
 use Rattle.mes_frame.specs.Chunk.{IsChunked}
-use Rattle.mes_stream.specs.Chunked.{IsStream, Live, AtData, Shows}
+use Rattle.mes_stream.specs.Chunked.{IsStream, Live, AtData, ChunkedShows}
 use Rattle.mes_stream.specs.PlainReading.{IsExact, PlainReading, ReadsPlain}
 use Rattle.mes_stream.specs.PlainReading as plain
 use Rattle.mes_stream.specs.StreamReading.{StreamReading, Goes, Ends, Stops, ReadsStream, IsAlike}
@@ -173,7 +173,7 @@ module _ {E : Type 0} (spells : List ℕ → E → Type 0) (breaks : List ℕ �
     is = refl;
   })
 
-  found_stop : (w front rest : List ℕ) (byte : ℕ) (values : List E) (fault : Fault) → w ≡ front ++ byte ∷ rest → Shows spells breaks ahead limit front values byte fault → Found w (Stops front byte values fault)
+  found_stop : (w front rest : List ℕ) (byte : ℕ) (values : List E) (fault : Fault) → w ≡ front ++ byte ∷ rest → ChunkedShows spells breaks ahead limit front values byte fault → Found w (Stops front byte values fault)
   unfolding Found outer_of IsMark
   found_stop w front rest byte values (Frame fault) is shows = elim shows [
     | inl h ↦ inl (record { chunks = Broken front byte h.0 fault; values = values; mark = Clean; reads = (rest, is, h.1); live = h.2; is_mark = refl; is = refl })

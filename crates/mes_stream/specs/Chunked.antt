@@ -27,24 +27,24 @@ EndsWith spells limit w values c value = AtData (λ body vs. EndsRecord spells l
 -- The byte c behind w, which is live with the values, shows the fault: no chunked body has it there (F1 to F5); it is a byte
 -- of the body and shows it there (F7 to F9, F11, F12, and F16 where `breaks` knows bad entries); or it ends the body inside a
 -- record (F10).
-abbrev pub Shows : {E : Type 0} → (List ℕ → E → Type 0) → (List ℕ → RecordRefusal → Type 0) → ℕ → ℕ → List ℕ → List E → ℕ → Fault → Type 0
-Shows spells breaks ahead limit w values c (Frame fault) =
+abbrev pub ChunkedShows : {E : Type 0} → (List ℕ → E → Type 0) → (List ℕ → RecordRefusal → Type 0) → ℕ → ℕ → List ℕ → List E → ℕ → Fault → Type 0
+ChunkedShows spells breaks ahead limit w values c (Frame fault) =
     ((body : List ℕ) × ChunkShows w body c fault × BodyLive spells limit body values)
     ⊎ AtData (λ body vs. BodyShows spells breaks ahead limit body vs c (Frame fault)) w values c
-Shows spells breaks ahead limit w values c (Text at_record byte why) =
+ChunkedShows spells breaks ahead limit w values c (Text at_record byte why) =
     AtData (λ body vs. BodyShows spells breaks ahead limit body vs c (Text at_record byte why)) w values c
-Shows spells breaks ahead limit w values c (Field at_record path why) =
+ChunkedShows spells breaks ahead limit w values c (Field at_record path why) =
     AtData (λ body vs. BodyShows spells breaks ahead limit body vs c (Field at_record path why)) w values c
-Shows spells breaks ahead limit w values c EndsInsideRecord =
+ChunkedShows spells breaks ahead limit w values c EndsInsideRecord =
     (body : List ℕ) × IsChunked (w ++ c ∷ []) body × EndsInside spells limit body values
-Shows spells breaks ahead limit w values c EndsInsideChunks = ⊥
-Shows spells breaks ahead limit w values c NoMemory = ⊥
-Shows spells breaks ahead limit w values c Read = ⊥
-Shows spells breaks ahead limit w values c ReadsSpent = ⊥
-Shows spells breaks ahead limit w values c (BadEntry at_record) =
+ChunkedShows spells breaks ahead limit w values c EndsInsideChunks = ⊥
+ChunkedShows spells breaks ahead limit w values c NoMemory = ⊥
+ChunkedShows spells breaks ahead limit w values c Read = ⊥
+ChunkedShows spells breaks ahead limit w values c ReadsSpent = ⊥
+ChunkedShows spells breaks ahead limit w values c (BadEntry at_record) =
     AtData (λ body vs. BodyShows spells breaks ahead limit body vs c (BadEntry at_record)) w values c
 
 -- a fault that the byte c shows, or want of memory at a byte of a record's data: that says only what stood before
-abbrev pub Stops : {E : Type 0} → (List ℕ → E → Type 0) → (List ℕ → RecordRefusal → Type 0) → ℕ → ℕ → List ℕ → List E → ℕ → Fault → Type 0
-Stops spells breaks ahead limit w values c fault =
-    Shows spells breaks ahead limit w values c fault ⊎ ((fault ≡ NoMemory) × AtData (λ body vs. InData spells limit body vs) w values c)
+abbrev pub ChunkedStops : {E : Type 0} → (List ℕ → E → Type 0) → (List ℕ → RecordRefusal → Type 0) → ℕ → ℕ → List ℕ → List E → ℕ → Fault → Type 0
+ChunkedStops spells breaks ahead limit w values c fault =
+    ChunkedShows spells breaks ahead limit w values c fault ⊎ ((fault ≡ NoMemory) × AtData (λ body vs. InData spells limit body vs) w values c)

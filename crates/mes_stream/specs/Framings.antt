@@ -3,9 +3,9 @@ use Rattle.std.specs.Prelude.{◌≡◌, ℕ, ◌+◌, ◌-◌, ◌<◌, ◌⊎�
 use Rattle.mes_frame.specs.ChunkFront.{IsOpen}
 use Rattle.mes_stream.specs.declared.refusal.RecordRefusal.{RecordRefusal}
 use Rattle.mes_stream.specs.Stream.{Records, BodyLive, EndsInside, EndsRecord, BodyStops}
-use Rattle.mes_stream.specs.Chunked.{IsStream, Live, EndsWith, Stops}
+use Rattle.mes_stream.specs.Chunked.{IsStream, Live, EndsWith, ChunkedStops}
 use Rattle.mes_stream.specs.declared.fault.Fault.{Fault}
-use Rattle.mes_stream.specs.declared.fault.Fault.TheVariants.{EndsInsideChunks, EndsInsideRecord, NoMemory}
+use Rattle.mes_stream.specs.declared.fault.Fault.TheVariants.{EndsInsideChunks, EndsInsideRecord}
 use Rattle.mes_stream.specs.declared.taken.Out.{Out}
 use Rattle.mes_stream.specs.declared.taken.Out.TheVariants as out
 use Rattle.mes_stream.specs.declared.stream_reader.Framing.{Framing}
@@ -34,7 +34,7 @@ EndsRecordIn Chunked spells limit w values c value = EndsWith spells limit w val
 -- the byte c behind w shows the fault, or memory was refused at it
 abbrev pub StopsIn : {E : Type 0} → Framing → (List ℕ → E → Type 0) → (List ℕ → RecordRefusal → Type 0) → ℕ → ℕ → List ℕ → List E → ℕ → Fault → Type 0
 StopsIn Plain spells breaks ahead limit w values c fault = BodyStops spells breaks ahead limit w values c fault
-StopsIn Chunked spells breaks ahead limit w values c fault = Stops spells breaks ahead limit w values c fault
+StopsIn Chunked spells breaks ahead limit w values c fault = ChunkedStops spells breaks ahead limit w values c fault
 
 -- What a call that uses so many bytes of a piece says of them, behind w, which goes on with the values: they were taken; a
 -- record ended with the last of them; the stream did; or the last of them stops the reading.
@@ -59,8 +59,7 @@ InputEnds Plain spells limit w values (Err fault) = EndsInside spells limit w va
 InputEnds Chunked spells limit w values (Ok done) = ⊥
 InputEnds Chunked spells limit w values (Err fault) = Live spells limit w values × (fault ≡ EndsInsideChunks)
 
--- The first n bytes of w stop the reading with their last. Want of memory may also come where the value of a record that has
--- ended is added to the list.
+-- the first n bytes of w stop the reading with their last
 pub record StopsWithin {E : Type 0} (framing : Framing) (spells : List ℕ → E → Type 0) (breaks : List ℕ → RecordRefusal → Type 0) (ahead limit : ℕ) (w : List ℕ) (values : List E) (fault : Fault) (n : ℕ) : Type 0 where
   pub front : List ℕ
   pub byte : ℕ
@@ -69,4 +68,3 @@ pub record StopsWithin {E : Type 0} (framing : Framing) (spells : List ℕ → E
   pub used : n ≡ length front + 1
   pub live : GoesIn framing spells limit front values
   pub stops : StopsIn framing spells breaks ahead limit front values byte fault
-      ⊎ ((fault ≡ NoMemory) × ((value : E) × EndsRecordIn framing spells limit front values byte value))

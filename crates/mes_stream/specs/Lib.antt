@@ -1,3 +1,4 @@
+pub mod Answers
 pub mod Chunked
 pub mod Decoders
 pub mod Decoding
@@ -12,6 +13,7 @@ pub mod Sending
 pub mod Stream
 pub mod StreamReaders
 pub mod StreamReading
+pub mod RecordValues
 pub mod Refusals
 pub mod SmallFaults
 pub mod Taking

@@ -1,14 +1,14 @@
 -- How the reading of a stream from a device ends.
-use Rattle.std.specs.Prelude.{◌≡◌, ℕ, ◌+◌, ◌<◌, ◌⊎◌, Option, ◌≤◌, List, [], ◌∷◌, ◌++◌, length, take, None, Some, Result, Ok, Err}
+use Rattle.std.specs.Prelude.{◌≡◌, ℕ, ◌+◌, ◌-◌, ◌<◌, ◌⊎◌, Option, ◌≤◌, List, [], ◌∷◌, ◌++◌, length, take, slice_index, None, Some, Result, Ok, Err}
 use Rattle.std.specs.Io.KnownBytes.{IsAtEnd}
 use Rattle.mes_frame.specs.declared.counts.Counts.{Counts}
 use Rattle.mes_event.specs.Events.{Spells}
 use Rattle.mes_event.specs.declared.event.Event.{Event}
 use Rattle.mes_stream.specs.Refusals.{IsEventRefusal}
 use Rattle.mes_stream.specs.declared.refusal.RecordRefusal.{RecordRefusal}
-use Rattle.mes_stream.specs.Reads.{Asked, AskedSome}
+use Rattle.mes_stream.specs.Reads.{ReadsMade, SomeReadsMade}
 use Rattle.mes_stream.specs.Stream.{saturated}
-use Rattle.mes_stream.specs.Framings.{GoesIn, EndsIn, WholeIn, InputEnds, StopsWithin}
+use Rattle.mes_stream.specs.Framings.{GoesIn, GoesBefore, EndsIn, EndsRecordIn, WholeIn, InputEnds, StopsWithin}
 use Rattle.mes_stream.specs.StreamReaders.{StreamStands}
 use Rattle.mes_stream.specs.declared.fault.Fault.{Fault}
 use Rattle.mes_stream.specs.declared.fault.Fault.TheVariants.{Read, ReadsSpent}
@@ -17,6 +17,8 @@ use Rattle.mes_stream.specs.declared.fault.Stop.{Stop}
 use Rattle.mes_stream.specs.declared.limits.TheConstants.{READ_MOST}
 use Rattle.mes_stream.specs.declared.reading.EndedRecord.{EndedRecord}
 use Rattle.mes_stream.specs.declared.reading.Reading.{Reading}
+use Rattle.mes_stream.specs.declared.reading.ReadingStop.{ReadingStop}
+use Rattle.mes_stream.specs.declared.reading.ReadingStop.TheVariants as reading_stop
 use Rattle.mes_stream.specs.declared.reads.ReadsEnd.{ReadsEnd}
 use Rattle.mes_stream.specs.declared.reads.ReadsEnd.TheVariants.{Stopped, AtEnd, Failed, Spent}
 use Rattle.mes_stream.specs.declared.stream_reader.Framing.{Framing}
@@ -69,10 +71,10 @@ BreaksOff fault framing spells ahead limit w values (Err stop) =
 abbrev pub EndsReadingAs : {E : Type 0} → (List ℕ → List E → Result Report Stop → Type 0) → (List ℕ → List E → Result Report Stop → Type 0) → (Fault → List ℕ → List E → Result Report Stop → Type 0)
     → ℕ → Counts → Counts → Option (List ℕ) → List ℕ → List E → Result Report Stop → Type 0
 EndsReadingAs Byte End Off reads old new last w values outcome =
-    (Byte w values outcome × AskedSome reads old new w 0 0)
-    ⊎ (End w values outcome × IsAtEnd last × AskedSome reads old new w 0 1)
-    ⊎ (Off Read w values outcome × AskedSome reads old new w 1 0)
-    ⊎ (Off ReadsSpent w values outcome × Asked reads old new w reads 0 0)
+    (Byte w values outcome × SomeReadsMade reads old new w 0 0)
+    ⊎ (End w values outcome × IsAtEnd last × SomeReadsMade reads old new w 0 1)
+    ⊎ (Off Read w values outcome × SomeReadsMade reads old new w 1 0)
+    ⊎ (Off ReadsSpent w values outcome × ReadsMade reads old new w reads 0 0)
 
 -- the same where nothing stands ahead
 abbrev pub ByteEnds : {E : Type 0} → Framing → (List ℕ → E → Type 0) → (List ℕ → RecordRefusal → Type 0) → ℕ → List ℕ → List E → Result Report Stop → Type 0
@@ -98,33 +100,41 @@ ReadingStandsBehind holds spells ahead d framing limit w values = StreamStands h
 abbrev pub ReadingStands : {R E : Type 0} → (R → List ℕ → Type 0) → (List ℕ → E → Type 0) → Reading R → Framing → ℕ → List ℕ → List E → Type 0
 ReadingStands holds spells d framing limit w values = ReadingStandsBehind holds spells nothing_ahead d framing limit w values
 
+-- what a reading that has stopped came to
+abbrev pub told_as : {R : Type 0} → Reading R → ReadingStop → Result Report Stop
+told_as d reading_stop.Ended = Ok (record { used = d.used; rest = d.rest })
+told_as d (reading_stop.Fault fault) = Err (record { fault = fault; used = d.used })
+
 -- what became of a piece behind w, where the list got the values of the records that ended in it
-abbrev pub ReadingTakesBehind : {R E T : Type 0} → (R → List ℕ → Type 0) → (List ℕ → E → Type 0) → (List ℕ → RecordRefusal → Type 0) → Ahead → Reading R → Framing → ℕ → List ℕ → List E → List ℕ → List E → List E → Result T (Result Report Stop) → Type 0
+abbrev pub ReadingTakesBehind : {R E T : Type 0} → (R → List ℕ → Type 0) → (List ℕ → E → Type 0) → (List ℕ → RecordRefusal → Type 0) → Ahead → Reading R → Framing → ℕ → List ℕ → List E → List ℕ → List E → List E → Result T ReadingStop → Type 0
 ReadingTakesBehind {E = E} holds spells breaks ahead new framing limit w values piece old now (Ok done) =
     (more : List E) × (now ≡ old ++ more) × ReadingStandsBehind holds spells ahead new framing limit (w ++ piece) (values ++ more)
-ReadingTakesBehind {E = E} holds spells breaks ahead new framing limit w values piece old now (Err outcome) =
-    (more : List E) × (now ≡ old ++ more) × ByteEndsBehind framing spells breaks ahead limit (w ++ piece) (values ++ more) outcome
+ReadingTakesBehind {E = E} holds spells breaks ahead new framing limit w values piece old now (Err stop) =
+    (more : List E) × (now ≡ old ++ more) × ByteEndsBehind framing spells breaks ahead limit (w ++ piece) (values ++ more) (told_as new stop)
 
-abbrev pub ReadingTakes : {R E T : Type 0} → (R → List ℕ → Type 0) → (List ℕ → E → Type 0) → (List ℕ → RecordRefusal → Type 0) → Reading R → Framing → ℕ → List ℕ → List E → List ℕ → List E → List E → Result T (Result Report Stop) → Type 0
+abbrev pub ReadingTakes : {R E T : Type 0} → (R → List ℕ → Type 0) → (List ℕ → E → Type 0) → (List ℕ → RecordRefusal → Type 0) → Reading R → Framing → ℕ → List ℕ → List E → List ℕ → List E → List E → Result T ReadingStop → Type 0
 ReadingTakes holds spells breaks new framing limit w values piece old now result = ReadingTakesBehind holds spells breaks nothing_ahead new framing limit w values piece old now result
 
--- what became of a piece up to the end of a record
-abbrev pub ReadingTakesRecord : {R E : Type 0} → (R → List ℕ → Type 0) → (List ℕ → E → Type 0) → (List ℕ → RecordRefusal → Type 0) → Ahead → Reading R → Framing → ℕ → List ℕ → List E → List ℕ → Result (Option (EndedRecord E)) (Result Report Stop) → Type 0
+-- What became of a piece behind w up to the end of a record: all of it was taken and none ended; or one ended with the last of the
+-- bytes that were used, and before that byte all went on; or a byte of it ended the stream, or stops the reading.
+abbrev pub ReadingTakesRecord : {R E : Type 0} → (R → List ℕ → Type 0) → (List ℕ → E → Type 0) → (List ℕ → RecordRefusal → Type 0) → Ahead → Reading R → Framing → ℕ → List ℕ → List E → List ℕ → Result (Option (EndedRecord E)) ReadingStop → Type 0
 ReadingTakesRecord holds spells breaks ahead new framing limit w values piece (Ok None) = ReadingStandsBehind holds spells ahead new framing limit (w ++ piece) values
 ReadingTakesRecord holds spells breaks ahead new framing limit w values piece (Ok (Some ended)) =
     ReadingStandsBehind holds spells ahead new framing limit (w ++ take ended.used piece) (values ++ ended.value ∷ [])
     × WholeIn framing spells limit (w ++ take ended.used piece) (values ++ ended.value ∷ [])
-ReadingTakesRecord holds spells breaks ahead new framing limit w values piece (Err outcome) = ByteEndsBehind framing spells breaks ahead limit (w ++ piece) values outcome
+    × EndsRecordIn framing spells limit (w ++ take (ended.used - 1) piece) values (slice_index piece (ended.used - 1)) ended.value
+    × GoesBefore framing spells limit w values piece ended.used
+ReadingTakesRecord holds spells breaks ahead new framing limit w values piece (Err stop) = ByteEndsBehind framing spells breaks ahead limit (w ++ piece) values (told_as new stop)
 
 -- it ended with a byte of the piece
 abbrev pub EndsWithin : {E T : Type 0} → ℕ → Result (Option (EndedRecord E)) T → Type 0
 EndsWithin len (Ok None) = Unit {0}
 EndsWithin len (Ok (Some ended)) = (0 < ended.used) × (ended.used ≤ len)
-EndsWithin len (Err outcome) = Unit {0}
+EndsWithin len (Err stop) = Unit {0}
 
--- what the end of the reads means: a stop is told as it is; else what the reading stands for decides
-abbrev pub MeansBehind : {R E : Type 0} → (R → List ℕ → Type 0) → (List ℕ → E → Type 0) → Ahead → Reading R → ReadsEnd (Result Report Stop) → Result Report Stop → Type 0
-MeansBehind holds spells ahead d (Stopped outcome) answer = answer ≡ outcome
+-- what the end of the reads means: a stop is told as the reading has it; else what the reading stands for decides
+abbrev pub MeansBehind : {R E : Type 0} → (R → List ℕ → Type 0) → (List ℕ → E → Type 0) → Ahead → Reading R → ReadsEnd ReadingStop → Result Report Stop → Type 0
+MeansBehind holds spells ahead d (Stopped stop) answer = answer ≡ told_as d stop
 MeansBehind {E = E} holds spells ahead d AtEnd answer =
     (framing : Framing) (limit : ℕ) (w : List ℕ) (values : List E) → ReadingStandsBehind holds spells ahead d framing limit w values → EndMeans framing spells ahead limit w values answer
 MeansBehind {E = E} holds spells ahead d Failed answer =
@@ -132,22 +142,23 @@ MeansBehind {E = E} holds spells ahead d Failed answer =
 MeansBehind {E = E} holds spells ahead d Spent answer =
     (framing : Framing) (limit : ℕ) (w : List ℕ) (values : List E) → ReadingStandsBehind holds spells ahead d framing limit w values → BreaksOff ReadsSpent framing spells ahead limit w values answer
 
-abbrev pub Means : {R E : Type 0} → (R → List ℕ → Type 0) → (List ℕ → E → Type 0) → Reading R → ReadsEnd (Result Report Stop) → Result Report Stop → Type 0
+abbrev pub Means : {R E : Type 0} → (R → List ℕ → Type 0) → (List ℕ → E → Type 0) → Reading R → ReadsEnd ReadingStop → Result Report Stop → Type 0
 Means holds spells d end answer = MeansBehind holds spells nothing_ahead d end answer
 
 -- where it came to a stop nothing is kept
 abbrev pub KeepsNoneOnStop : {A B : Type 0} → ℕ → Result A B → Type 0
 KeepsNoneOnStop kept (Ok more) = Unit {0}
-KeepsNoneOnStop kept (Err outcome) = kept ≡ 0
+KeepsNoneOnStop kept (Err stop) = kept ≡ 0
 
--- the list got the values of the stream so far, from its first byte on
+-- The list got the values of the bytes w, by which the reading came from its first state to the other, whatever it had taken before
+-- and whatever stands ahead.
 abbrev pub Gathers : {R E : Type 0} → (R → List ℕ → Type 0) → (List ℕ → E → Type 0) → Reading R → List E → Reading R → List E → List ℕ → Type 0
 Gathers {E = E} holds spells first start now to w =
-    (framing : Framing) (limit : ℕ) → ReadingStands holds spells first framing limit [] []
-    → (more : List E) × (to ≡ start ++ more) × ReadingStands holds spells now framing limit w more
+    (ahead : Ahead) (framing : Framing) (limit : ℕ) (v : List ℕ) (before : List E) → ReadingStandsBehind holds spells ahead first framing limit v before
+    → (more : List E) × (to ≡ start ++ more) × ReadingStandsBehind holds spells ahead now framing limit (v ++ w) (before ++ more)
 
--- and a byte of the piece behind it ended the stream, or stops the reading
-abbrev pub GathersLast : {R E : Type 0} → (R → List ℕ → Type 0) → (List ℕ → E → Type 0) → (List ℕ → RecordRefusal → Type 0) → Reading R → List E → List E → List ℕ → List ℕ → Result Report Stop → Type 0
-GathersLast {E = E} holds spells breaks first start to w piece outcome =
-    (framing : Framing) (limit : ℕ) → ReadingStands holds spells first framing limit [] []
-    → (more : List E) × (to ≡ start ++ more) × ByteEnds framing spells breaks limit (w ++ piece) more outcome
+-- and a byte of the piece behind them ended the stream, or stops the reading
+abbrev pub GathersLast : {R E : Type 0} → (R → List ℕ → Type 0) → (List ℕ → E → Type 0) → (List ℕ → RecordRefusal → Type 0) → Reading R → List E → Reading R → List E → List ℕ → List ℕ → ReadingStop → Type 0
+GathersLast {E = E} holds spells breaks first start now to w piece stop =
+    (ahead : Ahead) (framing : Framing) (limit : ℕ) (v : List ℕ) (before : List E) → ReadingStandsBehind holds spells ahead first framing limit v before
+    → (more : List E) × (to ≡ start ++ more) × ByteEndsBehind framing spells breaks ahead limit (v ++ (w ++ piece)) (before ++ more) (told_as now stop)

@@ -9,7 +9,7 @@ use Rattle.mes_stream.specs.declared.reads.ReadsEnd.TheVariants.{Stopped, AtEnd,
 
 -- The device was asked as often as `made` says, at most `reads` times, and gave the bytes w, at most 512 a time. So many
 -- of the calls failed, and so many told the end.
-pub record Asked (reads : ℕ) (old new : Counts) (w : List ℕ) (made failed ended : ℕ) : Type 0 where
+pub record ReadsMade (reads : ℕ) (old new : Counts) (w : List ℕ) (made failed ended : ℕ) : Type 0 where
   pub most : made ≤ reads
   pub bytes : length w ≤ READ_MOST * made
   pub calls : new.calls ≡ up old.calls made
@@ -20,8 +20,8 @@ pub record Asked (reads : ℕ) (old new : Counts) (w : List ℕ) (made failed en
   pub gave : made ≤ length w + failed + ended
 
 -- so often
-abbrev pub AskedSome : ℕ → Counts → Counts → List ℕ → ℕ → ℕ → Type 0
-AskedSome reads old new w failed ended = (made : ℕ) × Asked reads old new w made failed ended
+abbrev pub SomeReadsMade : ℕ → Counts → Counts → List ℕ → ℕ → ℕ → Type 0
+SomeReadsMade reads old new w failed ended = (made : ℕ) × ReadsMade reads old new w made failed ended
 
 -- w is the front, and then the piece that the last read gave: at least one byte, and at most 512
 pub record LastRead (w front piece : List ℕ) : Type 0 where
@@ -33,7 +33,7 @@ pub record LastRead (w front piece : List ℕ) : Type 0 where
 -- others: no more were wanted; or the device told its end; or a call failed; or as many were made as allowed.
 abbrev pub EndsReads : {Z : Type 0} → (List ℕ → Type 0) → (List ℕ → List ℕ → Z → Type 0) → ℕ → Counts → Counts → Option (List ℕ) → List ℕ → ReadsEnd Z → Type 0
 EndsReads Goes Stops reads old new last w (Stopped why) =
-    (front : List ℕ) × (piece : List ℕ) × LastRead w front piece × Stops front piece why × AskedSome reads old new w 0 0
-EndsReads Goes Stops reads old new last w AtEnd = Goes w × IsAtEnd last × AskedSome reads old new w 0 1
-EndsReads Goes Stops reads old new last w Failed = Goes w × AskedSome reads old new w 1 0
-EndsReads Goes Stops reads old new last w Spent = Goes w × Asked reads old new w reads 0 0
+    (front : List ℕ) × (piece : List ℕ) × LastRead w front piece × Stops front piece why × SomeReadsMade reads old new w 0 0
+EndsReads Goes Stops reads old new last w AtEnd = Goes w × IsAtEnd last × SomeReadsMade reads old new w 0 1
+EndsReads Goes Stops reads old new last w Failed = Goes w × SomeReadsMade reads old new w 1 0
+EndsReads Goes Stops reads old new last w Spent = Goes w × ReadsMade reads old new w reads 0 0

@@ -13,6 +13,8 @@ use Rattle.mes_stream.specs.declared.stream_reader.StreamReader.TheVariants as r
 use Rattle.mes_stream.specs.declared.taken.FaultAt.{FaultAt}
 use Rattle.mes_stream.specs.declared.taken.Out.{Out}
 use Rattle.mes_stream.specs.declared.taken.Out.TheVariants as out
+use Rattle.mes_stream.specs.declared.taken.SmallOut.{SmallOut}
+use Rattle.mes_stream.specs.declared.taken.SmallOut.TheVariants as small
 
 -- what reads the records, and the same reader with another
 abbrev pub body_of : {R : Type 0} → StreamReader R → Body R
@@ -53,7 +55,14 @@ LetsGo kept (Ok None) = Unit {0}
 LetsGo kept (Ok (Some used)) = kept ≡ 0
 LetsGo kept (Err stop) = kept ≡ 0
 
--- the same behind an answer
+-- an answer, of one in little room
+abbrev pub out_of : {E : Type 0} → SmallOut E → Out E
+out_of small.More = out.More
+out_of (small.Event value) = out.Event value
+out_of small.End = out.End
+out_of (small.Fault fault) = out.Fault fault
+
+-- after an answer that ends the stream or stops the reading nothing is kept
 abbrev pub KeepsNoneAt : {E : Type 0} → ℕ → Out E → Type 0
 KeepsNoneAt kept out.More = Unit {0}
 KeepsNoneAt kept (out.Event value) = Unit {0}

@@ -1,7 +1,7 @@
 -- What any bytes are to a reader of chunked streams.
 use Rattle.std.specs.Prelude.{◌≡◌, ℕ, List, ◌∷◌, ◌++◌}
 use Rattle.mes_stream.specs.declared.refusal.RecordRefusal.{RecordRefusal}
-use Rattle.mes_stream.specs.Chunked.{IsStream, Live, Shows}
+use Rattle.mes_stream.specs.Chunked.{IsStream, Live, ChunkedShows}
 use Rattle.mes_stream.specs.declared.fault.Fault.{Fault}
 
 pub data StreamReading (E : Type 0) : Type 0 where
@@ -17,7 +17,7 @@ abbrev pub ReadsStream : {E : Type 0} → (List ℕ → E → Type 0) → (List 
 ReadsStream spells breaks ahead limit w (Goes values) = Live spells limit w values
 ReadsStream spells breaks ahead limit w (Ends front values) = (rest : List ℕ) × (w ≡ front ++ rest) × IsStream spells limit front values
 ReadsStream spells breaks ahead limit w (Stops front byte values fault) =
-    (rest : List ℕ) × (w ≡ front ++ byte ∷ rest) × Shows spells breaks ahead limit front values byte fault
+    (rest : List ℕ) × (w ≡ front ++ byte ∷ rest) × ChunkedShows spells breaks ahead limit front values byte fault
 
 -- the same values, and the same end
 abbrev pub IsAlike : {E : Type 0} → StreamReading E → StreamReading E → Type 0

@@ -7,7 +7,7 @@ ghost use Rattle.mes_stream.specs.Stream.{Records, EndsInside, saturated};
 ghost use Rattle.mes_stream.specs.Decoders.{HoldsInBody};
 ghost use Rattle.mes_stream.specs.Framings.{GoesBefore};
 ghost use Rattle.mes_stream.specs.Refusals.{fault_at_record};
-ghost use Rattle.mes_stream.specs.Taking.{BodyStands, Fronts, IsWithin, Tells, Ends};
+ghost use Rattle.mes_stream.specs.Taking.{BodyStands, Fronts, IsWithin, Tells, Ends, EndsInto};
 ghost use Rattle.mes_stream.specs.declared.stream_reader.Framing.TheVariants as framing;
 
 use crate::record_reader::RecordReader;
@@ -116,6 +116,19 @@ impl<R: RecordReader> Body<R> {
     {
         self.done = self.done.saturating_add(1);
         self.reader.finish()
+    }
+
+    /// The same, where the value is added to a list.
+    pub(crate) fn end_record_into(
+        &mut self,
+        values: &mut Vec<R::Value>,
+    ) -> Result<(), RecordRefusal>
+        ensures ends { (r : List ℕ) → R.holds self.old.reader r → length r < 2 ^ 64
+            → EndsInto R.holds R.spells R.breaks self.old self.new r values.old.items values.new.items result }
+        ensures records { self.new.records ≡ self.old.records }
+    {
+        self.done = self.done.saturating_add(1);
+        self.reader.finish_into(values)
     }
 
     /// How many bytes of the record that has begun are kept.

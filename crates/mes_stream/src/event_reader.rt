@@ -60,6 +60,18 @@ impl RecordReader for EventReader {
         Ok(event)
     }
 
+    fn finish_into(&mut self, events: &mut Vec<Event>) -> Result<(), RecordRefusal> {
+        let alloc = self.alloc;
+        let lexer = mem::replace(&mut self.lexer, Lexer::new(alloc));
+        let tape = lexer.end()?;
+        let event = Event::read_from(alloc, &tape.root(), &Trail::new())?;
+        if let Err(_) = events.push(event) {
+            return Err(RecordRefusal::NoMemory);
+        }
+        self.lexer = Lexer::reusing(alloc, tape);
+        Ok(())
+    }
+
     fn refuse_empty(&self) -> RecordRefusal {
         RecordRefusal::Text(TextFault {
             byte: 0,

@@ -1,12 +1,15 @@
 //! Laws of the definitions that the contracts cite: functions that do nothing, each with the law as its contract.
 
-ghost use Rattle.std.specs.Prelude.{◌≡◌, ℕ, List};
+ghost use Rattle.std.specs.Prelude.{◌≡◌, ℕ, List, Result};
 ghost use Rattle.mes_event.specs.Events.{Spells};
 ghost use Rattle.mes_stream.specs.Refusals.{IsEventRefusal};
 ghost use Rattle.mes_event.specs.declared.event.Event.{Event as EventValue};
 ghost use Rattle.mes_frame.specs.Chunk.{IsChunked};
 ghost use Rattle.mes_frame.specs.ChunkFront.{IsOpen};
+ghost use Rattle.mes_stream.specs.Answers.{AnswersStream, IsDecidedByBytes, EndsAlike};
 ghost use Rattle.mes_stream.specs.Chunked.{IsStream, Live};
+ghost use Rattle.mes_stream.specs.declared.fault.Report.{Report};
+ghost use Rattle.mes_stream.specs.declared.fault.Stop.{Stop};
 ghost use Rattle.mes_stream.specs.PlainReading.{IsDecided, IsExact, PlainReading, ReadsPlain};
 ghost use Rattle.mes_stream.specs.StreamReading.{StreamReading, ReadsStream, IsAlike};
 
@@ -66,4 +69,15 @@ pub fn one_event_reading()
     one_plain_reading::<EventReader>();
     one_stream_reading::<EventReader>();
     one_chunking::<EventReader>();
+}
+
+/// However a body, or the front of one, is chunked, and however a device gives its bytes: `read_stream` answers it alike, with the same
+/// events and the same end or fault, where the bytes decide that.
+pub fn one_answer()
+    ensures body { (limit : ℕ) (w v body : List ℕ) (events others : List EventValue) (outcome other : Result Report Stop) → IsChunked w body → IsChunked v body
+        → AnswersStream limit w events outcome → AnswersStream limit v others other → IsDecidedByBytes outcome → IsDecidedByBytes other → (events ≡ others) × EndsAlike outcome other }
+    ensures front { (limit : ℕ) (w v body : List ℕ) (events others : List EventValue) (outcome other : Result Report Stop) → IsOpen w body → IsOpen v body
+        → AnswersStream limit w events outcome → AnswersStream limit v others other → IsDecidedByBytes outcome → IsDecidedByBytes other → (events ≡ others) × EndsAlike outcome other }
+{
+    one_event_reading();
 }

@@ -29,13 +29,14 @@ pub use encode::encode_events;
 pub use event_reader::EventReader;
 pub use fault::{Fault, Report, Stop};
 pub use laws::{
-    one_chunking, one_event_reading, one_plain_reading, one_stream_reading, stream_limits,
+    one_answer, one_chunking, one_event_reading, one_plain_reading, one_stream_reading,
+    stream_limits,
 };
 pub use limits::{COUNT_LINE_MOST, FAULT_LINE_MOST, READ_MOST, REST_MOST};
 pub use line::{count_line, fault_line, push_number, push_word};
 pub use mes_msg::{EncodeWhy, SendFault};
 pub use read::{read_events, read_plain, read_stream};
-pub use reading::{EndedRecord, Reading};
+pub use reading::{EndedRecord, Reading, ReadingStop};
 pub use reads::{Consumer, ReadsEnd, read_device};
 pub use record_reader::RecordReader;
 pub use refusal::RecordRefusal;

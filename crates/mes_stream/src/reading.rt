@@ -11,16 +11,30 @@ use crate::fault::{Fault, Report, Stop};
 use crate::limits::{READ_MOST, REST_MOST};
 use crate::reads::{Consumer, ReadsEnd};
 use crate::record_reader::RecordReader;
+use crate::small_fault::SmallFault;
 use crate::stream_reader::{Framing, StreamReader};
-use crate::taken::{Out, Step};
+use crate::taken::{SmallOut, SmallStep};
 use arrayvec::ArrayVec;
 use mes_frame::Limit;
+use std::mem;
 
 /// The reading of a stream of either framing, which counts the bytes that were used.
 #[derive(Drop)]
 pub struct Reading<R> {
     stream: StreamReader<R>,
     used: u64,
+    // Where a byte has ended the stream: those behind it, of the same piece.
+    rest: ArrayVec<u8, REST_MOST>,
+}
+
+/// Why a reading wants no more bytes. It is small, since an answer to each piece has place for one; `Reading::outcome` tells what the
+/// stream came to.
+#[derive(Drop)]
+pub enum ReadingStop {
+    /// A byte of the piece ended the stream.
+    Ended,
+    /// A byte of the piece stops the reading.
+    Fault(SmallFault),
 }
 
 /// A record that has ended.
@@ -50,12 +64,15 @@ impl<R: RecordReader> Reading<R> {
         Reading {
             stream: StreamReader::behind(framing, records, limit, done),
             used,
+            rest: ArrayVec::new(),
         }
     }
 
-    /// How many bytes were used, those ahead of the stream with them.
+    /// How many bytes were used, those ahead of the stream with them. Where the reading has stopped: up to the byte that ended the
+    /// stream or stopped it, as its report or fault tells.
     pub fn used(&self) -> u64
-        ensures { (ahead : Ahead) (framing : FramingValue) (limit : ℕ) (w : List ℕ) (values : List R.Value) → ReadingStandsBehind R.holds R.spells ahead self.now framing limit w values
+        ensures count { result ≡ self.now.used }
+        ensures taken { (ahead : Ahead) (framing : FramingValue) (limit : ℕ) (w : List ℕ) (values : List R.Value) → ReadingStandsBehind R.holds R.spells ahead self.now framing limit w values
             → result ≡ saturated (ahead.bytes + length w) }
     {
         self.used
@@ -70,12 +87,9 @@ impl<R: RecordReader> Reading<R> {
         self.stream.held()
     }
 
-    /// Takes what one read gave up to the end of a record. Ok of none where all of it was taken and none ended. Err: what the
-    /// stream came to.
-    pub fn next(
-        &mut self,
-        piece: &[u8],
-    ) -> Result<Option<EndedRecord<R::Value>>, Result<Report, Stop>>
+    /// Takes what one read gave up to the end of a record. Ok of none where all of it was taken and none ended. Err: a byte of it
+    /// ended the stream, or stops the reading.
+    pub fn next(&mut self, piece: &[u8]) -> Result<Option<EndedRecord<R::Value>>, ReadingStop>
         requires { length piece.now ≤ READ_MOST }
         ensures reads { (ahead : Ahead) (framing : FramingValue) (limit : ℕ) (w : List ℕ) (values : List R.Value) → ReadingStandsBehind R.holds R.spells ahead self.old framing limit w values
             → ReadingTakesRecord R.holds R.spells R.breaks ahead self.new framing limit w values piece.now result }
@@ -83,22 +97,22 @@ impl<R: RecordReader> Reading<R> {
         // Where the reading has stopped nothing is kept.
         ensures kept { KeepsNoneOnStop (R.kept (body_of self.new.stream).reader) result }
     {
-        let Step { used, out } = self.stream.next(piece);
+        let SmallStep { used, out } = self.stream.step(piece);
         self.used = self.used.saturating_add(used as u64);
         match out {
-            Out::More => Ok(None),
-            Out::Event(value) => Ok(Some(EndedRecord { value, used })),
-            Out::End => Err(Ok(report(self.used, &piece[used..]))),
-            Out::Fault(fault) => Err(Err(stop_at(fault, self.used))),
+            SmallOut::More => Ok(None),
+            SmallOut::Event(value) => Ok(Some(EndedRecord { value, used })),
+            SmallOut::End => {
+                self.keep_rest(&piece[used..]);
+                Err(ReadingStop::Ended)
+            }
+            SmallOut::Fault(fault) => Err(ReadingStop::Fault(fault)),
         }
     }
 
-    /// Takes what one read gave, and adds the values of the records that end in it to the list. Err: what the stream came to.
-    pub fn feed(
-        &mut self,
-        piece: &[u8],
-        values: &mut Vec<R::Value>,
-    ) -> Result<(), Result<Report, Stop>>
+    /// Takes what one read gave, and adds the values of the records that end in it to the list. Err: a byte of it ended the stream,
+    /// or stops the reading.
+    pub fn feed(&mut self, piece: &[u8], values: &mut Vec<R::Value>) -> Result<(), ReadingStop>
         requires { length piece.now ≤ READ_MOST }
         ensures takes { (ahead : Ahead) (framing : FramingValue) (limit : ℕ) (w : List ℕ) (before : List R.Value) → ReadingStandsBehind R.holds R.spells ahead self.old framing limit w before
             → ReadingTakesBehind R.holds R.spells R.breaks ahead self.new framing limit w before piece.now values.old.items values.new.items result }
@@ -111,45 +125,74 @@ impl<R: RecordReader> Reading<R> {
                 Ok(())
             }
             Ok(Some(end)) => {
-                let used = self.used.saturating_add(end as u64);
-                Err(Ok(report(used, &piece[end..])))
+                self.used = self.used.saturating_add(end as u64);
+                self.keep_rest(&piece[end..]);
+                Err(ReadingStop::Ended)
             }
             Err(stop) => {
-                let used = self.used.saturating_add(stop.used as u64);
-                Err(Err(stop_at(stop.fault.into_fault(), used)))
+                self.used = self.used.saturating_add(stop.used as u64);
+                Err(ReadingStop::Fault(stop.fault))
             }
         }
     }
 
-    /// What the stream came to, where the reads ended so.
-    pub fn outcome(&self, end: ReadsEnd<Result<Report, Stop>>) -> Result<Report, Stop>
-        ensures { (ahead : Ahead) → MeansBehind R.holds R.spells ahead self.now end result }
+    /// What the stream came to, where the reads ended so. From then on nothing is kept, and no more pieces are to be taken.
+    pub fn outcome(&mut self, end: ReadsEnd<ReadingStop>) -> Result<Report, Stop>
+        ensures means { (ahead : Ahead) → MeansBehind R.holds R.spells ahead self.old end result }
+        ensures used { self.new.used ≡ self.old.used }
+        ensures kept { R.kept (body_of self.new.stream).reader ≡ 0 }
     {
+        let outcome = self.told(end);
+        self.stream.let_go();
+        outcome
+    }
+
+    // The same, but what was kept stays.
+    fn told(&mut self, end: ReadsEnd<ReadingStop>) -> Result<Report, Stop>
+        ensures means { (ahead : Ahead) → MeansBehind R.holds R.spells ahead self.old end result }
+        ensures used { self.new.used ≡ self.old.used }
+    {
+        let used = self.used;
         match end {
-            ReadsEnd::Stopped(outcome) => outcome,
+            ReadsEnd::Stopped(ReadingStop::Ended) => Ok(Report {
+                used,
+                rest: mem::replace(&mut self.rest, ArrayVec::new()),
+            }),
+            ReadsEnd::Stopped(ReadingStop::Fault(fault)) => Err(stop_at(fault.into_fault(), used)),
             ReadsEnd::AtEnd => match self.stream.finish() {
-                Ok(()) => Ok(report(self.used, &[])),
-                Err(fault) => Err(stop_at(fault, self.used)),
+                Ok(()) => Ok(Report {
+                    used,
+                    rest: ArrayVec::new(),
+                }),
+                Err(fault) => Err(stop_at(fault, used)),
             },
-            ReadsEnd::Failed => Err(stop_at(Fault::Read, self.used)),
-            ReadsEnd::Spent => Err(stop_at(Fault::ReadsSpent, self.used)),
+            ReadsEnd::Failed => Err(stop_at(Fault::Read, used)),
+            ReadsEnd::Spent => Err(stop_at(Fault::ReadsSpent, used)),
         }
+    }
+
+    // The stream has ended, and these bytes were taken behind it.
+    fn keep_rest(&mut self, rest: &[u8])
+        requires { length rest.now ≤ REST_MOST }
+        ensures rest { self.new.rest.items ≡ rest.now }
+        ensures stream { self.new.stream ≡ self.old.stream }
+        ensures used { self.new.used ≡ self.old.used }
+    {
+        let mut kept = ArrayVec::new();
+        let _fits = kept.try_extend_from_slice(rest);
+        self.rest = kept;
     }
 }
 
 /// Keeps the values in a list.
 impl<R: RecordReader> Consumer<Vec<R::Value>> for Reading<R> {
-    type Stop = Result<Report, Stop>;
+    type Stop = ReadingStop;
 
     ghost goes = { λ first start now to w. Gathers R.holds R.spells first start.items now to.items w };
 
-    ghost stops = { λ first start now to w piece outcome. GathersLast R.holds R.spells R.breaks first start.items to.items w piece outcome };
+    ghost stops = { λ first start now to w piece stop. GathersLast R.holds R.spells R.breaks first start.items now to.items w piece stop };
 
-    fn take(
-        &mut self,
-        piece: &[u8],
-        values: &mut Vec<R::Value>,
-    ) -> Result<(), Result<Report, Stop>> {
+    fn take(&mut self, piece: &[u8], values: &mut Vec<R::Value>) -> Result<(), ReadingStop> {
         self.feed(piece, values)
     }
 }
@@ -159,14 +202,4 @@ fn stop_at(fault: Fault, used: u64) -> Stop
     ensures { result ≡ record { fault = fault; used = used } }
 {
     Stop { fault, used }
-}
-
-// The stream ended behind so many bytes, and these were taken behind it.
-fn report(used: u64, rest: &[u8]) -> Report
-    requires { length rest.now ≤ REST_MOST }
-    ensures { (result.used ≡ used) × (result.rest.items ≡ rest.now) }
-{
-    let mut kept = ArrayVec::new();
-    let _fits = kept.try_extend_from_slice(rest);
-    Report { used, rest: kept }
 }

@@ -1,6 +1,7 @@
 //! What reads the data of records.
 
 ghost use Rattle.std.specs.Prelude.{◌≡◌, ◌≢◌, ℕ, ◌^◌, ◌<◌, ◌≤◌, List, [], ◌++◌, length, OnOk, IfOk, IfErr};
+ghost use Rattle.mes_stream.specs.RecordValues.{AddsValue};
 ghost use Rattle.mes_stream.specs.declared.refusal.RecordRefusal.{RecordRefusal as Refusal};
 
 use crate::refusal::RecordRefusal;
@@ -37,6 +38,11 @@ pub trait RecordReader: Drop {
         ensures ok { (r : List ℕ) → holds self.old r → length r < 2 ^ 64 → IfOk result (spells r) }
         ensures err { (r : List ℕ) → holds self.old r → length r < 2 ^ 64 → IfErr result (breaks r) }
         // Then it is ready for the next record.
+        ensures next { OnOk result (holds self.new []) };
+
+    /// The same, where the value is added to a list, so that it isn't moved from call to call: it may be large.
+    fn finish_into(&mut self, values: &mut Vec<Self::Value>) -> Result<(), RecordRefusal>
+        ensures adds { (r : List ℕ) → holds self.old r → length r < 2 ^ 64 → AddsValue spells breaks r values.old.items values.new.items result }
         ensures next { OnOk result (holds self.new []) };
 
     /// Why a record without data has no value. Takes no memory.

@@ -5,8 +5,8 @@ ghost use Rattle.mes_stream.specs.Decoders.{HoldsIn};
 ghost use Rattle.mes_stream.specs.Framings.{InputEnds, SaysIn, GoesBefore};
 ghost use Rattle.mes_stream.specs.Refusals.{fault_at_record};
 ghost use Rattle.mes_stream.specs.Stream.{saturated};
-ghost use Rattle.mes_stream.specs.StreamReaders.{StreamStands, StreamFeeds, UsesWithin, LetsGo, KeepsNoneAt, body_of, with_body};
-ghost use Rattle.mes_stream.specs.Taking.{Ends, Tells};
+ghost use Rattle.mes_stream.specs.StreamReaders.{StreamStands, StreamFeeds, UsesWithin, LetsGo, KeepsNoneAt, body_of, with_body, out_of};
+ghost use Rattle.mes_stream.specs.Taking.{Ends, EndsInto, Tells};
 ghost use Rattle.mes_stream.specs.declared.stream_reader.Framing.{Framing as FramingValue};
 
 use crate::body::Body;
@@ -15,7 +15,7 @@ use crate::fault::Fault;
 use crate::record_reader::RecordReader;
 use crate::refusal::RecordRefusal;
 use crate::small_fault::SmallFault;
-use crate::taken::{FaultAt, Out, SoFar, Step, Taken};
+use crate::taken::{FaultAt, Out, SmallOut, SmallStep, SoFar, Step, Taken};
 use mes_frame::Limit;
 
 /// How the records of a stream come.
@@ -70,35 +70,51 @@ impl<R: RecordReader> StreamReader<R> {
         // After the end or a fault nothing is kept.
         ensures kept { KeepsNoneAt (R.kept (body_of self.new).reader) result.out }
     {
-        let step = self.next_on(piece);
+        let SmallStep { used, out } = self.step(piece);
+        let out = out.into_out();
+        Step { used, out }
+    }
+
+    /// The same, where a fault has little room.
+    pub(crate) fn step(&mut self, piece: &[u8]) -> SmallStep<R::Value>
+        ensures says { (ahead : ℕ) (framing : FramingValue) (limit : ℕ) (w : List ℕ) (values : List R.Value) → StreamStands R.holds R.spells ahead self.old framing limit w values
+            → SaysIn framing (StreamStands R.holds R.spells ahead self.new framing limit) R.spells R.breaks ahead limit w values piece.now result.used (out_of result.out) }
+        ensures before { (ahead : ℕ) (framing : FramingValue) (limit : ℕ) (w : List ℕ) (values : List R.Value) → StreamStands R.holds R.spells ahead self.old framing limit w values
+            → GoesBefore framing R.spells limit w values piece.now result.used }
+        ensures more { out_of result.out ≡ Out.More → result.used ≡ length piece.now }
+        ensures some { out_of result.out ≢ Out.More → 0 < result.used }
+        ensures used { result.used ≤ length piece.now }
+        ensures kept { KeepsNoneAt (R.kept (body_of self.new).reader) (out_of result.out) }
+    {
+        let step = self.step_on(piece);
         match &step.out {
-            Out::More | Out::Event(_) => {}
-            Out::End | Out::Fault(_) => self.let_go(),
+            SmallOut::More | SmallOut::Event(_) => {}
+            SmallOut::End | SmallOut::Fault(_) => self.let_go(),
         }
         step
     }
 
     // The same, but what was kept stays.
-    fn next_on(&mut self, piece: &[u8]) -> Step<R::Value>
+    fn step_on(&mut self, piece: &[u8]) -> SmallStep<R::Value>
         ensures says { (ahead : ℕ) (framing : FramingValue) (limit : ℕ) (w : List ℕ) (values : List R.Value) → StreamStands R.holds R.spells ahead self.old framing limit w values
-            → SaysIn framing (StreamStands R.holds R.spells ahead self.new framing limit) R.spells R.breaks ahead limit w values piece.now result.used result.out }
+            → SaysIn framing (StreamStands R.holds R.spells ahead self.new framing limit) R.spells R.breaks ahead limit w values piece.now result.used (out_of result.out) }
         ensures before { (ahead : ℕ) (framing : FramingValue) (limit : ℕ) (w : List ℕ) (values : List R.Value) → StreamStands R.holds R.spells ahead self.old framing limit w values
             → GoesBefore framing R.spells limit w values piece.now result.used }
-        ensures more { result.out ≡ Out.More → result.used ≡ length piece.now }
-        ensures some { result.out ≢ Out.More → 0 < result.used }
+        ensures more { out_of result.out ≡ Out.More → result.used ≡ length piece.now }
+        ensures some { out_of result.out ≢ Out.More → 0 < result.used }
         ensures used { result.used ≤ length piece.now }
     {
         let Taken { used, so_far } = self.skim(piece);
         let out = match so_far {
-            SoFar::More => Out::More,
+            SoFar::More => SmallOut::More,
             SoFar::RecordEnded => match self.end_record() {
-                Ok(value) => Out::Event(value),
-                Err(why) => Out::Fault(self.refused(why).into_fault()),
+                Ok(value) => SmallOut::Event(value),
+                Err(why) => SmallOut::Fault(self.refused(why)),
             },
-            SoFar::StreamEnded => Out::End,
-            SoFar::Fault(fault) => Out::Fault(fault.into_fault()),
+            SoFar::StreamEnded => SmallOut::End,
+            SoFar::Fault(fault) => SmallOut::Fault(fault),
         };
-        Step { used, out }
+        SmallStep { used, out }
     }
 
     /// Takes a piece, and adds the values of the records that end in it. Some where a byte of it ended the stream: so many bytes
@@ -137,22 +153,14 @@ impl<R: RecordReader> StreamReader<R> {
             at += taken.used;
             match taken.so_far {
                 SoFar::More => {}
-                SoFar::RecordEnded => match self.end_record() {
-                    Ok(value) => {
-                        if let Err(_) = values.push(value) {
-                            return Err(FaultAt {
-                                fault: SmallFault::no_memory(),
-                                used: at,
-                            });
-                        }
-                    }
-                    Err(why) => {
+                SoFar::RecordEnded => {
+                    if let Err(why) = self.end_record_into(values) {
                         return Err(FaultAt {
                             fault: self.refused(why),
                             used: at,
                         });
                     }
-                },
+                }
                 SoFar::StreamEnded => return Ok(Some(at)),
                 SoFar::Fault(fault) => return Err(FaultAt { fault, used: at }),
             }
@@ -243,6 +251,19 @@ impl<R: RecordReader> StreamReader<R> {
         }
     }
 
+    // The same, where the value is added to a list.
+    fn end_record_into(&mut self, values: &mut Vec<R::Value>) -> Result<(), RecordRefusal>
+        ensures ends { (r : List ℕ) → R.holds (body_of self.old).reader r → length r < 2 ^ 64
+            → EndsInto R.holds R.spells R.breaks (body_of self.old) (body_of self.new) r values.old.items values.new.items result }
+        ensures same { self.new ≡ with_body self.old (body_of self.new) }
+        ensures records { (body_of self.new).records ≡ (body_of self.old).records }
+    {
+        match self {
+            StreamReader::Plain(body) => body.end_record_into(values),
+            StreamReader::Chunked(chunked) => chunked.body.end_record_into(values),
+        }
+    }
+
     // The fault of the record that has ended without a value.
     fn refused(&self, why: RecordRefusal) -> SmallFault
         ensures { result ≡ fault_at_record (body_of self.now).done why }
@@ -253,8 +274,8 @@ impl<R: RecordReader> StreamReader<R> {
         }
     }
 
-    // Keeps nothing any more.
-    fn let_go(&mut self)
+    /// Keeps nothing any more.
+    pub(crate) fn let_go(&mut self)
         ensures { R.kept (body_of self.new).reader ≡ 0 }
     {
         match self {

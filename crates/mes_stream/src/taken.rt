@@ -1,6 +1,7 @@
 //! What the bytes of a stream were, as far as they were taken.
 
 ghost use Rattle.std.specs.Prelude.{◌≡◌, ◌+◌, ◌-◌, ◌^◌, ◌<◌, IsTrue, ◌↔◌};
+ghost use Rattle.mes_stream.specs.StreamReaders.{out_of};
 ghost use Rattle.mes_stream.specs.declared.fault.Fault.TheVariants.{NoMemory as no_memory};
 
 use crate::fault::Fault;
@@ -85,6 +86,37 @@ impl<V> Out<V> {
             Out::Event(_) => false,
             Out::End => false,
             Out::Fault(_) => false,
+        }
+    }
+}
+
+/// What a call made of a piece of a stream, where a fault has little room.
+#[derive(Drop)]
+pub(crate) struct SmallStep<V> {
+    /// How many bytes of the piece were used.
+    pub used: usize,
+    /// What they were.
+    pub out: SmallOut<V>,
+}
+
+/// What the bytes that were used were, as `Out` says it.
+#[derive(Drop)]
+pub(crate) enum SmallOut<V> {
+    More,
+    Event(V),
+    End,
+    Fault(SmallFault),
+}
+
+impl<V> SmallOut<V> {
+    pub(crate) fn into_out(self) -> Out<V>
+        ensures { result ≡ out_of self }
+    {
+        match self {
+            SmallOut::More => Out::More,
+            SmallOut::Event(value) => Out::Event(value),
+            SmallOut::End => Out::End,
+            SmallOut::Fault(fault) => Out::Fault(fault.into_fault()),
         }
     }
 }

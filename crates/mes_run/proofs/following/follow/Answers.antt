@@ -12,7 +12,7 @@ returns-in-Ok g c =
     let h = c.read_device.ensures in
     rw (c.behind.ensures, c.sent.ensures) (follows_outcome c.args.framing c.args.limit c.args.max_reads c.requires (device_of g.I.Source.left g.I.Source.counts c.args.input.now) (device_of g.I.Source.left g.I.Source.counts c.read_device.new.source)
     (device_of g.O.Sink.written g.O.Sink.counts c.args.out.now) (device_of g.O.Sink.written g.O.Sink.counts c.read_device.new.to) (record { alloc = c.args.alloc; detail = c.args.detail; reading = c.new-2.result; events = c.new-3.result; lines = c.new-4.result; number = 1 }) c.read_device.new.consumer (record { stands = c.new-2.ensures; number = refl; events = c.new-3.ensures.items; lines = c.new-4.ensures.held; sent = c.new-4.ensures.sent }) h.0 h.1 c.read_device.result c.in-Ok.end c.outcome.result (device_of g.O.Sink.written g.O.Sink.counts c.print_outcome.new.out) c.saturating_sub-events.result c.print_outcome.result h.2
-    (sym c.ended.ensures ∙ c.in-Ok.is) (c.outcome.ensures nothing_ahead) c.saturating_sub-events.ensures c.print_outcome.ensures)
+    (sym c.ended.ensures ∙ c.in-Ok.is) (c.outcome.ensures.means nothing_ahead) c.saturating_sub-events.ensures c.print_outcome.ensures)
 
 pub returns-in-Err-Output : goal.returns-in-Err-Output
 returns-in-Err-Output g c =

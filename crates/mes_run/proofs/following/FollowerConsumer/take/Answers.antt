@@ -21,5 +21,5 @@ returns-in-Ok-clause-more g c = λ first start w h.
 
 pub returns-in-Err-fed-clause-stop : goal.returns-in-Err-fed-clause-stop
 returns-in-Err-fed-clause-stop g c = λ first start w h.
-    follows_to first c.args.self.now _ (device_of g.O.Sink.written g.O.Sink.counts start) (device_of g.O.Sink.written g.O.Sink.counts c.args.out.now) (device_of g.O.Sink.written g.O.Sink.counts c.print_events.new.out) w c.args.piece.now c.feed-fed.new.values.items h c.in-Err-fed.outcome (rw c.in-Err-fed.is at (c.feed-fed.ensures.takes nothing_ahead))
+    follows_to first c.args.self.now _ (device_of g.O.Sink.written g.O.Sink.counts start) (device_of g.O.Sink.written g.O.Sink.counts c.args.out.now) (device_of g.O.Sink.written g.O.Sink.counts c.print_events.new.out) w c.args.piece.now c.feed-fed.new.values.items h c.in-Err-fed.stop (rw c.in-Err-fed.is at (c.feed-fed.ensures.takes nothing_ahead))
     (λ n is. rw (c.as_slice.ensures.value, c.in-Ok-All.field-0-is) at (c.in-Ok-All.ensures n is))

@@ -14,8 +14,8 @@ returns-in-Ok-Some-clause-takes g c = λ ahead framing limit w before s.
     let fed = rw c.in-Ok-Some.field-0-is at (c.in-Ok-Some.ensures.feeds ahead.records framing limit w before s.0) in (
       fed.0,
       fed.1,
-      ends_at framing g.R.RecordReader.spells ahead limit w c.args.piece.now (before ++ fed.0) c.args.self.now.used c.in-Ok-Some.end c.report.result fed.2
-          (rw c.in-Ok-Some.field-0-is at c.in-Ok-Some.ensures.within) c.requires s.1 (c.report.ensures.0 ∙ c.saturating_add-used.ensures) (c.report.ensures.1 ∙ take_rest c.args.piece.now c.in-Ok-Some.end) fed.3,
+      ends_at framing g.R.RecordReader.spells ahead limit w c.args.piece.now (before ++ fed.0) c.args.self.now.used c.in-Ok-Some.end _ _ fed.2
+          (rw c.in-Ok-Some.field-0-is at c.in-Ok-Some.ensures.within) c.requires s.1 (c.keep_rest.ensures.used ∙ c.saturating_add-self-in-Ok-Some.ensures) (c.keep_rest.ensures.rest ∙ take_rest c.args.piece.now c.in-Ok-Some.end) fed.3,
     )
 
 pub returns-in-Err-clause-takes : goal.returns-in-Err-clause-takes
@@ -26,10 +26,10 @@ returns-in-Err-clause-takes g c = λ ahead framing limit w before s.
     let counted = s.1 in (
       fed.0,
       fed.1,
-      rw (c.stop_at.ensures, c.into_fault.ensures) (record {
+      record {
         n = length w + c.in-Err.stop.used;
-        count = c.saturating_add-used-in-Err.ensures ∙ omega (arith, counted);
+        count = c.saturating_add-self-in-Err.ensures ∙ omega (arith, counted);
         stops = fed.3;
         last = omega (arith, one, small, length-append w c.args.piece.now);
-      }),
+      },
     )

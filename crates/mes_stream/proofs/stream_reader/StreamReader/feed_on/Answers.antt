@@ -1,8 +1,7 @@
-use Rattle.std.proofs.Common.{◌≡◌, ℕ, List, [], ◌∷◌, ◌-◌, ◌<◌, ◌++◌, length, take, ◌∙◌, ap, sym, subst, inl, inr, append-nil, append_assoc, arith, refl, length-drop, take_all}
+use Rattle.std.proofs.Common.{◌≡◌, ℕ, List, [], ◌∷◌, ◌-◌, ◌<◌, ◌++◌, length, take, ◌∙◌, ap, sym, subst, append-nil, append_assoc, arith, length-drop, take_all, Ok, Err}
 use Rattle.std.proofs.lemmas.List.{take_rest}
 use Rattle.mes_stream.specs.Framings.{EndsIn}
-use Rattle.mes_stream.specs.StreamReaders.{StreamStands}
-use Rattle.mes_stream.specs.declared.fault.Fault.TheVariants.{NoMemory}
+use Rattle.mes_stream.specs.StreamReaders.{StreamStands, body_of}
 use Rattle.mes_stream.specs.declared.taken.SoFar.TheVariants as so_far
 use Rattle.mes_stream.proofs.BodyLemmas.{stops_in, piece_on, value_on}
 use Rattle.mes_stream.proofs.StreamLemmas.{same_body}
@@ -32,34 +31,16 @@ returns-in-Err-clause-feeds g c = λ ahead framing limit w values s.
     let before = c.loop-at.invariant.1 ahead framing limit w values s in
     let told = rw rest at (c.skim-taken.ensures.tells ahead framing limit (w ++ take c.loop-at.at c.args.piece.now) (values ++ before.0) before.2) in
     let ended = rw c.in-RecordEnded.is at told in
-    let said = ended.3 _ c.end_record.result c.end_record.ensures.records (c.end_record.ensures.ends ended.0 ended.1 ended.2) in
-    let refused = rw c.in-Err.is at said in
+    let into = rw c.in-Err.is at (c.end_record_into.ensures.ends ended.0 ended.1 ended.2) in
+    let refused = ended.3 (body_of c.end_record_into.new.self) (Err c.in-Err.why) c.end_record_into.ensures.records into.0 in
     let is : c.skim-taken.result.so_far ≡ so_far.RecordEnded = c.in-RecordEnded.is in
     let some : 0 < c.skim-taken.result.used = c.skim-taken.ensures.some (λ more. absurd (cc)) in
     let lives = c.skim-taken.ensures.before ahead framing limit (w ++ take c.loop-at.at c.args.piece.now) (values ++ before.0) before.2 (c.skim-taken.result.used - 1) (omega (arith, some)) in (
       before.0,
-      before.1,
+      into.1 ∙ before.1,
       omega (arith, some),
       rw c.refused.ensures (stops_in framing g.R.RecordReader.spells g.R.RecordReader.breaks ahead limit w c.args.piece.now (values ++ before.0) _ c.loop-at.at c.skim-taken.result.used c.loop-at.invariant.0 some
-          (omega (arith, c.skim-taken.ensures.used, ap length rest)) (rw rest at lives) (inl refused)),
-    )
-
-pub returns-in-Err-push-clause-feeds : goal.returns-in-Err-push-clause-feeds
-returns-in-Err-push-clause-feeds g c = λ ahead framing limit w values s.
-    let rest = take_rest c.args.piece.now c.loop-at.at in
-    let before = c.loop-at.invariant.1 ahead framing limit w values s in
-    let told = rw rest at (c.skim-taken.ensures.tells ahead framing limit (w ++ take c.loop-at.at c.args.piece.now) (values ++ before.0) before.2) in
-    let ended = rw c.in-RecordEnded.is at told in
-    let said = ended.3 _ c.end_record.result c.end_record.ensures.records (c.end_record.ensures.ends ended.0 ended.1 ended.2) in
-    let taken = rw c.in-Ok.is at said in
-    let is : c.skim-taken.result.so_far ≡ so_far.RecordEnded = c.in-RecordEnded.is in
-    let some : 0 < c.skim-taken.result.used = c.skim-taken.ensures.some (λ more. absurd (cc)) in
-    let lives = c.skim-taken.ensures.before ahead framing limit (w ++ take c.loop-at.at c.args.piece.now) (values ++ before.0) before.2 (c.skim-taken.result.used - 1) (omega (arith, some)) in (
-      before.0,
-      c.in-Err-push.ensures.items ∙ before.1,
-      omega (arith, some),
-      rw c.no_memory.ensures (stops_in framing g.R.RecordReader.spells g.R.RecordReader.breaks ahead limit w c.args.piece.now (values ++ before.0) NoMemory c.loop-at.at c.skim-taken.result.used c.loop-at.invariant.0 some
-          (omega (arith, c.skim-taken.ensures.used, ap length rest)) (rw rest at lives) (inr (refl, (_, taken.1)))),
+          (omega (arith, c.skim-taken.ensures.used, ap length rest)) (rw rest at lives) refused),
     )
 
 pub loop-at-preserved : goal.loop-at-preserved
@@ -70,11 +51,12 @@ loop-at-preserved g c =
           let before = c.loop-at.invariant.1 ahead framing limit w values s in
           let told = rw rest at (c.skim-taken.ensures.tells ahead framing limit (w ++ take c.loop-at.at c.args.piece.now) (values ++ before.0) before.2) in
           let ended = rw c.in-RecordEnded.is at told in
-          let said = ended.3 _ c.end_record.result c.end_record.ensures.records (c.end_record.ensures.ends ended.0 ended.1 ended.2) in
-          let taken = rw (← c.end_record.ensures.same) at (rw c.in-Ok.is at said).0 in (
-            before.0 ++ c.in-Ok.value ∷ [],
-            c.in_default.ensures.items ∙ ap (λ (x : List g.row.R-Value.Denot). x ++ c.in-Ok.value ∷ []) before.1 ∙ append_assoc _ before.0 (c.in-Ok.value ∷ []),
-            value_on (StreamStands g.R.RecordReader.holds g.R.RecordReader.spells ahead c.end_record.new.self framing limit) w c.args.piece.now values before.0 c.in-Ok.value c.loop-at.at c.skim-taken.result.used taken,
+          let into = c.in_default.ensures.ends ended.0 ended.1 ended.2 in
+          let said = ended.3 (body_of c.end_record_into.new.self) (Ok into.0) c.end_record_into.ensures.records into.1 in
+          let taken = rw (← c.end_record_into.ensures.same) at said.0 in (
+            before.0 ++ into.0 ∷ [],
+            into.2 ∙ ap (λ (x : List g.row.R-Value.Denot). x ++ into.0 ∷ []) before.1 ∙ append_assoc _ before.0 (into.0 ∷ []),
+            value_on (StreamStands g.R.RecordReader.holds g.R.RecordReader.spells ahead c.end_record_into.new.self framing limit) w c.args.piece.now values before.0 into.0 c.loop-at.at c.skim-taken.result.used taken,
           ),
     )
 
@@ -103,7 +85,7 @@ returns-in-Fault-clause-feeds g c = λ ahead framing limit w values s.
       before.1,
       omega (arith, some),
       rw c.in-Fault.fault-is (stops_in framing g.R.RecordReader.spells g.R.RecordReader.breaks ahead limit w c.args.piece.now (values ++ before.0) _ c.loop-at.at c.skim-taken.result.used c.loop-at.invariant.0 some
-          (omega (arith, c.skim-taken.ensures.used, ap length rest)) (rw rest at lives) (inl (rw c.in-Fault.is at told))),
+          (omega (arith, c.skim-taken.ensures.used, ap length rest)) (rw rest at lives) (rw c.in-Fault.is at told)),
     )
 
 pub returns-clause-feeds : goal.returns-clause-feeds
