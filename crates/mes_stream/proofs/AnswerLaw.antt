@@ -14,7 +14,7 @@ use Rattle.mes_stream.specs.declared.fault.Report.{Report}
 use Rattle.mes_stream.specs.declared.fault.Stop.{Stop}
 
 -- the events and the outcome are those of the bytes that read so
-IsAnswer : StreamReading Event → List Event → Result Report Stop → Type 0
+abbrev pub IsAnswer : StreamReading Event → List Event → Result Report Stop → Type 0
 IsAnswer (Goes values) events (Ok report) = ⊥
 IsAnswer (Goes values) events (Err stop) = (events ≡ values) × (stop.fault ≡ EndsInsideChunks)
 IsAnswer (Ends front values) events (Ok report) = events ≡ values
@@ -28,7 +28,6 @@ Answered limit w events outcome = (reading : StreamReading Event) × ReadsStream
 -- what the bytes that were taken read as, all of them do
 answered_by : (limit reads : ℕ) (old new : Counts) (left w taken : List ℕ) (events : List Event) (outcome : Result Report Stop) → w ≡ taken ++ left → EndsStream limit reads old new (Some left) taken events outcome → IsDecidedByBytes outcome
     → Answered limit w events outcome
-unfolding IsAnswer
 answered_by limit reads old new left w taken events (Ok report) whole (inl (at, made)) decided =
     (Ends at.stream events, (report.rest.items ++ left, whole ∙ ap (λ (y : List ℕ). y ++ left) at.is ∙ append_assoc at.stream report.rest.items left, at.ends), refl)
 answered_by limit reads old new left w taken events (Err stop) whole (inl (at, made)) decided =
@@ -57,7 +56,6 @@ answered limit w events outcome a decided = answered_from limit a.reads a.old a.
 -- what reads alike is answered alike
 pub same_answer : (reading other : StreamReading Event) (events others : List Event) (outcome too : Result Report Stop) → IsAlike reading other → IsAnswer reading events outcome → IsAnswer other others too
     → (events ≡ others) × EndsAlike outcome too
-unfolding IsAnswer
 same_answer (Goes a) (Goes b) events others (Ok r) too alike h g = absurd h
 same_answer (Goes a) (Goes b) events others (Err s) (Ok r) alike h g = absurd g
 same_answer (Goes a) (Goes b) events others (Err s) (Err t) alike h g = (h.0 ∙ alike ∙ sym g.0, h.1 ∙ sym g.1)

@@ -1,6 +1,8 @@
 //! Readers of streams that take pieces: an answer behind each record, what stands before, what is kept, and how often a device is asked.
 use super::*;
-use mes_stream::{Body, Framing, READ_MOST, Step, StreamReader, read_events};
+use mes_stream::{
+    Body, Framing, READ_MOST, Reading, ReadsEnd, Step, Stop, StreamReader, read_stream,
+};
 
 fn reader(alloc: Global, framing: Framing) -> StreamReader<EventReader> {
     StreamReader::new(framing, EventReader::new(alloc), Limit::USUAL)
@@ -70,28 +72,106 @@ fn nothing_is_kept_behind_the_end_or_a_fault(rt: HostRuntime) -> Result<(), Fail
     Ok(())
 }
 
-// A device that gives all it is asked for is asked once for each 512 bytes, and once more for the end of plain records.
+/// A chunk of one record: 29 bytes.
+const CHUNK: &[u8] = b"17\r\n20\n{\"type\":\"HEARTBEAT\"}\r\n";
+
+/// How often a device that gives all it is asked for is called by a reading of the stream, and how often it tells its end.
+fn asked(alloc: Global, framing: Framing, bytes: &[u8]) -> (u64, u64, bool) {
+    let mut events = Vec::new(alloc);
+    let mut source = MemorySource::new(bytes, usize::MAX);
+    let came = match framing {
+        Framing::Plain => read_plain(alloc, &mut source, Limit::USUAL, 1_000, &mut events),
+        Framing::Chunked => read_stream(alloc, &mut source, Limit::USUAL, 1_000, &mut events),
+    };
+    let counts = source.counts();
+    (counts.calls, counts.idle, came.is_ok())
+}
+
+// A device is asked once for each 512 bytes, and once more for the end of plain records.
 #[test]
 fn each_read_asks_for_as_much_as_it_may(rt: HostRuntime) -> Result<(), Fail> {
     let mut bytes = Vec::new(rt.alloc());
     for records in 0..100 {
-        let mut events = Vec::new(rt.alloc());
-        let mut source = MemorySource::new(bytes.as_slice(), usize::MAX);
-        let came = read_events(
-            rt.alloc(),
-            &mut source,
-            Framing::Plain,
-            Limit::USUAL,
-            1_000,
-            &mut events,
-        );
-        assert!(rt; came.is_ok(), "{records}");
+        let calls = bytes.len().div_ceil(READ_MOST) as u64 + 1;
         assert_eq!(rt;
-            source.counts().calls,
-            bytes.len().div_ceil(READ_MOST) as u64 + 1
+            asked(rt.alloc(), Framing::Plain, &bytes),
+            (calls, 1, true),
+            "{records}"
         );
-        assert_eq!(rt; source.counts().idle, 1);
         bytes.extend_from_slice(HEARTBEAT)?;
     }
+    Ok(())
+}
+
+// A chunked stream shows its own end, so no call is made for that.
+#[test]
+fn each_read_of_chunks_asks_for_as_much_as_it_may(rt: HostRuntime) -> Result<(), Fail> {
+    let mut chunks = Vec::new(rt.alloc());
+    for records in 0..100 {
+        let mut stream = Vec::new(rt.alloc());
+        stream.extend_from_slice(&chunks)?;
+        stream.extend_from_slice(b"0\r\n\r\n")?;
+        let calls = stream.len().div_ceil(READ_MOST) as u64;
+        assert_eq!(rt;
+            asked(rt.alloc(), Framing::Chunked, &stream),
+            (calls, 0, true),
+            "{records}"
+        );
+        chunks.extend_from_slice(CHUNK)?;
+    }
+    Ok(())
+}
+
+// Where a reading has stopped its bytes are told, and nothing is kept behind its outcome.
+#[test]
+fn a_reading_that_stops_tells_its_bytes(rt: HostRuntime) -> Result<(), Fail> {
+    for (bytes, used) in [
+        ("20\n{\"type\":\"ERROR\",\"xy", 22),
+        ("x", 1),
+        ("2\n{]3", 4),
+    ] {
+        let mut events = Vec::new(rt.alloc());
+        let records = EventReader::new(rt.alloc());
+        let mut reading = Reading::new(Framing::Plain, records, Limit::USUAL);
+        let end = match reading.feed(bytes.as_bytes(), &mut events) {
+            Ok(()) => ReadsEnd::AtEnd,
+            Err(stop) => ReadsEnd::Stopped(stop),
+        };
+        assert_eq!(rt; reading.used(), used, "{bytes}");
+        let told = reading.outcome(end);
+        assert!(rt; matches!(told, Err(stop) if stop.used == used), "{bytes}");
+        assert_eq!(rt; reading.held(), 0, "{bytes}");
+    }
+    Ok(())
+}
+
+// A reader of a first record, behind which another reader goes on, is told with which byte of the piece that record ended.
+#[test]
+fn a_second_reading_goes_on_behind_the_first_record(rt: HostRuntime) -> Result<(), Fail> {
+    let mut piece = Vec::new(rt.alloc());
+    piece.extend_from_slice(HEARTBEAT)?;
+    piece.extend_from_slice(HEARTBEAT)?;
+    piece.extend_from_slice(b"1\n[")?;
+    let mut first = Reading::new(Framing::Plain, EventReader::new(rt.alloc()), Limit::USUAL);
+    let Ok(Some(ended)) = first.next(&piece) else {
+        return Err("the first record is whole")?;
+    };
+    assert_eq!(rt; (ended.used, first.used()), (23, 23));
+    let mut events = Vec::new(rt.alloc());
+    let records = EventReader::new(rt.alloc());
+    let mut second = Reading::behind(Framing::Plain, records, Limit::USUAL, 1, first.used());
+    let Err(stop) = second.feed(&piece.as_slice()[ended.used..], &mut events) else {
+        return Err("the third record is no text")?;
+    };
+    assert_eq!(rt; (events.len(), second.used()), (1, 49));
+    assert!(rt;
+        matches!(
+            second.outcome(ReadsEnd::Stopped(stop)),
+            Err(Stop {
+                fault: Fault::Text { at_record: 3, .. },
+                used: 49
+            })
+        )
+    );
     Ok(())
 }
