@@ -1,7 +1,6 @@
 -- What was answered 202 changes nothing when it comes again.
-use Rattle.std.proofs.Common.{◌≡◌, ℕ, Bool, true, false, ◌||◌, ◌&&◌, not, if◌then◌else◌, filter, List, [], ◌∷◌, ◌++◌, Option, Some, None, is_some, refl, sym, ap, ◌∙◌, arith}
+use Rattle.std.proofs.Common.{◌≡◌, ℕ, Bool, true, false, ◌||◌, not, if◌then◌else◌, List, [], ◌∷◌, Option, Some, None, refl, sym, ap, ◌∙◌, arith}
 use Rattle.std.specs.Str.{bytes_eq}
-use Rattle.std.specs.Map.{lookup}
 use Rattle.std.proofs.lemmas.Slice.Eq.{bytes_eq-Decides}
 use Rattle.std.proofs.lemmas.List.{append-nil}
 use Rattle.mes_resource.specs.declared.id.Id.{Id}
@@ -11,9 +10,9 @@ use Rattle.mes_task.specs.declared.task_info.TaskInfo.{TaskInfo}
 use Rattle.mes_call.specs.declared.call.Call.{Call}
 use Rattle.mes_call.specs.declared.call.Call.TheVariants as of
 use Rattle.mes_fit.specs.Launched.{launched, launched_by}
-use Rattle.mes_hand.specs.Held.{name_of, offer_in, names, without_offers, same_key, is_owed, with_key}
+use Rattle.mes_hand.specs.Held.{name_of, offer_in, names, without_offers, same_key, with_key}
 use Rattle.mes_hand.specs.Calls.{framework_of}
-use Rattle.mes_master.specs.Masters.{MasterState, MasterAnswer, plain, subscribed, is_there, all_there, launchable, accepted, declined, is_owing, acknowledged, key_in, reconciled, torn_down, agrees, carried_out, is_named, in_stream, is_subscribe, answered, handled}
+use Rattle.mes_master.specs.Masters.{MasterState, MasterAnswer, plain, subscribed, all_there, launchable, accepted, declined, is_owing, acknowledged, key_in, agrees, carried_out, is_named, in_stream, is_subscribe, answered, handled}
 
 -- ---- a text is itself
 

@@ -1,8 +1,7 @@
 -- What is launched of tasks that fit fits too.
-use Rattle.std.proofs.Common.{◌≡◌, ℕ, zero, suc, ◌+◌, ◌≤◌, Bool, true, false, ◌||◌, ◌&&◌, not, if◌then◌else◌, Some, None, Option, List, [], ◌∷◌, ◌++◌, take, drop, slice_get, refl, sym, ap, subst, ◌∙◌, append_assoc, arith}
+use Rattle.std.proofs.Common.{◌≡◌, ℕ, zero, suc, ◌+◌, ◌≤◌, Bool, true, false, ◌||◌, ◌&&◌, not, if◌then◌else◌, Some, None, Option, List, [], ◌∷◌, ◌++◌, slice_get, refl, sym, ap, subst, ◌∙◌, append_assoc, arith}
 use Rattle.std.specs.List.{list_any}
 use Rattle.std.specs.List.Sorted.{IsPermutation}
-use Rattle.std.proofs.lemmas.Grind.{flat_map-append}
 use Rattle.std.proofs.lemmas.List.Folds.{list_any-append}
 use Rattle.std.proofs.lemmas.List.Sums.{sum_by-append}
 use Rattle.mes_resource.specs.declared.resource.Resource.{Resource}
@@ -12,7 +11,7 @@ use Rattle.mes_task.specs.declared.task_info.TaskInfo.{TaskInfo}
 use Rattle.mes_call.specs.declared.call.Call.{Call}
 use Rattle.mes_call.specs.declared.call.Call.TheVariants as of
 use Rattle.mes_fit.specs.Keys.{Key}
-use Rattle.mes_fit.specs.Fits.{Piece, amount_of, amount, piece_of, has_piece, offered, asked, others, is_free, Fits}
+use Rattle.mes_fit.specs.Fits.{amount_of, amount, piece_of, offered, asked, others, Fits}
 use Rattle.mes_fit.specs.Launched.{launched, launched_by}
 use Rattle.mes_fit.proofs.FitsLemmas.{fits-order}
 use Rattle.mes_hand.specs.Calls.{framework_of, tasks_of}

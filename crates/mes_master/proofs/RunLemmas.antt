@@ -1,5 +1,5 @@
 -- Over whole runs no offer is taken away twice and no task launched twice: each identifier is counted.
-use Rattle.std.proofs.Common.{◌≡◌, ℕ, ◌+◌, ◌≤◌, Bool, true, false, ◌||◌, ◌&&◌, not, if◌then◌else◌, filter, fold, slice_get, List, [], ◌∷◌, ◌++◌, Option, Some, None, is_some, Ok, Err, refl, sym, ap, subst, ◌∙◌, append_assoc, arith}
+use Rattle.std.proofs.Common.{◌≡◌, ℕ, ◌+◌, ◌≤◌, Bool, true, false, ◌||◌, not, if◌then◌else◌, fold, slice_get, List, [], ◌∷◌, ◌++◌, Option, Some, None, is_some, Ok, Err, refl, sym, ap, subst, ◌∙◌, append_assoc, arith}
 use Rattle.std.specs.Str.{bytes_eq}
 use Rattle.std.proofs.lemmas.Slice.Eq.{bytes_eq-Decides}
 use Rattle.std.proofs.lemmas.Bool.{or_from, or_parts}
@@ -10,8 +10,6 @@ use Rattle.mes_task.specs.declared.owed_key.OwedKey.{OwedKey}
 use Rattle.mes_task.specs.declared.task_info.TaskInfo.{TaskInfo}
 use Rattle.mes_task.specs.declared.task_status.TaskStatus.{TaskStatus}
 use Rattle.mes_task.specs.Owed.{owed_key_of}
-use Rattle.mes_event.specs.declared.bodies.Rescind.{Rescind}
-use Rattle.mes_event.specs.declared.event.Event.{Event}
 use Rattle.mes_event.specs.declared.event.Event.TheVariants as event
 use Rattle.mes_call.specs.declared.call.Call.{Call}
 use Rattle.mes_call.specs.declared.call.Call.TheVariants as of
@@ -20,9 +18,9 @@ use Rattle.mes_hand.specs.Keeping.{put}
 use Rattle.mes_hand.specs.Held.{name_of, names, without_offer, without_offers, with_offers}
 use Rattle.mes_hand.specs.Calls.{framework_of}
 use Rattle.mes_hand.specs.Refusals.{stands_in, stands_twice, ids_of}
-use Rattle.mes_master.specs.declared.refusal.MasterRefusal.TheVariants.{OfferTwice, NoSuchOffer, UpdateTwice}
-use Rattle.mes_master.specs.Masters.{MasterState, MasterAnswer, plain, subscribed, is_there, all_there, named, new_tasks, launchable, accepted, declined, is_owing, acknowledged, key_in, reconciled, torn_down, agrees, carried_out, is_named, in_stream, is_subscribe, answered, handled, update_event}
-use Rattle.mes_master.specs.Sending.{Sends, on_stream, offer_ids, comes_again, made, offers_sent, rescind_sent, told, told_owing, updated, update_sent, waiting, resent, resend_sent}
+use Rattle.mes_master.specs.declared.refusal.MasterRefusal.TheVariants.{OfferTwice, NoSuchOffer}
+use Rattle.mes_master.specs.Masters.{MasterState, MasterAnswer, plain, subscribed, is_there, all_there, named, new_tasks, launchable, accepted, declined, is_owing, agrees, carried_out, is_named, in_stream, is_subscribe, handled}
+use Rattle.mes_master.specs.Sending.{Sends, on_stream, offer_ids, comes_again, made, told, told_owing, updated, waiting, resent}
 use Rattle.mes_master.specs.Runs.{new_master, Deed, Past, after_call, after_sending, after, past_of, LaunchedOnce, TakenOnce}
 use Rattle.mes_master.specs.Runs.Deed.{handles, offers, rescinds, updates, resends}
 use Rattle.mes_master.proofs.IdLemmas.{comes_more}

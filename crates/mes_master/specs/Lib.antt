@@ -1,3 +1,4 @@
 pub mod Masters
+pub mod Memory
 pub mod Sending
 pub mod Runs

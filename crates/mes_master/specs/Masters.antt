@@ -1,7 +1,7 @@
 -- A test master: what it holds, and what it answers to each call.
-use Rattle.std.specs.Prelude.{◌≡◌, ℕ, Bool, true, false, ◌||◌, ◌&&◌, not, if◌then◌else◌, List, [], ◌∷◌, ◌++◌, map, filter, filter_map, Option, Some, None, is_some, codes}
-use Rattle.std.specs.List.{list_any, list_all}
-use Rattle.std.specs.Map.{keys_of, values_of, lookup}
+use Rattle.std.specs.Prelude.{◌≡◌, ℕ, Bool, true, false, ◌||◌, not, if◌then◌else◌, List, [], ◌∷◌, ◌++◌, map, filter, filter_map, Option, Some, None, is_some, codes}
+use Rattle.std.specs.List.{list_all}
+use Rattle.std.specs.Map.{values_of, lookup}
 use Rattle.std.specs.Str.{bytes_eq}
 use Rattle.uuid.specs.Text.{hyphenated_text, lower}
 use Rattle.mes_resource.specs.declared.id.Id.{Id}
@@ -10,15 +10,13 @@ use Rattle.mes_task.specs.declared.owed_key.OwedKey.{OwedKey}
 use Rattle.mes_task.specs.declared.task_info.TaskInfo.{TaskInfo}
 use Rattle.mes_task.specs.declared.task_ref.TaskRef.{TaskRef}
 use Rattle.mes_task.specs.declared.task_status.TaskStatus.{TaskStatus}
-use Rattle.mes_event.specs.declared.bodies.Subscribed.{Subscribed}
-use Rattle.mes_event.specs.declared.bodies.Update.{Update}
 use Rattle.mes_call.specs.declared.call.Call.{Call}
 use Rattle.mes_call.specs.declared.call.Call.TheVariants as of
 use Rattle.mes_call_body.specs.declared.call_bodies.Acknowledge.{Acknowledge}
 use Rattle.mes_event.specs.declared.event.Event.{Event}
 use Rattle.mes_event.specs.declared.event.Event.TheVariants as event
 use Rattle.mes_fit.specs.Launched.{launched, launched_by}
-use Rattle.mes_hand.specs.Held.{offer_in, names, without_offers, same_key, is_owed, with_key}
+use Rattle.mes_hand.specs.Held.{offer_in, names, without_offers, same_key, with_key}
 use Rattle.mes_hand.specs.Calls.{framework_of}
 use Rattle.mes_hand.specs.Refusals.{stands_in, ids_of}
 

@@ -1,5 +1,5 @@
 -- Whatever a test master is asked to do, one thing after the other.
-use Rattle.std.specs.Prelude.{◌≡◌, ℕ, false, fold, List, [], ◌++◌, Option, None, Result, Ok, Err}
+use Rattle.std.specs.Prelude.{◌≡◌, ℕ, false, fold, List, [], ◌++◌, Option, None, Ok, Err}
 use Rattle.mes_resource.specs.declared.id.Id.{Id}
 use Rattle.mes_offer.specs.declared.offer.Offer.{Offer}
 use Rattle.mes_task.specs.declared.task_info.TaskInfo.{TaskInfo}

@@ -6,7 +6,6 @@ use Rattle.mes_offer.specs.declared.offer.Offer.{Offer}
 use Rattle.mes_task.specs.declared.owed_key.OwedKey.{OwedKey}
 use Rattle.mes_task.specs.declared.task_status.TaskStatus.{TaskStatus}
 use Rattle.mes_task.specs.Owed.{owed_key_of}
-use Rattle.mes_event.specs.declared.bodies.Rescind.{Rescind}
 use Rattle.mes_event.specs.declared.event.Event.{Event}
 use Rattle.mes_event.specs.declared.event.Event.TheVariants as event
 use Rattle.mes_hand.specs.Held.{with_offers, without_offer, is_owed}

@@ -1,9 +1,10 @@
 //! How a test master answers calls.
-ghost use Rattle.std.specs.Prelude.{◌≡◌, option_copied, IfOk, OnErr};
+ghost use Rattle.std.specs.Prelude.{◌≡◌, true, option_copied, IfOk, OnErr};
 ghost use Rattle.std.specs.List.{list_all};
 ghost use Rattle.mes_fit.specs.Launched.{launched, launched_by};
 ghost use Rattle.mes_hand.specs.Calls.{framework_of};
 ghost use Rattle.mes_master.specs.Masters.{IsAnswer, is_there, all_there, subscribed, accepted, declined, acknowledged, key_in, reconciled, torn_down, plain, agrees, carried_out, is_named, in_stream, is_subscribe, handled};
+ghost use Rattle.mes_master.specs.Memory.{notes, MayWantMemory};
 
 use super::Master;
 use crate::answer::Answer;
@@ -21,10 +22,12 @@ impl Master {
     /// What is answered to a call that names this stream, or none. A SUBSCRIBE is answered 403 after a TEARDOWN, from another framework
     /// or with no id left, else 200: the next id becomes that of the stream, and no offer is outstanding. Any other call is answered
     /// 403 after a TEARDOWN, without a stream or from another framework, 400 where it names another stream or none, else 202. Refused
-    /// memory, it changes nothing.
+    /// memory, it changes nothing; that comes only in the place of a 200, or of a 202 to an ACCEPT whose offers are all outstanding, an
+    /// ACKNOWLEDGE or a RECONCILE.
     pub fn handle(&mut self, call: &Call, stream: Option<&StreamId>) -> Result<Answer, NoMemory>
         ensures ok { IfOk result (λ a. IsAnswer (handled self.old call.now (option_copied stream.entry)) a.status a.events.items self.new) }
         ensures err { OnErr result (self.new ≡ self.old) }
+        ensures memory { OnErr result (MayWantMemory self.old call.now (option_copied stream.entry)) }
     {
         if self.down || !agrees(&self.framework, framework_of(call)) {
             return Ok(Answer::plain(self.alloc, StatusCode::FORBIDDEN));
@@ -40,6 +43,7 @@ impl Master {
     fn subscribe(&mut self) -> Result<Answer, NoMemory>
         ensures ok { IfOk result (λ a. IsAnswer (subscribed self.old self.old.ids) a.status a.events.items self.new) }
         ensures err { OnErr result (self.new ≡ self.old) }
+        ensures memory { OnErr result ((subscribed self.old self.old.ids).status ≡ 200) }
     {
         if self.ids.is_empty() {
             return Ok(Answer::plain(self.alloc, StatusCode::FORBIDDEN));
@@ -59,6 +63,7 @@ impl Master {
     fn in_stream(&mut self, call: &Call, given: Option<&StreamId>) -> Result<Answer, NoMemory>
         ensures ok { IfOk result (λ a. IsAnswer (in_stream self.old call.now self.old.stream (option_copied given.entry)) a.status a.events.items self.new) }
         ensures err { OnErr result (self.new ≡ self.old) }
+        ensures memory { OnErr result (((in_stream self.old call.now self.old.stream (option_copied given.entry)).status ≡ 202) × (notes self.old call.now ≡ true)) }
     {
         let Some(current) = &self.stream else {
             return Ok(Answer::plain(self.alloc, StatusCode::FORBIDDEN));
@@ -73,6 +78,7 @@ impl Master {
     fn carry_out(&mut self, call: &Call) -> Result<Answer, NoMemory>
         ensures ok { IfOk result (λ a. IsAnswer (carried_out self.old call.now) a.status a.events.items self.new) }
         ensures err { OnErr result (self.new ≡ self.old) }
+        ensures memory { OnErr result (((carried_out self.old call.now).status ≡ 202) × (notes self.old call.now ≡ true)) }
     {
         match call {
             Call::Accept { body, .. } => {
@@ -90,6 +96,7 @@ impl Master {
     fn accept(&mut self, ids: &[Id], operations: &[Operation]) -> Result<Answer, NoMemory>
         ensures ok { IfOk result (λ a. IsAnswer (accepted self.old ids.now (launched launched_by operations.now)) a.status a.events.items self.new) }
         ensures err { OnErr result (self.new ≡ self.old) }
+        ensures memory { OnErr result (all_there self.old.outstanding ids.now ≡ true) }
     {
         if all_there(&self.outstanding, ids) {
             launch(self.alloc, &mut self.launched, operations)?;

@@ -1,5 +1,5 @@
 //! What a test master sends of its own.
-ghost use Rattle.std.specs.Prelude.{◌≡◌, ◌⊎◌, ◌++◌, [], ◌∷◌, false, Ok, Err, IfOk, IfErr, OnErr};
+ghost use Rattle.std.specs.Prelude.{◌≡◌, ◌⊎◌, ◌++◌, [], ◌∷◌, false, Ok, Err, IsOk, IsSome, IfOk, IfErr, OnErr};
 ghost use Rattle.mes_master.specs.declared.refusal.MasterRefusal.TheVariants.{NoMemory as no_memory};
 ghost use Rattle.mes_master.specs.Masters.{is_owing, update_event};
 ghost use Rattle.mes_master.specs.Sending.{offer_ids, comes_again, made, offers_sent, rescind_sent, told, told_owing, update_sent, resend_sent};
@@ -15,10 +15,11 @@ use mes_msg::{Event, Rescind};
 use mes_part::Part;
 
 impl Master {
-    /// The OFFERS that makes these offers, which are outstanding then. M1, M2 or M6 changes nothing, as any refusal here.
+    /// The OFFERS that makes these offers, which are outstanding then. M1, M2 or M6 changes nothing, as any refusal here; M6 comes only in the place of the event.
     pub fn offer(&mut self, offers: &[Offer]) -> Result<Event, MasterRefusal>
         ensures ok { IfOk result (λ event. offers_sent self.old offers.now ≡ Ok (event, self.new)) }
         ensures err { IfErr result (λ why. (self.new ≡ self.old) × ((why ≡ no_memory) ⊎ (offers_sent self.old offers.now ≡ Err why))) }
+        ensures memory { IfErr result (λ why. why ≡ no_memory → IsOk (offers_sent self.old offers.now)) }
     {
         if self.stream.is_none() {
             return Err(MasterRefusal::NoStream);
@@ -43,10 +44,11 @@ impl Master {
         Ok(event)
     }
 
-    /// The RESCIND that takes back the outstanding offer of that identifier, or M1, M3 or M6.
+    /// The RESCIND that takes back the outstanding offer of that identifier, or M1, M3 or, in the place of the event, M6.
     pub fn rescind(&mut self, id: &str) -> Result<Event, MasterRefusal>
         ensures ok { IfOk result (λ event. rescind_sent self.old id.now ≡ Ok (event, self.new)) }
         ensures err { IfErr result (λ why. (self.new ≡ self.old) × ((why ≡ no_memory) ⊎ (rescind_sent self.old id.now ≡ Err why))) }
+        ensures memory { IfErr result (λ why. why ≡ no_memory → IsOk (rescind_sent self.old id.now)) }
     {
         if self.stream.is_none() {
             return Err(MasterRefusal::NoStream);
@@ -60,10 +62,11 @@ impl Master {
         Ok(Event::Rescind(Rescind { offer_id }))
     }
 
-    /// The UPDATE of a status, which is then the last of its task, or M1, M4 or M6.
+    /// The UPDATE of a status, which is then the last of its task, or M1, M4 or, in the place of the event or of M4, M6.
     pub fn update(&mut self, status: &TaskStatus) -> Result<Event, MasterRefusal>
         ensures ok { IfOk result (λ event. update_sent self.old status.now ≡ Ok (event, self.new)) }
         ensures err { IfErr result (λ why. (self.new ≡ self.old) × ((why ≡ no_memory) ⊎ (update_sent self.old status.now ≡ Err why))) }
+        ensures memory { IfErr result (λ why. why ≡ no_memory → IsSome self.old.stream) }
     {
         if self.stream.is_none() {
             return Err(MasterRefusal::NoStream);
@@ -98,10 +101,12 @@ impl Master {
         Ok(event)
     }
 
-    /// The UPDATE again that stands at that place among those that owe an acknowledgement and have none, or M1, M5 or M6.
+    /// The UPDATE again that stands at that place among those that owe an acknowledgement and have none, or M1, M5 or, in the place of the
+    /// event, M6.
     pub fn resend(&self, index: usize) -> Result<Event, MasterRefusal>
         ensures ok { IfOk result (λ event. resend_sent self.now index ≡ Ok (event, self.now)) }
         ensures err { IfErr result (λ why. (why ≡ no_memory) ⊎ (resend_sent self.now index ≡ Err why)) }
+        ensures memory { IfErr result (λ why. why ≡ no_memory → IsOk (resend_sent self.now index)) }
     {
         if self.stream.is_none() {
             return Err(MasterRefusal::NoStream);

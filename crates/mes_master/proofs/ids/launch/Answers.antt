@@ -1,4 +1,4 @@
-use Rattle.std.proofs.Common.{◌∙◌, ap}
+use Rattle.std.proofs.Common.{◌∙◌}
 use Rattle.indexmap.specs.IndexSet.{insert_all}
 use Rattle.mes_fit.specs.Launched.{launched, launched_by}
 use Rattle.mes_master.specs.Masters.{same_id}
