@@ -1,5 +1,5 @@
 //! The offers in hand.
-ghost use Rattle.std.specs.Prelude.{◌≡◌, ◌↔◌, [], length, slice_get, option_copied, IsTrue, OnOk, OnErr};
+ghost use Rattle.std.specs.Prelude.{◌≡◌, ◌<◌, ◌↔◌, [], length, slice_get, option_copied, IsTrue, OnOk, OnErr};
 ghost use Rattle.mes_hand.specs.Held.{offer_in, with_offers, without_offer, without_offers};
 ghost use Rattle.mes_hand.specs.Slots.{offers_in, AreSettled};
 
@@ -73,10 +73,11 @@ impl Hand {
     }
 
     /// Takes copies of offers in, in order: of two of one identifier the last counts, at the place of the first, be they both new or
-    /// one in hand. Refused memory, it changes nothing.
+    /// one in hand. Refused memory, it changes nothing; no offers need none.
     pub fn add(&mut self, alloc: Global, offers: &[Offer]) -> Result<(), NoMemory>
         ensures ok { OnOk result (self.new ≡ with_offers self.old offers.now) }
         ensures err { OnErr result (self.new ≡ self.old) }
+        ensures needs { OnErr result (0 < length offers.now) }
     {
         let copied = copies(alloc, offers)?;
         self.slots.reserve(copied.len())?;

@@ -1,5 +1,5 @@
 //! The hand as it is kept: offers by their names, each with a mark.
-ghost use Rattle.std.specs.Prelude.{◌≡◌, ◌+◌, ◌<◌, ◌≤◌, not, [], ◌∷◌, map, filter, length, IfOk, bytes_eq};
+ghost use Rattle.std.specs.Prelude.{◌≡◌, ◌+◌, ◌<◌, ◌≤◌, not, [], ◌∷◌, map, filter, length, IfOk, OnErr, bytes_eq};
 ghost use Rattle.indexmap.specs.IndexMap.{spare};
 ghost use Rattle.mes_hand.specs.Keeping.{put};
 ghost use Rattle.mes_hand.specs.Held.{name_of, with_offers};
@@ -26,6 +26,7 @@ pub(crate) type Slots = IndexMap<String, Slot>;
 pub(crate) fn copies(alloc: Global, offers: &[Offer]) -> Result<Vec<(String, Slot)>, NoMemory>
     ensures settled { IfOk result (λ copied. AreSettled copied.items) }
     ensures same { IfOk result (λ copied. offers_in copied.items ≡ offers.now) }
+    ensures needs { OnErr result (0 < length offers.now) }
 {
     let mut copied = Vec::new(alloc);
     for offer in offers {

@@ -1,5 +1,5 @@
 -- What a framework holds after what it has heard and said (scheduler.proto, `Event` and `Call`).
-use Rattle.std.specs.Prelude.{◌≡◌, ℕ, Bool, true, false, ◌&&◌, not, if◌then◌else◌, fold, filter, filter_map, reverse, take, slice_get, List, [], ◌∷◌, ◌++◌, Option, Some, None}
+use Rattle.std.specs.Prelude.{◌≡◌, ◌<◌, ℕ, Bool, true, false, ◌&&◌, not, if◌then◌else◌, fold, filter, filter_map, reverse, take, slice_get, List, [], ◌∷◌, ◌++◌, length, Option, Some, None}
 use Rattle.std.specs.List.{list_any}
 use Rattle.std.specs.Option.{option_or, option_to_list}
 use Rattle.std.specs.Str.{bytes_eq}
@@ -127,7 +127,7 @@ IsLegal h = (i : ℕ) (call : Call) (fault : Refusal) → slice_get h i ≡ Some
 -- An event takes memory where something of it is kept: the framework of a SUBSCRIBED, offers, the key that an UPDATE owes.
 abbrev pub NeedsMemory : Event → Type 0
 NeedsMemory (heard.Subscribed s) = Unit {0}
-NeedsMemory (heard.Offers offers) = Unit {0}
+NeedsMemory (heard.Offers offers) = 0 < length offers
 NeedsMemory (heard.Update u) = Owes u.status
 NeedsMemory _ = ⊥
 

@@ -1,5 +1,5 @@
 //! What a framework holds of what it has heard and said.
-ghost use Rattle.std.specs.Prelude.{◌≡◌, None, Some, [], length, slice_get, option_copied, OnOk, OnErr, IfErr};
+ghost use Rattle.std.specs.Prelude.{◌≡◌, ◌<◌, None, Some, [], length, slice_get, option_copied, OnOk, OnErr, IfErr};
 ghost use Rattle.mes_msg.specs.declared.entry.Entry.TheVariants.{Heard, Said, Broken};
 ghost use Rattle.mes_hand.specs.Held.{offer_in};
 ghost use Rattle.mes_hand.specs.Refusals.{Answers};
@@ -105,8 +105,8 @@ impl Session {
     /// Hears an event. SUBSCRIBED sets the framework and empties the hand; OFFERS brings its offers, of two with one identifier the
     /// last; RESCIND takes an offer out, if it is there; UPDATE owes its key, where its status owes one.
     ///
-    /// S8 alone is answered, where memory is refused: then nothing has changed. Only SUBSCRIBED, OFFERS and an UPDATE that owes an
-    /// acknowledgement take memory.
+    /// S8 alone is answered, where memory is refused: then nothing has changed. Only SUBSCRIBED, OFFERS with offers and an UPDATE that
+    /// owes an acknowledgement take memory.
     pub fn heard(&mut self, event: &Event) -> Result<(), Refusal>
         // Ok: it is as the event leaves it.
         ensures next { OnOk result (self.new ≡ after self.old (Heard event.now)) }
@@ -197,6 +197,7 @@ impl Session {
     /// Hears an OFFERS.
     fn offered(&mut self, offers: &List<Offer>) -> Result<(), NoMemory>
         ensures next { OnOk result (self.new ≡ after self.old (Heard (Event.Offers offers.now))) }
+        ensures needs { OnErr result (0 < length offers.now) }
         ensures same { OnErr result (self.new ≡ self.old) }
     {
         self.hand.add(self.alloc, offers.as_slice())
