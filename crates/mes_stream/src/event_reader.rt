@@ -1,6 +1,6 @@
 //! Reads the data of records to events.
 
-ghost use Rattle.std.specs.Prelude.{◌≡◌, ◌≢◌, ℕ, ◌^◌, ◌<◌, ◌≤◌, List, [], ◌++◌, length, OnOk, IfOk, IfErr};
+ghost use Rattle.std.specs.Prelude.{◌≡◌, ◌≢◌, ℕ, ◌^◌, ◌<◌, ◌≤◌, List, [], ◌∷◌, ◌++◌, length, OnOk, OnErr, IfOk, IfErr};
 ghost use Rattle.mes_json.specs.Inner.{inner};
 ghost use Rattle.mes_event.specs.Events.{Spells};
 ghost use Rattle.mes_stream.specs.Refusals.{IsEventRefusal};
@@ -8,7 +8,7 @@ ghost use Rattle.mes_stream.specs.EventData.{HoldsData, kept_data};
 
 use crate::record_reader::RecordReader;
 use crate::refusal::RecordRefusal;
-use mes_json::{Lexer, NoMemoryAt, TextFault, Why, lexer_bound};
+use mes_json::{Lexer, NoMemory, NoMemoryAt, TextFault, Why, lexer_bound};
 use mes_msg::Event;
 use mes_part::{Part, Trail};
 use std::alloc::Global;
@@ -65,7 +65,7 @@ impl RecordReader for EventReader {
         let lexer = mem::replace(&mut self.lexer, Lexer::new(alloc));
         let tape = lexer.end()?;
         let event = Event::read_from(alloc, &tape.root(), &Trail::new())?;
-        if let Err(_) = events.push(event) {
+        if let Err(_) = add(events, event) {
             return Err(RecordRefusal::NoMemory);
         }
         self.lexer = Lexer::reusing(alloc, tape);
@@ -87,5 +87,17 @@ impl RecordReader for EventReader {
     fn held(&self) -> u64 {
         lexer_bound(&self.lexer);
         self.lexer.held()
+    }
+}
+
+/// Adds the event to the list. Not inlined, so that it is moved as a whole and not field by field.
+#[inline(never)]
+fn add(events: &mut Vec<Event>, event: Event) -> Result<(), NoMemory>
+    ensures ok { OnOk result (events.new.items ≡ events.old.items ++ event ∷ []) }
+    ensures err { OnErr result (events.new.items ≡ events.old.items) }
+{
+    match events.push(event) {
+        Ok(()) => Ok(()),
+        Err(_) => Err(NoMemory),
     }
 }

@@ -15,4 +15,4 @@ returns-in_err-event-clause-adds c = λ r h short.
 pub returns-clause-adds : goal.returns-clause-adds
 returns-clause-adds c = λ r h short.
     let spelt = c.in_ok-tape.ensures.read r (rw c.replace-lexer.ensures.value h.lexed) in
-    (c.in_ok-event.event, (spelt.0, spelt.1, lawful_event.sound _ spelt.0 _ (c.in_ok-event.ensures spelt.0 (begins _ spelt.0 (c.root.ensures ∙ spelt.2)))), c.in_default.ensures.items)
+    (c.in_ok-event.event, (spelt.0, spelt.1, lawful_event.sound _ spelt.0 _ (c.in_ok-event.ensures spelt.0 (begins _ spelt.0 (c.root.ensures ∙ spelt.2)))), c.in_default.ensures.ok)
