@@ -3,3 +3,4 @@ pub mod HistoryLemmas
 pub mod SessionLemmas
 pub mod ReplayLemmas
 pub mod LeftLemmas
+pub mod ReportLemmas

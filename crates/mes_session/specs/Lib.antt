@@ -1,3 +1,4 @@
 pub mod Kept
 pub mod History
 pub mod Making
+pub mod Printed

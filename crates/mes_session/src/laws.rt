@@ -7,6 +7,7 @@ ghost use Rattle.mes_hand.specs.declared.refusal.Refusal.{Refusal};
 ghost use Rattle.mes_hand.specs.Held.{Held, offer_in, is_owed};
 ghost use Rattle.mes_session.specs.History.{StandsFor, IsOfferedBy, IsOwedBy, RefusedAfter};
 
+use crate::line::REFUSAL_LINE_MOST;
 use mes_hand::refusal_laws;
 
 /// Each history leads to exactly one state, and a call is refused after it for at most one reason. An offer is in hand exactly where an
@@ -20,3 +21,8 @@ pub fn session_laws()
 {
     refusal_laws();
 }
+
+/// How long the line of a refusal is.
+pub fn session_limits()
+    ensures { REFUSAL_LINE_MOST ≡ 160 }
+{}

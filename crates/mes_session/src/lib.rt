@@ -5,10 +5,13 @@
 mod calls;
 mod copies;
 mod laws;
+mod line;
 mod replaying;
+mod report;
 mod session;
 
-pub use laws::session_laws;
+pub use laws::{session_laws, session_limits};
+pub use line::{REFUSAL_LINE_MOST, refusal_line};
 pub use mes_hand::Refusal;
 pub use mes_model::OwedKey;
 pub use mes_msg::Entry;

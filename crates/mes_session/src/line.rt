@@ -1,0 +1,67 @@
+//! The line that is printed of a refusal. It is written without its LF, and takes no memory.
+ghost use Rattle.std.specs.Prelude.{◌≡◌, ◌+◌, ◌≤◌, ◌++◌, length, decimal};
+ghost use Rattle.arrayvec.specs.ArrayString.{array_string_len};
+ghost use Rattle.mes_event.specs.Shown.{spaced};
+ghost use Rattle.mes_session.specs.Printed.{refusal_title, refusal_place, refusal_text};
+
+use arrayvec::ArrayString;
+use itoa::Buffer;
+use mes_hand::Refusal;
+
+/// The room for a refusal's line, in bytes: for three numbers of 20 digits and the words between.
+pub const REFUSAL_LINE_MOST: usize = 160;
+
+/// Writes in place of the text the line of a refusal behind so many entries, the one that was refused not among them; the entries are
+/// numbered from 1, and from 2^64 - 1 on the number stays there.
+pub fn refusal_line(refusal: &Refusal, before: u64, line: &mut ArrayString<REFUSAL_LINE_MOST>)
+    ensures { line.new.bytes ≡ refusal_text refusal.now before }
+{
+    line.clear();
+    line.push_str("refused ");
+    line.push_str(title(refusal));
+    push_number(line, " record ", before.saturating_add(1));
+    push_place(line, refusal);
+}
+
+/// The number and the name, as they are printed.
+fn title(refusal: &Refusal) -> &'static str
+    ensures text { result.now ≡ refusal_title refusal.now }
+    ensures bound { length result.now ≤ 16 }
+{
+    match refusal {
+        Refusal::NotSubscribed => "S1 NotSubscribed",
+        Refusal::NamedTwice => "S2 NamedTwice",
+        Refusal::NoSuchOffer { .. } => "S3 NoSuchOffer",
+        Refusal::TwoAgents => "S4 TwoAgents",
+        Refusal::WrongAgent { .. } => "S5 WrongAgent",
+        Refusal::Exceeds { .. } => "S6 Exceeds",
+        Refusal::NotOwed => "S7 NotOwed",
+        Refusal::NoMemory => "S8 NoMemory",
+    }
+}
+
+/// Appends where in the call it is, if the refusal says so.
+fn push_place(line: &mut ArrayString<REFUSAL_LINE_MOST>, refusal: &Refusal)
+    requires { array_string_len line.old + 56 ≤ REFUSAL_LINE_MOST }
+    ensures { line.new.bytes ≡ line.old.bytes ++ spaced (refusal_place refusal.now) }
+{
+    match refusal {
+        Refusal::NoSuchOffer { index } => push_number(line, " index ", *index as u64),
+        Refusal::WrongAgent { task } => push_number(line, " task ", *task as u64),
+        Refusal::Exceeds { task, resource } => {
+            push_number(line, " task ", *task as u64);
+            push_number(line, " resource ", *resource as u64);
+        }
+        _ => {}
+    }
+}
+
+/// Appends a word with its spaces, and the number in decimal.
+fn push_number(line: &mut ArrayString<REFUSAL_LINE_MOST>, word: &str, number: u64)
+    requires { array_string_len line.old + length word.now + 20 ≤ REFUSAL_LINE_MOST }
+    ensures text { line.new.bytes ≡ line.old.bytes ++ (word.now ++ decimal number) }
+    ensures bound { array_string_len line.new ≤ array_string_len line.old + length word.now + 20 }
+{
+    line.push_str(word);
+    line.push_str(Buffer::new().format(number));
+}
