@@ -1,10 +1,9 @@
 -- Which answers of a master are 200.
-use Rattle.std.proofs.Common.{◌≡◌, ℕ, Bool, true, false, ◌||◌, not, if◌then◌else◌, List, [], ◌∷◌, Option, Some, None, refl, arith}
+use Rattle.std.proofs.Common.{◌≡◌, ℕ, Bool, true, false, if◌then◌else◌, List, [], ◌∷◌, Option, Some, None, refl, arith}
 use Rattle.std.specs.Prelude.{IsSome}
 use Rattle.mes_call.specs.declared.call.Call.{Call}
 use Rattle.mes_call.specs.declared.call.Call.TheVariants as of
-use Rattle.mes_hand.specs.Calls.{framework_of}
-use Rattle.mes_master.specs.Masters.{MasterState, MasterAnswer, plain, subscribed, carried_out, is_named, in_stream, is_subscribe, agrees, handled}
+use Rattle.mes_master.specs.Masters.{MasterState, MasterAnswer, plain, subscribed, carried_out, is_named, in_stream, is_subscribe, handled}
 
 -- a call that is carried out is answered 202
 carried_status : (m : MasterState) (call : Call) → (carried_out m call).status ≡ 202
@@ -36,7 +35,7 @@ not_carried m call false e = omega arith
 
 -- where the answer is 200, a stream is current
 pub ok_stream : (m : MasterState) (call : Call) (given : Option (List ℕ)) → (handled m call given).status ≡ 200 → HasStream (handled m call given)
-ok_stream m call given e = by (m.down || not (agrees m.framework (framework_of call))) (is_subscribe call) m.stream e
+ok_stream m call given e = by _ (is_subscribe call) m.stream e
   where
     by : (b c : Bool) (s : Option (List ℕ))
         → (if b then plain 403 m else (if c then subscribed m m.ids else in_stream m call s given)).status ≡ 200

@@ -4,3 +4,4 @@ pub mod Replying
 pub mod Writing
 pub mod Lines
 pub mod Serving
+pub mod Subscribing

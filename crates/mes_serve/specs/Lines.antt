@@ -1,5 +1,5 @@
 -- The lines that are printed of a connection.
-use Rattle.std.specs.Prelude.{◌≡◌, ℕ, List, ◌++◌, Result, Ok, Err, codes, decimal}
+use Rattle.std.specs.Prelude.{◌≡◌, ℕ, Bool, true, false, List, ◌++◌, length, Result, Ok, Err, codes, decimal}
 use Rattle.mes_call.specs.declared.call.Call.{Call}
 use Rattle.mes_call.specs.declared.call.Call.TheVariants as of
 use Rattle.mes_frame.specs.Devices.{Device}
@@ -10,7 +10,6 @@ use Rattle.mes_serve.specs.declared.asked.Asked.TheVariants.{Calls}
 use Rattle.mes_serve.specs.declared.reply.Reply.{Reply}
 use Rattle.mes_serve.specs.declared.reply.Reply.TheVariants.{Nothing, Status, Stream}
 use Rattle.mes_serve.specs.declared.served.Served.{Served}
-use Rattle.mes_serve.specs.declared.served.Served.TheVariants.{Answered, Unwritten}
 use Rattle.mes_serve.specs.declared.writing.Unsent.{Unsent}
 use Rattle.mes_serve.specs.declared.writing.Unsent.TheVariants as unsent
 
@@ -53,13 +52,14 @@ served_lines reply asked (Err unsent.NoMemory) = served_line (codes "-") (asked_
 served_lines reply asked (Err unsent.Encode) = served_line (reply_name reply) (asked_name asked) ++ write_failed_line
 served_lines reply asked (Err unsent.Write) = served_line (reply_name reply) (asked_name asked) ++ write_failed_line
 
-abbrev pub outcome : {T : Type 0} → Result T Unsent → Served
-outcome (Ok done) = Answered
-outcome (Err unsent.NoMemory) = Answered
-outcome (Err unsent.Encode) = Unwritten
-outcome (Err unsent.Write) = Unwritten
+-- whether all that was to be answered went out: nothing was, where memory was refused
+abbrev pub is_answered : {T : Type 0} → Result T Unsent → Bool
+is_answered (Ok done) = true
+is_answered (Err unsent.NoMemory) = true
+is_answered (Err unsent.Encode) = false
+is_answered (Err unsent.Write) = false
 
--- the text was printed, and this is meant; or the output stopped in it
-abbrev pub Tells : List ℕ → Served → Device → Device → Result Served WriteFault → Type 0
-Tells text meant old new (Ok served) = Wrote old new text × (served ≡ meant)
-Tells text meant old new (Err fault) = Stopped old new text fault
+-- The text was printed, and its bytes are counted; what was to be answered went out, or not. Or the output stopped in the text.
+abbrev pub Tells : List ℕ → Bool → Device → Device → Result Served WriteFault → Type 0
+Tells text answered old new (Ok served) = Wrote old new text × (served.answered ≡ answered) × (served.printed ≡ length text)
+Tells text answered old new (Err fault) = Stopped old new text fault

@@ -6,7 +6,7 @@ use Rattle.mes_frame.specs.Devices.{Device}
 use Rattle.mes_frame.specs.declared.write.WriteFault.{WriteFault}
 use Rattle.mes_master.specs.Masters.{MasterState}
 use Rattle.mes_serve.specs.Asking.{IsAsked}
-use Rattle.mes_serve.specs.Lines.{Tells, outcome, served_lines}
+use Rattle.mes_serve.specs.Lines.{Tells, is_answered, served_lines}
 use Rattle.mes_serve.specs.Replying.{Replies}
 use Rattle.mes_serve.specs.Writing.{Writes}
 use Rattle.mes_serve.specs.declared.asked.Asked.{Asked}
@@ -27,4 +27,4 @@ pub record ServesOne (before : MasterState) (given : List Event) (most : ℕ) (i
   pub sent : Result (Unit {0}) Unsent
   pub writes : Writes most reply writer written sent
   -- and that was printed
-  pub tells : Tells (served_lines reply asked sent) (outcome sent) out told served
+  pub tells : Tells (served_lines reply asked sent) (is_answered sent) out told served

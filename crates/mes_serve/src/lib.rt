@@ -1,5 +1,5 @@
 #![tactic(auto)]
-//! A connection to a test master, served over any devices.
+//! The two ends of a connection over any devices: one to a test master, served; and a stream of events, subscribed to and shown.
 
 mod asked;
 mod laws;
@@ -9,8 +9,11 @@ mod reply;
 mod replying;
 mod serve;
 mod served;
+mod subscribing;
 mod writing;
 
 pub use laws::serve_laws;
+pub use lines::WRITE_FAILED;
 pub use serve::serve_one;
 pub use served::Served;
+pub use subscribing::{send_subscribe, show_answer, subscribe_over, tell_unsent};

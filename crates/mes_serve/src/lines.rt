@@ -12,8 +12,8 @@ use itoa::Buffer;
 /// The room for the lines of a connection, in bytes.
 pub(crate) const LINES_MOST: usize = 64;
 
-/// The line of what could not be encoded or written.
-pub(crate) const WRITE_FAILED: &str = "net write failed\n";
+/// The line of what could not be encoded or written, and its LF.
+pub const WRITE_FAILED: &str = "net write failed\n";
 
 /// The lines of a connection: the status that was answered and the type of the call, each `-` if there was none; and one more where
 /// the reply could not be encoded or written.

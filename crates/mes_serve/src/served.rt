@@ -2,7 +2,7 @@
 
 ghost use Rattle.std.specs.Prelude.{◌≡◌};
 ghost use Rattle.mes_frame.specs.Devices.{device_of};
-ghost use Rattle.mes_serve.specs.Lines.{Tells, outcome, served_lines};
+ghost use Rattle.mes_serve.specs.Lines.{Tells, is_answered, served_lines};
 
 use crate::asked::Asked;
 use crate::lines::served_lines;
@@ -10,13 +10,15 @@ use crate::reply::Reply;
 use crate::writing::Unsent;
 use mes_frame::{Sink, WriteFault, write_all};
 
-/// What became of a connection.
+/// A connection that was served, and its lines printed.
 #[derive(Clone, Copy, Debug, PartialEq, Eq)]
-pub enum Served {
-    /// What it was to be answered went out, if anything, and its line was printed.
-    Answered,
-    /// Its answer could not be encoded or written, and both lines were printed.
-    Unwritten,
+pub struct Served {
+    /// Whether what it was to be answered went out whole, which may be nothing, as where memory was refused. Not where the line
+    /// `net write failed` was printed: an event of its stream has no record, and nothing was written; or the writer failed or took no
+    /// byte of some.
+    pub answered: bool,
+    /// The bytes of its lines, all of which were printed.
+    pub printed: u64,
 }
 
 /// Prints the lines of a connection, and answers what became of it.
@@ -26,20 +28,23 @@ pub(crate) fn tell_served<O: Sink>(
     asked: &Asked,
     sent: &Result<(), Unsent>,
 ) -> Result<Served, WriteFault>
-    ensures { Tells (served_lines reply.now asked.now sent.now) (outcome sent.now)
+    ensures { Tells (served_lines reply.now asked.now sent.now) (is_answered sent.now)
         (device_of O.written O.counts out.old) (device_of O.written O.counts out.new) result }
 {
     let lines = served_lines(reply, asked, sent);
     write_all(out, lines.as_str().as_bytes())?;
-    Ok(outcome(sent))
+    Ok(Served {
+        answered: is_answered(sent),
+        printed: lines.len() as u64,
+    })
 }
 
-/// What a reply that was sent so comes to.
-fn outcome(sent: &Result<(), Unsent>) -> Served
-    ensures { result ≡ outcome sent.now }
+/// Whether all that was to be answered went out.
+fn is_answered(sent: &Result<(), Unsent>) -> bool
+    ensures { result ≡ is_answered sent.now }
 {
     match sent {
-        Ok(()) | Err(Unsent::NoMemory) => Served::Answered,
-        Err(Unsent::Encode | Unsent::Write) => Served::Unwritten,
+        Ok(()) | Err(Unsent::NoMemory) => true,
+        Err(Unsent::Encode | Unsent::Write) => false,
     }
 }

@@ -1,0 +1,60 @@
+-- A stream of events subscribed to: the SUBSCRIBE is sent, the head of its answer is read, and the events behind that are shown.
+use Rattle.std.specs.Prelude.{◌≡◌, ℕ, ◌⊎◌, List, ◌++◌, None, Result, Ok, Err, codes}
+use Rattle.std.specs.Io.KnownBytes.{Consumes}
+use Rattle.mes_call.specs.declared.call.Call.{Call}
+use Rattle.mes_frame.specs.Devices.{Device}
+use Rattle.mes_frame.specs.declared.limits.TheConstants.{RECORD_LIMIT_USUAL}
+use Rattle.mes_http.specs.Calls.{WroteCall, StopsCall}
+use Rattle.mes_http.specs.Endings.{AllGive}
+use Rattle.mes_http.specs.Faults.{head_fault_text}
+use Rattle.mes_http.specs.Responses.{OpensStream, BreaksStream, Refuses}
+use Rattle.mes_http.specs.declared.fault.HeadFault.{HeadFault}
+use Rattle.mes_model.specs.declared.framework_info.FrameworkInfo.{FrameworkInfo}
+use Rattle.mes_msg.specs.declared.send_fault.SendFault.{SendFault}
+use Rattle.mes_msg.specs.declared.send_fault.SendFault.TheVariants as send
+use Rattle.mes_run.specs.Printing.{Prints, LacksMemory}
+use Rattle.mes_run.specs.Showing.{Shows}
+use Rattle.mes_run.specs.declared.ended.Ended.{Ended}
+use Rattle.mes_session.specs.Making.{subscribe_call}
+use Rattle.mes_serve.specs.Lines.{write_failed_line}
+use Rattle.mes_stream.specs.declared.stream_reader.Framing.TheVariants.{Chunked}
+
+-- the SUBSCRIBE of a session that has heard nothing, so that it knows no framework
+abbrev pub first_subscribe : FrameworkInfo → Call
+first_subscribe info = subscribe_call None info
+
+-- its request went out whole, which names no stream
+abbrev pub SentSubscribe : FrameworkInfo → List ℕ → Device → Device → Type 0
+SentSubscribe info host old new = WroteCall (λ (d : Device). d.bytes) (λ (d : Device). d.counts) host None (first_subscribe info) old new
+
+-- No body can hold it, or memory was refused, and nothing was written. Or the writer stopped in it.
+abbrev pub StopsSubscribe : FrameworkInfo → List ℕ → Device → Device → SendFault → Type 0
+StopsSubscribe info host old new fault = StopsCall (λ (d : Device). d.bytes) (λ (d : Device). d.counts) host None (first_subscribe info) old new fault
+
+abbrev pub SendsSubscribe : {T : Type 0} → FrameworkInfo → List ℕ → Device → Device → Result T SendFault → Type 0
+SendsSubscribe info host old new (Ok done) = SentSubscribe info host old new
+SendsSubscribe info host old new (Err fault) = StopsSubscribe info host old new fault
+
+-- `refused H4 Status 403`
+abbrev pub refused_line : HeadFault → List ℕ
+refused_line f = codes "refused " ++ head_fault_text f ++ codes "\n"
+
+-- A head was taken, and nothing behind it. It opens a stream, and what stands behind it was shown as a chunked stream, where the
+-- bytes and the reads of the head are not counted. Or it is refused, which was told, and no more was taken.
+abbrev pub ShowsAnswer : ℕ → Device → Device → Device → Device → Ended → Type 0
+ShowsAnswer reads input rest out told ended =
+    (taken : List ℕ) × (behind : Device) × Consumes input.bytes behind.bytes taken
+    × (((id : List ℕ) × OpensStream taken id × AllGive input.counts behind.counts × Shows Chunked RECORD_LIMIT_USUAL reads behind rest out told ended)
+    ⊎ ((fault : HeadFault) × Refuses BreaksStream fault taken input.counts behind.counts × (rest ≡ behind) × Prints out told (refused_line fault) 1 ended))
+
+-- what is told of a SUBSCRIBE that did not go out
+abbrev pub TellsUnsent : SendFault → Device → Device → Ended → Type 0
+TellsUnsent send.NoMemory out told ended = LacksMemory out told ended
+TellsUnsent (send.Encode index why) out told ended = Prints out told write_failed_line 1 ended
+TellsUnsent (send.Write fault) out told ended = Prints out told write_failed_line 1 ended
+
+-- It went out, and what came as its answer was shown. Or it did not, which was told, and nothing was read.
+abbrev pub SubscribesOver : FrameworkInfo → List ℕ → ℕ → Device → Device → Device → Device → Device → Device → Ended → Type 0
+SubscribesOver info host reads input rest writer written out told ended =
+    (SentSubscribe info host writer written × ShowsAnswer reads input rest out told ended)
+    ⊎ ((fault : SendFault) × StopsSubscribe info host writer written fault × TellsUnsent fault out told ended × (rest ≡ input))
