@@ -10,7 +10,7 @@ use Rattle.httparse.specs.declared.spans.HeaderSpan.{HeaderSpan}
 use Rattle.httparse.specs.declared.spans.RequestSpans.{RequestSpans}
 use Rattle.httparse.specs.declared.spans.ResponseSpans.{ResponseSpans}
 use Rattle.mes_frame.specs.declared.counts.Counts.{Counts}
-use Rattle.mes_http.specs.Endings.{AllGive}
+use Rattle.mes_http.specs.Endings.{AllGive, GaveEach}
 use Rattle.mes_http.specs.Heads.{PendsRequest, PendsResponse}
 use Rattle.mes_http.specs.Stops.{IsRequestTaken, IsResponseTaken}
 use Rattle.mes_http.proofs.Nothing.{request-pends, response-pends}
@@ -19,7 +19,7 @@ use Rattle.mes_http.specs.declared.limits.TheConstants.{HEAD_MOST, FIELDS_MOST}
 -- what is left of the loop: no head has ended yet, and one may
 pub record TakesResponse (before after : Option (List ℕ)) (old new : Counts) (taken : List ℕ) : Type 0 where
   pub took : Consumes before after taken
-  pub gives : AllGive old new
+  pub gives : GaveEach (length taken) old new
   pub bytes : length taken ≤ HEAD_MOST
   pub pends : PendsResponse taken
 
@@ -55,7 +55,7 @@ response-taken taken all b headers r none short more room (h, at) within =
 -- before the first byte
 pub response-start : (before : Option (List ℕ)) (counts : Counts) (taken : List ℕ) → taken ≡ [] → TakesResponse before before counts counts taken
 response-start before counts taken none = subst (TakesResponse before before counts counts) (sym none)
-    (record { took = Consumes-nil before; gives = (refl, refl); bytes = omega arith; pends = response-pends })
+    (record { took = Consumes-nil before; gives = (omega arith, (refl, refl)); bytes = omega arith; pends = response-pends })
 
 -- what is left of the loop: no head has ended yet, and one may
 pub record TakesRequest (before after : Option (List ℕ)) (old new : Counts) (taken : List ℕ) : Type 0 where

@@ -1,11 +1,15 @@
 -- How the reading of a head, or of the body behind it, ends, by the counts of its reader.
-use Rattle.std.specs.Prelude.{◌≡◌}
+use Rattle.std.specs.Prelude.{◌≡◌, ℕ}
 use Rattle.mes_frame.specs.Counts.{up}
 use Rattle.mes_frame.specs.declared.counts.Counts.{Counts}
 
 -- no call failed, and none gave the end
 abbrev pub AllGive : Counts → Counts → Type 0
 AllGive old new = (new.failures ≡ old.failures) × (new.idle ≡ old.idle)
+
+-- the same, and n calls were made
+abbrev pub GaveEach : ℕ → Counts → Counts → Type 0
+GaveEach n old new = (new.calls ≡ up old.calls n) × AllGive old new
 
 -- one call failed: it was the last
 abbrev pub OneFails : Counts → Counts → Type 0

@@ -1,8 +1,8 @@
 //! A head taken from a reader: byte by byte, so that nothing behind it is taken.
 
-ghost use Rattle.std.specs.Prelude.{◌≡◌, [], ◌∷◌, IfOk, IfErr};
+ghost use Rattle.std.specs.Prelude.{◌≡◌, [], ◌∷◌, length, IfOk, IfErr};
 ghost use Rattle.std.specs.Io.KnownBytes.{Consumes};
-ghost use Rattle.mes_http.specs.Endings.{AllGive};
+ghost use Rattle.mes_http.specs.Endings.{AllGive, GaveEach};
 ghost use Rattle.mes_http.specs.Stops.{stop_fault, StopsByte, IsRequestTaken, IsResponseTaken, StopsRequest, StopsResponse};
 
 use crate::fault::HeadFault;
@@ -46,7 +46,7 @@ pub(crate) fn take_response<S: Source>(
 ) -> Result<ResponseSpans, HeadStop>
     ensures took { Consumes (S.left reader.old) (S.left reader.new) taken.new.items }
     ensures ok { IfOk result (IsResponseTaken taken.new.items headers.new) }
-    ensures ok_counts { IfOk result (λ _. AllGive (S.counts reader.old) (S.counts reader.new)) }
+    ensures ok_counts { IfOk result (λ _. GaveEach (length taken.new.items) (S.counts reader.old) (S.counts reader.new)) }
     ensures err { IfErr result (λ stop. StopsResponse stop taken.new.items (S.counts reader.old) (S.counts reader.new)) }
 {
     taken.clear();
@@ -91,7 +91,7 @@ pub(crate) fn take_request<S: Source>(
 /// Takes one byte.
 fn take_byte<S: Source>(reader: &mut S) -> Result<u8, HeadStop>
     ensures ok { IfOk result (λ byte. Consumes (S.left reader.old) (S.left reader.new) (byte ∷ [])) }
-    ensures ok_counts { IfOk result (λ _. AllGive (S.counts reader.old) (S.counts reader.new)) }
+    ensures ok_counts { IfOk result (λ _. GaveEach 1 (S.counts reader.old) (S.counts reader.new)) }
     ensures err { IfErr result (λ stop. Consumes (S.left reader.old) (S.left reader.new) []
         × StopsByte stop (S.counts reader.old) (S.counts reader.new)) }
 {

@@ -1,9 +1,9 @@
 //! The head of an answer, taken from a reader.
 
-ghost use Rattle.std.specs.Prelude.{ℕ, List, MatchResult};
+ghost use Rattle.std.specs.Prelude.{ℕ, List, length, MatchResult};
 ghost use Rattle.std.specs.Io.KnownBytes.{Consumes};
 ghost use Rattle.httparse.specs.Grammar.{ResponseHead, status_code};
-ghost use Rattle.mes_http.specs.Endings.{AllGive};
+ghost use Rattle.mes_http.specs.Endings.{AllGive, GaveEach};
 ghost use Rattle.mes_http.specs.Heads.{IsResponse};
 ghost use Rattle.mes_http.specs.Responses.{IsOkStream, BreaksStream, BreaksAnswer, OpensStream, Accepts, Refuses};
 ghost use Rattle.mes_http.specs.Stops.{IsResponseTaken};
@@ -25,10 +25,10 @@ const ACCEPTED: u16 = 202;
 
 /// Takes the head of an answer to a SUBSCRIBE, and answers the stream's id. Nothing behind the head is taken. Takes no memory.
 pub fn read_head<S: Source>(reader: &mut S) -> Result<StreamId, HeadFault>
-    // Ok: exactly a head was taken, and it opens the stream of this id. Else the first fault.
+    // Ok: exactly a head was taken, a byte by each call, and it opens the stream of this id. Else the first fault.
     ensures { (taken : List ℕ) × Consumes (S.left reader.old) (S.left reader.new) taken
         × MatchResult result
-        (λ id. OpensStream taken id × AllGive (S.counts reader.old) (S.counts reader.new))
+        (λ id. OpensStream taken id × GaveEach (length taken) (S.counts reader.old) (S.counts reader.new))
         (λ f. Refuses BreaksStream f taken (S.counts reader.old) (S.counts reader.new)) }
 {
     let mut taken = ArrayVec::new();
