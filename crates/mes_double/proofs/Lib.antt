@@ -1,4 +1,5 @@
 pub mod AlikeLemmas
+pub mod AnswerLemmas
 pub mod CountLemmas
 pub mod Fitting
 pub mod HandLemmas
@@ -15,6 +16,8 @@ pub mod RanLemmas
 pub mod ReachLemmas
 pub mod RepeatLemmas
 pub mod RunningLemmas
+pub mod SearchLemmas
+pub mod SomeLemmas
 pub mod TurnLemmas
 pub mod WayLemmas
 pub mod WishLemmas

@@ -8,10 +8,12 @@ ghost use Rattle.mes_double.specs.Promises.{AckedWereHeard, LaunchedOnce, TakenO
 use mes_hand::refusal_laws;
 
 /// Whatever is lost, late and repeated, by whatever list of moves: each update that counts as acknowledged was heard. No task is launched
-/// twice, no offer is taken away twice, and what one call launches fits the offers that it took. An ACCEPT, a DECLINE or an
-/// ACKNOWLEDGE that was answered 202 moves nothing when it comes again, now or later. Where a stream is current, the session's hand, once all that waits is heard, is the list of
-/// outstanding offers without those that a call on the way names; so with nothing on the way the two are one. And moves have one end.
+/// twice, no offer is taken away twice, and what one call launches fits the offers that it took. An ACCEPT, a DECLINE or an ACKNOWLEDGE
+/// that was answered 202 moves nothing when it comes again, now or later. Where a stream is current, the session's hand, once all that
+/// waits is heard, is the list of outstanding offers without those that a call on the way names; so with nothing on the way the two are
+/// one. And each list of moves has a course, and one alone.
 pub fn world_laws()
+    ensures some { (framework : Id) (ids : List (List ℕ)) (list : List Move) → (c : Course) × IsCourse framework ids list c }
     ensures one { (framework : Id) (ids : List (List ℕ)) (list : List Move) (c d : Course) → IsCourse framework ids list c → IsCourse framework ids list d → c ≡ d }
     ensures acked { (framework : Id) (ids : List (List ℕ)) (list : List Move) (c : Course) → IsCourse framework ids list c → AckedWereHeard c }
     ensures launched { (framework : Id) (ids : List (List ℕ)) (list : List Move) (c : Course) → IsCourse framework ids list c → LaunchedOnce c }

@@ -4,7 +4,11 @@ use Rattle.mes_double.proofs.Keyed.{acked-heard}
 use Rattle.mes_double.proofs.OneLemmas.{one-course}
 use Rattle.mes_double.proofs.RanLemmas.{launched-once, taken-once}
 use Rattle.mes_double.proofs.RepeatLemmas.{moves-nothing}
+use Rattle.mes_double.proofs.SomeLemmas.{some-course}
 use Rattle.mes_double.proofs.laws.world_laws.Goals as goal
+
+pub returns-clause-some : goal.returns-clause-some
+returns-clause-some c = some-course
 
 pub returns-clause-one : goal.returns-clause-one
 returns-clause-one c = one-course c.refusal_laws.ensures

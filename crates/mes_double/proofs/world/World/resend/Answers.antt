@@ -1,6 +1,6 @@
-use Rattle.std.proofs.Common.{◌≡◌, OnOk, ap, sym, subst}
+use Rattle.std.proofs.Common.{sym}
 use Rattle.mes_master.specs.Sending.{resend_sent}
-use Rattle.mes_double.specs.Worlds.{WorldState, sending}
+use Rattle.mes_double.specs.Worlds.{WorldState}
 use Rattle.mes_double.proofs.MakeLemmas.{resent-ok, resent-err}
 use Rattle.mes_double.proofs.world.World.resend.Goals as goal
 
