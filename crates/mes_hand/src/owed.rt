@@ -82,14 +82,7 @@ impl Owed {
         Ok(())
     }
 
-    /// Takes the key out, if it is there. The others keep their order; takes no memory.
-    pub fn remove(&mut self, key: &OwedKey)
-        ensures { self.new ≡ without_key key.now self.old }
-    {
-        self.remove_key(&key.agent, &key.task, &key.uuid);
-    }
-
-    /// Takes the key of this agent, task and uuid out, as `remove` does.
+    /// Takes the key of this agent, task and uuid out, if it is there. The others keep their order; takes no memory.
     pub fn remove_key(&mut self, agent: &Id, task: &Id, uuid: &Bytes)
         ensures { self.new ≡ without_key (record { agent = agent.now; task = task.now; uuid = uuid.now }) self.old }
     {
