@@ -24,13 +24,23 @@ impl Event {
         ensures { IfOk result (λ lines. lines.items ≡ event_lines number self.now) }
     {
         let mut lines = Vec::new(alloc);
+        self.push_lines(number, &mut lines)?;
+        Ok(lines)
+    }
+
+    /// Appends these lines to memory that is kept, so that none is asked for where it has room.
+    ///
+    /// Errors: `NoMemory` where a growth was refused; a part of the lines may have been appended then.
+    pub fn push_lines(&self, number: u64, lines: &mut Vec<u8>) -> Result<(), NoMemory>
+        ensures { IfOk result (λ _. lines.new.items ≡ lines.old.items ++ event_lines number self.now) }
+    {
         lines.extend_from_slice(Buffer::new().format(number).as_bytes())?;
-        put_event(self, &mut lines)?;
+        put_event(self, lines)?;
         lines.extend_from_slice(b"\n")?;
         if let Event::Offers(offers) = self {
-            put_offers(offers.as_slice(), &mut lines)?;
+            put_offers(offers.as_slice(), lines)?;
         }
-        Ok(lines)
+        Ok(())
     }
 }
 

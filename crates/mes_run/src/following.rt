@@ -56,10 +56,11 @@ pub(crate) enum FollowStop {
 /// of one read at a time.
 #[derive(Drop)]
 pub(crate) struct Follower {
-    alloc: Global,
     detail: Detail,
     reading: Reading<EventReader>,
     events: Vec<Event>,
+    // The lines of one event. Their memory serves for the next one.
+    text: Vec<u8>,
     lines: LineBuffer,
     // The number of the next event.
     number: u64,
@@ -78,10 +79,10 @@ impl<O: Sink> Consumer<O> for Follower {
     fn take(&mut self, piece: &[u8], out: &mut O) -> Result<(), FollowStop> {
         let fed = self.reading.feed(piece, &mut self.events);
         match print_events(
-            self.alloc,
             self.detail,
             self.events.as_slice(),
             self.number,
+            &mut self.text,
             &mut self.lines,
             out,
         ) {
@@ -114,10 +115,10 @@ pub fn follow<I: Source, O: Sink>(
         (device_of O.written O.counts out.old) (device_of O.written O.counts out.new) result }
 {
     let mut follower = Follower {
-        alloc,
         detail,
         reading: Reading::new(framing, EventReader::new(alloc), limit),
         events: Vec::new(alloc),
+        text: Vec::new(alloc),
         lines: LineBuffer::new(),
         number: 1,
     };
@@ -146,10 +147,10 @@ fn ended(end: ReadsEnd<FollowStop>) -> Result<ReadsEnd<ReadingStop>, Unshown>
 
 /// Prints what is wanted of the events, the first under this number.
 fn print_events<O: Sink>(
-    alloc: Global,
     detail: Detail,
     events: &[Event],
     first: u64,
+    text: &mut Vec<u8>,
     lines: &mut LineBuffer,
     out: &mut O,
 ) -> Result<Shown, WriteFault>
@@ -159,15 +160,15 @@ fn print_events<O: Sink>(
 {
     match detail {
         Detail::Counts => Ok(Shown::All(first.saturating_add(events.len() as u64))),
-        Detail::Lines => show_events(alloc, events, first, lines, out),
+        Detail::Lines => show_events(events, first, text, lines, out),
     }
 }
 
 /// Prints the lines of the events, the first under this number.
 fn show_events<O: Sink>(
-    alloc: Global,
     events: &[Event],
     first: u64,
+    text: &mut Vec<u8>,
     lines: &mut LineBuffer,
     out: &mut O,
 ) -> Result<Shown, WriteFault>
@@ -176,7 +177,7 @@ fn show_events<O: Sink>(
     ensures err { IfErr result (λ fault. (number : ℕ) → first ≡ saturated number → Stops (O.written out.old) (O.written out.new)
         (O.counts out.old) (O.counts out.new) (lines.old.held.items ++ lines_from number events.now) lines.old.sent fault) }
 {
-    let shown = match hold_events(alloc, events, first, lines, out) {
+    let shown = match hold_events(events, first, text, lines, out) {
         Ok(shown) => shown,
         Err(fault) => return Err(fault),
     };
@@ -188,9 +189,9 @@ fn show_events<O: Sink>(
 
 /// Holds the lines of the events, the first under this number.
 fn hold_events<O: Sink>(
-    alloc: Global,
     events: &[Event],
     first: u64,
+    text: &mut Vec<u8>,
     lines: &mut LineBuffer,
     out: &mut O,
 ) -> Result<Shown, WriteFault>
@@ -201,9 +202,10 @@ fn hold_events<O: Sink>(
 {
     let mut number = first;
     for event in events {
-        let Ok(text) = event.show_lines(alloc, number) else {
+        text.clear();
+        if let Err(_) = event.push_lines(number, text) {
             return Ok(Shown::NoMemory);
-        };
+        }
         if let Err(fault) = lines.hold(out, text.as_slice()) {
             return Err(fault);
         }

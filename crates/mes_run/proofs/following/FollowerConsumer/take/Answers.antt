@@ -6,12 +6,12 @@ use Rattle.mes_run.proofs.following.FollowerConsumer.take.Goals as goal
 
 pub returns-in-Err-clause-stop : goal.returns-in-Err-clause-stop
 returns-in-Err-clause-stop g c = λ first start w h.
-    follows_cut_off first c.args.self.now (record { alloc = c.args.self.now.alloc; detail = c.args.self.now.detail; reading = c.feed-fed.new.self; events = c.feed-fed.new.values; lines = c.print_events.new.lines; number = c.args.self.now.number }) (device_of g.O.Sink.written g.O.Sink.counts start) (device_of g.O.Sink.written g.O.Sink.counts c.args.out.now) (device_of g.O.Sink.written g.O.Sink.counts c.print_events.new.out) w c.args.piece.now c.feed-fed.new.values.items h c.feed-fed.result c.in-Err.fault (c.feed-fed.ensures.takes nothing_ahead)
+    follows_cut_off first c.args.self.now (record { detail = c.args.self.now.detail; reading = c.feed-fed.new.self; events = c.feed-fed.new.values; text = c.print_events.new.text; lines = c.print_events.new.lines; number = c.args.self.now.number }) (device_of g.O.Sink.written g.O.Sink.counts start) (device_of g.O.Sink.written g.O.Sink.counts c.args.out.now) (device_of g.O.Sink.written g.O.Sink.counts c.print_events.new.out) w c.args.piece.now c.feed-fed.new.values.items h c.feed-fed.result c.in-Err.fault (c.feed-fed.ensures.takes nothing_ahead)
     (λ n is. rw c.as_slice.ensures.value at (c.in-Err.ensures n is))
 
 pub returns-in-Ok-NoMemory-clause-stop : goal.returns-in-Ok-NoMemory-clause-stop
 returns-in-Ok-NoMemory-clause-stop g c = λ first start w h.
-    follows_without first c.args.self.now (record { alloc = c.args.self.now.alloc; detail = c.args.self.now.detail; reading = c.feed-fed.new.self; events = c.feed-fed.new.values; lines = c.print_events.new.lines; number = c.args.self.now.number }) (device_of g.O.Sink.written g.O.Sink.counts start) (device_of g.O.Sink.written g.O.Sink.counts c.args.out.now) (device_of g.O.Sink.written g.O.Sink.counts c.print_events.new.out) w c.args.piece.now c.feed-fed.new.values.items h c.feed-fed.result (c.feed-fed.ensures.takes nothing_ahead)
+    follows_without first c.args.self.now (record { detail = c.args.self.now.detail; reading = c.feed-fed.new.self; events = c.feed-fed.new.values; text = c.print_events.new.text; lines = c.print_events.new.lines; number = c.args.self.now.number }) (device_of g.O.Sink.written g.O.Sink.counts start) (device_of g.O.Sink.written g.O.Sink.counts c.args.out.now) (device_of g.O.Sink.written g.O.Sink.counts c.print_events.new.out) w c.args.piece.now c.feed-fed.new.values.items h c.feed-fed.result (c.feed-fed.ensures.takes nothing_ahead)
     (λ n is. rw (c.as_slice.ensures.value, c.in-Ok-NoMemory.field-0-is) at (c.in-Ok-NoMemory.ensures n is))
 
 pub returns-in-Ok-clause-more : goal.returns-in-Ok-clause-more
