@@ -1,5 +1,5 @@
 -- Offers of one identifier have one value, wherever they stand.
-use Rattle.std.proofs.Common.{◌≡◌, ℕ, zero, suc, ◌+◌, ◌≤◌, Bool, true, false, ◌||◌, ◌&&◌, not, if◌then◌else◌, filter, filter_map, slice_get, List, [], ◌∷◌, ◌++◌, Option, Some, None, is_some, refl, sym, ap, subst, ◌∙◌, arith}
+use Rattle.std.proofs.Common.{◌≡◌, ℕ, suc, ◌+◌, ◌≤◌, Bool, true, false, ◌||◌, filter, slice_get, List, [], ◌∷◌, ◌++◌, Option, Some, None, is_some, refl, sym, ap, subst, ◌∙◌, arith}
 use Rattle.std.specs.List.{list_all}
 use Rattle.std.specs.List.Sorted.{IsPermutation}
 use Rattle.std.specs.Str.{bytes_eq}
@@ -9,7 +9,7 @@ use Rattle.std.proofs.lemmas.Slice.Eq.{bytes_eq-Decides}
 use Rattle.mes_resource.specs.declared.id.Id.{Id}
 use Rattle.mes_offer.specs.declared.offer.Offer.{Offer}
 use Rattle.mes_hand.specs.Keeping.{put}
-use Rattle.mes_hand.specs.Held.{name_of, offer_in, names, with_offers, without_offers}
+use Rattle.mes_hand.specs.Held.{name_of, offer_in, names, with_offers}
 use Rattle.mes_hand.specs.Refusals.{stands_in, stands_twice, offers_named}
 use Rattle.mes_master.specs.Masters.{is_there}
 use Rattle.mes_master.proofs.AgainLemmas.{same_text}

@@ -1,6 +1,5 @@
 -- To each call a session has an answer.
-use Rattle.std.proofs.Common.{◌≡◌, ◌≢◌, ◌⊎◌, inl, inr, ℕ, ◌+◌, ◌<◌, ◌≤◌, Bool, true, false, ◌||◌, ◌&&◌, nat_le, not, List, [], ◌∷◌, length, slice_get, Option, Some, None, refl, sym, ap, subst, ◌∙◌, true≢false, arith}
-use Rattle.std.specs.List.{list_any}
+use Rattle.std.proofs.Common.{◌≡◌, ◌≢◌, ◌⊎◌, inl, inr, ℕ, ◌+◌, ◌<◌, ◌≤◌, Bool, true, false, ◌||◌, nat_le, List, [], ◌∷◌, length, slice_get, Option, Some, None, refl, sym, ap, subst, ◌∙◌, true≢false, arith}
 use Rattle.std.specs.Str.{bytes_eq}
 use Rattle.std.proofs.lemmas.Bool.{and_parts, leb-true}
 use Rattle.std.proofs.lemmas.Option.{slice_get_within}
@@ -15,12 +14,12 @@ use Rattle.mes_task.specs.declared.owed_key.OwedKey.{OwedKey}
 use Rattle.mes_task.specs.declared.task_info.TaskInfo.{TaskInfo}
 use Rattle.mes_call.specs.declared.call.Call.{Call}
 use Rattle.mes_call.specs.declared.call.Call.TheVariants as of
-use Rattle.mes_fit.specs.Keys.{Key, key_of}
+use Rattle.mes_fit.specs.Keys.{key_of}
 use Rattle.mes_fit.specs.Fits.{Piece, point, item, in_range, in_ranges, in_items, piece_in, amount, offered, asked, others, is_free, Breaks, BreaksAt}
 use Rattle.mes_hand.specs.declared.refusal.Refusal.{Refusal}
-use Rattle.mes_hand.specs.declared.refusal.Refusal.TheVariants.{NotSubscribed, NamedTwice, NoSuchOffer, TwoAgents, WrongAgent, Exceeds, NotOwed, NoMemory}
+use Rattle.mes_hand.specs.declared.refusal.Refusal.TheVariants.{NotSubscribed, NamedTwice, NoSuchOffer, TwoAgents, WrongAgent, Exceeds, NotOwed}
 use Rattle.mes_hand.specs.Held.{Held, offer_in, is_owed}
-use Rattle.mes_hand.specs.Refusals.{IsStrange, IsAnother, IsForeign, Asked, asked_by, IsFaultyIn, IsFaulty, as_told, Answers, stands_twice, ids_of, offers_named, has_two_agents, is_elsewhere}
+use Rattle.mes_hand.specs.Refusals.{IsStrange, IsAnother, IsForeign, asked_by, IsFaulty, as_told, Answers, stands_twice, ids_of, offers_named, has_two_agents, is_elsewhere}
 use Rattle.mes_hand.proofs.FirstLemmas.{first-1, first-2, first-3, first-4, first-5, first-6, first-7, none-of}
 use Rattle.mes_double.proofs.SearchLemmas.{is-true, is-false, is-none, is-less, both, Search, found, nowhere, search, some, search-list}
 

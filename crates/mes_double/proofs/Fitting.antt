@@ -1,30 +1,28 @@
 -- On every course what an arrival launches fits the offers that it took.
-use Rattle.std.proofs.Common.{◌≡◌, ℕ, ◌+◌, ◌≤◌, Bool, true, false, ◌||◌, ◌&&◌, not, if◌then◌else◌, ◌⊎◌, inl, inr, filter, map, slice_get, List, [], ◌∷◌, ◌++◌, Option, Some, None, refl, sym, ap, subst, ◌∙◌, arith}
-use Rattle.std.specs.List.{flat_map, list_all}
+use Rattle.std.proofs.Common.{◌≡◌, ℕ, ◌+◌, ◌≤◌, Bool, true, false, ◌||◌, not, ◌⊎◌, inl, inr, filter, map, slice_get, List, [], ◌∷◌, ◌++◌, Some, None, refl, sym, ap, subst, ◌∙◌, arith}
+use Rattle.std.specs.List.{list_all}
 use Rattle.std.specs.List.Sorted.{IsPermutation}
 use Rattle.std.specs.Str.{bytes_eq}
 use Rattle.std.proofs.lemmas.Grind.{flat_map-append}
 use Rattle.std.proofs.lemmas.Slice.Eq.{bytes_eq-Decides}
 use Rattle.mes_resource.specs.declared.id.Id.{Id}
 use Rattle.mes_offer.specs.declared.offer.Offer.{Offer}
-use Rattle.mes_task.specs.declared.owed_key.OwedKey.{OwedKey}
-use Rattle.mes_task.specs.declared.task_info.TaskInfo.{TaskInfo}
 use Rattle.mes_task.specs.declared.task_status.TaskStatus.{TaskStatus}
 use Rattle.mes_event.specs.declared.event.Event.{Event}
 use Rattle.mes_event.specs.declared.event.Event.TheVariants as event
 use Rattle.mes_call.specs.declared.call.Call.{Call}
 use Rattle.mes_call.specs.declared.call.Call.TheVariants as of
 use Rattle.mes_call_body.specs.declared.call_bodies.Accept.{Accept}
-use Rattle.mes_msg.specs.declared.entry.Entry.TheVariants.{Heard, Said, Broken}
+use Rattle.mes_msg.specs.declared.entry.Entry.TheVariants.{Heard, Said}
 use Rattle.mes_fit.specs.Fits.{Fits}
 use Rattle.mes_fit.specs.Launched.{launched, launched_by}
 use Rattle.mes_fit.proofs.FitsLemmas.{fits-none}
 use Rattle.mes_hand.specs.declared.refusal.Refusal.TheVariants.{NamedTwice, Exceeds}
-use Rattle.mes_hand.specs.Held.{Held, name_of, names, with_offers, without_offer, without_offers}
+use Rattle.mes_hand.specs.Held.{Held, name_of, names, with_offers, without_offer}
 use Rattle.mes_hand.specs.Calls.{named_by, accepted_by, tasks_of}
 use Rattle.mes_hand.specs.Refusals.{Answers, stands_twice, offers_named}
-use Rattle.mes_session.specs.History.{after, offers_of, takes_offer}
-use Rattle.mes_master.specs.Masters.{MasterState, MasterAnswer, plain, subscribed, subscribed_event, accepted, reconciled_event, update_event, asked_for, is_there, all_there, carried_out, handled}
+use Rattle.mes_session.specs.History.{offers_of, takes_offer}
+use Rattle.mes_master.specs.Masters.{MasterState, MasterAnswer, plain, subscribed, accepted, reconciled_event, update_event, asked_for, is_there, all_there, carried_out, handled}
 use Rattle.mes_master.specs.Sending.{offer_ids, comes_again, made}
 use Rattle.mes_master.proofs.AgainLemmas.{IsOpen, carried}
 use Rattle.mes_master.proofs.FitLemmas.{fits-nothing, fits-ran}
@@ -33,10 +31,10 @@ use Rattle.mes_double.specs.declared.moves.Move.{Move}
 use Rattle.mes_double.specs.declared.sent.Sent.{Sent}
 use Rattle.mes_double.specs.Courses.{Arrival, Course, begun, Leads, IsCourse}
 use Rattle.mes_double.specs.Promises.{WhatRanFits}
-use Rattle.mes_double.proofs.ListLemmas.{apart, front-or-last}
+use Rattle.mes_double.proofs.ListLemmas.{front-or-last}
 use Rattle.mes_double.proofs.CountLemmas.{count, count-filter, count-with, names-alike, new-apart}
 use Rattle.mes_double.proofs.HandLemmas.{brought}
-use Rattle.mes_double.proofs.AlikeLemmas.{IsSame, AllSame, same-append, same-front, same-back, same-filter, same-with, same-each, still-same, new-same, more-same, AreOf, named-are, taken-are}
+use Rattle.mes_double.proofs.AlikeLemmas.{AllSame, same-append, same-front, same-back, same-filter, same-with, same-each, still-same, new-same, more-same, AreOf, named-are, taken-are}
 use Rattle.mes_double.proofs.WishLemmas.{named-found}
 use Rattle.mes_double.proofs.Joined.{Joined}
 use Rattle.mes_double.proofs.JoinedRuns.{joined-turn, joined-begun}

@@ -1,7 +1,7 @@
 -- A call is said, or reaches the master: session, master and what is between them belong together as before.
-use Rattle.std.proofs.Common.{◌≡◌, ℕ, ◌+◌, ◌≤◌, ◌<◌, Bool, true, false, ◌||◌, ◌&&◌, not, ◌⊎◌, inl, inr, filter, map, length, slice_get, List, [], ◌∷◌, ◌++◌, Option, Some, None, refl, sym, ap, subst, ◌∙◌, length-append, arith}
+use Rattle.std.proofs.Common.{◌≡◌, ℕ, ◌+◌, ◌≤◌, ◌<◌, Bool, true, false, ◌||◌, ◌&&◌, not, inl, inr, filter, map, length, slice_get, List, [], ◌∷◌, ◌++◌, Some, None, refl, sym, ap, subst, ◌∙◌, length-append, arith}
 use Rattle.std.specs.Str.{bytes_eq}
-use Rattle.std.proofs.lemmas.Bool.{and_right, cases_eq, or_from}
+use Rattle.std.proofs.lemmas.Bool.{cases_eq, or_from}
 use Rattle.std.proofs.lemmas.List.{append-nil}
 use Rattle.std.proofs.lemmas.Option.{slice_get_within}
 use Rattle.std.proofs.lemmas.Slice.Eq.{bytes_eq-Decides}
@@ -11,25 +11,24 @@ use Rattle.mes_task.specs.declared.owed_key.OwedKey.{OwedKey}
 use Rattle.mes_event.specs.declared.event.Event.{Event}
 use Rattle.mes_call.specs.declared.call.Call.{Call}
 use Rattle.mes_call.specs.declared.call.Call.TheVariants as of
-use Rattle.mes_msg.specs.declared.entry.Entry.TheVariants.{Heard, Said, Broken}
+use Rattle.mes_msg.specs.declared.entry.Entry.TheVariants.{Heard, Said}
 use Rattle.mes_fit.specs.Launched.{launched, launched_by}
 use Rattle.mes_hand.specs.Held.{Held, name_of, names, without_offers}
 use Rattle.mes_hand.specs.Calls.{framework_of, named_by}
 use Rattle.mes_hand.specs.Refusals.{Answers}
 use Rattle.mes_session.specs.History.{after}
-use Rattle.mes_master.specs.Masters.{MasterState, MasterAnswer, plain, subscribed, subscribed_event, accepted, declined, acknowledged, key_in, reconciled, reconciled_event, asked_for, torn_down, agrees, carried_out, is_named, is_subscribe, handled}
+use Rattle.mes_master.specs.Masters.{MasterAnswer, plain, subscribed, subscribed_event, accepted, declined, acknowledged, key_in, reconciled, reconciled_event, asked_for, torn_down, agrees, carried_out, is_subscribe}
 use Rattle.mes_master.proofs.AgainLemmas.{same_text, IsOpen, carried}
-use Rattle.mes_master.proofs.RunLemmas.{times}
 use Rattle.mes_double.specs.declared.sent.Sent.{Sent}
-use Rattle.mes_double.specs.Worlds.{WorldState, skip, is_done, answer_to}
+use Rattle.mes_double.specs.Worlds.{is_done, answer_to}
 use Rattle.mes_double.specs.Courses.{Arrival, Course}
-use Rattle.mes_double.specs.Promises.{has_arrived, not_arrived, is_under_way}
-use Rattle.mes_double.proofs.ListLemmas.{filter-all, filter-none, filter-two, filter-same, fold-more, apart, or-swap, or-none, front-or-last, one-there}
-use Rattle.mes_double.proofs.CountLemmas.{count, count-append, count-filter, count-without, names-alike, same-in}
+use Rattle.mes_double.specs.Promises.{has_arrived, is_under_way}
+use Rattle.mes_double.proofs.ListLemmas.{filter-all, filter-none, filter-two, fold-more, apart, or-swap, or-none, front-or-last, one-there}
+use Rattle.mes_double.proofs.CountLemmas.{count, count-filter, count-without, names-alike, same-in}
 use Rattle.mes_double.proofs.HandLemmas.{brought, hears, hears-filter, hears-told}
 use Rattle.mes_double.proofs.WayLemmas.{arrived-other, any_way, way-sent, way-arrives}
 use Rattle.mes_double.proofs.ReachLemmas.{out-status}
-use Rattle.mes_double.proofs.TurnLemmas.{to_world, to_wished, arrival_of, to_refused, to_answered, to_resubscribed}
+use Rattle.mes_double.proofs.TurnLemmas.{to_wished, arrival_of, to_refused, to_answered, to_resubscribed}
 use Rattle.mes_double.proofs.WishLemmas.{named-in_hand, of-known}
 use Rattle.mes_double.proofs.Joined.{IsLive, Own, own-append, own-told, brought-append, brought-told, Joined}
 

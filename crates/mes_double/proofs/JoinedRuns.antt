@@ -1,17 +1,16 @@
 -- Session, master and what is between them belong together on every course.
-use Rattle.std.proofs.Common.{◌≡◌, ℕ, ◌+◌, Bool, true, false, ◌&&◌, not, filter, List, [], ◌∷◌, Option, Some, None, refl, sym, ap, subst, ◌∙◌, arith}
+use Rattle.std.proofs.Common.{ℕ, true, ◌&&◌, not, List, [], ◌∷◌, refl, sym, ap, subst, ◌∙◌, arith}
 use Rattle.std.specs.List.{list_any}
 use Rattle.std.specs.Str.{bytes_eq}
 use Rattle.mes_resource.specs.declared.id.Id.{Id}
 use Rattle.mes_offer.specs.declared.offer.Offer.{Offer}
 use Rattle.mes_event.specs.declared.event.Event.{Event}
-use Rattle.mes_hand.specs.Held.{Held, names}
+use Rattle.mes_hand.specs.Held.{names}
 use Rattle.mes_hand.specs.Calls.{named_by}
-use Rattle.mes_session.specs.History.{after}
 use Rattle.mes_double.specs.declared.moves.Move.{Move}
 use Rattle.mes_double.specs.declared.sent.Sent.{Sent}
-use Rattle.mes_double.specs.Courses.{Course, begun, Follows, Leads, IsCourse}
-use Rattle.mes_double.specs.Promises.{HandAgrees, AllAgrees, not_arrived, is_under_way, caught_up}
+use Rattle.mes_double.specs.Courses.{Course, begun, Leads, IsCourse}
+use Rattle.mes_double.specs.Promises.{HandAgrees, AllAgrees, is_under_way, caught_up}
 use Rattle.mes_double.proofs.ListLemmas.{filter-all, filter-same}
 use Rattle.mes_double.proofs.TurnLemmas.{Turn, turn}
 use Rattle.mes_double.proofs.TurnLemmas.Turn.{skips, offers, rescinds, tells, tells_owing, resends, hears, wishes, refuses, opens, carries, resubscribes}

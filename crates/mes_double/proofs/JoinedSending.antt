@@ -13,7 +13,7 @@ use Rattle.mes_msg.specs.declared.entry.Entry.TheVariants.{Heard}
 use Rattle.mes_hand.specs.Held.{Held, name_of, names, with_offers, without_offer}
 use Rattle.mes_hand.specs.Calls.{named_by}
 use Rattle.mes_session.specs.History.{after, offers_of, subscribed_by, takes_offer}
-use Rattle.mes_master.specs.Masters.{MasterState, update_event}
+use Rattle.mes_master.specs.Masters.{update_event}
 use Rattle.mes_master.specs.Sending.{offer_ids, comes_again, made}
 use Rattle.mes_master.proofs.RunLemmas.{times, times-append, offered-once}
 use Rattle.mes_double.specs.declared.sent.Sent.{Sent}

@@ -1,17 +1,15 @@
 -- The keys of updates: those that are owed, those that events tell, and those that the master knows.
-use Rattle.std.proofs.Common.{◌≡◌, ℕ, zero, suc, Bool, true, false, ◌||◌, ◌&&◌, not, ◌⊎◌, inl, inr, filter, fold, map, slice_get, List, [], ◌∷◌, ◌++◌, Option, Some, None, is_some, refl, sym, ap, subst, ◌∙◌}
+use Rattle.std.proofs.Common.{◌≡◌, ℕ, zero, suc, Bool, true, false, ◌||◌, ◌⊎◌, inl, inr, filter, fold, map, slice_get, List, [], ◌∷◌, ◌++◌, Option, Some, None, refl, sym, ap, ◌∙◌}
 use Rattle.std.specs.List.{list_any}
-use Rattle.std.specs.Map.{lookup}
 use Rattle.std.specs.Option.{option_to_list}
 use Rattle.std.proofs.lemmas.Bool.{or_cases, or_left, or_right}
 use Rattle.std.proofs.lemmas.List.Folds.{list_any-append}
 use Rattle.mes_resource.specs.declared.id.Id.{Id}
 use Rattle.mes_task.specs.declared.owed_key.OwedKey.{OwedKey}
 use Rattle.mes_task.specs.declared.task_status.TaskStatus.{TaskStatus}
-use Rattle.mes_task.specs.Owed.{key_by, owed_key_of}
+use Rattle.mes_task.specs.Owed.{key_by}
 use Rattle.mes_event.specs.declared.event.Event.{Event}
 use Rattle.mes_msg.specs.declared.entry.Entry.TheVariants.{Heard}
-use Rattle.mes_hand.specs.Keeping.{put}
 use Rattle.mes_hand.specs.Held.{same_key, is_owed, with_key}
 use Rattle.mes_session.specs.History.{owed_by}
 use Rattle.mes_session.proofs.HistoryLemmas.{key-exact, key-self}

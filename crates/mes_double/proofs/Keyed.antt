@@ -1,5 +1,5 @@
 -- On every course: what is acknowledged was heard, and what was acknowledged stays so.
-use Rattle.std.proofs.Common.{◌≡◌, ℕ, ◌+◌, ◌≤◌, Bool, true, false, ◌||◌, not, if◌then◌else◌, ◌⊎◌, inl, inr, filter, fold, map, slice_get, List, [], ◌∷◌, ◌++◌, Option, Some, None, refl, sym, ap, subst, ◌∙◌, arith}
+use Rattle.std.proofs.Common.{◌≡◌, ℕ, ◌+◌, Bool, true, false, not, if◌then◌else◌, inl, inr, filter, slice_get, List, [], ◌∷◌, ◌++◌, Option, Some, None, refl, sym, ap, subst, ◌∙◌, arith}
 use Rattle.std.specs.Option.{option_to_list}
 use Rattle.std.proofs.lemmas.Bool.{or_cases, or_left, or_right}
 use Rattle.mes_resource.specs.declared.id.Id.{Id}
@@ -10,13 +10,12 @@ use Rattle.mes_event.specs.declared.event.Event.{Event}
 use Rattle.mes_call.specs.declared.call.Call.{Call}
 use Rattle.mes_call.specs.declared.call.Call.TheVariants as of
 use Rattle.mes_msg.specs.declared.entry.Entry.TheVariants.{Heard, Said, Broken}
-use Rattle.mes_hand.specs.Held.{Held, same_key, is_owed, with_key}
+use Rattle.mes_hand.specs.Held.{same_key, is_owed, with_key}
 use Rattle.mes_hand.specs.Calls.{acknowledged_by}
 use Rattle.mes_hand.specs.Refusals.{Answers}
-use Rattle.mes_session.specs.History.{after, owed_by, acknowledges}
+use Rattle.mes_session.specs.History.{owed_by, acknowledges}
 use Rattle.mes_session.proofs.HistoryLemmas.{key-exact}
-use Rattle.mes_master.specs.Masters.{MasterState, MasterAnswer, plain, subscribed, subscribed_event, update_event, reconciled_event, asked_for, is_owing, acknowledged, key_in, carried_out}
-use Rattle.mes_master.specs.Sending.{waiting}
+use Rattle.mes_master.specs.Masters.{MasterState, MasterAnswer, plain, subscribed, update_event, asked_for, is_owing, acknowledged, key_in, carried_out}
 use Rattle.mes_double.specs.declared.moves.Move.{Move}
 use Rattle.mes_double.specs.declared.sent.Sent.{Sent}
 use Rattle.mes_double.specs.Worlds.{is_done}

@@ -1,5 +1,5 @@
 -- Lists that are filtered, and lists that grow at their end.
-use Rattle.std.proofs.Common.{◌≡◌, ℕ, zero, suc, ◌+◌, ◌<◌, ◌≤◌, Bool, true, false, ◌||◌, ◌&&◌, not, ◌⊎◌, inl, inr, filter, fold, map, length, slice_get, List, [], ◌∷◌, ◌++◌, Option, Some, None, refl, sym, ap, subst, ◌∙◌, arith}
+use Rattle.std.proofs.Common.{◌≡◌, ℕ, zero, suc, Bool, true, false, ◌||◌, ◌&&◌, not, ◌⊎◌, inl, inr, filter, fold, length, slice_get, List, [], ◌∷◌, ◌++◌, Some, refl, sym, ap, ◌∙◌}
 
 -- ---- a Bool that is told by another
 

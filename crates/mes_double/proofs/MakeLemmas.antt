@@ -1,13 +1,10 @@
 -- What the steps of a move leave of a world, together.
-use Rattle.std.proofs.Common.{◌≡◌, ℕ, ◌+◌, ◌≤◌, Bool, true, false, if◌then◌else◌, ◌⊎◌, inl, inr, Result, Ok, Err, IfOk, OnOk, IsErr, slice_get, List, [], ◌∷◌, ◌++◌, Option, Some, None, refl, sym, ap, subst, ◌∙◌, arith}
-use Rattle.std.specs.List.{filter}
+use Rattle.std.proofs.Common.{◌≡◌, ℕ, Bool, true, false, ◌⊎◌, inl, inr, Result, Ok, Err, OnOk, IsErr, slice_get, List, [], ◌∷◌, ◌++◌, Option, Some, None, refl, sym, ap, subst, ◌∙◌}
 use Rattle.mes_resource.specs.declared.id.Id.{Id}
-use Rattle.mes_offer.specs.declared.offer.Offer.{Offer}
-use Rattle.mes_task.specs.declared.owed_key.OwedKey.{OwedKey}
 use Rattle.mes_model.specs.declared.framework_info.FrameworkInfo.{FrameworkInfo}
 use Rattle.mes_event.specs.declared.event.Event.{Event}
 use Rattle.mes_call.specs.declared.call.Call.{Call}
-use Rattle.mes_msg.specs.declared.entry.Entry.TheVariants.{Heard, Said, Broken}
+use Rattle.mes_msg.specs.declared.entry.Entry.TheVariants.{Heard, Said}
 use Rattle.mes_hand.specs.declared.refusal.Refusal.{Refusal}
 use Rattle.mes_hand.specs.Held.{Held}
 use Rattle.mes_hand.specs.Refusals.{Answers}
@@ -15,7 +12,7 @@ use Rattle.mes_session.specs.History.{after}
 use Rattle.mes_session.specs.Making.{subscribe_call, Applied}
 use Rattle.mes_master.specs.declared.refusal.MasterRefusal.{MasterRefusal}
 use Rattle.mes_master.specs.declared.refusal.MasterRefusal.TheVariants.{NoMemory}
-use Rattle.mes_master.specs.Masters.{MasterState, MasterAnswer, IsAnswer, plain, handled}
+use Rattle.mes_master.specs.Masters.{MasterState, MasterAnswer, IsAnswer, handled}
 use Rattle.mes_master.specs.Sending.{Sends}
 use Rattle.mes_double.specs.declared.sent.Sent.{Sent}
 use Rattle.mes_double.specs.Worlds.{WorldState, skip, sending, hearing, Wishes, is_done, answer_to, answering, arriving, resubscribing, subscribe_answer, world_info, taking, reopening}

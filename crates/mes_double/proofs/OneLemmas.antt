@@ -8,7 +8,7 @@ use Rattle.mes_hand.specs.Refusals.{as_told, IsRefused, Answers}
 use Rattle.mes_double.specs.declared.moves.Move.{Move}
 use Rattle.mes_double.specs.declared.moves.Move.TheVariants as moves
 use Rattle.mes_double.specs.Worlds.{WorldState, wishing, Wishes, Happens}
-use Rattle.mes_double.specs.Courses.{Course, begun, heard_by, arrived_by, Follows, Leads, IsCourse}
+use Rattle.mes_double.specs.Courses.{Course, begun, Follows, Leads, IsCourse}
 
 module _ (once : (held : Held) (call : Call) (fault other : Refusal) → IsRefused held call fault → IsRefused held call other → fault ≡ other) where
   -- a call has one answer

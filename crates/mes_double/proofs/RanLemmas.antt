@@ -1,6 +1,5 @@
 -- On every course no task is launched twice and no offer is taken away twice: each identifier is counted.
-use Rattle.std.proofs.Common.{◌≡◌, ℕ, ◌+◌, ◌≤◌, Bool, not, filter, List, [], ◌∷◌, ◌++◌, Option, Some, refl, sym, ap, subst, ◌∙◌, arith}
-use Rattle.std.specs.List.{flat_map}
+use Rattle.std.proofs.Common.{◌≡◌, ℕ, ◌+◌, ◌≤◌, not, List, [], ◌∷◌, ◌++◌, Some, refl, sym, ap, subst, ◌∙◌, arith}
 use Rattle.std.specs.Str.{bytes_eq}
 use Rattle.std.proofs.lemmas.Grind.{flat_map-append}
 use Rattle.std.proofs.lemmas.List.{append-nil}
@@ -8,17 +7,16 @@ use Rattle.mes_resource.specs.declared.id.Id.{Id}
 use Rattle.mes_offer.specs.declared.offer.Offer.{Offer}
 use Rattle.mes_task.specs.declared.task_info.TaskInfo.{TaskInfo}
 use Rattle.mes_hand.specs.Held.{name_of}
-use Rattle.mes_hand.specs.Refusals.{stands_twice, ids_of}
-use Rattle.mes_master.specs.Masters.{MasterState, MasterAnswer, plain, subscribed, carried_out, handled}
+use Rattle.mes_hand.specs.Refusals.{ids_of}
+use Rattle.mes_master.specs.Masters.{MasterState, MasterAnswer, plain, subscribed, carried_out}
 use Rattle.mes_master.specs.Sending.{offer_ids}
-use Rattle.mes_master.proofs.AgainLemmas.{IsOpen, carried}
+use Rattle.mes_master.proofs.AgainLemmas.{carried}
 use Rattle.mes_master.proofs.RunLemmas.{times, times-append, Once, distinct, offered-once, Fine, fine}
 use Rattle.mes_double.specs.declared.moves.Move.{Move}
-use Rattle.mes_double.specs.declared.sent.Sent.{Sent}
 use Rattle.mes_double.specs.Courses.{Arrival, Course, begun, Leads, IsCourse}
 use Rattle.mes_double.specs.Promises.{all_ran, all_took, LaunchedOnce, TakenOnce}
 use Rattle.mes_double.proofs.CountLemmas.{count, count-append, count-filter, count-with}
-use Rattle.mes_double.proofs.TurnLemmas.{Turn, turn, arrival_of, to_answered}
+use Rattle.mes_double.proofs.TurnLemmas.{Turn, turn, arrival_of}
 use Rattle.mes_double.proofs.TurnLemmas.Turn.{skips, offers, rescinds, tells, tells_owing, resends, hears, wishes, refuses, opens, carries, resubscribes}
 
 pub record Counted (c : Course) : Type 0 where

@@ -1,6 +1,5 @@
 -- A call that was answered 202 moves nothing when it arrives again.
-use Rattle.std.proofs.Common.{◌≡◌, ℕ, zero, suc, ◌+◌, ◌≤◌, ◌==◌, Bool, true, false, ◌||◌, ◌&&◌, not, if◌then◌else◌, filter, slice_get, List, [], ◌∷◌, ◌++◌, Option, Some, None, is_some, refl, sym, ap, subst, ◌∙◌, arith}
-use Rattle.std.specs.List.{list_any, list_all}
+use Rattle.std.proofs.Common.{◌≡◌, ℕ, zero, suc, ◌≤◌, ◌==◌, Bool, true, false, ◌||◌, not, if◌then◌else◌, slice_get, List, [], ◌∷◌, ◌++◌, Option, Some, refl, sym, ap, subst, ◌∙◌}
 use Rattle.std.specs.Str.{bytes_eq}
 use Rattle.std.proofs.lemmas.List.{append-nil}
 use Rattle.std.proofs.lemmas.Bool.{and_left}
@@ -12,15 +11,13 @@ use Rattle.mes_task.specs.declared.task_info.TaskInfo.{TaskInfo}
 use Rattle.mes_call.specs.declared.call.Call.{Call}
 use Rattle.mes_call.specs.declared.call.Call.TheVariants as of
 use Rattle.mes_fit.specs.Launched.{launched, launched_by}
-use Rattle.mes_hand.specs.Held.{name_of, offer_in, names, without_offers, is_owed, with_key}
+use Rattle.mes_hand.specs.Held.{name_of, names, without_offers, is_owed, with_key}
 use Rattle.mes_hand.specs.Calls.{named_by, acknowledged_by}
 use Rattle.mes_hand.specs.Refusals.{ids_of}
-use Rattle.mes_master.specs.Masters.{MasterState, MasterAnswer, plain, subscribed, is_there, all_there, new_tasks, launchable, is_owing, key_in, carried_out, is_subscribe, handled}
+use Rattle.mes_master.specs.Masters.{MasterState, MasterAnswer, is_there, all_there, new_tasks, launchable, is_owing, key_in, carried_out, is_subscribe, handled}
 use Rattle.mes_double.specs.declared.moves.Move.{Move}
-use Rattle.mes_double.specs.declared.moves.Move.TheVariants as moves
-use Rattle.mes_double.specs.declared.sent.Sent.{Sent}
 use Rattle.mes_double.specs.Worlds.{WorldState, skip, is_done, answer_to, answering, arriving}
-use Rattle.mes_double.specs.Courses.{Arrival, Course, Follows, IsCourse}
+use Rattle.mes_double.specs.Courses.{Arrival, Course, IsCourse}
 use Rattle.mes_double.specs.Promises.{may_repeat, IsUnmoved, AgainMovesNothing, has_arrived}
 use Rattle.mes_double.proofs.ListLemmas.{apart, filter-all}
 use Rattle.mes_double.proofs.CountLemmas.{count, count-first, count-later, same-in}

@@ -10,8 +10,8 @@ use Rattle.mes_master.specs.Sending.{Sends, offers_sent, rescind_sent, update_se
 use Rattle.mes_double.specs.declared.moves.Move.{Move}
 use Rattle.mes_double.specs.declared.moves.Move.TheVariants as moves
 use Rattle.mes_double.specs.declared.sent.Sent.{Sent}
-use Rattle.mes_double.specs.Worlds.{WorldState, new_world, skip, sending, hearing, wishing, Wishes, is_done, answer_to, answering, arriving, resubscribing, subscribe_answer, Happens}
-use Rattle.mes_double.specs.Courses.{Course, begun, heard_by, arrived_by, Follows, Leads, IsCourse}
+use Rattle.mes_double.specs.Worlds.{WorldState, new_world, sending, hearing, wishing, Wishes, is_done, answer_to, answering, arriving, resubscribing, subscribe_answer, Happens}
+use Rattle.mes_double.specs.Courses.{Course, begun, heard_by, arrived_by, IsCourse}
 use Rattle.mes_double.proofs.OneLemmas.{leads-more}
 
 -- ---- a move is counted as skipped at most once

@@ -1,32 +1,30 @@
 -- What a move comes to, in a dozen plain cases.
-use Rattle.std.proofs.Common.{◌≡◌, ℕ, Bool, true, false, if◌then◌else◌, slice_get, take, List, [], ◌∷◌, ◌++◌, Option, Some, None, is_some, Ok, Err, refl, sym, ap, ◌∙◌, arith}
+use Rattle.std.proofs.Common.{◌≡◌, ℕ, Bool, true, false, if◌then◌else◌, slice_get, take, List, [], ◌∷◌, ◌++◌, Option, Some, None, is_some, Ok, Err, refl, ap, ◌∙◌}
 use Rattle.std.proofs.lemmas.List.{append-nil}
 use Rattle.mes_resource.specs.declared.id.Id.{Id}
 use Rattle.mes_offer.specs.declared.offer.Offer.{Offer}
 use Rattle.mes_task.specs.declared.owed_key.OwedKey.{OwedKey}
 use Rattle.mes_task.specs.declared.task_status.TaskStatus.{TaskStatus}
 use Rattle.mes_task.specs.Owed.{owed_key_of}
-use Rattle.mes_event.specs.declared.bodies.Rescind.{Rescind}
 use Rattle.mes_event.specs.declared.event.Event.{Event}
 use Rattle.mes_event.specs.declared.event.Event.TheVariants as event
 use Rattle.mes_call.specs.declared.call.Call.{Call}
 use Rattle.mes_msg.specs.declared.entry.Entry.TheVariants.{Heard, Said, Broken}
 use Rattle.mes_hand.specs.declared.refusal.Refusal.{Refusal}
-use Rattle.mes_hand.specs.Held.{Held, without_offer}
+use Rattle.mes_hand.specs.Held.{without_offer}
 use Rattle.mes_hand.specs.Refusals.{Answers}
 use Rattle.mes_session.specs.History.{after}
 use Rattle.mes_session.specs.Making.{subscribe_call}
 use Rattle.mes_master.specs.declared.refusal.MasterRefusal.{MasterRefusal}
 use Rattle.mes_master.specs.declared.refusal.MasterRefusal.TheVariants.{NoStream, OfferTwice, NoSuchOffer, UpdateTwice, NoSuchUpdate}
-use Rattle.mes_master.specs.Masters.{MasterState, MasterAnswer, plain, subscribed, subscribed_event, update_event, is_there, is_owing, carried_out, is_subscribe, handled}
+use Rattle.mes_master.specs.Masters.{MasterState, MasterAnswer, plain, subscribed, update_event, is_there, is_owing, carried_out, is_subscribe}
 use Rattle.mes_master.specs.Sending.{Sends, on_stream, offer_ids, comes_again, made, offers_sent, rescind_sent, told, told_owing, updated, update_sent, waiting, resent, resend_sent}
 use Rattle.mes_master.proofs.AgainLemmas.{IsOpen}
 use Rattle.mes_double.specs.declared.moves.Move.{Move}
 use Rattle.mes_double.specs.declared.moves.Move.TheVariants as moves
 use Rattle.mes_double.specs.declared.sent.Sent.{Sent}
-use Rattle.mes_double.specs.Worlds.{WorldState, skip, sending, hearing, wishing, Wishes, is_done, answer_to, answering, arriving, world_info, subscribe_answer, resubscribing, Happens}
+use Rattle.mes_double.specs.Worlds.{WorldState, skip, sending, hearing, wishing, Wishes, is_done, answer_to, answering, arriving, world_info, subscribe_answer, resubscribing}
 use Rattle.mes_double.specs.Courses.{Arrival, Course, arrival, Follows}
-use Rattle.mes_double.proofs.ListLemmas.{apart}
 use Rattle.mes_double.proofs.ReachLemmas.{out-status, Reached, reach}
 use Rattle.mes_double.proofs.ReachLemmas.Reached.{turned, opened, did}
 

@@ -1,5 +1,5 @@
 -- What is known of a call that a session may say.
-use Rattle.std.proofs.Common.{◌≡◌, ◌≢◌, ℕ, zero, suc, ◌≤◌, Bool, true, false, ◌||◌, ◌⊎◌, inl, inr, not, slice_get, List, [], ◌∷◌, Option, Some, None, refl, sym, ap, subst, ◌∙◌, arith}
+use Rattle.std.proofs.Common.{◌≡◌, ℕ, suc, ◌≤◌, Bool, true, false, ◌||◌, inr, slice_get, List, [], ◌∷◌, Option, Some, None, refl, sym, ap, subst, ◌∙◌}
 use Rattle.std.specs.Str.{bytes_eq}
 use Rattle.std.proofs.lemmas.Slice.Eq.{bytes_eq-Decides}
 use Rattle.mes_resource.specs.declared.id.Id.{Id}
@@ -12,7 +12,6 @@ use Rattle.mes_hand.specs.Held.{Held, name_of, offer_in, names, is_owed}
 use Rattle.mes_hand.specs.Calls.{framework_of, named_by, acknowledged_by}
 use Rattle.mes_hand.specs.Refusals.{Answers, IsStrange}
 use Rattle.mes_master.specs.Masters.{same_id, agrees}
-use Rattle.mes_master.proofs.AgainLemmas.{same_text}
 use Rattle.mes_double.proofs.CountLemmas.{count, count-found}
 
 -- where an identifier stands that names an offer
