@@ -4,6 +4,7 @@ use Rattle.mes_event.specs.declared.event.Event.{Event}
 use Rattle.mes_http.specs.declared.fault.HeadFault.{HeadFault}
 use Rattle.mes_http.specs.declared.fault.HeadFault.TheVariants as fault
 use Rattle.mes_master.specs.Masters.{MasterState, MasterAnswer, handled}
+use Rattle.mes_master.specs.Memory.{MayWantMemory}
 use Rattle.mes_record.specs.declared.record.RecordFault.{RecordFault}
 use Rattle.mes_record.specs.declared.record.RecordFault.TheVariants as unread
 use Rattle.mes_serve.specs.Opening.{Streamed, and_all_given, opening}
@@ -54,9 +55,10 @@ Lacks before answer given later =
     (later ≡ before)
     ⊎ ((answer.status ≡ 200) × ((front : List Event) × (rest : List Event) × (given ≡ front ++ rest) × (later ≡ (and_all_given (opening answer) front).master)))
 
--- what was asked has this reply, with these events for a stream, and leaves this master
+-- What was asked has this reply, with these events for a stream, and leaves this master. Where memory was refused there is none, but
+-- only in the place of an answer that needs memory.
 abbrev pub Replies : MasterState → List Event → Asked → Reply → MasterState → Type 0
 Replies before given (NoRequest fault) reply later = (reply ≡ reply_to_fault fault) × (later ≡ before)
 Replies before given (NoCall fault) reply later = (reply ≡ reply_to_text fault) × (later ≡ before)
 Replies before given (Calls stream c) reply later =
-    IsService (service (handled before c stream) given) reply later ⊎ ((reply ≡ Nothing) × Lacks before (handled before c stream) given later)
+    IsService (service (handled before c stream) given) reply later ⊎ ((reply ≡ Nothing) × MayWantMemory before c stream × Lacks before (handled before c stream) given later)

@@ -1,11 +1,11 @@
 -- A stream of events subscribed to: the SUBSCRIBE is sent, the head of its answer is read, and the events behind that are shown.
-use Rattle.std.specs.Prelude.{◌≡◌, ℕ, ◌⊎◌, List, ◌++◌, None, Result, Ok, Err, codes}
+use Rattle.std.specs.Prelude.{◌≡◌, ℕ, ◌⊎◌, List, ◌++◌, length, None, Result, Ok, Err, codes}
 use Rattle.std.specs.Io.KnownBytes.{Consumes}
 use Rattle.mes_call.specs.declared.call.Call.{Call}
 use Rattle.mes_frame.specs.Devices.{Device}
 use Rattle.mes_frame.specs.declared.limits.TheConstants.{RECORD_LIMIT_USUAL}
 use Rattle.mes_http.specs.Calls.{WroteCall, StopsCall}
-use Rattle.mes_http.specs.Endings.{AllGive}
+use Rattle.mes_http.specs.Endings.{GaveEach}
 use Rattle.mes_http.specs.Faults.{head_fault_text}
 use Rattle.mes_http.specs.Responses.{OpensStream, BreaksStream, Refuses}
 use Rattle.mes_http.specs.declared.fault.HeadFault.{HeadFault}
@@ -39,12 +39,12 @@ SendsSubscribe info host old new (Err fault) = StopsSubscribe info host old new 
 abbrev pub refused_line : HeadFault → List ℕ
 refused_line f = codes "refused " ++ head_fault_text f ++ codes "\n"
 
--- A head was taken, and nothing behind it. It opens a stream, and what stands behind it was shown as a chunked stream, where the
--- bytes and the reads of the head are not counted. Or it is refused, which was told, and no more was taken.
+-- A head was taken, and nothing behind it. It opens a stream: it came a byte by each read, and what stands behind it was shown as a
+-- chunked stream, where the bytes and the reads of the head are not counted. Or it is refused, which was told, and no more was taken.
 abbrev pub ShowsAnswer : ℕ → Device → Device → Device → Device → Ended → Type 0
 ShowsAnswer reads input rest out told ended =
     (taken : List ℕ) × (behind : Device) × Consumes input.bytes behind.bytes taken
-    × (((id : List ℕ) × OpensStream taken id × AllGive input.counts behind.counts × Shows Chunked RECORD_LIMIT_USUAL reads behind rest out told ended)
+    × (((id : List ℕ) × OpensStream taken id × GaveEach (length taken) input.counts behind.counts × Shows Chunked RECORD_LIMIT_USUAL reads behind rest out told ended)
     ⊎ ((fault : HeadFault) × Refuses BreaksStream fault taken input.counts behind.counts × (rest ≡ behind) × Prints out told (refused_line fault) 1 ended))
 
 -- what is told of a SUBSCRIBE that did not go out

@@ -3,6 +3,7 @@
 ghost use Rattle.std.specs.Prelude.{◌≡◌, ◌++◌, List as list, option_copied, IfOk, OnErr};
 ghost use Rattle.mes_event.specs.declared.event.Event.{Event as EventValue};
 ghost use Rattle.mes_master.specs.Masters.{handled};
+ghost use Rattle.mes_master.specs.Memory.{MayWantMemory};
 ghost use Rattle.mes_serve.specs.Opening.{so_far, and_all_given};
 ghost use Rattle.mes_serve.specs.Replying.{Replies, IsService, Lacks, reply_to_fault, reply_to_text, service, streamed};
 
@@ -64,6 +65,7 @@ fn reply_to_call(
     call: &Call,
 ) -> Result<Reply, NoMemory>
     ensures ok { IfOk result (λ reply. IsService (service (handled master.old call.now (option_copied stream.entry)) given.now) reply master.new) }
+    ensures memory { OnErr result (MayWantMemory master.old call.now (option_copied stream.entry)) }
     ensures err { OnErr result (Lacks master.old (handled master.old call.now (option_copied stream.entry)) given.now master.new) }
 {
     let answer = master.handle(call, stream)?;

@@ -22,11 +22,12 @@ use std::alloc::Global;
 /// The room for the line of a head that is refused, in bytes.
 const REFUSED_MOST: usize = 40;
 
-/// Subscribes a framework with a master that is known by this host, and shows the events of the stream that it opens: the SUBSCRIBE of
-/// a session that has heard nothing is written, the head of the answer is read, and of what comes behind it in at most `max_reads` reads
-/// the lines of each event are printed before the next read, and then how many events there were in how many bytes of the body, or the
-/// first fault. A head that opens no stream is told, `refused H4 Status 403`, and then nothing behind it is read. Where the SUBSCRIBE
-/// can't be encoded or written `net write failed` is told, and nothing is read. Holds the events of one read at a time.
+/// Subscribes a framework with a master that is known by this host, of 1 to `HOST_MOST` visible ASCII characters, and shows the events
+/// of the stream that it opens: the SUBSCRIBE of a session that has heard nothing is written, the head of the answer is read, and of what
+/// comes behind it in at most `max_reads` reads, which are at most `READS_MOST`, the lines of each event are printed before the next
+/// read, and then how many events there were in how many bytes of the body, or the first fault. A head that opens no stream is told,
+/// `refused H4 Status 403`, and then nothing behind it is read. Where the SUBSCRIBE can't be encoded or written `net write failed` is
+/// told, and nothing is read. Holds the events of one read at a time.
 pub fn subscribe_over<R: Source, W: Sink, O: Sink>(
     alloc: Global,
     info: &FrameworkInfo,
@@ -50,7 +51,7 @@ pub fn subscribe_over<R: Source, W: Sink, O: Sink>(
     }
 }
 
-/// Writes the SUBSCRIBE of a session that has heard nothing, as a request to this host.
+/// Writes the SUBSCRIBE of a session that has heard nothing, as a request to this host, of 1 to `HOST_MOST` visible ASCII characters.
 pub fn send_subscribe<W: Sink>(
     alloc: Global,
     info: &FrameworkInfo,
@@ -68,8 +69,8 @@ pub fn send_subscribe<W: Sink>(
     }
 }
 
-/// Reads the answer to a SUBSCRIBE: the head of a stream, and behind it the stream in at most `max_reads` reads, whose events are shown
-/// as they come; a head that opens none is told.
+/// Reads the answer to a SUBSCRIBE: the head of a stream, a byte by each read, and behind it the stream in at most `max_reads` reads,
+/// which are at most `READS_MOST`, whose events are shown as they come; a head that opens none is told.
 pub fn show_answer<R: Source, O: Sink>(
     alloc: Global,
     reader: &mut R,
