@@ -1,0 +1,4 @@
+mod GivenLemmas
+mod IdLemmas
+mod LoopLemmas
+mod TurnLemmas

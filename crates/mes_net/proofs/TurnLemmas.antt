@@ -1,0 +1,44 @@
+-- Connections that are served one after the other.
+use Rattle.std.proofs.Common.{◌≡◌, ℕ, ◌+◌, List, Result, Ok, arith, refl, suc, subst}
+use Rattle.mes_event.specs.declared.event.Event.{Event}
+use Rattle.mes_frame.specs.Devices.{Device}
+use Rattle.mes_frame.specs.declared.write.WriteFault.{WriteFault}
+use Rattle.mes_master.specs.Masters.{MasterState}
+use Rattle.mes_net.specs.ServedTurns.{ServesNext, ServesSome, Turned}
+use Rattle.mes_run.specs.declared.ended.Ended.{Ended}
+use Rattle.mes_serve.specs.Serving.{ServesOne}
+use Rattle.mes_serve.specs.declared.served.Served.{Served}
+use Rattle.mes_stream.specs.Stream.{saturated}
+
+pub served_some : (size most : ℕ) (before : MasterState) (given : List Event) (input rest writer written out printed : Device) (later : MasterState)
+    (r s : Result Served WriteFault) → size ≡ most → r ≡ s → ServesOne before given size input rest writer written out printed later r
+    → ServesSome most before given out printed later s
+served_some size most before given input rest writer written out printed later r s same is serves = record {
+  input = input;
+  rest = rest;
+  writer = writer;
+  written = written;
+  serves = subst (λ (q : Result Served WriteFault). ServesOne before given most input rest writer written out printed later q) is
+      (subst (λ (k : ℕ). ServesOne before given k input rest writer written out printed later r) same serves);
+}
+
+pub none_served : (before : MasterState) (given : List Event) (out : Device) → Turned 0 before given out out before 0
+unfolding Turned
+none_served before given out = (refl, refl, refl)
+
+next_of : (n : ℕ) → suc n ≡ n + 1
+next_of n = omega arith
+
+turned_next : (n : ℕ) (before between later : MasterState) (given : List Event) (out told printed : Device) (sum more bytes : ℕ)
+    → Turned n before given out told between sum → ServesNext between given told printed later (Ok more) → bytes ≡ saturated (sum + more)
+    → Turned (suc n) before given out printed later bytes
+unfolding Turned
+turned_next n before between later given out told printed sum more bytes turned next is = (between, told, sum, more, turned, next, is)
+
+pub one_served : (n : ℕ) (before between later : MasterState) (given : List Event) (out told printed : Device) (sum more bytes : ℕ) (r : Result ℕ Ended)
+    → Turned n before given out told between sum → r ≡ Ok more → ServesNext between given told printed later r → bytes ≡ saturated (sum + more)
+    → Turned (n + 1) before given out printed later bytes
+one_served n before between later given out told printed sum more bytes r turned is next counted =
+    subst (λ (k : ℕ). Turned k before given out printed later bytes) (next_of n)
+    (turned_next n before between later given out told printed sum more bytes turned
+    (subst (λ (q : Result ℕ Ended). ServesNext between given told printed later q) is next) counted)

@@ -1,0 +1,8 @@
+use Rattle.std.proofs.Common.{inl, inr}
+use Rattle.mes_net.proofs.looping.show.Goals as goal
+
+pub returns-then-is_empty : goal.returns-then-is_empty
+returns-then-is_empty g c = inr c.out_of_memory.ensures
+
+pub returns : goal.returns
+returns g c = inl (record { input = _; rest = _; shows = c.show_answer.ensures })

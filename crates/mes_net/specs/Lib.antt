@@ -1,0 +1,7 @@
+pub mod Hosts
+pub mod NetLines
+pub mod Given
+pub mod StreamIds
+pub mod ServedTurns
+pub mod Subscribed
+pub mod Looped

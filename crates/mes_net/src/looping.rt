@@ -1,0 +1,136 @@
+//! Both ends of a connection in one process.
+
+ghost use Rattle.std.specs.Prelude.{◌⊎◌};
+ghost use Rattle.mes_frame.specs.Devices.{device_of};
+ghost use Rattle.mes_net.specs.Looped.{Loops, LoopsEvents, ShowsSome};
+ghost use Rattle.mes_run.specs.Printing.{LacksMemory, Prints};
+ghost use Rattle.mes_serve.specs.Lines.{write_failed_line};
+
+use crate::framework::framework_info;
+use crate::pair::{Pair, connected_pair};
+use crate::serving::test_master;
+use crate::turns::Turns;
+use mes_frame::{FromStd, Limit, MemorySink, Sink, Source};
+use mes_msg::Event;
+use mes_run::{ChunkSize, Ended, FAULT, READS_MOST, out_of_memory, print_fault, print_text};
+use mes_serve::{WRITE_FAILED, send_subscribe, serve_one, show_answer, tell_unsent};
+use mes_stream::read_plain;
+use std::alloc::{AllocGlobal, Global};
+use std::io;
+use std::net::{Net, TcpListener, TcpStream};
+use uuid::Uuid;
+
+/// The user of the framework that subscribes.
+const USER: &str = "root";
+
+/// The name of the framework that subscribes.
+const NAME: &str = "loopback";
+
+/// The host that its request names.
+const HOST: &str = "127.0.0.1";
+
+/// The id of the stream, as a number: 00000000-0000-4000-8000-000000000001.
+pub const LOOPBACK_STREAM: u128 = 0x4000_8000_0000_0000_0001;
+
+/// Reads events from the input as plain RecordIO, and then lets a test master of the framework `F1` send them, in chunks of so many bytes,
+/// to a scheduler in the same process, over a socket, and shows what comes there, as `subscribe_over` does. Tells the first fault of the input; that the stream can't be encoded or written, `net write failed`; or why there is no connection;
+/// with the status 1. Holds all events, and their stream as it is sent.
+pub fn loopback<R, I: Source, O: Sink>(rt: &R, most: ChunkSize, input: &mut I, out: &mut O) -> Ended
+where
+    R: AllocGlobal + Net<Listener = TcpListener, Stream = TcpStream>,
+    ensures { Loops most (device_of I.left I.counts input.old) (device_of I.left I.counts input.new)
+        (device_of O.written O.counts out.old) (device_of O.written O.counts out.new) result }
+{
+    let alloc = rt.alloc();
+    let mut events = Vec::new(alloc);
+    match read_plain(alloc, input, Limit::USUAL, READS_MOST, &mut events) {
+        Ok(_) => {
+            let stream = Uuid::from_u128(LOOPBACK_STREAM);
+            loop_events(rt, stream, most, events.as_slice(), out)
+        }
+        Err(stop) => print_fault(out, &stop.fault, stop.used),
+    }
+}
+
+/// Lets a test master send these events to a scheduler, and shows what comes there.
+fn loop_events<R, O: Sink>(
+    rt: &R,
+    stream: Uuid,
+    most: ChunkSize,
+    events: &[Event],
+    out: &mut O,
+) -> Ended
+where
+    R: AllocGlobal + Net<Listener = TcpListener, Stream = TcpStream>,
+    ensures { LoopsEvents stream most events.now (device_of O.written O.counts out.old) (device_of O.written O.counts out.new) result }
+{
+    let alloc = rt.alloc();
+    let pair = match connected_pair(rt) {
+        Ok(pair) => pair,
+        Err(line) => return print_text(out, line, FAULT),
+    };
+    let Ok(info) = framework_info(alloc, USER, NAME) else {
+        return out_of_memory(out);
+    };
+    match send_subscribe(alloc, &info, HOST, &mut FromStd::new(&pair.client)) {
+        Ok(()) => answer(alloc, stream, most, events, &pair, out),
+        Err(fault) => tell_unsent(out, &fault),
+    }
+}
+
+/// Lets a test master answer the SUBSCRIBE that was sent, and shows its answer.
+fn answer<O: Sink>(
+    alloc: Global,
+    stream: Uuid,
+    most: ChunkSize,
+    events: &[Event],
+    pair: &Pair,
+    out: &mut O,
+) -> Ended
+    ensures { LoopsEvents stream most events.now (device_of O.written O.counts out.old) (device_of O.written O.counts out.new) result }
+{
+    let Ok(mut master) = test_master(alloc, stream, 1) else {
+        return out_of_memory(out);
+    };
+    let mut reader = FromStd::new(&pair.server);
+    let mut written = MemorySink::new(alloc, usize::MAX);
+    let mut dropped = FromStd::new(io::sink());
+    match serve_one(
+        alloc,
+        &mut master,
+        events,
+        most,
+        &mut reader,
+        &mut written,
+        &mut dropped,
+    ) {
+        Ok(served) if served.answered => show(alloc, pair, written.bytes(), out),
+        _ => tell_unanswered(out, written.counts().failures),
+    }
+}
+
+/// Shows the answer, which the other end writes in turn. Where memory was refused there is none, which is told.
+fn show<O: Sink>(alloc: Global, pair: &Pair, bytes: &[u8], out: &mut O) -> Ended
+    ensures { ShowsSome (device_of O.written O.counts out.old) (device_of O.written O.counts out.new) result
+        ⊎ LacksMemory (device_of O.written O.counts out.old) (device_of O.written O.counts out.new) result }
+{
+    if bytes.is_empty() {
+        return out_of_memory(out);
+    }
+    // What is written is to go out at once, not to wait for what comes behind it.
+    let _ = pair.server.set_nodelay(true);
+    let mut reader = FromStd::new(Turns::new(&pair.client, &pair.server, bytes));
+    show_answer(alloc, &mut reader, READS_MOST, out)
+}
+
+/// Tells why there is no answer: it could not be encoded, or there was no memory to hold it.
+fn tell_unanswered<O: Sink>(out: &mut O, refusals: u64) -> Ended
+    ensures { Prints (device_of O.written O.counts out.old) (device_of O.written O.counts out.new) write_failed_line 1 result
+        ⊎ LacksMemory (device_of O.written O.counts out.old) (device_of O.written O.counts out.new) result }
+{
+    if refusals == 0 {
+        print_text(out, WRITE_FAILED, FAULT)
+    } else {
+        out_of_memory(out)
+    }
+}

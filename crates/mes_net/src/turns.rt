@@ -1,0 +1,67 @@
+//! The client's end of a connection whose other end writes in turn with its reads, in one thread.
+
+ghost use Rattle.std.specs.Prelude.{◌≤◌, length, IfOk};
+
+use std::io;
+use std::io::{ErrorKind, Read, Write};
+use std::net::TcpStream;
+
+/// The most bytes that are written and not yet read.
+pub const UNREAD_MOST: usize = 4_096;
+
+/// A reader of what comes to the client. Before each read the other end writes of what is pending, as long as no more than `UNREAD_MOST`
+/// bytes are unread; so a read never waits for what nobody writes.
+#[derive(Drop)]
+pub(crate) struct Turns<'a> {
+    client: &'a TcpStream,
+    server: &'a TcpStream,
+    // What the other end has not written yet.
+    pending: &'a [u8],
+    // How many bytes it wrote that were not read yet.
+    unread: usize,
+}
+
+impl<'a> Turns<'a> {
+    /// The client's end, where the other end has all of these bytes to write.
+    pub(crate) fn new(
+        client: &'a TcpStream,
+        server: &'a TcpStream,
+        pending: &'a [u8],
+    ) -> Turns<'a> {
+        Turns {
+            client,
+            server,
+            pending,
+            unread: 0,
+        }
+    }
+
+    // Lets the other end write. Errors: it failed, or took no byte of some.
+    fn write_pending(&mut self) -> io::Result<()> {
+        let room = UNREAD_MOST
+            .saturating_sub(self.unread)
+            .min(self.pending.len());
+        if room == 0 {
+            return Ok(());
+        }
+        let taken = self.server.write(&self.pending[..room])?;
+        if taken == 0 {
+            return Err(io::Error::from(ErrorKind::WriteZero));
+        }
+        self.pending = &self.pending[taken..];
+        self.unread = self.unread.saturating_add(taken);
+        Ok(())
+    }
+}
+
+impl Read for Turns<'_> {
+    fn read(&mut self, buffer: &mut [u8]) -> io::Result<usize> {
+        self.write_pending()?;
+        if self.unread == 0 {
+            return Ok(0);
+        }
+        let count = self.client.read(buffer)?;
+        self.unread = self.unread.saturating_sub(count);
+        Ok(count)
+    }
+}
