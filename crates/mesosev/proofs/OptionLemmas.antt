@@ -7,7 +7,7 @@ use Rattle.clap.specs.Words.{ReadsOne, TriesOne, Text, one_of, one_text, rows_of
 use Rattle.clap.specs.declared.parser.matches.Found.{Found}
 use Rattle.clap.proofs.WalkLemmas.{one_text-rows}
 use Rattle.mesosev.specs.NamedOptions.{HasMost, IsMost}
-use Rattle.mesosev.proofs.LimitLemmas.{FromStr, IsWritten, written_once}
+use Rattle.mesosev.proofs.NumberLemmas.{FromStr, IsWritten, written_once}
 use Rattle.mes_frame.specs.declared.limits.TheConstants.{CHUNK_LEAST, CHUNK_MOST}
 
 -- ---- the flag

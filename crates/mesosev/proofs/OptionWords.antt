@@ -1,5 +1,5 @@
 -- What the words that name a flag or give an option its value come to in clap's model.
-use Rattle.std.proofs.Common.{◌≡◌, ◌≤◌, ◌==◌, ◌∙◌, ℕ, List, [], ◌∷◌, Option, Some, None, Bool, true, false, inl, inr, refl, sym, subst, arith}
+use Rattle.std.proofs.Common.{◌≡◌, ◌++◌, ◌≤◌, ◌==◌, ◌∙◌, ℕ, List, [], ◌∷◌, Option, Some, None, Bool, true, false, inl, inr, refl, sym, subst, arith}
 use Rattle.std.specs.Prelude.{IsSomeAnd, codes, option_map, pos}
 use Rattle.std.specs.Str.Parse.{IsNumeral, without_leading_plus}
 use Rattle.std.proofs.lemmas.Bool.{eqb-true, ne_eqb}
@@ -14,12 +14,12 @@ use Rattle.clap.specs.declared.builder.value_parser.ValueParser.{ValueParser}
 use Rattle.clap.specs.declared.builder.value_parser.ValueParser.TheVariants as vp
 use Rattle.clap.proofs.KindLemmas.{value_kinds-ok}
 use Rattle.mesosev.specs.CommandLine.{chunked_rule, limit_rule}
-use Rattle.mesosev.specs.NamedOptions.{HasFraming, HasMost, IsLimit, IsMost, SayFraming, SayLimit, SayMost, SayNumber, Writes}
+use Rattle.mesosev.specs.NamedOptions.{HasFraming, HasMost, IsLimit, IsMost, SayFraming, SayLimit, SayMost, SayNumber, SayText, SayUsually, Writes}
 use Rattle.mes_stream.specs.declared.stream_reader.Framing.{Framing}
 use Rattle.mes_stream.specs.declared.stream_reader.Framing.TheVariants.{Plain, Chunked}
 use Rattle.mes_frame.specs.declared.limits.TheConstants.{CHUNK_LEAST, CHUNK_MOST, RECORD_LIMIT_LEAST, RECORD_LIMIT_MOST}
 use Rattle.mesosev.specs.declared.words.TheConstants.{LIMIT_DEFAULT}
-use Rattle.mesosev.proofs.Walks.{Given, IsFlag, IsNoFlag, IsOption, IsUsable, Reaches, absent, apart, given_value, given_words, joined, reaches_flag, reaches_start, used_value}
+use Rattle.mesosev.proofs.Walks.{Given, IsFlag, IsNoFlag, IsOption, IsUsable, Reaches, reaches_option, absent, apart, given_value, given_words, joined, reaches_flag, reaches_start, used_value}
 
 -- ---- a number in a range
 
@@ -81,6 +81,52 @@ module _ (least most : ℕ) (small : most ≤ 4294967295) where
       record { given = apart x xs; is = is; plain = no_hyphen x xs writes.0; fits = passes x xs n writes range; text = x ∷ xs; text_is = refl; writes = writes }
   says_number option usual words n (x ∷ xs, writes, inr is) range =
       record { given = joined x xs; is = is; plain = no_hyphen x xs writes.0; fits = passes x xs n writes range; text = x ∷ xs; text_is = refl; writes = writes }
+
+  -- the same where they may leave it out, for the usual number
+  pub says_usually : (option usual : Text) (words : List Text) (n : ℕ) → SayUsually usual option words n → (least ≤ n) × (n ≤ most)
+      → Says option (Some usual) (number_parser least most) words n
+  says_usually option usual words n (inl (is, writes)) range =
+      record { given = absent; is = is; plain = tt; fits = tt; text = usual; text_is = refl; writes = writes }
+  says_usually option usual words n (inr says) range = says_number option (Some usual) words n says range
+
+-- ---- an option that is given
+
+pub value_or_none : (v : Option Text) → value_or None v ≡ v
+value_or_none None = refl
+value_or_none (Some v) = refl
+
+-- the words give the option this text
+pub record Gives (option : Text) (parser : ValueParser) (words : List Text) (text : Text) : Type 0 where
+  pub given : Given
+  pub is : words ≡ given_words option given
+  pub value_is : given_value given ≡ Some text
+  pub plain : IsNoFlag (Some text)
+  pub fits : Fits parser (Some text)
+
+pub gives_number : (option : Text) (parser : ValueParser) (words : List Text) (n : ℕ) → (s : Says option None parser words n) → Gives option parser words s.text
+gives_number option parser words n s =
+    let value : given_value s.given ≡ Some s.text = sym (value_or_none (given_value s.given)) ∙ s.text_is in
+    record { given = s.given; is = s.is; value_is = value; plain = subst IsNoFlag value s.plain; fits = subst (Fits parser) value s.fits }
+
+pub gives_text : (option : Text) (words : List Text) (text : Text) → SayText option words text → Gives option vp.String words text
+gives_text option words [] (plain, is) = absurd plain
+gives_text option words (x ∷ xs) (plain, inl is) = record { given = apart x xs; is = is; value_is = refl; plain = plain; fits = refl }
+gives_text option words (x ∷ xs) (plain, inr is) = record { given = joined x xs; is = is; value_is = refl; plain = plain; fits = refl }
+
+-- the words lead on to the rows behind it
+pub reaches_given : (s : Shape) (a : Rule) (option name : Text) → IsOption s.rules a option name → (words more : List Text) (rows : List Row) → Reaches s words rows
+    → (parser : ValueParser) (text : Text) → (g : Gives option parser more text) → IsUsable s.args_override_self a (Some text) rows
+    → Reaches s (words ++ given_words option g.given) (used a (text ∷ []) rows)
+reaches_given s a option name is words more rows r parser text g usable =
+    subst (λ (v : Option Text). Reaches s (words ++ given_words option g.given) (used_value a v rows)) g.value_is
+    (reaches_option s a option name is words rows r g.given (subst IsNoFlag (sym g.value_is) g.plain)
+    (subst (λ (v : Option Text). IsUsable s.args_override_self a v rows) (sym g.value_is) usable))
+
+-- the number of an option that is given
+pub given_number : (held : Option Text) (option : Text) (parser : ValueParser) (words : List Text) (n : ℕ) → (s : Says option None parser words n)
+    → held ≡ read_value (Some s.text) → IsSomeAnd held (λ text. Writes text n)
+given_number held option parser words n s is =
+    subst (λ (h : Option Text). IsSomeAnd h (λ text. Writes text n)) (sym (is ∙ read_plain (Some s.text) (gives_number option parser words n s).plain)) s.writes
 
 -- the text that an option has in the rows, as the number that it writes
 pub has_number : (held : Option Text) (option : Text) (usual : Option Text) (parser : ValueParser) (words : List Text) (n : ℕ)
@@ -145,8 +191,7 @@ abbrev pub SaysLimit : List Text → ℕ → Type 0
 SaysLimit = Says (codes "--limit") usual_limit limit_parser
 
 pub says_limit : (words : List Text) (limit : ℕ) → SayLimit words limit → IsLimit limit → SaysLimit words limit
-says_limit words limit (inl (is, writes)) range = record { given = absent; is = is; plain = tt; fits = tt; text = LIMIT_DEFAULT.now; text_is = refl; writes = writes }
-says_limit words limit (inr says) range = says_number RECORD_LIMIT_LEAST RECORD_LIMIT_MOST (omega arith) (codes "--limit") usual_limit words limit says range
+says_limit words limit says range = says_usually RECORD_LIMIT_LEAST RECORD_LIMIT_MOST (omega arith) (codes "--limit") LIMIT_DEFAULT.now words limit says range
 
 -- ---- `--most`
 
@@ -170,11 +215,7 @@ pub says_most : (words : List Text) (most : Option ℕ) → SayMost words most �
 says_most words None is range = record { given = absent; is = is; plain = tt; fits = tt; size = refl }
 says_most words (Some most) says range =
     let s : Says (codes "--most") None most_parser words most = says_number CHUNK_LEAST CHUNK_MOST (omega arith) (codes "--most") None words most says range in
-    record { given = s.given; is = s.is; plain = s.plain; fits = s.fits; size = has_number (given_value s.given) (codes "--most") None most_parser words most s (value_of (given_value s.given)) }
-  where
-    value_of : (v : Option Text) → v ≡ value_or None v
-    value_of None = refl
-    value_of (Some v) = refl
+    record { given = s.given; is = s.is; plain = s.plain; fits = s.fits; size = has_number (given_value s.given) (codes "--most") None most_parser words most s (sym (value_or_none (given_value s.given))) }
 
 pub has_most : (rows : List Row) (held : Option Text) (most : Option ℕ) → one_of (codes "most") rows ≡ held → IsSize held most → HasMost rows most
 has_most rows held None is size = is ∙ size

@@ -37,7 +37,7 @@ module _ (words : List Text) (read : Text × List Row) (is : subcommand_of comma
   read_refused (Err (BadValue option)) reads taken =
       (taken, λ h. reads.1 (h.0, subst (λ met. IsSomeAnd met (λ m. IsReadAs m h.0)) is h.1, h.2), lacking (reads.0))
     where
-      lacking : LacksValue read.1 option.now ⊎ (option.now ≡ codes "COMMAND") → LackValue words option.now
-      lacking (inl lacks) = inl (subst (λ met. IsSomeAnd met (λ m. LacksValue m.1 option.now)) (sym is) lacks)
+      lacking : LacksValue read option.now ⊎ (option.now ≡ codes "COMMAND") → LackValue words option.now
+      lacking (inl lacks) = inl (subst (λ met. IsSomeAnd met (λ m. LacksValue m option.now)) (sym is) lacks)
       lacking (inr unknown) = inr unknown
-  read_refused (Err NoMemory) reads taken = absurd reads
+  read_refused (Err NoMemory) reads taken = tt

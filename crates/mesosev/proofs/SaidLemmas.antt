@@ -6,12 +6,16 @@ use Rattle.clap.specs.Simple.{built}
 use Rattle.mesosev.specs.CommandLine.{command_app}
 use Rattle.mesosev.specs.NamedOptions.{IsInRange, IsReadAs, NameOptions, RefusesWords, SayPlainly}
 use Rattle.mesosev.specs.declared.words.Options.{Options}
-use Rattle.mesosev.specs.declared.words.Options.TheVariants.{Check, Show, Convert}
+use Rattle.mesosev.specs.declared.words.Options.TheVariants.{Check, Show, Convert, Replay, Relog, Serve, Subscribe, Loopback}
 use Rattle.mesosev.specs.declared.words.WordsFault.{WordsFault}
 use Rattle.mesosev.specs.declared.words.WordsFault.TheVariants.{Clap, BadValue, NoMemory}
 use Rattle.mesosev.proofs.ConvertWords.{said_convert}
+use Rattle.mesosev.proofs.LogWords.{log_shape, said_log}
+use Rattle.mesosev.proofs.LoopbackWords.{said_loopback}
 use Rattle.mesosev.proofs.NamedOnce.{named_once}
 use Rattle.mesosev.proofs.ReadingWords.{reading_shape, said_reading}
+use Rattle.mesosev.proofs.ServeWords.{said_serve}
+use Rattle.mesosev.proofs.SubscribeWords.{said_subscribe}
 use Rattle.mesosev.proofs.Subcommands.{IsSubcommand}
 use Rattle.mesosev.proofs.TakenWords.{Takes}
 
@@ -20,6 +24,12 @@ check_is = record { met = refl; found = refl; other = refl }
 
 show_is : IsSubcommand (built command_app) (codes "show") (reading_shape (codes "show"))
 show_is = record { met = refl; found = refl; other = refl }
+
+replay_is : IsSubcommand (built command_app) (codes "replay") (log_shape (codes "replay"))
+replay_is = record { met = refl; found = refl; other = refl }
+
+relog_is : IsSubcommand (built command_app) (codes "relog") (log_shape (codes "relog"))
+relog_is = record { met = refl; found = refl; other = refl }
 
 -- the words are taken, and name the options
 record Names (words : List Text) (o : Options) : Type 0 where
@@ -39,6 +49,18 @@ plain_names words (Show framing limit) says range =
 plain_names words (Convert framing limit most) says range =
     let s = said_convert words framing limit most says range.0 range.1 in
     names words (codes "convert") s.rows (Convert framing limit most) s.takes (refl, s.framing_has, s.limit_has, s.most_has)
+plain_names words (Replay limit) says range =
+    let s = said_log (codes "replay") replay_is words limit says range in names words (codes "replay") s.rows (Replay limit) s.takes (refl, s.limit_has)
+plain_names words (Relog limit) says range =
+    let s = said_log (codes "relog") relog_is words limit says range in names words (codes "relog") s.rows (Relog limit) s.takes (refl, s.limit_has)
+plain_names words (Serve port count stream) says range =
+    let s = said_serve words port count stream says range.0 range.1 in
+    names words (codes "serve") s.rows (Serve port count stream) s.takes (refl, s.port_has, s.count_has, s.stream_has)
+plain_names words (Subscribe to user name reads) says range =
+    let s = said_subscribe words to user name reads says range.1 in
+    names words (codes "subscribe") s.rows (Subscribe to user name reads) s.takes (refl, s.to_has, s.user_has, s.name_has, s.reads_has)
+plain_names words (Loopback most) says range =
+    let s = said_loopback words most says range in names words (codes "loopback") s.rows (Loopback most) s.takes (refl, s.most_has)
 
 -- an answer that the words name, or by which they are refused, is the one that they say plainly
 pub plain_answer : (words : List Text) (r : Result Options WordsFault) → IfOk r (NameOptions words) → IfErr r (RefusesWords words)

@@ -4,6 +4,11 @@ use Rattle.clap.specs.Words.{Text, IsAmong, fault_of, kind_of}
 use Rattle.clap.specs.declared.error.Error.{Error}
 use Rattle.mes_run.specs.Converting.{Converts}
 use Rattle.mes_frame.specs.Devices.{Device}
+use Rattle.mes_net.specs.Looped.{Loops}
+use Rattle.mes_net.specs.ServedTurns.{Serves}
+use Rattle.mes_net.specs.Subscribed.{Subscribes}
+use Rattle.mes_replay.specs.Relogging.{Relogs}
+use Rattle.mes_replay.specs.Replaying.{Replays}
 use Rattle.mes_run.specs.Printing.{Prints, Checks, Finishes, LacksMemory}
 use Rattle.mes_run.specs.Showing.{Shows}
 use Rattle.mes_run.specs.declared.ended.Ended.{Ended}
@@ -13,14 +18,21 @@ use Rattle.mesosev.specs.CommandLine.{command_app}
 use Rattle.mesosev.specs.NamedOptions.{IsInRange, LackValue, NameOptions, NameNoOptions}
 use Rattle.mesosev.specs.Telling.{TellsError, bad_value_line}
 use Rattle.mesosev.specs.declared.words.Options.{Options}
-use Rattle.mesosev.specs.declared.words.Options.TheVariants.{Check, Show, Convert}
+use Rattle.mesosev.specs.declared.words.Options.TheVariants.{Check, Show, Convert, Replay, Relog, Serve, Subscribe, Loopback}
 
--- what the options name was done; `check` and `show` leave standard error as it was
+-- what the options name was done; all but `convert` and `relog` leave standard error as it was
 abbrev pub Performs : Options → Device → Device → Device → Device → Device → Device → Ended → Type 0
 Performs (Check framing limit) input rest out printed err told ended = Checks framing limit READS_MOST input rest out printed ended × (told ≡ err)
 Performs (Show framing limit) input rest out printed err told ended = Shows framing limit READS_MOST input rest out printed ended × (told ≡ err)
 Performs (Convert framing limit most) input rest out printed err told ended =
     (status : ℕ) × Converts framing limit most input rest out printed err told status × (ended ≡ Status status)
+Performs (Replay limit) input rest out printed err told ended = Replays limit input rest out printed ended × (told ≡ err)
+Performs (Relog limit) input rest out printed err told ended =
+    (status : ℕ) × Relogs limit input rest out printed err told status × (ended ≡ Status status)
+Performs (Serve port count stream) input rest out printed err told ended = Serves stream count input rest out printed ended × (told ≡ err)
+Performs (Subscribe to user name reads) input rest out printed err told ended =
+    Subscribes to user name reads out printed ended × (rest ≡ input) × (told ≡ err)
+Performs (Loopback most) input rest out printed err told ended = Loops most input rest out printed ended × (told ≡ err)
 
 -- it was, or memory was refused
 abbrev pub PerformsSaid : Options → Device → Device → Device → Device → Device → Device → Ended → Type 0

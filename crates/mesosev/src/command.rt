@@ -2,11 +2,11 @@
 ghost use Rattle.std.specs.Prelude.{◌≡◌, false, true, map, IfOk, MatchResult, IfErr, []};
 ghost use Rattle.clap.specs.Words.{App, HasKind, app_of, fault_of, rule_of, subcommand_of};
 ghost use Rattle.clap.specs.Words.{subcommand_rows_of, with_subcommand};
-ghost use Rattle.mesosev.specs.CommandLine.{bare_app, chunked_rule, limit_rule, most_rule};
+ghost use Rattle.mesosev.specs.CommandLine.{bare_app, chunked_rule, limit_rule, most_rule, number_rule, text_rule};
 ghost use Rattle.mesosev.specs.CommandLine.{IsCommand, command_app, reading_app};
 
 use crate::words::{LIMIT_DEFAULT, VERSION};
-use crate::{check, convert, show};
+use crate::{check, convert, loopback, relog, replay, serve, show, subscribe};
 use clap::{Arg, ArgAction, ArgMatches, Command, Error};
 use mes_frame::{
     CHUNK_LEAST, CHUNK_MOST, RECORD_LIMIT_LEAST, RECORD_LIMIT_MOST, chunk_most, record_limit_most,
@@ -37,7 +37,12 @@ fn command<'a>(alloc: Global) -> Result<Command<'a>, AllocError>
     let command = bare_command(alloc);
     let command = with(command, check::command(alloc))?;
     let command = with(command, show::command(alloc))?;
-    with(command, convert::command(alloc))
+    let command = with(command, convert::command(alloc))?;
+    let command = with(command, replay::command(alloc))?;
+    let command = with(command, relog::command(alloc))?;
+    let command = with(command, serve::command(alloc))?;
+    let command = with(command, subscribe::command(alloc))?;
+    with(command, loopback::command(alloc))
 }
 
 // The command with this subcommand behind its others.
@@ -92,31 +97,58 @@ fn chunked_option<'a>(alloc: Global) -> Arg<'a>
         .help("Input is a chunked HTTP/1.1 body, not plain RecordIO")
 }
 
-// `--limit N`, whose range clap tests too, for the text that it gives.
-fn limit_option<'a>(alloc: Global) -> Arg<'a>
+/// `--limit N`, whose range clap tests too.
+pub fn limit_option<'a>(alloc: Global) -> Arg<'a>
     ensures rule { rule_of result ≡ limit_rule }
     ensures local { result.global ≡ false }
 {
-    let range = i64::from(RECORD_LIMIT_LEAST)..=i64::from(RECORD_LIMIT_MOST);
-    Arg::new(alloc, "limit")
-        .long("limit")
-        .value_name("N")
-        .value_parser(clap::value_parser!(u32).range(range))
-        .default_value(LIMIT_DEFAULT)
-        .help(record_limit_most!(concat "Largest record in bytes, 1 to "))
+    let help = record_limit_most!(concat "Largest record in bytes, 1 to ");
+    number_option(
+        alloc,
+        "limit",
+        "N",
+        RECORD_LIMIT_LEAST,
+        RECORD_LIMIT_MOST,
+        help,
+    )
+    .default_value(LIMIT_DEFAULT)
 }
 
 /// `--most M`, whose range clap tests too.
-pub fn most_option<'a>(alloc: Global) -> Arg<'a>
+pub fn most_option<'a>(alloc: Global, help: &'a str) -> Arg<'a>
     ensures rule { rule_of result ≡ most_rule }
     ensures local { result.global ≡ false }
 {
-    let range = i64::from(CHUNK_LEAST)..=i64::from(CHUNK_MOST);
-    Arg::new(alloc, "most")
-        .long("most")
-        .value_name("M")
+    number_option(alloc, "most", "M", CHUNK_LEAST, CHUNK_MOST, help)
+}
+
+/// `--NAME N`, a number from the least to the greatest, whose range clap tests too, for the text that it gives.
+pub fn number_option<'a>(
+    alloc: Global,
+    name: &'a str,
+    value_name: &'a str,
+    least: u32,
+    greatest: u32,
+    help: &'a str,
+) -> Arg<'a>
+    ensures rule { rule_of result ≡ number_rule name.entry.now least greatest }
+    ensures local { result.global ≡ false }
+{
+    let range = i64::from(least)..=i64::from(greatest);
+    Arg::new(alloc, name)
+        .long(name)
+        .value_name(value_name)
         .value_parser(clap::value_parser!(u32).range(range))
-        .help(
-            chunk_most!(concat "Output is a chunked body, not plain RecordIO, in chunks of M bytes, 1 to "),
-        )
+        .help(help)
+}
+
+/// `--NAME TEXT`
+pub fn text_option<'a>(alloc: Global, name: &'a str, value_name: &'a str, help: &'a str) -> Arg<'a>
+    ensures rule { rule_of result ≡ text_rule name.entry.now }
+    ensures local { result.global ≡ false }
+{
+    Arg::new(alloc, name)
+        .long(name)
+        .value_name(value_name)
+        .help(help)
 }

@@ -8,6 +8,7 @@ use crate::command::{most_option, reading_command};
 use crate::values::{framing_of, limit_of, most_of};
 use crate::words::{Options, WordsFault};
 use clap::{ArgMatches, Command};
+use mes_frame::chunk_most;
 use std::alloc::{AllocError, Global};
 
 /// `convert [--chunked] [--limit N] [--most M]`
@@ -19,7 +20,10 @@ pub fn command<'a>(alloc: Global) -> Result<Command<'a>, AllocError>
         "convert",
         "Read all events of standard input, and write them again in canonical form",
     )?
-    .arg(most_option(alloc))
+    .arg(most_option(
+        alloc,
+        chunk_most!(concat "Output is a chunked body, not plain RecordIO, in chunks of M bytes, 1 to "),
+    ))
 }
 
 /// The values that its words give.

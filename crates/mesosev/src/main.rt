@@ -4,9 +4,14 @@
 mod check;
 mod command;
 mod convert;
+mod loopback;
 mod options;
+mod relog;
+mod replay;
 mod run;
+mod serve;
 mod show;
+mod subscribe;
 mod values;
 mod words;
 

@@ -9,7 +9,7 @@ ghost use Rattle.mesosev.specs.declared.words.Options.{Options};
 
 use crate::command::matches_of;
 use crate::words::{Options, WordsFault};
-use crate::{check, convert, show};
+use crate::{check, convert, loopback, relog, replay, serve, show, subscribe};
 use clap::ArgMatches;
 use std::alloc::Global;
 use std::convert::AsStr;
@@ -32,19 +32,24 @@ pub fn options<S: AsStr>(alloc: Global, words: &[S]) -> Result<Options, WordsFau
 {
     let matches = matches_of(alloc, words)?;
     match matches.subcommand() {
-        Some((name, found)) => read(name, found),
+        Some((name, found)) => read(alloc, name, found),
         None => Err(WordsFault::BadValue("COMMAND")),
     }
 }
 
 /// The options that the subcommand of this name has in what clap found for it.
-fn read(name: &str, found: &ArgMatches<'_>) -> Result<Options, WordsFault>
+fn read(alloc: Global, name: &str, found: &ArgMatches<'_>) -> Result<Options, WordsFault>
     ensures { Reads (name.now, rows_of (found_of found.now)) result }
 {
     match name {
         "check" => check::read(found),
         "show" => show::read(found),
         "convert" => convert::read(found),
+        "replay" => replay::read(found),
+        "relog" => relog::read(found),
+        "serve" => serve::read(found),
+        "subscribe" => subscribe::read(alloc, found),
+        "loopback" => loopback::read(found),
         _ => Err(WordsFault::BadValue("COMMAND")),
     }
 }

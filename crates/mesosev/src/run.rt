@@ -10,13 +10,19 @@ ghost use Rattle.mesosev.specs.Telling.{Tells, TellsError, not_text_line};
 ghost use Rattle.mesosev.specs.declared.words.Options.{Options as OptionsValue};
 
 use crate::options::options;
-use crate::words::{LIMIT_DEFAULT, Options, WordsFault};
+use crate::words::{
+    COUNT_LEAST, COUNT_MOST, LIMIT_DEFAULT, LOOPBACK_DEFAULT, Options, PORT_LEAST, PORT_MOST,
+    READS_DEFAULT, READS_GREATEST, READS_LEAST, STREAM_DEFAULT, WordsFault,
+};
 use mes_frame::{Sink, Source};
+use mes_net::{loopback, serve, subscribe};
+use mes_replay::{relog, replay};
 use mes_run::{
     Detail, Ended, GOOD, Output, READS_MOST, convert, finish, follow, out_of_memory, print_text,
 };
 use std::alloc::{AllocGlobal, Global};
 use std::convert::AsStr;
+use std::net::{Net, TcpListener, TcpStream};
 
 /// The status of bad words.
 const BAD_WORDS: u8 = 2;
@@ -27,13 +33,15 @@ const NOT_TEXT: &str = "error: a word is not UTF-8\n";
 /// Runs the command and answers its exit status: 0 for a good run, 1 for a fault that was told in a line, or where an output
 /// failed, 2 for bad words. The first word is the program's name. An output that failed is told on standard error too, where it is
 /// not closed.
-pub fn run<R: AllocGlobal, W: AsStr, I: Source, O: Sink, E: Sink>(
+pub fn run<R, W: AsStr, I: Source, O: Sink, E: Sink>(
     rt: &R,
     words: &[W],
     input: &mut I,
     out: &mut Output<O>,
     err: &mut E,
 ) -> u8
+where
+    R: AllocGlobal + Net<Listener = TcpListener, Stream = TcpStream>,
     ensures runs { Ends (Runs (map W.text words.now)
         (device_of I.left I.counts input.old) (device_of I.left I.counts input.new)
         (output_of O.written O.counts out.old) (output_of O.written O.counts out.new)
@@ -48,21 +56,28 @@ pub fn run<R: AllocGlobal, W: AsStr, I: Source, O: Sink, E: Sink>(
         (device_of E.written E.counts err.old))
         out.new.closed (device_of E.written E.counts err.new) result }
 
-    // The default of `--limit`; the other limits that the clauses name are pinned where they stand.
+    // The defaults and the ranges of the options; the other limits that the clauses name are pinned where they stand.
     ensures limit { LIMIT_DEFAULT.now ≡ codes "4194304" }
+    ensures port { (PORT_LEAST ≡ 1) × (PORT_MOST ≡ 65535) }
+    ensures count { (COUNT_LEAST ≡ 1) × (COUNT_MOST ≡ 1000) }
+    ensures stream { STREAM_DEFAULT.now ≡ codes "00000000-0000-4000-8000-000000000001" }
+    ensures reads { (READS_LEAST ≡ 0) × (READS_GREATEST ≡ 4294967295) × (READS_DEFAULT.now ≡ codes "1000000") }
+    ensures most { LOOPBACK_DEFAULT.now ≡ codes "4096" }
 {
-    let ended = perform_words(rt.alloc(), words, input, out, err);
+    let ended = perform_words(rt, words, input, out, err);
     finish(ended, out.is_closed(), err)
 }
 
 // Does what the words name, or tells why they name nothing.
-fn perform_words<W: AsStr, I: Source, O: Sink, E: Sink>(
-    alloc: Global,
+fn perform_words<R, W: AsStr, I: Source, O: Sink, E: Sink>(
+    rt: &R,
     words: &[W],
     input: &mut I,
     out: &mut O,
     err: &mut E,
 ) -> Ended
+where
+    R: AllocGlobal + Net<Listener = TcpListener, Stream = TcpStream>,
     ensures runs { Runs (map W.text words.now)
         (device_of I.left I.counts input.old) (device_of I.left I.counts input.new)
         (device_of O.written O.counts out.old) (device_of O.written O.counts out.new)
@@ -77,26 +92,30 @@ fn perform_words<W: AsStr, I: Source, O: Sink, E: Sink>(
         (device_of E.written E.counts err.old) (device_of E.written E.counts err.new)
         result }
 {
+    let alloc = rt.alloc();
     match options(alloc, words) {
-        Ok(options) => perform(alloc, &options, input, out, err),
+        Ok(options) => perform(rt, &options, input, out, err),
         Err(fault) => tell(alloc, &fault, out, err),
     }
 }
 
 // Does what the words name.
-fn perform<I: Source, O: Sink, E: Sink>(
-    alloc: Global,
+fn perform<R, I: Source, O: Sink, E: Sink>(
+    rt: &R,
     options: &Options,
     input: &mut I,
     out: &mut O,
     err: &mut E,
 ) -> Ended
+where
+    R: AllocGlobal + Net<Listener = TcpListener, Stream = TcpStream>,
     ensures { Performs options.now
         (device_of I.left I.counts input.old) (device_of I.left I.counts input.new)
         (device_of O.written O.counts out.old) (device_of O.written O.counts out.new)
         (device_of E.written E.counts err.old) (device_of E.written E.counts err.new)
         result }
 {
+    let alloc = rt.alloc();
     match options {
         Options::Check { framing, limit } => {
             follow(
@@ -125,6 +144,20 @@ fn perform<I: Source, O: Sink, E: Sink>(
             limit,
             most,
         } => Ended::Status(convert(alloc, *framing, *limit, *most, input, out, err)),
+        Options::Replay { limit } => replay(alloc, *limit, input, out),
+        Options::Relog { limit } => Ended::Status(relog(alloc, *limit, input, out, err)),
+        Options::Serve {
+            port,
+            count,
+            stream,
+        } => serve(rt, *port, *count, *stream, input, out),
+        Options::Subscribe {
+            to,
+            user,
+            name,
+            reads,
+        } => subscribe(rt, to, user, name, *reads, out),
+        Options::Loopback { most } => loopback(rt, *most, input, out),
     }
 }
 

@@ -1,12 +1,12 @@
 //! The values of the options, read of what clap found for a subcommand.
-ghost use Rattle.std.specs.Prelude.{ℕ, Option, IfOk, IfErr, codes};
+ghost use Rattle.std.specs.Prelude.{◌≤◌, IfOk, IfErr};
 ghost use Rattle.clap.specs.Words.{found_of, rows_of};
-ghost use Rattle.mesosev.specs.NamedOptions.{HasFraming, HasLimit, HasMost, IsBadValue};
-ghost use Rattle.mesosev.specs.NamedOptions.{IsLimit, IsMost};
+ghost use Rattle.mesosev.specs.NamedOptions.{HasFraming, HasLimit, HasMost, HasNumber, HasText, IsBad};
+ghost use Rattle.mesosev.specs.NamedOptions.{IsLimit, IsMost, LacksNumber, LacksText, the_limit, the_most};
 
 use crate::words::WordsFault;
 use clap::ArgMatches;
-use mes_frame::Limit;
+use mes_frame::{Limit, RECORD_LIMIT_LEAST, RECORD_LIMIT_MOST};
 use mes_run::ChunkSize;
 use mes_stream::Framing;
 
@@ -20,20 +20,49 @@ pub fn framing_of(matches: &ArgMatches<'_>) -> Framing
     }
 }
 
+/// The number that the option of this name has, from the least to the greatest.
+///
+/// Errors: `BadValue` where there is none.
+pub fn number_in(
+    matches: &ArgMatches<'_>,
+    name: &'static str,
+    least: u32,
+    greatest: u32,
+) -> Result<u32, WordsFault>
+    ensures ok { IfOk result (HasNumber name.now (rows_of (found_of matches.now))) }
+    ensures ranged { IfOk result (λ n. (least ≤ n) × (n ≤ greatest)) }
+    ensures err { IfErr result (LacksNumber name.now least greatest (rows_of (found_of matches.now))) }
+{
+    match matches.get_one::<u32>(name) {
+        Some(number) if least <= number && number <= greatest => Ok(number),
+        _ => Err(WordsFault::BadValue(name)),
+    }
+}
+
+/// The text that the option of this name has.
+///
+/// Errors: `BadValue` where there is none.
+pub fn text_of<'a>(matches: &ArgMatches<'a>, name: &'static str) -> Result<&'a str, WordsFault>
+    ensures ok { IfOk result (λ text. HasText name.now (rows_of (found_of matches.now)) text.now) }
+    ensures err { IfErr result (LacksText name.now (rows_of (found_of matches.now))) }
+{
+    match matches.get_str(name) {
+        Some(text) => Ok(text),
+        None => Err(WordsFault::BadValue(name)),
+    }
+}
+
 /// The value of `--limit`.
 ///
 /// Errors: `BadValue` where there is none in its range.
 pub fn limit_of(matches: &ArgMatches<'_>) -> Result<Limit, WordsFault>
     ensures ok { IfOk result (HasLimit (rows_of (found_of matches.now))) }
     ensures ranged { IfOk result IsLimit }
-    ensures err { IfErr result (λ fault. IsBadValue (codes "limit") fault
-        × ¬ ((limit : ℕ) × HasLimit (rows_of (found_of matches.now)) limit × IsLimit limit)) }
+    ensures err { IfErr result (IsBad the_limit (rows_of (found_of matches.now))) }
 {
-    match matches.get_one::<u32>("limit") {
-        Some(limit) => match Limit::new(limit) {
-            Some(limit) => Ok(limit),
-            None => Err(WordsFault::BadValue("limit")),
-        },
+    let limit = number_in(matches, "limit", RECORD_LIMIT_LEAST, RECORD_LIMIT_MOST)?;
+    match Limit::new(limit) {
+        Some(limit) => Ok(limit),
         None => Err(WordsFault::BadValue("limit")),
     }
 }
@@ -44,8 +73,7 @@ pub fn limit_of(matches: &ArgMatches<'_>) -> Result<Limit, WordsFault>
 pub fn most_of(matches: &ArgMatches<'_>) -> Result<Option<ChunkSize>, WordsFault>
     ensures ok { IfOk result (HasMost (rows_of (found_of matches.now))) }
     ensures ranged { IfOk result IsMost }
-    ensures err { IfErr result (λ fault. IsBadValue (codes "most") fault
-        × ¬ ((most : Option ℕ) × HasMost (rows_of (found_of matches.now)) most × IsMost most)) }
+    ensures err { IfErr result (IsBad the_most (rows_of (found_of matches.now))) }
 {
     match matches.try_get_one::<u32>("most") {
         Ok(None) => Ok(None),

@@ -6,3 +6,18 @@ returns-in-Show g c = rw c.in-Show.is (c.follow-in-Show.ensures, refl)
 
 pub returns-in-Convert : goal.returns-in-Convert
 returns-in-Convert g c = rw c.in-Convert.is (c.convert.result, c.convert.ensures, refl)
+
+pub returns-in-Replay : goal.returns-in-Replay
+returns-in-Replay g c = rw c.in-Replay.is (c.replay.ensures, refl)
+
+pub returns-in-Relog : goal.returns-in-Relog
+returns-in-Relog g c = rw c.in-Relog.is (c.relog.result, c.relog.ensures, refl)
+
+pub returns-in-Serve : goal.returns-in-Serve
+returns-in-Serve g c = rw c.in-Serve.is (c.serve.ensures, refl)
+
+pub returns-in-Subscribe : goal.returns-in-Subscribe
+returns-in-Subscribe g c = rw c.in-Subscribe.is (c.subscribe.ensures, refl, refl)
+
+pub returns-in-Loopback : goal.returns-in-Loopback
+returns-in-Loopback g c = rw c.in-Loopback.is (c.loopback.ensures, refl)
