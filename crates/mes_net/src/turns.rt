@@ -2,6 +2,7 @@
 
 ghost use Rattle.std.specs.Prelude.{◌≤◌, length, IfOk};
 
+use mes_stream::READ_MOST;
 use std::io;
 use std::io::{ErrorKind, Read, Write};
 use std::net::TcpStream;
@@ -9,8 +10,8 @@ use std::net::TcpStream;
 /// The most bytes that are written and not yet read.
 pub const UNREAD_MOST: usize = 4_096;
 
-/// A reader of what comes to the client. Before each read the other end writes of what is pending, as long as no more than `UNREAD_MOST`
-/// bytes are unread; so a read never waits for what nobody writes.
+/// A reader of what comes to the client. Before a read that may take all that is unread, as one of `READ_MOST` bytes may, the other end
+/// writes of what is pending, up to `UNREAD_MOST` bytes that are unread; so a read never waits for what nobody writes.
 #[derive(Drop)]
 pub(crate) struct Turns<'a> {
     client: &'a TcpStream,
@@ -36,8 +37,11 @@ impl<'a> Turns<'a> {
         }
     }
 
-    // Lets the other end write. Errors: it failed, or took no byte of some.
+    // Lets the other end write, where a read may take all that is unread. Errors: it failed, or took no byte of some.
     fn write_pending(&mut self) -> io::Result<()> {
+        if self.unread >= READ_MOST {
+            return Ok(());
+        }
         let room = UNREAD_MOST
             .saturating_sub(self.unread)
             .min(self.pending.len());
