@@ -1,0 +1,5 @@
+mod EntryLaw
+mod LogLaw
+mod LogLemmas
+mod LetteredLemmas
+mod EncodeLemmas

@@ -1,0 +1,75 @@
+-- An entry of a session log, in the data of a record: `E` and the JSON text of an event, `C` and that of a call, or in version 2 a `B`
+-- alone, for a stream that broke. A log of version 2 begins with a header, a record whose data are `2`; one that doesn't is of version 1.
+use Rattle.std.specs.Prelude.{◌≡◌, ◌≢◌, ℕ, ◌⊎◌, List, [], ◌∷◌, ◌++◌}
+use Rattle.mes_event.specs.Events.{event, Spells}
+use Rattle.mes_call.specs.Calls.{call}
+use Rattle.mes_record.specs.Texts.{IsTextOf, IsFaultOf}
+use Rattle.mes_record.specs.declared.record.RecordFault.{RecordFault}
+use Rattle.mes_record.specs.declared.record.RecordFault.TheVariants as message
+use Rattle.mes_msg.specs.declared.entry.Entry.{Entry}
+use Rattle.mes_msg.specs.declared.entry.Entry.TheVariants.{Heard, Said, Broken}
+use Rattle.mes_stream.specs.declared.refusal.RecordRefusal.{RecordRefusal}
+use Rattle.mes_stream.specs.declared.refusal.RecordRefusal.TheVariants as refusal
+use Rattle.mes_log.specs.declared.first_reader.FirstRecord.{FirstRecord}
+use Rattle.mes_log.specs.declared.first_reader.FirstRecord.TheVariants as first
+use Rattle.mes_log.specs.declared.letters.TheConstants.{EVENT, CALL, BROKEN, HEADER}
+
+-- the data are the letter and then a text, of which that holds
+abbrev pub BehindLetter : ℕ → (List ℕ → Type 0) → List ℕ → Type 0
+BehindLetter letter Is r = (text : List ℕ) × (r ≡ letter ∷ text) × Is text
+
+-- no text stands behind this letter
+abbrev pub IsOther : ℕ → Type 0
+IsOther letter = (letter ≢ EVENT) × (letter ≢ CALL)
+
+-- ---- entries
+
+-- the data say that the stream broke: version 2 has that
+abbrev pub IsBreak : ℕ → List ℕ → Type 0
+IsBreak version r = (version ≡ 2) × (r ≡ BROKEN ∷ [])
+
+-- the data are the entry's
+abbrev pub SpellsEntry : ℕ → List ℕ → Entry → Type 0
+SpellsEntry version r (Heard heard) = BehindLetter EVENT (λ text. Spells text heard) r
+SpellsEntry version r (Said said) = BehindLetter CALL (λ text. IsTextOf call text said) r
+SpellsEntry version r Broken = IsBreak version r
+
+-- no entry begins as they do: there are none, or the first is no letter of an entry, or more stands behind a break
+abbrev pub IsBadEntry : ℕ → List ℕ → Type 0
+IsBadEntry version [] = Unit {0}
+IsBadEntry version (letter ∷ text) = IsOther letter × (IsBreak version (letter ∷ text) → ⊥)
+
+-- behind its letter stands no text of an event, or of a call, and why; the places are those of the text
+abbrev pub IsMessageFault : List ℕ → RecordFault → Type 0
+IsMessageFault r fault = BehindLetter EVENT (λ text. IsFaultOf event text fault) r ⊎ BehindLetter CALL (λ text. IsFaultOf call text fault) r
+
+-- why the data are no entry's; want of memory says nothing of them
+abbrev pub EntryBreaks : ℕ → List ℕ → RecordRefusal → Type 0
+EntryBreaks version r (refusal.Text fault) = IsMessageFault r (message.Text fault)
+EntryBreaks version r (refusal.Field fault) = IsMessageFault r (message.Field fault)
+EntryBreaks version r refusal.BadEntry = IsBadEntry version r
+EntryBreaks version r refusal.NoMemory = Unit {0}
+
+-- ---- the first record
+
+-- its data are those of the header, or of an entry of version 1
+abbrev pub SpellsFirst : List ℕ → FirstRecord → Type 0
+SpellsFirst r first.Header = r ≡ HEADER ∷ []
+SpellsFirst r (first.Entry entry) = SpellsEntry 1 r entry
+
+-- why they are neither
+abbrev pub FirstBreaks : List ℕ → RecordRefusal → Type 0
+FirstBreaks r (refusal.Text fault) = EntryBreaks 1 r (refusal.Text fault)
+FirstBreaks r (refusal.Field fault) = EntryBreaks 1 r (refusal.Field fault)
+FirstBreaks r refusal.BadEntry = IsBadEntry 1 r × (r ≢ HEADER ∷ [])
+FirstBreaks r refusal.NoMemory = Unit {0}
+
+-- which version begins so
+abbrev pub version_of : FirstRecord → ℕ
+version_of first.Header = 2
+version_of (first.Entry entry) = 1
+
+-- the entries that it is: a header is none
+abbrev pub entries_in : FirstRecord → List Entry
+entries_in first.Header = []
+entries_in (first.Entry entry) = entry ∷ []

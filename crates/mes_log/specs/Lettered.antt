@@ -1,0 +1,63 @@
+-- What a reader of lettered data has taken of a record's data, and what it makes of them.
+use Rattle.std.specs.Prelude.{◌≡◌, ℕ, ◌⊎◌, List, [], ◌∷◌}
+use Rattle.mes_json.specs.Lexer.{HasLexed, IsOutOfMemory, held}
+use Rattle.mes_json.specs.declared.lexer.Lexer.{Lexer}
+use Rattle.mes_part.specs.Kinds.{Kind}
+use Rattle.mes_event.specs.Events.{Spells}
+use Rattle.mes_call.specs.Calls.{call}
+use Rattle.mes_record.specs.Texts.{IsTextOf, IsFaultOf}
+use Rattle.mes_record.specs.declared.record.RecordFault.TheVariants as message
+use Rattle.mes_stream.specs.declared.refusal.RecordRefusal.{RecordRefusal}
+use Rattle.mes_stream.specs.declared.refusal.RecordRefusal.TheVariants as refusal
+use Rattle.mes_log.specs.Entries.{BehindLetter, IsOther, IsMessageFault}
+use Rattle.mes_log.specs.declared.letters.TheConstants.{EVENT, CALL}
+use Rattle.mes_log.specs.declared.lettered.Lettered.{Lettered}
+use Rattle.mes_log.specs.declared.lettered.Lettered.TheVariants as lettered
+use Rattle.mes_log.specs.declared.lettered.LetteredReader.{LetteredReader}
+use Rattle.mes_log.specs.declared.lettered.Place.{Place}
+use Rattle.mes_log.specs.declared.lettered.Place.TheVariants as place
+
+-- the lexer has taken the text, and no growth was refused memory
+pub record HasText (lexer : Lexer) (text : List ℕ) : Type 0 where
+  pub lexed : HasLexed lexer text
+  pub memory : IsOutOfMemory lexer → ⊥
+
+-- no byte; a letter and a text; or another byte, alone or with more behind it
+abbrev pub HoldsAt : Place → Lexer → List ℕ → Type 0
+HoldsAt place.Start lexer r = (r ≡ []) × HasText lexer []
+HoldsAt place.Event lexer r = BehindLetter EVENT (HasText lexer) r
+HoldsAt place.Call lexer r = BehindLetter CALL (HasText lexer) r
+HoldsAt (place.Alone letter) lexer r = (r ≡ letter ∷ []) × IsOther letter × HasText lexer []
+HoldsAt place.More lexer r = (letter : ℕ) × (next : ℕ) × (more : List ℕ) × (r ≡ letter ∷ next ∷ more) × IsOther letter × HasText lexer []
+
+-- these bytes of the data were taken
+abbrev pub HoldsLettered : LetteredReader → List ℕ → Type 0
+HoldsLettered reader r = HoldsAt reader.place reader.lexer r
+
+-- how many bytes of texts and numbers are kept of them
+abbrev pub kept_text : LetteredReader → ℕ
+kept_text reader = held reader.lexer
+
+-- the data are these
+abbrev pub SpellsLettered : List ℕ → Lettered → Type 0
+SpellsLettered r (lettered.Event heard) = BehindLetter EVENT (λ text. Spells text heard) r
+SpellsLettered r (lettered.Call said) = BehindLetter CALL (λ text. IsTextOf call text said) r
+SpellsLettered r (lettered.Alone letter) = (r ≡ letter ∷ []) × IsOther letter
+
+-- there are none, or more stands behind another byte
+abbrev pub IsBadData : List ℕ → Type 0
+IsBadData r = (r ≡ []) ⊎ ((letter : ℕ) × (next : ℕ) × (more : List ℕ) × (r ≡ letter ∷ next ∷ more) × IsOther letter)
+
+-- why they are none of these
+abbrev pub LetteredBreaks : List ℕ → RecordRefusal → Type 0
+LetteredBreaks r (refusal.Text fault) = IsMessageFault r (message.Text fault)
+LetteredBreaks r (refusal.Field fault) = IsMessageFault r (message.Field fault)
+LetteredBreaks r refusal.BadEntry = IsBadData r
+LetteredBreaks r refusal.NoMemory = Unit {0}
+
+-- why a text is none of a message of this kind
+abbrev pub IsTextRefusal : {V : Type 0} → Kind V → List ℕ → RecordRefusal → Type 0
+IsTextRefusal k text (refusal.Text fault) = IsFaultOf k text (message.Text fault)
+IsTextRefusal k text (refusal.Field fault) = IsFaultOf k text (message.Field fault)
+IsTextRefusal k text refusal.BadEntry = ⊥
+IsTextRefusal k text refusal.NoMemory = Unit {0}
