@@ -1,0 +1,2 @@
+pub mod Relogging
+pub mod Replaying
