@@ -238,26 +238,26 @@ CountsFirst new used =
     (ahead : Ahead) (framing : Framing) (limit : ℕ) (w : List ℕ) (values : List FirstRecord) → ReadingStandsBehind HoldsFirst SpellsFirst ahead new framing limit w values
     → used ≡ saturated (ahead.bytes + length w)
 
-pub begins_some : (d new : Reading FirstReader) (limit bytes : ℕ) (w piece : List ℕ) (before old now : List Entry) (value : FirstRecord) (used : ℕ) (s : Stage)
+pub begins_some : (d new : Reading FirstReader) (limit bytes : ℕ) (w piece : List ℕ) (before old now : List Entry) (value : FirstRecord) (used : ℕ) (s : Stage) (said : FirstRecord) → said ≡ value
     → TakesFirst d new piece (Ok (Some (record { value = value; used = used }))) → StageStands (stage.First d) limit w before → CountsFirst new bytes
-    → ((head content : List ℕ) → IsRecord head content limit → SpellsFirst content value → bytes ≡ saturated (length head) → RestStands s limit head (entries_in value))
-    → now ≡ old ++ entries_in value → StageBegins s limit w before piece old now (Ok (Some used))
-begins_some d new limit bytes w piece before old now value used s takes h counts ok is =
+    → ((head content : List ℕ) → IsRecord head content limit → SpellsFirst content said → bytes ≡ saturated (length head) → RestStands s limit head (entries_in said))
+    → now ≡ old ++ entries_in said → StageBegins s limit w before piece old now (Ok (Some used))
+begins_some d new limit bytes w piece before old now value used s said same takes h counts ok is =
     let t = takes nothing_ahead Plain limit w [] h.0 in
     let one = one_record limit (w ++ take used piece) value t.1 in
     let counted = counts nothing_ahead Plain limit (w ++ take used piece) (value ∷ []) t.0 in
-    let stands = ok (w ++ take used piece) one.0 one.1 one.2 (omega (arith, counted)) in
-    (entries_in value, is, subst (λ (es : List Entry). RestStands s limit (w ++ take used piece) es) (ap (λ (es : List Entry). es ++ entries_in value) (sym h.1)) stands)
+    let stands = ok (w ++ take used piece) one.0 one.1 (subst (λ (v : FirstRecord). SpellsFirst one.0 v) (sym same) one.2) (omega (arith, counted)) in
+    (entries_in said, is, subst (λ (es : List Entry). RestStands s limit (w ++ take used piece) es) (ap (λ (es : List Entry). es ++ entries_in said) (sym h.1)) stands)
 
-pub begins_refused : (d new : Reading FirstReader) (limit : ℕ) (w piece : List ℕ) (before old now : List Entry) (value : FirstRecord) (used : ℕ) → 0 < used → used ≤ length piece → length piece ≤ READ_MOST
-    → TakesFirst d new piece (Ok (Some (record { value = value; used = used }))) → StageStands (stage.First d) limit w before → CountsFirst new new.used → now ≡ old
-    → (entry : Entry) × (value ≡ kind.Entry entry) → StageBegins (stage.First new) limit w before piece old now (Err log_stop.NoMemory)
-begins_refused d new limit w piece before old now value used some within small takes h counts same (entry, is) =
+pub begins_refused : (d new : Reading FirstReader) (limit bytes : ℕ) (w piece : List ℕ) (before old now : List Entry) (value : FirstRecord) (used : ℕ) → 0 < used → used ≤ length piece → length piece ≤ READ_MOST
+    → TakesFirst d new piece (Ok (Some (record { value = value; used = used }))) → StageStands (stage.First d) limit w before → bytes ≡ new.used → CountsFirst new bytes → now ≡ old
+    → (said : FirstRecord) → said ≡ value → (entry : Entry) × (said ≡ kind.Entry entry) → StageBegins (stage.First new) limit w before piece old now (Err log_stop.NoMemory)
+begins_refused d new limit bytes w piece before old now value used some within small takes h count counts same said equal (entry, is) =
     let t = takes nothing_ahead Plain limit w [] h.0 in
     let counted = counts nothing_ahead Plain limit (w ++ take used piece) (value ∷ []) t.0 in (
       same,
-      first_refused limit w piece before entry used new.used h.1 some within small (omega (arith, counted))
-          (subst (λ (v : FirstRecord). EndsRecordIn Plain SpellsFirst limit (w ++ take (used - 1) piece) [] (slice_index piece (used - 1)) v) is t.2) t.3,
+      first_refused limit w piece before entry used new.used h.1 some within small (omega (arith, count, counted))
+          (subst (λ (v : FirstRecord). EndsRecordIn Plain SpellsFirst limit (w ++ take (used - 1) piece) [] (slice_index piece (used - 1)) v) (sym equal ∙ is) t.2) t.3,
     )
 
 -- where it has ended before, none of the piece belongs to it
