@@ -1,4 +1,4 @@
-use Rattle.std.proofs.Common.{sym}
+use Rattle.std.proofs.Common.{refl}
 use Rattle.std.proofs.lemmas.Result.{err_from_is_err_and}
 use Rattle.mes_log.specs.declared.log_reading.Stage.TheVariants as stage
 use Rattle.mes_log.proofs.LogLemmas.{begins_none, begins_stop, begins_some, begins_refused, begins_behind}
@@ -12,14 +12,14 @@ returns-in_err-self-in-Ok-Some-clause-begins c = λ limit w before h.
     let refused = c.in_err-self-in-Ok-Some.ensures in
     rw (p.1, p.2, refused.err) (begins_refused c.in-First.reading c.next.new.self limit c.used-bytes.result w c.args.piece.now before c.args.entries.now.items c.stage_behind.new.entries.items
     ended.value ended.used within.0 within.1 c.requires (rw c.in-Ok-Some.field-0-is at c.in-Ok-Some.ensures.reads) (rw c.in-First.is at h.1) c.used-bytes.ensures.count c.used-bytes.ensures.taken
-    refused.err_entries c.in-Ok-Some.value (sym c.in-Ok-Some.value-is) refused.err_first)
+    refused.err_entries ended.value refl refused.err_first)
 
 pub returns-in_ok-self-in-Ok-Some-clause-begins : goal.returns-in_ok-self-in-Ok-Some-clause-begins
 returns-in_ok-self-in-Ok-Some-clause-begins c = λ limit w before h.
     let ended = c.in-Ok-Some.field-0-0 in
     let behind = c.in_ok-self-in-Ok-Some.ensures in
     begins_some c.in-First.reading c.next.new.self limit c.used-bytes.result w c.args.piece.now before c.args.entries.now.items c.stage_behind.new.entries.items ended.value ended.used
-    c.in_ok-self-in-Ok-Some.field-0 c.in-Ok-Some.value (sym c.in-Ok-Some.value-is) (rw c.in-Ok-Some.field-0-is at c.in-Ok-Some.ensures.reads) (rw c.in-First.is at h.1) c.used-bytes.ensures.taken
+    c.in_ok-self-in-Ok-Some.field-0 ended.value refl (rw c.in-Ok-Some.field-0-is at c.in-Ok-Some.ensures.reads) (rw c.in-First.is at h.1) c.used-bytes.ensures.taken
     (rw h.0 at behind.ok) behind.ok_entries
 
 pub returns-in-Ok-None-clause-begins : goal.returns-in-Ok-None-clause-begins
