@@ -11,8 +11,9 @@ use Rattle.mes_net.specs.Looped.{LoopsEvents, ShowsSome}
 use Rattle.mes_net.specs.StreamIds.{ids_from}
 use Rattle.mes_net.specs.Subscribed.{SubscribesSome}
 use Rattle.mes_net.proofs.TurnLemmas.{served_some}
-use Rattle.mes_run.specs.Printing.{LacksMemory}
+use Rattle.mes_run.specs.Printing.{LacksMemory, Prints}
 use Rattle.mes_run.specs.declared.ended.Ended.{Ended}
+use Rattle.mes_serve.specs.Lines.{write_failed_line}
 use Rattle.mes_serve.specs.Serving.{ServesOne}
 use Rattle.mes_serve.specs.Subscribing.{SubscribesOver}
 use Rattle.mes_serve.specs.declared.served.Served.{Served}
@@ -52,3 +53,9 @@ answered first most given before input rest writer written out dropped later r s
       shows,
     )
 answered first most given before input rest writer written out dropped later r served told printed ended same is all serves (inr lacks) = inr (inr (inr lacks))
+
+-- it was not answered, which was told
+pub unanswered : (first : List ℕ) (most : ℕ) (given : List Event) (told printed : Device) (ended : Ended)
+    → Prints told printed write_failed_line 1 ended ⊎ LacksMemory told printed ended → LoopsEvents first most given told printed ended
+unanswered first most given told printed ended (inl prints) = inr (inl prints)
+unanswered first most given told printed ended (inr lacks) = inr (inr (inr lacks))

@@ -1,10 +1,13 @@
 -- Connections that are served one after the other.
-use Rattle.std.proofs.Common.{◌≡◌, ℕ, ◌+◌, List, Result, Ok, arith, refl, suc, subst}
+use Rattle.std.proofs.Common.{◌≡◌, ℕ, ◌+◌, List, Result, Ok, arith, inr, refl, suc, subst}
 use Rattle.mes_event.specs.declared.event.Event.{Event}
 use Rattle.mes_frame.specs.Devices.{Device}
 use Rattle.mes_frame.specs.declared.write.WriteFault.{WriteFault}
 use Rattle.mes_master.specs.Masters.{MasterState}
-use Rattle.mes_net.specs.ServedTurns.{ServesNext, ServesSome, Turned}
+use Rattle.mes_master.specs.Runs.{new_master}
+use Rattle.mes_net.specs.Given.{test_framework}
+use Rattle.mes_net.specs.ServedTurns.{ServesEvents, ServesNext, ServesSome, ServesTurns, Turned}
+use Rattle.mes_net.specs.StreamIds.{ids_from}
 use Rattle.mes_run.specs.declared.ended.Ended.{Ended}
 use Rattle.mes_serve.specs.Serving.{ServesOne}
 use Rattle.mes_serve.specs.declared.served.Served.{Served}
@@ -42,3 +45,9 @@ one_served n before between later given out told printed sum more bytes r turned
     subst (λ (k : ℕ). Turned k before given out printed later bytes) (next_of n)
     (turned_next n before between later given out told printed sum more bytes turned
     (subst (λ (q : Result ℕ Ended). ServesNext between given told printed later q) is next) counted)
+
+-- a new test master served them
+pub events_served : (first : List ℕ) (count : ℕ) (before : MasterState) (given : List Event) (out printed : Device) (ended : Ended)
+    → before ≡ new_master test_framework (ids_from first count) → ServesTurns before given count out printed ended → ServesEvents first count given out printed ended
+events_served first count before given out printed ended same turns =
+    inr (inr (subst (λ (m : MasterState). ServesTurns m given count out printed ended) same turns))

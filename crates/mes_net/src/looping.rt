@@ -120,7 +120,14 @@ fn show<O: Sink>(alloc: Global, pair: &Pair, bytes: &[u8], out: &mut O) -> Ended
     // What is written is to go out at once, not to wait for what comes behind it.
     let _ = pair.server.set_nodelay(true);
     let mut reader = FromStd::new(Turns::new(&pair.client, &pair.server, bytes));
-    show_answer(alloc, &mut reader, READS_MOST, out)
+    show_from(alloc, &mut reader, out)
+}
+
+/// Shows the answer that this reader gives.
+fn show_from<S: Source, O: Sink>(alloc: Global, reader: &mut S, out: &mut O) -> Ended
+    ensures { ShowsSome (device_of O.written O.counts out.old) (device_of O.written O.counts out.new) result }
+{
+    show_answer(alloc, reader, READS_MOST, out)
 }
 
 /// Tells why there is no answer: it could not be encoded, or there was no memory to hold it.

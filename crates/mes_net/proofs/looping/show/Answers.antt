@@ -5,4 +5,4 @@ pub returns-then-is_empty : goal.returns-then-is_empty
 returns-then-is_empty g c = inr c.out_of_memory.ensures
 
 pub returns : goal.returns
-returns g c = inl (record { input = _; rest = _; shows = c.show_answer.ensures })
+returns g c = inl c.show_from.ensures
