@@ -277,8 +277,7 @@ sound framework ids deeds =
 
 pub launched-once : (framework : Id) (ids : List (List ℕ)) (deeds : List Deed) → LaunchedOnce (past_of framework ids deeds)
 launched-once framework ids deeds =
-    let s : Sound (past_of framework ids deeds) = sound framework ids deeds in
-    distinct _ (subst Once s.ran s.launched)
+    (let s : Sound (past_of framework ids deeds) = sound framework ids deeds in record { launched = s.ran; once = distinct _ s.launched })
 
 pub taken-once : (framework : Id) (ids : List (List ℕ)) (deeds : List Deed) → TakenOnce (past_of framework ids deeds)
 taken-once framework ids deeds =

@@ -55,9 +55,10 @@ after past (resends index) = after_sending past (resend_sent past.master index)
 abbrev pub past_of : Id → List (List ℕ) → List Deed → Past
 past_of framework ids deeds = fold after (record { master = new_master framework ids; took = []; ran = [] }) deeds
 
--- no task was launched twice
-abbrev pub LaunchedOnce : Past → Type 0
-LaunchedOnce past = stands_twice (ids_of past.ran) ≡ false
+-- what the master tells as launched is what its calls launched, and no task was launched twice
+pub record LaunchedOnce (past : Past) : Type 0 where
+  pub launched : past.master.launched ≡ ids_of past.ran
+  pub once : stands_twice past.master.launched ≡ false
 
 -- no offer was taken away twice
 abbrev pub TakenOnce : Past → Type 0

@@ -1,6 +1,6 @@
 -- Two chunkings of one body are answered alike.
-use Rattle.std.proofs.Common.{◌≡◌, ◌≢◌, ℕ, List, [], ◌∷◌, ◌++◌, Option, None, Some, Result, Ok, Err, refl, ap, sym, ◌∙◌, subst, append_assoc, append-nil, inl, inr}
-use Rattle.std.specs.Io.KnownBytes.{Consumes, IsAtEnd}
+use Rattle.std.proofs.Common.{◌≡◌, ℕ, List, ◌∷◌, ◌++◌, Option, None, Some, Result, Ok, Err, refl, ap, sym, ◌∙◌, subst, append_assoc, append-nil, inl, inr}
+use Rattle.std.specs.Io.KnownBytes.{Consumes}
 use Rattle.mes_frame.specs.declared.counts.Counts.{Counts}
 use Rattle.mes_event.specs.Events.{Spells}
 use Rattle.mes_event.specs.declared.event.Event.{Event}

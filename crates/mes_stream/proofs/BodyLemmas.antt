@@ -1,12 +1,12 @@
 -- What a reader of a body stands for, over the fronts of a run.
-use Rattle.std.proofs.Common.{◌≡◌, ℕ, ◌+◌, ◌-◌, ◌^◌, ◌<◌, ◌≤◌, List, [], ◌∷◌, ◌++◌, length, take, drop, get_or, sym, ◌∙◌, ap, append_assoc, append-nil, arith, refl, subst, inl, inr, ◌⊎◌, length-append, length-take-le, take-append-drop, take-add}
+use Rattle.std.proofs.Common.{◌≡◌, ℕ, ◌+◌, ◌-◌, ◌^◌, ◌<◌, ◌≤◌, List, [], ◌∷◌, ◌++◌, length, take, drop, get_or, sym, ◌∙◌, ap, append_assoc, append-nil, arith, refl, subst, inl, inr, length-append, length-take-le, take-append-drop, take-add}
 use Rattle.std.specs.Prelude.{slice_index, Result, Ok, Err, OnOk}
 use Rattle.std.proofs.lemmas.List.{take_more}
 use Rattle.mes_frame.proofs.Records.{begun_of, data_goes_on}
 use Rattle.mes_frame.specs.Record.{IsRecord, Begun, DataBegun}
 use Rattle.mes_frame.specs.RecordState.{RecordStands, limit_of}
-use Rattle.mes_stream.specs.Stream.{saturated, Records, Behind, BodyLive, number_after, EndsRecord, InData, BodyStops}
-use Rattle.mes_stream.specs.Framings.{GoesIn, StopsIn, SaysIn, StopsWithin}
+use Rattle.mes_stream.specs.Stream.{saturated, Records, Behind, BodyLive, number_after, EndsRecord, InRecordData, BodyStops}
+use Rattle.mes_stream.specs.Framings.{GoesIn, ByteStopsIn, SaysIn, StopsWithin}
 use Rattle.mes_stream.specs.declared.stream_reader.Framing.{Framing}
 use Rattle.mes_stream.specs.declared.stream_reader.Framing.TheVariants.{Plain}
 use Rattle.mes_stream.specs.RecordValues.{IsRefused, AddsValue}
@@ -105,7 +105,7 @@ module _ {R E : Type 0} (holds : R → List ℕ → Type 0) (spells : List ℕ �
       behind_on d b (take n run) values s (λ x. (r : List ℕ) × Begun x r (limit_of d.records)) (s.r ++ take n run, inr (left - n, data_on d b run values n left s inside within begun))
 
   pub data_next : (d : Body R) (b run : List ℕ) (values : List E) (n left : ℕ) (s : BodyStands holds spells ahead d b values) → n < left → n ≤ length run
-      → DataBegun s.x s.r left (limit_of d.records) → InData spells (limit_of d.records) (b ++ take n run) values
+      → DataBegun s.x s.r left (limit_of d.records) → InRecordData spells (limit_of d.records) (b ++ take n run) values
   data_next d b run values n left s inside within begun =
       behind_on d b (take n run) values s (λ x. (r : List ℕ) × (left : ℕ) × DataBegun x r left (limit_of d.records)) (s.r ++ take n run, left - n, data_on d b run values n left s inside within begun)
 
@@ -122,7 +122,7 @@ module _ {R E : Type 0} (holds : R → List ℕ → Type 0) (spells : List ℕ �
   module _ (breaks : List ℕ → RecordRefusal → Type 0) where
     -- the record that ended so has no value, or its value wanted memory
     pub refused_with : (d : Body R) (b run r : List ℕ) (values : List E) (count : ℕ) (why : RecordRefusal) (s : BodyStands holds spells ahead d b values) → 0 < count → count ≤ length run
-        → IsRecord (s.x ++ take count run) r (limit_of d.records) → IsRefused breaks r why → (why ≡ refusal.NoMemory → InData spells (limit_of d.records) (b ++ take (count - 1) run) values)
+        → IsRecord (s.x ++ take count run) r (limit_of d.records) → IsRefused breaks r why → (why ≡ refusal.NoMemory → InRecordData spells (limit_of d.records) (b ++ take (count - 1) run) values)
         → BodyStops spells breaks ahead (limit_of d.records) (b ++ take (count - 1) run) values (slice_index run (count - 1)) (fault_of_record d.done why)
     refused_with d b run r values count (refusal.Text f) s some within is (inl h) memory =
         inl (ends_with d b run r values count s (λ r. breaks r (refusal.Text (record { byte = f.byte; why = f.why }))) some within is h, number_of d b values s)
@@ -159,7 +159,7 @@ module _ {E : Type 0} (framing : Framing) (spells : List ℕ → E → Type 0) (
   -- a byte of what is left of a piece stops the reading
   pub stops_in : (limit : ℕ) (b piece : List ℕ) (values : List E) (fault : Fault) (at used : ℕ) → at ≤ length piece → 0 < used → used ≤ length (drop at piece)
       → GoesIn framing spells limit ((b ++ take at piece) ++ take (used - 1) (drop at piece)) values
-      → StopsIn framing spells breaks ahead limit ((b ++ take at piece) ++ take (used - 1) (drop at piece)) values (slice_index (drop at piece) (used - 1)) fault
+      → ByteStopsIn framing spells breaks ahead limit ((b ++ take at piece) ++ take (used - 1) (drop at piece)) values (slice_index (drop at piece) (used - 1)) fault
       → StopsWithin framing spells breaks ahead limit (b ++ piece) values fault (length b + (at + used))
   stops_in limit b piece values fault at used inside some within live stops = record {
     front = (b ++ take at piece) ++ take (used - 1) (drop at piece);

@@ -11,7 +11,7 @@ use Rattle.mes_stream.specs.declared.refusal.RecordRefusal.{RecordRefusal}
 use Rattle.mes_stream.specs.Stream.{BodyLive, EndsRecord, BodyShows, BodyStops}
 use Rattle.mes_stream.specs.Chunked.{Live, AtData, ChunkedShows, ChunkedStops}
 use Rattle.mes_frame.specs.RecordState.{limit_of}
-use Rattle.mes_stream.specs.Framings.{GoesIn, EndsIn, EndsRecordIn, StopsIn, SaysIn, GoesBefore}
+use Rattle.mes_stream.specs.Framings.{GoesIn, EndsIn, EndsRecordIn, ByteStopsIn, SaysIn, GoesBefore}
 use Rattle.mes_stream.specs.Taking.{BodyStands}
 use Rattle.mes_stream.specs.Decoding.{ChunkedStands}
 use Rattle.mes_stream.specs.declared.fault.Fault.{Fault}
@@ -117,8 +117,8 @@ module _ {E : Type 0} (framing : Framing) (Stands : List ℕ → List E → Type
   )
   says_as w v run rest values used most out.End same front last h = subst (λ (y : List ℕ). EndsIn framing spells limit y values) same h
   says_as w v run rest values used most (out.Fault fault) same front last h =
-      subst (λ (y : List ℕ). StopsIn framing spells breaks ahead limit y values (slice_index rest (most - 1)) fault) front
-      (subst (λ (c : ℕ). StopsIn framing spells breaks ahead limit (w ++ take (used - 1) run) values c fault) last h)
+      subst (λ (y : List ℕ). ByteStopsIn framing spells breaks ahead limit y values (slice_index rest (most - 1)) fault) front
+      (subst (λ (c : ℕ). ByteStopsIn framing spells breaks ahead limit (w ++ take (used - 1) run) values c fault) last h)
 
   -- of a byte
   pub says_first : (w rest : List ℕ) (values : List E) (answer : Out E) → 0 < length rest → SaysIn framing Stands spells breaks ahead limit w values (slice_index rest 0 ∷ []) 1 answer

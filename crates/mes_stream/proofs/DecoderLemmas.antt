@@ -4,11 +4,11 @@ use Rattle.mes_stream.specs.declared.refusal.RecordRefusal.{RecordRefusal}
 use Rattle.mes_stream.specs.Framings.{SaysIn}
 use Rattle.mes_stream.specs.declared.stream_reader.Framing.{Framing}
 use Rattle.mes_stream.specs.Decoders.{EndsBy}
-use Rattle.mes_stream.specs.declared.decoder.Ended.{Ended}
+use Rattle.mes_stream.specs.declared.decoder.StreamEnd.{StreamEnd}
 use Rattle.mes_stream.specs.declared.taken.Out.{Out}
 use Rattle.mes_stream.specs.declared.taken.Out.TheVariants as out
 
-pub says_ended : {E : Type 0} (framing : Framing) (Old New : List ℕ → List E → Type 0) (spells : List ℕ → E → Type 0) (breaks : List ℕ → RecordRefusal → Type 0) (ahead limit : ℕ) (w piece : List ℕ) (values : List E) (used : ℕ) (end : Ended) (answer : Out E)
+pub says_ended : {E : Type 0} (framing : Framing) (Old New : List ℕ → List E → Type 0) (spells : List ℕ → E → Type 0) (breaks : List ℕ → RecordRefusal → Type 0) (ahead limit : ℕ) (w piece : List ℕ) (values : List E) (used : ℕ) (end : StreamEnd) (answer : Out E)
     → EndsBy (Some end) answer → SaysIn framing Old spells breaks ahead limit w values piece used answer → SaysIn framing New spells breaks ahead limit w values piece used answer
 says_ended framing Old New spells breaks ahead limit w piece values used end out.More ends h = let clash : Some end ≡ None = ends in absurd (cc)
 says_ended framing Old New spells breaks ahead limit w piece values used end (out.Event value) ends h = let clash : Some end ≡ None = ends in absurd (cc)

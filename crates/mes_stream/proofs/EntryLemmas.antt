@@ -1,8 +1,8 @@
 -- A reader whose records are never a bad entry tells none.
-use Rattle.std.proofs.Common.{◌≡◌, ◌≢◌, ℕ, List, Option, Result, Ok, Err, inl, inr, subst, sym}
+use Rattle.std.proofs.Common.{◌≡◌, ◌≢◌, ℕ, List, Option, Result, Ok, Err, inl, inr, subst}
 use Rattle.std.specs.Prelude.{IfErr}
 use Rattle.mes_frame.specs.declared.counts.Counts.{Counts}
-use Rattle.mes_stream.specs.Framings.{InputEnds, SaysIn, StopsIn}
+use Rattle.mes_stream.specs.Framings.{InputEnds, SaysIn, ByteStopsIn}
 use Rattle.mes_stream.specs.Reading.{EndsReading}
 use Rattle.mes_stream.specs.declared.fault.Fault.{Fault}
 use Rattle.mes_stream.specs.declared.fault.Fault.TheVariants.{EndsInsideChunks, EndsInsideRecord, NoMemory, Read, ReadsSpent, BadEntry}
@@ -16,7 +16,7 @@ use Rattle.mes_stream.specs.declared.taken.Out.{Out}
 use Rattle.mes_stream.specs.declared.taken.Out.TheVariants as out
 
 module _ {E : Type 0} (spells : List ℕ → E → Type 0) (breaks : List ℕ → RecordRefusal → Type 0) (none : (r : List ℕ) → breaks r refusal.BadEntry → ⊥) where
-  no_entry : (framing : Framing) (ahead limit : ℕ) (w : List ℕ) (values : List E) (c n : ℕ) → StopsIn framing spells breaks ahead limit w values c (BadEntry n) → ⊥
+  no_entry : (framing : Framing) (ahead limit : ℕ) (w : List ℕ) (values : List E) (c n : ℕ) → ByteStopsIn framing spells breaks ahead limit w values c (BadEntry n) → ⊥
   no_entry Plain ahead limit w values c n (inl h) = none h.0.is.0 h.0.is.2
   no_entry Plain ahead limit w values c n (inr h) = let clash : BadEntry n ≡ NoMemory = h.0 in absurd (cc)
   no_entry Chunked ahead limit w values c n (inl h) = none h.3.0.is.0 h.3.0.is.2
@@ -37,7 +37,7 @@ module _ {E : Type 0} (spells : List ℕ → E → Type 0) (breaks : List ℕ �
   none_read framing limit reads old new last w values (Ok report) h = tt
   none_read framing limit reads old new last w values (Err stop) (inl (at, asked)) = λ n is.
       let s = at.stops in
-      no_entry framing 0 limit s.front values s.byte n (subst (λ (f : Fault). StopsIn framing spells breaks 0 limit s.front values s.byte f) is s.stops)
+      no_entry framing 0 limit s.front values s.byte n (subst (λ (f : Fault). ByteStopsIn framing spells breaks 0 limit s.front values s.byte f) is s.stops)
   none_read framing limit reads old new last w values (Err stop) (inr (inl (means, end, asked))) = λ n is.
       no_entry_at_end framing limit w values n (subst (λ (f : Fault). InputEnds {T = Unit {0}} framing spells limit w values (Err f)) is means.0)
   none_read framing limit reads old new last w values (Err stop) (inr (inr (inl (off, asked)))) = λ n is. let failed : stop.fault ≡ Read = off.0 in absurd (cc)

@@ -1,5 +1,5 @@
 -- The reads of a device, one by one, and what they count.
-use Rattle.std.proofs.Common.{◌≡◌, ℕ, ◌+◌, ◌-◌, ◌<◌, ◌≤◌, Option, List, [], ◌++◌, length, take, sym, ◌∙◌, ap, append-nil, arith, refl, subst, length-append, length-take-le, lit≤}
+use Rattle.std.proofs.Common.{◌≡◌, ℕ, ◌+◌, ◌<◌, ◌≤◌, Option, List, [], ◌++◌, length, take, ◌∙◌, ap, append-nil, arith, refl, subst, length-append, length-take-le}
 use Rattle.std.specs.Io.KnownBytes.{Consumes, Keeps, IsAtEnd}
 use Rattle.std.proofs.KnownBytes.{Consumes-nil, Consumes-trans, Consumes-kept}
 use Rattle.std.specs.Prelude.{nat_lt, ◌==◌, ◌&&◌}

@@ -1,12 +1,13 @@
 -- The reading of a stream, piece by piece and at its end.
-use Rattle.std.proofs.Common.{◌≡◌, ℕ, ◌+◌, ◌-◌, ◌<◌, ◌≤◌, Option, List, [], ◌∷◌, ◌++◌, length, take, drop, sym, ◌∙◌, ap, append_assoc, append-nil, arith, refl, length-append, length-take-le, take-append-drop, Result, Ok, Err, inl, inr, subst}
+use Rattle.std.proofs.Common.{◌≡◌, ℕ, ◌+◌, ◌-◌, ◌<◌, ◌≤◌, Option, List, [], ◌∷◌, ◌++◌, length, take, drop, sym, ◌∙◌, ap, append_assoc, append-nil, arith, length-append, length-take-le, take-append-drop, Result, Ok, Err, inl, inr, subst}
 use Rattle.std.proofs.lemmas.List.{take_more}
 use Rattle.std.specs.Prelude.{OnOk, IfErr, slice_index}
 use Rattle.mes_frame.specs.declared.counts.Counts.{Counts}
-use Rattle.mes_stream.specs.Framings.{GoesIn, EndsIn, WholeIn, EndsRecordIn, StopsIn, StopsWithin}
+use Rattle.mes_stream.specs.Framings.{GoesIn, EndsIn, WholeIn, EndsRecordIn, ByteStopsIn, StopsWithin}
 use Rattle.mes_stream.specs.Reads.{EndsReads}
 use Rattle.mes_stream.specs.Reading.{Ahead, nothing_ahead, EndsAt, ByteEndsBehind, EndsReading, ReadingStands, ReadingStandsBehind, ReadingTakesBehind, Means, Gathers, GathersLast, told_as}
 use Rattle.mes_stream.specs.Stream.{saturated, Records, EndsRecord}
+use Rattle.mes_stream.specs.StreamReaders.{KeepsNoneAfterStop, body_of}
 use Rattle.mes_stream.specs.declared.fault.Fault.{Fault}
 use Rattle.mes_stream.specs.declared.fault.Report.{Report}
 use Rattle.mes_stream.specs.declared.fault.Stop.{Stop}
@@ -38,7 +39,7 @@ ends_at framing spells ahead limit w piece values used end after rest some withi
 -- a byte of it stops the reading
 pub stops_at : {E : Type 0} (framing : Framing) (spells : List ℕ → E → Type 0) (breaks : List ℕ → RecordRefusal → Type 0) (ahead : Ahead) (limit : ℕ) (w piece : List ℕ) (values : List E) (fault : Fault) (used : ℕ)
     → 0 < used → used ≤ length piece → GoesIn framing spells limit (w ++ take (used - 1) piece) values
-    → StopsIn framing spells breaks ahead.records limit (w ++ take (used - 1) piece) values (slice_index piece (used - 1)) fault
+    → ByteStopsIn framing spells breaks ahead.records limit (w ++ take (used - 1) piece) values (slice_index piece (used - 1)) fault
     → StopsWithin framing spells breaks ahead.records limit (w ++ piece) values fault (length w + used)
 stops_at framing spells breaks ahead limit w piece values fault used some within live stops =
     let count : length w + (0 + used) ≡ length w + used = omega arith in
@@ -88,28 +89,31 @@ module _ {R E : Type 0} (holds : R → List ℕ → Type 0) (spells : List ℕ �
       )
   gathers_more first d new start old now w piece (Err stop) h fed = tt
 
-  pub gathers_last : {T : Type 0} (first d new : Reading R) (start old now : List E) (w piece : List ℕ) (result : Result T ReadingStop) → Gathers holds spells first start d old w → TakesAll d new piece old now result
-      → IfErr result (λ stop. GathersLast holds spells breaks first start new now w piece stop)
-  gathers_last first d new start old now w piece (Ok done) h fed = tt
-  gathers_last first d new start old now w piece (Err stop) h fed = λ ahead framing limit v before stands.
-      let so_far = h ahead framing limit v before stands in
-      let more = fed ahead framing limit (v ++ w) (before ++ so_far.0) so_far.2 in (
-        so_far.0 ++ more.0,
-        more.1 ∙ ap (λ (x : List E). x ++ more.0) so_far.1 ∙ append_assoc start so_far.0 more.0,
-        subst (λ (y : List ℕ). ByteEndsBehind framing spells breaks ahead limit y (before ++ (so_far.0 ++ more.0)) (told_as new stop)) (append_assoc v w piece)
-            (subst (λ (vs : List E). ByteEndsBehind framing spells breaks ahead limit ((v ++ w) ++ piece) vs (told_as new stop)) (append_assoc before so_far.0 more.0) more.2),
-      )
+  pub gathers_last : {T : Type 0} (kept : R → ℕ) (first d new : Reading R) (start old now : List E) (w piece : List ℕ) (result : Result T ReadingStop) → Gathers holds spells first start d old w → TakesAll d new piece old now result
+      → KeepsNoneAfterStop (kept (body_of new.stream).reader) result → IfErr result (λ stop. GathersLast holds spells breaks kept first start new now w piece stop)
+  gathers_last kept first d new start old now w piece (Ok done) h fed none = tt
+  gathers_last kept first d new start old now w piece (Err stop) h fed none = (
+    λ ahead framing limit v before stands.
+        let so_far = h ahead framing limit v before stands in
+        let more = fed ahead framing limit (v ++ w) (before ++ so_far.0) so_far.2 in (
+          so_far.0 ++ more.0,
+          more.1 ∙ ap (λ (x : List E). x ++ more.0) so_far.1 ∙ append_assoc start so_far.0 more.0,
+          subst (λ (y : List ℕ). ByteEndsBehind framing spells breaks ahead limit y (before ++ (so_far.0 ++ more.0)) (told_as new stop)) (append_assoc v w piece)
+              (subst (λ (vs : List E). ByteEndsBehind framing spells breaks ahead limit ((v ++ w) ++ piece) vs (told_as new stop)) (append_assoc before so_far.0 more.0) more.2),
+        ),
+    none,
+  )
 
   -- how the reading ended, by how the reads did
-  pub read_through : (first now : Reading R) (start to : List E) (framing : Framing) (limit reads : ℕ) (old new : Counts) (last : Option (List ℕ)) (w : List ℕ) (end : ReadsEnd ReadingStop) (answer : Result Report Stop)
-      → ReadingStands holds spells first framing limit [] [] → EndsReads (Gathers holds spells first start now to) (GathersLast holds spells breaks first start now to) reads old new last w end → Means holds spells now end answer
+  pub read_through : (kept : R → ℕ) (first now : Reading R) (start to : List E) (framing : Framing) (limit reads : ℕ) (old new : Counts) (last : Option (List ℕ)) (w : List ℕ) (end : ReadsEnd ReadingStop) (answer : Result Report Stop)
+      → ReadingStands holds spells first framing limit [] [] → EndsReads (Gathers holds spells first start now to) (GathersLast holds spells breaks kept first start now to) reads old new last w end → Means holds spells now end answer
       → (more : List E) × (to ≡ start ++ more) × EndsReading framing spells breaks limit reads old new last w more answer
-  read_through first now start to framing limit reads old new last w (Stopped stop) answer stands (front, piece, at, stops, asked) is =
-      let h = stops nothing_ahead framing limit [] [] stands in
+  read_through kept first now start to framing limit reads old new last w (Stopped stop) answer stands (front, piece, at, stops, asked) is =
+      let h = stops.0 nothing_ahead framing limit [] [] stands in
       (h.0, h.1, inl (rw (is, at.is) h.2, asked))
-  read_through first now start to framing limit reads old new last w AtEnd answer stands (goes, end, asked) means =
+  read_through kept first now start to framing limit reads old new last w AtEnd answer stands (goes, end, asked) means =
       let h = goes nothing_ahead framing limit [] [] stands in (h.0, h.1, inr (inl (means framing limit w h.0 h.2, end, asked)))
-  read_through first now start to framing limit reads old new last w Failed answer stands (goes, asked) means =
+  read_through kept first now start to framing limit reads old new last w Failed answer stands (goes, asked) means =
       let h = goes nothing_ahead framing limit [] [] stands in (h.0, h.1, inr (inr (inl (means framing limit w h.0 h.2, asked))))
-  read_through first now start to framing limit reads old new last w Spent answer stands (goes, asked) means =
+  read_through kept first now start to framing limit reads old new last w Spent answer stands (goes, asked) means =
       let h = goes nothing_ahead framing limit [] [] stands in (h.0, h.1, inr (inr (inr (means framing limit w h.0 h.2, asked))))

@@ -1,5 +1,5 @@
 -- What became of the front of a piece, where the value of a record that ended with it is still to be read.
-use Rattle.std.proofs.Common.{◌≡◌, ℕ, ◌<◌, ◌≤◌, List, ◌++◌, length, take, ap, refl, ◌∙◌, sym, subst}
+use Rattle.std.proofs.Common.{◌≡◌, ℕ, ◌<◌, ◌≤◌, List, ◌++◌, length, take, ap, refl, sym, subst}
 use Rattle.mes_frame.specs.ChunkState.{ChunkStands, room_of}
 use Rattle.mes_frame.specs.RecordState.{limit_of}
 use Rattle.mes_frame.specs.declared.chunk.ChunkState.{ChunkState}

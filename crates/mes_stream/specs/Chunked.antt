@@ -4,7 +4,7 @@ use Rattle.mes_frame.specs.Chunk.{IsChunked}
 use Rattle.mes_frame.specs.ChunkFront.{IsOpen}
 use Rattle.mes_frame.specs.ChunkFaults.{ChunkShows}
 use Rattle.mes_stream.specs.declared.refusal.RecordRefusal.{RecordRefusal}
-use Rattle.mes_stream.specs.Stream.{Records, BodyLive, EndsInside, EndsRecord, BodyShows, InData}
+use Rattle.mes_stream.specs.Stream.{Records, BodyLive, EndsInside, EndsRecord, BodyShows, InRecordData}
 use Rattle.mes_stream.specs.declared.fault.Fault.{Fault}
 use Rattle.mes_stream.specs.declared.fault.Fault.TheVariants.{Frame, EndsInsideChunks, EndsInsideRecord, Text, Field, NoMemory, Read, ReadsSpent, BadEntry}
 
@@ -47,4 +47,4 @@ ChunkedShows spells breaks ahead limit w values c (BadEntry at_record) =
 -- a fault that the byte c shows, or want of memory at a byte of a record's data: that says only what stood before
 abbrev pub ChunkedStops : {E : Type 0} → (List ℕ → E → Type 0) → (List ℕ → RecordRefusal → Type 0) → ℕ → ℕ → List ℕ → List E → ℕ → Fault → Type 0
 ChunkedStops spells breaks ahead limit w values c fault =
-    ChunkedShows spells breaks ahead limit w values c fault ⊎ ((fault ≡ NoMemory) × AtData (λ body vs. InData spells limit body vs) w values c)
+    ChunkedShows spells breaks ahead limit w values c fault ⊎ ((fault ≡ NoMemory) × AtData (λ body vs. InRecordData spells limit body vs) w values c)

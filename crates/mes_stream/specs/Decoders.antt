@@ -11,17 +11,17 @@ use Rattle.mes_stream.specs.declared.fault.Fault.TheVariants.{EndsInsideChunks}
 use Rattle.mes_stream.specs.declared.decoder.RecordDecoder.{RecordDecoder}
 use Rattle.mes_stream.specs.declared.decoder.State.{State}
 use Rattle.mes_stream.specs.declared.decoder.State.TheVariants as state
-use Rattle.mes_stream.specs.declared.decoder.Ended.{Ended}
-use Rattle.mes_stream.specs.declared.decoder.Ended.TheVariants.{Closed, Failed}
+use Rattle.mes_stream.specs.declared.decoder.StreamEnd.{StreamEnd}
+use Rattle.mes_stream.specs.declared.decoder.StreamEnd.TheVariants.{Closed, Failed}
 use Rattle.mes_stream.specs.declared.taken.Out.{Out}
 use Rattle.mes_stream.specs.declared.taken.Out.TheVariants as out
 
-abbrev pub end_at : {R : Type 0} → State R → Option Ended
+abbrev pub end_at : {R : Type 0} → State R → Option StreamEnd
 end_at (state.Going stream) = None
 end_at (state.Ended end) = Some end
 
 -- how the stream ended, if it did
-abbrev pub end_of : {R : Type 0} → RecordDecoder R → Option Ended
+abbrev pub end_of : {R : Type 0} → RecordDecoder R → Option StreamEnd
 end_of d = end_at d.state
 
 abbrev pub StateStands : {R E : Type 0} → (R → List ℕ → Type 0) → (List ℕ → E → Type 0) → State R → ℕ → List ℕ → List E → Type 0
@@ -33,18 +33,18 @@ abbrev pub DecoderStands : {R E : Type 0} → (R → List ℕ → Type 0) → (L
 DecoderStands holds spells d limit w values = StateStands holds spells d.state limit w values
 
 -- what is answered from then on
-abbrev pub answer_of : {E : Type 0} → Ended → Out E
+abbrev pub answer_of : {E : Type 0} → StreamEnd → Out E
 answer_of Closed = out.End
 answer_of (Failed fault) = out.Fault fault
 
 -- what it means that the input has no more bytes
-abbrev pub finish_of : Option Ended → Result (Unit {0}) Fault
+abbrev pub finish_of : Option StreamEnd → Result (Unit {0}) Fault
 finish_of None = Err EndsInsideChunks
 finish_of (Some Closed) = Ok tt
 finish_of (Some (Failed fault)) = Err fault
 
 -- the end that is kept behind an answer
-abbrev pub EndsBy : {E : Type 0} → Option Ended → Out E → Type 0
+abbrev pub EndsBy : {E : Type 0} → Option StreamEnd → Out E → Type 0
 EndsBy end out.More = end ≡ None
 EndsBy end (out.Event value) = end ≡ None
 EndsBy end out.End = end ≡ Some Closed

@@ -1,5 +1,5 @@
 -- A stream of values by its framing: records one behind the other, or records in a chunked body.
-use Rattle.std.specs.Prelude.{◌≡◌, ℕ, ◌+◌, ◌-◌, ◌<◌, ◌⊎◌, List, [], ◌∷◌, ◌++◌, length, take, slice_index, Result, Ok, Err}
+use Rattle.std.specs.Prelude.{◌≡◌, ℕ, ◌+◌, ◌-◌, ◌<◌, List, [], ◌∷◌, ◌++◌, length, take, slice_index, Result, Ok, Err}
 use Rattle.mes_frame.specs.ChunkFront.{IsOpen}
 use Rattle.mes_stream.specs.declared.refusal.RecordRefusal.{RecordRefusal}
 use Rattle.mes_stream.specs.Stream.{Records, BodyLive, EndsInside, EndsRecord, BodyStops}
@@ -32,9 +32,9 @@ EndsRecordIn Plain spells limit w values c value = EndsRecord spells limit w val
 EndsRecordIn Chunked spells limit w values c value = EndsWith spells limit w values c value
 
 -- the byte c behind w shows the fault, or memory was refused at it
-abbrev pub StopsIn : {E : Type 0} → Framing → (List ℕ → E → Type 0) → (List ℕ → RecordRefusal → Type 0) → ℕ → ℕ → List ℕ → List E → ℕ → Fault → Type 0
-StopsIn Plain spells breaks ahead limit w values c fault = BodyStops spells breaks ahead limit w values c fault
-StopsIn Chunked spells breaks ahead limit w values c fault = ChunkedStops spells breaks ahead limit w values c fault
+abbrev pub ByteStopsIn : {E : Type 0} → Framing → (List ℕ → E → Type 0) → (List ℕ → RecordRefusal → Type 0) → ℕ → ℕ → List ℕ → List E → ℕ → Fault → Type 0
+ByteStopsIn Plain spells breaks ahead limit w values c fault = BodyStops spells breaks ahead limit w values c fault
+ByteStopsIn Chunked spells breaks ahead limit w values c fault = ChunkedStops spells breaks ahead limit w values c fault
 
 -- What a call that uses so many bytes of a piece says of them, behind w, which goes on with the values: they were taken; a
 -- record ended with the last of them; the stream did; or the last of them stops the reading.
@@ -45,7 +45,7 @@ SaysIn framing Stands spells breaks ahead limit w values piece used (out.Event v
     × EndsRecordIn framing spells limit (w ++ take (used - 1) piece) values (slice_index piece (used - 1)) value
 SaysIn framing Stands spells breaks ahead limit w values piece used out.End = EndsIn framing spells limit (w ++ take used piece) values
 SaysIn framing Stands spells breaks ahead limit w values piece used (out.Fault fault) =
-    StopsIn framing spells breaks ahead limit (w ++ take (used - 1) piece) values (slice_index piece (used - 1)) fault
+    ByteStopsIn framing spells breaks ahead limit (w ++ take (used - 1) piece) values (slice_index piece (used - 1)) fault
 
 -- before the last byte that was used all goes on with the same values
 abbrev pub GoesBefore : {E : Type 0} → Framing → (List ℕ → E → Type 0) → ℕ → List ℕ → List E → List ℕ → ℕ → Type 0
@@ -67,4 +67,4 @@ pub record StopsWithin {E : Type 0} (framing : Framing) (spells : List ℕ → E
   pub is : w ≡ front ++ byte ∷ rest
   pub used : n ≡ length front + 1
   pub live : GoesIn framing spells limit front values
-  pub stops : StopsIn framing spells breaks ahead limit front values byte fault
+  pub stops : ByteStopsIn framing spells breaks ahead limit front values byte fault

@@ -9,7 +9,7 @@ use Rattle.mes_stream.specs.declared.refusal.RecordRefusal.{RecordRefusal}
 use Rattle.mes_stream.specs.Reads.{ReadsMade, SomeReadsMade}
 use Rattle.mes_stream.specs.Stream.{saturated}
 use Rattle.mes_stream.specs.Framings.{GoesIn, GoesBefore, EndsIn, EndsRecordIn, WholeIn, InputEnds, StopsWithin}
-use Rattle.mes_stream.specs.StreamReaders.{StreamStands}
+use Rattle.mes_stream.specs.StreamReaders.{StreamStands, body_of}
 use Rattle.mes_stream.specs.declared.fault.Fault.{Fault}
 use Rattle.mes_stream.specs.declared.fault.Fault.TheVariants.{Read, ReadsSpent}
 use Rattle.mes_stream.specs.declared.fault.Report.{Report}
@@ -145,11 +145,6 @@ MeansBehind {E = E} holds spells ahead d Spent answer =
 abbrev pub Means : {R E : Type 0} → (R → List ℕ → Type 0) → (List ℕ → E → Type 0) → Reading R → ReadsEnd ReadingStop → Result Report Stop → Type 0
 Means holds spells d end answer = MeansBehind holds spells nothing_ahead d end answer
 
--- where it came to a stop nothing is kept
-abbrev pub KeepsNoneOnStop : {A B : Type 0} → ℕ → Result A B → Type 0
-KeepsNoneOnStop kept (Ok more) = Unit {0}
-KeepsNoneOnStop kept (Err stop) = kept ≡ 0
-
 -- The list got the values of the bytes w, by which the reading came from its first state to the other, whatever it had taken before
 -- and whatever stands ahead.
 abbrev pub Gathers : {R E : Type 0} → (R → List ℕ → Type 0) → (List ℕ → E → Type 0) → Reading R → List E → Reading R → List E → List ℕ → Type 0
@@ -157,8 +152,9 @@ Gathers {E = E} holds spells first start now to w =
     (ahead : Ahead) (framing : Framing) (limit : ℕ) (v : List ℕ) (before : List E) → ReadingStandsBehind holds spells ahead first framing limit v before
     → (more : List E) × (to ≡ start ++ more) × ReadingStandsBehind holds spells ahead now framing limit (v ++ w) (before ++ more)
 
--- and a byte of the piece behind them ended the stream, or stops the reading
-abbrev pub GathersLast : {R E : Type 0} → (R → List ℕ → Type 0) → (List ℕ → E → Type 0) → (List ℕ → RecordRefusal → Type 0) → Reading R → List E → Reading R → List E → List ℕ → List ℕ → ReadingStop → Type 0
-GathersLast {E = E} holds spells breaks first start now to w piece stop =
-    (ahead : Ahead) (framing : Framing) (limit : ℕ) (v : List ℕ) (before : List E) → ReadingStandsBehind holds spells ahead first framing limit v before
-    → (more : List E) × (to ≡ start ++ more) × ByteEndsBehind framing spells breaks ahead limit (v ++ (w ++ piece)) (before ++ more) (told_as now stop)
+-- and a byte of the piece behind them ended the stream, or stops the reading; nothing is kept then
+abbrev pub GathersLast : {R E : Type 0} → (R → List ℕ → Type 0) → (List ℕ → E → Type 0) → (List ℕ → RecordRefusal → Type 0) → (R → ℕ) → Reading R → List E → Reading R → List E → List ℕ → List ℕ → ReadingStop → Type 0
+GathersLast {E = E} holds spells breaks kept first start now to w piece stop =
+    ((ahead : Ahead) (framing : Framing) (limit : ℕ) (v : List ℕ) (before : List E) → ReadingStandsBehind holds spells ahead first framing limit v before
+    → (more : List E) × (to ≡ start ++ more) × ByteEndsBehind framing spells breaks ahead limit (v ++ (w ++ piece)) (before ++ more) (told_as now stop))
+    × (kept (body_of now.stream).reader ≡ 0)

@@ -59,10 +59,10 @@ BodyShows spells breaks ahead limit b values c (BadEntry at_record) =
     EndsRecord spells limit b values c (λ r. breaks r refusal.BadEntry) × (at_record ≡ number_after ahead values)
 
 -- the next byte behind the bytes b is a byte of a record's data
-abbrev pub InData : {E : Type 0} → (List ℕ → E → Type 0) → ℕ → List ℕ → List E → Type 0
-InData spells limit b values = Behind spells limit (λ x. (r : List ℕ) × (left : ℕ) × DataBegun x r left limit) b values
+abbrev pub InRecordData : {E : Type 0} → (List ℕ → E → Type 0) → ℕ → List ℕ → List E → Type 0
+InRecordData spells limit b values = Behind spells limit (λ x. (r : List ℕ) × (left : ℕ) × DataBegun x r left limit) b values
 
 -- a fault that the byte c shows, or want of memory at a byte of data: that says only what stood before
 abbrev pub BodyStops : {E : Type 0} → (List ℕ → E → Type 0) → (List ℕ → RecordRefusal → Type 0) → ℕ → ℕ → List ℕ → List E → ℕ → Fault → Type 0
 BodyStops spells breaks ahead limit b values c fault =
-    BodyShows spells breaks ahead limit b values c fault ⊎ ((fault ≡ NoMemory) × InData spells limit b values)
+    BodyShows spells breaks ahead limit b values c fault ⊎ ((fault ≡ NoMemory) × InRecordData spells limit b values)

@@ -49,12 +49,6 @@ UsesWithin len (Ok None) = Unit {0}
 UsesWithin len (Ok (Some used)) = used ≤ len
 UsesWithin len (Err stop) = stop.used ≤ len
 
--- after the end or a fault nothing is kept
-abbrev pub LetsGo : ℕ → Result (Option ℕ) FaultAt → Type 0
-LetsGo kept (Ok None) = Unit {0}
-LetsGo kept (Ok (Some used)) = kept ≡ 0
-LetsGo kept (Err stop) = kept ≡ 0
-
 -- an answer, of one in little room
 abbrev pub out_of : {E : Type 0} → SmallOut E → Out E
 out_of small.More = out.More
@@ -62,9 +56,19 @@ out_of (small.Event value) = out.Event value
 out_of small.End = out.End
 out_of (small.Fault fault) = out.Fault fault
 
--- after an answer that ends the stream or stops the reading nothing is kept
-abbrev pub KeepsNoneAt : {E : Type 0} → ℕ → Out E → Type 0
-KeepsNoneAt kept out.More = Unit {0}
-KeepsNoneAt kept (out.Event value) = Unit {0}
-KeepsNoneAt kept out.End = kept ≡ 0
-KeepsNoneAt kept (out.Fault fault) = kept ≡ 0
+-- Where a byte ended the stream or stops the reading nothing is kept: after the answer to a piece up to the end of a record; after
+-- what became of a whole piece; and after a stop.
+abbrev pub KeepsNoneAfterAnswer : {E : Type 0} → ℕ → Out E → Type 0
+KeepsNoneAfterAnswer kept out.More = Unit {0}
+KeepsNoneAfterAnswer kept (out.Event value) = Unit {0}
+KeepsNoneAfterAnswer kept out.End = kept ≡ 0
+KeepsNoneAfterAnswer kept (out.Fault fault) = kept ≡ 0
+
+abbrev pub KeepsNoneAfterFeed : ℕ → Result (Option ℕ) FaultAt → Type 0
+KeepsNoneAfterFeed kept (Ok None) = Unit {0}
+KeepsNoneAfterFeed kept (Ok (Some used)) = kept ≡ 0
+KeepsNoneAfterFeed kept (Err stop) = kept ≡ 0
+
+abbrev pub KeepsNoneAfterStop : {A B : Type 0} → ℕ → Result A B → Type 0
+KeepsNoneAfterStop kept (Ok more) = Unit {0}
+KeepsNoneAfterStop kept (Err stop) = kept ≡ 0

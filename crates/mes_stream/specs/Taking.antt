@@ -1,5 +1,5 @@
 -- What a reader of a body of records holds, and what it makes of a run of the body's bytes.
-use Rattle.std.specs.Prelude.{◌≡◌, ℕ, ◌+◌, ◌-◌, ◌^◌, ◌<◌, ◌≤◌, List, [], ◌∷◌, ◌++◌, length, take, slice_index, Result, Ok, Err}
+use Rattle.std.specs.Prelude.{◌≡◌, ℕ, ◌+◌, ◌^◌, ◌<◌, ◌≤◌, List, [], ◌∷◌, ◌++◌, length, take, slice_index, Result, Ok, Err}
 use Rattle.mes_frame.specs.Record.{IsRecord, Begun, DataBegun, SizeShows}
 use Rattle.mes_frame.specs.RecordState.{RecordStands, RecordPasses, limit_of}
 use Rattle.mes_frame.specs.declared.record.RecordState.{RecordState}

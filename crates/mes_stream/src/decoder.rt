@@ -18,31 +18,31 @@ use std::alloc::Global;
 
 /// How a stream ended, for a decoder.
 #[derive(Drop)]
-pub(crate) enum Ended {
+pub(crate) enum StreamEnd {
     Closed,
     Failed(Fault),
 }
 
-impl Ended {
+impl StreamEnd {
     // What is answered from then on.
     fn answer<V>(&self) -> Out<V>
         ensures { result ≡ answer_of self.now }
     {
         match self {
-            Ended::Closed => Out::End,
-            Ended::Failed(fault) => Out::Fault(fault.copy()),
+            StreamEnd::Closed => Out::End,
+            StreamEnd::Failed(fault) => Out::Fault(fault.copy()),
         }
     }
 
     // The end that an answer brings, if it does.
-    fn brought<V>(out: &Out<V>) -> Option<Ended>
+    fn brought<V>(out: &Out<V>) -> Option<StreamEnd>
         ensures { EndsBy result out.now }
     {
         match out {
             Out::More => None,
             Out::Event(_) => None,
-            Out::End => Some(Ended::Closed),
-            Out::Fault(fault) => Some(Ended::Failed(fault.copy())),
+            Out::End => Some(StreamEnd::Closed),
+            Out::Fault(fault) => Some(StreamEnd::Failed(fault.copy())),
         }
     }
 }
@@ -51,7 +51,7 @@ impl Ended {
 #[derive(Drop)]
 enum State<R> {
     Going(StreamReader<R>),
-    Ended(Ended),
+    Ended(StreamEnd),
 }
 
 /// A decoder of a chunked stream, by what reads its records.
@@ -120,7 +120,7 @@ impl<R: RecordReader> RecordDecoder<R> {
                 out: end.answer(),
             },
         };
-        if let Some(end) = Ended::brought(&step.out) {
+        if let Some(end) = StreamEnd::brought(&step.out) {
             self.state = State::Ended(end);
         }
         step
@@ -132,8 +132,8 @@ impl<R: RecordReader> RecordDecoder<R> {
     {
         match &self.state {
             State::Going(_) => Err(Fault::EndsInsideChunks),
-            State::Ended(Ended::Closed) => Ok(()),
-            State::Ended(Ended::Failed(fault)) => Err(fault.copy()),
+            State::Ended(StreamEnd::Closed) => Ok(()),
+            State::Ended(StreamEnd::Failed(fault)) => Err(fault.copy()),
         }
     }
 
@@ -142,7 +142,7 @@ impl<R: RecordReader> RecordDecoder<R> {
     pub fn held(&self) -> u64
         ensures held { (limit : ℕ) (w : List ℕ) (values : List R.Value) → DecoderStands R.holds R.spells self.now limit w values
             → HoldsOf R.spells R.room limit w values result }
-        // It is what the reader of records keeps; after the end or a fault nothing is.
+        // It is what the reader of records keeps; after the end or a fault that `next` told nothing is.
         ensures count { result ≡ kept_by R.kept self.now }
     {
         match &self.state {

@@ -2,9 +2,9 @@
 
 ghost use Rattle.std.specs.Prelude.{◌≡◌, ◌+◌, ◌<◌, ◌≤◌, ℕ, List, [], length};
 ghost use Rattle.mes_stream.specs.Decoders.{HoldsIn};
-ghost use Rattle.mes_stream.specs.Reading.{Ahead, ReadingStands, ReadingStandsBehind, ReadingTakesBehind, ReadingTakesRecord, EndsWithin, MeansBehind, KeepsNoneOnStop, Gathers, GathersLast};
+ghost use Rattle.mes_stream.specs.Reading.{Ahead, ReadingStands, ReadingStandsBehind, ReadingTakesBehind, ReadingTakesRecord, EndsWithin, MeansBehind, Gathers, GathersLast};
 ghost use Rattle.mes_stream.specs.Stream.{saturated};
-ghost use Rattle.mes_stream.specs.StreamReaders.{body_of};
+ghost use Rattle.mes_stream.specs.StreamReaders.{KeepsNoneAfterStop, body_of};
 ghost use Rattle.mes_stream.specs.declared.stream_reader.Framing.{Framing as FramingValue};
 
 use crate::fault::{Fault, Report, Stop};
@@ -95,7 +95,7 @@ impl<R: RecordReader> Reading<R> {
             → ReadingTakesRecord R.holds R.spells R.breaks ahead self.new framing limit w values piece.now result }
         ensures within { EndsWithin (length piece.now) result }
         // Where the reading has stopped nothing is kept.
-        ensures kept { KeepsNoneOnStop (R.kept (body_of self.new.stream).reader) result }
+        ensures kept { KeepsNoneAfterStop (R.kept (body_of self.new.stream).reader) result }
     {
         let SmallStep { used, out } = self.stream.step(piece);
         self.used = self.used.saturating_add(used as u64);
@@ -117,7 +117,7 @@ impl<R: RecordReader> Reading<R> {
         ensures takes { (ahead : Ahead) (framing : FramingValue) (limit : ℕ) (w : List ℕ) (before : List R.Value) → ReadingStandsBehind R.holds R.spells ahead self.old framing limit w before
             → ReadingTakesBehind R.holds R.spells R.breaks ahead self.new framing limit w before piece.now values.old.items values.new.items result }
         // Where the reading has stopped nothing is kept.
-        ensures kept { KeepsNoneOnStop (R.kept (body_of self.new.stream).reader) result }
+        ensures kept { KeepsNoneAfterStop (R.kept (body_of self.new.stream).reader) result }
     {
         match self.stream.feed(piece, values) {
             Ok(None) => {
@@ -190,7 +190,7 @@ impl<R: RecordReader> Consumer<Vec<R::Value>> for Reading<R> {
 
     ghost goes = { λ first start now to w. Gathers R.holds R.spells first start.items now to.items w };
 
-    ghost stops = { λ first start now to w piece stop. GathersLast R.holds R.spells R.breaks first start.items now to.items w piece stop };
+    ghost stops = { λ first start now to w piece stop. GathersLast R.holds R.spells R.breaks R.kept first start.items now to.items w piece stop };
 
     fn take(&mut self, piece: &[u8], values: &mut Vec<R::Value>) -> Result<(), ReadingStop> {
         self.feed(piece, values)

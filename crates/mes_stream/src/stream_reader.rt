@@ -5,7 +5,7 @@ ghost use Rattle.mes_stream.specs.Decoders.{HoldsIn};
 ghost use Rattle.mes_stream.specs.Framings.{InputEnds, SaysIn, GoesBefore};
 ghost use Rattle.mes_stream.specs.Refusals.{fault_at_record};
 ghost use Rattle.mes_stream.specs.Stream.{saturated};
-ghost use Rattle.mes_stream.specs.StreamReaders.{StreamStands, StreamFeeds, UsesWithin, LetsGo, KeepsNoneAt, body_of, with_body, out_of};
+ghost use Rattle.mes_stream.specs.StreamReaders.{StreamStands, StreamFeeds, UsesWithin, KeepsNoneAfterFeed, KeepsNoneAfterAnswer, body_of, with_body, out_of};
 ghost use Rattle.mes_stream.specs.Taking.{Ends, EndsInto, Tells};
 ghost use Rattle.mes_stream.specs.declared.stream_reader.Framing.{Framing as FramingValue};
 
@@ -68,7 +68,7 @@ impl<R: RecordReader> StreamReader<R> {
         ensures some { result.out ≢ Out.More → 0 < result.used }
         ensures used { result.used ≤ length piece.now }
         // After the end or a fault nothing is kept.
-        ensures kept { KeepsNoneAt (R.kept (body_of self.new).reader) result.out }
+        ensures kept { KeepsNoneAfterAnswer (R.kept (body_of self.new).reader) result.out }
     {
         let SmallStep { used, out } = self.step(piece);
         let out = out.into_out();
@@ -84,7 +84,7 @@ impl<R: RecordReader> StreamReader<R> {
         ensures more { out_of result.out ≡ Out.More → result.used ≡ length piece.now }
         ensures some { out_of result.out ≢ Out.More → 0 < result.used }
         ensures used { result.used ≤ length piece.now }
-        ensures kept { KeepsNoneAt (R.kept (body_of self.new).reader) (out_of result.out) }
+        ensures kept { KeepsNoneAfterAnswer (R.kept (body_of self.new).reader) (out_of result.out) }
     {
         let step = self.step_on(piece);
         match &step.out {
@@ -127,7 +127,7 @@ impl<R: RecordReader> StreamReader<R> {
         ensures feeds { (ahead : ℕ) (framing : FramingValue) (limit : ℕ) (w : List ℕ) (before : List R.Value) → StreamStands R.holds R.spells ahead self.old framing limit w before
             → StreamFeeds R.holds R.spells R.breaks ahead self.new framing limit w before piece.now values.old.items values.new.items result }
         ensures within { UsesWithin (length piece.now) result }
-        ensures kept { LetsGo (R.kept (body_of self.new).reader) result }
+        ensures kept { KeepsNoneAfterFeed (R.kept (body_of self.new).reader) result }
     {
         let fed = self.feed_on(piece, values);
         match &fed {
@@ -186,7 +186,7 @@ impl<R: RecordReader> StreamReader<R> {
         }
     }
 
-    /// How many bytes of the record that has begun are kept: none behind the end or a fault.
+    /// How many bytes of the record that has begun are kept: none behind the end or a fault that `feed` or `next` told.
     pub fn held(&self) -> u64
         ensures count { result ≡ R.kept (body_of self.now).reader }
         ensures most { (ahead : ℕ) (framing : FramingValue) (limit : ℕ) (w : List ℕ) (values : List R.Value) → StreamStands R.holds R.spells ahead self.now framing limit w values

@@ -4,6 +4,8 @@
 #[cfg(test)]
 mod calls;
 #[cfg(test)]
+mod output;
+#[cfg(test)]
 mod run;
 #[cfg(test)]
 mod stream;

@@ -3,7 +3,10 @@ use mes_frame::*;
 use std::io;
 use std::io::{ErrorKind, Read, Write};
 
-/// Fills each buffer, and is interrupted at one of its calls.
+/// How many bytes a device moves at most by a call.
+const MOST: usize = 100;
+
+/// Gives at most `MOST` bytes a call, and is interrupted at one of its calls.
 #[derive(Drop)]
 struct Reader {
     calls: u64,
@@ -16,12 +19,13 @@ impl Read for Reader {
         if self.calls == self.interrupted {
             return Err(io::Error::from(ErrorKind::Interrupted));
         }
-        buffer.fill(7);
-        Ok(buffer.len())
+        let count = buffer.len().min(MOST);
+        buffer[..count].fill(7);
+        Ok(count)
     }
 }
 
-/// Takes all bytes, and is interrupted at one of its calls.
+/// Takes at most `MOST` bytes a call, and is interrupted at one of its calls.
 #[derive(Drop)]
 struct Writer {
     calls: u64,
@@ -34,7 +38,7 @@ impl Write for Writer {
         if self.calls == self.interrupted {
             return Err(io::Error::from(ErrorKind::Interrupted));
         }
-        Ok(bytes.len())
+        Ok(bytes.len().min(MOST))
     }
 
     fn flush(&mut self) -> io::Result<()> {
@@ -66,8 +70,8 @@ fn a_fetch_is_one_read(rt: HostRuntime) {
     let mut large = [0; 4096];
     let mut small = [0; 512];
     let mut one = [0; 1];
-    assert_eq!(rt; told(source.fetch(&mut large)), Some(4096));
-    assert_eq!(rt; told(source.fetch(&mut small)), Some(512));
+    assert_eq!(rt; told(source.fetch(&mut large)), Some(100));
+    assert_eq!(rt; told(source.fetch(&mut small)), Some(100));
     assert_eq!(rt; told(source.fetch(&mut large)), None);
     assert_eq!(rt; told(source.fetch(&mut one)), Some(1));
     assert_eq!(rt; one, [7]);
@@ -89,8 +93,8 @@ fn a_put_is_one_write(rt: HostRuntime) {
         interrupted: 3,
     };
     let mut sink = FromStd::new(&mut writer);
-    assert_eq!(rt; told(sink.put(&[7; 4096])), Some(4096));
-    assert_eq!(rt; told(sink.put(&[7; 512])), Some(512));
+    assert_eq!(rt; told(sink.put(&[7; 4096])), Some(100));
+    assert_eq!(rt; told(sink.put(&[7; 512])), Some(100));
     assert_eq!(rt; told(sink.put(&[7; 4096])), None);
     assert_eq!(rt; told(sink.put(&[7; 1])), Some(1));
     assert_eq!(rt;

@@ -1,5 +1,4 @@
-use Rattle.std.proofs.Common.{◌∙◌, length, ◌+◌, arith, rules}
-use Rattle.mes_stream.specs.declared.limits.TheConstants.{READ_MOST}
+use Rattle.std.proofs.Common.{◌∙◌, length, arith, rules}
 use Rattle.mes_stream.proofs.ReadLemmas.{reads_start, reads_more, reads_stop, reads_fail, reads_end, reads_spent}
 use Rattle.mes_stream.proofs.reads.read_device.Goals as goal
 

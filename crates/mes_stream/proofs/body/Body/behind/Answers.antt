@@ -1,4 +1,4 @@
-use Rattle.std.proofs.Common.{[], ◌+◌, ◌∙◌, ap, arith, refl, ℕ, rules}
+use Rattle.std.proofs.Common.{[], arith, refl, rules}
 use Rattle.mes_stream.proofs.body.Body.behind.Goals as goal
 
 pub returns-clause-stands : goal.returns-clause-stands

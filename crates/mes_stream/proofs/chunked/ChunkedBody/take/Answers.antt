@@ -3,7 +3,6 @@ use Rattle.mes_frame.specs.ChunkState.{room_of}
 use Rattle.mes_frame.specs.RecordState.{limit_of}
 use Rattle.mes_stream.specs.Decoding.{ChunkedStands}
 use Rattle.mes_stream.specs.declared.body.Body.{Body}
-use Rattle.mes_stream.specs.declared.chunked.ChunkedBody.{ChunkedBody}
 use Rattle.mes_stream.specs.declared.stream_reader.Framing.TheVariants.{Chunked}
 use Rattle.std.specs.Prelude.{slice_index}
 use Rattle.mes_stream.proofs.ChunkLemmas.{first_before, run_before, says_first, says_more, before_more}

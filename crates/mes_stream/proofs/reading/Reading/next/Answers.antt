@@ -1,4 +1,4 @@
-use Rattle.std.proofs.Common.{◌≢◌, ◌+◌, ◌-◌, ◌<◌, ◌++◌, length, take, ◌∙◌, arith, length-append, length-take-le}
+use Rattle.std.proofs.Common.{◌+◌, ◌-◌, ◌<◌, length, take, ◌∙◌, arith, length-append, length-take-le}
 use Rattle.std.proofs.lemmas.List.{take_rest}
 use Rattle.mes_stream.proofs.ReadingLemmas.{ends_at, whole_at, stops_at}
 use Rattle.mes_stream.proofs.reading.Reading.next.Goals as goal

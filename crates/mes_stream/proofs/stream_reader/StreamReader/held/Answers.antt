@@ -1,4 +1,4 @@
-use Rattle.std.proofs.Common.{◌∙◌, ℕ, subst, sym}
+use Rattle.std.proofs.Common.{ℕ, subst, sym}
 use Rattle.mes_frame.proofs.ChunkParts.{open_of}
 use Rattle.mes_stream.specs.Decoders.{HoldsIn}
 use Rattle.mes_stream.specs.declared.stream_reader.Framing.{Framing}

@@ -1,4 +1,4 @@
-use Rattle.std.proofs.Common.{◌≡◌, ◌-◌, ◌≤◌, ℕ, List, ◌++◌, length, take}
+use Rattle.std.proofs.Common.{◌-◌, ◌≤◌, ℕ, List, ◌++◌, length, take}
 use Rattle.mes_stream.specs.Framings.{GoesBefore}
 use Rattle.mes_stream.specs.StreamReaders.{StreamStands}
 use Rattle.mes_stream.specs.declared.stream_reader.Framing.{Framing}
