@@ -1,5 +1,5 @@
 -- Any bytes are read as a log in exactly one way: by the first record, which has not ended, or by the records behind it.
-use Rattle.std.proofs.Common.{◌≡◌, ◌≢◌, ℕ, ◌+◌, ◌⊎◌, inl, inr, List, [], ◌∷◌, ◌++◌, length, refl, ap, ap₂, sym, ◌∙◌, subst, append_assoc, arith}
+use Rattle.std.proofs.Common.{◌≡◌, ◌≢◌, ℕ, ◌+◌, ◌⊎◌, inl, inr, List, [], ◌∷◌, ◌++◌, length, refl, ap, ap₂, sym, ◌∙◌, subst, append_assoc, append-nil, arith}
 use Rattle.std.proofs.lemmas.List.{append_cancel_left}
 use Rattle.mes_frame.specs.Record.{IsRecord}
 use Rattle.mes_frame.specs.RecordReading.{RecordReading, ReadsRecord, Whole}
@@ -10,7 +10,7 @@ use Rattle.mes_stream.specs.declared.fault.Fault.{Fault}
 use Rattle.mes_stream.specs.declared.fault.Fault.TheVariants.{Frame, EndsInsideChunks, EndsInsideRecord, Text, Field, NoMemory, Read, ReadsSpent, BadEntry}
 use Rattle.mes_stream.specs.declared.refusal.RecordRefusal.{RecordRefusal}
 use Rattle.mes_log.specs.Entries.{SpellsFirst, FirstBreaks, SpellsEntry, EntryBreaks, version_of, entries_in}
-use Rattle.mes_log.specs.Logs.{BehindFirst, ReadsLog}
+use Rattle.mes_log.specs.Logs.{BehindFirst, IsLog, LogGoes, ReadsLog}
 use Rattle.mes_log.specs.declared.first_reader.FirstRecord.{FirstRecord}
 use Rattle.mes_log.specs.declared.first_reader.FirstRecord.TheVariants as kind
 
@@ -103,6 +103,27 @@ module _ {E : Type 0} (spells : List ℕ → E → Type 0) (breaks : List ℕ �
         framed = f.framed;
         says = f.says;
       }
+
+-- ---- whole logs
+
+-- whole records are live
+records_live : {E : Type 0} (spells : List ℕ → E → Type 0) (limit : ℕ) (b : List ℕ) (values : List E) → Records spells limit b values → BodyLive spells limit b values
+records_live spells limit b values records = record { whole = b; x = []; spelt = sym (append-nil b); records = records; is = ([], inl (record { digits = tt; few = omega arith }, refl)) }
+
+pub whole_goes : (limit : ℕ) (w : List ℕ) (entries : List Entry) → IsLog limit w entries → LogGoes limit w entries
+whole_goes limit w entries (inl (records, none)) = inl (records_live SpellsFirst limit w [] records, none)
+whole_goes limit w entries (inr b) = inr (record {
+  head = b.head;
+  rest = b.rest;
+  content = b.content;
+  first = b.first;
+  more = b.more;
+  spelt = b.spelt;
+  framed = b.framed;
+  says = b.says;
+  all = b.all;
+  is = records_live (SpellsEntry (version_of b.first)) limit b.rest b.more b.is;
+})
 
 -- ---- logs
 

@@ -9,7 +9,7 @@ use Rattle.mes_msg.specs.declared.entry.Entry.TheVariants.{Heard, Said, Broken}
 use Rattle.mes_stream.specs.Framings.{GoesIn, GoesBefore, EndsRecordIn, StopsWithin}
 use Rattle.mes_stream.specs.Reading.{Ahead, nothing_ahead, ByteEndsBehind, EndMeans, BreaksOff, ReadingStandsBehind, ReadingTakesBehind, ReadingTakesRecord, MeansBehind, told_as}
 use Rattle.mes_stream.specs.Reads.{EndsReads}
-use Rattle.mes_stream.specs.Stream.{saturated, Records, InData}
+use Rattle.mes_stream.specs.Stream.{saturated, Records, InRecordData}
 use Rattle.mes_stream.specs.declared.fault.Fault.{Fault}
 use Rattle.mes_stream.specs.declared.fault.Fault.TheVariants.{NoMemory, Read, ReadsSpent}
 use Rattle.mes_stream.specs.declared.fault.Report.{Report}
@@ -64,7 +64,7 @@ same_front (a ∷ x) (b ∷ y) c d same =
     cc
 
 -- before the last byte of an entry's record there is a byte of data to come
-in_data : (limit : ℕ) (b : List ℕ) (c : ℕ) (entry : Entry) → EndsRecordIn Plain SpellsFirst limit b [] c (kind.Entry entry) → InData SpellsFirst limit b []
+in_data : (limit : ℕ) (b : List ℕ) (c : ℕ) (entry : Entry) → EndsRecordIn Plain SpellsFirst limit b [] c (kind.Entry entry) → InRecordData SpellsFirst limit b []
 in_data limit b c entry ends =
     let r = ends.is.0 in
     let framed = ends.is.1 in

@@ -3,7 +3,7 @@
 ghost use Rattle.std.specs.Prelude.{◌≡◌, ℕ, List, ◌↔◌};
 ghost use Rattle.mes_msg.specs.declared.entry.Entry.{Entry as EntryValue};
 ghost use Rattle.mes_stream.specs.PlainReading.{PlainReading};
-ghost use Rattle.mes_log.specs.Logs.{ReadsLog};
+ghost use Rattle.mes_log.specs.Logs.{IsLog, LogGoes, ReadsLog};
 
 use crate::entry_reader::EntryReader;
 use crate::first_reader::FirstReader;
@@ -19,10 +19,11 @@ pub fn log_letters()
 {}
 
 /// Any bytes are the front of a log of certain entries, or have a byte that shows a fault behind the entries before it: exactly one of
-/// these, in exactly one way.
+/// these, in exactly one way. A whole log is such a front, so it has one list of entries.
 pub fn one_log_reading()
     ensures some { (limit : ℕ) (w : List ℕ) → (reading : PlainReading EntryValue) × ReadsLog limit w reading }
     ensures one { (limit : ℕ) (w : List ℕ) (reading other : PlainReading EntryValue) → ReadsLog limit w reading → ReadsLog limit w other → reading ≡ other }
+    ensures whole { (limit : ℕ) (w : List ℕ) (entries : List EntryValue) → IsLog limit w entries → LogGoes limit w entries }
 {
     one_message::<Event>();
     one_message::<Call>();

@@ -1,7 +1,7 @@
 use Rattle.mes_event.specs.Events.{event}
 use Rattle.mes_call.specs.Calls.{call}
 use Rattle.mes_log.proofs.EntryLaw.{OneMessage, first_exact, first_decided, entry_exact, entry_decided}
-use Rattle.mes_log.proofs.LogLaw.{once_behind, some_behind, one_log, some_log}
+use Rattle.mes_log.proofs.LogLaw.{once_behind, some_behind, one_log, some_log, whole_goes}
 use Rattle.mes_log.proofs.laws.one_log_reading.Goals as goal
 
 pub returns-clause-some : goal.returns-clause-some
@@ -21,3 +21,6 @@ returns-clause-one c =
     (once_behind (c.one_plain_reading-2.ensures.one (entry_exact events calls 1) 1) (c.one_plain_reading-3.ensures.one (entry_exact events calls 2) 1))
     (some_behind (c.one_plain_reading-2.ensures.some (entry_decided events calls 1) 1) (c.one_plain_reading-3.ensures.some (entry_decided events calls 2) 1))
     c.one_record_reading.ensures.one (first_exact events calls).value
+
+pub returns-clause-whole : goal.returns-clause-whole
+returns-clause-whole c = whole_goes
