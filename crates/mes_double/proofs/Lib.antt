@@ -19,5 +19,6 @@ pub mod RunningLemmas
 pub mod SearchLemmas
 pub mod SomeLemmas
 pub mod TurnLemmas
+pub mod WantLemmas
 pub mod WayLemmas
 pub mod WishLemmas

@@ -1,3 +1,4 @@
 pub mod Worlds
 pub mod Courses
+pub mod Memory
 pub mod Promises

@@ -1,12 +1,14 @@
 //! How a world makes a move.
-ghost use Rattle.std.specs.Prelude.{◌≡◌, ◌++◌, [], ◌∷◌, slice_get, option_copied, None, Some, IfSome, IfNone, IfOk, OnOk, IsErr};
+ghost use Rattle.std.specs.Prelude.{◌≡◌, ◌++◌, [], ◌∷◌, slice_get, option_copied, None, Some, IsOk, IsSome, IfSome, IfNone, IfOk, OnOk, OnErr, IsErr, true};
 ghost use Rattle.mes_msg.specs.declared.entry.Entry.TheVariants.{Heard};
-ghost use Rattle.mes_session.specs.History.{after};
+ghost use Rattle.mes_hand.specs.Refusals.{Answers};
+ghost use Rattle.mes_session.specs.History.{after, NeedsMemory};
 ghost use Rattle.mes_master.specs.Masters.{handled};
 ghost use Rattle.mes_master.specs.declared.refusal.MasterRefusal.TheVariants.{NoMemory as no_memory};
 ghost use Rattle.mes_master.specs.Sending.{offers_sent, rescind_sent, update_sent, resend_sent};
 ghost use Rattle.mes_double.specs.declared.moves.Move.TheVariants as moves;
 ghost use Rattle.mes_double.specs.Worlds.{HasRoom, skip, sending, hearing, is_done, taking, world_info, reopening, resubscribing, subscribe_answer, Happens};
+ghost use Rattle.mes_double.specs.Memory.{HearingWants, WishingWants, ArrivingWants, MayWant};
 
 use super::World;
 use crate::moves::Move;
@@ -23,7 +25,8 @@ impl World {
     /// Makes a move, or counts it as skipped where it can't be made, or is refused.
     pub(crate) fn make(&mut self, next: &Move) -> Result<(), NoMemory>
         requires { HasRoom self.old }
-        ensures { OnOk result (Happens self.old next.now self.new) }
+        ensures ok { OnOk result (Happens self.old next.now self.new) }
+        ensures memory { OnErr result (MayWant self.old next.now) }
     {
         match next {
             Move::Offer(offers) => self.offer(offers.as_slice()),
@@ -60,6 +63,7 @@ impl World {
         requires { HasRoom self.old }
         ensures ok { OnOk result (self.new ≡ skip self.old) }
         ensures err { why ≡ no_memory → IsErr result }
+        ensures memory { OnErr result (why ≡ no_memory) }
     {
         match why {
             MasterRefusal::NoMemory => Err(NoMemory),
@@ -73,7 +77,8 @@ impl World {
     /// The master makes offers.
     fn offer(&mut self, offers: &[Offer]) -> Result<(), NoMemory>
         requires { HasRoom self.old }
-        ensures { OnOk result (self.new ≡ sending self.old (offers_sent self.old.master offers.now)) }
+        ensures ok { OnOk result (self.new ≡ sending self.old (offers_sent self.old.master offers.now)) }
+        ensures memory { OnErr result (IsOk (offers_sent self.old.master offers.now)) }
     {
         match self.master.offer(offers) {
             Ok(event) => self.push(event),
@@ -84,7 +89,8 @@ impl World {
     /// The master takes an offer back.
     fn rescind(&mut self, id: &str) -> Result<(), NoMemory>
         requires { HasRoom self.old }
-        ensures { OnOk result (self.new ≡ sending self.old (rescind_sent self.old.master id.now)) }
+        ensures ok { OnOk result (self.new ≡ sending self.old (rescind_sent self.old.master id.now)) }
+        ensures memory { OnErr result (IsOk (rescind_sent self.old.master id.now)) }
     {
         match self.master.rescind(id) {
             Ok(event) => self.push(event),
@@ -95,7 +101,8 @@ impl World {
     /// The master tells a status.
     fn update(&mut self, status: &TaskStatus) -> Result<(), NoMemory>
         requires { HasRoom self.old }
-        ensures { OnOk result (self.new ≡ sending self.old (update_sent self.old.master status.now)) }
+        ensures ok { OnOk result (self.new ≡ sending self.old (update_sent self.old.master status.now)) }
+        ensures memory { OnErr result (IsSome self.old.master.stream) }
     {
         match self.master.update(status) {
             Ok(event) => self.push(event),
@@ -106,7 +113,8 @@ impl World {
     /// The master tells an update again.
     fn resend(&mut self, index: usize) -> Result<(), NoMemory>
         requires { HasRoom self.old }
-        ensures { OnOk result (self.new ≡ sending self.old (resend_sent self.old.master index)) }
+        ensures ok { OnOk result (self.new ≡ sending self.old (resend_sent self.old.master index)) }
+        ensures memory { OnErr result (IsOk (resend_sent self.old.master index)) }
     {
         match self.master.resend(index) {
             Ok(event) => self.push(event),
@@ -119,7 +127,8 @@ impl World {
     /// The first event that waits is heard.
     fn hear(&mut self) -> Result<(), NoMemory>
         requires { HasRoom self.old }
-        ensures { OnOk result (self.new ≡ hearing self.old self.old.waiting) }
+        ensures ok { OnOk result (self.new ≡ hearing self.old self.old.waiting) }
+        ensures memory { OnErr result (HearingWants self.old.waiting) }
     {
         match take_first(&mut self.waiting) {
             Some(event) => self.hear_event(&event),
@@ -132,7 +141,8 @@ impl World {
 
     /// The session hears an event.
     fn hear_event(&mut self, event: &Event) -> Result<(), NoMemory>
-        ensures { OnOk result (self.new ≡ record self.old { session = after self.old.session (Heard event.now) }) }
+        ensures ok { OnOk result (self.new ≡ record self.old { session = after self.old.session (Heard event.now) }) }
+        ensures memory { OnErr result (NeedsMemory event.now) }
     {
         match self.session.heard(event) {
             Ok(()) => Ok(()),
@@ -143,7 +153,8 @@ impl World {
     /// The session says a call, which is sent with the id of the current stream.
     fn wish(&mut self, call: &Call) -> Result<(), NoMemory>
         requires { HasRoom self.old }
-        ensures { OnOk result (Happens self.old (moves.Wish call.now) self.new) }
+        ensures ok { OnOk result (Happens self.old (moves.Wish call.now) self.new) }
+        ensures memory { OnErr result (WishingWants self.old call.now self.old.master.stream) }
     {
         match current(&self.master) {
             Some(stream) => self.say(call, stream),
@@ -158,7 +169,8 @@ impl World {
     fn say(&mut self, call: &Call, stream: StreamId) -> Result<(), NoMemory>
         requires room { HasRoom self.old }
         requires current { self.old.master.stream ≡ Some stream }
-        ensures { OnOk result (Happens self.old (moves.Wish call.now) self.new) }
+        ensures ok { OnOk result (Happens self.old (moves.Wish call.now) self.new) }
+        ensures memory { OnErr result (Answers self.old.session call.now None) }
     {
         match self.session.said(call) {
             Ok(()) => self.send(call, stream),
@@ -183,7 +195,8 @@ impl World {
     /// The call that was sent at that place reaches the master.
     fn arrive(&mut self, index: usize) -> Result<(), NoMemory>
         requires { HasRoom self.old }
-        ensures { OnOk result (Happens self.old (moves.Arrive index) self.new) }
+        ensures ok { OnOk result (Happens self.old (moves.Arrive index) self.new) }
+        ensures memory { OnErr result (ArrivingWants self.old (slice_get self.old.sent index)) }
     {
         match sent_at(self.sent.as_slice(), index) {
             Some(sent) => {
@@ -200,7 +213,8 @@ impl World {
     /// The master answered a call: its events wait, or it was refused.
     fn answered(&mut self, answer: Answer) -> Result<(), NoMemory>
         requires { HasRoom self.old }
-        ensures { OnOk result (self.new ≡ taking self.old answer.status answer.events.items) }
+        ensures ok { OnOk result (self.new ≡ taking self.old answer.status answer.events.items) }
+        ensures memory { OnErr result (is_done answer.status ≡ true) }
     {
         if is_done(answer.status) {
             push_all(&mut self.waiting, answer.events)

@@ -1,0 +1,49 @@
+-- Which moves may want memory, and where a list of moves has one that does.
+use Rattle.std.specs.Prelude.{◌≡◌, ℕ, true, List, [], ◌∷◌, take, slice_get, Option, Some, None, IsSome, IsOk}
+use Rattle.mes_resource.specs.declared.id.Id.{Id}
+use Rattle.mes_event.specs.declared.event.Event.{Event}
+use Rattle.mes_call.specs.declared.call.Call.{Call}
+use Rattle.mes_hand.specs.Refusals.{Answers}
+use Rattle.mes_session.specs.History.{NeedsMemory}
+use Rattle.mes_master.specs.Sending.{offers_sent, rescind_sent, resend_sent}
+use Rattle.mes_double.specs.declared.moves.Move.{Move}
+use Rattle.mes_double.specs.declared.moves.Move.TheVariants as moves
+use Rattle.mes_double.specs.declared.sent.Sent.{Sent}
+use Rattle.mes_double.specs.Worlds.{WorldState, is_done, answer_to}
+use Rattle.mes_double.specs.Courses.{Course, IsCourse}
+
+-- the first of the events needs memory to be heard
+abbrev pub HearingWants : List Event → Type 0
+HearingWants [] = ⊥
+HearingWants (event ∷ events) = NeedsMemory event
+
+-- a stream is current, and nothing is to be said against the call
+abbrev pub WishingWants : WorldState → Call → Option (List ℕ) → Type 0
+WishingWants w call None = ⊥
+WishingWants w call (Some stream) = Answers w.session call None
+
+-- the call was sent, and is carried out
+abbrev pub ArrivingWants : WorldState → Option Sent → Type 0
+ArrivingWants w None = ⊥
+ArrivingWants w (Some p) = is_done (answer_to w p).status ≡ true
+
+-- Memory may be wanted of a move that would be made, and of no other, but for two: an update on a stream, whose key is copied before it
+-- is known whether it was used, and a SUBSCRIBE, which is built before the master answers it.
+abbrev pub MayWant : WorldState → Move → Type 0
+MayWant w (moves.Offer offers) = IsOk (offers_sent w.master offers)
+MayWant w (moves.Rescind name) = IsOk (rescind_sent w.master name)
+MayWant w (moves.Update status) = IsSome w.master.stream
+MayWant w (moves.Resend index) = IsOk (resend_sent w.master index)
+MayWant w moves.Hear = HearingWants w.waiting
+MayWant w (moves.Wish call) = WishingWants w call w.master.stream
+MayWant w (moves.Arrive index) = ArrivingWants w (slice_get w.sent index)
+MayWant w moves.Resubscribe = Unit {0}
+
+-- one of the moves may want memory in the world that those in front of it lead to
+pub record WantsMemory (framework : Id) (ids : List (List ℕ)) (list : List Move) : Type 0 where
+  pub index : ℕ
+  pub move : Move
+  pub is : slice_get list index ≡ Some move
+  pub course : Course
+  pub leads : IsCourse framework ids (take index list) course
+  pub wants : MayWant course.world move

@@ -1,0 +1,133 @@
+//! A world in words.
+
+use mes_double::{Master, World};
+use mes_json::NoMemory;
+use mes_msg::Event;
+use mes_session::Session;
+use std::alloc::Global;
+
+/// The world in one line: what the master has, what the session has, and what is between them.
+pub(crate) fn end_of(alloc: Global, world: &World) -> Result<String, NoMemory> {
+    let mut line = String::new(alloc);
+    tell_master(&mut line, world.master())?;
+    tell_session(&mut line, world.session())?;
+    tell_waiting(&mut line, world.waiting())?;
+    let rest = format!(in alloc;
+        " | sent {} | skipped {}",
+        world.sent().len(),
+        world.skipped()
+    )?;
+    line.push_str(rest.as_str())?;
+    Ok(line)
+}
+
+/// What the master has.
+fn tell_master(line: &mut String, master: &Master) -> Result<(), NoMemory> {
+    line.push_str("stream ")?;
+    line.push_str(last_of(master))?;
+    tell_outstanding(line, master)?;
+    tell_launched(line, master)?;
+    tell_acked(line, master)
+}
+
+/// The last character of the current stream's id, or `-`.
+fn last_of(master: &Master) -> &str {
+    match master.stream() {
+        Some(id) => id.as_str().get(35..36).unwrap_or("?"),
+        None => "-",
+    }
+}
+
+/// One more name.
+fn tell_name(line: &mut String, name: &str) -> Result<(), NoMemory> {
+    line.push_str(" ")?;
+    line.push_str(name)?;
+    Ok(())
+}
+
+/// The outstanding offers.
+fn tell_outstanding(line: &mut String, master: &Master) -> Result<(), NoMemory> {
+    line.push_str(" | outstanding")?;
+    for index in 0..master.outstanding_len() {
+        if let Some(offer) = master.outstanding_at(index) {
+            tell_name(line, offer.id.value.as_str())?;
+        }
+    }
+    Ok(())
+}
+
+/// The launched tasks.
+fn tell_launched(line: &mut String, master: &Master) -> Result<(), NoMemory> {
+    line.push_str(" | launched")?;
+    for index in 0..master.launched_len() {
+        if let Some(id) = master.launched_at(index) {
+            tell_name(line, id.value.as_str())?;
+        }
+    }
+    Ok(())
+}
+
+/// The tasks of the updates that were acknowledged.
+fn tell_acked(line: &mut String, master: &Master) -> Result<(), NoMemory> {
+    line.push_str(" | acked")?;
+    for index in 0..master.acked_len() {
+        if let Some(key) = master.acked_at(index) {
+            tell_name(line, key.task.value.as_str())?;
+        }
+    }
+    Ok(())
+}
+
+/// What the session has: its framework or `-`, whether its stream stands, the offers in hand, and the tasks of the updates that it owes.
+fn tell_session(line: &mut String, session: &Session) -> Result<(), NoMemory> {
+    line.push_str(" | framework ")?;
+    line.push_str(match session.framework() {
+        Some(id) => id.value.as_str(),
+        None => "-",
+    })?;
+    line.push_str(if session.connected() { " on" } else { " off" })?;
+    tell_hand(line, session)?;
+    tell_owed(line, session)
+}
+
+/// The offers in hand.
+fn tell_hand(line: &mut String, session: &Session) -> Result<(), NoMemory> {
+    line.push_str(" | hand")?;
+    for index in 0..session.hand_len() {
+        if let Some(offer) = session.hand_at(index) {
+            tell_name(line, offer.id.value.as_str())?;
+        }
+    }
+    Ok(())
+}
+
+/// The tasks of the updates that are owed.
+fn tell_owed(line: &mut String, session: &Session) -> Result<(), NoMemory> {
+    line.push_str(" | owed")?;
+    for index in 0..session.owed_len() {
+        if let Some(key) = session.owed_at(index) {
+            tell_name(line, key.task.value.as_str())?;
+        }
+    }
+    Ok(())
+}
+
+/// The events that wait, by their names.
+fn tell_waiting(line: &mut String, waiting: &[Event]) -> Result<(), NoMemory> {
+    line.push_str(" | waiting")?;
+    for event in waiting {
+        tell_name(line, name_of(event))?;
+    }
+    Ok(())
+}
+
+/// The name of an event.
+fn name_of(event: &Event) -> &'static str {
+    match event {
+        Event::Subscribed(_) => "SUBSCRIBED",
+        Event::Offers(_) => "OFFERS",
+        Event::Rescind(_) => "RESCIND",
+        Event::Update(_) => "UPDATE",
+        _ => "?",
+    }
+}

@@ -1,0 +1,69 @@
+//! The lines that moves are written as.
+
+use mes_double::Move;
+use mes_json::{NoMemory, Text};
+use mes_msg::{Call, Event};
+use std::alloc::Global;
+use uuid::Uuid;
+
+/// What a line says.
+#[derive(Drop)]
+pub(crate) enum Line {
+    /// One more move.
+    Move(Move),
+    /// The list of moves ends.
+    End,
+}
+
+/// What a line says, if it is one and memory is there.
+pub(crate) fn read_line(alloc: Global, line: &str) -> Option<Line> {
+    match line {
+        "end" => Some(Line::End),
+        "hear" => Some(Line::Move(Move::Hear)),
+        "resubscribe" => Some(Line::Move(Move::Resubscribe)),
+        _ => {
+            let (word, rest) = line.split_once(' ')?;
+            Some(Line::Move(read_move(alloc, word, rest)?))
+        }
+    }
+}
+
+/// The move of this name.
+fn read_move(alloc: Global, word: &str, rest: &str) -> Option<Move> {
+    match word {
+        "offer" => read_offer(alloc, rest),
+        "update" => read_update(alloc, rest),
+        "rescind" => Some(Move::Rescind(Text::of(alloc, rest).ok()?)),
+        "resend" => Some(Move::Resend(rest.parse::<usize>().ok()?)),
+        "arrive" => Some(Move::Arrive(rest.parse::<usize>().ok()?)),
+        "wish" => Some(Move::Wish(Call::read_record(alloc, rest.as_bytes()).ok()?)),
+        _ => None,
+    }
+}
+
+/// The offers of an OFFERS are made.
+fn read_offer(alloc: Global, text: &str) -> Option<Move> {
+    match Event::read_record(alloc, text.as_bytes()) {
+        Ok(Event::Offers(offers)) => Some(Move::Offer(offers)),
+        _ => None,
+    }
+}
+
+/// The status of an UPDATE is told.
+fn read_update(alloc: Global, text: &str) -> Option<Move> {
+    match Event::read_record(alloc, text.as_bytes()) {
+        Ok(Event::Update(body)) => Some(Move::Update(body.status)),
+        _ => None,
+    }
+}
+
+/// The UUIDs that end in 1, 2 and so on and are zero elsewhere.
+pub(crate) fn ids_from_one(alloc: Global, count: u8) -> Result<Vec<Uuid>, NoMemory> {
+    let mut ids = Vec::new(alloc);
+    for last in 0..count {
+        let mut bytes = [0; 16];
+        bytes[15] = last + 1;
+        ids.push(Uuid::from_bytes(bytes))?;
+    }
+    Ok(ids)
+}
