@@ -1,5 +1,5 @@
 -- What some socket gave, shown.
-use Rattle.std.proofs.Common.{◌≡◌, ◌∙◌, ◌⊎◌, ap, inl, inr, refl, true, ℕ, List, Result, Ok, subst}
+use Rattle.std.proofs.Common.{◌≡◌, ◌∙◌, ◌⊎◌, ap, inl, inr, refl, Bool, true, false, ℕ, List, Result, subst}
 use Rattle.mes_event.specs.declared.event.Event.{Event}
 use Rattle.mes_frame.specs.Devices.{Device}
 use Rattle.mes_frame.specs.declared.write.WriteFault.{WriteFault}
@@ -7,7 +7,8 @@ use Rattle.mes_master.specs.Masters.{MasterState}
 use Rattle.mes_master.specs.Runs.{new_master}
 use Rattle.mes_model.specs.declared.framework_info.FrameworkInfo.{FrameworkInfo}
 use Rattle.mes_net.specs.Given.{plain_framework, test_framework}
-use Rattle.mes_net.specs.Looped.{LoopsEvents, ShowsSome}
+use Rattle.mes_msg.specs.declared.send_fault.SendFault.{SendFault}
+use Rattle.mes_net.specs.Looped.{AnswersLoop, LoopsEvents, ServesLoop, ShowsSome, is_whole, loopback_framework, loopback_host}
 use Rattle.mes_net.specs.StreamIds.{ids_from}
 use Rattle.mes_net.specs.Subscribed.{SubscribesSome}
 use Rattle.mes_net.proofs.TurnLemmas.{served_some}
@@ -15,7 +16,7 @@ use Rattle.mes_run.specs.Printing.{LacksMemory, Prints}
 use Rattle.mes_run.specs.declared.ended.Ended.{Ended}
 use Rattle.mes_serve.specs.Lines.{write_failed_line}
 use Rattle.mes_serve.specs.Serving.{ServesOne}
-use Rattle.mes_serve.specs.Subscribing.{SubscribesOver}
+use Rattle.mes_serve.specs.Subscribing.{SentSubscribe, StopsSubscribe, SubscribesOver, TellsUnsent}
 use Rattle.mes_serve.specs.declared.served.Served.{Served}
 
 pub subscribed_some : (info plain : FrameworkInfo) (host to : List ℕ) (reads most : ℕ) (input rest writer written out printed : Device) (ended : Ended)
@@ -34,28 +35,65 @@ subscribed_some info plain host to reads most input rest writer written out prin
 pub same_framework : (info : FrameworkInfo) (user name u n : List ℕ) → info ≡ plain_framework u n → u ≡ user → n ≡ name → info ≡ plain_framework user name
 same_framework info user name u n is a b = is ∙ ap (λ (x : List ℕ). plain_framework x n) a ∙ ap (plain_framework user) b
 
+-- the connection was served so far
+looped : (first : List ℕ) (most : ℕ) (given : List Event) (before : MasterState) (input rest writer written out dropped : Device) (later : MasterState) (r : Result Served WriteFault)
+    (whole : Bool) → before ≡ new_master test_framework (ids_from first 1) → is_whole r ≡ whole
+    → ServesOne before given most input rest writer written out dropped later r → ServesLoop first most given whole
+looped first most given before input rest writer written out dropped later r whole same is serves = record {
+  out = out;
+  dropped = dropped;
+  later = later;
+  served = r;
+  serves = served_some most most (new_master test_framework (ids_from first 1)) given input rest writer written out dropped later r r refl refl
+      (subst (λ (m : MasterState). ServesOne m given most input rest writer written out dropped later r) same serves);
+  is = is;
+}
+
 -- a master that answered all, and what was shown of that; or there was no memory for it
 pub answered : (first : List ℕ) (most : ℕ) (given : List Event) (before : MasterState) (input rest writer written out dropped : Device) (later : MasterState) (r : Result Served WriteFault)
-    (served : Served) (told printed : Device) (ended : Ended) → before ≡ new_master test_framework (ids_from first 1) → r ≡ Ok served → served.answered ≡ true
+    (told printed : Device) (ended : Ended) → before ≡ new_master test_framework (ids_from first 1) → is_whole r ≡ true
     → ServesOne before given most input rest writer written out dropped later r → ShowsSome told printed ended ⊎ LacksMemory told printed ended
-    → LoopsEvents first most given told printed ended
-answered first most given before input rest writer written out dropped later r served told printed ended same is all serves (inl shows) =
-    inl (
-      record {
-        out = out;
-        dropped = dropped;
-        later = later;
-        served = served;
-        serves = served_some most most (new_master test_framework (ids_from first 1)) given input rest writer written out dropped later r (Ok served) refl is
-            (subst (λ (m : MasterState). ServesOne m given most input rest writer written out dropped later r) same serves);
-        answered = all;
-      },
-      shows,
-    )
-answered first most given before input rest writer written out dropped later r served told printed ended same is all serves (inr lacks) = inr (inr (inr lacks))
+    → AnswersLoop first most given told printed ended
+answered first most given before input rest writer written out dropped later r told printed ended same is serves (inl shows) =
+    inl (looped first most given before input rest writer written out dropped later r true same is serves, shows)
+answered first most given before input rest writer written out dropped later r told printed ended same is serves (inr lacks) = inr (inr lacks)
 
 -- it was not answered, which was told
-pub unanswered : (first : List ℕ) (most : ℕ) (given : List Event) (told printed : Device) (ended : Ended)
-    → Prints told printed write_failed_line 1 ended ⊎ LacksMemory told printed ended → LoopsEvents first most given told printed ended
-unanswered first most given told printed ended (inl prints) = inr (inl prints)
-unanswered first most given told printed ended (inr lacks) = inr (inr (inr lacks))
+pub unanswered : (first : List ℕ) (most : ℕ) (given : List Event) (before : MasterState) (input rest writer written out dropped : Device) (later : MasterState) (r : Result Served WriteFault)
+    (told printed : Device) (ended : Ended) → before ≡ new_master test_framework (ids_from first 1) → is_whole r ≡ false
+    → ServesOne before given most input rest writer written out dropped later r → Prints told printed write_failed_line 1 ended ⊎ LacksMemory told printed ended
+    → AnswersLoop first most given told printed ended
+unanswered first most given before input rest writer written out dropped later r told printed ended same is serves (inl prints) =
+    inr (inl (looped first most given before input rest writer written out dropped later r false same is serves, prints))
+unanswered first most given before input rest writer written out dropped later r told printed ended same is serves (inr lacks) = inr (inr lacks)
+
+-- ---- the SUBSCRIBE
+
+-- it went out, and was answered
+pub sent_some : (info : FrameworkInfo) (host : List ℕ) (writer written : Device) (first : List ℕ) (most : ℕ) (given : List Event) (told printed : Device) (ended : Ended)
+    → info ≡ loopback_framework → host ≡ loopback_host → SentSubscribe info host writer written → AnswersLoop first most given told printed ended
+    → LoopsEvents first most given told printed ended
+sent_some info host writer written first most given told printed ended same to sent answers =
+    inl (
+      record {
+        writer = writer;
+        written = written;
+        sends = subst (λ (i : FrameworkInfo). SentSubscribe i loopback_host writer written) same (subst (λ (h : List ℕ). SentSubscribe info h writer written) to sent);
+      },
+      answers,
+    )
+
+-- it did not, which was told
+pub stopped_some : (info : FrameworkInfo) (host : List ℕ) (writer written : Device) (first : List ℕ) (most : ℕ) (given : List Event) (fault : SendFault) (told printed : Device) (ended : Ended)
+    → info ≡ loopback_framework → host ≡ loopback_host → StopsSubscribe info host writer written fault → TellsUnsent fault told printed ended
+    → LoopsEvents first most given told printed ended
+stopped_some info host writer written first most given fault told printed ended same to stops tells =
+    inr (inl (
+      fault,
+      record {
+        writer = writer;
+        written = written;
+        stops = subst (λ (i : FrameworkInfo). StopsSubscribe i loopback_host writer written fault) same (subst (λ (h : List ℕ). StopsSubscribe info h writer written fault) to stops);
+      },
+      tells,
+    ))

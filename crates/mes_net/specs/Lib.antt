@@ -4,4 +4,5 @@ pub mod Given
 pub mod StreamIds
 pub mod ServedTurns
 pub mod Subscribed
+pub mod Unread
 pub mod Looped

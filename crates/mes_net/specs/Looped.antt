@@ -1,11 +1,14 @@
 -- Both ends of a connection in one process.
-use Rattle.std.specs.Prelude.{◌≡◌, ◌⊎◌, ℕ, true, List, ◌++◌, Ok, codes}
+use Rattle.std.specs.Prelude.{◌≡◌, ◌⊎◌, ℕ, Bool, true, false, List, Result, Ok, Err, codes}
 use Rattle.std.specs.Int.{to_be_bytes, w128}
 use Rattle.mes_event.specs.declared.event.Event.{Event}
 use Rattle.mes_frame.specs.Devices.{Device}
+use Rattle.mes_frame.specs.declared.write.WriteFault.{WriteFault}
 use Rattle.mes_master.specs.Masters.{MasterState}
 use Rattle.mes_master.specs.Runs.{new_master}
-use Rattle.mes_net.specs.Given.{Given, test_framework}
+use Rattle.mes_model.specs.declared.framework_info.FrameworkInfo.{FrameworkInfo}
+use Rattle.mes_msg.specs.declared.send_fault.SendFault.{SendFault}
+use Rattle.mes_net.specs.Given.{Given, plain_framework, test_framework}
 use Rattle.mes_net.specs.NetLines.{IsNetLine, TellsNet}
 use Rattle.mes_net.specs.ServedTurns.{ServesSome}
 use Rattle.mes_net.specs.StreamIds.{ids_from}
@@ -14,21 +17,45 @@ use Rattle.mes_run.specs.Printing.{LacksMemory, Prints}
 use Rattle.mes_run.specs.declared.ended.Ended.{Ended}
 use Rattle.mes_run.specs.declared.limits.TheConstants.{READS_MOST}
 use Rattle.mes_serve.specs.Lines.{write_failed_line}
-use Rattle.mes_serve.specs.Subscribing.{ShowsAnswer}
+use Rattle.mes_serve.specs.Subscribing.{SentSubscribe, StopsSubscribe, ShowsAnswer, TellsUnsent}
 use Rattle.mes_serve.specs.declared.served.Served.{Served}
 
 -- the id of its stream
 abbrev pub loopback_stream : List ℕ
 loopback_stream = to_be_bytes w128 LOOPBACK_STREAM
 
--- A new test master served a connection, whose lines were dropped, and all was answered.
-pub record AnswersSome (first : List ℕ) (most : ℕ) (given : List Event) : Type 0 where
+-- the framework that subscribes, and the host that its request names
+abbrev pub loopback_framework : FrameworkInfo
+loopback_framework = plain_framework (codes "root") (codes "loopback")
+
+abbrev pub loopback_host : List ℕ
+loopback_host = codes "127.0.0.1"
+
+-- its SUBSCRIBE went out whole over some socket
+pub record SendsSome : Type 0 where
+  pub writer : Device
+  pub written : Device
+  pub sends : SentSubscribe loopback_framework loopback_host writer written
+
+-- it did not, for this reason
+pub record StopsSome (fault : SendFault) : Type 0 where
+  pub writer : Device
+  pub written : Device
+  pub stops : StopsSubscribe loopback_framework loopback_host writer written fault
+
+-- whether all was answered
+abbrev pub is_whole : Result Served WriteFault → Bool
+is_whole (Ok served) = served.answered
+is_whole (Err fault) = false
+
+-- A new test master served a connection, whose lines were dropped, and all was answered, or not.
+pub record ServesLoop (first : List ℕ) (most : ℕ) (given : List Event) (whole : Bool) : Type 0 where
   pub out : Device
   pub dropped : Device
   pub later : MasterState
-  pub served : Served
-  pub serves : ServesSome most (new_master test_framework (ids_from first 1)) given out dropped later (Ok served)
-  pub answered : served.answered ≡ true
+  pub served : Result Served WriteFault
+  pub serves : ServesSome most (new_master test_framework (ids_from first 1)) given out dropped later served
+  pub is : is_whole served ≡ whole
 
 -- what some socket gave was shown as an answer to a SUBSCRIBE
 pub record ShowsSome (out printed : Device) (ended : Ended) : Type 0 where
@@ -36,12 +63,22 @@ pub record ShowsSome (out printed : Device) (ended : Ended) : Type 0 where
   pub rest : Device
   pub shows : ShowsAnswer READS_MOST input rest out printed ended
 
--- The events went from a test master to a scheduler, in chunks of `most` bytes, and were shown there. Or they did not, as a stream that
--- can't be encoded or written, or sockets could not be had, or memory was refused; one line tells that.
+-- The SUBSCRIBE was answered, and the answer was shown. Or it was not, since the stream can't be encoded, or memory was refused; one line
+-- tells that.
+abbrev pub AnswersLoop : List ℕ → ℕ → List Event → Device → Device → Ended → Type 0
+AnswersLoop first most given out printed ended =
+    (ServesLoop first most given true × ShowsSome out printed ended)
+    ⊎ (ServesLoop first most given false × Prints out printed write_failed_line 1 ended)
+    ⊎ LacksMemory out printed ended
+
+-- The events went from a test master to a scheduler that subscribed, in chunks of `most` bytes, and were shown there. Or the SUBSCRIBE was
+-- not sent, or sockets could not be had, or memory was refused; one line tells that.
 abbrev pub LoopsEvents : List ℕ → ℕ → List Event → Device → Device → Ended → Type 0
 LoopsEvents first most given out printed ended =
-    (AnswersSome first most given × ShowsSome out printed ended)
-    ⊎ Prints out printed write_failed_line 1 ended ⊎ ((line : List ℕ) × IsNetLine line × TellsNet line out printed ended) ⊎ LacksMemory out printed ended
+    (SendsSome × AnswersLoop first most given out printed ended)
+    ⊎ ((fault : SendFault) × StopsSome fault × TellsUnsent fault out printed ended)
+    ⊎ ((line : List ℕ) × IsNetLine line × TellsNet line out printed ended)
+    ⊎ LacksMemory out printed ended
 
 -- the input was read, and its events went from one end to the other
 unfoldable pub Loops : ℕ → Device → Device → Device → Device → Ended → Type 0

@@ -1,22 +1,22 @@
 //! Both ends of a connection in one process.
 
-ghost use Rattle.std.specs.Prelude.{◌⊎◌};
+ghost use Rattle.std.specs.Prelude.{◌≡◌, ◌⊎◌};
 ghost use Rattle.mes_frame.specs.Devices.{device_of};
-ghost use Rattle.mes_net.specs.Looped.{Loops, LoopsEvents, ShowsSome};
+ghost use Rattle.mes_net.specs.Looped.{AnswersLoop, Loops, LoopsEvents, ShowsSome, is_whole};
 ghost use Rattle.mes_run.specs.Printing.{LacksMemory, Prints};
 ghost use Rattle.mes_serve.specs.Lines.{write_failed_line};
 
 use crate::framework::framework_info;
 use crate::pair::{Pair, connected_pair};
 use crate::serving::test_master;
-use crate::turns::Turns;
+use crate::turns::{Turns, UNREAD_MOST};
 use mes_event::Event;
-use mes_frame::{FromStd, Limit, MemorySink, Sink, Source};
+use mes_frame::{FromStd, Limit, MemorySink, Sink, Source, WriteFault};
 use mes_run::{ChunkSize, Ended, FAULT, READS_MOST, out_of_memory, print_fault, print_text};
-use mes_serve::{WRITE_FAILED, send_subscribe, serve_one, show_answer, tell_unsent};
+use mes_serve::{Served, WRITE_FAILED, send_subscribe, serve_one, show_answer, tell_unsent};
 use mes_stream::read_plain;
 use std::alloc::{AllocGlobal, Global};
-use std::io;
+use std::io::{self, BufReader};
 use std::net::{Net, TcpListener, TcpStream};
 use uuid::Uuid;
 
@@ -33,8 +33,9 @@ const HOST: &str = "127.0.0.1";
 pub const LOOPBACK_STREAM: u128 = 0x4000_8000_0000_0000_0001;
 
 /// Reads events from the input as plain RecordIO, and then lets a test master of the framework `F1` send them, in chunks of so many bytes,
-/// to a scheduler in the same process, over a socket, and shows what comes there, as `subscribe_over` does. Tells the first fault of the input; that the stream can't be encoded or written, `net write failed`; or why there is no connection;
-/// with the status 1. Holds all events, and their stream as it is sent.
+/// to a scheduler in the same process, over a socket, and shows what comes there, as `subscribe_over` does. The scheduler subscribes as
+/// user `root` and name `loopback`. Tells the first fault of the input; that the stream can't be encoded, or the SUBSCRIBE not be sent,
+/// `net write failed`; or why there is no connection; with the status 1. Holds all events, and their stream as it is sent.
 pub fn loopback<R, I: Source, O: Sink>(rt: &R, most: ChunkSize, input: &mut I, out: &mut O) -> Ended
 where
     R: AllocGlobal + Net<Listener = TcpListener, Stream = TcpStream>,
@@ -87,7 +88,7 @@ fn answer<O: Sink>(
     pair: &Pair,
     out: &mut O,
 ) -> Ended
-    ensures { LoopsEvents stream most events.now (device_of O.written O.counts out.old) (device_of O.written O.counts out.new) result }
+    ensures { AnswersLoop stream most events.now (device_of O.written O.counts out.old) (device_of O.written O.counts out.new) result }
 {
     let Ok(mut master) = test_master(alloc, stream, 1) else {
         return out_of_memory(out);
@@ -95,7 +96,7 @@ fn answer<O: Sink>(
     let mut reader = FromStd::new(&pair.server);
     let mut written = MemorySink::new(alloc, usize::MAX);
     let mut dropped = FromStd::new(io::sink());
-    match serve_one(
+    let served = serve_one(
         alloc,
         &mut master,
         events,
@@ -103,9 +104,21 @@ fn answer<O: Sink>(
         &mut reader,
         &mut written,
         &mut dropped,
-    ) {
-        Ok(served) if served.answered => show(alloc, pair, written.bytes(), out),
-        _ => tell_unanswered(out, written.counts().failures),
+    );
+    if is_whole(&served) {
+        show(alloc, pair, written.bytes(), out)
+    } else {
+        tell_unanswered(out, written.counts().failures)
+    }
+}
+
+/// Whether all was answered.
+fn is_whole(served: &Result<Served, WriteFault>) -> bool
+    ensures { result ≡ is_whole served.now }
+{
+    match served {
+        Ok(served) => served.answered,
+        Err(_) => false,
     }
 }
 
@@ -119,8 +132,12 @@ fn show<O: Sink>(alloc: Global, pair: &Pair, bytes: &[u8], out: &mut O) -> Ended
     }
     // What is written is to go out at once, not to wait for what comes behind it.
     let _ = pair.server.set_nodelay(true);
-    let mut reader = FromStd::new(Turns::new(&pair.client, &pair.server, bytes));
-    show_from(alloc, &mut reader, out)
+    let turns = Turns::new(&pair.client, &pair.server, bytes);
+    // All that was written is taken by one call of the socket.
+    match BufReader::with_capacity(alloc, UNREAD_MOST, turns) {
+        Ok(reader) => show_from(alloc, &mut FromStd::new(reader), out),
+        Err(_) => out_of_memory(out),
+    }
 }
 
 /// Shows the answer that this reader gives.

@@ -28,8 +28,8 @@ pub const STREAM_CHUNK: u32 = 4_096;
 /// The most bytes of a request that are passed over by one read.
 const UNREAD_READ: usize = 4_096;
 
-/// The most reads that pass over a request: 1 MiB.
-const UNREAD_READS: u32 = 256;
+/// The most reads that pass over a request: 16 MiB.
+const UNREAD_READS: u32 = 4_096;
 
 /// Reads events from the input as plain RecordIO, and then serves a test master of the framework `F1` on this port of 127.0.0.1 for so many
 /// connections, one after the other; its streams have this id and those that count up from it, and these events, in chunks of

@@ -1,17 +1,18 @@
 //! The client's end of a connection whose other end writes in turn with its reads, in one thread.
 
-ghost use Rattle.std.specs.Prelude.{◌≤◌, length, IfOk};
+ghost use Rattle.std.specs.Prelude.{◌≡◌, OnOk, OnErr};
+ghost use Rattle.mes_net.specs.Unread.{Unread, Writes};
 
-use mes_stream::READ_MOST;
 use std::io;
 use std::io::{ErrorKind, Read, Write};
+use std::marker::Model;
 use std::net::TcpStream;
 
 /// The most bytes that are written and not yet read.
 pub const UNREAD_MOST: usize = 4_096;
 
-/// A reader of what comes to the client. Before a read that may take all that is unread, as one of `READ_MOST` bytes may, the other end
-/// writes of what is pending, up to `UNREAD_MOST` bytes that are unread; so a read never waits for what nobody writes.
+/// A reader of what comes to the client. Before each read the other end writes of what is pending, up to `UNREAD_MOST` bytes that are
+/// unread; so a read never waits for what nobody writes. A reader of that many bytes a call takes them all by one.
 #[derive(Drop)]
 pub(crate) struct Turns<'a> {
     client: &'a TcpStream,
@@ -22,13 +23,23 @@ pub(crate) struct Turns<'a> {
     unread: usize,
 }
 
+impl<'a> Model for Turns<'a> {
+    ghost use Rattle.std.specs.Prelude.{◌≤◌};
+    ghost use Rattle.mes_net.specs.Unread.{Unread};
+    ghost use Rattle.mes_net.specs.declared.turns.TheConstants.{UNREAD_MOST};
+
+    ghost Value = { Unread };
+
+    ghost view = { λ t. record { pending = t.pending.now; unread = t.unread } };
+
+    ghost invariant = { λ t. t.unread ≤ UNREAD_MOST };
+}
+
 impl<'a> Turns<'a> {
     /// The client's end, where the other end has all of these bytes to write.
-    pub(crate) fn new(
-        client: &'a TcpStream,
-        server: &'a TcpStream,
-        pending: &'a [u8],
-    ) -> Turns<'a> {
+    pub(crate) fn new(client: &'a TcpStream, server: &'a TcpStream, pending: &'a [u8]) -> Turns<'a>
+        ensures { result ≡ record { pending = pending.entry.now; unread = 0 } }
+    {
         Turns {
             client,
             server,
@@ -37,11 +48,11 @@ impl<'a> Turns<'a> {
         }
     }
 
-    // Lets the other end write, where a read may take all that is unread. Errors: it failed, or took no byte of some.
-    fn write_pending(&mut self) -> io::Result<()> {
-        if self.unread >= READ_MOST {
-            return Ok(());
-        }
+    // Lets the other end write. Errors: it failed, or took no byte of some.
+    fn write_pending(&mut self) -> io::Result<()>
+        ensures ok { OnOk result (Writes self.old self.new) }
+        ensures err { OnErr result (self.new ≡ self.old) }
+    {
         let room = UNREAD_MOST
             .saturating_sub(self.unread)
             .min(self.pending.len());

@@ -4,5 +4,8 @@ use Rattle.mes_net.proofs.looping.show.Goals as goal
 pub returns-then-is_empty : goal.returns-then-is_empty
 returns-then-is_empty g c = inr c.out_of_memory.ensures
 
-pub returns : goal.returns
-returns g c = inl c.show_from.ensures
+pub returns-in-Ok : goal.returns-in-Ok
+returns-in-Ok g c = inl c.show_from.ensures
+
+pub returns-in-Err : goal.returns-in-Err
+returns-in-Err g c = inr c.out_of_memory-in-Err.ensures

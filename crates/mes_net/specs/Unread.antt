@@ -1,0 +1,11 @@
+-- What one end of a connection has written and the other has not read.
+use Rattle.std.specs.Prelude.{◌≡◌, ℕ, ◌+◌, List, drop}
+
+-- the bytes that are not written yet, and how many were written and not read
+pub record Unread : Type 0 where
+  pub pending : List ℕ
+  pub unread : ℕ
+
+-- so many of the bytes were written
+abbrev pub Writes : Unread → Unread → Type 0
+Writes old new = (n : ℕ) × (new.pending ≡ drop n old.pending) × (new.unread ≡ old.unread + n)
