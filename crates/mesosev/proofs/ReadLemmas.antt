@@ -9,7 +9,7 @@ use Rattle.clap.specs.declared.parser.matches.ArgMatches.{ArgMatches}
 use Rattle.clap.specs.declared.parser.matches.ArgMatches.TheViews.{out-ArgMatches, out-SubCommand}
 use Rattle.clap.specs.declared.parser.matches.SubCommand.{SubCommand}
 use Rattle.mesosev.specs.CommandLine.{command_app}
-use Rattle.mesosev.specs.NamedOptions.{IsReadAs, LackValue, LacksValue, NameOptions, Reads, RefusesWords}
+use Rattle.mesosev.specs.NamedOptions.{IsReadAs, IsUnknown, LackValue, LacksValue, NameOptions, Reads, RefusesWords}
 use Rattle.mesosev.specs.declared.words.Options.{Options}
 use Rattle.mesosev.specs.declared.words.WordsFault.{WordsFault}
 use Rattle.mesosev.specs.declared.words.WordsFault.TheVariants.{Clap, BadValue, NoMemory}
@@ -37,7 +37,6 @@ module _ (words : List Text) (read : Text × List Row) (is : subcommand_of comma
   read_refused (Err (BadValue option)) reads taken =
       (taken, λ h. reads.1 (h.0, subst (λ met. IsSomeAnd met (λ m. IsReadAs m h.0)) is h.1, h.2), lacking (reads.0))
     where
-      lacking : LacksValue read option.now ⊎ (option.now ≡ codes "COMMAND") → LackValue words option.now
-      lacking (inl lacks) = inl (subst (λ met. IsSomeAnd met (λ m. LacksValue m option.now)) (sym is) lacks)
-      lacking (inr unknown) = inr unknown
+      lacking : LacksValue read option.now ⊎ IsUnknown read.0 option.now → LackValue words option.now
+      lacking lacks = inl (subst (λ met. IsSomeAnd met (λ m. LacksValue m option.now ⊎ IsUnknown m.0 option.now)) (sym is) lacks)
   read_refused (Err NoMemory) reads taken = tt

@@ -159,9 +159,19 @@ pub record LacksValue (read : Text × List Row) (option : Text) : Type 0 where
   pub is : option ≡ option_of setting
   pub lacks : ¬ (IsGood setting read.1)
 
--- the words give the option of this name no value in its range, or they give no subcommand that is known, which is told as `COMMAND`
+-- the names of the subcommands
+abbrev pub subcommand_names : List Text
+subcommand_names = codes "check" ∷ codes "show" ∷ codes "convert" ∷ codes "replay" ∷ codes "relog" ∷ codes "serve" ∷ codes "subscribe" ∷ codes "loopback" ∷ []
+
+-- no subcommand is known by this name, which is told as `COMMAND`
+abbrev pub IsUnknown : Text → Text → Type 0
+IsUnknown name option = (list_any (bytes_eq name) subcommand_names ≡ false) × (option ≡ codes "COMMAND")
+
+-- the words give the option of this name no value in its range, or they give no subcommand that is known
 abbrev pub LackValue : List Text → Text → Type 0
-LackValue words option = IsSomeAnd (subcommand_of command_app words) (λ read. LacksValue read option) ⊎ (option ≡ codes "COMMAND")
+LackValue words option =
+    IsSomeAnd (subcommand_of command_app words) (λ read. LacksValue read option ⊎ IsUnknown read.0 option)
+    ⊎ ((subcommand_of command_app words ≡ None) × (option ≡ codes "COMMAND"))
 
 -- Clap refuses the words by an error of this kind, or takes them and they name no options in range. Want of memory says
 -- nothing of the words.
@@ -197,7 +207,7 @@ LacksText name rows NoMemory = ⊥
 abbrev pub Reads : Text × List Row → Result Options WordsFault → Type 0
 Reads read (Ok o) = IsReadAs read o × IsInRange o
 Reads read (Err (Clap error)) = ⊥
-Reads read (Err (BadValue option)) = (LacksValue read option.now ⊎ (option.now ≡ codes "COMMAND")) × ¬ ((o : Options) × IsReadAs read o × IsInRange o)
+Reads read (Err (BadValue option)) = (LacksValue read option.now ⊎ IsUnknown read.0 option.now) × ¬ ((o : Options) × IsReadAs read o × IsInRange o)
 Reads read (Err NoMemory) = read.0 ≡ codes "subscribe"
 
 -- the fault is clap's error, but for want of memory, which has a variant of its own

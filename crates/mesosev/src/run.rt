@@ -4,6 +4,7 @@ ghost use Rattle.mes_frame.specs.Devices.{device_of};
 ghost use Rattle.std.specs.Prelude.{◌≡◌, codes, ◌⊎◌, false, map};
 ghost use Rattle.mes_run.specs.Outputs.{output_of};
 ghost use Rattle.mes_run.specs.Printing.{LacksMemory, Prints};
+ghost use Rattle.mes_run.specs.Showing.{Follows};
 ghost use Rattle.mesosev.specs.NamedOptions.{SayPlainly, IsInRange};
 ghost use Rattle.mesosev.specs.Running.{Ends, LeavesError, Performs, PerformsSaid, Runs};
 ghost use Rattle.mesosev.specs.Telling.{Tells, TellsError, not_text_line};
@@ -14,12 +15,13 @@ use crate::words::{
     COUNT_LEAST, COUNT_MOST, LIMIT_DEFAULT, LOOPBACK_DEFAULT, Options, PORT_LEAST, PORT_MOST,
     READS_DEFAULT, READS_GREATEST, READS_LEAST, STREAM_DEFAULT, WordsFault,
 };
-use mes_frame::{Sink, Source};
+use mes_frame::{Limit, Sink, Source};
 use mes_net::{loopback, serve, subscribe};
 use mes_replay::{relog, replay};
 use mes_run::{
     Detail, Ended, GOOD, Output, READS_MOST, convert, finish, follow, out_of_memory, print_text,
 };
+use mes_stream::Framing;
 use std::alloc::{AllocGlobal, Global};
 use std::convert::AsStr;
 use std::net::{Net, TcpListener, TcpStream};
@@ -118,26 +120,10 @@ where
     let alloc = rt.alloc();
     match options {
         Options::Check { framing, limit } => {
-            follow(
-                alloc,
-                Detail::Counts,
-                *framing,
-                *limit,
-                READS_MOST,
-                input,
-                out,
-            )
+            follow_all(alloc, Detail::Counts, *framing, *limit, input, out)
         }
         Options::Show { framing, limit } => {
-            follow(
-                alloc,
-                Detail::Lines,
-                *framing,
-                *limit,
-                READS_MOST,
-                input,
-                out,
-            )
+            follow_all(alloc, Detail::Lines, *framing, *limit, input, out)
         }
         Options::Convert {
             framing,
@@ -159,6 +145,21 @@ where
         } => subscribe(rt, to, user, name, *reads, out),
         Options::Loopback { most } => loopback(rt, *most, input, out),
     }
+}
+
+// Follows the input in as many reads as one run may make.
+fn follow_all<I: Source, O: Sink>(
+    alloc: Global,
+    detail: Detail,
+    framing: Framing,
+    limit: Limit,
+    input: &mut I,
+    out: &mut O,
+) -> Ended
+    ensures { Follows detail framing limit READS_MOST (device_of I.left I.counts input.old) (device_of I.left I.counts input.new)
+        (device_of O.written O.counts out.old) (device_of O.written O.counts out.new) result }
+{
+    follow(alloc, detail, framing, limit, READS_MOST, input, out)
 }
 
 /// Tells that memory was refused before any word was read, and answers the exit status.

@@ -1,0 +1,52 @@
+# Completion of the command mesosev for bash. Source this file in ~/.bashrc,
+# or copy it as mesosev to ~/.local/share/bash-completion/completions.
+
+# The subcommands.
+_mesosev_commands() {
+  echo check show convert replay relog serve subscribe loopback help
+}
+
+# _mesosev_options COMMAND: its options; of no command those of mesosev alone
+_mesosev_options() {
+  case $1 in
+    check | show) echo --chunked --limit ;;
+    convert) echo --chunked --limit --most ;;
+    replay | relog) echo --limit ;;
+    serve) echo --port --count --stream ;;
+    subscribe) echo --to --user --name --reads ;;
+    loopback) echo --most ;;
+  esac
+  [ "$1" = help ] || echo -h --help -V --version
+}
+
+# The first word behind mesosev, where it is not the one that is written.
+_mesosev_command() {
+  [ "$COMP_CWORD" -eq 1 ] || echo "${COMP_WORDS[1]}"
+}
+
+# _mesosev_files START: the files behind <
+_mesosev_files() {
+  compopt -o filenames 2>/dev/null
+  mapfile -t COMPREPLY < <(compgen -f -- "$1")
+}
+
+_mesosev() {
+  local word=${COMP_WORDS[COMP_CWORD]} before=${COMP_WORDS[COMP_CWORD - 1]}
+  local command words
+  COMPREPLY=()
+  # Of no option the values are known.
+  case $before,$word in
+    *,'<') _mesosev_files '' && return ;;
+    '<,'*) _mesosev_files "$word" && return ;;
+    --limit,* | --most,* | --port,* | --count,* | --stream,*) return ;;
+    --to,* | --user,* | --name,* | --reads,* | =,* | *,=) return ;;
+  esac
+  command=$(_mesosev_command)
+  words=$(_mesosev_options "$command")
+  if [ -z "$command" ] || [ "$command,$COMP_CWORD" = help,2 ]; then
+    words+=" $(_mesosev_commands)"
+  fi
+  mapfile -t COMPREPLY < <(compgen -W "$words" -- "$word")
+}
+
+complete -F _mesosev mesosev
