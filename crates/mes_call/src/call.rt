@@ -1,8 +1,8 @@
 //! A call of the scheduler API.
 ghost use Rattle.std.specs.Prelude.{◌≡◌, ◌+◌, ◌≤◌, [], ◌∷◌, ◌++◌, None, Ok, Err, length, codes, IfOk, IfErr, OnOk, MatchResult};
-ghost use Rattle.mes_json.specs.Tree.{Members};
-ghost use Rattle.mes_json.specs.Tree.Tree.{string};
-ghost use Rattle.mes_json.specs.View.{view};
+ghost use Rattle.mes_part.specs.Tree.{Members};
+ghost use Rattle.mes_part.specs.Tree.Tree.{string};
+ghost use Rattle.mes_part.specs.View.{view};
 ghost use Rattle.mes_part.specs.Choices.{type_name};
 ghost use Rattle.mes_part.specs.Fields.{values_named};
 ghost use Rattle.mes_part.specs.FoundRows.{IsFound};
@@ -16,7 +16,7 @@ ghost use Rattle.mes_record.specs.Texts.{IsTextOf, IsFaultOf, canonical_of, Fits
 
 use mes_call_body::{Accept, Acknowledge, Decline, Kill, Reconcile, Shutdown, Subscribe};
 use mes_frame::Limit;
-use mes_json::{Element, Json, NoMemory, Text};
+use mes_part::json::{self, Element, NoMemory, Text};
 use mes_part::{
     Choice, FieldWhy, Found, Part, PartFault, Path, STEPS_MOST, Trail, copy_some, left_out,
     optional, put, put_some, put_type, read_part, read_typed, required, type_of, type_refusal,
@@ -132,7 +132,7 @@ impl Call {
     }
 
     /// The call that a JSON value stands for.
-    pub fn of_tree(alloc: Global, json: &Json) -> Result<Call, PartFault>
+    pub fn of_tree(alloc: Global, json: &json::Json) -> Result<Call, PartFault>
         ensures ok { IfOk result (call.Reads (view json.now)) }
         ensures only { (c : Call) → call.Reads (view json.now) c → Gives (Ok c) result }
         ensures err { IfErr result (IsFirstFault call [] (view json.now)) }
@@ -231,7 +231,11 @@ impl Choice for Call {
         }
     }
 
-    fn put_choice(&self, members: &mut Vec<(Text, Json)>, alloc: Global) -> Result<(), NoMemory> {
+    fn put_choice(
+        &self,
+        members: &mut Vec<(Text, json::Json)>,
+        alloc: Global,
+    ) -> Result<(), NoMemory> {
         match self {
             Call::Subscribe { framework_id, body } => {
                 put_type(members, alloc, "SUBSCRIBE")?;
@@ -340,7 +344,7 @@ impl Part for Call {
     }
 
     #[tactic(auto, using(crate::specs::Calls::call_back), unfolding(crate::specs::Calls::call))]
-    fn tree(&self, alloc: Global) -> Result<Json, NoMemory> {
+    fn tree(&self, alloc: Global) -> Result<json::Json, NoMemory> {
         typed_tree(alloc, self)
     }
 
@@ -390,7 +394,7 @@ fn read_bare(
 
 /// Appends the row `type` and the one of the framework.
 fn put_head(
-    members: &mut Vec<(Text, Json)>,
+    members: &mut Vec<(Text, json::Json)>,
     alloc: Global,
     kind: &'static str,
     framework_id: &Id,
@@ -406,7 +410,7 @@ fn put_head(
 
 /// Appends the row `type`, the one of the framework and the one of a body.
 fn put_call<T: Part>(
-    members: &mut Vec<(Text, Json)>,
+    members: &mut Vec<(Text, json::Json)>,
     alloc: Global,
     kind: &'static str,
     framework_id: &Id,

@@ -7,8 +7,8 @@ use Rattle.mes_part.specs.Kinds.{Kind, Lawful, Returns}
 use Rattle.mes_part.specs.Layouts.{Layout, needs, may_have, lists, no_more, ◌⨾⨾◌, laid_out, kind_of, lawful_kind, returns_kind}
 use Rattle.mes_model.specs.Filters.{filters, lawful_filters}
 use Rattle.mes_model.specs.Frameworks.{framework_info, lawful_framework_info}
-use Rattle.mes_resource.specs.Ids.{id, lawful_id}
-use Rattle.mes_task.specs.Tasks.{task_ref, lawful_task_ref}
+use Rattle.mes_model.specs.Ids.{id, lawful_id}
+use Rattle.mes_model.specs.Tasks.{task_ref, lawful_task_ref}
 use Rattle.mes_call_body.specs.Operations.{operation, lawful_operation}
 use Rattle.mes_call_body.specs.declared.call_bodies.Subscribe.{Subscribe}
 use Rattle.mes_call_body.specs.declared.call_bodies.Accept.{Accept}

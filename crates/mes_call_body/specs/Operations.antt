@@ -9,8 +9,8 @@ use Rattle.mes_part.specs.RowLaws.{LawfulTable, lawful_need}
 use Rattle.mes_part.specs.MessageLaws.{lawful_mapped, lawful_message, message_returns}
 use Rattle.mes_part.specs.ChoiceLaws.{lawful_no_other, lawful_typed}
 use Rattle.mes_part.specs.declared.field.FieldWhy.TheVariants.{LeftOut}
-use Rattle.mes_task.specs.Tasks.{task_info, lawful_task_info}
-use Rattle.mes_task.specs.declared.task_info.TaskInfo.{TaskInfo}
+use Rattle.mes_model.specs.Tasks.{task_info, lawful_task_info}
+use Rattle.mes_model.specs.TaskInfo.{TaskInfo}
 use Rattle.mes_call_body.specs.declared.operation.Operation.{Operation}
 use Rattle.mes_call_body.specs.declared.operation.Operation.TheVariants as of
 

@@ -1,14 +1,12 @@
 //! The bodies of calls, each with the rows of its table.
 
 use crate::operation::Operation;
-use mes_json::{Element, Json, NoMemory};
-use mes_model::{Filters, FrameworkInfo};
+use mes_model::{Filters, FrameworkInfo, Id, TaskRef};
+use mes_part::json::{self, Element, NoMemory};
 use mes_part::{
     Bytes, List, MadeOf, Many, Maybe, Must, MustRef, Part, PartFault, RowList, RowRefs, Rows1,
     Rows2, Rows3, Trail, made, message_tree, pairs, read_message,
 };
-use mes_resource::Id;
-use mes_task::TaskRef;
 use std::alloc::Global;
 
 /// A framework subscribes (scheduler.proto, `Call.Subscribe`).
@@ -61,7 +59,7 @@ impl Part for Subscribe {
     }
 
     #[tactic(auto, using(crate::specs::CallBodies::subscribe_back), unfolding(crate::specs::CallBodies::subscribe))]
-    fn tree(&self, alloc: Global) -> Result<Json, NoMemory> {
+    fn tree(&self, alloc: Global) -> Result<json::Json, NoMemory> {
         message_tree(alloc, &SUBSCRIBE_NAMES, &subscribe_rows!(self))
     }
 
@@ -129,7 +127,7 @@ impl Part for Accept {
     }
 
     #[tactic(auto, using(crate::specs::CallBodies::accept_back), unfolding(crate::specs::CallBodies::accept))]
-    fn tree(&self, alloc: Global) -> Result<Json, NoMemory> {
+    fn tree(&self, alloc: Global) -> Result<json::Json, NoMemory> {
         message_tree(alloc, &ACCEPT_NAMES, &accept_rows!(self))
     }
 
@@ -194,7 +192,7 @@ impl Part for Decline {
     }
 
     #[tactic(auto, using(crate::specs::CallBodies::decline_back), unfolding(crate::specs::CallBodies::decline))]
-    fn tree(&self, alloc: Global) -> Result<Json, NoMemory> {
+    fn tree(&self, alloc: Global) -> Result<json::Json, NoMemory> {
         message_tree(alloc, &DECLINE_NAMES, &decline_rows!(self))
     }
 
@@ -259,7 +257,7 @@ impl Part for Kill {
     }
 
     #[tactic(auto, using(crate::specs::CallBodies::kill_back), unfolding(crate::specs::CallBodies::kill))]
-    fn tree(&self, alloc: Global) -> Result<Json, NoMemory> {
+    fn tree(&self, alloc: Global) -> Result<json::Json, NoMemory> {
         message_tree(alloc, &KILL_NAMES, &kill_rows!(self))
     }
 
@@ -327,7 +325,7 @@ impl Part for Acknowledge {
     }
 
     #[tactic(auto, using(crate::specs::CallBodies::acknowledge_back), unfolding(crate::specs::CallBodies::acknowledge))]
-    fn tree(&self, alloc: Global) -> Result<Json, NoMemory> {
+    fn tree(&self, alloc: Global) -> Result<json::Json, NoMemory> {
         message_tree(alloc, &ACKNOWLEDGE_NAMES, &acknowledge_rows!(self))
     }
 
@@ -387,7 +385,7 @@ impl Part for Reconcile {
     }
 
     #[tactic(auto, using(crate::specs::CallBodies::reconcile_back), unfolding(crate::specs::CallBodies::reconcile))]
-    fn tree(&self, alloc: Global) -> Result<Json, NoMemory> {
+    fn tree(&self, alloc: Global) -> Result<json::Json, NoMemory> {
         message_tree(alloc, &RECONCILE_NAMES, &reconcile_rows!(self))
     }
 
@@ -449,7 +447,7 @@ impl Part for Shutdown {
     }
 
     #[tactic(auto, using(crate::specs::CallBodies::shutdown_back), unfolding(crate::specs::CallBodies::shutdown))]
-    fn tree(&self, alloc: Global) -> Result<Json, NoMemory> {
+    fn tree(&self, alloc: Global) -> Result<json::Json, NoMemory> {
         message_tree(alloc, &SHUTDOWN_NAMES, &shutdown_rows!(self))
     }
 

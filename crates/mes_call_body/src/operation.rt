@@ -1,16 +1,16 @@
 //! What is done with offers that are accepted.
 ghost use Rattle.std.specs.Prelude.{◌≡◌, IfOk, OnOk};
-ghost use Rattle.mes_json.specs.View.{view};
+ghost use Rattle.mes_part.specs.View.{view};
 ghost use Rattle.mes_part.specs.Kinds.{Returns};
 ghost use Rattle.mes_call_body.specs.Operations.{launch};
 
-use mes_json::{Element, Json, NoMemory, Text};
+use mes_model::TaskInfo;
+use mes_part::json::{self, Element, NoMemory, Text};
 use mes_part::{
     Choice, FieldWhy, Found, List, MadeOf, Many, Part, PartFault, RowList, Rows1, Trail, copy_list,
     made, message_tree, pairs, put_type, read_message, read_typed, required, type_of, type_refusal,
     typed_tree,
 };
-use mes_task::TaskInfo;
 use std::alloc::Global;
 use std::marker::Model;
 
@@ -62,7 +62,11 @@ impl Choice for Operation {
         }
     }
 
-    fn put_choice(&self, members: &mut Vec<(Text, Json)>, alloc: Global) -> Result<(), NoMemory> {
+    fn put_choice(
+        &self,
+        members: &mut Vec<(Text, json::Json)>,
+        alloc: Global,
+    ) -> Result<(), NoMemory> {
         let Operation::Launch { task_infos } = self;
         put_type(members, alloc, "LAUNCH")?;
         let tree = launch_tree(alloc, task_infos)?;
@@ -99,7 +103,7 @@ impl Part for Operation {
     }
 
     #[tactic(auto, using(crate::specs::Operations::operation_back), unfolding(crate::specs::Operations::operation))]
-    fn tree(&self, alloc: Global) -> Result<Json, NoMemory> {
+    fn tree(&self, alloc: Global) -> Result<json::Json, NoMemory> {
         typed_tree(alloc, self)
     }
 
@@ -116,7 +120,7 @@ struct Launch {
 
 impl Model for Launch {
     ghost use Rattle.std.specs.Prelude.{List as list};
-    ghost use Rattle.mes_task.specs.declared.task_info.TaskInfo.{TaskInfo as TaskInfoValue};
+    ghost use Rattle.mes_model.specs.TaskInfo.{TaskInfo as TaskInfoValue};
     ghost use Rattle.mes_part.specs.contracts.kept.Kept as kept;
     ghost use Rattle.std.specs.Coded.{codes};
 
@@ -171,7 +175,7 @@ impl Part for Launch {
         read_message::<LaunchRows, Launch, 1>(alloc, element, &LAUNCH_NAMES, path)
     }
 
-    fn tree(&self, alloc: Global) -> Result<Json, NoMemory> {
+    fn tree(&self, alloc: Global) -> Result<json::Json, NoMemory> {
         launch_tree(alloc, &self.task_infos)
     }
 
@@ -183,7 +187,7 @@ impl Part for Launch {
 
 /// What the body of LAUNCH is written as.
 #[tactic(auto, using(crate::specs::Operations::launch_back), unfolding(crate::specs::Operations::launch))]
-fn launch_tree(alloc: Global, task_infos: &List<TaskInfo>) -> Result<Json, NoMemory>
+fn launch_tree(alloc: Global, task_infos: &List<TaskInfo>) -> Result<json::Json, NoMemory>
     ensures tree { IfOk result (λ t. view t ≡ launch.tree task_infos.now) }
     // It is read back.
     ensures back { OnOk result (Returns launch task_infos.now) }

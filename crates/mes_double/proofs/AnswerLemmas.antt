@@ -4,16 +4,16 @@ use Rattle.std.specs.Str.{bytes_eq}
 use Rattle.std.proofs.lemmas.Bool.{and_parts, leb-true}
 use Rattle.std.proofs.lemmas.Option.{slice_get_within}
 use Rattle.std.proofs.lemmas.Slice.Eq.{bytes_eq-Decides}
-use Rattle.mes_resource.specs.declared.id.Id.{Id}
-use Rattle.mes_resource.specs.declared.value.Range.{Range}
-use Rattle.mes_resource.specs.declared.resource.Resource.{Resource}
-use Rattle.mes_resource.specs.declared.resource.ResourceValue.{ResourceValue}
-use Rattle.mes_resource.specs.declared.resource.ResourceValue.TheVariants.{Scalar, Ranges, Set}
-use Rattle.mes_offer.specs.declared.offer.Offer.{Offer}
-use Rattle.mes_task.specs.declared.owed_key.OwedKey.{OwedKey}
-use Rattle.mes_task.specs.declared.task_info.TaskInfo.{TaskInfo}
-use Rattle.mes_call.specs.declared.call.Call.{Call}
-use Rattle.mes_call.specs.declared.call.Call.TheVariants as of
+use Rattle.mes_model.specs.Id.{Id}
+use Rattle.mes_model.specs.Range.{Range}
+use Rattle.mes_model.specs.Resource.{Resource}
+use Rattle.mes_model.specs.ResourceValue.{ResourceValue}
+use Rattle.mes_model.specs.ResourceValue.TheVariants.{Scalar, Ranges, Set}
+use Rattle.mes_model.specs.Offer.{Offer}
+use Rattle.mes_model.specs.OwedKey.{OwedKey}
+use Rattle.mes_model.specs.TaskInfo.{TaskInfo}
+use Rattle.mes_msg.specs.Call.{Call}
+use Rattle.mes_msg.specs.Call.TheVariants as of
 use Rattle.mes_fit.specs.Keys.{key_of}
 use Rattle.mes_fit.specs.Fits.{Piece, point, item, in_range, in_ranges, in_items, piece_in, amount, offered, asked, others, is_free, Breaks, BreaksAt}
 use Rattle.mes_hand.specs.declared.refusal.Refusal.{Refusal}

@@ -5,14 +5,14 @@ use Rattle.std.specs.List.Sorted.{IsPermutation}
 use Rattle.std.specs.Str.{bytes_eq}
 use Rattle.std.proofs.lemmas.Grind.{flat_map-append}
 use Rattle.std.proofs.lemmas.Slice.Eq.{bytes_eq-Decides}
-use Rattle.mes_resource.specs.declared.id.Id.{Id}
-use Rattle.mes_offer.specs.declared.offer.Offer.{Offer}
-use Rattle.mes_task.specs.declared.task_status.TaskStatus.{TaskStatus}
-use Rattle.mes_event.specs.declared.event.Event.{Event}
-use Rattle.mes_event.specs.declared.event.Event.TheVariants as event
-use Rattle.mes_call.specs.declared.call.Call.{Call}
-use Rattle.mes_call.specs.declared.call.Call.TheVariants as of
-use Rattle.mes_call_body.specs.declared.call_bodies.Accept.{Accept}
+use Rattle.mes_model.specs.Id.{Id}
+use Rattle.mes_model.specs.Offer.{Offer}
+use Rattle.mes_model.specs.TaskStatus.{TaskStatus}
+use Rattle.mes_msg.specs.Event.{Event}
+use Rattle.mes_msg.specs.Event.TheVariants as event
+use Rattle.mes_msg.specs.Call.{Call}
+use Rattle.mes_msg.specs.Call.TheVariants as of
+use Rattle.mes_msg.specs.Accept.{Accept}
 use Rattle.mes_msg.specs.declared.entry.Entry.TheVariants.{Heard, Said}
 use Rattle.mes_fit.specs.Fits.{Fits}
 use Rattle.mes_fit.specs.Launched.{launched, launched_by}

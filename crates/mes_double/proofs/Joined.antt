@@ -3,10 +3,10 @@ use Rattle.std.proofs.Common.{◌≡◌, ℕ, ◌+◌, ◌≤◌, true, false, �
 use Rattle.std.specs.List.{list_any}
 use Rattle.std.specs.Str.{bytes_eq}
 use Rattle.std.proofs.lemmas.Grind.{flat_map-append}
-use Rattle.mes_resource.specs.declared.id.Id.{Id}
-use Rattle.mes_offer.specs.declared.offer.Offer.{Offer}
-use Rattle.mes_task.specs.declared.task_status.TaskStatus.{TaskStatus}
-use Rattle.mes_event.specs.declared.event.Event.{Event}
+use Rattle.mes_model.specs.Id.{Id}
+use Rattle.mes_model.specs.Offer.{Offer}
+use Rattle.mes_model.specs.TaskStatus.{TaskStatus}
+use Rattle.mes_msg.specs.Event.{Event}
 use Rattle.mes_msg.specs.declared.entry.Entry.TheVariants.{Heard}
 use Rattle.mes_hand.specs.Held.{name_of, names}
 use Rattle.mes_hand.specs.Calls.{framework_of, named_by}

@@ -5,12 +5,12 @@ use Rattle.std.proofs.lemmas.Bool.{cases_eq, or_from}
 use Rattle.std.proofs.lemmas.List.{append-nil}
 use Rattle.std.proofs.lemmas.Option.{slice_get_within}
 use Rattle.std.proofs.lemmas.Slice.Eq.{bytes_eq-Decides}
-use Rattle.mes_resource.specs.declared.id.Id.{Id}
-use Rattle.mes_offer.specs.declared.offer.Offer.{Offer}
-use Rattle.mes_task.specs.declared.owed_key.OwedKey.{OwedKey}
-use Rattle.mes_event.specs.declared.event.Event.{Event}
-use Rattle.mes_call.specs.declared.call.Call.{Call}
-use Rattle.mes_call.specs.declared.call.Call.TheVariants as of
+use Rattle.mes_model.specs.Id.{Id}
+use Rattle.mes_model.specs.Offer.{Offer}
+use Rattle.mes_model.specs.OwedKey.{OwedKey}
+use Rattle.mes_msg.specs.Event.{Event}
+use Rattle.mes_msg.specs.Call.{Call}
+use Rattle.mes_msg.specs.Call.TheVariants as of
 use Rattle.mes_msg.specs.declared.entry.Entry.TheVariants.{Heard, Said}
 use Rattle.mes_fit.specs.Launched.{launched, launched_by}
 use Rattle.mes_hand.specs.Held.{Held, name_of, names, without_offers}

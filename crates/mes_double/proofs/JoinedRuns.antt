@@ -2,9 +2,9 @@
 use Rattle.std.proofs.Common.{ℕ, true, ◌&&◌, not, List, [], ◌∷◌, refl, sym, ap, subst, ◌∙◌, arith}
 use Rattle.std.specs.List.{list_any}
 use Rattle.std.specs.Str.{bytes_eq}
-use Rattle.mes_resource.specs.declared.id.Id.{Id}
-use Rattle.mes_offer.specs.declared.offer.Offer.{Offer}
-use Rattle.mes_event.specs.declared.event.Event.{Event}
+use Rattle.mes_model.specs.Id.{Id}
+use Rattle.mes_model.specs.Offer.{Offer}
+use Rattle.mes_msg.specs.Event.{Event}
 use Rattle.mes_hand.specs.Held.{names}
 use Rattle.mes_hand.specs.Calls.{named_by}
 use Rattle.mes_double.specs.declared.moves.Move.{Move}

@@ -4,11 +4,11 @@ use Rattle.std.specs.List.{list_any}
 use Rattle.std.specs.Option.{option_to_list}
 use Rattle.std.proofs.lemmas.Bool.{or_cases, or_left, or_right}
 use Rattle.std.proofs.lemmas.List.Folds.{list_any-append}
-use Rattle.mes_resource.specs.declared.id.Id.{Id}
-use Rattle.mes_task.specs.declared.owed_key.OwedKey.{OwedKey}
-use Rattle.mes_task.specs.declared.task_status.TaskStatus.{TaskStatus}
-use Rattle.mes_task.specs.Owed.{key_by}
-use Rattle.mes_event.specs.declared.event.Event.{Event}
+use Rattle.mes_model.specs.Id.{Id}
+use Rattle.mes_model.specs.OwedKey.{OwedKey}
+use Rattle.mes_model.specs.TaskStatus.{TaskStatus}
+use Rattle.mes_model.specs.Owed.{key_by}
+use Rattle.mes_msg.specs.Event.{Event}
 use Rattle.mes_msg.specs.declared.entry.Entry.TheVariants.{Heard}
 use Rattle.mes_hand.specs.Held.{same_key, is_owed, with_key}
 use Rattle.mes_session.specs.History.{owed_by}

@@ -1,9 +1,9 @@
 -- What the steps of a move leave of a world, together.
 use Rattle.std.proofs.Common.{◌≡◌, ℕ, Bool, true, false, ◌⊎◌, inl, inr, Result, Ok, Err, OnOk, IsErr, slice_get, List, [], ◌∷◌, ◌++◌, Option, Some, None, refl, sym, ap, subst, ◌∙◌}
-use Rattle.mes_resource.specs.declared.id.Id.{Id}
+use Rattle.mes_model.specs.Id.{Id}
 use Rattle.mes_model.specs.declared.framework_info.FrameworkInfo.{FrameworkInfo}
-use Rattle.mes_event.specs.declared.event.Event.{Event}
-use Rattle.mes_call.specs.declared.call.Call.{Call}
+use Rattle.mes_msg.specs.Event.{Event}
+use Rattle.mes_msg.specs.Call.{Call}
 use Rattle.mes_msg.specs.declared.entry.Entry.TheVariants.{Heard, Said}
 use Rattle.mes_hand.specs.declared.refusal.Refusal.{Refusal}
 use Rattle.mes_hand.specs.Held.{Held}

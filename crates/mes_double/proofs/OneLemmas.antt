@@ -1,7 +1,7 @@
 -- Moves have one end.
 use Rattle.std.proofs.Common.{◌≡◌, ℕ, ◌++◌, List, [], ◌∷◌, Option, Some, None, refl, sym, ap, subst, ◌∙◌}
-use Rattle.mes_resource.specs.declared.id.Id.{Id}
-use Rattle.mes_call.specs.declared.call.Call.{Call}
+use Rattle.mes_model.specs.Id.{Id}
+use Rattle.mes_msg.specs.Call.{Call}
 use Rattle.mes_hand.specs.declared.refusal.Refusal.{Refusal}
 use Rattle.mes_hand.specs.Held.{Held}
 use Rattle.mes_hand.specs.Refusals.{as_told, IsRefused, Answers}

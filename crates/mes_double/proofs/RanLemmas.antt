@@ -3,9 +3,9 @@ use Rattle.std.proofs.Common.{◌≡◌, ℕ, ◌+◌, ◌≤◌, not, List, [],
 use Rattle.std.specs.Str.{bytes_eq}
 use Rattle.std.proofs.lemmas.Grind.{flat_map-append}
 use Rattle.std.proofs.lemmas.List.{append-nil}
-use Rattle.mes_resource.specs.declared.id.Id.{Id}
-use Rattle.mes_offer.specs.declared.offer.Offer.{Offer}
-use Rattle.mes_task.specs.declared.task_info.TaskInfo.{TaskInfo}
+use Rattle.mes_model.specs.Id.{Id}
+use Rattle.mes_model.specs.Offer.{Offer}
+use Rattle.mes_model.specs.TaskInfo.{TaskInfo}
 use Rattle.mes_hand.specs.Held.{name_of}
 use Rattle.mes_hand.specs.Refusals.{ids_of}
 use Rattle.mes_master.specs.Masters.{MasterState, MasterAnswer, plain, subscribed, carried_out}

@@ -1,8 +1,8 @@
 -- What becomes of a call that reaches the master: it is turned away, opens a stream, or is carried out.
 use Rattle.std.proofs.Common.{◌≡◌, ℕ, Bool, true, false, ◌||◌, not, if◌then◌else◌, List, [], ◌∷◌, Option, Some, None, refl, ap, ◌∙◌}
 use Rattle.std.proofs.lemmas.Bool.{or_parts}
-use Rattle.mes_call.specs.declared.call.Call.{Call}
-use Rattle.mes_call.specs.declared.call.Call.TheVariants as of
+use Rattle.mes_msg.specs.Call.{Call}
+use Rattle.mes_msg.specs.Call.TheVariants as of
 use Rattle.mes_hand.specs.Calls.{framework_of}
 use Rattle.mes_master.specs.Masters.{MasterState, plain, subscribed, agrees, carried_out, is_named, in_stream, is_subscribe, answered, handled}
 use Rattle.mes_master.proofs.AgainLemmas.{IsOpen, carried}

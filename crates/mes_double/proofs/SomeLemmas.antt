@@ -1,7 +1,7 @@
 -- Each list of moves has an end.
 use Rattle.std.proofs.Common.{ℕ, ◌++◌, List, [], ◌∷◌, Option, Some, None, refl}
-use Rattle.mes_resource.specs.declared.id.Id.{Id}
-use Rattle.mes_call.specs.declared.call.Call.{Call}
+use Rattle.mes_model.specs.Id.{Id}
+use Rattle.mes_msg.specs.Call.{Call}
 use Rattle.mes_double.specs.declared.moves.Move.{Move}
 use Rattle.mes_double.specs.declared.moves.Move.TheVariants as moves
 use Rattle.mes_double.specs.Worlds.{WorldState, wishing, Wishes, Happens}

@@ -1,14 +1,14 @@
 -- What a move comes to, in a dozen plain cases.
 use Rattle.std.proofs.Common.{◌≡◌, ℕ, Bool, true, false, if◌then◌else◌, slice_get, take, List, [], ◌∷◌, ◌++◌, Option, Some, None, is_some, Ok, Err, refl, ap, ◌∙◌}
 use Rattle.std.proofs.lemmas.List.{append-nil}
-use Rattle.mes_resource.specs.declared.id.Id.{Id}
-use Rattle.mes_offer.specs.declared.offer.Offer.{Offer}
-use Rattle.mes_task.specs.declared.owed_key.OwedKey.{OwedKey}
-use Rattle.mes_task.specs.declared.task_status.TaskStatus.{TaskStatus}
-use Rattle.mes_task.specs.Owed.{owed_key_of}
-use Rattle.mes_event.specs.declared.event.Event.{Event}
-use Rattle.mes_event.specs.declared.event.Event.TheVariants as event
-use Rattle.mes_call.specs.declared.call.Call.{Call}
+use Rattle.mes_model.specs.Id.{Id}
+use Rattle.mes_model.specs.Offer.{Offer}
+use Rattle.mes_model.specs.OwedKey.{OwedKey}
+use Rattle.mes_model.specs.TaskStatus.{TaskStatus}
+use Rattle.mes_model.specs.Owed.{owed_key_of}
+use Rattle.mes_msg.specs.Event.{Event}
+use Rattle.mes_msg.specs.Event.TheVariants as event
+use Rattle.mes_msg.specs.Call.{Call}
 use Rattle.mes_msg.specs.declared.entry.Entry.TheVariants.{Heard, Said, Broken}
 use Rattle.mes_hand.specs.declared.refusal.Refusal.{Refusal}
 use Rattle.mes_hand.specs.Held.{without_offer}

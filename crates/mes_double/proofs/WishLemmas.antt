@@ -2,11 +2,11 @@
 use Rattle.std.proofs.Common.{◌≡◌, ℕ, suc, ◌≤◌, Bool, true, false, ◌||◌, inr, slice_get, List, [], ◌∷◌, Option, Some, None, refl, sym, ap, subst, ◌∙◌}
 use Rattle.std.specs.Str.{bytes_eq}
 use Rattle.std.proofs.lemmas.Slice.Eq.{bytes_eq-Decides}
-use Rattle.mes_resource.specs.declared.id.Id.{Id}
-use Rattle.mes_offer.specs.declared.offer.Offer.{Offer}
-use Rattle.mes_task.specs.declared.owed_key.OwedKey.{OwedKey}
-use Rattle.mes_call.specs.declared.call.Call.{Call}
-use Rattle.mes_call.specs.declared.call.Call.TheVariants as of
+use Rattle.mes_model.specs.Id.{Id}
+use Rattle.mes_model.specs.Offer.{Offer}
+use Rattle.mes_model.specs.OwedKey.{OwedKey}
+use Rattle.mes_msg.specs.Call.{Call}
+use Rattle.mes_msg.specs.Call.TheVariants as of
 use Rattle.mes_hand.specs.declared.refusal.Refusal.TheVariants.{NotSubscribed, NoSuchOffer, NotOwed}
 use Rattle.mes_hand.specs.Held.{Held, name_of, offer_in, names, is_owed}
 use Rattle.mes_hand.specs.Calls.{framework_of, named_by, acknowledged_by}

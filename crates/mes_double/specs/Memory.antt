@@ -1,8 +1,8 @@
 -- Which moves may want memory, and where a list of moves has one that does.
 use Rattle.std.specs.Prelude.{◌≡◌, ℕ, true, List, [], ◌∷◌, take, slice_get, Option, Some, None, IsSome, IsOk}
-use Rattle.mes_resource.specs.declared.id.Id.{Id}
-use Rattle.mes_event.specs.declared.event.Event.{Event}
-use Rattle.mes_call.specs.declared.call.Call.{Call}
+use Rattle.mes_model.specs.Id.{Id}
+use Rattle.mes_msg.specs.Event.{Event}
+use Rattle.mes_msg.specs.Call.{Call}
 use Rattle.mes_hand.specs.Refusals.{Answers}
 use Rattle.mes_session.specs.History.{NeedsMemory}
 use Rattle.mes_master.specs.Sending.{offers_sent, rescind_sent, resend_sent}

@@ -1,6 +1,6 @@
 //! Laws of worlds: functions that do nothing, with the law as their contract.
 ghost use Rattle.std.specs.Prelude.{◌≡◌, ℕ, List};
-ghost use Rattle.mes_resource.specs.declared.id.Id.{Id};
+ghost use Rattle.mes_model.specs.Id.{Id};
 ghost use Rattle.mes_double.specs.declared.moves.Move.{Move};
 ghost use Rattle.mes_double.specs.Courses.{Course, IsCourse};
 ghost use Rattle.mes_double.specs.Promises.{AckedWereHeard, LaunchedOnce, TakenOnce, WhatRanFits, AgainMovesNothing, HandAgrees, AllAgrees};

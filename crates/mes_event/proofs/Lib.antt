@@ -1,3 +1,2 @@
 mod WordLemmas
-mod NameLemmas
 pub mod RecordLemmas

@@ -1,9 +1,9 @@
 -- Why a record was refused.
 use Rattle.std.proofs.Common.{◌≡◌, ℕ, List, []}
 use Rattle.std.specs.Prelude.{Err}
-use Rattle.mes_json.specs.Tree.{Tree}
-use Rattle.mes_json.specs.Grammar.{IsText}
-use Rattle.mes_json.specs.declared.limits.TheConstants.{NESTING_LIMIT}
+use Rattle.mes_part.specs.Tree.{Tree}
+use Rattle.mes_part.specs.Grammar.{IsText}
+use Rattle.mes_part.specs.JsonLimits.{NESTING_LIMIT}
 use Rattle.mes_part.specs.Parts.{Gives}
 use Rattle.mes_part.specs.Paths.{Place}
 use Rattle.mes_part.specs.declared.part.PartFault.{PartFault}

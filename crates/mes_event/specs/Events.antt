@@ -7,20 +7,20 @@ use Rattle.mes_part.specs.Choices.{others, case, typed}
 use Rattle.mes_part.specs.RowLaws.{LawfulTable, lawful_need}
 use Rattle.mes_part.specs.MessageLaws.{lawful_no_rows, lawful_mapped, lawful_message, message_returns}
 use Rattle.mes_part.specs.ChoiceLaws.{lawful_others, lawful_case, lawful_typed}
-use Rattle.mes_offer.specs.declared.offer.Offer.{Offer}
-use Rattle.mes_event.specs.Bodies.{subscribed, rescind, update, failure, error_body, lawful_subscribed, lawful_rescind, lawful_update, lawful_failure, lawful_error_body}
-use Rattle.mes_event.specs.Offers.{offers, lawful_offers}
+use Rattle.mes_event_body.specs.Offer.{Offer}
+use Rattle.mes_event_body.specs.Bodies.{subscribed, rescind, update, failure, error_body, lawful_subscribed, lawful_rescind, lawful_update, lawful_failure, lawful_error_body}
+use Rattle.mes_event_body.specs.Offers.{offers, lawful_offers}
 use Rattle.mes_record.specs.Messages.{message_body, lawful_message_body}
-use Rattle.mes_event.specs.declared.bodies.Subscribed.{Subscribed}
-use Rattle.mes_event.specs.declared.bodies.Rescind.{Rescind}
-use Rattle.mes_event.specs.declared.bodies.Update.{Update}
+use Rattle.mes_event_body.specs.declared.bodies.Subscribed.{Subscribed}
+use Rattle.mes_event_body.specs.declared.bodies.Rescind.{Rescind}
+use Rattle.mes_event_body.specs.declared.bodies.Update.{Update}
 use Rattle.mes_record.specs.declared.message.Message.{Message}
-use Rattle.mes_event.specs.declared.bodies.Failure.{Failure}
-use Rattle.mes_event.specs.declared.bodies.ErrorBody.{ErrorBody}
+use Rattle.mes_event_body.specs.declared.bodies.Failure.{Failure}
+use Rattle.mes_event_body.specs.declared.bodies.ErrorBody.{ErrorBody}
 use Rattle.mes_event.specs.declared.event.Event.{Event}
 use Rattle.mes_event.specs.declared.event.Event.TheVariants as of
 use Rattle.mes_record.specs.declared.record.RecordFault.{RecordFault}
-use Rattle.mes_event.specs.EventNames.{event_names}
+use Rattle.mes_event_body.specs.EventNames.{event_names}
 use Rattle.mes_record.specs.Texts.{IsTextOf, IsFaultOf}
 
 -- an event by its type

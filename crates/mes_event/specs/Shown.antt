@@ -3,12 +3,12 @@ use Rattle.std.specs.Prelude.{ℕ, ◌/◌, ◌%◌, Option, Some, None, List, [
 use Rattle.std.specs.List.{flat_map}
 use Rattle.std.specs.Fmt.{signed_decimal}
 use Rattle.uuid.specs.Text.{hyphenated_text, lower}
-use Rattle.mes_fixed.specs.Text.{text_of}
-use Rattle.mes_json.specs.Canonical.{hex_digit, quoted_text}
-use Rattle.mes_task.specs.TaskStates.{state_name}
-use Rattle.mes_resource.specs.declared.id.Id.{Id}
-use Rattle.mes_offer.specs.declared.offer.Offer.{Offer}
-use Rattle.mes_task.specs.declared.task_status.TaskStatus.{TaskStatus}
+use Rattle.mes_part.specs.NumberText.{text_of}
+use Rattle.mes_part.specs.Canonical.{hex_digit, quoted_text}
+use Rattle.mes_event_body.specs.TaskStates.{state_name}
+use Rattle.mes_event_body.specs.Id.{Id}
+use Rattle.mes_event_body.specs.Offer.{Offer}
+use Rattle.mes_event_body.specs.TaskStatus.{TaskStatus}
 use Rattle.mes_event.specs.declared.event.Event.{Event}
 use Rattle.mes_event.specs.declared.event.Event.TheVariants.{Subscribed, Offers, Rescind, Update, Message, Failure, Error, Heartbeat, Other}
 

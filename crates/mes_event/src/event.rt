@@ -1,16 +1,15 @@
 //! An event of the scheduler API.
 ghost use Rattle.std.specs.Prelude.{◌≡◌, [], ◌∷◌, ◌++◌, IfErr, OnOk};
-ghost use Rattle.mes_json.specs.Tree.Tree.{string};
+ghost use Rattle.mes_part.specs.Tree.Tree.{string};
 ghost use Rattle.mes_part.specs.Choices.{type_name};
 ghost use Rattle.mes_part.specs.Kinds.{Returns};
 ghost use Rattle.mes_part.specs.Written.{pairs_view, Continues};
 ghost use Rattle.mes_event.specs.Events.{event_rows};
 
-use crate::bodies::{ErrorBody, Failure, Rescind, Subscribed, Update};
-use crate::offers::{Offers, offers_tree};
-use crate::other_name::OtherName;
-use mes_json::{Element, Json, NoMemory, Text};
-use mes_offer::Offer;
+use mes_event_body::{
+    ErrorBody, Failure, Offer, Offers, OtherName, Rescind, Subscribed, Update, offers_tree,
+};
+use mes_part::json::{self, Element, NoMemory, Text};
 use mes_part::{
     Choice, Found, List, Part, PartFault, Trail, copy_list, put, put_type, read_typed, required,
     type_of, typed_tree,
@@ -93,7 +92,11 @@ impl Choice for Event {
         }
     }
 
-    fn put_choice(&self, members: &mut Vec<(Text, Json)>, alloc: Global) -> Result<(), NoMemory> {
+    fn put_choice(
+        &self,
+        members: &mut Vec<(Text, json::Json)>,
+        alloc: Global,
+    ) -> Result<(), NoMemory> {
         match self {
             Event::Subscribed(body) => put_body(members, alloc, "SUBSCRIBED", "subscribed", body),
             Event::Offers(list) => put_offers(members, alloc, list),
@@ -143,7 +146,7 @@ impl Part for Event {
     }
 
     #[tactic(auto, using(crate::specs::Events::event_back), unfolding(crate::specs::Events::event))]
-    fn tree(&self, alloc: Global) -> Result<Json, NoMemory> {
+    fn tree(&self, alloc: Global) -> Result<json::Json, NoMemory> {
         typed_tree(alloc, self)
     }
 
@@ -154,7 +157,7 @@ impl Part for Event {
 
 /// Appends the row `type` and the row of a body.
 fn put_body<T: Part>(
-    members: &mut Vec<(Text, Json)>,
+    members: &mut Vec<(Text, json::Json)>,
     alloc: Global,
     kind: &'static str,
     name: &'static str,
@@ -170,7 +173,7 @@ fn put_body<T: Part>(
 
 /// Appends the row `type` of OFFERS and its body.
 fn put_offers(
-    members: &mut Vec<(Text, Json)>,
+    members: &mut Vec<(Text, json::Json)>,
     alloc: Global,
     list: &List<Offer>,
 ) -> Result<(), NoMemory>

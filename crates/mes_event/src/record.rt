@@ -1,14 +1,13 @@
 //! An event read from the bytes of a record, and its canonical text.
 ghost use Rattle.std.specs.Prelude.{◌≡◌, [], Ok, IfOk, IfErr, MatchResult};
-ghost use Rattle.mes_json.specs.View.{view};
+ghost use Rattle.mes_part.specs.View.{view};
 ghost use Rattle.mes_part.specs.Parts.{Gives, IsFirstFault};
 ghost use Rattle.mes_event.specs.Canon.{canonical_text, IsGood, IsEncodeFault};
 ghost use Rattle.mes_event.specs.Events.{event, Spells, IsRecordFault};
 
 use crate::event::Event;
 use mes_frame::Limit;
-use mes_json::Json;
-use mes_part::{PartFault, Path, read_part};
+use mes_part::{PartFault, Path, json, read_part};
 use mes_record::{EncodeFault, RecordFault, canonical_bytes, read_bytes};
 use std::alloc::Global;
 
@@ -26,7 +25,7 @@ impl Event {
     }
 
     /// The event that a JSON value stands for.
-    pub fn of_tree(alloc: Global, json: &Json) -> Result<Event, PartFault>
+    pub fn of_tree(alloc: Global, json: &json::Json) -> Result<Event, PartFault>
         ensures ok { IfOk result (event.Reads (view json.now)) }
         ensures only { (ev : Event) → event.Reads (view json.now) ev → Gives (Ok ev) result }
         ensures err { IfErr result (IsFirstFault event [] (view json.now)) }

@@ -10,9 +10,8 @@ use crate::words::{
     put_word,
 };
 use itoa::Buffer;
-use mes_json::NoMemory;
-use mes_offer::Offer;
-use mes_task::TaskStatus;
+use mes_event_body::{Offer, TaskStatus};
+use mes_part::json::NoMemory;
 use std::alloc::Global;
 
 impl Event {

@@ -2,15 +2,15 @@
 
 ghost use Rattle.std.specs.Prelude.{◌≡◌, ◌++◌, codes, decimal, IfOk};
 ghost use Rattle.std.specs.Fmt.{signed_decimal};
-ghost use Rattle.mes_json.specs.Canonical.{quoted_text};
+ghost use Rattle.mes_part.specs.Canonical.{quoted_text};
 ghost use Rattle.mes_event.specs.Shown.{hex_pairs, uuid_text, or_dash, id_text, seconds_text};
 
 use arrayvec::ArrayString;
 use itoa::Buffer;
-use mes_fixed::Micros;
-use mes_json::{NoMemory, hex_digit, write_str};
+use mes_event_body::Id;
 use mes_part::Bytes;
-use mes_resource::Id;
+use mes_part::fixed::Micros;
+use mes_part::json::{NoMemory, hex_digit, write_str};
 use uuid::Uuid;
 
 /// Appends a space and a plain word.

@@ -4,11 +4,11 @@ use Rattle.std.specs.List.{list_any}
 use Rattle.std.proofs.lemmas.List.{take-append-drop, take-append-le, drop-drop}
 use Rattle.std.proofs.lemmas.List.Folds.{list_any-append, list_any_more}
 use Rattle.std.proofs.lemmas.Bool.{and_right}
-use Rattle.mes_resource.specs.declared.value.Ranges.{Ranges}
-use Rattle.mes_resource.specs.declared.resource.Resource.{Resource}
-use Rattle.mes_resource.specs.declared.resource.ResourceValue.{ResourceValue}
-use Rattle.mes_resource.specs.declared.resource.ResourceValue.TheVariants.{Ranges as OfRanges}
-use Rattle.mes_task.specs.declared.task_info.TaskInfo.{TaskInfo}
+use Rattle.mes_model.specs.Ranges.{Ranges}
+use Rattle.mes_model.specs.Resource.{Resource}
+use Rattle.mes_model.specs.ResourceValue.{ResourceValue}
+use Rattle.mes_model.specs.ResourceValue.TheVariants.{Ranges as OfRanges}
+use Rattle.mes_model.specs.TaskInfo.{TaskInfo}
 use Rattle.mes_fit.specs.declared.batch.Ends.{Ends}
 use Rattle.mes_fit.specs.Keys.{Key}
 use Rattle.mes_fit.specs.Fits.{Piece, piece_in, piece_of, has_piece, asked}

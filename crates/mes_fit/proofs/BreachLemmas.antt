@@ -5,9 +5,9 @@ use Rattle.std.proofs.Math.Seq.{take-length}
 use Rattle.std.proofs.lemmas.Grind.{flat_map-append}
 use Rattle.std.proofs.lemmas.List.Folds.{list_any-append}
 use Rattle.std.proofs.lemmas.Option.{slice_get_within}
-use Rattle.mes_resource.specs.declared.resource.Resource.{Resource}
-use Rattle.mes_offer.specs.declared.offer.Offer.{Offer}
-use Rattle.mes_task.specs.declared.task_info.TaskInfo.{TaskInfo}
+use Rattle.mes_model.specs.Resource.{Resource}
+use Rattle.mes_model.specs.Offer.{Offer}
+use Rattle.mes_model.specs.TaskInfo.{TaskInfo}
 use Rattle.mes_fit.specs.Keys.{key_of, is_of}
 use Rattle.mes_fit.specs.Fits.{Piece, piece_in, amount, has_piece, offered, asked, Fits, BreaksAt, NoneAhead, NoneBefore}
 use Rattle.mes_fit.specs.Launched.{launched, place, as_index}

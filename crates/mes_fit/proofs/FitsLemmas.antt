@@ -7,11 +7,11 @@ use Rattle.std.proofs.lemmas.List.Folds.{list_any-append}
 use Rattle.std.proofs.lemmas.Bool.Decides.{leb_tells}
 use Rattle.std.proofs.lemmas.List.Sums.{sum_by-cons}
 use Rattle.std.proofs.lemmas.List.Sorted.{list_any-IsPermutation, sum_by-IsPermutation}
-use Rattle.mes_resource.specs.declared.resource.Resource.{Resource}
-use Rattle.mes_offer.specs.declared.offer.Offer.{Offer}
-use Rattle.mes_task.specs.declared.task_info.TaskInfo.{TaskInfo}
-use Rattle.mes_resource.specs.declared.resource.ResourceValue.{ResourceValue}
-use Rattle.mes_resource.specs.declared.resource.ResourceValue.TheVariants.{Scalar, Ranges, Set}
+use Rattle.mes_model.specs.Resource.{Resource}
+use Rattle.mes_model.specs.Offer.{Offer}
+use Rattle.mes_model.specs.TaskInfo.{TaskInfo}
+use Rattle.mes_model.specs.ResourceValue.{ResourceValue}
+use Rattle.mes_model.specs.ResourceValue.TheVariants.{Scalar, Ranges, Set}
 use Rattle.mes_fit.specs.Keys.{Key, scalar, type_of, key_of, is_of}
 use Rattle.mes_fit.specs.Fits.{Piece, piece_in, amount_of, amount, piece_of, has_piece, offered, asked, others, is_free, thousandths_in, Fits, Breaks, BreaksAt, ComesBefore, NoneAhead, IsFirstBreach}
 use Rattle.mes_fit.proofs.KeyLemmas.{keys_agree-Decides}

@@ -5,11 +5,11 @@ use Rattle.std.specs.Str.{bytes_eq}
 use Rattle.std.proofs.lemmas.List.Folds.{list_any_at, list_any_more}
 use Rattle.std.proofs.lemmas.Bool.Decides.{leb_tells}
 use Rattle.std.proofs.lemmas.Slice.Eq.{bytes_eq-Decides}
-use Rattle.mes_resource.specs.declared.value.Range.{Range}
-use Rattle.mes_resource.specs.declared.value.Ranges.{Ranges}
-use Rattle.mes_resource.specs.declared.value.Set.{Set}
-use Rattle.mes_resource.specs.declared.resource.ResourceValue.{ResourceValue}
-use Rattle.mes_resource.specs.declared.resource.ResourceValue.TheVariants.{Ranges as OfRanges, Set as OfSet}
+use Rattle.mes_model.specs.Range.{Range}
+use Rattle.mes_model.specs.Ranges.{Ranges}
+use Rattle.mes_model.specs.Set.{Set}
+use Rattle.mes_model.specs.ResourceValue.{ResourceValue}
+use Rattle.mes_model.specs.ResourceValue.TheVariants.{Ranges as OfRanges, Set as OfSet}
 use Rattle.mes_fit.specs.Fits.{Piece, in_ranges, in_items, piece_in}
 use Rattle.mes_fit.specs.Fits.Piece.{point, item}
 use Rattle.mes_fit.specs.Looking.{Meets, Lacks, Reaches, farther}

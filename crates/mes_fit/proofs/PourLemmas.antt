@@ -5,10 +5,10 @@ use Rattle.std.proofs.lemmas.Option.{slice_get_within}
 use Rattle.std.proofs.lemmas.List.{take-append-drop}
 use Rattle.std.proofs.lemmas.List.Sums.{sum_by-cons, sum_by-append}
 use Rattle.std.proofs.lemmas.Grind.{flat_map-append}
-use Rattle.mes_resource.specs.declared.resource.Resource.{Resource}
-use Rattle.mes_offer.specs.declared.offer.Offer.{Offer}
+use Rattle.mes_model.specs.Resource.{Resource}
+use Rattle.mes_model.specs.Offer.{Offer}
 use Rattle.mes_fit.specs.Keys.{Key, is_of}
-use Rattle.mes_task.specs.declared.task_info.TaskInfo.{TaskInfo}
+use Rattle.mes_model.specs.TaskInfo.{TaskInfo}
 use Rattle.mes_fit.specs.Fits.{amount_of, amount, offered, asked}
 use Rattle.mes_fit.specs.Launched.{launched, place}
 use Rattle.mes_fit.specs.Pouring.{from}

@@ -1,8 +1,8 @@
 -- Tasks whose points are compared at once with those of all tasks behind them.
 use Rattle.std.specs.Prelude.{◌≡◌, ℕ, ◌≤◌, ◌<◌, Bool, true, false, IsTrue, ◌&&◌, nat_le, List, length, drop, get_or, slice_get, Some}
 use Rattle.std.specs.List.{list_any}
-use Rattle.mes_resource.specs.declared.resource.Resource.{Resource}
-use Rattle.mes_task.specs.declared.task_info.TaskInfo.{TaskInfo}
+use Rattle.mes_model.specs.Resource.{Resource}
+use Rattle.mes_model.specs.TaskInfo.{TaskInfo}
 use Rattle.mes_fit.specs.declared.batch.Ends.{Ends}
 use Rattle.mes_fit.specs.declared.batch.Batch.{Batch}
 use Rattle.mes_fit.specs.Fits.{piece_in, asked}

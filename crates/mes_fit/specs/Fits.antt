@@ -3,12 +3,12 @@
 use Rattle.std.specs.Prelude.{◌≡◌, ◌⊎◌, ℕ, ◌+◌, ◌<◌, ◌≤◌, Bool, true, false, ◌&&◌, not, if◌then◌else◌, nat_le, List, ◌++◌, take, drop, slice_get, Some}
 use Rattle.std.specs.List.{list_any, flat_map, sum_by}
 use Rattle.std.specs.Str.{bytes_eq}
-use Rattle.mes_resource.specs.declared.value.Range.{Range}
-use Rattle.mes_resource.specs.declared.resource.Resource.{Resource}
-use Rattle.mes_resource.specs.declared.resource.ResourceValue.{ResourceValue}
-use Rattle.mes_resource.specs.declared.resource.ResourceValue.TheVariants.{Scalar, Ranges, Set}
-use Rattle.mes_offer.specs.declared.offer.Offer.{Offer}
-use Rattle.mes_task.specs.declared.task_info.TaskInfo.{TaskInfo}
+use Rattle.mes_model.specs.Range.{Range}
+use Rattle.mes_model.specs.Resource.{Resource}
+use Rattle.mes_model.specs.ResourceValue.{ResourceValue}
+use Rattle.mes_model.specs.ResourceValue.TheVariants.{Scalar, Ranges, Set}
+use Rattle.mes_model.specs.Offer.{Offer}
+use Rattle.mes_model.specs.TaskInfo.{TaskInfo}
 use Rattle.mes_fit.specs.Keys.{Key, key_of, is_of}
 
 -- ---- what a value holds

@@ -6,11 +6,11 @@ use base.Stored.{Gv, gnil, gnum, gcons}
 use Rattle.mes_json.specs.Tree.{Members}
 use Rattle.mes_part.specs.MembersCode.{members_code}
 use Rattle.mes_part.specs.declared.label.Label.{Label}
-use Rattle.mes_resource.specs.declared.id.Id.{Id}
-use Rattle.mes_resource.specs.declared.reservation.Reservation.{Reservation}
-use Rattle.mes_resource.specs.declared.resource.Resource.{Resource}
-use Rattle.mes_resource.specs.declared.resource.ResourceValue.{ResourceValue}
-use Rattle.mes_resource.specs.declared.resource.ResourceValue.TheVariants.{Scalar, Ranges, Set}
+use Rattle.mes_model.specs.Id.{Id}
+use Rattle.mes_model.specs.Reservation.{Reservation}
+use Rattle.mes_model.specs.Resource.{Resource}
+use Rattle.mes_model.specs.ResourceValue.{ResourceValue}
+use Rattle.mes_model.specs.ResourceValue.TheVariants.{Scalar, Ranges, Set}
 
 -- the type of a value: SCALAR, RANGES or SET
 pub data ValueType : Type 0 where

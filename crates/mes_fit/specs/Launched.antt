@@ -1,9 +1,9 @@
 -- The tasks of groups that are launched together, such as the operations of a call. Of any kind of group `tasks` tells the tasks of one.
 use Rattle.std.specs.Prelude.{◌≡◌, ℕ, ◌+◌, ◌<◌, List, length, get_or, take, min}
 use Rattle.std.specs.List.{flat_map}
-use Rattle.mes_task.specs.declared.task_info.TaskInfo.{TaskInfo}
-use Rattle.mes_call_body.specs.declared.operation.Operation.{Operation}
-use Rattle.mes_call_body.specs.declared.operation.Operation.TheVariants as of
+use Rattle.mes_model.specs.TaskInfo.{TaskInfo}
+use Rattle.mes_msg.specs.Operation.{Operation}
+use Rattle.mes_msg.specs.Operation.TheVariants as of
 
 -- the tasks of one operation
 abbrev pub launched_by : Operation → List TaskInfo

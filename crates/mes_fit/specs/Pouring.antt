@@ -1,7 +1,7 @@
 -- What offers still have of a key, while it is poured out.
 use Rattle.std.specs.Prelude.{ℕ, ◌+◌, List, [], ◌∷◌, ◌++◌, length, drop}
-use Rattle.mes_resource.specs.declared.resource.Resource.{Resource}
-use Rattle.mes_offer.specs.declared.offer.Offer.{Offer}
+use Rattle.mes_model.specs.Resource.{Resource}
+use Rattle.mes_model.specs.Offer.{Offer}
 use Rattle.mes_fit.specs.Keys.{Key}
 use Rattle.mes_fit.specs.Fits.{amount, offered}
 use Rattle.mes_fit.specs.declared.supply.Supply.{Supply}

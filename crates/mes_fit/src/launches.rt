@@ -1,6 +1,6 @@
 //! What launches tasks.
 ghost use Rattle.std.specs.Prelude.{◌≡◌, List};
-ghost use Rattle.mes_task.specs.declared.task_info.TaskInfo.{TaskInfo as TaskValue};
+ghost use Rattle.mes_model.specs.TaskInfo.{TaskInfo as TaskValue};
 ghost use Rattle.mes_fit.specs.Launched.{launched_by};
 
 use mes_model::TaskInfo;

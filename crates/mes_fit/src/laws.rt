@@ -1,8 +1,8 @@
 //! Laws of the definitions that the contracts cite: functions that do nothing, with the law as their contract.
 ghost use Rattle.std.specs.Prelude.{◌≡◌, ◌↔◌, ℕ, List, true};
 ghost use Rattle.std.specs.List.Sorted.{IsPermutation};
-ghost use Rattle.mes_offer.specs.declared.offer.Offer.{Offer};
-ghost use Rattle.mes_task.specs.declared.task_info.TaskInfo.{TaskInfo};
+ghost use Rattle.mes_model.specs.Offer.{Offer};
+ghost use Rattle.mes_model.specs.TaskInfo.{TaskInfo};
 ghost use Rattle.mes_fit.specs.Keys.{Key, keys_agree};
 ghost use Rattle.mes_fit.specs.Fits.{Fits, BreaksAt, IsFirstBreach};
 

@@ -1,6 +1,6 @@
 //! Offers in order, wherever they are kept.
 ghost use Rattle.std.specs.Prelude.{◌≡◌, ◌<◌, List, length, slice_get, Some};
-ghost use Rattle.mes_offer.specs.declared.offer.Offer.{Offer as OfferValue};
+ghost use Rattle.mes_model.specs.Offer.{Offer as OfferValue};
 
 use mes_model::Offer;
 

@@ -4,7 +4,7 @@ use Rattle.std.specs.List.{list_any}
 use Rattle.mes_fit.proofs.ListLemmas.{any-at, get-at, get-of}
 use Rattle.mes_fit.proofs.LaunchedLemmas.{get-place, take-place}
 use Rattle.mes_fit.specs.Launched.{launched, place}
-use Rattle.mes_task.specs.declared.task_info.TaskInfo.{TaskInfo}
+use Rattle.mes_model.specs.TaskInfo.{TaskInfo}
 use Rattle.std.proofs.lemmas.List.Folds.{list_any-append}
 use Rattle.mes_hand.specs.Looking.{IsFirstAt}
 

@@ -1,7 +1,7 @@
 -- The offers of identifiers that are all in hand.
 use Rattle.std.proofs.Common.{◌≡◌, ℕ, zero, suc, ◌+◌, Bool, true, false, not, Option, Some, None, is_some, is_none, option_copied, Bor, List, [], ◌∷◌, length, slice_get, refl, sym, ◌∙◌, ap, true≢false, arith}
-use Rattle.mes_resource.specs.declared.id.Id.{Id}
-use Rattle.mes_offer.specs.declared.offer.Offer.{Offer}
+use Rattle.mes_model.specs.Id.{Id}
+use Rattle.mes_model.specs.Offer.{Offer}
 use Rattle.std.specs.List.{cons_option}
 use Rattle.mes_hand.specs.Held.{offer_in}
 use Rattle.mes_hand.specs.Refusals.{offers_named, agent_of, is_agent}

@@ -3,7 +3,7 @@ use Rattle.std.proofs.Common.{◌≡◌, Bool, true, false, if◌then◌else◌,
 use Rattle.std.specs.List.{list_any}
 use Rattle.std.specs.Cmp.Lexicographic.{bytes_decides}
 use Rattle.indexmap.specs.IndexSet.{insert_key}
-use Rattle.mes_task.specs.declared.owed_key.OwedKey.{OwedKey}
+use Rattle.mes_model.specs.OwedKey.{OwedKey}
 use Rattle.mes_fit.proofs.FitsLemmas.{and-both}
 use Rattle.mes_hand.specs.Held.{same_key, with_key}
 

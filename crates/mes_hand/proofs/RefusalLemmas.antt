@@ -1,18 +1,18 @@
 -- What is answered of a call, from what the searches found.
 use Rattle.std.proofs.Common.{◌≡◌, ◌⊎◌, inl, inr, ℕ, Bool, true, false, Option, Some, None, List, [], ◌∷◌, ◌++◌, not, refl, sym, ◌∙◌, ap, subst, is_none, unwrap_or, true≢false}
 use Rattle.std.specs.List.{list_any}
-use Rattle.mes_resource.specs.declared.id.Id.{Id}
-use Rattle.mes_offer.specs.declared.offer.Offer.{Offer}
-use Rattle.mes_task.specs.declared.owed_key.OwedKey.{OwedKey}
-use Rattle.mes_task.specs.declared.task_info.TaskInfo.{TaskInfo}
+use Rattle.mes_model.specs.Id.{Id}
+use Rattle.mes_model.specs.Offer.{Offer}
+use Rattle.mes_model.specs.OwedKey.{OwedKey}
+use Rattle.mes_model.specs.TaskInfo.{TaskInfo}
 use Rattle.std.specs.Str.{bytes_eq}
 use Rattle.std.specs.Cmp.Lexicographic.{bytes_decides}
-use Rattle.mes_call.specs.declared.call.Call.{Call}
-use Rattle.mes_call.specs.declared.call.Call.TheVariants as of
-use Rattle.mes_call_body.specs.declared.call_bodies.Accept.{Accept}
-use Rattle.mes_call_body.specs.declared.call_bodies.Decline.{Decline}
-use Rattle.mes_call_body.specs.declared.call_bodies.Acknowledge.{Acknowledge}
-use Rattle.mes_call_body.specs.declared.operation.Operation.{Operation}
+use Rattle.mes_msg.specs.Call.{Call}
+use Rattle.mes_msg.specs.Call.TheVariants as of
+use Rattle.mes_msg.specs.Accept.{Accept}
+use Rattle.mes_msg.specs.Decline.{Decline}
+use Rattle.mes_msg.specs.Acknowledge.{Acknowledge}
+use Rattle.mes_msg.specs.Operation.{Operation}
 use Rattle.mes_fit.specs.Fits.{Fits, BreaksAt, IsFirstBreach}
 use Rattle.mes_fit.specs.Launched.{as_index, launched, launched_by}
 use Rattle.mes_fit.proofs.FitsLemmas.{no-breach, fits-none as fits-of}

@@ -1,13 +1,13 @@
 -- What counts of a call where it may be refused.
 use Rattle.std.specs.Prelude.{List, [], ◌∷◌, Option, Some, None}
-use Rattle.mes_resource.specs.declared.id.Id.{Id}
+use Rattle.mes_model.specs.Id.{Id}
 use Rattle.mes_model.specs.declared.filters.Filters.{Filters}
-use Rattle.mes_task.specs.declared.owed_key.OwedKey.{OwedKey}
-use Rattle.mes_task.specs.declared.task_info.TaskInfo.{TaskInfo}
-use Rattle.mes_call.specs.declared.call.Call.{Call}
-use Rattle.mes_call.specs.declared.call.Call.TheVariants as of
-use Rattle.mes_call_body.specs.declared.operation.Operation.{Operation}
-use Rattle.mes_call_body.specs.declared.operation.Operation.TheVariants.{Launch}
+use Rattle.mes_model.specs.OwedKey.{OwedKey}
+use Rattle.mes_model.specs.TaskInfo.{TaskInfo}
+use Rattle.mes_msg.specs.Call.{Call}
+use Rattle.mes_msg.specs.Call.TheVariants as of
+use Rattle.mes_msg.specs.Operation.{Operation}
+use Rattle.mes_msg.specs.Operation.TheVariants.{Launch}
 use Rattle.mes_fit.specs.Launched.{launched, launched_by}
 
 -- the framework that it names; a SUBSCRIBE may name none

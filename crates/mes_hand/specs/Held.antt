@@ -3,9 +3,9 @@ use Rattle.std.specs.Prelude.{Bool, ◌&&◌, not, fold, filter, find, List, Opt
 use Rattle.std.specs.List.{list_any}
 use Rattle.std.specs.Str.{bytes_eq}
 use Rattle.std.specs.Prelude.{ℕ}
-use Rattle.mes_resource.specs.declared.id.Id.{Id}
-use Rattle.mes_offer.specs.declared.offer.Offer.{Offer}
-use Rattle.mes_task.specs.declared.owed_key.OwedKey.{OwedKey}
+use Rattle.mes_model.specs.Id.{Id}
+use Rattle.mes_model.specs.Offer.{Offer}
+use Rattle.mes_model.specs.OwedKey.{OwedKey}
 use Rattle.mes_hand.specs.Keeping.{put}
 
 -- the framework of the last SUBSCRIBED; whether one was heard since the stream broke; the offers in hand; the updates that are owed

@@ -1,10 +1,10 @@
 -- What the searches answer.
 use Rattle.std.specs.Prelude.{◌≡◌, ℕ, Bool, true, false, List, take, slice_get, Some, is_none}
 use Rattle.std.specs.List.{list_any}
-use Rattle.mes_resource.specs.declared.id.Id.{Id}
-use Rattle.mes_offer.specs.declared.offer.Offer.{Offer}
+use Rattle.mes_model.specs.Id.{Id}
+use Rattle.mes_model.specs.Offer.{Offer}
 use Rattle.std.specs.Str.{bytes_eq}
-use Rattle.mes_task.specs.declared.task_info.TaskInfo.{TaskInfo}
+use Rattle.mes_model.specs.TaskInfo.{TaskInfo}
 use Rattle.mes_hand.specs.Held.{offer_in}
 
 -- the first that passes a test stands at i

@@ -1,8 +1,8 @@
 -- How the hand is kept: by the names of its offers, each with a mark.
 use Rattle.std.specs.Prelude.{◌≡◌, ℕ, Bool, false, not, ◌||◌, List, [], ◌∷◌, map, fold, String, string_bytes}
 use Rattle.std.specs.Str.{bytes_eq}
-use Rattle.mes_resource.specs.declared.id.Id.{Id}
-use Rattle.mes_offer.specs.declared.offer.Offer.{Offer}
+use Rattle.mes_model.specs.Id.{Id}
+use Rattle.mes_model.specs.Offer.{Offer}
 use Rattle.mes_hand.specs.declared.slot.Slot.{Slot}
 use Rattle.mes_hand.specs.Held.{name_of}
 

@@ -20,7 +20,7 @@ impl Model for Hand {
     ghost use Rattle.std.specs.Prelude.{List};
     ghost use Rattle.std.specs.Coded.{codes};
     ghost use Rattle.mes_part.specs.MembersCode.{members_code};
-    ghost use Rattle.mes_offer.specs.declared.offer.Offer.{Offer as OfferValue};
+    ghost use Rattle.mes_model.specs.Offer.{Offer as OfferValue};
     ghost use Rattle.mes_hand.specs.Slots.{offers_in, AreSettled};
 
     ghost Value = { List OfferValue };

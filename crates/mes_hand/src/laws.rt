@@ -1,6 +1,6 @@
 //! Laws of the definitions that the contracts cite: functions that do nothing, with the law as their contract.
 ghost use Rattle.std.specs.Prelude.{◌≡◌};
-ghost use Rattle.mes_call.specs.declared.call.Call.{Call};
+ghost use Rattle.mes_msg.specs.Call.{Call};
 ghost use Rattle.mes_hand.specs.declared.refusal.Refusal.{Refusal};
 ghost use Rattle.mes_hand.specs.Held.{Held};
 ghost use Rattle.mes_hand.specs.Refusals.{IsRefused};

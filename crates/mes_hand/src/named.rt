@@ -50,7 +50,7 @@ impl<'a> Model for Named<'a> {
     ghost use Rattle.std.specs.Prelude.{List};
     ghost use Rattle.std.specs.Coded.{codes};
     ghost use Rattle.mes_part.specs.MembersCode.{members_code};
-    ghost use Rattle.mes_offer.specs.declared.offer.Offer.{Offer as OfferValue};
+    ghost use Rattle.mes_model.specs.Offer.{Offer as OfferValue};
     ghost use Rattle.mes_hand.specs.Refusals.{offers_named};
     ghost use Rattle.mes_hand.specs.Looking.{AreInHand};
 

@@ -17,7 +17,7 @@ pub struct Owed {
 
 impl Model for Owed {
     ghost use Rattle.std.specs.Prelude.{List};
-    ghost use Rattle.mes_task.specs.declared.owed_key.OwedKey.{OwedKey as Key};
+    ghost use Rattle.mes_model.specs.OwedKey.{OwedKey as Key};
 
     ghost Value = { List Key };
 

@@ -1,8 +1,8 @@
 //! What a session holds, and which calls it refuses.
 ghost use Rattle.std.specs.Prelude.{◌≡◌, ◌↔◌, [], Option as option, option_copied, IsTrue, IsFalse, IfNone, IsSome};
-ghost use Rattle.mes_resource.specs.declared.id.Id.{Id as IdValue};
+ghost use Rattle.mes_model.specs.Id.{Id as IdValue};
 ghost use Rattle.mes_model.specs.declared.filters.Filters.{Filters};
-ghost use Rattle.mes_call.specs.declared.call.Call.{Call as CallValue};
+ghost use Rattle.mes_msg.specs.Call.{Call as CallValue};
 ghost use Rattle.mes_fit.specs.Launched.{launched};
 ghost use Rattle.mes_hand.specs.Calls.{framework_of, accept_call, decline_call, acknowledge_call};
 ghost use Rattle.mes_hand.specs.Refusals.{IsStrange, IsAnother, IsForeign, IsFaultyIn, TellsFirst, Answers, IsOwn, IsPlain};

@@ -3,11 +3,11 @@ use Rattle.std.specs.Prelude.{◌≡◌, ℕ, ◌<◌, List, ◌++◌, Option, l
 use Rattle.std.specs.Io.KnownBytes.{Appends}
 use Rattle.mes_frame.specs.Write.{NoneFails, CallsFor, StopsWrite}
 use Rattle.mes_frame.specs.declared.counts.Counts.{Counts}
-use Rattle.mes_call.specs.Calls.{call}
-use Rattle.mes_record.specs.Texts.{canonical_of, Fits, IsRefusalOf}
-use Rattle.mes_call.specs.declared.call.Call.{Call}
-use Rattle.mes_record.specs.declared.canon.EncodeFault.{EncodeFault}
-use Rattle.mes_record.specs.declared.canon.EncodeFault.TheVariants as refused
+use Rattle.mes_msg.specs.Calls.{call}
+use Rattle.mes_msg.specs.Texts.{canonical_of, Fits, IsRefusalOf}
+use Rattle.mes_msg.specs.Call.{Call}
+use Rattle.mes_msg.specs.EncodeFault.{EncodeFault}
+use Rattle.mes_msg.specs.EncodeFault.TheVariants as refused
 use Rattle.mes_msg.specs.declared.send_fault.EncodeWhy.{EncodeWhy}
 use Rattle.mes_msg.specs.declared.send_fault.EncodeWhy.TheVariants.{TooDeep, TooLarge}
 use Rattle.mes_msg.specs.declared.send_fault.SendFault.{SendFault}

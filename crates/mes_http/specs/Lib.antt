@@ -9,3 +9,4 @@ pub mod Responses
 pub mod Requests
 pub mod Bodies
 pub mod Calls
+pub mod Hosts

@@ -8,6 +8,7 @@ mod call_writer;
 mod fault;
 mod fields;
 mod head;
+mod host;
 mod laws;
 mod length;
 mod limits;
@@ -20,6 +21,7 @@ mod stream_id;
 pub use answer_writer::{write_ok, write_status};
 pub use call_writer::write_call;
 pub use fault::HeadFault;
+pub use host::Host;
 pub use laws::http_limits;
 pub use limits::{
     BODY_MOST, FIELDS_MOST, HEAD_FAULT_MOST, HEAD_MOST, HOST_MOST, LENGTH_DIGITS, STREAM_ID_MOST,

@@ -1,5 +1,6 @@
 -- What a lexer stands for after more bytes, and at their end.
 --     state_at, reading_at, faulty_at     what a lexer keeps, seen by its fields
+--     reads_none                         no byte was taken
 --     goes_on                            the bytes are taken
 --     gets_stuck, sticks                 one is refused: in a run, or alone
 --     stays_faulty                       and more come
@@ -47,6 +48,11 @@ reading_at n k r p at h = subst (λ (x : LexerState). StandsFor n x p) at h
 
 pub faulty_at : (n : ℕ) (k : LexerState) (f : TextFault) (p : List ℕ) → k ≡ Faulty f → StandsFor n k p → IsFaulty f p
 faulty_at n k f p at h = subst (λ (x : LexerState). StandsFor n x p) at h
+
+-- ---- no byte was taken
+pub reads_none : (r : Reader) → Fits r → state_view r ≡ start → IsReading 0 r []
+unfolding run
+reads_none r fits at = record { count = refl; fits = fits; reached = ap (λ (s : State). Some s) (sym at) }
 
 -- ---- the bytes are taken
 pub goes_on : (n next : ℕ) (r now : Reader) (p b : List ℕ) → IsReading n r p → next ≡ min (n + length b) (2 ^ 64 - 1) → run NESTING_LIMIT (state_view r) b ≡ Some (state_view now) → Fits now

@@ -8,7 +8,7 @@ ghost use Rattle.mes_json.specs.Reader.{Fits, state_view};
 ghost use Rattle.mes_json.specs.Tokens.{tokens};
 ghost use Rattle.mes_json.specs.Place.{Begins};
 ghost use Rattle.mes_json.specs.View.{view};
-ghost use Rattle.mes_json.specs.Lexer.{HasLexed, IsOutOfMemory, IsLexFault, Tells, held};
+ghost use Rattle.mes_json.specs.Lexer.{HasLexed, HasNoMemory, IsOutOfMemory, IsLexFault, IsPossible, StandsFor, Tells, held};
 ghost use Rattle.mes_json.specs.declared.fault.ReadFault.TheVariants.{NoMemory as no_memory};
 
 use crate::fault::{ReadFault, TextFault, Why};
@@ -17,7 +17,7 @@ use crate::memory::{NoMemory, NoMemoryAt};
 use crate::reader::Reader;
 use crate::run::RunStop;
 use crate::stop::Stop;
-use crate::tape::Tape;
+use crate::tape::{Node, Tape};
 use crate::value::Json;
 use std::alloc::Global;
 use std::marker::Model;
@@ -59,6 +59,46 @@ impl LexerState {
         ensures { self.new ≡ LexerState.OutOfMemory }
     {
         *self = LexerState::OutOfMemory;
+    }
+}
+
+impl LexerState {
+    /// The tape of the value that the bytes spell, of which there were so many, or their fault. After it the state is of no use.
+    fn take(&mut self, alloc: Global, count: u64) -> Result<Tape, ReadFault>
+        requires { IsPossible (count, self.old) }
+        ensures read { (p : List ℕ) → StandsFor count self.old p → IfOk result (λ tape. (t : Tree) × IsText NESTING_LIMIT p t × (tape ≡ tokens t)) }
+        ensures only { (p : List ℕ) → StandsFor count self.old p → (t : Tree) → IsText NESTING_LIMIT p t
+            → MatchResult result (λ tape. tape ≡ tokens t) (λ e. e ≡ ReadFault.NoMemory) }
+        ensures fault { (p : List ℕ) → StandsFor count self.old p → IfErr result (λ e. IsLexFault NESTING_LIMIT p e) }
+        ensures told { (p : List ℕ) → StandsFor count self.old p → (Begins NESTING_LIMIT p → ⊥) → (HasNoMemory self.old → ⊥) → result ≢ Err ReadFault.NoMemory }
+        ensures memory { HasNoMemory self.old → result ≡ Err ReadFault.NoMemory }
+    {
+        match self {
+            LexerState::Reading(reader) => match reader.take_tape(alloc)? {
+                Some(tape) => Ok(tape),
+                None => Err(ReadFault::Text(TextFault {
+                    byte: count,
+                    why: Why::End,
+                })),
+            },
+            LexerState::Faulty(fault) => Err(ReadFault::Text(*fault)),
+            LexerState::OutOfMemory => Err(ReadFault::NoMemory),
+        }
+    }
+
+    /// The state of a lexer of no byte, in memory that is there. A reader that is there serves again where it stands.
+    fn restart(&mut self, alloc: Global, texts: Vec<u8>, nodes: Vec<Node>)
+        requires texts { texts.items ≡ [] }
+        requires nodes { nodes.items ≡ [] }
+        ensures stands { StandsFor 0 self.new [] }
+        ensures memory { HasNoMemory self.new → ⊥ }
+    {
+        match self {
+            LexerState::Reading(reader) => reader.restart(texts, nodes),
+            LexerState::Faulty(_) | LexerState::OutOfMemory => {
+                *self = LexerState::Reading(Reader::within(alloc, texts, nodes));
+            }
+        }
     }
 }
 
@@ -211,7 +251,7 @@ impl Lexer {
     }
 
     /// The tape of the value that the bytes spell, or their fault.
-    pub fn end(self) -> Result<Tape, ReadFault>
+    pub fn end(mut self) -> Result<Tape, ReadFault>
         // What `Ok` holds: by the grammar, the bytes spell the value of these tokens, and no text is refused but for want of memory.
         ensures read { (p : List ℕ) → HasLexed self p → IfOk result (λ tape. (t : Tree) × IsText NESTING_LIMIT p t × (tape ≡ tokens t)) }
         ensures only { (p : List ℕ) → HasLexed self p → (t : Tree) → IsText NESTING_LIMIT p t
@@ -222,21 +262,35 @@ impl Lexer {
         ensures told { (p : List ℕ) → HasLexed self p → (Begins NESTING_LIMIT p → ⊥) → (IsOutOfMemory self → ⊥) → result ≢ Err ReadFault.NoMemory }
         ensures memory { IsOutOfMemory self → result ≡ Err ReadFault.NoMemory }
     {
-        let Lexer {
-            alloc: _alloc,
-            count,
-            state,
-        } = self;
-        match state {
-            LexerState::Reading(reader) => match reader.into_tape()? {
-                Some(tape) => Ok(tape),
-                None => Err(ReadFault::Text(TextFault {
-                    byte: count,
-                    why: Why::End,
-                })),
-            },
-            LexerState::Faulty(fault) => Err(ReadFault::Text(fault)),
-            LexerState::OutOfMemory => Err(ReadFault::NoMemory),
-        }
+        self.take()
+    }
+
+    /// The same, and the lexer is one of no byte then, so that nothing is moved but the tape. `reuse` gives it the tape's memory again.
+    pub fn take(&mut self) -> Result<Tape, ReadFault>
+        ensures read { (p : List ℕ) → HasLexed self.old p → IfOk result (λ tape. (t : Tree) × IsText NESTING_LIMIT p t × (tape ≡ tokens t)) }
+        ensures only { (p : List ℕ) → HasLexed self.old p → (t : Tree) → IsText NESTING_LIMIT p t
+            → MatchResult result (λ tape. tape ≡ tokens t) (λ e. e ≡ ReadFault.NoMemory) }
+        ensures fault { (p : List ℕ) → HasLexed self.old p → IfErr result (λ e. IsLexFault NESTING_LIMIT p e) }
+        ensures told { (p : List ℕ) → HasLexed self.old p → (Begins NESTING_LIMIT p → ⊥) → (IsOutOfMemory self.old → ⊥) → result ≢ Err ReadFault.NoMemory }
+        ensures refused { IsOutOfMemory self.old → result ≡ Err ReadFault.NoMemory }
+        ensures lexed { HasLexed self.new [] }
+        ensures memory { IsOutOfMemory self.new → ⊥ }
+    {
+        let alloc = self.alloc;
+        let tape = self.state.take(alloc, self.count);
+        self.state.restart(alloc, Vec::new(alloc), Vec::new(alloc));
+        self.count = 0;
+        tape
+    }
+
+    /// The lexer becomes one of no byte in the memory of a tape that is not wanted any more, as `reusing` makes one. Takes no memory.
+    pub fn reuse(&mut self, tape: Tape)
+        ensures lexed { HasLexed self.new [] }
+        ensures memory { IsOutOfMemory self.new → ⊥ }
+    {
+        let alloc = self.alloc;
+        let (texts, nodes) = tape.into_room(alloc);
+        self.state.restart(alloc, texts, nodes);
+        self.count = 0;
     }
 }

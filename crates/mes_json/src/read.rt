@@ -40,7 +40,7 @@ pub fn read_tape(alloc: Global, bytes: &[u8]) -> Result<Tape, ReadFault>
 {
     let mut reader = Reader::new(alloc);
     reader.take_all(bytes)?;
-    match reader.into_tape()? {
+    match reader.into_tape(alloc)? {
         Some(tape) => Ok(tape),
         None => Err(ReadFault::Text(TextFault {
             byte: bytes.len() as u64,

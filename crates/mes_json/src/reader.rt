@@ -23,6 +23,7 @@ use crate::word::{Said, Word};
 use arrayvec::ArrayVec;
 use mes_fixed::automaton::{NumberState, may_end, next_state};
 use std::alloc::Global;
+use std::mem;
 
 /// What was read of a JSON text.
 #[derive(Drop)]
@@ -245,17 +246,43 @@ impl Reader {
         self.text.len() as u64
     }
 
-    /// The tape of the value that the bytes so far spell, where they may end.
-    pub(crate) fn into_tape(mut self) -> Result<Option<Tape>, NoMemory>
+    /// The tape of what was read, where that is a whole value. After it the reader holds nothing of use.
+    pub(crate) fn take_tape(&mut self, alloc: Global) -> Result<Option<Tape>, NoMemory>
+        requires fits { Fits self.old }
+        requires reached { Reached self.old }
+        ensures { IfOk result (λ tape. tape ≡ option_map tokens (finish (state_view self.old))) }
+    {
+        if self.ends()? {
+            let text = mem::replace(&mut self.text, Vec::new(alloc));
+            let nodes = mem::replace(&mut self.nodes, Vec::new(alloc));
+            let tape = Tape::new(text, nodes);
+            Ok(Some(tape))
+        } else {
+            Ok(None)
+        }
+    }
+
+    /// The same of a reader that is not wanted any more.
+    pub(crate) fn into_tape(mut self, alloc: Global) -> Result<Option<Tape>, NoMemory>
         requires fits { Fits self }
         requires reached { Reached self }
         ensures { IfOk result (λ tape. tape ≡ option_map tokens (finish (state_view self))) }
     {
-        if self.ends()? {
-            Ok(Some(Tape::new(self.text, self.nodes)))
-        } else {
-            Ok(None)
-        }
+        self.take_tape(alloc)
+    }
+
+    /// Begins again, in memory that is there.
+    pub(crate) fn restart(&mut self, text: Vec<u8>, nodes: Vec<Node>)
+        requires text { text.items ≡ [] }
+        requires nodes { nodes.items ≡ [] }
+        ensures fits { Fits self.new }
+        ensures start { state_view self.new ≡ start }
+    {
+        self.at = At::Value;
+        self.nesting.clear();
+        self.start = 0;
+        self.text = text;
+        self.nodes = nodes;
     }
 
     /// Whether the bytes may end here. A number ends with them.

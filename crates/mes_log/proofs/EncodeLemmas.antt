@@ -9,13 +9,13 @@ use Rattle.mes_frame.proofs.Framings.{written_is_record}
 use Rattle.mes_frame.specs.Frames.{record_bytes}
 use Rattle.mes_frame.specs.Record.{IsRecord}
 use Rattle.mes_part.specs.Kinds.{Kind}
-use Rattle.mes_event.specs.Events.{event}
-use Rattle.mes_event.specs.declared.event.Event.{Event}
-use Rattle.mes_call.specs.Calls.{call}
-use Rattle.mes_call.specs.declared.call.Call.{Call}
-use Rattle.mes_record.specs.Texts.{IsTextOf, IsRefusalOf, canonical_of}
-use Rattle.mes_record.specs.declared.canon.EncodeFault.{EncodeFault}
-use Rattle.mes_record.specs.declared.canon.EncodeFault.TheVariants as refused
+use Rattle.mes_msg.specs.Events.{event}
+use Rattle.mes_msg.specs.Event.{Event}
+use Rattle.mes_msg.specs.Calls.{call}
+use Rattle.mes_msg.specs.Call.{Call}
+use Rattle.mes_msg.specs.Texts.{IsTextOf, IsRefusalOf, canonical_of}
+use Rattle.mes_msg.specs.EncodeFault.{EncodeFault}
+use Rattle.mes_msg.specs.EncodeFault.TheVariants as refused
 use Rattle.mes_msg.specs.declared.entry.Entry.{Entry}
 use Rattle.mes_msg.specs.declared.entry.Entry.TheVariants.{Heard, Said, Broken}
 use Rattle.mes_msg.specs.declared.send_fault.EncodeWhy.{EncodeWhy}

@@ -2,13 +2,13 @@
 use Rattle.std.proofs.Common.{◌≡◌, ◌≢◌, ℕ, ◌⊎◌, inl, inr, List, [], ◌∷◌, refl, ap, sym, ◌∙◌, subst, arith}
 use Rattle.std.proofs.lemmas.Bool.{cases_eq}
 use Rattle.mes_part.specs.Kinds.{Kind}
-use Rattle.mes_event.specs.Events.{event}
-use Rattle.mes_event.specs.declared.event.Event.{Event}
-use Rattle.mes_call.specs.Calls.{call}
-use Rattle.mes_call.specs.declared.call.Call.{Call}
-use Rattle.mes_record.specs.Texts.{IsTextOf, IsFaultOf}
-use Rattle.mes_record.specs.declared.record.RecordFault.{RecordFault}
-use Rattle.mes_record.specs.declared.record.RecordFault.TheVariants as message
+use Rattle.mes_msg.specs.Events.{event}
+use Rattle.mes_msg.specs.Event.{Event}
+use Rattle.mes_msg.specs.Calls.{call}
+use Rattle.mes_msg.specs.Call.{Call}
+use Rattle.mes_msg.specs.Texts.{IsTextOf, IsFaultOf}
+use Rattle.mes_msg.specs.RecordFault.{RecordFault}
+use Rattle.mes_msg.specs.RecordFault.TheVariants as message
 use Rattle.mes_msg.specs.declared.entry.Entry.{Entry}
 use Rattle.mes_msg.specs.declared.entry.Entry.TheVariants.{Heard, Said, Broken}
 use Rattle.mes_stream.specs.PlainReading.{IsExact, IsDecided}

@@ -5,11 +5,11 @@ use Rattle.mes_json.specs.Inner.{Stand, outside, is_of_number, inner, inner_from
 use Rattle.mes_json.specs.Lexer.{HasLexed, IsBounded, IsOutOfMemory, held}
 use Rattle.mes_json.specs.declared.lexer.Lexer.{Lexer}
 use Rattle.mes_part.specs.Kinds.{Kind}
-use Rattle.mes_event.specs.Events.{event}
-use Rattle.mes_call.specs.Calls.{call}
-use Rattle.mes_record.specs.Texts.{IsTextOf, IsFaultOf}
-use Rattle.mes_record.specs.declared.record.RecordFault.{RecordFault}
-use Rattle.mes_record.specs.declared.record.RecordFault.TheVariants as message
+use Rattle.mes_msg.specs.Events.{event}
+use Rattle.mes_msg.specs.Calls.{call}
+use Rattle.mes_msg.specs.Texts.{IsTextOf, IsFaultOf}
+use Rattle.mes_msg.specs.RecordFault.{RecordFault}
+use Rattle.mes_msg.specs.RecordFault.TheVariants as message
 use Rattle.mes_stream.specs.Refusals.{refusal_of}
 use Rattle.mes_stream.specs.declared.refusal.RecordRefusal.{RecordRefusal}
 use Rattle.mes_stream.specs.declared.refusal.RecordRefusal.TheVariants as refusal

@@ -3,8 +3,8 @@ use Rattle.std.specs.Prelude.{◌≡◌, ℕ, ◌≤◌, List, ◌++◌}
 use Rattle.mes_frame.specs.Frames.{record_bytes}
 use Rattle.mes_frame.specs.Record.{IsRecord}
 use Rattle.mes_part.specs.Kinds.{Kind}
-use Rattle.mes_record.specs.declared.canon.EncodeFault.{EncodeFault}
-use Rattle.mes_record.specs.declared.canon.EncodeFault.TheVariants as refused
+use Rattle.mes_msg.specs.EncodeFault.{EncodeFault}
+use Rattle.mes_msg.specs.EncodeFault.TheVariants as refused
 use Rattle.mes_msg.specs.declared.entry.Entry.{Entry}
 use Rattle.mes_msg.specs.declared.send_fault.EncodeWhy.TheVariants.{TooDeep, TooLarge}
 use Rattle.mes_log.specs.Entries.{SpellsEntry}

@@ -1,11 +1,11 @@
 -- An entry of a session log, in the data of a record: `E` and the JSON text of an event, `C` and that of a call, or in version 2 a `B`
 -- alone, for a stream that broke. A log of version 2 begins with a header, a record whose data are `2`; one that doesn't is of version 1.
 use Rattle.std.specs.Prelude.{◌≡◌, ◌≢◌, ℕ, ◌⊎◌, List, [], ◌∷◌, ◌++◌}
-use Rattle.mes_event.specs.Events.{event, Spells}
-use Rattle.mes_call.specs.Calls.{call}
-use Rattle.mes_record.specs.Texts.{IsTextOf, IsFaultOf}
-use Rattle.mes_record.specs.declared.record.RecordFault.{RecordFault}
-use Rattle.mes_record.specs.declared.record.RecordFault.TheVariants as message
+use Rattle.mes_msg.specs.Events.{event, Spells}
+use Rattle.mes_msg.specs.Calls.{call}
+use Rattle.mes_msg.specs.Texts.{IsTextOf, IsFaultOf}
+use Rattle.mes_msg.specs.RecordFault.{RecordFault}
+use Rattle.mes_msg.specs.RecordFault.TheVariants as message
 use Rattle.mes_msg.specs.declared.entry.Entry.{Entry}
 use Rattle.mes_msg.specs.declared.entry.Entry.TheVariants.{Heard, Said, Broken}
 use Rattle.mes_stream.specs.declared.refusal.RecordRefusal.{RecordRefusal}

@@ -3,10 +3,10 @@ use Rattle.std.specs.Prelude.{◌≡◌, ℕ, ◌⊎◌, List, [], ◌∷◌}
 use Rattle.mes_json.specs.Lexer.{HasLexed, IsOutOfMemory, held}
 use Rattle.mes_json.specs.declared.lexer.Lexer.{Lexer}
 use Rattle.mes_part.specs.Kinds.{Kind}
-use Rattle.mes_event.specs.Events.{Spells}
-use Rattle.mes_call.specs.Calls.{call}
-use Rattle.mes_record.specs.Texts.{IsTextOf, IsFaultOf}
-use Rattle.mes_record.specs.declared.record.RecordFault.TheVariants as message
+use Rattle.mes_msg.specs.Events.{Spells}
+use Rattle.mes_msg.specs.Calls.{call}
+use Rattle.mes_msg.specs.Texts.{IsTextOf, IsFaultOf}
+use Rattle.mes_msg.specs.RecordFault.TheVariants as message
 use Rattle.mes_stream.specs.declared.refusal.RecordRefusal.{RecordRefusal}
 use Rattle.mes_stream.specs.declared.refusal.RecordRefusal.TheVariants as refusal
 use Rattle.mes_log.specs.Entries.{BehindLetter, IsOther, IsMessageFault}

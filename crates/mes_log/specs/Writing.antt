@@ -6,9 +6,9 @@ use Rattle.mes_json.specs.declared.limits.TheConstants.{NESTING_LIMIT}
 use Rattle.mes_frame.specs.Frames.{record_bytes}
 use Rattle.mes_frame.specs.declared.counts.Counts.{Counts}
 use Rattle.mes_part.specs.Kinds.{Kind}
-use Rattle.mes_event.specs.Events.{event}
-use Rattle.mes_call.specs.Calls.{call}
-use Rattle.mes_record.specs.Texts.{canonical_of, NestsFew}
+use Rattle.mes_msg.specs.Events.{event}
+use Rattle.mes_msg.specs.Calls.{call}
+use Rattle.mes_msg.specs.Texts.{canonical_of, NestsFew}
 use Rattle.mes_msg.specs.declared.entry.Entry.{Entry}
 use Rattle.mes_msg.specs.declared.entry.Entry.TheVariants.{Heard, Said, Broken}
 use Rattle.mes_msg.specs.declared.send_fault.EncodeWhy.{EncodeWhy}

@@ -2,7 +2,7 @@
 
 ghost use Rattle.std.specs.Prelude.{◌≡◌, ◌-◌, ◌^◌, ◌<◌, ◌∷◌, ◌++◌, length, OnOk, IfOk, IfErr};
 ghost use Rattle.mes_frame.specs.Frames.{record_bytes};
-ghost use Rattle.mes_record.specs.Texts.{IsTextOf, canonical_of};
+ghost use Rattle.mes_msg.specs.Texts.{IsTextOf, canonical_of};
 ghost use Rattle.mes_log.specs.Encoding.{AddsEntry, IsEntryFault, IsMessageUnfit};
 ghost use Rattle.mes_log.specs.Writing.{IsFit, IsLogOf, IsUnwritten};
 ghost use Rattle.mes_stream.specs.Sending.{fault_at};

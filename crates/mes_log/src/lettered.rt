@@ -3,7 +3,7 @@
 ghost use Rattle.std.specs.Prelude.{◌≡◌, ◌≢◌, ℕ, ◌^◌, ◌<◌, ◌≤◌, List, [], ◌∷◌, ◌++◌, length, IsTrue, ◌↔◌, OnOk, IfOk, IfErr};
 ghost use Rattle.mes_json.specs.Inner.{inner};
 ghost use Rattle.mes_json.specs.Lexer.{HasLexed};
-ghost use Rattle.mes_record.specs.Texts.{IsTextOf};
+ghost use Rattle.mes_msg.specs.Texts.{IsTextOf};
 ghost use Rattle.mes_log.specs.Lettered.{HasText, HoldsLettered, LetteredBreaks, HoldsAt, IsTextRefusal, SpellsLettered, kept_text};
 ghost use Rattle.mes_json.specs.declared.lexer.Lexer.{Lexer as LexerValue};
 
@@ -13,7 +13,6 @@ use mes_msg::{Call, Event};
 use mes_part::{Part, STEPS_MOST, Trail};
 use mes_stream::RecordRefusal;
 use std::alloc::Global;
-use std::mem;
 
 /// What the data of a record are.
 #[derive(Drop)]
@@ -183,9 +182,8 @@ fn end_text<T: Part>(alloc: Global, lexer: &mut Lexer) -> Result<T, RecordRefusa
     ensures err { (text : List ℕ) → HasLexed lexer.old text → length text < 2 ^ 64 → IfErr result (IsTextRefusal T.kind text) }
     ensures next { OnOk result (HasText lexer.new []) }
 {
-    let taken = mem::replace(lexer, Lexer::new(alloc));
-    let tape = taken.end()?;
+    let tape = lexer.take()?;
     let message = T::read_from(alloc, &tape.root(), &Trail::new())?;
-    *lexer = Lexer::reusing(alloc, tape);
+    lexer.reuse(tape);
     Ok(message)
 }

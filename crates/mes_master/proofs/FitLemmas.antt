@@ -4,12 +4,12 @@ use Rattle.std.specs.List.{list_any}
 use Rattle.std.specs.List.Sorted.{IsPermutation}
 use Rattle.std.proofs.lemmas.List.Folds.{list_any-append}
 use Rattle.std.proofs.lemmas.List.Sums.{sum_by-append}
-use Rattle.mes_resource.specs.declared.resource.Resource.{Resource}
-use Rattle.mes_resource.specs.declared.id.Id.{Id}
-use Rattle.mes_offer.specs.declared.offer.Offer.{Offer}
-use Rattle.mes_task.specs.declared.task_info.TaskInfo.{TaskInfo}
-use Rattle.mes_call.specs.declared.call.Call.{Call}
-use Rattle.mes_call.specs.declared.call.Call.TheVariants as of
+use Rattle.mes_model.specs.Resource.{Resource}
+use Rattle.mes_model.specs.Id.{Id}
+use Rattle.mes_model.specs.Offer.{Offer}
+use Rattle.mes_model.specs.TaskInfo.{TaskInfo}
+use Rattle.mes_msg.specs.Call.{Call}
+use Rattle.mes_msg.specs.Call.TheVariants as of
 use Rattle.mes_fit.specs.Keys.{Key}
 use Rattle.mes_fit.specs.Fits.{amount_of, amount, piece_of, offered, asked, others, Fits}
 use Rattle.mes_fit.specs.Launched.{launched, launched_by}

@@ -7,9 +7,9 @@ use Rattle.std.proofs.lemmas.Bool.{or_from, or_parts}
 use Rattle.std.proofs.lemmas.Slice.Eq.{bytes_eq-Decides}
 use Rattle.std.proofs.lemmas.List.{append-nil}
 use Rattle.indexmap.specs.IndexSet.{insert_key, insert_all}
-use Rattle.mes_resource.specs.declared.id.Id.{Id}
-use Rattle.mes_task.specs.declared.task_info.TaskInfo.{TaskInfo}
-use Rattle.mes_offer.specs.declared.offer.Offer.{Offer}
+use Rattle.mes_model.specs.Id.{Id}
+use Rattle.mes_model.specs.TaskInfo.{TaskInfo}
+use Rattle.mes_model.specs.Offer.{Offer}
 use Rattle.mes_hand.specs.Refusals.{stands_in, ids_of}
 use Rattle.mes_master.specs.Masters.{same_id, new_tasks, is_there, all_there}
 use Rattle.mes_master.specs.Sending.{offer_ids, comes_again}

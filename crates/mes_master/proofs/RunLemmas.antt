@@ -4,15 +4,15 @@ use Rattle.std.specs.Str.{bytes_eq}
 use Rattle.std.proofs.lemmas.Slice.Eq.{bytes_eq-Decides}
 use Rattle.std.proofs.lemmas.Bool.{or_from, or_parts}
 use Rattle.std.proofs.lemmas.List.{append-nil}
-use Rattle.mes_resource.specs.declared.id.Id.{Id}
-use Rattle.mes_offer.specs.declared.offer.Offer.{Offer}
-use Rattle.mes_task.specs.declared.owed_key.OwedKey.{OwedKey}
-use Rattle.mes_task.specs.declared.task_info.TaskInfo.{TaskInfo}
-use Rattle.mes_task.specs.declared.task_status.TaskStatus.{TaskStatus}
-use Rattle.mes_task.specs.Owed.{owed_key_of}
-use Rattle.mes_event.specs.declared.event.Event.TheVariants as event
-use Rattle.mes_call.specs.declared.call.Call.{Call}
-use Rattle.mes_call.specs.declared.call.Call.TheVariants as of
+use Rattle.mes_model.specs.Id.{Id}
+use Rattle.mes_model.specs.Offer.{Offer}
+use Rattle.mes_model.specs.OwedKey.{OwedKey}
+use Rattle.mes_model.specs.TaskInfo.{TaskInfo}
+use Rattle.mes_model.specs.TaskStatus.{TaskStatus}
+use Rattle.mes_model.specs.Owed.{owed_key_of}
+use Rattle.mes_msg.specs.Event.TheVariants as event
+use Rattle.mes_msg.specs.Call.{Call}
+use Rattle.mes_msg.specs.Call.TheVariants as of
 use Rattle.mes_fit.specs.Launched.{launched, launched_by}
 use Rattle.mes_hand.specs.Keeping.{put}
 use Rattle.mes_hand.specs.Held.{name_of, names, without_offer, without_offers, with_offers}

@@ -2,8 +2,8 @@
 use Rattle.std.proofs.Common.{◌≡◌, ℕ, zero, suc, ◌+◌, ◌-◌, ◌<◌, Bool, true, false, map, filter_map, length, take, drop, get_or, slice_get, List, [], ◌∷◌, ◌++◌, Option, Some, None, is_some, option_map, refl, sym, ap, ◌∙◌, add-one, arith}
 use Rattle.std.specs.Map.{values_of, lookup}
 use Rattle.std.proofs.lemmas.List.{take_more}
-use Rattle.mes_task.specs.declared.owed_key.OwedKey.{OwedKey}
-use Rattle.mes_task.specs.declared.task_status.TaskStatus.{TaskStatus}
+use Rattle.mes_model.specs.OwedKey.{OwedKey}
+use Rattle.mes_model.specs.TaskStatus.{TaskStatus}
 use Rattle.mes_hand.specs.Held.{is_owed}
 use Rattle.mes_master.specs.Sending.{waiting}
 

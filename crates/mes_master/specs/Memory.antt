@@ -1,7 +1,7 @@
 -- Which answers may want memory.
 use Rattle.std.specs.Prelude.{◌≡◌, ◌⊎◌, ℕ, Bool, true, false, List, Option}
-use Rattle.mes_call.specs.declared.call.Call.{Call}
-use Rattle.mes_call.specs.declared.call.Call.TheVariants as of
+use Rattle.mes_msg.specs.Call.{Call}
+use Rattle.mes_msg.specs.Call.TheVariants as of
 use Rattle.mes_master.specs.Masters.{MasterState, all_there, handled}
 
 -- Whether a call that is carried out makes events, or something is noted of it. An ACCEPT launches nothing unless all of its offers are

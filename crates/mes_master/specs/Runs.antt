@@ -1,10 +1,10 @@
 -- Whatever a test master is asked to do, one thing after the other.
 use Rattle.std.specs.Prelude.{◌≡◌, ℕ, false, fold, List, [], ◌++◌, Option, None, Ok, Err}
-use Rattle.mes_resource.specs.declared.id.Id.{Id}
-use Rattle.mes_offer.specs.declared.offer.Offer.{Offer}
-use Rattle.mes_task.specs.declared.task_info.TaskInfo.{TaskInfo}
-use Rattle.mes_task.specs.declared.task_status.TaskStatus.{TaskStatus}
-use Rattle.mes_call.specs.declared.call.Call.{Call}
+use Rattle.mes_model.specs.Id.{Id}
+use Rattle.mes_model.specs.Offer.{Offer}
+use Rattle.mes_model.specs.TaskInfo.{TaskInfo}
+use Rattle.mes_model.specs.TaskStatus.{TaskStatus}
+use Rattle.mes_msg.specs.Call.{Call}
 use Rattle.mes_hand.specs.Refusals.{stands_twice, ids_of}
 use Rattle.mes_master.specs.Masters.{MasterState, MasterAnswer, handled}
 use Rattle.mes_master.specs.Sending.{Sends, offer_ids, offers_sent, rescind_sent, update_sent, resend_sent}

@@ -1,13 +1,13 @@
 -- What a test master sends of its own: the event, and the master then, or why not.
 use Rattle.std.specs.Prelude.{ℕ, Bool, false, ◌||◌, not, if◌then◌else◌, List, [], ◌∷◌, ◌++◌, map, filter, slice_get, Option, Some, None, is_some, Result, Ok, Err}
 use Rattle.indexmap.specs.IndexMap.{insert_entry}
-use Rattle.mes_resource.specs.declared.id.Id.{Id}
-use Rattle.mes_offer.specs.declared.offer.Offer.{Offer}
-use Rattle.mes_task.specs.declared.owed_key.OwedKey.{OwedKey}
-use Rattle.mes_task.specs.declared.task_status.TaskStatus.{TaskStatus}
-use Rattle.mes_task.specs.Owed.{owed_key_of}
-use Rattle.mes_event.specs.declared.event.Event.{Event}
-use Rattle.mes_event.specs.declared.event.Event.TheVariants as event
+use Rattle.mes_model.specs.Id.{Id}
+use Rattle.mes_model.specs.Offer.{Offer}
+use Rattle.mes_model.specs.OwedKey.{OwedKey}
+use Rattle.mes_model.specs.TaskStatus.{TaskStatus}
+use Rattle.mes_model.specs.Owed.{owed_key_of}
+use Rattle.mes_msg.specs.Event.{Event}
+use Rattle.mes_msg.specs.Event.TheVariants as event
 use Rattle.mes_hand.specs.Held.{with_offers, without_offer, is_owed}
 use Rattle.mes_hand.specs.Refusals.{stands_in}
 use Rattle.mes_master.specs.declared.refusal.MasterRefusal.{MasterRefusal}

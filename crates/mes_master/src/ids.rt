@@ -2,7 +2,7 @@
 ghost use Rattle.std.specs.Prelude.{◌≡◌, ◌||◌, ◌++◌, ◌+◌, ◌<◌, ◌≤◌, false, length, option_map, IfOk, OnOk, OnErr};
 ghost use Rattle.std.specs.List.{list_any};
 ghost use Rattle.indexmap.specs.IndexSet.{spare, insert_key, insert_all};
-ghost use Rattle.mes_offer.specs.declared.offer.Offer.{Offer as OfferValue};
+ghost use Rattle.mes_model.specs.Offer.{Offer as OfferValue};
 ghost use Rattle.mes_fit.specs.Launched.{launched, launched_by};
 ghost use Rattle.mes_hand.specs.Refusals.{stands_in, ids_of};
 ghost use Rattle.mes_master.specs.Masters.{same_id, new_tasks};

@@ -1,9 +1,9 @@
 //! Laws of the definition of a master: functions that do nothing, with the law as their contract.
 ghost use Rattle.std.specs.Prelude.{◌≡◌, ℕ, List, Option as option};
 ghost use Rattle.std.specs.List.Sorted.{IsPermutation};
-ghost use Rattle.mes_resource.specs.declared.id.Id.{Id};
-ghost use Rattle.mes_offer.specs.declared.offer.Offer.{Offer};
-ghost use Rattle.mes_call.specs.declared.call.Call.{Call};
+ghost use Rattle.mes_model.specs.Id.{Id};
+ghost use Rattle.mes_model.specs.Offer.{Offer};
+ghost use Rattle.mes_msg.specs.Call.{Call};
 ghost use Rattle.mes_fit.specs.Fits.{Fits};
 ghost use Rattle.mes_hand.specs.Calls.{tasks_of};
 ghost use Rattle.mes_master.specs.Masters.{MasterState, handled};

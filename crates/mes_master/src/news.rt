@@ -1,7 +1,7 @@
 //! The events that a master sends.
 ghost use Rattle.std.specs.Prelude.{◌≡◌, ◌++◌, [], ◌∷◌, map, filter_map, option_copied, IfOk, OnOk};
 ghost use Rattle.std.specs.Map.{values_of, lookup};
-ghost use Rattle.mes_task.specs.declared.task_ref.TaskRef.{TaskRef as Named};
+ghost use Rattle.mes_model.specs.TaskRef.{TaskRef as Named};
 ghost use Rattle.mes_master.specs.Masters.{same_id, subscribed_event, update_event, reconciled_event, last_of, asked_for};
 
 use indexmap::IndexMap;

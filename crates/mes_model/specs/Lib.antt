@@ -1,2 +1,17 @@
+pub use Rattle.mes_resource.specs.Ids
+pub use Rattle.mes_resource.specs.declared.id.Id
+pub use Rattle.mes_resource.specs.declared.reservation.Reservation
+pub use Rattle.mes_resource.specs.declared.resource.Resource
+pub use Rattle.mes_resource.specs.declared.resource.ResourceValue
+pub use Rattle.mes_resource.specs.declared.value.Range
+pub use Rattle.mes_resource.specs.declared.value.Ranges
+pub use Rattle.mes_resource.specs.declared.value.Set
+pub use Rattle.mes_offer.specs.declared.offer.Offer
+pub use Rattle.mes_task.specs.Owed
+pub use Rattle.mes_task.specs.Tasks
+pub use Rattle.mes_task.specs.declared.owed_key.OwedKey
+pub use Rattle.mes_task.specs.declared.task_info.TaskInfo
+pub use Rattle.mes_task.specs.declared.task_ref.TaskRef
+pub use Rattle.mes_task.specs.declared.task_status.TaskStatus
 pub mod Frameworks
 pub mod Filters

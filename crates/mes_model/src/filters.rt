@@ -1,7 +1,7 @@
 //! When a framework wants no offers.
 
-use mes_fixed::Micros;
-use mes_json::{Element, Json, NoMemory};
+use mes_part::fixed::Micros;
+use mes_part::json::{self, Element, NoMemory};
 use mes_part::{
     MadeOf, Maybe, Part, PartFault, RowList, RowRefs, Rows1, Trail, made, message_tree, pairs,
     read_message,
@@ -58,7 +58,7 @@ impl Part for Filters {
     }
 
     #[tactic(auto, using(crate::specs::Filters::filters_back), unfolding(crate::specs::Filters::filters))]
-    fn tree(&self, alloc: Global) -> Result<Json, NoMemory> {
+    fn tree(&self, alloc: Global) -> Result<json::Json, NoMemory> {
         message_tree(alloc, &FILTERS_NAMES, &filters_rows!(self))
     }
 

@@ -1,7 +1,7 @@
 //! A framework, and what it is able to deal with.
 
-use mes_fixed::Micros;
-use mes_json::{Element, Json, NoMemory, Text};
+use mes_part::fixed::Micros;
+use mes_part::json::{self, Element, NoMemory, Text};
 use mes_part::{
     List, MadeOf, Many, Maybe, Must, MustRef, Part, PartFault, RowList, RowRefs, Rows1, Rows9,
     Trail, made, message_tree, pairs, read_message,
@@ -59,7 +59,7 @@ impl Part for Capability {
     }
 
     #[tactic(auto, using(crate::specs::Frameworks::capability_back), unfolding(crate::specs::Frameworks::capability))]
-    fn tree(&self, alloc: Global) -> Result<Json, NoMemory> {
+    fn tree(&self, alloc: Global) -> Result<json::Json, NoMemory> {
         message_tree(alloc, &CAPABILITY_NAMES, &capability_rows!(self))
     }
 
@@ -180,7 +180,7 @@ impl Part for FrameworkInfo {
     }
 
     #[tactic(auto, using(crate::specs::Frameworks::framework_info_back), unfolding(crate::specs::Frameworks::framework_info))]
-    fn tree(&self, alloc: Global) -> Result<Json, NoMemory> {
+    fn tree(&self, alloc: Global) -> Result<json::Json, NoMemory> {
         message_tree(alloc, &FRAMEWORK_INFO_NAMES, &framework_info_rows!(self))
     }
 

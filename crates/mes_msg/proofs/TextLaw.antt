@@ -1,10 +1,10 @@
 -- Bytes are a JSON text of one value, or of none for one reason, and not both.
 use Rattle.std.proofs.Common.{◌≡◌, ◌≢◌, ℕ, ◌⊎◌, inl, inr, List, [], sym, ◌∙◌, ap, refl, subst, Result, Ok, Err}
-use Rattle.mes_json.specs.Tree.{Tree}
-use Rattle.mes_json.specs.Grammar.{IsText}
-use Rattle.mes_json.specs.Place.{IsFault}
-use Rattle.mes_json.specs.declared.limits.TheConstants.{NESTING_LIMIT}
-use Rattle.mes_json.specs.declared.fault.TextFault.{TextFault}
+use Rattle.mes_part.specs.Tree.{Tree}
+use Rattle.mes_part.specs.Grammar.{IsText}
+use Rattle.mes_part.specs.Place.{IsFault}
+use Rattle.mes_part.specs.JsonLimits.{NESTING_LIMIT}
+use Rattle.mes_part.specs.TextFault.{TextFault}
 use Rattle.mes_part.specs.declared.field.FieldFault.{FieldFault}
 use Rattle.mes_part.specs.Kinds.{Kind, Lawful}
 use Rattle.mes_record.specs.Texts.{IsTextOf, BreaksText, IsFaultOf}

@@ -4,8 +4,8 @@ ghost use Rattle.std.specs.Prelude.{◌≡◌, ◌≢◌, ◌⊎◌, ℕ, List};
 ghost use Rattle.mes_record.specs.Texts.{IsTextOf, IsFaultOf};
 ghost use Rattle.mes_record.specs.declared.record.RecordFault.{RecordFault as Fault};
 
-use mes_json::one_text_reading;
 use mes_part::Part;
+use mes_part::json::one_text_reading;
 use mes_record::RecordFault;
 
 /// Any bytes are a JSON text of one value of the type, or of none for one reason, and not both.

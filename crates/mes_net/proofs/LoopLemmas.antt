@@ -1,10 +1,10 @@
 -- What some socket gave, shown.
 use Rattle.std.proofs.Common.{◌≡◌, ◌∙◌, ◌⊎◌, ap, inl, inr, refl, Bool, true, false, ℕ, List, Result, subst}
-use Rattle.mes_event.specs.declared.event.Event.{Event}
+use Rattle.mes_msg.specs.Event.{Event}
 use Rattle.mes_frame.specs.Devices.{Device}
 use Rattle.mes_frame.specs.declared.write.WriteFault.{WriteFault}
-use Rattle.mes_master.specs.Masters.{MasterState}
-use Rattle.mes_master.specs.Runs.{new_master}
+use Rattle.mes_serve.specs.Masters.{MasterState}
+use Rattle.mes_serve.specs.Runs.{new_master}
 use Rattle.mes_model.specs.declared.framework_info.FrameworkInfo.{FrameworkInfo}
 use Rattle.mes_net.specs.Given.{plain_framework, test_framework}
 use Rattle.mes_msg.specs.declared.send_fault.SendFault.{SendFault}

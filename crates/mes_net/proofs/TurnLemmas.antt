@@ -1,10 +1,10 @@
 -- Connections that are served one after the other.
 use Rattle.std.proofs.Common.{◌≡◌, ℕ, ◌+◌, List, Result, Ok, arith, inr, refl, suc, subst}
-use Rattle.mes_event.specs.declared.event.Event.{Event}
+use Rattle.mes_msg.specs.Event.{Event}
 use Rattle.mes_frame.specs.Devices.{Device}
 use Rattle.mes_frame.specs.declared.write.WriteFault.{WriteFault}
-use Rattle.mes_master.specs.Masters.{MasterState}
-use Rattle.mes_master.specs.Runs.{new_master}
+use Rattle.mes_serve.specs.Masters.{MasterState}
+use Rattle.mes_serve.specs.Runs.{new_master}
 use Rattle.mes_net.specs.Given.{test_framework}
 use Rattle.mes_net.specs.ServedTurns.{ServesEvents, ServesNext, ServesSome, ServesTurns, Turned}
 use Rattle.mes_net.specs.StreamIds.{ids_from}

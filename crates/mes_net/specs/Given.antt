@@ -1,10 +1,10 @@
 -- The events that a test master is given, and the frameworks.
 use Rattle.std.specs.Prelude.{◌≡◌, ℕ, List, [], ◌∷◌, ◌++◌, Option, None, Result, MatchResult, codes}
-use Rattle.mes_event.specs.declared.event.Event.{Event}
+use Rattle.mes_msg.specs.Event.{Event}
 use Rattle.mes_frame.specs.Devices.{Device}
 use Rattle.mes_frame.specs.declared.limits.TheConstants.{RECORD_LIMIT_USUAL}
 use Rattle.mes_model.specs.declared.framework_info.FrameworkInfo.{FrameworkInfo}
-use Rattle.mes_resource.specs.declared.id.Id.{Id}
+use Rattle.mes_model.specs.Id.{Id}
 use Rattle.mes_run.specs.Printing.{Prints, ReadsInput}
 use Rattle.mes_run.specs.declared.ended.Ended.{Ended}
 use Rattle.mes_run.specs.declared.limits.TheConstants.{READS_MOST}

@@ -1,4 +1,3 @@
-pub mod Hosts
 pub mod NetLines
 pub mod Given
 pub mod StreamIds

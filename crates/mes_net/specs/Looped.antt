@@ -1,11 +1,11 @@
 -- Both ends of a connection in one process.
 use Rattle.std.specs.Prelude.{◌≡◌, ◌⊎◌, ℕ, Bool, true, false, List, Result, Ok, Err, codes}
 use Rattle.std.specs.Int.{to_be_bytes, w128}
-use Rattle.mes_event.specs.declared.event.Event.{Event}
+use Rattle.mes_msg.specs.Event.{Event}
 use Rattle.mes_frame.specs.Devices.{Device}
 use Rattle.mes_frame.specs.declared.write.WriteFault.{WriteFault}
-use Rattle.mes_master.specs.Masters.{MasterState}
-use Rattle.mes_master.specs.Runs.{new_master}
+use Rattle.mes_serve.specs.Masters.{MasterState}
+use Rattle.mes_serve.specs.Runs.{new_master}
 use Rattle.mes_model.specs.declared.framework_info.FrameworkInfo.{FrameworkInfo}
 use Rattle.mes_msg.specs.declared.send_fault.SendFault.{SendFault}
 use Rattle.mes_net.specs.Given.{Given, plain_framework, test_framework}

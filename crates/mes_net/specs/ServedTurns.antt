@@ -1,10 +1,10 @@
 -- A test master that serves one connection after the other.
 use Rattle.std.specs.Prelude.{◌≡◌, ◌⊎◌, ℕ, ◌+◌, ◌<◌, zero, suc, List, Result, Ok, Err}
-use Rattle.mes_event.specs.declared.event.Event.{Event}
+use Rattle.mes_msg.specs.Event.{Event}
 use Rattle.mes_frame.specs.Devices.{Device}
 use Rattle.mes_frame.specs.declared.write.WriteFault.{WriteFault}
-use Rattle.mes_master.specs.Masters.{MasterState}
-use Rattle.mes_master.specs.Runs.{new_master}
+use Rattle.mes_serve.specs.Masters.{MasterState}
+use Rattle.mes_serve.specs.Runs.{new_master}
 use Rattle.mes_net.specs.Given.{Given, test_framework}
 use Rattle.mes_net.specs.NetLines.{TellsNet, accept_failed, bind_failed}
 use Rattle.mes_net.specs.StreamIds.{ids_from}

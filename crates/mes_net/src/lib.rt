@@ -3,7 +3,6 @@
 //! subscribes to a master, and both in one process. Each socket is closed where its connection ends.
 
 mod framework;
-mod host;
 mod ids;
 mod laws;
 mod lines;
@@ -13,9 +12,9 @@ mod serving;
 mod subscribing;
 mod turns;
 
-pub use host::Host;
 pub use laws::net_limits;
 pub use looping::{LOOPBACK_STREAM, loopback};
+pub use mes_http::Host;
 pub use serving::{STREAM_CHUNK, serve};
 pub use subscribing::subscribe;
 pub use turns::UNREAD_MOST;

@@ -2,7 +2,7 @@
 
 ghost use Rattle.std.specs.Prelude.{◌≡◌, IfOk};
 ghost use Rattle.mes_frame.specs.Devices.{device_of};
-ghost use Rattle.mes_master.specs.Runs.{new_master};
+ghost use Rattle.mes_serve.specs.Runs.{new_master};
 ghost use Rattle.mes_net.specs.Given.{test_framework};
 ghost use Rattle.mes_net.specs.ServedTurns.{Serves, ServesEvents, ServesNext, ServesTurns};
 ghost use Rattle.mes_net.specs.StreamIds.{ids_from};
@@ -10,12 +10,11 @@ ghost use Rattle.mes_net.specs.StreamIds.{ids_from};
 use crate::framework::framework_id;
 use crate::ids::stream_ids;
 use crate::lines::{ACCEPT_FAILED, BIND_FAILED};
-use mes_event::Event;
 use mes_frame::{FromStd, Limit, Sink, Source};
 use mes_json::NoMemory;
-use mes_master::Master;
+use mes_msg::Event;
 use mes_run::{ChunkSize, Ended, FAULT, GOOD, READS_MOST, out_of_memory, print_fault, print_text};
-use mes_serve::serve_one;
+use mes_serve::{Master, serve_one};
 use mes_stream::read_plain;
 use std::alloc::{AllocGlobal, Global};
 use std::io::Read;

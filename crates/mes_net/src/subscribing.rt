@@ -4,9 +4,9 @@ ghost use Rattle.mes_frame.specs.Devices.{device_of};
 ghost use Rattle.mes_net.specs.Subscribed.{Subscribes};
 
 use crate::framework::framework_info;
-use crate::host::Host;
 use crate::lines::CONNECT_FAILED;
 use mes_frame::{FromStd, Sink};
+use mes_http::Host;
 use mes_json::Text;
 use mes_run::{Ended, FAULT, out_of_memory, print_text};
 use mes_serve::subscribe_over;

@@ -1,7 +1,8 @@
 //! The client's end of a connection whose other end writes in turn with its reads, in one thread.
 
-ghost use Rattle.std.specs.Prelude.{◌≡◌, OnOk, OnErr};
-ghost use Rattle.mes_net.specs.Unread.{Unread, Writes};
+ghost use Rattle.std.specs.Prelude.{◌≡◌, IfOk, OnOk, OnErr};
+ghost use Rattle.std.specs.Io.{ReadsAtMost};
+ghost use Rattle.mes_net.specs.Unread.{Unread, Takes, Writes};
 
 use std::io;
 use std::io::{ErrorKind, Read, Write};
@@ -67,10 +68,12 @@ impl<'a> Turns<'a> {
         self.unread = self.unread.saturating_add(taken);
         Ok(())
     }
-}
 
-impl Read for Turns<'_> {
-    fn read(&mut self, buffer: &mut [u8]) -> io::Result<usize> {
+    // Takes of what the other end wrote, once that has written what it may: nothing where all of it is taken. Errors: either end failed.
+    fn take(&mut self, buffer: &mut [u8]) -> io::Result<usize>
+        ensures bound { ReadsAtMost result buffer.new }
+        ensures taken { IfOk result (λ count. Takes count self.old self.new) }
+    {
         self.write_pending()?;
         if self.unread == 0 {
             return Ok(0);
@@ -78,5 +81,11 @@ impl Read for Turns<'_> {
         let count = self.client.read(buffer)?;
         self.unread = self.unread.saturating_sub(count);
         Ok(count)
+    }
+}
+
+impl Read for Turns<'_> {
+    fn read(&mut self, buffer: &mut [u8]) -> io::Result<usize> {
+        self.take(buffer)
     }
 }

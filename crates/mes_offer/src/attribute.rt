@@ -3,7 +3,7 @@
 ghost use Rattle.std.specs.Prelude.{◌≡◌, IfOk};
 
 use crate::text_value::TextValue;
-use mes_json::{Element, Json, NoMemory, Text};
+use mes_part::json::{self, Element, NoMemory, Text};
 use mes_part::{
     Choice, FieldWhy, Found, MadeOf, Must, MustRef, Part, PartFault, RowList, RowRefs, Trail,
     Typed, TypedRef, made, message_tree, put, put_type, read_message, required, type_of,
@@ -72,7 +72,11 @@ impl Choice for AttributeValue {
         }
     }
 
-    fn put_choice(&self, members: &mut Vec<(Text, Json)>, alloc: Global) -> Result<(), NoMemory> {
+    fn put_choice(
+        &self,
+        members: &mut Vec<(Text, json::Json)>,
+        alloc: Global,
+    ) -> Result<(), NoMemory> {
         match self {
             AttributeValue::Scalar(scalar) => {
                 put_type(members, alloc, "SCALAR")?;
@@ -150,7 +154,7 @@ impl Part for Attribute {
     }
 
     #[tactic(auto, using(crate::specs::Attributes::attribute_back), unfolding(crate::specs::Attributes::attribute))]
-    fn tree(&self, alloc: Global) -> Result<Json, NoMemory> {
+    fn tree(&self, alloc: Global) -> Result<json::Json, NoMemory> {
         message_tree(alloc, &ATTRIBUTE_NAMES, &attribute_rows!(self))
     }
 

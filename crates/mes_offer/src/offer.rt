@@ -1,7 +1,7 @@
 //! An offer of resources.
 
 use crate::attribute::Attribute;
-use mes_json::{Element, Json, NoMemory, Text};
+use mes_part::json::{self, Element, NoMemory, Text};
 use mes_part::{
     List, MadeOf, Many, Maybe, Must, MustRef, Part, PartFault, RowList, RowRefs, Rows8, Trail,
     made, message_tree, pairs, read_message,
@@ -109,7 +109,7 @@ impl Part for Offer {
     }
 
     #[tactic(auto, using(crate::specs::Offers::offer_back), unfolding(crate::specs::Offers::offer))]
-    fn tree(&self, alloc: Global) -> Result<Json, NoMemory> {
+    fn tree(&self, alloc: Global) -> Result<json::Json, NoMemory> {
         message_tree(alloc, &OFFER_NAMES, &offer_rows!(self))
     }
 

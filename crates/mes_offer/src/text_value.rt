@@ -1,6 +1,6 @@
 //! A text that an attribute may be.
 
-use mes_json::{Element, Json, NoMemory, Text};
+use mes_part::json::{self, Element, NoMemory, Text};
 use mes_part::{
     MadeOf, Must, MustRef, Part, PartFault, RowList, RowRefs, Rows1, Trail, made, message_tree,
     pairs, read_message,
@@ -57,7 +57,7 @@ impl Part for TextValue {
     }
 
     #[tactic(auto, using(crate::specs::TextValues::text_value_back), unfolding(crate::specs::TextValues::text_value))]
-    fn tree(&self, alloc: Global) -> Result<Json, NoMemory> {
+    fn tree(&self, alloc: Global) -> Result<json::Json, NoMemory> {
         message_tree(alloc, &TEXT_VALUE_NAMES, &text_value_rows!(self))
     }
 

@@ -1,3 +1,15 @@
+pub use Rattle.mes_json.specs.Tree
+pub use Rattle.mes_json.specs.View
+pub use Rattle.mes_json.specs.Cursor
+pub use Rattle.mes_json.specs.Canonical
+pub use Rattle.mes_json.specs.Grammar
+pub use Rattle.mes_json.specs.Tokens
+pub use Rattle.mes_json.specs.Place
+pub use Rattle.mes_json.specs.declared.value.Json
+pub use Rattle.mes_json.specs.declared.fault.ReadFault
+pub use Rattle.mes_json.specs.declared.fault.TextFault
+pub use Rattle.mes_json.specs.declared.limits.TheConstants as JsonLimits
+pub use Rattle.mes_fixed.specs.Text as NumberText
 pub mod Paths
 pub mod Steps
 pub mod Trails

@@ -43,6 +43,8 @@ pub use label::{Label, Labels};
 pub use leaf::text_in;
 pub use limits::{NAME_MOST, PATH_TEXT_MOST, ROWS_MOST, STEPS_MOST};
 pub use list::List;
+pub use mes_fixed as fixed;
+pub use mes_json as json;
 pub use message::{MadeOf, message_tree, read_message, read_typed, typed_tree};
 pub use pairs::{
     Rows1, Rows2, Rows3, Rows4, Rows5, Rows6, Rows7, Rows8, Rows9, Rows10, Rows11, Rows12, Rows13,

@@ -1,10 +1,10 @@
 -- The value of a JSON text.
 use Rattle.std.proofs.Common.{◌≡◌, ℕ, List, [], refl, sym, ◌∙◌, append-nil, subst}
 use Rattle.std.specs.Prelude.{Ok, Err}
-use Rattle.mes_json.specs.Tree.{Tree}
-use Rattle.mes_json.specs.Grammar.{IsText}
-use Rattle.mes_json.specs.Tokens.{Token, tokens, BeginsWith}
-use Rattle.mes_json.specs.declared.limits.TheConstants.{NESTING_LIMIT}
+use Rattle.mes_part.specs.Tree.{Tree}
+use Rattle.mes_part.specs.Grammar.{IsText}
+use Rattle.mes_part.specs.Tokens.{Token, tokens, BeginsWith}
+use Rattle.mes_part.specs.JsonLimits.{NESTING_LIMIT}
 use Rattle.mes_part.specs.Kinds.{Kind, Lawful}
 use Rattle.mes_part.specs.Parts.{Gives}
 use Rattle.mes_part.specs.Paths.{Place}

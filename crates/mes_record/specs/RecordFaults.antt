@@ -1,6 +1,6 @@
 -- Why a record was refused, from why its text or its fields were.
-use Rattle.mes_json.specs.declared.fault.ReadFault.{ReadFault}
-use Rattle.mes_json.specs.declared.fault.ReadFault.TheVariants as read
+use Rattle.mes_part.specs.ReadFault.{ReadFault}
+use Rattle.mes_part.specs.ReadFault.TheVariants as read
 use Rattle.mes_part.specs.declared.part.PartFault.{PartFault}
 use Rattle.mes_part.specs.declared.part.PartFault.TheVariants as part
 use Rattle.mes_record.specs.declared.record.RecordFault.{RecordFault}

@@ -1,10 +1,10 @@
 -- A value of any kind in the bytes of a record, and its canonical text.
 use Rattle.std.specs.Prelude.{ℕ, ◌<◌, ◌≤◌, List, [], length}
-use Rattle.mes_json.specs.Tree.{Tree, depth}
-use Rattle.mes_json.specs.Canonical.{canonical}
-use Rattle.mes_json.specs.Grammar.{IsText}
-use Rattle.mes_json.specs.Place.{IsFault}
-use Rattle.mes_json.specs.declared.limits.TheConstants.{NESTING_LIMIT}
+use Rattle.mes_part.specs.Tree.{Tree, depth}
+use Rattle.mes_part.specs.Canonical.{canonical}
+use Rattle.mes_part.specs.Grammar.{IsText}
+use Rattle.mes_part.specs.Place.{IsFault}
+use Rattle.mes_part.specs.JsonLimits.{NESTING_LIMIT}
 use Rattle.mes_part.specs.Kinds.{Kind, Breaks}
 use Rattle.mes_part.specs.declared.field.FieldFault.{FieldFault}
 use Rattle.mes_record.specs.declared.record.RecordFault.{RecordFault}

@@ -3,8 +3,8 @@ ghost use Rattle.std.specs.Prelude.{◌≡◌, IfOk, IfErr, MatchResult};
 ghost use Rattle.mes_record.specs.Texts.{IsTextOf, canonical_of, Fits, IsRefusalOf};
 
 use mes_frame::Limit;
-use mes_json::{NESTING_LIMIT, NoMemory, text_length, write_text};
 use mes_part::Part;
+use mes_part::json::{NESTING_LIMIT, NoMemory, text_length, write_text};
 use std::alloc::Global;
 
 /// Why an event or a call has no canonical text that a record can hold.

@@ -1,6 +1,6 @@
 //! The body of MESSAGE, of an event and of a call.
 
-use mes_json::{Element, Json, NoMemory};
+use mes_part::json::{self, Element, NoMemory};
 use mes_part::{
     Bytes, MadeOf, Must, MustRef, Part, PartFault, RowList, RowRefs, Rows3, Trail, made,
     message_tree, pairs, read_message,
@@ -67,7 +67,7 @@ impl Part for Message {
     }
 
     #[tactic(auto, using(crate::specs::Messages::message_body_back), unfolding(crate::specs::Messages::message_body))]
-    fn tree(&self, alloc: Global) -> Result<Json, NoMemory> {
+    fn tree(&self, alloc: Global) -> Result<json::Json, NoMemory> {
         message_tree(alloc, &MESSAGE_NAMES, &message_rows!(self))
     }
 

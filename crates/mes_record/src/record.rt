@@ -2,7 +2,7 @@
 ghost use Rattle.std.specs.Prelude.{◌≡◌, ◌≤◌, IfOk, IfErr, MatchResult};
 ghost use Rattle.mes_record.specs.Texts.{IsTextOf, IsFaultOf};
 
-use mes_json::{ReadFault, TextFault, read_tape};
+use mes_part::json::{ReadFault, TextFault, read_tape};
 use mes_part::{BoxedFault, Part, PartFault, STEPS_MOST, Trail};
 use std::alloc::Global;
 

@@ -8,7 +8,7 @@ use Rattle.mes_stream.specs.SendLines.{send_text}
 use Rattle.mes_stream.specs.Sending.{WroteAll}
 use Rattle.mes_stream.specs.declared.fault.Report.{Report}
 use Rattle.mes_stream.specs.declared.fault.Stop.{Stop}
-use Rattle.mes_log.specs.Writing.{IsLogOf, StopsLog}
+use Rattle.mes_session.specs.Writing.{IsLogOf, StopsLog}
 use Rattle.mes_run.specs.Printing.{PrintsStatus}
 use Rattle.mes_replay.specs.Replaying.{ReadsLogInput}
 

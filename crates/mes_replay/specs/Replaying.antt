@@ -6,9 +6,9 @@ use Rattle.mes_msg.specs.declared.entry.Entry.{Entry}
 use Rattle.mes_stream.specs.Lines.{fault_text}
 use Rattle.mes_stream.specs.declared.fault.Report.{Report}
 use Rattle.mes_stream.specs.declared.fault.Stop.{Stop}
-use Rattle.mes_log.specs.Logs.{EndsLog}
-use Rattle.mes_hand.specs.Held.{Held}
-use Rattle.mes_hand.specs.declared.refusal.Refusal.{Refusal}
+use Rattle.mes_session.specs.Logs.{EndsLog}
+use Rattle.mes_session.specs.Held.{Held}
+use Rattle.mes_session.specs.Refusal.{Refusal}
 use Rattle.mes_session.specs.History.{StandsFor, IsLegal, StopsAt}
 use Rattle.mes_session.specs.Printed.{refusal_text, report_text}
 use Rattle.mes_run.specs.Printing.{LacksMemory, Prints}

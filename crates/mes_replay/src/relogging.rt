@@ -4,9 +4,9 @@ ghost use Rattle.mes_frame.specs.Devices.{device_of};
 ghost use Rattle.mes_replay.specs.Relogging.{Relogs, WritesLog};
 
 use mes_frame::{Limit, Sink, Source};
-use mes_log::{read_log, write_log};
 use mes_msg::Entry;
 use mes_run::{GOOD, READS_MOST, print_fault, print_send_fault};
+use mes_session::{read_log, write_log};
 use std::alloc::Global;
 
 /// Reads a session log of either version to its end, and writes its entries as a log of version 2, under the same limit. Where it has a

@@ -8,12 +8,11 @@ ghost use Rattle.mes_replay.specs.Replaying.{Replays, ReplaysEntries};
 
 use arrayvec::ArrayString;
 use mes_frame::{Limit, Sink, Source};
-use mes_log::read_log;
 use mes_msg::Entry;
 use mes_run::{
     Ended, FAULT, GOOD, READS_MOST, out_of_memory, print_bytes, print_fault, print_line,
 };
-use mes_session::{Refusal, Session, refusal_line};
+use mes_session::{Refusal, Session, read_log, refusal_line};
 use std::alloc::Global;
 
 /// Reads a session log of either version to its end, and prints the report of the session that it leads to. Where the log has a fault,

@@ -1,6 +1,6 @@
 //! The role that resources are offered to.
 
-use mes_json::{Element, Json, NoMemory, Text};
+use mes_part::json::{self, Element, NoMemory, Text};
 use mes_part::{
     MadeOf, Maybe, Part, PartFault, RowList, RowRefs, Rows1, Trail, made, message_tree, pairs,
     read_message,
@@ -57,7 +57,7 @@ impl Part for Allocation {
     }
 
     #[tactic(auto, using(crate::specs::Reservations::allocation_back), unfolding(crate::specs::Reservations::allocation))]
-    fn tree(&self, alloc: Global) -> Result<Json, NoMemory> {
+    fn tree(&self, alloc: Global) -> Result<json::Json, NoMemory> {
         message_tree(alloc, &ALLOCATION_NAMES, &allocation_rows!(self))
     }
 

@@ -1,6 +1,6 @@
 //! An identifier.
 
-use mes_json::{Element, Json, NoMemory, Text};
+use mes_part::json::{self, Element, NoMemory, Text};
 use mes_part::{
     MadeOf, Must, MustRef, Part, PartFault, RowList, RowRefs, Rows1, Trail, made, message_tree,
     pairs, read_message,
@@ -53,7 +53,7 @@ impl Part for Id {
     }
 
     #[tactic(auto, using(crate::specs::Ids::id_back), unfolding(crate::specs::Ids::id))]
-    fn tree(&self, alloc: Global) -> Result<Json, NoMemory> {
+    fn tree(&self, alloc: Global) -> Result<json::Json, NoMemory> {
         message_tree(alloc, &ID_NAMES, &id_rows!(self))
     }
 

@@ -1,6 +1,6 @@
 //! For whom resources are reserved.
 
-use mes_json::{Element, Json, NoMemory, Text};
+use mes_part::json::{self, Element, NoMemory, Text};
 use mes_part::{
     Labels, MadeOf, Maybe, Part, PartFault, RowList, RowRefs, Rows4, Trail, made, message_tree,
     pairs, read_message,
@@ -68,7 +68,7 @@ impl Part for Reservation {
     }
 
     #[tactic(auto, using(crate::specs::Reservations::reservation_back), unfolding(crate::specs::Reservations::reservation))]
-    fn tree(&self, alloc: Global) -> Result<Json, NoMemory> {
+    fn tree(&self, alloc: Global) -> Result<json::Json, NoMemory> {
         message_tree(alloc, &RESERVATION_NAMES, &reservation_rows!(self))
     }
 

@@ -6,7 +6,7 @@ use crate::allocation::Allocation;
 use crate::id::Id;
 use crate::reservation::Reservation;
 use crate::value::{Ranges, Scalar, Set};
-use mes_json::{Element, Json, NoMemory, Text};
+use mes_part::json::{self, Element, NoMemory, Text};
 use mes_part::{
     Choice, FieldWhy, Flag, Found, Kept, List, MadeOf, Many, Maybe, Must, MustRef, Part, PartFault,
     RowList, RowRefs, Rows8, Trail, Typed, TypedRef, made, message_tree, pairs, put, put_type,
@@ -70,7 +70,11 @@ impl Choice for ResourceValue {
         }
     }
 
-    fn put_choice(&self, members: &mut Vec<(Text, Json)>, alloc: Global) -> Result<(), NoMemory> {
+    fn put_choice(
+        &self,
+        members: &mut Vec<(Text, json::Json)>,
+        alloc: Global,
+    ) -> Result<(), NoMemory> {
         match self {
             ResourceValue::Scalar(scalar) => {
                 put_type(members, alloc, "SCALAR")?;
@@ -215,7 +219,7 @@ impl Part for Resource {
     }
 
     #[tactic(auto, using(crate::specs::Resources::resource_back), unfolding(crate::specs::Resources::resource))]
-    fn tree(&self, alloc: Global) -> Result<Json, NoMemory> {
+    fn tree(&self, alloc: Global) -> Result<json::Json, NoMemory> {
         message_tree(alloc, &RESOURCE_NAMES, &resource_rows!(self))
     }
 

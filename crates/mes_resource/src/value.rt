@@ -1,7 +1,7 @@
 //! The values that a resource or an attribute may have.
 
-use mes_fixed::Thousandths;
-use mes_json::{Element, Json, NoMemory, Text};
+use mes_part::fixed::Thousandths;
+use mes_part::json::{self, Element, NoMemory, Text};
 use mes_part::{
     List, MadeOf, Many, Must, MustRef, Part, PartFault, RowList, RowRefs, Rows1, Rows2, Trail,
     made, message_tree, pairs, read_message,
@@ -58,7 +58,7 @@ impl Part for Scalar {
     }
 
     #[tactic(auto, using(crate::specs::Values::scalar_back), unfolding(crate::specs::Values::scalar))]
-    fn tree(&self, alloc: Global) -> Result<Json, NoMemory> {
+    fn tree(&self, alloc: Global) -> Result<json::Json, NoMemory> {
         message_tree(alloc, &SCALAR_NAMES, &scalar_rows!(self))
     }
 
@@ -123,7 +123,7 @@ impl Part for Range {
     }
 
     #[tactic(auto, using(crate::specs::Values::range_back), unfolding(crate::specs::Values::range))]
-    fn tree(&self, alloc: Global) -> Result<Json, NoMemory> {
+    fn tree(&self, alloc: Global) -> Result<json::Json, NoMemory> {
         message_tree(alloc, &RANGE_NAMES, &range_rows!(self))
     }
 
@@ -183,7 +183,7 @@ impl Part for Ranges {
     }
 
     #[tactic(auto, using(crate::specs::Values::ranges_back), unfolding(crate::specs::Values::ranges))]
-    fn tree(&self, alloc: Global) -> Result<Json, NoMemory> {
+    fn tree(&self, alloc: Global) -> Result<json::Json, NoMemory> {
         message_tree(alloc, &RANGES_NAMES, &ranges_rows!(self))
     }
 
@@ -239,7 +239,7 @@ impl Part for Set {
     }
 
     #[tactic(auto, using(crate::specs::Values::set_back), unfolding(crate::specs::Values::set))]
-    fn tree(&self, alloc: Global) -> Result<Json, NoMemory> {
+    fn tree(&self, alloc: Global) -> Result<json::Json, NoMemory> {
         message_tree(alloc, &SET_NAMES, &set_rows!(self))
     }
 

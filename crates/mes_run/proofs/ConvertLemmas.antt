@@ -2,9 +2,9 @@
 use Rattle.std.proofs.Common.{◌≡◌, ℕ, ◌∷◌, ◌++◌, [], Option, List, Result, ap, ◌∙◌, subst, inl, inr, refl}
 use Rattle.std.specs.Io.KnownBytes.{Consumes}
 use Rattle.mes_frame.specs.declared.counts.Counts.{Counts}
-use Rattle.mes_event.specs.Events.{Spells}
+use Rattle.mes_msg.specs.Events.{Spells}
 use Rattle.mes_stream.specs.Refusals.{IsEventRefusal}
-use Rattle.mes_event.specs.declared.event.Event.{Event}
+use Rattle.mes_msg.specs.Event.{Event}
 use Rattle.mes_stream.specs.Reading.{EndsReading}
 use Rattle.mes_stream.specs.SendLines.{send_text}
 use Rattle.mes_stream.specs.Sending.{StopsSending, WroteAll}

@@ -2,8 +2,8 @@
 use Rattle.std.proofs.Common.{◌≡◌, ℕ, ◌≤◌, List, [], ◌∷◌, ◌++◌, length, ◌∙◌, ap, arith, inl, inr, length-append}
 use Rattle.mes_frame.specs.Chunk.{Chunk, IsChunked, chunk_bytes, chunks_bytes, data_of, ending, line_bytes}
 use Rattle.mes_frame.specs.ChunkFront.{IsOpen, IsPart}
-use Rattle.mes_event.specs.Events.{Spells}
-use Rattle.mes_event.specs.declared.event.Event.{Event}
+use Rattle.mes_msg.specs.Events.{Spells}
+use Rattle.mes_msg.specs.Event.{Event}
 use Rattle.mes_stream.specs.Framings.{GoesIn, EndsIn}
 use Rattle.mes_stream.specs.Stream.{Records}
 use Rattle.mes_stream.specs.declared.stream_reader.Framing.{Framing}

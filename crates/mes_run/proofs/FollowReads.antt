@@ -6,8 +6,8 @@ use Rattle.mes_frame.proofs.Parts.{both_out}
 use Rattle.mes_frame.specs.Devices.{Device}
 use Rattle.mes_frame.specs.Written.{WentOut}
 use Rattle.mes_frame.specs.declared.write.WriteFault.{WriteFault}
-use Rattle.mes_event.specs.Events.{Spells}
-use Rattle.mes_event.specs.declared.event.Event.{Event}
+use Rattle.mes_msg.specs.Events.{Spells}
+use Rattle.mes_msg.specs.Event.{Event}
 use Rattle.mes_stream.specs.EventData.{HoldsData}
 use Rattle.mes_stream.specs.Lines.{fault_text}
 use Rattle.mes_stream.specs.Reading.{ReadingStands, ReadingTakes, ByteEnds, EndsReading, Means, told_as}

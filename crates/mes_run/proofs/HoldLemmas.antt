@@ -5,8 +5,8 @@ use Rattle.mes_frame.proofs.Parts.{passes_with, passes_then, out_then, stops_the
 use Rattle.mes_frame.specs.Devices.{Device}
 use Rattle.mes_frame.specs.Written.{Stops, WentOut}
 use Rattle.mes_frame.specs.declared.write.WriteFault.{WriteFault}
-use Rattle.mes_event.specs.Shown.{event_lines}
-use Rattle.mes_event.specs.declared.event.Event.{Event}
+use Rattle.mes_msg.specs.Shown.{event_lines}
+use Rattle.mes_msg.specs.Event.{Event}
 use Rattle.mes_stream.specs.Stream.{saturated}
 use Rattle.mes_run.specs.Following.{HoldsText, SendsText, ShowsFrom}
 use Rattle.mes_run.specs.Showing.{lines_from}

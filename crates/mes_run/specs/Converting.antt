@@ -1,6 +1,6 @@
 -- What `convert` does: the events of a stream are written again.
 use Rattle.std.specs.Prelude.{◌≡◌, ℕ, ◌⊎◌, Option, None, Some, List, [], ◌∷◌, ◌++◌, Result, Ok, Err}
-use Rattle.mes_event.specs.declared.event.Event.{Event}
+use Rattle.mes_msg.specs.Event.{Event}
 use Rattle.mes_stream.specs.Lines.{fault_text}
 use Rattle.mes_stream.specs.SendLines.{send_text}
 use Rattle.mes_stream.specs.Sending.{IsPlainOf, IsStreamOf, StopsSending, WroteAll}

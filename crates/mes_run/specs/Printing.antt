@@ -10,9 +10,9 @@ use Rattle.mes_stream.specs.SendLines.{send_text}
 use Rattle.mes_stream.specs.Reading.{EndsReading}
 use Rattle.mes_stream.specs.Stream.{saturated}
 use Rattle.mes_stream.specs.declared.stream_reader.Framing.{Framing}
-use Rattle.mes_event.specs.Events.{Spells}
+use Rattle.mes_msg.specs.Events.{Spells}
 use Rattle.mes_stream.specs.Refusals.{IsEventRefusal}
-use Rattle.mes_event.specs.declared.event.Event.{Event}
+use Rattle.mes_msg.specs.Event.{Event}
 use Rattle.mes_stream.specs.declared.fault.Fault.TheVariants.{NoMemory}
 use Rattle.mes_stream.specs.declared.fault.Report.{Report}
 use Rattle.mes_stream.specs.declared.fault.Stop.{Stop}

@@ -1,9 +1,9 @@
 -- What `show` prints: the lines of each event, and then the line that ends the stream.
 use Rattle.std.specs.Prelude.{◌≡◌, ℕ, ◌+◌, ◌≤◌, ◌⊎◌, List, [], ◌∷◌, ◌++◌, length, Result}
 use Rattle.std.specs.Io.KnownBytes.{Consumes}
-use Rattle.mes_event.specs.Events.{Spells}
-use Rattle.mes_event.specs.Shown.{event_lines}
-use Rattle.mes_event.specs.declared.event.Event.{Event}
+use Rattle.mes_msg.specs.Events.{Spells}
+use Rattle.mes_msg.specs.Shown.{event_lines}
+use Rattle.mes_msg.specs.Event.{Event}
 use Rattle.mes_frame.specs.Devices.{Device}
 use Rattle.mes_stream.specs.Lines.{fault_text}
 use Rattle.mes_stream.specs.Framings.{GoesIn, EndsIn}

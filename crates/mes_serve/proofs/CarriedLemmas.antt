@@ -1,8 +1,8 @@
 -- Which answers of a master are 200.
 use Rattle.std.proofs.Common.{◌≡◌, ℕ, Bool, true, false, if◌then◌else◌, List, [], ◌∷◌, Option, Some, None, refl, arith}
 use Rattle.std.specs.Prelude.{IsSome}
-use Rattle.mes_call.specs.declared.call.Call.{Call}
-use Rattle.mes_call.specs.declared.call.Call.TheVariants as of
+use Rattle.mes_msg.specs.Call.{Call}
+use Rattle.mes_msg.specs.Call.TheVariants as of
 use Rattle.mes_master.specs.Masters.{MasterState, MasterAnswer, plain, subscribed, carried_out, is_named, in_stream, is_subscribe, handled}
 
 -- a call that is carried out is answered 202

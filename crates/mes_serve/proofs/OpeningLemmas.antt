@@ -1,7 +1,7 @@
 -- One event more of those that are given to a stream.
 use Rattle.std.proofs.Common.{◌≡◌, ℕ, ◌+◌, ◌<◌, ◌⊎◌, List, ◌++◌, length, take, drop, get_or, refl, sym, ap, ◌∙◌, inl, inr, take-append-drop}
 use Rattle.std.proofs.lemmas.List.Sums.{fold_more}
-use Rattle.mes_event.specs.declared.event.Event.{Event}
+use Rattle.mes_msg.specs.Event.{Event}
 use Rattle.mes_master.specs.Masters.{MasterState}
 use Rattle.mes_serve.specs.Opening.{Streamed, and_given, and_all_given}
 

@@ -1,7 +1,7 @@
 -- A stream written: its head, and behind it its records in chunks.
 use Rattle.std.proofs.Common.{◌≡◌, ℕ, ◌^◌, ◌<◌, ◌≤◌, List, ◌++◌, Result, Ok, Err, length, take, refl, subst}
 use Rattle.std.specs.Io.KnownBytes.{Appends}
-use Rattle.mes_event.specs.declared.event.Event.{Event}
+use Rattle.mes_msg.specs.Event.{Event}
 use Rattle.mes_frame.proofs.Framings.{one_framing, some_framing}
 use Rattle.mes_frame.proofs.Parts.{part_out, part_stops, both_out, out_stops, stops_long, front_of}
 use Rattle.mes_frame.specs.Counts.{up}

@@ -1,8 +1,8 @@
 -- What the client of a connection asks.
 use Rattle.std.specs.Prelude.{◌≡◌, ℕ, List, Option}
 use Rattle.mes_frame.specs.declared.counts.Counts.{Counts}
-use Rattle.mes_call.specs.Calls.{call}
-use Rattle.mes_record.specs.Texts.{IsTextOf, IsFaultOf}
+use Rattle.mes_msg.specs.Calls.{call}
+use Rattle.mes_msg.specs.Texts.{IsTextOf, IsFaultOf}
 use Rattle.mes_http.specs.Endings.{AllGive}
 use Rattle.mes_http.specs.Requests.{IsWholeCall, RefusesCall}
 use Rattle.mes_serve.specs.declared.asked.Asked.{Asked}

@@ -1,3 +1,5 @@
+pub use Rattle.mes_master.specs.Masters
+pub use Rattle.mes_master.specs.Runs
 pub mod Opening
 pub mod Asking
 pub mod Replying

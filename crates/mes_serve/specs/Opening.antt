@@ -1,7 +1,7 @@
 -- The stream that a SUBSCRIBE opens: which of the events that are given go out on it.
 use Rattle.std.specs.Prelude.{List, [], ◌∷◌, ◌++◌, fold, Ok, Err}
-use Rattle.mes_event.specs.declared.event.Event.{Event}
-use Rattle.mes_event.specs.declared.event.Event.TheVariants as event
+use Rattle.mes_msg.specs.Event.{Event}
+use Rattle.mes_msg.specs.Event.TheVariants as event
 use Rattle.mes_master.specs.Masters.{MasterState, MasterAnswer}
 use Rattle.mes_master.specs.Sending.{Sends, offers_sent, rescind_sent, update_sent}
 

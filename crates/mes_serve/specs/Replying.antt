@@ -1,12 +1,12 @@
 -- What a connection is answered, and what that makes of the master.
 use Rattle.std.specs.Prelude.{◌≡◌, ℕ, ◌⊎◌, ◌==◌, if◌then◌else◌, List, ◌++◌, Option, None, Some}
-use Rattle.mes_event.specs.declared.event.Event.{Event}
+use Rattle.mes_msg.specs.Event.{Event}
 use Rattle.mes_http.specs.declared.fault.HeadFault.{HeadFault}
 use Rattle.mes_http.specs.declared.fault.HeadFault.TheVariants as fault
 use Rattle.mes_master.specs.Masters.{MasterState, MasterAnswer, handled}
 use Rattle.mes_master.specs.Memory.{MayWantMemory}
-use Rattle.mes_record.specs.declared.record.RecordFault.{RecordFault}
-use Rattle.mes_record.specs.declared.record.RecordFault.TheVariants as unread
+use Rattle.mes_msg.specs.RecordFault.{RecordFault}
+use Rattle.mes_msg.specs.RecordFault.TheVariants as unread
 use Rattle.mes_serve.specs.Opening.{Streamed, and_all_given, opening}
 use Rattle.mes_serve.specs.declared.asked.Asked.{Asked}
 use Rattle.mes_serve.specs.declared.asked.Asked.TheVariants.{NoRequest, NoCall, Calls}

@@ -1,7 +1,7 @@
 -- One connection served: what is asked, what is answered, and what is printed of it.
 use Rattle.std.specs.Prelude.{ℕ, List, Result}
 use Rattle.std.specs.Io.KnownBytes.{Consumes}
-use Rattle.mes_event.specs.declared.event.Event.{Event}
+use Rattle.mes_msg.specs.Event.{Event}
 use Rattle.mes_frame.specs.Devices.{Device}
 use Rattle.mes_frame.specs.declared.write.WriteFault.{WriteFault}
 use Rattle.mes_master.specs.Masters.{MasterState}

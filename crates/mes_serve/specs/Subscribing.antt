@@ -1,7 +1,7 @@
 -- A stream of events subscribed to: the SUBSCRIBE is sent, the head of its answer is read, and the events behind that are shown.
 use Rattle.std.specs.Prelude.{◌≡◌, ℕ, ◌⊎◌, List, ◌++◌, length, None, Result, Ok, Err, codes}
 use Rattle.std.specs.Io.KnownBytes.{Consumes}
-use Rattle.mes_call.specs.declared.call.Call.{Call}
+use Rattle.mes_msg.specs.Call.{Call}
 use Rattle.mes_frame.specs.Devices.{Device}
 use Rattle.mes_frame.specs.declared.limits.TheConstants.{RECORD_LIMIT_USUAL}
 use Rattle.mes_http.specs.Calls.{WroteCall, StopsCall}

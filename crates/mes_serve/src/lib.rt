@@ -14,6 +14,7 @@ mod writing;
 
 pub use laws::serve_laws;
 pub use lines::WRITE_FAILED;
+pub use mes_master::Master;
 pub use serve::serve_one;
 pub use served::Served;
 pub use subscribing::{send_subscribe, show_answer, subscribe_over, tell_unsent};

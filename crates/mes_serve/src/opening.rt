@@ -1,7 +1,7 @@
 //! The events of a stream that opens: those that are given, as far as the master sends them.
 
 ghost use Rattle.std.specs.Prelude.{◌≡◌, ◌≢◌, ◌⊎◌, [], ◌∷◌, ◌++◌, List, OnOk, OnErr, MatchResult};
-ghost use Rattle.mes_event.specs.declared.event.Event.{Event as EventValue};
+ghost use Rattle.mes_msg.specs.Event.{Event as EventValue};
 ghost use Rattle.mes_master.specs.declared.refusal.MasterRefusal.TheVariants.{NoMemory as no_memory};
 ghost use Rattle.mes_serve.specs.Opening.{so_far, and_given, and_all_given};
 

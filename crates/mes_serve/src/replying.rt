@@ -1,7 +1,7 @@
 //! What a connection is answered to what was asked, and what that makes of the master.
 
 ghost use Rattle.std.specs.Prelude.{◌≡◌, ◌++◌, List as list, option_copied, IfOk, OnErr};
-ghost use Rattle.mes_event.specs.declared.event.Event.{Event as EventValue};
+ghost use Rattle.mes_msg.specs.Event.{Event as EventValue};
 ghost use Rattle.mes_master.specs.Masters.{handled};
 ghost use Rattle.mes_master.specs.Memory.{MayWantMemory};
 ghost use Rattle.mes_serve.specs.Opening.{so_far, and_all_given};

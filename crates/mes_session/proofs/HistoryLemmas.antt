@@ -8,12 +8,12 @@ use Rattle.std.proofs.lemmas.List.Sums.{take_while-cons, fold-append}
 use Rattle.std.proofs.lemmas.List.Folds.{list_any-append}
 use Rattle.std.proofs.lemmas.Slice.Eq.{bytes_eq-Decides}
 use mathlib.Core.List.{reverse-cons}
-use Rattle.mes_resource.specs.declared.id.Id.{Id}
-use Rattle.mes_offer.specs.declared.offer.Offer.{Offer}
-use Rattle.mes_task.specs.declared.owed_key.OwedKey.{OwedKey}
+use Rattle.mes_model.specs.Id.{Id}
+use Rattle.mes_model.specs.Offer.{Offer}
+use Rattle.mes_model.specs.OwedKey.{OwedKey}
 use Rattle.mes_msg.specs.declared.entry.Entry.{Entry}
 use Rattle.mes_msg.specs.declared.entry.Entry.TheVariants.{Heard, Said, Broken}
-use Rattle.mes_event.specs.declared.event.Event.TheVariants as heard
+use Rattle.mes_msg.specs.Event.TheVariants as heard
 use Rattle.mes_hand.specs.Calls.{named_by}
 use Rattle.mes_hand.specs.Held.{Held, name_of, same_key}
 use Rattle.mes_session.specs.Kept.{after_last, IsKept}

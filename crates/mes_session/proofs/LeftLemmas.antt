@@ -7,8 +7,8 @@ use Rattle.std.proofs.lemmas.List.Folds.{find-append, list_any-append}
 use Rattle.std.proofs.lemmas.Option.{slice_get_within}
 use mathlib.Core.List.{reverse-cons}
 use Rattle.std.specs.Str.{bytes_eq}
-use Rattle.mes_offer.specs.declared.offer.Offer.{Offer}
-use Rattle.mes_task.specs.declared.owed_key.OwedKey.{OwedKey}
+use Rattle.mes_model.specs.Offer.{Offer}
+use Rattle.mes_model.specs.OwedKey.{OwedKey}
 use Rattle.mes_msg.specs.declared.entry.Entry.{Entry}
 use Rattle.mes_hand.specs.Held.{Held, name_of, offer_in, same_key, is_owed}
 use Rattle.mes_session.specs.Kept.{since, value_of, IsLeftBy}

@@ -2,24 +2,24 @@
 use Rattle.std.proofs.Common.{Result, Ok, Err, IfOk, IfErr, OnOk, ◌≡◌, ℕ, zero, suc, Bool, true, false, not, ◌⊎◌, inl, inr, Option, Some, None, IfSome, List, [], ◌∷◌, ◌++◌, slice_get, refl, sym, ◌∙◌, ap, subst, arith, is_some, IsTrue, ◌↔◌}
 use Rattle.std.specs.List.{filter, fold}
 use Rattle.std.specs.Option.{option_or, option_to_list}
-use Rattle.mes_task.specs.Owed.{owed_key_of, Owes}
-use Rattle.mes_resource.specs.declared.id.Id.{Id}
-use Rattle.mes_offer.specs.declared.offer.Offer.{Offer}
-use Rattle.mes_task.specs.declared.owed_key.OwedKey.{OwedKey}
+use Rattle.mes_model.specs.Owed.{owed_key_of, Owes}
+use Rattle.mes_model.specs.Id.{Id}
+use Rattle.mes_model.specs.Offer.{Offer}
+use Rattle.mes_model.specs.OwedKey.{OwedKey}
 use Rattle.mes_model.specs.declared.framework_info.FrameworkInfo.{FrameworkInfo}
-use Rattle.mes_event.specs.declared.bodies.Subscribed.{Subscribed}
-use Rattle.mes_event.specs.declared.bodies.ErrorBody.{ErrorBody}
-use Rattle.mes_event.specs.declared.bodies.Failure.{Failure}
-use Rattle.mes_record.specs.declared.message.Message.{Message}
-use Rattle.mes_event.specs.declared.bodies.Rescind.{Rescind}
-use Rattle.mes_event.specs.declared.bodies.Update.{Update}
-use Rattle.mes_event.specs.declared.event.Event.TheVariants as heard
-use Rattle.mes_call_body.specs.declared.call_bodies.Accept.{Accept}
-use Rattle.mes_call_body.specs.declared.call_bodies.Acknowledge.{Acknowledge}
-use Rattle.mes_call_body.specs.declared.call_bodies.Decline.{Decline}
-use Rattle.mes_event.specs.declared.event.Event.{Event}
-use Rattle.mes_call.specs.declared.call.Call.{Call}
-use Rattle.mes_call.specs.declared.call.Call.TheVariants as of
+use Rattle.mes_msg.specs.Subscribed.{Subscribed}
+use Rattle.mes_msg.specs.ErrorBody.{ErrorBody}
+use Rattle.mes_msg.specs.Failure.{Failure}
+use Rattle.mes_msg.specs.Message.{Message}
+use Rattle.mes_msg.specs.Rescind.{Rescind}
+use Rattle.mes_msg.specs.Update.{Update}
+use Rattle.mes_msg.specs.Event.TheVariants as heard
+use Rattle.mes_msg.specs.Accept.{Accept}
+use Rattle.mes_msg.specs.Acknowledge.{Acknowledge}
+use Rattle.mes_msg.specs.Decline.{Decline}
+use Rattle.mes_msg.specs.Event.{Event}
+use Rattle.mes_msg.specs.Call.{Call}
+use Rattle.mes_msg.specs.Call.TheVariants as of
 use Rattle.mes_msg.specs.declared.entry.Entry.{Entry}
 use Rattle.mes_msg.specs.declared.entry.Entry.TheVariants.{Heard, Said, Broken}
 use Rattle.mes_hand.specs.declared.refusal.Refusal.{Refusal}

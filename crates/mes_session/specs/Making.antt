@@ -1,11 +1,11 @@
 -- What a session answers where it is asked for a call.
 use Rattle.std.specs.Prelude.{◌≡◌, ◌⊎◌, ℕ, List, [], ◌∷◌, Option, Some, None}
 use Rattle.std.specs.Option.{option_or}
-use Rattle.mes_resource.specs.declared.id.Id.{Id}
+use Rattle.mes_model.specs.Id.{Id}
 use Rattle.mes_model.specs.declared.framework_info.FrameworkInfo.{FrameworkInfo}
-use Rattle.mes_task.specs.declared.task_ref.TaskRef.{TaskRef}
-use Rattle.mes_call.specs.declared.call.Call.{Call}
-use Rattle.mes_call.specs.declared.call.Call.TheVariants as of
+use Rattle.mes_model.specs.TaskRef.{TaskRef}
+use Rattle.mes_msg.specs.Call.{Call}
+use Rattle.mes_msg.specs.Call.TheVariants as of
 use Rattle.mes_msg.specs.declared.entry.Entry.{Entry}
 use Rattle.mes_msg.specs.declared.entry.Entry.TheVariants.{Heard, Said, Broken}
 use Rattle.mes_hand.specs.declared.refusal.Refusal.{Refusal}

@@ -1,7 +1,7 @@
 //! The calls that a session makes. Each looks first whether the call may be said, and copies then, so that want of memory never hides
 //! S1 to S7; what it answers with was said.
 ghost use Rattle.std.specs.Prelude.{◌≡◌, Some, Ok, Err, IfOk, IfErr, OnErr, IsSome, option_copied};
-ghost use Rattle.mes_resource.specs.declared.id.Id.{Id as IdValue};
+ghost use Rattle.mes_model.specs.Id.{Id as IdValue};
 ghost use Rattle.mes_msg.specs.declared.entry.Entry.TheVariants.{Said};
 ghost use Rattle.mes_hand.specs.Calls.{accept_call, decline_call, acknowledge_call};
 ghost use Rattle.mes_session.specs.History.{after};

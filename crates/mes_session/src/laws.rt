@@ -1,7 +1,7 @@
 //! Laws of the definitions that the contracts cite: functions that do nothing, with the law as their contract.
 ghost use Rattle.std.specs.Prelude.{◌≡◌, ◌↔◌, ℕ, true, List, is_some};
-ghost use Rattle.mes_task.specs.declared.owed_key.OwedKey.{OwedKey};
-ghost use Rattle.mes_call.specs.declared.call.Call.{Call};
+ghost use Rattle.mes_model.specs.OwedKey.{OwedKey};
+ghost use Rattle.mes_msg.specs.Call.{Call};
 ghost use Rattle.mes_msg.specs.declared.entry.Entry.{Entry};
 ghost use Rattle.mes_hand.specs.declared.refusal.Refusal.{Refusal};
 ghost use Rattle.mes_hand.specs.Held.{Held, offer_in, is_owed};

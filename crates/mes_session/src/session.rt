@@ -3,7 +3,7 @@ ghost use Rattle.std.specs.Prelude.{◌≡◌, ◌<◌, None, Some, [], length, 
 ghost use Rattle.mes_msg.specs.declared.entry.Entry.TheVariants.{Heard, Said, Broken};
 ghost use Rattle.mes_hand.specs.Held.{offer_in};
 ghost use Rattle.mes_hand.specs.Refusals.{Answers};
-ghost use Rattle.mes_task.specs.Owed.{Owes};
+ghost use Rattle.mes_model.specs.Owed.{Owes};
 ghost use Rattle.mes_session.specs.History.{StandsFor, StandsNext, at_first, after, NeedsMemory};
 ghost use Rattle.mes_session.specs.Making.{Applied, Passes, IsTurnedAway};
 

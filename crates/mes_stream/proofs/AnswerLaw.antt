@@ -2,8 +2,8 @@
 use Rattle.std.proofs.Common.{◌≡◌, ℕ, List, ◌∷◌, ◌++◌, Option, None, Some, Result, Ok, Err, refl, ap, sym, ◌∙◌, subst, append_assoc, append-nil, inl, inr}
 use Rattle.std.specs.Io.KnownBytes.{Consumes}
 use Rattle.mes_frame.specs.declared.counts.Counts.{Counts}
-use Rattle.mes_event.specs.Events.{Spells}
-use Rattle.mes_event.specs.declared.event.Event.{Event}
+use Rattle.mes_msg.specs.Events.{Spells}
+use Rattle.mes_msg.specs.Event.{Event}
 use Rattle.mes_stream.specs.Answers.{AnswersStream, IsDecidedByBytes, EndsAlike}
 use Rattle.mes_stream.specs.Chunked.{Live}
 use Rattle.mes_stream.specs.Reading.{EndsStream}

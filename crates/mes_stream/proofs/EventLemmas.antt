@@ -1,9 +1,9 @@
 -- The faults of events, as refusals of their records.
 use Rattle.std.proofs.Common.{◌≡◌, ◌≢◌, ℕ, List, ◌⊎◌, inl, inr, refl, ap, sym, ◌∙◌}
-use Rattle.mes_event.specs.Events.{Spells, IsRecordFault}
-use Rattle.mes_event.specs.declared.event.Event.{Event}
-use Rattle.mes_record.specs.declared.record.RecordFault.{RecordFault}
-use Rattle.mes_record.specs.declared.record.RecordFault.TheVariants as message
+use Rattle.mes_msg.specs.Events.{Spells, IsRecordFault}
+use Rattle.mes_msg.specs.Event.{Event}
+use Rattle.mes_msg.specs.RecordFault.{RecordFault}
+use Rattle.mes_msg.specs.RecordFault.TheVariants as message
 use Rattle.mes_stream.specs.PlainReading.{IsExact, IsDecided}
 use Rattle.mes_stream.specs.Refusals.{refusal_of, IsEventRefusal}
 use Rattle.mes_stream.specs.declared.refusal.RecordRefusal.{RecordRefusal}

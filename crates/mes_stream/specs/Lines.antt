@@ -3,7 +3,7 @@ use Rattle.std.specs.Prelude.{ℕ, List, [], ◌∷◌, ◌++◌, codes, decimal
 use Rattle.mes_frame.specs.declared.fault.FrameFault.TheVariants.{BadChunkLine, ChunkLineTooLong, ChunkTooLarge, BadChunkEnd, TrailersTooLong, BadSizeLine, SizeLineTooLong, RecordTooLarge}
 use Rattle.mes_json.specs.declared.fault.Why.{Why}
 use Rattle.mes_json.specs.declared.fault.Why.TheVariants.{End, Depth, Byte}
-use Rattle.mes_event.specs.Shown.{spaced}
+use Rattle.mes_msg.specs.Shown.{spaced}
 use Rattle.mes_stream.specs.declared.fault.Fault.{Fault}
 use Rattle.mes_stream.specs.declared.fault.Fault.TheVariants.{Frame, EndsInsideChunks, EndsInsideRecord, Text, Field, NoMemory, Read, ReadsSpent, BadEntry}
 use Rattle.mes_part.specs.Paths.{path_text}

@@ -2,8 +2,8 @@
 use Rattle.std.specs.Prelude.{◌≡◌, ℕ, ◌+◌, ◌-◌, ◌<◌, ◌⊎◌, Option, ◌≤◌, List, [], ◌∷◌, ◌++◌, length, take, slice_index, None, Some, Result, Ok, Err}
 use Rattle.std.specs.Io.KnownBytes.{IsAtEnd}
 use Rattle.mes_frame.specs.declared.counts.Counts.{Counts}
-use Rattle.mes_event.specs.Events.{Spells}
-use Rattle.mes_event.specs.declared.event.Event.{Event}
+use Rattle.mes_msg.specs.Events.{Spells}
+use Rattle.mes_msg.specs.Event.{Event}
 use Rattle.mes_stream.specs.Refusals.{IsEventRefusal}
 use Rattle.mes_stream.specs.declared.refusal.RecordRefusal.{RecordRefusal}
 use Rattle.mes_stream.specs.Reads.{ReadsMade, SomeReadsMade}

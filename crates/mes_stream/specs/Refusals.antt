@@ -1,8 +1,8 @@
 -- Why the data of a record have no value, and the fault of the stream that shows it.
 use Rattle.std.specs.Prelude.{ℕ, List}
-use Rattle.mes_event.specs.Events.{IsRecordFault}
-use Rattle.mes_record.specs.declared.record.RecordFault.{RecordFault}
-use Rattle.mes_record.specs.declared.record.RecordFault.TheVariants as message
+use Rattle.mes_msg.specs.Events.{IsRecordFault}
+use Rattle.mes_msg.specs.RecordFault.{RecordFault}
+use Rattle.mes_msg.specs.RecordFault.TheVariants as message
 use Rattle.mes_stream.specs.declared.refusal.RecordRefusal.{RecordRefusal}
 use Rattle.mes_stream.specs.declared.refusal.RecordRefusal.TheVariants as refusal
 use Rattle.mes_stream.specs.declared.fault.Fault.{Fault}

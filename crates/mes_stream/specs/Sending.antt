@@ -7,11 +7,11 @@ use Rattle.mes_frame.specs.Write.{NoneFails, CallsFor, StopsWrite}
 use Rattle.mes_frame.specs.Written.{WroteFront}
 use Rattle.mes_frame.specs.declared.counts.Counts.{Counts}
 use Rattle.mes_frame.specs.declared.write.WriteFault.{WriteFault}
-use Rattle.mes_event.specs.Canon.{canonical_text, IsGood, IsEncodeFault}
-use Rattle.mes_event.specs.Events.{Spells}
-use Rattle.mes_record.specs.declared.canon.EncodeFault.{EncodeFault}
-use Rattle.mes_record.specs.declared.canon.EncodeFault.TheVariants as refused
-use Rattle.mes_event.specs.declared.event.Event.{Event}
+use Rattle.mes_msg.specs.Canon.{canonical_text, IsGood, IsEncodeFault}
+use Rattle.mes_msg.specs.Events.{Spells}
+use Rattle.mes_msg.specs.EncodeFault.{EncodeFault}
+use Rattle.mes_msg.specs.EncodeFault.TheVariants as refused
+use Rattle.mes_msg.specs.Event.{Event}
 use Rattle.mes_stream.specs.Chunked.{IsStream}
 use Rattle.mes_stream.specs.Stream.{Records}
 use Rattle.mes_msg.specs.declared.send_fault.EncodeWhy.{EncodeWhy}

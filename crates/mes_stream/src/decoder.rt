@@ -5,7 +5,7 @@ ghost use Rattle.mes_stream.specs.Chunked.{Live};
 ghost use Rattle.mes_stream.specs.Decoding.{Says, LiveBefore};
 ghost use Rattle.mes_stream.specs.Decoders.{DecoderStands, end_of, answer_of, finish_of, EndsBy, HoldsOf, kept_by};
 ghost use Rattle.mes_stream.specs.EventData.{HoldsData};
-ghost use Rattle.mes_event.specs.Events.{Spells};
+ghost use Rattle.mes_msg.specs.Events.{Spells};
 
 use crate::event_reader::EventReader;
 use crate::fault::Fault;

@@ -3,8 +3,8 @@
 ghost use Rattle.std.specs.Prelude.{◌≡◌, ◌++◌, OnOk, IfOk, IfErr};
 ghost use Rattle.mes_frame.specs.Frames.{record_bytes};
 ghost use Rattle.mes_frame.specs.Record.{IsRecord};
-ghost use Rattle.mes_event.specs.Canon.{canonical_text, IsGood, IsEncodeFault};
-ghost use Rattle.mes_event.specs.Events.{Spells};
+ghost use Rattle.mes_msg.specs.Canon.{canonical_text, IsGood, IsEncodeFault};
+ghost use Rattle.mes_msg.specs.Events.{Spells};
 ghost use Rattle.mes_stream.specs.Sending.{IsPlainOf, IsUnsent, fault_at};
 
 use itoa::Buffer;

@@ -2,7 +2,7 @@
 
 ghost use Rattle.std.specs.Prelude.{◌≡◌, ◌≢◌, ℕ, ◌^◌, ◌<◌, ◌≤◌, List, [], ◌∷◌, ◌++◌, length, OnOk, OnErr, IfOk, IfErr};
 ghost use Rattle.mes_json.specs.Inner.{inner};
-ghost use Rattle.mes_event.specs.Events.{Spells};
+ghost use Rattle.mes_msg.specs.Events.{Spells};
 ghost use Rattle.mes_stream.specs.Refusals.{IsEventRefusal};
 ghost use Rattle.mes_stream.specs.EventData.{HoldsData, kept_data};
 
@@ -12,7 +12,6 @@ use mes_json::{Lexer, NoMemory, NoMemoryAt, TextFault, Why, lexer_bound};
 use mes_msg::Event;
 use mes_part::{Part, Trail};
 use std::alloc::Global;
-use std::mem;
 
 /// Reads the data of records to events: JSON texts that are lexed as their bytes come. The memory of a text serves for the
 /// next one.
@@ -52,23 +51,19 @@ impl RecordReader for EventReader {
     }
 
     fn finish(&mut self) -> Result<Event, RecordRefusal> {
-        let alloc = self.alloc;
-        let lexer = mem::replace(&mut self.lexer, Lexer::new(alloc));
-        let tape = lexer.end()?;
-        let event = Event::read_from(alloc, &tape.root(), &Trail::new())?;
-        self.lexer = Lexer::reusing(alloc, tape);
+        let tape = self.lexer.take()?;
+        let event = Event::read_from(self.alloc, &tape.root(), &Trail::new())?;
+        self.lexer.reuse(tape);
         Ok(event)
     }
 
     fn finish_into(&mut self, events: &mut Vec<Event>) -> Result<(), RecordRefusal> {
-        let alloc = self.alloc;
-        let lexer = mem::replace(&mut self.lexer, Lexer::new(alloc));
-        let tape = lexer.end()?;
-        let event = Event::read_from(alloc, &tape.root(), &Trail::new())?;
+        let tape = self.lexer.take()?;
+        let event = Event::read_from(self.alloc, &tape.root(), &Trail::new())?;
         if let Err(_) = add(events, event) {
             return Err(RecordRefusal::NoMemory);
         }
-        self.lexer = Lexer::reusing(alloc, tape);
+        self.lexer.reuse(tape);
         Ok(())
     }
 

@@ -1,9 +1,9 @@
 //! Laws of the definitions that the contracts cite: functions that do nothing, each with the law as its contract.
 
 ghost use Rattle.std.specs.Prelude.{◌≡◌, ℕ, List, Result};
-ghost use Rattle.mes_event.specs.Events.{Spells};
+ghost use Rattle.mes_msg.specs.Events.{Spells};
 ghost use Rattle.mes_stream.specs.Refusals.{IsEventRefusal};
-ghost use Rattle.mes_event.specs.declared.event.Event.{Event as EventValue};
+ghost use Rattle.mes_msg.specs.Event.{Event as EventValue};
 ghost use Rattle.mes_frame.specs.Chunk.{IsChunked};
 ghost use Rattle.mes_frame.specs.ChunkFront.{IsOpen};
 ghost use Rattle.mes_stream.specs.Answers.{AnswersStream, IsDecidedByBytes, EndsAlike};

@@ -3,9 +3,9 @@
 ghost use Rattle.std.specs.Prelude.{◌≡◌, ◌≢◌, ℕ, List, [], ◌++◌, IfErr};
 ghost use Rattle.std.specs.Io.KnownBytes.{Consumes};
 ghost use Rattle.mes_stream.specs.Reading.{EndsReading, EndsPlain, EndsStream};
-ghost use Rattle.mes_event.specs.Events.{Spells};
+ghost use Rattle.mes_msg.specs.Events.{Spells};
 ghost use Rattle.mes_stream.specs.Refusals.{IsEventRefusal};
-ghost use Rattle.mes_event.specs.declared.event.Event.{Event as EventValue};
+ghost use Rattle.mes_msg.specs.Event.{Event as EventValue};
 
 use crate::event_reader::EventReader;
 use crate::fault::{Fault, Report, Stop};

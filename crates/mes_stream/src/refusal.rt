@@ -19,7 +19,7 @@ pub enum RecordRefusal {
 
 impl From<ReadFault> for RecordRefusal {
     ghost use Rattle.std.specs.Prelude.{◌≡◌};
-    ghost use Rattle.mes_record.specs.RecordFaults.{of_read};
+    ghost use Rattle.mes_msg.specs.RecordFaults.{of_read};
     ghost use Rattle.mes_stream.specs.Refusals.{refusal_of};
 
     ghost from_gives = { λ fault e. e ≡ refusal_of (of_read fault) };
@@ -34,7 +34,7 @@ impl From<ReadFault> for RecordRefusal {
 
 impl From<PartFault> for RecordRefusal {
     ghost use Rattle.std.specs.Prelude.{◌≡◌};
-    ghost use Rattle.mes_record.specs.RecordFaults.{of_part};
+    ghost use Rattle.mes_msg.specs.RecordFaults.{of_part};
     ghost use Rattle.mes_stream.specs.Refusals.{refusal_of};
 
     ghost from_gives = { λ fault e. e ≡ refusal_of (of_part fault) };

@@ -1,7 +1,7 @@
 -- The state that a tree is, by the text that its place shows.
 use Rattle.std.proofs.Common.{◌≡◌, ℕ, List, refl}
 use Rattle.std.specs.Prelude.{Ok}
-use Rattle.mes_json.specs.Tree.{Tree}
+use Rattle.mes_part.specs.Tree.{Tree}
 use Rattle.mes_part.specs.Paths.{Place}
 use Rattle.mes_part.specs.Fields.{fault}
 use Rattle.mes_part.specs.Leaves.{text_of}

@@ -2,8 +2,8 @@
 use Rattle.std.specs.Prelude.{◌≡◌, ℕ, List, [], ◌∷◌, bytes_eq, codes, if◌then◌else◌, Option, Some, None, Result, Ok}
 use Rattle.std.proofs.Common.{inl, inr, Bool, true, false, length, refl, sym, ◌∙◌, ap, arith}
 use Rattle.std.specs.Prelude.{Err}
-use Rattle.mes_json.specs.Tree.Tree.{boolean, string}
-use Rattle.mes_json.specs.Cursor.{as_text}
+use Rattle.mes_part.specs.Tree.Tree.{boolean, string}
+use Rattle.mes_part.specs.Cursor.{as_text}
 use Rattle.mes_part.specs.Paths.{Place}
 use Rattle.mes_part.specs.Fields.{fault}
 use Rattle.mes_part.specs.Kinds.{Kind, Lawful, Within, ◌>>=◌}

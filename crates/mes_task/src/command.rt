@@ -1,6 +1,6 @@
 //! What a task runs.
 
-use mes_json::{Element, Json, NoMemory, Text};
+use mes_part::json::{self, Element, NoMemory, Text};
 use mes_part::{
     List, MadeOf, Many, Maybe, Part, PartFault, RowList, RowRefs, Rows3, Trail, made, message_tree,
     pairs, read_message,
@@ -65,7 +65,7 @@ impl Part for Command {
     }
 
     #[tactic(auto, using(crate::specs::Tasks::command_back), unfolding(crate::specs::Tasks::command))]
-    fn tree(&self, alloc: Global) -> Result<Json, NoMemory> {
+    fn tree(&self, alloc: Global) -> Result<json::Json, NoMemory> {
         message_tree(alloc, &COMMAND_NAMES, &command_rows!(self))
     }
 

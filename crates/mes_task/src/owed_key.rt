@@ -2,7 +2,7 @@
 
 ghost use Rattle.std.specs.Prelude.{◌≡◌, IsTrue, ◌↔◌, IfOk};
 
-use mes_json::NoMemory;
+use mes_part::json::NoMemory;
 use mes_part::{Bytes, Part};
 use mes_resource::Id;
 use std::alloc::Global;

@@ -1,7 +1,7 @@
 //! A task to be launched.
 
 use crate::command::Command;
-use mes_json::{Element, Json, NoMemory, Text};
+use mes_part::json::{self, Element, NoMemory, Text};
 use mes_part::{
     Kept, List, MadeOf, Many, Maybe, Must, MustRef, Part, PartFault, RowList, RowRefs, Rows6,
     Trail, made, message_tree, pairs, read_message,
@@ -90,7 +90,7 @@ impl Part for TaskInfo {
     }
 
     #[tactic(auto, using(crate::specs::Tasks::task_info_back), unfolding(crate::specs::Tasks::task_info))]
-    fn tree(&self, alloc: Global) -> Result<Json, NoMemory> {
+    fn tree(&self, alloc: Global) -> Result<json::Json, NoMemory> {
         message_tree(alloc, &TASK_INFO_NAMES, &task_info_rows!(self))
     }
 

@@ -1,6 +1,6 @@
 //! A task that is asked about.
 
-use mes_json::{Element, Json, NoMemory};
+use mes_part::json::{self, Element, NoMemory};
 use mes_part::{
     MadeOf, Maybe, Must, MustRef, Part, PartFault, RowList, RowRefs, Rows2, Trail, made,
     message_tree, pairs, read_message,
@@ -63,7 +63,7 @@ impl Part for TaskRef {
     }
 
     #[tactic(auto, using(crate::specs::Tasks::task_ref_back), unfolding(crate::specs::Tasks::task_ref))]
-    fn tree(&self, alloc: Global) -> Result<Json, NoMemory> {
+    fn tree(&self, alloc: Global) -> Result<json::Json, NoMemory> {
         message_tree(alloc, &TASK_REF_NAMES, &task_ref_rows!(self))
     }
 

@@ -3,7 +3,7 @@
 ghost use Rattle.std.specs.Prelude.{◌≡◌, IfSome, IfNone};
 ghost use Rattle.mes_task.specs.TaskStates.{state_name};
 
-use mes_json::{Element, Json, NoMemory, Text};
+use mes_part::json::{self, Element, NoMemory, Text};
 use mes_part::{FieldWhy, Part, PartFault, Trail, refusal_at, text_in};
 use std::alloc::Global;
 
@@ -112,8 +112,8 @@ impl Part for TaskState {
     }
 
     #[tactic(auto, unfolding(crate::specs::TaskStates::states))]
-    fn tree(&self, alloc: Global) -> Result<Json, NoMemory> {
-        Ok(Json::Text(Text::of(alloc, self.name())?))
+    fn tree(&self, alloc: Global) -> Result<json::Json, NoMemory> {
+        Ok(json::Json::Text(Text::of(alloc, self.name())?))
     }
 
     fn copy(&self, _alloc: Global) -> Result<TaskState, NoMemory> {

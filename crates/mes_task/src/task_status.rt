@@ -6,8 +6,8 @@ ghost use Rattle.mes_task.specs.Owed.{Owes, owed_key_of};
 use crate::owed_key::OwedKey;
 use crate::task_state::TaskState;
 use crate::time_info::TimeInfo;
-use mes_fixed::Micros;
-use mes_json::{Element, Json, NoMemory, Text};
+use mes_part::fixed::Micros;
+use mes_part::json::{self, Element, NoMemory, Text};
 use mes_part::{
     Bytes, Labels, MadeOf, Maybe, Must, MustRef, Part, PartFault, RowList, RowRefs, Rows13, Trail,
     made, message_tree, pairs, read_message,
@@ -173,7 +173,7 @@ impl Part for TaskStatus {
     }
 
     #[tactic(auto, using(crate::specs::TaskStatuses::task_status_back), unfolding(crate::specs::TaskStatuses::task_status))]
-    fn tree(&self, alloc: Global) -> Result<Json, NoMemory> {
+    fn tree(&self, alloc: Global) -> Result<json::Json, NoMemory> {
         message_tree(alloc, &TASK_STATUS_NAMES, &task_status_rows!(self))
     }
 

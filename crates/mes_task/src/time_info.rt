@@ -1,6 +1,6 @@
 //! A moment.
 
-use mes_json::{Element, Json, NoMemory};
+use mes_part::json::{self, Element, NoMemory};
 use mes_part::{
     MadeOf, Must, MustRef, Part, PartFault, RowList, RowRefs, Rows1, Trail, made, message_tree,
     pairs, read_message,
@@ -57,7 +57,7 @@ impl Part for TimeInfo {
     }
 
     #[tactic(auto, using(crate::specs::Times::time_info_back), unfolding(crate::specs::Times::time_info))]
-    fn tree(&self, alloc: Global) -> Result<Json, NoMemory> {
+    fn tree(&self, alloc: Global) -> Result<json::Json, NoMemory> {
         message_tree(alloc, &TIME_INFO_NAMES, &time_info_rows!(self))
     }
 

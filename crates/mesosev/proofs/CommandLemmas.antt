@@ -3,12 +3,12 @@ use Rattle.std.proofs.Common.{◌≡◌, ℕ, List, inl, inr, refl, subst}
 use Rattle.clap.specs.Words.{Text}
 use Rattle.mes_frame.specs.Devices.{Device}
 use Rattle.mes_run.specs.Printing.{Prints}
-use Rattle.mesosev.specs.NamedOptions.{RefusesWords}
+use Rattle.mes_words.specs.NamedOptions.{RefusesWords}
 use Rattle.mesosev.specs.Running.{Runs}
 use Rattle.mes_run.specs.declared.ended.Ended.{Ended}
 use Rattle.mesosev.specs.Telling.{Tells}
-use Rattle.mesosev.specs.declared.words.WordsFault.{WordsFault}
-use Rattle.mesosev.specs.declared.words.WordsFault.TheVariants.{Clap, BadValue, NoMemory}
+use Rattle.mes_words.specs.declared.words.WordsFault.{WordsFault}
+use Rattle.mes_words.specs.declared.words.WordsFault.TheVariants.{Clap, BadValue, NoMemory}
 
 pub told_words : (words : List Text) (fault : WordsFault) (input out printed err told : Device) (ended : Ended) → RefusesWords words fault
     → Tells fault out printed err told ended → Runs words input input out printed err told ended

@@ -1,17 +1,1 @@
 mod CommandLemmas
-mod ConvertWords
-mod LogWords
-mod LoopbackWords
-mod NamedOnce
-mod NumberLemmas
-mod OptionLemmas
-mod OptionWords
-mod ReadLemmas
-mod ReadingWords
-mod SaidLemmas
-mod ServeWords
-mod SettingLemmas
-mod Subcommands
-mod SubscribeWords
-mod TakenWords
-mod Walks

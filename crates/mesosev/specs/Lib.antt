@@ -1,4 +1,2 @@
-pub mod CommandLine
-pub mod NamedOptions
 pub mod Telling
 pub mod Running

@@ -14,11 +14,11 @@ use Rattle.mes_run.specs.Showing.{Shows}
 use Rattle.mes_run.specs.declared.ended.Ended.{Ended}
 use Rattle.mes_run.specs.declared.ended.Ended.TheVariants.{Status}
 use Rattle.mes_run.specs.declared.limits.TheConstants.{READS_MOST}
-use Rattle.mesosev.specs.CommandLine.{command_app}
-use Rattle.mesosev.specs.NamedOptions.{IsInRange, LackValue, NameOptions, NameNoOptions}
+use Rattle.mes_words.specs.CommandLine.{command_app}
+use Rattle.mes_words.specs.NamedOptions.{IsInRange, LackValue, NameOptions, NameNoOptions}
 use Rattle.mesosev.specs.Telling.{TellsError, bad_value_line}
-use Rattle.mesosev.specs.declared.words.Options.{Options}
-use Rattle.mesosev.specs.declared.words.Options.TheVariants.{Check, Show, Convert, Replay, Relog, Serve, Subscribe, Loopback}
+use Rattle.mes_words.specs.declared.words.Options.{Options}
+use Rattle.mes_words.specs.declared.words.Options.TheVariants.{Check, Show, Convert, Replay, Relog, Serve, Subscribe, Loopback}
 
 -- what the options name was done; all but `convert` and `relog` leave standard error as it was
 abbrev pub Performs : Options → Device → Device → Device → Device → Device → Device → Ended → Type 0

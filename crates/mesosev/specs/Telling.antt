@@ -6,8 +6,8 @@ use Rattle.clap.specs.declared.error.kind.ErrorKind.TheVariants.{DisplayHelp, Di
 use Rattle.mes_frame.specs.Devices.{Device}
 use Rattle.mes_run.specs.Printing.{Prints, LacksMemory}
 use Rattle.mes_run.specs.declared.ended.Ended.{Ended}
-use Rattle.mesosev.specs.declared.words.WordsFault.{WordsFault}
-use Rattle.mesosev.specs.declared.words.WordsFault.TheVariants.{Clap, BadValue, NoMemory}
+use Rattle.mes_words.specs.declared.words.WordsFault.{WordsFault}
+use Rattle.mes_words.specs.declared.words.WordsFault.TheVariants.{Clap, BadValue, NoMemory}
 
 -- the error is a mistake in the words, and no request for help
 abbrev pub IsMistake : Error → Type 0

@@ -1,19 +1,7 @@
 //! `mesosev` reads and writes the event stream of the Apache Mesos v1 scheduler API.
 #![tactic(auto)]
 
-mod check;
-mod command;
-mod convert;
-mod loopback;
-mod options;
-mod relog;
-mod replay;
 mod run;
-mod serve;
-mod show;
-mod subscribe;
-mod values;
-mod words;
 
 use mes_frame::FromStd;
 use mes_run::Output;

@@ -5,16 +5,11 @@ ghost use Rattle.std.specs.Prelude.{◌≡◌, codes, ◌⊎◌, false, map};
 ghost use Rattle.mes_run.specs.Outputs.{output_of};
 ghost use Rattle.mes_run.specs.Printing.{LacksMemory, Prints};
 ghost use Rattle.mes_run.specs.Showing.{Follows};
-ghost use Rattle.mesosev.specs.NamedOptions.{SayPlainly, IsInRange};
+ghost use Rattle.mes_words.specs.NamedOptions.{SayPlainly, IsInRange};
 ghost use Rattle.mesosev.specs.Running.{Ends, LeavesError, Performs, PerformsSaid, Runs};
 ghost use Rattle.mesosev.specs.Telling.{Tells, TellsError, not_text_line};
-ghost use Rattle.mesosev.specs.declared.words.Options.{Options as OptionsValue};
+ghost use Rattle.mes_words.specs.declared.words.Options.{Options as OptionsValue};
 
-use crate::options::options;
-use crate::words::{
-    COUNT_LEAST, COUNT_MOST, LIMIT_DEFAULT, LOOPBACK_DEFAULT, Options, PORT_LEAST, PORT_MOST,
-    READS_DEFAULT, READS_GREATEST, READS_LEAST, STREAM_DEFAULT, WordsFault,
-};
 use mes_frame::{Limit, Sink, Source};
 use mes_net::{loopback, serve, subscribe};
 use mes_replay::{relog, replay};
@@ -22,6 +17,10 @@ use mes_run::{
     Detail, Ended, GOOD, Output, READS_MOST, convert, finish, follow, out_of_memory, print_text,
 };
 use mes_stream::Framing;
+use mes_words::{
+    COUNT_LEAST, COUNT_MOST, LIMIT_DEFAULT, LOOPBACK_DEFAULT, Options, PORT_LEAST, PORT_MOST,
+    READS_DEFAULT, READS_GREATEST, READS_LEAST, STREAM_DEFAULT, WordsFault, options,
+};
 use std::alloc::{AllocGlobal, Global};
 use std::convert::AsStr;
 use std::net::{Net, TcpListener, TcpStream};

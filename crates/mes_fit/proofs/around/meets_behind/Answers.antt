@@ -1,6 +1,6 @@
 use Rattle.std.proofs.Common.{◌+◌, subst, drop, List}
 use Rattle.std.proofs.lemmas.List.{take_rest}
-use Rattle.mes_task.specs.declared.task_info.TaskInfo.{TaskInfo}
+use Rattle.mes_model.specs.TaskInfo.{TaskInfo}
 use Rattle.mes_fit.specs.Keys.{key_of}
 use Rattle.mes_fit.specs.Fits.{piece_in, piece_of, has_piece, asked}
 use Rattle.mes_fit.specs.Launched.{launched, place}

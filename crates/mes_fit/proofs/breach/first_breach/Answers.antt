@@ -1,5 +1,5 @@
 use Rattle.std.proofs.Common.{◌≡◌, ◌+◌, List, length, ap, sym, ◌∙◌, arith}
-use Rattle.mes_task.specs.declared.task_info.TaskInfo.{TaskInfo}
+use Rattle.mes_model.specs.TaskInfo.{TaskInfo}
 use Rattle.mes_fit.specs.Launched.{launched, place, as_index}
 use Rattle.mes_fit.proofs.BreachLemmas.{none-at, all-none, counted}
 use Rattle.mes_fit.proofs.LaunchedLemmas.{next-place}

@@ -1,5 +1,5 @@
-use Rattle.mes_event.specs.Events.{event}
-use Rattle.mes_call.specs.Calls.{call}
+use Rattle.mes_msg.specs.Events.{event}
+use Rattle.mes_msg.specs.Calls.{call}
 use Rattle.mes_log.proofs.EntryLaw.{OneMessage, first_exact, first_decided, entry_exact, entry_decided}
 use Rattle.mes_log.proofs.LogLaw.{once_behind, some_behind, one_log, some_log, whole_goes}
 use Rattle.mes_log.proofs.laws.one_log_reading.Goals as goal

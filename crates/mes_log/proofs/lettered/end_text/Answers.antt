@@ -7,10 +7,10 @@ use Rattle.mes_log.proofs.lettered.end_text.Goals as goal
 pub returns-in_err-message-clause-err : goal.returns-in_err-message-clause-err
 returns-in_err-message-clause-err g c = λ text h short.
     let p = err_from_is_err_and c.from_residual-in_err-message.result c.from_residual-in_err-message.ensures.1 in
-    let spelt = c.in_ok-tape.ensures.read text (rw c.replace-taken.ensures.value h) in
-    rw (p.1, p.2) (text_refused g.T.Part.kind text _ (refused_by g.T.Part.kind text _ spelt.0 _ c.new-2.ensures spelt.1 (c.in_err-message.ensures spelt.0 (begins _ spelt.0 (c.root.ensures ∙ spelt.2)))))
+    let spelt = c.in_ok-tape.ensures.read text h in
+    rw (p.1, p.2) (text_refused g.T.Part.kind text _ (refused_by g.T.Part.kind text _ spelt.0 _ c.new.ensures spelt.1 (c.in_err-message.ensures spelt.0 (begins _ spelt.0 (c.root.ensures ∙ spelt.2)))))
 
 pub returns-clause-ok : goal.returns-clause-ok
 returns-clause-ok g c = λ text h short.
-    let spelt = c.in_ok-tape.ensures.read text (rw c.replace-taken.ensures.value h) in
+    let spelt = c.in_ok-tape.ensures.read text h in
     (spelt.0, spelt.1, g.met.T.Part.lawful.sound _ spelt.0 _ (c.in_ok-message.ensures spelt.0 (begins _ spelt.0 (c.root.ensures ∙ spelt.2))))

@@ -1,5 +1,5 @@
 use Rattle.std.proofs.Common.{◌∙◌, sym, ap, ◌++◌, [], ◌∷◌, map, filter_map, List}
-use Rattle.mes_event.specs.declared.event.Event.{Event}
+use Rattle.mes_msg.specs.Event.{Event}
 use Rattle.mes_master.specs.Masters.{reconciled_event, last_of}
 use Rattle.mes_master.proofs.UpdateLemmas.{told-more}
 use Rattle.mes_master.proofs.news.reconciled_of.Goals as goal

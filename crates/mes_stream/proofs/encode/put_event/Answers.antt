@@ -1,5 +1,5 @@
 use Rattle.std.proofs.Common.{length, ap, arith}
-use Rattle.mes_event.specs.Canon.{canonical_text}
+use Rattle.mes_msg.specs.Canon.{canonical_text}
 use Rattle.mes_frame.proofs.Framings.{written_is_record}
 use Rattle.mes_stream.proofs.encode.put_event.Goals as goal
 

@@ -1,4 +1,4 @@
-use Rattle.mes_event.specs.Events.{Spells}
+use Rattle.mes_msg.specs.Events.{Spells}
 use Rattle.mes_stream.specs.Refusals.{IsEventRefusal}
 use Rattle.mes_stream.proofs.EntryLemmas.{none_read}
 use Rattle.mes_stream.proofs.read.read_events.Goals as goal

@@ -1,9 +1,9 @@
 use Rattle.std.proofs.Common.{refl, arith}
 use Rattle.std.specs.Prelude.{codes}
 use Rattle.mes_part.specs.Rows.{required}
-use Rattle.mes_event.specs.Bodies.{subscribed}
+use Rattle.mes_event_body.specs.Bodies.{subscribed}
 use Rattle.mes_part.proofs.ChoiceLemmas.{found_in, gives_fault}
-use Rattle.mes_event.proofs.NameLemmas.{is_other}
+use Rattle.mes_event_body.proofs.NameLemmas.{is_other}
 use Rattle.mes_event.proofs.event.EventChoice.read_choice.Goals as goal
 
 pub returns-in_err-required-in-SUBSCRIBED : goal.returns-in_err-required-in-SUBSCRIBED

@@ -1,12 +1,11 @@
-use Rattle.std.proofs.Common.{[], Some, refl, ap, sym}
-use Rattle.mes_json.specs.Machine.{State, run}
+use Rattle.std.proofs.Common.{[]}
 use Rattle.mes_json.specs.Lexer.{HasLexed}
+use Rattle.mes_json.proofs.LexerLemmas.{reads_none}
 use Rattle.mes_json.proofs.lexer.Lexer.begin.Goals as goal
 
 pub invariant_of-result : goal.invariant_of-result
-unfolding run
-invariant_of-result c = ([], record { count = refl; fits = c.requires.fits; reached = ap (λ (s : State). Some s) (sym c.requires.start) })
+invariant_of-result c = ([], reads_none _ c.requires.fits c.requires.start)
 
 pub returns-clause-lexed : goal.returns-clause-lexed
-unfolding run HasLexed
-returns-clause-lexed c = record { count = refl; fits = c.requires.fits; reached = ap (λ (s : State). Some s) (sym c.requires.start) }
+unfolding HasLexed
+returns-clause-lexed c = reads_none _ c.requires.fits c.requires.start

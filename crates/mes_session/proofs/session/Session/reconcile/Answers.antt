@@ -1,5 +1,5 @@
 use Rattle.std.proofs.Common.{refl}
-use Rattle.mes_resource.specs.declared.id.Id.{Id}
+use Rattle.mes_model.specs.Id.{Id}
 use Rattle.mes_session.specs.Making.{reconcile_call}
 use Rattle.mes_session.proofs.SessionLemmas.{turned_down, made_ok, made_err}
 use Rattle.mes_session.proofs.session.Session.reconcile.Goals as goal

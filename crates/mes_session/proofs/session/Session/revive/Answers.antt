@@ -1,6 +1,6 @@
 use Rattle.std.proofs.Common.{refl}
-use Rattle.mes_resource.specs.declared.id.Id.{Id}
-use Rattle.mes_call.specs.declared.call.Call.TheVariants.{Revive}
+use Rattle.mes_model.specs.Id.{Id}
+use Rattle.mes_msg.specs.Call.TheVariants.{Revive}
 use Rattle.mes_session.proofs.SessionLemmas.{turned_down, made_ok, made_err}
 use Rattle.mes_session.proofs.session.Session.revive.Goals as goal
 

@@ -1,6 +1,6 @@
 use Rattle.std.proofs.Common.{◌∙◌}
 use Rattle.std.proofs.lemmas.Result.{err_from_is_err_and}
-use Rattle.mes_event.specs.Events.{lawful_event}
+use Rattle.mes_msg.specs.Events.{lawful_event}
 use Rattle.mes_event.proofs.RecordLemmas.{refused}
 use Rattle.mes_record.proofs.RecordLemmas.{begins}
 use Rattle.mes_stream.proofs.EventLemmas.{refuses}
@@ -9,10 +9,10 @@ use Rattle.mes_stream.proofs.event_reader.EventReaderRecordReader.finish.Goals a
 pub returns-in_err-event-clause-err : goal.returns-in_err-event-clause-err
 returns-in_err-event-clause-err c = λ r h short.
     let p = err_from_is_err_and c.from_residual-in_err-event.result c.from_residual-in_err-event.ensures.1 in
-    let spelt = c.in_ok-tape.ensures.read r (rw c.replace-lexer.ensures.value h.lexed) in
-    rw (p.1, p.2) (refuses r _ (refused r _ spelt.0 _ c.new-2.ensures spelt.1 (c.in_err-event.ensures spelt.0 (begins _ spelt.0 (c.root.ensures ∙ spelt.2)))))
+    let spelt = c.in_ok-tape.ensures.read r h.lexed in
+    rw (p.1, p.2) (refuses r _ (refused r _ spelt.0 _ c.new.ensures spelt.1 (c.in_err-event.ensures spelt.0 (begins _ spelt.0 (c.root.ensures ∙ spelt.2)))))
 
 pub returns-clause-ok : goal.returns-clause-ok
 returns-clause-ok c = λ r h short.
-    let spelt = c.in_ok-tape.ensures.read r (rw c.replace-lexer.ensures.value h.lexed) in
+    let spelt = c.in_ok-tape.ensures.read r h.lexed in
     (spelt.0, spelt.1, lawful_event.sound _ spelt.0 _ (c.in_ok-event.ensures spelt.0 (begins _ spelt.0 (c.root.ensures ∙ spelt.2))))

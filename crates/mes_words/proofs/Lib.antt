@@ -1,0 +1,16 @@
+mod ConvertWords
+mod LogWords
+mod LoopbackWords
+mod NamedOnce
+mod NumberLemmas
+mod OptionLemmas
+mod OptionWords
+mod ReadLemmas
+mod ReadingWords
+mod SaidLemmas
+mod ServeWords
+mod SettingLemmas
+mod Subcommands
+mod SubscribeWords
+mod TakenWords
+mod Walks
