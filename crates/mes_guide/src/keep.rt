@@ -19,18 +19,28 @@ pub(crate) const TEXTS: [&str; 4] = [
 pub(crate) fn keep_session(rt: &HostRuntime, texts: &[&str]) -> io::Result<()> {
     let mut session = Session::new(rt.alloc());
     for text in texts {
-        match hear(rt.alloc(), &mut session, text.as_bytes()) {
-            Ok(true) => tell_session(rt, &session)?,
-            Ok(false) => println!(rt; "no event: {text}")?,
-            Err(refusal) => println!(rt; "an event is lost: {refusal:?}")?,
-        }
+        tell_heard(rt, &mut session, text)?;
     }
-    match accept_first(rt.alloc(), &mut session) {
-        Ok(Some(call)) => tell_call(rt, &call)?,
-        Ok(None) => println!(rt; "no offer is in hand")?,
-        Err(refusal) => println!(rt; "no offer is accepted: {refusal:?}")?,
-    }
+    tell_accepted(rt, &mut session)?;
     tell_session(rt, &session)
+}
+
+/// Hears a text, and tells what the session has then.
+fn tell_heard(rt: &HostRuntime, session: &mut Session, text: &str) -> io::Result<()> {
+    match hear(rt.alloc(), session, text.as_bytes()) {
+        Ok(true) => tell_session(rt, session),
+        Ok(false) => println!(rt; "no event: {text}"),
+        Err(refusal) => println!(rt; "an event is lost: {refusal:?}"),
+    }
+}
+
+/// Accepts an offer, and tells the call.
+fn tell_accepted(rt: &HostRuntime, session: &mut Session) -> io::Result<()> {
+    match accept_first(rt.alloc(), session) {
+        Ok(Some(call)) => tell_call(rt, &call),
+        Ok(None) => println!(rt; "no offer is in hand"),
+        Err(refusal) => println!(rt; "no offer is accepted: {refusal:?}"),
+    }
 }
 
 /// Hears an event that came from a master. Whether the text is one: no event is lost without a word.

@@ -3,7 +3,7 @@
 --     runs_inside         none of them
 --     on_taken            one that leads to more of it
 --     end_taken           the last one
-use Rattle.std.proofs.Common.{◌≡◌, ℕ, ◌+◌, ◌<◌, ◌≤◌, List, [], ◌∷◌, length, get_or, Some, Ok, refl, ap, sym, ◌∙◌, subst, append-nil, encode_utf8}
+use Rattle.std.proofs.Common.{◌≡◌, ℕ, ◌+◌, ◌<◌, List, [], ◌∷◌, length, get_or, Some, Ok, refl, ap, sym, ◌∙◌, subst, append-nil, encode_utf8}
 use Rattle.mes_json.specs.Escape as e
 use Rattle.mes_json.specs.Escape.{escape_step}
 use Rattle.mes_json.specs.Machine as m

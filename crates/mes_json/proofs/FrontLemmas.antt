@@ -1,74 +1,96 @@
--- Where the plain bytes of a block end: at the first byte that is marked.
---     front_plain    the bytes before it are plain
---     front_stops    it is not
+-- Where the bytes of a block end that a mask leaves unmarked: at the first one that is marked.
+--     front_holds    the bytes before it hold
+--     front_stops    it does not
 --     front_placed   the same of the block at a place in a slice
---     front_whole    where the mask is 0, the whole block is plain
+--     front_whole    where the mask is 0, the whole block holds
 --     front_found    where it is not, its lowest bit is that byte
-use Rattle.std.proofs.Common.{◌≡◌, ℕ, ◌+◌, ◌%◌, ◌^◌, ◌<◌, ◌≤◌, Bool, true, false, cond, not, suc, List, [], ◌∷◌, length, map, take, drop, get_or, refl, ap, subst, sym, ◌∙◌, arith}
+use Rattle.std.proofs.Common.{◌≡◌, ℕ, ◌+◌, ◌*◌, ◌<◌, ◌≤◌, Bool, true, false, cond, not, suc, List, [], ◌∷◌, length, map, take, drop, get_or, refl, ap, subst, sym, ◌∙◌, arith, ◌++◌}
 use Rattle.std.proofs.lemmas.Bool.{not-false}
 use Rattle.std.proofs.lemmas.List.{take-take}
 use Rattle.std.proofs.lemmas.List.Sums.{prefix_len-le-length, prefix_len_stops}
 use Rattle.std.proofs.lemmas.Simd.{length-chunk, get_or-chunk, trailing_mask_l}
+use Rattle.std.proofs.Math.Seq.{take-add}
 use Rattle.std.specs.Int.Count.{count_trailing_zeros}
-use Rattle.std.specs.Simd.Lanes.{mask_l, top}
+use Rattle.std.specs.Simd.Lanes.{mask_l}
 use Rattle.std.specs.List.{AllByRecursion, prefix_len}
-use Rattle.mes_json.specs.Reader.{IsPlain}
-use Rattle.mes_json.proofs.BlockLemmas.{marked, marked_lanes, marks_of_block, none_marked, unmarked_is_plain, marked_is_none}
 
--- how many bytes come before the first that is marked
-abbrev pub front : List ℕ → ℕ
-front xs = prefix_len (λ c. not (marked c)) xs
+-- a byte is marked just where P does not hold of it
+pub record Marks (P : ℕ → Type 0) (mark : ℕ → Bool) : Type 0 where
+  pub unmarked : (c : ℕ) → mark c ≡ false → P c
+  pub marked : (c : ℕ) → mark c ≡ true → P c → ⊥
 
-one_more : (b : Bool) (c n : ℕ) (xs : List ℕ) → marked c ≡ b → AllByRecursion IsPlain (take n xs) → AllByRecursion IsPlain (take (cond (not b) (1 + n) 0) (c ∷ xs))
-one_more true c n xs is plain = tt
-one_more false c n xs is plain =
-    let P : ℕ → Type 0 = λ k. AllByRecursion IsPlain (take k (c ∷ xs)) in
+-- ---- a mask of 0
+first_unmarked : (b : Bool) (rest : ℕ) → cond b 1 0 + 2 * rest ≡ 0 → (b ≡ false) × (rest ≡ 0)
+first_unmarked true rest none = absurd (omega arith)
+first_unmarked false rest none = (refl, omega arith)
+
+none_marked : (P : ℕ → Type 0) (mark : ℕ → Bool) → Marks P mark → (xs : List ℕ) → mask_l (map mark xs) ≡ 0 → AllByRecursion P xs
+none_marked P mark marks [] none = tt
+none_marked P mark marks (c ∷ xs) none =
+    let parts = first_unmarked (mark c) (mask_l (map mark xs)) none in
+    (marks.unmarked c parts.0, none_marked P mark marks xs parts.1)
+
+-- ---- how many bytes come before the first that is marked
+abbrev pub front : (ℕ → Bool) → List ℕ → ℕ
+front mark xs = prefix_len (λ c. not (mark c)) xs
+
+one_more : (P : ℕ → Type 0) (mark : ℕ → Bool) → Marks P mark → (b : Bool) (c n : ℕ) (xs : List ℕ) → mark c ≡ b → AllByRecursion P (take n xs)
+    → AllByRecursion P (take (cond (not b) (1 + n) 0) (c ∷ xs))
+one_more P mark marks true c n xs is holds = tt
+one_more P mark marks false c n xs is holds =
+    let Q : ℕ → Type 0 = λ k. AllByRecursion P (take k (c ∷ xs)) in
     let more : suc n ≡ 1 + n = omega arith in
-    subst P more (unmarked_is_plain c is, plain)
+    subst Q more (marks.unmarked c is, holds)
 
-pub front_plain : (xs : List ℕ) → AllByRecursion IsPlain (take (front xs) xs)
-front_plain [] = tt
-front_plain (c ∷ xs) = one_more (marked c) c (front xs) xs refl (front_plain xs)
+front_holds : (P : ℕ → Type 0) (mark : ℕ → Bool) → Marks P mark → (xs : List ℕ) → AllByRecursion P (take (front mark xs) xs)
+front_holds P mark marks [] = tt
+front_holds P mark marks (c ∷ xs) = one_more P mark marks (mark c) c (front mark xs) xs refl (front_holds P mark marks xs)
 
-pub front_stops : (xs : List ℕ) → front xs < length xs → IsPlain (get_or xs (front xs) 0) → ⊥
-front_stops xs inside plain =
-    marked_is_none (get_or xs (front xs) 0) (not-false _ (prefix_len_stops (λ c. not (marked c)) xs 0 inside)) plain
+front_stops : (P : ℕ → Type 0) (mark : ℕ → Bool) → Marks P mark → (xs : List ℕ) → front mark xs < length xs → P (get_or xs (front mark xs) 0) → ⊥
+front_stops P mark marks xs inside holds =
+    marks.marked (get_or xs (front mark xs) 0) (not-false _ (prefix_len_stops (λ c. not (mark c)) xs 0 inside)) holds
 
 -- what so many bytes are in front of the block at this place
-pub record IsFront (bytes : List ℕ) (place n : ℕ) : Type 0 where
+pub record IsFront (P : ℕ → Type 0) (bytes : List ℕ) (place n : ℕ) : Type 0 where
   pub inside : n ≤ 16
-  pub plain : AllByRecursion IsPlain (take n (drop place bytes))
-  pub stops : n < 16 → IsPlain (get_or bytes (place + n) 0) → ⊥
+  pub holds : AllByRecursion P (take n (drop place bytes))
+  pub stops : n < 16 → P (get_or bytes (place + n) 0) → ⊥
 
-pub front_placed : (bytes : List ℕ) (place n : ℕ) → place + 16 ≤ length bytes → n ≡ front (take 16 (drop place bytes)) → IsFront bytes place n
-front_placed bytes place n room is =
+front_placed : (P : ℕ → Type 0) (mark : ℕ → Bool) → Marks P mark → (bytes : List ℕ) (place n : ℕ) → place + 16 ≤ length bytes
+    → n ≡ front mark (take 16 (drop place bytes)) → IsFront P bytes place n
+front_placed P mark marks bytes place n room is =
     let block = take 16 (drop place bytes) in
     let long : length block ≡ 16 = length-chunk place 16 bytes room in
-    let inside : n ≤ 16 = omega (arith, is, long, prefix_len-le-length (λ c. not (marked c)) block) in
-    let P : ℕ → Type 0 = λ k. AllByRecursion IsPlain (take k block) in
+    let inside : n ≤ 16 = omega (arith, is, long, prefix_len-le-length (λ c. not (mark c)) block) in
+    let Q : ℕ → Type 0 = λ k. AllByRecursion P (take k block) in
     record {
       inside = inside;
-      plain = subst (λ (q : List ℕ). AllByRecursion IsPlain q) (take-take n 16 (drop place bytes) inside) (subst P (sym is) (front_plain block));
-      stops = λ below plain.
-          let first : front block < length block = omega (arith, is, long, below) in
-          let same : get_or bytes (place + n) 0 ≡ get_or block (front block) 0 = sym (get_or-chunk place 16 bytes n 0 below) ∙ ap (λ (k : ℕ). get_or block k 0) is in
-          front_stops block first (subst IsPlain same plain);
+      holds = subst (λ (q : List ℕ). AllByRecursion P q) (take-take n 16 (drop place bytes) inside) (subst Q (sym is) (front_holds P mark marks block));
+      stops = λ below holds.
+          let first : front mark block < length block = omega (arith, is, long, below) in
+          let same : get_or bytes (place + n) 0 ≡ get_or block (front mark block) 0 = sym (get_or-chunk place 16 bytes n 0 below) ∙ ap (λ (k : ℕ). get_or block k 0) is in
+          front_stops P mark marks block first (subst P same holds);
     }
 
--- the mask of the block at this place
-abbrev pub mask_at : List ℕ → ℕ → ℕ
-mask_at bytes place = mask_l (map (top 7) (marked_lanes 16 (take 16 (drop place bytes)))) % 2 ^ 64
+-- ---- by the mask of the block at this place
+pub front_whole : (P : ℕ → Type 0) (mark : ℕ → Bool) → Marks P mark → (bytes : List ℕ) (place mask : ℕ) → mask ≡ mask_l (map mark (take 16 (drop place bytes))) → mask ≡ 0
+    → AllByRecursion P (take 16 (drop place bytes))
+front_whole P mark marks bytes place mask is none = none_marked P mark marks (take 16 (drop place bytes)) (sym is ∙ none)
 
-mask_is : (bytes : List ℕ) (place : ℕ) → place + 16 ≤ length bytes → mask_at bytes place ≡ mask_l (map marked (take 16 (drop place bytes)))
-mask_is bytes place room = marks_of_block (take 16 (drop place bytes)) 16 (length-chunk place 16 bytes room) (omega arith)
-
-pub front_whole : (bytes : List ℕ) (place : ℕ) → place + 16 ≤ length bytes → mask_at bytes place ≡ 0 → AllByRecursion IsPlain (take 16 (drop place bytes))
-front_whole bytes place room none = none_marked (take 16 (drop place bytes)) (sym (mask_is bytes place room) ∙ none)
-
-pub front_found : (bytes : List ℕ) (place : ℕ) → place + 16 ≤ length bytes → (mask_at bytes place ≡ 0 → ⊥) → IsFront bytes place (count_trailing_zeros 64 (mask_at bytes place))
-front_found bytes place room some =
+pub front_found : (P : ℕ → Type 0) (mark : ℕ → Bool) → Marks P mark → (bytes : List ℕ) (place mask : ℕ) → place + 16 ≤ length bytes
+    → mask ≡ mask_l (map mark (take 16 (drop place bytes))) → (mask ≡ 0 → ⊥) → IsFront P bytes place (count_trailing_zeros 64 mask)
+front_found P mark marks bytes place mask room is some =
     let block = take 16 (drop place bytes) in
-    let marks = mask_is bytes place room in
-    let found : 0 < mask_l (map marked block) = omega (arith, marks, some) in
-    front_placed bytes place (count_trailing_zeros 64 (mask_at bytes place)) room
-    (ap (λ (k : ℕ). count_trailing_zeros 64 k) marks ∙ trailing_mask_l marked 64 block (omega (arith, length-chunk place 16 bytes room)) found)
+    let found : 0 < mask_l (map mark block) = omega (arith, is, some) in
+    front_placed P mark marks bytes place (count_trailing_zeros 64 mask) room
+    (ap (λ (k : ℕ). count_trailing_zeros 64 k) is ∙ trailing_mask_l mark 64 block (omega (arith, length-chunk place 16 bytes room)) found)
+
+-- ---- bytes behind bytes
+all_append : (P : ℕ → Type 0) (xs ys : List ℕ) → AllByRecursion P xs → AllByRecursion P ys → AllByRecursion P (xs ++ ys)
+all_append P [] ys before block = block
+all_append P (c ∷ xs) ys before block = (before.0, all_append P xs ys before.1 block)
+
+pub all_further : (P : ℕ → Type 0) (bytes : List ℕ) (place n : ℕ) → AllByRecursion P (take place bytes) → AllByRecursion P (take n (drop place bytes))
+    → AllByRecursion P (take (place + n) bytes)
+all_further P bytes place n before more =
+    subst (λ (q : List ℕ). AllByRecursion P q) (sym (take-add place n bytes)) (all_append P (take place bytes) (take n (drop place bytes)) before more)

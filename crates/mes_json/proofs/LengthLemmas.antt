@@ -1,14 +1,17 @@
 -- How long a canonical text is: of the first n + 1, as of the first n and one more; and of the first n, no longer than of all.
-use Rattle.std.proofs.Common.{◌≡◌, ℕ, zero, suc, ◌+◌, ◌-◌, ◌<◌, ◌≤◌, List, [], ◌∷◌, ◌++◌, Vec, Global, length, take, drop, get_or, ap, sym, ◌∙◌, add-one, take-suc, arith}
+use Rattle.std.proofs.Common.{◌≡◌, ℕ, zero, suc, ◌+◌, ◌-◌, ◌<◌, ◌≤◌, List, [], ◌∷◌, ◌++◌, Vec, Global, length, take, drop, get_or, ap, sym, ◌∙◌, add-one, take-suc, subst, arith}
 use native.Mathlib.Numerals.{unary_clauses}
 use Rattle.std.proofs.Math.Seq.{take-length}
-use Rattle.std.proofs.lemmas.List.{append-nil, length-append}
-use Rattle.mes_json.specs.Canonical.{canonical, escaped, escaped_text, canonical_items, more_items, canonical_members, more_members}
+use Rattle.std.proofs.lemmas.List.{append-nil, length-append, length-take-le}
+use Rattle.std.specs.List.{AllByRecursion}
+use Rattle.mes_json.specs.Canonical.{canonical, escaped, escaped_text, IsKept, canonical_items, more_items, canonical_members, more_members}
 use Rattle.mes_json.specs.View.{view, items_view, members_view}
 use Rattle.mes_json.specs.Writable.{member_text}
 use Rattle.mes_json.specs.declared.value.Json.{Json}
 use Rattle.mes_json.specs.declared.value.Json.TheVariants.{Map}
+use Rattle.mes_json.proofs.TakenLemmas.{rest_is}
 use Rattle.mes_json.proofs.EscapedLemmas.{escaped-append}
+use Rattle.mes_json.proofs.RunOfBytesLemmas.{kept_text, kept_further}
 use Rattle.mes_json.proofs.GrownLemmas.{items_grown, members_grown}
 use Rattle.mes_json.proofs.ViewLemmas.{is_object}
 use Rattle.mes_json.proofs.WriteLemmas.{more_last, more_members_last}
@@ -26,11 +29,30 @@ escaped_grows s b n is inside =
     ∙ escaped_last (take n b) (get_or b n 0)
     ∙ ap (λ (x : List ℕ). length (escaped_text (take n x)) + length (escaped (get_or b n 0))) is
 
+-- a run that is kept
+pub kept_grows : (s b : List ℕ) (place n : ℕ) → b ≡ s → place ≤ length b → n ≤ length (take (length b - place) (drop place b))
+    → AllByRecursion IsKept (take n (take (length b - place) (drop place b)))
+    → length (escaped_text (take (place + n) s)) ≡ length (escaped_text (take place s)) + n
+kept_grows s b place n is inside few kept =
+    let room : n ≤ length (drop place b) = subst (λ (x : List ℕ). n ≤ length x) (rest_is b place inside) few in
+    ap (λ (x : List ℕ). length (escaped_text (take (place + n) x))) (sym is)
+    ∙ ap (λ (x : List ℕ). length x) (kept_further b place n inside kept)
+    ∙ length-append (escaped_text (take place b)) (take n (drop place b))
+    ∙ ap (λ (k : ℕ). length (escaped_text (take place b)) + k) (length-take-le n (drop place b) room)
+    ∙ ap (λ (x : List ℕ). length (escaped_text (take place x)) + n) is
+
 pub escaped_front : (s : List ℕ) (n : ℕ) → length (escaped_text (take n s)) ≤ length (escaped_text s)
 escaped_front s zero = omega arith
 escaped_front [] (suc n) = omega arith
 escaped_front (c ∷ s) (suc n) =
     omega (arith, escaped_front s n, length-append (escaped c) (escaped_text (take n s)), length-append (escaped c) (escaped_text s))
+
+-- the first bytes, where all of them are kept, and where they are the first of s
+pub kept_front : (b : List ℕ) (n : ℕ) → n ≤ length b → AllByRecursion IsKept (take n b) → length (escaped_text (take n b)) ≡ n
+kept_front b n inside kept = ap (λ (x : List ℕ). length x) (kept_text (take n b) kept) ∙ length-take-le n b inside
+
+pub front_within : (s b : List ℕ) (n : ℕ) → b ≡ s → length (escaped_text (take n b)) ≤ length (escaped_text s)
+front_within s b n is = subst (λ (x : List ℕ). length (escaped_text (take n b)) ≤ length (escaped_text x)) is (escaped_front b n)
 
 -- ---- items
 pub items_grow : (xs : List Json) (x : Json) (n : ℕ) → n < length xs → x ≡ get_or xs n x

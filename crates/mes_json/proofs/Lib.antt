@@ -29,6 +29,7 @@ pub mod PlainLemmas
 pub mod EscapeTaken
 pub mod WholeEscapes
 pub mod BlockLemmas
+pub mod KeptLemmas
 pub mod FrontLemmas
 pub mod BlankLemmas
 pub mod DigitLemmas

@@ -1,53 +1,54 @@
--- A string is written run by run: `run_goes` over a byte that stays, `run_ends` at one that is escaped, `run_done` behind the last.
-use Rattle.std.proofs.Common.{◌≡◌, ℕ, suc, length-drop, ◌+◌, ◌-◌, ◌<◌, ◌≤◌, List, [], ◌∷◌, ◌++◌, length, take, drop, get_or, ap, sym, ◌∙◌, append_assoc, add-one, take-suc, false, ◌||◌, ◌==◌, nat_lt, arith}
-use Rattle.std.proofs.lemmas.List.{append-nil, get_or-drop, take_all}
-use Rattle.std.proofs.lemmas.Bool.Decides.{nat_tests}
-use Rattle.mes_json.specs.Canonical.{escaped, escaped_text}
-use Rattle.mes_json.proofs.EscapedLemmas.{escaped-append}
+-- A string is written run by run.
+--     kept_text       a run that is kept is written as it is
+--     written_more    what is written up to a byte that is escaped, with that byte and the run behind it
+--     stops_behind    where that run ends, another byte is escaped
+use Rattle.std.proofs.Common.{◌≡◌, ℕ, ◌+◌, ◌-◌, ◌<◌, ◌≤◌, List, [], ◌∷◌, ◌++◌, length, take, drop, get_or, ap, refl, sym, ◌∙◌, subst, append_assoc, add-one, take-suc, length-drop, arith}
+use Rattle.std.proofs.Math.Seq.{take-add}
+use Rattle.std.proofs.lemmas.List.{append-nil, get_or-drop}
+use Rattle.std.specs.List.{AllByRecursion}
+use Rattle.mes_json.specs.Canonical.{escaped, escaped_text, IsKept}
+use Rattle.mes_json.proofs.TakenLemmas.{rest_is}
+use Rattle.mes_json.proofs.EscapedLemmas.{escaped-append, stays}
+
+pub kept_text : (q : List ℕ) → AllByRecursion IsKept q → escaped_text q ≡ q
+kept_text [] h = refl
+kept_text (c ∷ q) h = ap (λ (x : List ℕ). x ++ escaped_text q) (stays c h.0.0 h.0.1 h.0.2) ∙ ap (λ (x : List ℕ). c ∷ x) (kept_text q h.1)
 
 -- one more byte of a text, escaped
-one_more : (b : List ℕ) (n : ℕ) → n < length b → escaped_text (take (n + 1) b) ≡ escaped_text (take n b) ++ escaped (get_or b n 0)
+pub one_more : (b : List ℕ) (n : ℕ) → n < length b → escaped_text (take (n + 1) b) ≡ escaped_text (take n b) ++ escaped (get_or b n 0)
 one_more b n inside =
     ap (λ (m : ℕ). escaped_text (take m b)) (add-one n) ∙ ap escaped_text (take-suc b n 0 inside)
     ∙ escaped-append (take n b) (get_or b n 0 ∷ []) ∙ ap (λ (x : List ℕ). escaped_text (take n b) ++ x) (append-nil (escaped (get_or b n 0)))
 
--- one more byte of a run
-longer : (b : List ℕ) (from at : ℕ) → from ≤ at → at < length b → take (at + 1 - from) (drop from b) ≡ take (at - from) (drop from b) ++ get_or b at 0 ∷ []
-longer b from at order inside =
-    let count : at + 1 - from ≡ suc (at - from) = omega arith in
-    let place : from + (at - from) ≡ at = omega arith in
-    let room : at - from < length (drop from b) = omega (arith, length-drop from b) in
-    ap (λ (n : ℕ). take n (drop from b)) count ∙ take-suc (drop from b) (at - from) 0 room
-    ∙ ap (λ (c : ℕ). take (at - from) (drop from b) ++ c ∷ []) (get_or-drop from b (at - from) 0 ∙ ap (λ (n : ℕ). get_or b n 0) place)
+-- a run that is kept, from this place on
+pub kept_further : (b : List ℕ) (place n : ℕ) → place ≤ length b → AllByRecursion IsKept (take n (take (length b - place) (drop place b)))
+    → escaped_text (take (place + n) b) ≡ escaped_text (take place b) ++ take n (drop place b)
+kept_further b place n inside kept =
+    ap (λ (x : List ℕ). escaped_text x) (take-add place n b)
+    ∙ escaped-append (take place b) (take n (drop place b))
+    ∙ ap (λ (x : List ℕ). escaped_text (take place b) ++ x)
+    (kept_text (take n (drop place b)) (subst (λ (x : List ℕ). AllByRecursion IsKept (take n x)) (rest_is b place inside) kept))
 
-pub needs_none : (c : ℕ) → (nat_lt c 0x20 || c == 0x22 || c == 0x5C) ≡ false → escaped c ≡ c ∷ []
-needs_none c no_need = grind (arith, nat_tests)
+pub written_more : (b : List ℕ) (place next n m : ℕ) (start out mid new : List ℕ) → next ≡ place + 1 → m ≡ n → place < length b
+    → AllByRecursion IsKept (take n (take (length b - next) (drop next b)))
+    → out ≡ start ++ escaped_text (take place b) → mid ≡ out ++ escaped (get_or b place 0) → new ≡ mid ++ take m (drop next b)
+    → new ≡ start ++ escaped_text (take (next + n) b)
+written_more b place next n m start out mid new is same inside kept out_is mid_is new_is =
+    let one : escaped_text (take next b) ≡ escaped_text (take place b) ++ escaped (get_or b place 0) =
+    ap (λ (k : ℕ). escaped_text (take k b)) is ∙ one_more b place inside in
+    let within : next ≤ length b = omega (arith, is, inside) in
+    new_is
+    ∙ ap (λ (k : ℕ). mid ++ take k (drop next b)) same
+    ∙ ap (λ (x : List ℕ). x ++ take n (drop next b)) (mid_is ∙ ap (λ (x : List ℕ). x ++ escaped (get_or b place 0)) out_is ∙ append_assoc start (escaped_text (take place b)) (escaped (get_or b place 0)))
+    ∙ ap (λ (x : List ℕ). (start ++ x) ++ take n (drop next b)) (sym one)
+    ∙ append_assoc start (escaped_text (take next b)) (take n (drop next b))
+    ∙ ap (λ (x : List ℕ). start ++ x) (sym (kept_further b next n within kept))
 
-pub run_goes : (b : List ℕ) (from at : ℕ) (out start : List ℕ) → from ≤ at → at < length b → escaped (get_or b at 0) ≡ get_or b at 0 ∷ []
-    → out ++ take (at - from) (drop from b) ≡ start ++ escaped_text (take at b)
-    → out ++ take (at + 1 - from) (drop from b) ≡ start ++ escaped_text (take (at + 1) b)
-run_goes b from at out start order inside same so_far =
-    ap (λ (x : List ℕ). out ++ x) (longer b from at order inside)
-    ∙ sym (append_assoc out (take (at - from) (drop from b)) (get_or b at 0 ∷ []))
-    ∙ ap (λ (x : List ℕ). x ++ get_or b at 0 ∷ []) so_far
-    ∙ append_assoc start (escaped_text (take at b)) (get_or b at 0 ∷ [])
-    ∙ ap (λ (x : List ℕ). start ++ (escaped_text (take at b) ++ x)) (sym same)
-    ∙ ap (λ (x : List ℕ). start ++ x) (sym (one_more b at inside))
-
-pub run_ends : (b : List ℕ) (from at : ℕ) (out start run new : List ℕ) → at < length b
-    → out ++ take (at - from) (drop from b) ≡ start ++ escaped_text (take at b)
-    → run ≡ out ++ take (at - from) (drop from b) → new ≡ run ++ escaped (get_or b at 0)
-    → new ++ take (at + 1 - (at + 1)) (drop (at + 1) b) ≡ start ++ escaped_text (take (at + 1) b)
-run_ends b from at out start run new inside so_far is next =
-    let none : at + 1 - (at + 1) ≡ 0 = omega arith in
-    ap (λ (n : ℕ). new ++ take n (drop (at + 1) b)) none ∙ append-nil new ∙ next
-    ∙ ap (λ (x : List ℕ). x ++ escaped (get_or b at 0)) (is ∙ so_far)
-    ∙ append_assoc start (escaped_text (take at b)) (escaped (get_or b at 0))
-    ∙ ap (λ (x : List ℕ). start ++ x) (sym (one_more b at inside))
-
-pub run_done : (b : List ℕ) (from at : ℕ) (out start new : List ℕ) → length b ≤ at → at ≤ length b
-    → out ++ take (at - from) (drop from b) ≡ start ++ escaped_text (take at b)
-    → new ≡ out ++ take (length b - from) (drop from b) → new ≡ start ++ escaped_text b
-run_done b from at out start new past within so_far is =
-    let end : length b ≡ at = omega arith in
-    is ∙ ap (λ (n : ℕ). out ++ take (n - from) (drop from b)) end ∙ so_far ∙ ap (λ (x : List ℕ). start ++ escaped_text x) (take_all at b past)
+pub stops_behind : (b : List ℕ) (next n : ℕ) → next ≤ length b
+    → (n < length (take (length b - next) (drop next b)) → IsKept (get_or (take (length b - next) (drop next b)) n 0) → ⊥)
+    → next + n < length b → IsKept (get_or b (next + n) 0) → ⊥
+stops_behind b next n inside stops more kept =
+    let same = rest_is b next inside in
+    let room : n < length (drop next b) = omega (arith, length-drop next b, more) in
+    stops (subst (λ (x : List ℕ). n < length x) (sym same) room)
+    (subst (λ (x : List ℕ). IsKept (get_or x n 0)) (sym same) (subst IsKept (sym (get_or-drop next b n 0)) kept))

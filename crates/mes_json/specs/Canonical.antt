@@ -1,6 +1,6 @@
 -- The canonical text of a tree: no white space, items and members in order, numbers as written; in a string only what has
 -- to be escaped is, in its short form where there is one.
-use Rattle.std.specs.Prelude.{ℕ, ◌+◌, ◌/◌, ◌%◌, List, [], ◌∷◌, ◌++◌, if◌then◌else◌, ◌==◌, nat_lt}
+use Rattle.std.specs.Prelude.{◌≢◌, ◌≤◌, ℕ, ◌+◌, ◌/◌, ◌%◌, List, [], ◌∷◌, ◌++◌, if◌then◌else◌, ◌==◌, nat_lt}
 use Rattle.mes_json.specs.Tree.{Tree, Items, Members}
 use Rattle.mes_json.specs.Tree.Tree.{null, boolean, number, string, array, object}
 use Rattle.mes_json.specs.Tree.Items.{no_items, item}
@@ -31,6 +31,10 @@ escaped c =
 abbrev pub escaped_text : List ℕ → List ℕ
 escaped_text [] = []
 escaped_text (c ∷ s) = escaped c ++ escaped_text s
+
+-- a byte that a string has as it is: unescaped = %x20-21 / %x23-5B / %x5D-10FFFF, and any byte of a character past 7F
+abbrev pub IsKept : ℕ → Type 0
+IsKept c = (32 ≤ c) × (c ≢ 34) × (c ≢ 92)
 
 -- in quotation marks
 abbrev pub quoted_text : List ℕ → List ℕ

@@ -4,6 +4,7 @@ ghost use Rattle.mes_json.specs.Canonical.{quoted_text, canonical, canonical_ite
 ghost use Rattle.mes_json.specs.View.{view, items_view, members_view};
 ghost use Rattle.mes_json.specs.Writable.{member_text};
 
+use crate::kept::kept_run;
 use crate::text::Text;
 use crate::value::Json;
 use crate::write_string::escaped_length;
@@ -80,9 +81,16 @@ fn room_behind_quoted(text: &Text, room: usize) -> Option<usize>
     ensures some { IfSome result (λ free. free + length (quoted_text text.now) ≡ room) }
     ensures none { IfNone result (room < length (quoted_text text.now)) }
 {
+    let bytes = text.as_str().as_bytes();
     let mut free = room.checked_sub(b"\"\"".len())?;
-    for byte in text.as_str().as_bytes() {
-        free = free.checked_sub(escaped_length(*byte))?;
+    let mut place = kept_run(bytes);
+    free = free.checked_sub(place)?;
+    while place < bytes.len() {
+        free = free.checked_sub(escaped_length(bytes[place]))?;
+        let next = place + 1;
+        let run = kept_run(&bytes[next..]);
+        free = free.checked_sub(run)?;
+        place = next + run;
     }
     Some(free)
 }

@@ -12,6 +12,7 @@ mod depth;
 mod digits;
 mod escape;
 mod fault;
+mod kept;
 mod kind;
 mod laws;
 mod length;

@@ -6,7 +6,7 @@ ghost use Rattle.mes_json.specs.Reader.{IsPlain};
 use std::simd::prelude::*;
 
 /// How many bytes are looked at together.
-const BLOCK: usize = 16;
+pub(crate) const BLOCK: usize = 16;
 
 /// How many plain characters the slice begins with. A block shows where they end, so most strings need one.
 pub(crate) fn plain_run(bytes: &[u8]) -> usize

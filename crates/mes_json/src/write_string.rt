@@ -4,6 +4,7 @@ ghost use Rattle.std.specs.Str.{IsUtf8};
 ghost use Rattle.mes_json.specs.Canonical.{hex_digit, by_digits, escaped, escaped_text, quoted_text};
 ghost use Rattle.mes_json.specs.Writable.{Extends};
 
+use crate::kept::kept_run;
 use crate::memory::NoMemory;
 use crate::text::Text;
 
@@ -48,16 +49,16 @@ fn write_escaped(bytes: &[u8], out: &mut Vec<u8>) -> Result<(), NoMemory>
     ensures written { IfOk result (λ _. out.new.items ≡ out.old.items ++ escaped_text bytes.now) }
     ensures front { Extends out.old.items out.new.items }
 {
-    let mut from = 0;
-    for at in 0..bytes.len() {
-        let byte = bytes[at];
-        if is_escaped(byte) {
-            append(&bytes[from..at], out)?;
-            write_escape(byte, out)?;
-            from = at + 1;
-        }
+    let mut place = kept_run(bytes);
+    append(&bytes[..place], out)?;
+    while place < bytes.len() {
+        write_escape(bytes[place], out)?;
+        let next = place + 1;
+        let run = kept_run(&bytes[next..]);
+        append(&bytes[next..next + run], out)?;
+        place = next + run;
     }
-    append(&bytes[from..], out)
+    Ok(())
 }
 
 /// Whether the byte may not stand as it is in a string (RFC 8259, section 7).

@@ -1,18 +1,18 @@
 use Rattle.std.proofs.Common.{◌≡◌, ℕ, take, drop, subst, arith}
 use Rattle.std.specs.List.{AllByRecursion}
 use Rattle.mes_json.specs.Reader.{IsPlain}
-use Rattle.mes_json.proofs.BlockLemmas.{plain_further}
+use Rattle.mes_json.proofs.FrontLemmas.{all_further}
 use Rattle.mes_json.proofs.plain.plain_run.Goals as goal
 
 pub returns-then-front-lt-BLOCK-clause-plain : goal.returns-then-front-lt-BLOCK-clause-plain
 returns-then-front-lt-BLOCK-clause-plain c =
-    plain_further c.args.bytes.now c.loop-place.place c.first_in_block-front.result c.loop-place.invariant.plain c.first_in_block-front.ensures.plain
+    all_further IsPlain c.args.bytes.now c.loop-place.place c.first_in_block-front.result c.loop-place.invariant.plain c.first_in_block-front.ensures.plain
 
 pub loop-place-preserved : goal.loop-place-preserved
 loop-place-preserved c =
     let whole : c.first_in_block-front.result ≡ 16 = omega arith in
     record {
       inside = omega arith;
-      plain = plain_further c.args.bytes.now c.loop-place.place 16 c.loop-place.invariant.plain
+      plain = all_further IsPlain c.args.bytes.now c.loop-place.place 16 c.loop-place.invariant.plain
           (subst (λ (n : ℕ). AllByRecursion IsPlain (take n (drop c.loop-place.place c.args.bytes.now))) whole c.first_in_block-front.ensures.plain);
     }

@@ -1,9 +1,13 @@
-use Rattle.std.proofs.Common.{◌≡◌, ◌-◌, ◌≤◌, ◌++◌, take, drop}
-use Rattle.mes_json.specs.Canonical.{escaped_text}
+use Rattle.std.proofs.Common.{◌≡◌, ◌-◌, ◌<◌, ◌≤◌, ◌++◌, length, take, get_or}
+use Rattle.mes_json.specs.Canonical.{escaped_text, IsKept}
 use Rattle.mes_json.specs.Writable.{Extends}
 use Rattle.mes_json.proofs.write_string.write_escaped.Given as goal
 
--- what is written, and the run that isn't yet, are the escaped text so far
-abbrev pub invariant-loop-at : goal.invariant-loop-at
-invariant-loop-at l =
-    (l.from ≤ l.at) × (l.out.items ++ take (l.at - l.from) (drop l.from l.bytes) ≡ l.fn.out.items ++ escaped_text (take l.at l.bytes)) × Extends l.fn.out.items l.out.items
+-- what is written is the escaped text so far, and the next byte is escaped
+abbrev pub invariant-loop-place : goal.invariant-loop-place
+invariant-loop-place l =
+    (l.place ≤ length l.bytes) × (l.out.items ≡ l.fn.out.items ++ escaped_text (take l.place l.bytes)) × Extends l.fn.out.items l.out.items
+    × (l.place < length l.bytes → IsKept (get_or l.bytes l.place 0) → ⊥)
+
+abbrev pub decreases-loop-place : goal.decreases-loop-place
+decreases-loop-place l = length l.bytes - l.place

@@ -1,6 +1,6 @@
 use Rattle.mes_json.specs.Reader.{state_view}
 use Rattle.mes_json.proofs.ReadLemmas.{tape_read, tape_only, ended_no_text}
-use Rattle.mes_json.proofs.LexerLemmas.{state_at, reading_at, faulty_at, faulty_only, counted_fault, counted_end, reading_begins}
+use Rattle.mes_json.proofs.LexerLemmas.{reading_at, faulty_at, faulty_only, counted_fault, counted_end, reading_begins}
 use Rattle.mes_json.proofs.lexer.LexerState.take.Goals as goal
 
 pub returns-in-Some-clause-read : goal.returns-in-Some-clause-read
