@@ -4,6 +4,7 @@ ghost use Rattle.std.specs.List.{AllByRecursion};
 ghost use Rattle.mes_json.specs.Canonical.{IsKept};
 
 use crate::plain::BLOCK;
+use crate::write_string::is_escaped;
 use std::simd::prelude::*;
 
 /// How many bytes the slice begins with that a string has as they are: all but control characters, the quotation mark and the
@@ -44,7 +45,7 @@ fn kept_by_byte(bytes: &[u8], from: usize) -> usize
 fn is_kept(byte: u8) -> bool
     ensures { IsTrue result ↔ IsKept byte }
 {
-    byte >= 0x20 && byte != b'"' && byte != b'\\'
+    !is_escaped(byte)
 }
 
 /// How many such bytes the block at this place begins with.

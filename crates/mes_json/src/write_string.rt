@@ -62,7 +62,7 @@ fn write_escaped(bytes: &[u8], out: &mut Vec<u8>) -> Result<(), NoMemory>
 }
 
 /// Whether the byte may not stand as it is in a string (RFC 8259, section 7).
-fn is_escaped(byte: u8) -> bool
+pub(crate) fn is_escaped(byte: u8) -> bool
     ensures { result ≡ (nat_lt byte 0x20 || byte == 0x22 || byte == 0x5C) }
 {
     byte < 0x20 || byte == b'"' || byte == b'\\'
