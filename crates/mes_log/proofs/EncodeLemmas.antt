@@ -23,10 +23,10 @@ use Rattle.mes_msg.specs.declared.send_fault.EncodeWhy.TheVariants.{TooDeep, Too
 use Rattle.mes_stream.specs.Sending.{fault_at}
 use Rattle.mes_stream.specs.Stream.{Records}
 use Rattle.mes_log.specs.Encoding.{AddsEntry, IsEntryFault, IsMessageUnfit}
-use Rattle.mes_log.specs.Entries.{SpellsEntry}
+use Rattle.mes_entry.specs.Entries.{SpellsEntry}
 use Rattle.mes_log.specs.Writing.{entry_data, entry_records, log_bytes, IsFit, EntryFits, EntryUnfit, AllFit, IsFirstUnfit, IsLogOf, IsUnwritten}
-use Rattle.mes_log.specs.declared.first_reader.FirstRecord.TheVariants as first
-use Rattle.mes_log.specs.declared.letters.TheConstants.{EVENT, CALL, BROKEN, HEADER}
+use Rattle.mes_entry.specs.declared.first_reader.FirstRecord.TheVariants as first
+use Rattle.mes_entry.specs.declared.letters.TheConstants.{EVENT, CALL, BROKEN, HEADER}
 
 -- ---- one entry
 

@@ -1,5 +1,3 @@
-mod EntryLaw
 mod LogLaw
 mod LogLemmas
-mod LetteredLemmas
 mod EncodeLemmas

@@ -9,10 +9,10 @@ use Rattle.mes_stream.specs.Stream.{Records, Behind, BodyLive, BodyShows, number
 use Rattle.mes_stream.specs.declared.fault.Fault.{Fault}
 use Rattle.mes_stream.specs.declared.fault.Fault.TheVariants.{Frame, EndsInsideChunks, EndsInsideRecord, Text, Field, NoMemory, Read, ReadsSpent, BadEntry}
 use Rattle.mes_stream.specs.declared.refusal.RecordRefusal.{RecordRefusal}
-use Rattle.mes_log.specs.Entries.{SpellsFirst, FirstBreaks, SpellsEntry, EntryBreaks, version_of, entries_in}
+use Rattle.mes_entry.specs.Entries.{SpellsFirst, FirstBreaks, SpellsEntry, EntryBreaks, version_of, entries_in}
 use Rattle.mes_log.specs.Logs.{BehindFirst, IsLog, LogGoes, ReadsLog}
-use Rattle.mes_log.specs.declared.first_reader.FirstRecord.{FirstRecord}
-use Rattle.mes_log.specs.declared.first_reader.FirstRecord.TheVariants as kind
+use Rattle.mes_entry.specs.declared.first_reader.FirstRecord.{FirstRecord}
+use Rattle.mes_entry.specs.declared.first_reader.FirstRecord.TheVariants as kind
 
 abbrev values_in : {E : Type 0} → PlainReading E → List E
 values_in (Goes values) = values

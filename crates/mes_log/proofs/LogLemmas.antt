@@ -22,14 +22,15 @@ use Rattle.mes_stream.specs.declared.reads.ReadsEnd.{ReadsEnd}
 use Rattle.mes_stream.specs.declared.reads.ReadsEnd.TheVariants.{Stopped, AtEnd, Failed, Spent}
 use Rattle.mes_stream.specs.declared.stream_reader.Framing.{Framing}
 use Rattle.mes_stream.specs.declared.stream_reader.Framing.TheVariants.{Plain}
-use Rattle.mes_log.specs.Entries.{SpellsFirst, FirstBreaks, SpellsEntry, EntryBreaks, version_of, entries_in}
+use Rattle.mes_entry.specs.Entries.{SpellsFirst, FirstBreaks, SpellsEntry, EntryBreaks, version_of, entries_in}
 use Rattle.mes_log.specs.Logs.{BehindFirst, LogByteEnds, LogEndMeans, LogBreaksOff, EndsLog}
-use Rattle.mes_log.specs.LogStages.{HoldsFirst, HoldsEntry, StageStands, RestStands, StageTakes, StageBegins, StageMeans, LogMeans, LogStands, LogGathers, LogGathersLast, log_answer, log_told, stage_told}
-use Rattle.mes_log.specs.declared.entry_reader.EntryReader.{EntryReader}
-use Rattle.mes_log.specs.declared.first_reader.FirstReader.{FirstReader}
-use Rattle.mes_log.specs.declared.first_reader.FirstRecord.{FirstRecord}
-use Rattle.mes_log.specs.declared.first_reader.FirstRecord.TheVariants as kind
-use Rattle.mes_log.specs.declared.letters.TheConstants.{EVENT, CALL}
+use Rattle.mes_entry.specs.EntryData.{HoldsFirst, HoldsEntry}
+use Rattle.mes_log.specs.LogStages.{StageStands, RestStands, StageTakes, StageBegins, StageMeans, LogMeans, LogStands, LogGathers, LogGathersLast, log_answer, log_told, stage_told}
+use Rattle.mes_entry.specs.declared.entry_reader.EntryReader.{EntryReader}
+use Rattle.mes_entry.specs.declared.first_reader.FirstReader.{FirstReader}
+use Rattle.mes_entry.specs.declared.first_reader.FirstRecord.{FirstRecord}
+use Rattle.mes_entry.specs.declared.first_reader.FirstRecord.TheVariants as kind
+use Rattle.mes_entry.specs.declared.letters.TheConstants.{EVENT, CALL}
 use Rattle.mes_log.specs.declared.log_reading.LogReading.{LogReading}
 use Rattle.mes_log.specs.declared.log_reading.LogStop.{LogStop}
 use Rattle.mes_log.specs.declared.log_reading.LogStop.TheVariants as log_stop

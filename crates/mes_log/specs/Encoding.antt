@@ -7,7 +7,7 @@ use Rattle.mes_msg.specs.EncodeFault.{EncodeFault}
 use Rattle.mes_msg.specs.EncodeFault.TheVariants as refused
 use Rattle.mes_msg.specs.declared.entry.Entry.{Entry}
 use Rattle.mes_msg.specs.declared.send_fault.EncodeWhy.TheVariants.{TooDeep, TooLarge}
-use Rattle.mes_log.specs.Entries.{SpellsEntry}
+use Rattle.mes_entry.specs.Entries.{SpellsEntry}
 use Rattle.mes_log.specs.Writing.{entry_data, EntryFits, EntryUnfit, IsUnfit}
 
 -- the entry fits, and its record was added, which is read to it

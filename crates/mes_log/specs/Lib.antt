@@ -1,5 +1,4 @@
-pub mod Entries
-pub mod Lettered
+pub use Rattle.mes_entry.specs.Entries
 pub mod Logs
 pub mod LogStages
 pub mod Writing

@@ -9,22 +9,14 @@ use Rattle.mes_stream.specs.declared.reads.ReadsEnd.{ReadsEnd}
 use Rattle.mes_stream.specs.declared.reads.ReadsEnd.TheVariants.{Stopped, AtEnd, Failed, Spent}
 use Rattle.mes_stream.specs.declared.reading.ReadingStop.{ReadingStop}
 use Rattle.mes_stream.specs.declared.stream_reader.Framing.TheVariants.{Plain}
-use Rattle.mes_log.specs.Entries.{SpellsFirst, SpellsEntry}
-use Rattle.mes_log.specs.Lettered.{HoldsLettered}
+use Rattle.mes_entry.specs.Entries.{SpellsFirst, SpellsEntry}
+use Rattle.mes_entry.specs.EntryData.{HoldsFirst, HoldsEntry}
 use Rattle.mes_log.specs.Logs.{BehindFirst, LogByteEnds, LogEndMeans, LogBreaksOff}
-use Rattle.mes_log.specs.declared.entry_reader.EntryReader.{EntryReader}
-use Rattle.mes_log.specs.declared.first_reader.FirstReader.{FirstReader}
 use Rattle.mes_log.specs.declared.log_reading.LogReading.{LogReading}
 use Rattle.mes_log.specs.declared.log_reading.LogStop.{LogStop}
 use Rattle.mes_log.specs.declared.log_reading.LogStop.TheVariants as log_stop
 use Rattle.mes_log.specs.declared.log_reading.Stage.{Stage}
 use Rattle.mes_log.specs.declared.log_reading.Stage.TheVariants as stage
-
-abbrev pub HoldsFirst : FirstReader → List ℕ → Type 0
-HoldsFirst reader r = HoldsLettered reader.lettered r
-
-abbrev pub HoldsEntry : {version : ℕ} → EntryReader version → List ℕ → Type 0
-HoldsEntry reader r = HoldsLettered reader.lettered r
 
 -- w is the front of a log with these entries so far
 abbrev pub StageStands : Stage → ℕ → List ℕ → List Entry → Type 0

@@ -12,8 +12,8 @@ use Rattle.mes_stream.specs.declared.fault.Report.{Report}
 use Rattle.mes_stream.specs.declared.fault.Stop.{Stop}
 use Rattle.mes_stream.specs.declared.refusal.RecordRefusal.{RecordRefusal}
 use Rattle.mes_stream.specs.declared.stream_reader.Framing.TheVariants.{Plain}
-use Rattle.mes_log.specs.Entries.{SpellsFirst, FirstBreaks, SpellsEntry, EntryBreaks, version_of, entries_in}
-use Rattle.mes_log.specs.declared.first_reader.FirstRecord.{FirstRecord}
+use Rattle.mes_entry.specs.Entries.{SpellsFirst, FirstBreaks, SpellsEntry, EntryBreaks, version_of, entries_in}
+use Rattle.mes_entry.specs.declared.first_reader.FirstRecord.{FirstRecord}
 
 -- The first record of w has ended, with what it says; behind it stands the rest, of which `Is` holds with the entries that are more, by the
 -- version and by what stands ahead of the rest: one record.

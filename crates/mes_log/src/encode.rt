@@ -7,8 +7,8 @@ ghost use Rattle.mes_log.specs.Encoding.{AddsEntry, IsEntryFault, IsMessageUnfit
 ghost use Rattle.mes_log.specs.Writing.{IsFit, IsLogOf, IsUnwritten};
 ghost use Rattle.mes_stream.specs.Sending.{fault_at};
 
-use crate::letters::{BROKEN, CALL, EVENT, HEADER};
 use itoa::Buffer;
+use mes_entry::{BROKEN, CALL, EVENT, HEADER};
 use mes_frame::Limit;
 use mes_json::NoMemory;
 use mes_msg::{EncodeFault, EncodeWhy, Entry, SendFault};

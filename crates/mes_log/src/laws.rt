@@ -1,22 +1,13 @@
-//! Laws of the definitions that the contracts cite: functions that do nothing, each with the law as its contract.
+//! A law of the definitions that the contracts cite: a function that does nothing, with the law as its contract.
 
 ghost use Rattle.std.specs.Prelude.{◌≡◌, ℕ, List, ◌↔◌};
 ghost use Rattle.mes_msg.specs.declared.entry.Entry.{Entry as EntryValue};
 ghost use Rattle.mes_stream.specs.PlainReading.{PlainReading};
 ghost use Rattle.mes_log.specs.Logs.{IsLog, LogGoes, ReadsLog};
 
-use crate::entry_reader::EntryReader;
-use crate::first_reader::FirstReader;
-use crate::letters::{BROKEN, CALL, EVENT, HEADER};
+use mes_entry::{EntryReader, FirstReader, one_entry};
 use mes_frame::one_record_reading;
-use mes_msg::{Call, Event, one_message};
 use mes_stream::one_plain_reading;
-
-/// The letters of a log's records: `E`, `C` and `B` of entries, and `2` of the header.
-pub fn log_letters()
-    ensures entries { (EVENT ≡ 69) × (CALL ≡ 67) × (BROKEN ≡ 66) }
-    ensures header { HEADER ≡ 50 }
-{}
 
 /// Any bytes are the front of a log of certain entries, or have a byte that shows a fault behind the entries before it: exactly one of
 /// these, in exactly one way. A whole log is such a front, so it has one list of entries.
@@ -25,8 +16,7 @@ pub fn one_log_reading()
     ensures one { (limit : ℕ) (w : List ℕ) (reading other : PlainReading EntryValue) → ReadsLog limit w reading → ReadsLog limit w other → reading ≡ other }
     ensures whole { (limit : ℕ) (w : List ℕ) (entries : List EntryValue) → IsLog limit w entries → LogGoes limit w entries }
 {
-    one_message::<Event>();
-    one_message::<Call>();
+    one_entry();
     one_record_reading();
     one_plain_reading::<FirstReader>();
     one_plain_reading::<EntryReader<1>>();

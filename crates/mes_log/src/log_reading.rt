@@ -4,11 +4,10 @@ ghost use Rattle.std.specs.Prelude.{◌≡◌, ◌≤◌, ℕ, List, [], ◌∷�
 ghost use Rattle.mes_frame.specs.Record.{IsRecord};
 ghost use Rattle.mes_msg.specs.declared.entry.Entry.{Entry as EntryValue};
 ghost use Rattle.mes_stream.specs.Stream.{saturated};
-ghost use Rattle.mes_log.specs.Entries.{SpellsFirst, entries_in};
+ghost use Rattle.mes_entry.specs.Entries.{SpellsFirst, entries_in};
 ghost use Rattle.mes_log.specs.LogStages.{LogMeans, LogStands, RestStands, StageBegins, StageMeans, StageTakes, log_answer, reading_end, used_by};
 
-use crate::entry_reader::EntryReader;
-use crate::first_reader::{FirstReader, FirstRecord};
+use mes_entry::{EntryReader, FirstReader, FirstRecord};
 use mes_frame::Limit;
 use mes_msg::Entry;
 use mes_stream::{

@@ -13,11 +13,11 @@ use Rattle.mes_msg.specs.RecordFault.TheVariants as message
 use Rattle.mes_stream.specs.Refusals.{refusal_of}
 use Rattle.mes_stream.specs.declared.refusal.RecordRefusal.{RecordRefusal}
 use Rattle.mes_stream.specs.declared.refusal.RecordRefusal.TheVariants as refusal
-use Rattle.mes_log.specs.Entries.{BehindLetter}
-use Rattle.mes_log.specs.Lettered.{HasText, HoldsAt, LetteredBreaks, IsTextRefusal}
-use Rattle.mes_log.specs.declared.letters.TheConstants.{EVENT, CALL}
-use Rattle.mes_log.specs.declared.lettered.Place.{Place}
-use Rattle.mes_log.specs.declared.lettered.Place.TheVariants as place
+use Rattle.mes_entry.specs.Entries.{BehindLetter}
+use Rattle.mes_entry.specs.Lettered.{HasText, HoldsAt, LetteredBreaks, IsTextRefusal}
+use Rattle.mes_entry.specs.declared.letters.TheConstants.{EVENT, CALL}
+use Rattle.mes_entry.specs.declared.lettered.Place.{Place}
+use Rattle.mes_entry.specs.declared.lettered.Place.TheVariants as place
 
 -- the text is shorter than the data
 pub shorter : (letter : ℕ) (text r : List ℕ) → r ≡ letter ∷ text → length r < 2 ^ 64 → length text < 2 ^ 64

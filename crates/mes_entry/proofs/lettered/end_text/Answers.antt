@@ -1,8 +1,8 @@
 use Rattle.std.proofs.Common.{◌∙◌}
 use Rattle.std.proofs.lemmas.Result.{err_from_is_err_and}
 use Rattle.mes_record.proofs.RecordLemmas.{begins, refused_by}
-use Rattle.mes_log.proofs.LetteredLemmas.{text_refused}
-use Rattle.mes_log.proofs.lettered.end_text.Goals as goal
+use Rattle.mes_entry.proofs.LetteredLemmas.{text_refused}
+use Rattle.mes_entry.proofs.lettered.end_text.Goals as goal
 
 pub returns-in_err-message-clause-err : goal.returns-in_err-message-clause-err
 returns-in_err-message-clause-err g c = λ text h short.

@@ -15,10 +15,10 @@ use Rattle.mes_stream.specs.PlainReading.{IsExact, IsDecided}
 use Rattle.mes_stream.specs.Refusals.{refusal_of}
 use Rattle.mes_stream.specs.declared.refusal.RecordRefusal.{RecordRefusal}
 use Rattle.mes_stream.specs.declared.refusal.RecordRefusal.TheVariants as refusal
-use Rattle.mes_log.specs.Entries.{BehindLetter, IsOther, IsBreak, SpellsEntry, IsBadEntry, IsMessageFault, EntryBreaks, SpellsFirst, FirstBreaks}
-use Rattle.mes_log.specs.declared.first_reader.FirstRecord.{FirstRecord}
-use Rattle.mes_log.specs.declared.first_reader.FirstRecord.TheVariants as first
-use Rattle.mes_log.specs.declared.letters.TheConstants.{EVENT, CALL, BROKEN, HEADER}
+use Rattle.mes_entry.specs.Entries.{BehindLetter, IsOther, IsBreak, SpellsEntry, IsBadEntry, IsMessageFault, EntryBreaks, SpellsFirst, FirstBreaks}
+use Rattle.mes_entry.specs.declared.first_reader.FirstRecord.{FirstRecord}
+use Rattle.mes_entry.specs.declared.first_reader.FirstRecord.TheVariants as first
+use Rattle.mes_entry.specs.declared.letters.TheConstants.{EVENT, CALL, BROKEN, HEADER}
 
 -- any bytes are a text of one value of the kind, or of none for one reason, and not both
 pub record OneMessage {V : Type 0} (k : Kind V) : Type 0 where

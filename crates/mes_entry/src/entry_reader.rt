@@ -2,8 +2,8 @@
 
 ghost use Rattle.std.specs.Prelude.{◌≡◌, ◌≢◌, ℕ, ◌^◌, ◌<◌, ◌≤◌, List, [], ◌++◌, length, OnOk, IfOk, IfErr};
 ghost use Rattle.mes_json.specs.Inner.{inner};
-ghost use Rattle.mes_log.specs.Entries.{EntryBreaks, SpellsEntry};
-ghost use Rattle.mes_log.specs.Lettered.{HoldsLettered, kept_text};
+ghost use Rattle.mes_entry.specs.Entries.{EntryBreaks, SpellsEntry};
+ghost use Rattle.mes_entry.specs.Lettered.{HoldsLettered, kept_text};
 
 use crate::lettered::{Lettered, LetteredReader};
 use crate::letters::BROKEN;

@@ -4,7 +4,7 @@ ghost use Rattle.std.specs.Prelude.{◌≡◌, ◌≢◌, ℕ, ◌^◌, ◌<◌,
 ghost use Rattle.mes_json.specs.Inner.{inner};
 ghost use Rattle.mes_json.specs.Lexer.{HasLexed};
 ghost use Rattle.mes_msg.specs.Texts.{IsTextOf};
-ghost use Rattle.mes_log.specs.Lettered.{HasText, HoldsLettered, LetteredBreaks, HoldsAt, IsTextRefusal, SpellsLettered, kept_text};
+ghost use Rattle.mes_entry.specs.Lettered.{HasText, HoldsLettered, LetteredBreaks, HoldsAt, IsTextRefusal, SpellsLettered, kept_text};
 ghost use Rattle.mes_json.specs.declared.lexer.Lexer.{Lexer as LexerValue};
 
 use crate::letters::{CALL, EVENT};

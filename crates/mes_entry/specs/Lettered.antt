@@ -9,13 +9,13 @@ use Rattle.mes_msg.specs.Texts.{IsTextOf, IsFaultOf}
 use Rattle.mes_msg.specs.RecordFault.TheVariants as message
 use Rattle.mes_stream.specs.declared.refusal.RecordRefusal.{RecordRefusal}
 use Rattle.mes_stream.specs.declared.refusal.RecordRefusal.TheVariants as refusal
-use Rattle.mes_log.specs.Entries.{BehindLetter, IsOther, IsMessageFault}
-use Rattle.mes_log.specs.declared.letters.TheConstants.{EVENT, CALL}
-use Rattle.mes_log.specs.declared.lettered.Lettered.{Lettered}
-use Rattle.mes_log.specs.declared.lettered.Lettered.TheVariants as lettered
-use Rattle.mes_log.specs.declared.lettered.LetteredReader.{LetteredReader}
-use Rattle.mes_log.specs.declared.lettered.Place.{Place}
-use Rattle.mes_log.specs.declared.lettered.Place.TheVariants as place
+use Rattle.mes_entry.specs.Entries.{BehindLetter, IsOther, IsMessageFault}
+use Rattle.mes_entry.specs.declared.letters.TheConstants.{EVENT, CALL}
+use Rattle.mes_entry.specs.declared.lettered.Lettered.{Lettered}
+use Rattle.mes_entry.specs.declared.lettered.Lettered.TheVariants as lettered
+use Rattle.mes_entry.specs.declared.lettered.LetteredReader.{LetteredReader}
+use Rattle.mes_entry.specs.declared.lettered.Place.{Place}
+use Rattle.mes_entry.specs.declared.lettered.Place.TheVariants as place
 
 -- the lexer has taken the text, and no growth was refused memory
 pub record HasText (lexer : Lexer) (text : List ℕ) : Type 0 where

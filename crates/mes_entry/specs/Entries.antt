@@ -10,9 +10,9 @@ use Rattle.mes_msg.specs.declared.entry.Entry.{Entry}
 use Rattle.mes_msg.specs.declared.entry.Entry.TheVariants.{Heard, Said, Broken}
 use Rattle.mes_stream.specs.declared.refusal.RecordRefusal.{RecordRefusal}
 use Rattle.mes_stream.specs.declared.refusal.RecordRefusal.TheVariants as refusal
-use Rattle.mes_log.specs.declared.first_reader.FirstRecord.{FirstRecord}
-use Rattle.mes_log.specs.declared.first_reader.FirstRecord.TheVariants as first
-use Rattle.mes_log.specs.declared.letters.TheConstants.{EVENT, CALL, BROKEN, HEADER}
+use Rattle.mes_entry.specs.declared.first_reader.FirstRecord.{FirstRecord}
+use Rattle.mes_entry.specs.declared.first_reader.FirstRecord.TheVariants as first
+use Rattle.mes_entry.specs.declared.letters.TheConstants.{EVENT, CALL, BROKEN, HEADER}
 
 -- the data are the letter and then a text, of which that holds
 abbrev pub BehindLetter : ℕ → (List ℕ → Type 0) → List ℕ → Type 0

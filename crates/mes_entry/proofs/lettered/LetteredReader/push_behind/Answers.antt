@@ -1,5 +1,5 @@
-use Rattle.mes_log.proofs.LetteredLemmas.{alone_more, some_bytes}
-use Rattle.mes_log.proofs.lettered.LetteredReader.push_behind.Goals as goal
+use Rattle.mes_entry.proofs.LetteredLemmas.{alone_more, some_bytes}
+use Rattle.mes_entry.proofs.lettered.LetteredReader.push_behind.Goals as goal
 
 pub returns-then-not-is_empty-clause-ok : goal.returns-then-not-is_empty-clause-ok
 returns-then-not-is_empty-clause-ok c = λ r some h.
