@@ -12,3 +12,4 @@ pub mod ReadListLemmas
 pub mod EitherLemmas
 pub mod RowListLemmas
 pub mod ChoiceLemmas
+pub mod FirstFaultLemmas

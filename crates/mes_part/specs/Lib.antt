@@ -18,6 +18,7 @@ pub mod Fields
 pub mod Kinds
 pub mod Leaves
 pub mod Lists
+pub mod FirstFaults
 pub mod Rows
 pub mod RowNames
 pub mod Layouts

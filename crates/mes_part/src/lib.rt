@@ -6,6 +6,7 @@ mod bytes;
 mod calls;
 mod choice;
 mod field;
+pub mod first_fault;
 mod found;
 mod kept;
 mod label;
