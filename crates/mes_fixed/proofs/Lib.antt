@@ -8,3 +8,4 @@ pub mod Scaling
 pub mod Readings
 pub mod Options
 pub mod Texts
+pub mod FixedTexts

@@ -58,10 +58,10 @@ digit_of d h =
     let v = digit_value_digit (48 + d) (omega arith, omega arith) in
     (digit_is_value (48 + d) (omega arith) (omega arith), omega (arith, v))
 
-spread : (d p v q : ℕ) → (d * p + v) * q ≡ d * (p * q) + v * q
+pub spread : (d p v q : ℕ) → (d * p + v) * q ≡ d * (p * q) + v * q
 spread d p v q = omega arith
 
-left_behind : (k r : ℕ) → r % 10 ^ k ≢ 0 → 0 < k
+pub left_behind : (k r : ℕ) → r % 10 ^ k ≢ 0 → 0 < k
 left_behind zero r h = let below = mod_below r 1 (lit< tt) in absurd (h (omega (arith, below)))
 left_behind (suc k) r h = omega arith
 
@@ -110,7 +110,7 @@ fraction_is (suc k) r h lt = elim (eqb_tells (r % 10 ^ k) 0) [
 
 -- ---- read back
 
-decimal_int : (q : ℕ) → q < 2 ^ 64 → IsInt (decimal q)
+pub decimal_int : (q : ℕ) → q < 2 ^ 64 → IsInt (decimal q)
 decimal_int q h = elim (eqb_tells q 0) [
   | inl e ↦ subst IsInt (sym (ap decimal e.1 ∙ decimal_digit 0 (lit< tt))) (inl (refl, refl))
   | inr e ↦ by_first (decimal q) (decimal_is_IsNumeral q h).0 (first_decimal q (omega (arith, e.1)) h)
@@ -130,7 +130,7 @@ whole_below places units high le =
     let power : 10 ^ 19 ≡ 10 ^ (19 - places) * 10 ^ places = ap (λ (i : ℕ). 10 ^ i) all ∙ pow-add 10 (19 - places) places in
     div_below units (10 ^ places) (10 ^ (19 - places)) (one-le-pow places 10 (lit< tt)) (omega (arith, power, le))
 
-whole_fits : (places units : ℕ) → 1 ≤ places → places ≤ 6 → units ≤ UNITS_LIMIT → units / 10 ^ places < 2 ^ 64
+pub whole_fits : (places units : ℕ) → 1 ≤ places → places ≤ 6 → units ≤ UNITS_LIMIT → units / 10 ^ places < 2 ^ 64
 whole_fits places units low high le =
     let at : 19 - places ≤ 18 = omega arith in
     let power : 10 ^ (19 - places) ≤ 10 ^ 18 = pow-le-pow_right {n = 10} (lit< tt) at in

@@ -5,4 +5,5 @@ pub mod Gathering
 pub mod Decimal
 pub mod Cut
 pub mod Text
+pub mod FixedText
 pub mod Fault

@@ -14,6 +14,6 @@ mod whole;
 pub use automaton::is_number;
 pub use fault::NumFault;
 pub use fixed_point::{Fixed, Micros, Thousandths};
-pub use laws::{automaton_reads_numbers, number_limits};
+pub use laws::{automaton_reads_numbers, fixed_text, number_limits};
 pub use limits::{TEXT_LIMIT, UNITS_LIMIT};
 pub use whole::{read_i32, read_u64};
