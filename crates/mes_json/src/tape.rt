@@ -1,5 +1,5 @@
 //! The tape: a JSON value as one flat list of nodes over one buffer of texts.
-ghost use Rattle.std.specs.Prelude.{◌≡◌, ◌<◌, ◌≤◌, [], ◌∷◌, ◌++◌, vec_len, vec_capacity, IfOk, IfErr, OnOk, OnErr};
+ghost use Rattle.std.specs.Prelude.{◌≡◌, ◌*◌, ◌<◌, ◌≤◌, [], ◌∷◌, ◌++◌, vec_len, vec_capacity, IfOk, IfErr, OnOk, OnErr};
 ghost use Rattle.std.specs.List.{AllByRecursion};
 ghost use Rattle.mes_json.specs.Tape.{span, IsSpan, HasSpan};
 ghost use Rattle.mes_json.specs.Cursor.{tokens_held};
@@ -14,7 +14,7 @@ use std::alloc::Global;
 use std::marker::Model;
 use std::{mem, str};
 
-/// A node of the tape, of 12 bytes. A span is the bytes of the buffer of texts from `from` up to but not including `to`.
+/// A node of the tape, of `NODE_SIZE` bytes. A span is the bytes of the buffer of texts from `from` up to but not including `to`.
 #[derive(Clone, Copy)]
 pub(crate) enum Node {
     /// The literal `null`.
@@ -34,6 +34,11 @@ pub(crate) enum Node {
     /// The innermost array or object ends.
     End,
 }
+
+/// How many bytes a node has.
+pub(crate) const NODE_SIZE: usize = mem::size_of::<Node>();
+
+const _: () = prove!(NODE_SIZE == 12);
 
 /// A JSON value that was read whole, in two runs of memory and not a tree. A contract sees it as its tokens.
 #[derive(Drop)]
@@ -80,13 +85,15 @@ impl Tape {
 }
 
 impl Tape {
-    /// The memory of the tape, emptied; of each vector that has more than `ROOM_KEPT` bytes it is given back. Takes no memory.
+    /// The memory of the tape, emptied; of each vector that has room for more than `ROOM_KEPT` bytes it is given back. Takes no memory.
     pub(crate) fn into_room(self, alloc: Global) -> (Vec<u8>, Vec<Node>)
         ensures texts { result.0.items ≡ [] }
         ensures nodes { result.1.items ≡ [] }
+        ensures texts_room { vec_capacity result.0 ≤ ROOM_KEPT }
+        ensures nodes_room { vec_capacity result.1 * NODE_SIZE ≤ ROOM_KEPT }
     {
         let Tape { texts, nodes } = self;
-        let most = ROOM_KEPT / mem::size_of::<Node>();
+        let most = ROOM_KEPT / NODE_SIZE;
         (
             emptied(alloc, texts, ROOM_KEPT),
             emptied(alloc, nodes, most),
