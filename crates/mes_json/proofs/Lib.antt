@@ -41,6 +41,7 @@ pub mod BuildLemmas
 pub mod ReadLemmas
 pub mod InnerLemmas
 pub mod MeasureLemmas
+pub mod MemberLemmas
 pub mod PaidLemmas
 pub mod PaidStrings
 pub mod PaidSteps

@@ -19,6 +19,7 @@ mod length;
 mod lengths;
 mod lexer;
 mod limits;
+mod members;
 mod memory;
 mod nesting;
 mod number_text;

@@ -28,14 +28,14 @@ use std::mem;
 /// What was read of a JSON text.
 #[derive(Drop)]
 pub(crate) struct Reader {
-    at: At,
+    pub(crate) at: At,
     /// What is open, the innermost last.
-    nesting: ArrayVec<Open, NESTING_LIMIT, Global>,
+    pub(crate) nesting: ArrayVec<Open, NESTING_LIMIT, Global>,
     /// Where the text of the string or the number that is read begins.
     start: usize,
     /// The texts of the strings and the numbers, one behind the other.
     text: Vec<u8>,
-    nodes: Vec<Node>,
+    pub(crate) nodes: Vec<Node>,
 }
 
 impl Reader {
@@ -84,11 +84,23 @@ impl Reader {
         }
     }
 
-    /// Takes the bytes behind this place, whose byte was the last, that need no look each: characters of a string with the
-    /// quotation mark and the colon that may follow, digits of a number, or white space between tokens. What would need memory
-    /// that is refused is left. The result is the place behind what was taken.
+    /// Takes what can be taken at once behind this place, whose byte was the last: bytes that need no look each, and the tokens that
+    /// are expected behind them. What would need memory that is refused is left. The result is the place behind what was taken.
     #[inline(always)]
     pub(crate) fn take_run(&mut self, bytes: &[u8], place: usize) -> usize
+        requires inside { place < length bytes.now }
+        requires fits { Fits self.old }
+        requires reached { Reached self.old }
+        ensures { RunsTo self.old bytes.now (place + 1) result self.new }
+    {
+        let end = self.take_alike(bytes, place);
+        self.take_members(bytes, end)
+    }
+
+    /// Takes the bytes behind this place, whose byte was the last, that need no look each: characters of a string with the
+    /// quotation mark and the colon that may follow, digits of a number, or white space between tokens.
+    #[inline(always)]
+    fn take_alike(&mut self, bytes: &[u8], place: usize) -> usize
         requires inside { place < length bytes.now }
         requires fits { Fits self.old }
         requires reached { Reached self.old }
@@ -117,7 +129,7 @@ impl Reader {
 
     /// Takes the characters of a string from this place, the quotation mark behind them, and the colon behind a name.
     #[inline(always)]
-    fn take_string(&mut self, purpose: Purpose, bytes: &[u8], from: usize) -> usize
+    pub(crate) fn take_string(&mut self, purpose: Purpose, bytes: &[u8], from: usize) -> usize
         requires at { self.old.at ≡ At.Quoted purpose Mid.Between }
         requires inside { from ≤ length bytes.now }
         requires fits { Fits self.old }
@@ -524,7 +536,7 @@ impl Reader {
 impl Reader {
     /// The innermost object or array that is open.
     #[inline(always)]
-    fn innermost(&self) -> Option<Open>
+    pub(crate) fn innermost(&self) -> Option<Open>
         ensures { result ≡ innermost self.now.nesting.items }
     {
         self.nesting.as_slice().last().copied()
@@ -557,7 +569,7 @@ impl Reader {
 impl Reader {
     /// The text of a string or a number begins.
     #[inline(always)]
-    fn begin(&mut self, at: At)
+    pub(crate) fn begin(&mut self, at: At)
         ensures { Begins self.old [] at self.new }
     {
         self.start = self.text.len();

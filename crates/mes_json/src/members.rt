@@ -1,0 +1,271 @@
+//! What usually stands behind a string in an object, taken at once: the value behind a name, the ends of objects and arrays, and the
+//! comma with the next name. A reader that has come to anything else goes on byte by byte.
+ghost use Rattle.std.specs.Prelude.{◌≡◌, ◌⊎◌, ◌<◌, ◌≤◌, [], ◌∷◌, ◌++◌, true, false, Some, length};
+ghost use Rattle.mes_json.specs.Machine.{step};
+ghost use Rattle.mes_json.specs.Reader.{Fits, Puts, Reached, RunsTo, Stays, innermost, outer, state_view};
+
+use crate::at::{At, Purpose};
+use crate::limits::NESTING_LIMIT;
+use crate::nesting::Open;
+use crate::reader::Reader;
+use crate::tape::{Node, put_node};
+use crate::utf8::Mid;
+
+impl Reader {
+    /// Takes from this place what is expected there, token by token, and the strings between. A token that would need memory that is
+    /// refused is left. The result is the place behind what was taken.
+    pub(crate) fn take_members(&mut self, bytes: &[u8], from: usize) -> usize
+        requires inside { from ≤ length bytes.now }
+        requires fits { Fits self.old }
+        requires reached { Reached self.old }
+        ensures { RunsTo self.old bytes.now from result self.new }
+    {
+        let mut place = from;
+        while place < bytes.len() {
+            let next = self.take_token(bytes, place);
+            if next == place {
+                return place;
+            }
+            place = next;
+        }
+        place
+    }
+
+    /// Takes what is expected at this place, if it stands there.
+    #[inline(always)]
+    fn take_token(&mut self, bytes: &[u8], from: usize) -> usize
+        requires inside { from < length bytes.now }
+        requires fits { Fits self.old }
+        requires reached { Reached self.old }
+        ensures { RunsTo self.old bytes.now from result self.new }
+    {
+        match self.at {
+            At::Value => self.take_value(bytes, from),
+            At::After => self.take_after(bytes, from),
+            At::FirstName | At::Name => self.take_name(bytes, from),
+            _ => from,
+        }
+    }
+
+    /// Takes a string, or the beginning of an object with its first name.
+    #[inline(always)]
+    fn take_value(&mut self, bytes: &[u8], from: usize) -> usize
+        requires at { self.old.at ≡ At.Value }
+        requires inside { from < length bytes.now }
+        requires fits { Fits self.old }
+        requires reached { Reached self.old }
+        ensures { RunsTo self.old bytes.now from result self.new }
+    {
+        match bytes[from] {
+            b'"' => {
+                self.begin_text();
+                self.take_string(Purpose::Value, bytes, from + 1)
+            }
+            b'{' => {
+                if self.open_object() {
+                    self.take_name(bytes, from + 1)
+                } else {
+                    from
+                }
+            }
+            _ => from,
+        }
+    }
+
+    /// Takes a name and the colon behind it.
+    #[inline(always)]
+    fn take_name(&mut self, bytes: &[u8], from: usize) -> usize
+        requires at { (self.old.at ≡ At.FirstName) ⊎ (self.old.at ≡ At.Name) }
+        requires inside { from ≤ length bytes.now }
+        requires fits { Fits self.old }
+        requires reached { Reached self.old }
+        ensures { RunsTo self.old bytes.now from result self.new }
+    {
+        if from < bytes.len() && bytes[from] == b'"' {
+            self.begin_name();
+            self.take_string(Purpose::Name, bytes, from + 1)
+        } else {
+            from
+        }
+    }
+
+    /// Takes what stands behind a value, by what is open.
+    #[inline(always)]
+    fn take_after(&mut self, bytes: &[u8], from: usize) -> usize
+        requires at { self.old.at ≡ At.After }
+        requires inside { from < length bytes.now }
+        requires fits { Fits self.old }
+        requires reached { Reached self.old }
+        ensures { RunsTo self.old bytes.now from result self.new }
+    {
+        match self.innermost() {
+            Some(Open::Object) => self.take_after_member(bytes, from),
+            Some(Open::Array) => self.take_after_item(bytes, from),
+            None => from,
+        }
+    }
+
+    /// Takes a comma and the name behind it, or the end of the object.
+    #[inline(always)]
+    fn take_after_member(&mut self, bytes: &[u8], from: usize) -> usize
+        requires at { self.old.at ≡ At.After }
+        requires open { innermost self.old.nesting.items ≡ Some Open.Object }
+        requires inside { from < length bytes.now }
+        requires fits { Fits self.old }
+        requires reached { Reached self.old }
+        ensures { RunsTo self.old bytes.now from result self.new }
+    {
+        match bytes[from] {
+            b',' => {
+                self.expect_name();
+                self.take_name(bytes, from + 1)
+            }
+            b'}' => { if self.close_object() { from + 1 } else { from } }
+            _ => from,
+        }
+    }
+
+    /// Takes a comma, or the end of the array.
+    #[inline(always)]
+    fn take_after_item(&mut self, bytes: &[u8], from: usize) -> usize
+        requires at { self.old.at ≡ At.After }
+        requires open { innermost self.old.nesting.items ≡ Some Open.Array }
+        requires inside { from < length bytes.now }
+        requires fits { Fits self.old }
+        requires reached { Reached self.old }
+        ensures { RunsTo self.old bytes.now from result self.new }
+    {
+        match bytes[from] {
+            b',' => {
+                self.expect_item();
+                from + 1
+            }
+            b']' => { if self.close_array() { from + 1 } else { from } }
+            _ => from,
+        }
+    }
+}
+
+// What one byte does, where it can't be refused: a quotation mark, a comma, and the beginning and the end of what is open, which
+// change nothing where there is no memory for their node.
+impl Reader {
+    /// The quotation mark of a string that is a value.
+    #[inline(always)]
+    fn begin_text(&mut self)
+        requires at { self.old.at ≡ At.Value }
+        requires fits { Fits self.old }
+        ensures gives { step NESTING_LIMIT (state_view self.old) 34 ≡ Some (state_view self.new) }
+        ensures fits { Fits self.new }
+        ensures at { self.new.at ≡ At.Quoted Purpose.Value Mid.Between }
+    {
+        self.begin(At::Quoted(Purpose::Value, Mid::Between));
+    }
+
+    /// The quotation mark of a name.
+    #[inline(always)]
+    fn begin_name(&mut self)
+        requires at { (self.old.at ≡ At.FirstName) ⊎ (self.old.at ≡ At.Name) }
+        requires fits { Fits self.old }
+        ensures gives { step NESTING_LIMIT (state_view self.old) 34 ≡ Some (state_view self.new) }
+        ensures fits { Fits self.new }
+        ensures at { self.new.at ≡ At.Quoted Purpose.Name Mid.Between }
+    {
+        self.begin(At::Quoted(Purpose::Name, Mid::Between));
+    }
+
+    /// The comma behind a member.
+    #[inline(always)]
+    fn expect_name(&mut self)
+        requires at { self.old.at ≡ At.After }
+        requires fits { Fits self.old }
+        requires inside { innermost self.old.nesting.items ≡ Some Open.Object }
+        ensures gives { step NESTING_LIMIT (state_view self.old) 44 ≡ Some (state_view self.new) }
+        ensures fits { Fits self.new }
+        ensures at { self.new.at ≡ At.Name }
+    {
+        self.at = At::Name;
+    }
+
+    /// The comma behind an item.
+    #[inline(always)]
+    fn expect_item(&mut self)
+        requires at { self.old.at ≡ At.After }
+        requires fits { Fits self.old }
+        requires inside { innermost self.old.nesting.items ≡ Some Open.Array }
+        ensures gives { step NESTING_LIMIT (state_view self.old) 44 ≡ Some (state_view self.new) }
+        ensures fits { Fits self.new }
+    {
+        self.at = At::Value;
+    }
+
+    /// The beginning of an object; false where it can't be taken.
+    #[inline(always)]
+    fn open_object(&mut self) -> bool
+        requires at { self.old.at ≡ At.Value }
+        requires fits { Fits self.old }
+        ensures gives { result ≡ true → step NESTING_LIMIT (state_view self.old) 123 ≡ Some (state_view self.new) }
+        ensures fits { result ≡ true → Fits self.new }
+        ensures at { result ≡ true → self.new.at ≡ At.FirstName }
+        ensures stays { result ≡ false → Stays self.old self.new }
+    {
+        self.open()
+    }
+
+    /// An object begins; false where no more can be open, or there is no memory for its node.
+    #[inline(always)]
+    fn open(&mut self) -> bool
+        ensures room { result ≡ true → length self.old.nesting.items < NESTING_LIMIT }
+        ensures puts { result ≡ true → Puts self.old (self.old.nesting.items ++ Open.Object ∷ []) (Node.Map 0) At.FirstName self.new }
+        ensures stays { result ≡ false → Stays self.old self.new }
+    {
+        if self.nesting.is_full() {
+            return false;
+        }
+        if let Err(_) = put_node(&mut self.nodes, Node::Map { length: 0 }) {
+            return false;
+        }
+        self.nesting.push(Open::Object);
+        self.at = At::FirstName;
+        true
+    }
+
+    /// The end of an object; false where it can't be taken.
+    #[inline(always)]
+    fn close_object(&mut self) -> bool
+        requires at { self.old.at ≡ At.After }
+        requires fits { Fits self.old }
+        requires inside { innermost self.old.nesting.items ≡ Some Open.Object }
+        ensures gives { result ≡ true → step NESTING_LIMIT (state_view self.old) 125 ≡ Some (state_view self.new) }
+        ensures fits { result ≡ true → Fits self.new }
+        ensures stays { result ≡ false → Stays self.old self.new }
+    {
+        self.close()
+    }
+
+    /// The end of an array; false where it can't be taken.
+    #[inline(always)]
+    fn close_array(&mut self) -> bool
+        requires at { self.old.at ≡ At.After }
+        requires fits { Fits self.old }
+        requires inside { innermost self.old.nesting.items ≡ Some Open.Array }
+        ensures gives { result ≡ true → step NESTING_LIMIT (state_view self.old) 93 ≡ Some (state_view self.new) }
+        ensures fits { result ≡ true → Fits self.new }
+        ensures stays { result ≡ false → Stays self.old self.new }
+    {
+        self.close()
+    }
+
+    /// The innermost object or array ends behind a value; false where there is no memory for its node.
+    #[inline(always)]
+    fn close(&mut self) -> bool
+        requires { self.old.at ≡ At.After }
+        ensures puts { result ≡ true → Puts self.old (outer self.old.nesting.items) Node.End At.After self.new }
+        ensures stays { result ≡ false → Stays self.old self.new }
+    {
+        if let Err(_) = put_node(&mut self.nodes, Node::End) {
+            return false;
+        }
+        self.nesting.pop();
+        true
+    }
+}
