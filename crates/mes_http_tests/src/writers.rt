@@ -55,17 +55,23 @@ fn write(alloc: Global, sink: &mut MemorySink, what: Written<'_>) -> Result<(), 
     }
 }
 
-/// A writer that takes all gets these bytes; one that stops behind so many of them gets those, and so it is told.
-fn expect_written<R: Abort + AllocGlobal>(
+/// A writer that takes all gets these bytes; one that stops behind any number of them gets those, and so it is told.
+fn expect_written<R: Abort + AllocGlobal>(rt: &R, what: Written<'_>, expected: &[u8]) {
+    let mut whole = MemorySink::new(rt.alloc(), 7);
+    assert_eq!(rt; write(rt.alloc(), &mut whole, what), Ok(()));
+    assert_eq!(rt; whole.bytes(), expected);
+    expect_stops(rt, what, MemoryStop::Fails, WriteWhy::Device, expected);
+    expect_stops(rt, what, MemoryStop::TakesNone, WriteWhy::Zero, expected);
+}
+
+/// A writer that stops so behind any number of these bytes gets those, and so it is told.
+fn expect_stops<R: Abort + AllocGlobal>(
     rt: &R,
     what: Written<'_>,
     stop: MemoryStop,
     why: WriteWhy,
     expected: &[u8],
 ) {
-    let mut whole = MemorySink::new(rt.alloc(), 7);
-    assert_eq!(rt; write(rt.alloc(), &mut whole, what), Ok(()));
-    assert_eq!(rt; whole.bytes(), expected);
     for good in 0..expected.len() {
         let mut sink = MemorySink::stopping_after(rt.alloc(), 7, good, stop);
         let sent = good as u64;
@@ -78,14 +84,7 @@ fn expect_written<R: Abort + AllocGlobal>(
 #[test]
 fn a_stream_is_answered(rt: HostRuntime) -> Result<(), Fail> {
     let expected = bytes_of(rt.alloc(), OK_LINES, b"")?;
-    let fails = MemoryStop::Fails;
-    expect_written(
-        &rt,
-        Written::Stream("s1"),
-        fails,
-        WriteWhy::Device,
-        &expected,
-    );
+    expect_written(&rt, Written::Stream("s1"), &expected);
     Ok(())
 }
 
@@ -115,14 +114,7 @@ const STATUSES: [(u16, &str); 6] = [
 fn a_status_is_answered(rt: HostRuntime) -> Result<(), Fail> {
     for (code, lines) in STATUSES {
         let expected = bytes_of(rt.alloc(), lines, b"")?;
-        let takes_none = MemoryStop::TakesNone;
-        expect_written(
-            &rt,
-            Written::Status(code),
-            takes_none,
-            WriteWhy::Zero,
-            &expected,
-        );
+        expect_written(&rt, Written::Status(code), &expected);
     }
     Ok(())
 }
@@ -135,14 +127,7 @@ const NO_STREAM: &str =
 fn a_call_is_a_request(rt: HostRuntime) -> Result<(), Fail> {
     for (stream, lines) in [(Some("s1"), CALL_LINES), (None, NO_STREAM)] {
         let expected = bytes_of(rt.alloc(), lines, CALL)?;
-        let fails = MemoryStop::Fails;
-        expect_written(
-            &rt,
-            Written::Call(stream, CALL),
-            fails,
-            WriteWhy::Device,
-            &expected,
-        );
+        expect_written(&rt, Written::Call(stream, CALL), &expected);
     }
     Ok(())
 }
