@@ -1,4 +1,5 @@
-"""The inputs of tests/fuzz, which are made at random: event streams, session logs, chunked bodies and requests, good ones and spoiled ones.
+"""The inputs of tests/fuzz, which are made at random: event streams, session logs, chunked bodies, requests and answers to a SUBSCRIBE, good
+ones and spoiled ones.
 
 Each maker takes a `random.Random`, so that a seed makes the same input again. The good ones follow the tables of docs/FORMAT.md.
 """
@@ -395,15 +396,21 @@ def chunked(pick):
     return Input("chunked", ended(pick, parts)[0], None)
 
 
-# ---- requests
+# ---- heads, requests and answers
 
 TARGET = b"POST /api/v1/scheduler HTTP/1.1"
 SUBSCRIBE = b'{"type":"SUBSCRIBE","subscribe":{"framework_info":{"user":"root","name":"n"}}}'
 GOOD_REQUEST = b"%s\r\nHost: h\r\nContent-Type: application/json\r\nContent-Length: %d\r\n\r\n%s" % (TARGET, len(SUBSCRIBE), SUBSCRIBE)
 STREAMS = [b"00000000-0000-4000-8000-%012x" % number for number in (1, 1, 1, 3)]
-STARTS = [
+REQUEST_LINES = [
     b"GET /api/v1/scheduler HTTP/1.1", b"post /api/v1/scheduler HTTP/1.1", b"POST /api/v1/scheduler?x HTTP/1.1", b"POST http://h/api/v1/scheduler HTTP/1.1",
     b"POST * HTTP/1.1", TARGET[:-1] + b"0", TARGET[:-3] + b"2.0", TARGET[:-9], b"POST  /api/v1/scheduler HTTP/1.1", b"HTTP/1.1 200 OK", b"", b"\x16\x03\x01",
+]
+OK_LINES = [b"HTTP/1.1 200 OK"] * 5 + [b"HTTP/1.0 200", b"HTTP/1.1 200 ", b"HTTP/1.1 200 \xff\t~ "]
+STATUS_LINES = [
+    b"HTTP/1.1 403 Forbidden", b"HTTP/1.1 202 Accepted", b"HTTP/1.1 100 Continue", b"HTTP/1.1 099 x", b"HTTP/1.1 000", b"HTTP/1.1 999", b"HTTP/1.1 20 OK",
+    b"HTTP/1.1 2000 OK", b"HTTP/1.1  200 OK", b"HTTP/1.1\t200 OK", b"HTTP/1.1 200\tOK", b"HTTP/1.1 200 O\0K", b" HTTP/1.1 200 OK", b"HTTP/2 200", b"HTTP/1.2 200 OK",
+    b"http/1.1 200 OK", b"\n\r\nHTTP/1.1 200 OK", b"HTTP/1.1 200 " + b"O" * 16384, b"\r\n" * 8192, TARGET, b"", b"\x15\x03\x03",
 ]
 FIELDS = [
     b"Transfer-Encoding: chunked", b"transfer-encoding: identity", b"Transfer-Encoding:", b"Content-Length: +47", b"Content-Length: 0x2f",
@@ -420,6 +427,15 @@ def field(pick, name, value):
     return name + b":" + pick.choice([b" ", b" ", b"", b"\t ", b"   "]) + value + pick.choice([b"", b"", b"", b" ", b"\t"])
 
 
+def head(pick, start, fields, wild):
+    """The bytes of a head with this first line and these fields in any order; where it is wild, other fields stand between or in their places."""
+    pick.shuffle(fields)
+    for _ in range(pick.choice([0, 1, 1, 2]) if wild else 0):
+        at = pick.randrange(len(fields) + 1)
+        fields[at : at + pick.randrange(2)] = [pick.choice(FIELDS + fields)] * pick.choice([0, 1, 1, 1, 2])
+    return pick.choice([b"", b"", b"", b"\r\n"]) + pick.choice([b"\r\n"] * 4 + [b"\n"]).join([start, *fields, b"", b""])
+
+
 def request(pick):
     """The bytes of a request, and the type of its call, or none where it may be spoiled. Few begin or end a stream, which ends much."""
     wild = pick.random() < 0.65
@@ -433,12 +449,7 @@ def request(pick):
     fields.append(field(pick, b"Content-Length", pick.choice([b"%d", b"%d", b"%020d"]) % size))
     if pick.random() < 0.7:
         fields.append(field(pick, b"Mesos-Stream-Id", pick.choice(STREAMS)))
-    pick.shuffle(fields)
-    for _ in range(pick.choice([0, 1, 1, 2]) if wild else 0):
-        at = pick.randrange(len(fields) + 1)
-        fields[at : at + pick.randrange(2)] = [pick.choice(FIELDS + fields)] * pick.choice([0, 1, 1, 1, 2])
-    start = pick.choice(STARTS) if wild and pick.random() < 0.2 else TARGET
-    data = pick.choice([b"", b"", b"", b"\r\n"]) + pick.choice([b"\r\n"] * 4 + [b"\n"]).join([start, *fields, b"", b""]) + body
+    data = head(pick, pick.choice(REQUEST_LINES) if wild and pick.random() < 0.2 else TARGET, fields, wild) + body
     while wild and pick.random() < 0.25:
         data = damaged(pick, data)
     return data, None if wild else name
@@ -448,4 +459,18 @@ def requests(pick):
     return Input("request", [request(pick) for _ in range(40)], None)
 
 
-MAKERS = {"stream": stream, "chunked": chunked, "log": log, "request": requests}
+def answer(pick):
+    """The bytes of an answer to a SUBSCRIBE, whose head may be spoiled, and behind it any chunked body."""
+    wild = pick.random() < 0.6
+    fields = [
+        field(pick, b"Content-Type", pick.choice([b"application/json", b"Application/JSON ;charset=utf-8"])),
+        field(pick, b"Transfer-Encoding", pick.choice([b"chunked", b"chunked", b"Chunked"])),
+        field(pick, b"Mesos-Stream-Id", pick.choice([b"s1", STREAMS[0], b"!~" * 64])),
+    ]
+    data = head(pick, pick.choice(STATUS_LINES if wild and pick.random() < 0.25 else OK_LINES), fields, wild)
+    while wild and pick.random() < 0.3:
+        data = damaged(pick, data)
+    return Input("answer", data + chunked(pick).data, None)
+
+
+MAKERS = {"stream": stream, "chunked": chunked, "log": log, "request": requests, "answer": answer}
