@@ -12,4 +12,7 @@ pub mod ReadListLemmas
 pub mod EitherLemmas
 pub mod RowListLemmas
 pub mod ChoiceLemmas
-pub mod FirstFaultLemmas
+pub mod ValueFaults
+pub mod RowFaults
+pub mod ListFaults
+pub mod LabelFaults

@@ -2,7 +2,7 @@
 -- what is read. The laws of src/first_fault.rt say that reading tells exactly these.
 use Rattle.std.specs.Prelude.{◌≡◌, ◌≢◌, ◌⊎◌, ◌↔◌, ℕ, ◌≤◌, Bool, true, false, List, [], ◌∷◌, ◌++◌, length, All, Ok, Err}
 use Rattle.mes_json.specs.Tree.{Tree, Items, Members}
-use Rattle.mes_json.specs.Tree.Tree.{boolean, string, array, object}
+use Rattle.mes_json.specs.Tree.Tree.{boolean, number, string, array, object}
 use Rattle.mes_json.specs.View.{items_of}
 use Rattle.mes_part.specs.Paths.{Place}
 use Rattle.mes_part.specs.Paths.Place.{index}
@@ -20,9 +20,7 @@ use Rattle.mes_part.specs.declared.field.FieldWhy.TheVariants.{Missing, Twice, W
 abbrev pub IsAt : List Place → FieldWhy → FieldFault → Type 0
 IsAt at why f = (f.path ≡ at) × (f.why ≡ why)
 
--- it is not what it must be: its JSON kind is another
-abbrev pub OtherKind : Type 0 → List Place → FieldFault → Type 0
-OtherKind Is at f = ¬ Is × IsAt at WrongKind f
+-- ---- single values
 
 abbrev pub IsString : Tree → Type 0
 IsString t = (s : List ℕ) × (t ≡ string s)
@@ -30,11 +28,26 @@ IsString t = (s : List ℕ) × (t ≡ string s)
 abbrev pub IsBoolean : Tree → Type 0
 IsBoolean t = (x : Bool) × (t ≡ boolean x)
 
+abbrev pub IsNumber : Tree → Type 0
+IsNumber t = (s : List ℕ) × (t ≡ number s)
+
 abbrev pub IsArray : Tree → Type 0
 IsArray t = (ts : Items) × (t ≡ array ts)
 
 abbrev pub IsObject : Tree → Type 0
 IsObject t = (ms : Members) × (t ≡ object ms)
+
+-- it is not what it must be: its JSON kind is another
+abbrev pub OtherKind : Type 0 → List Place → FieldFault → Type 0
+OtherKind Is at f = ¬ Is × IsAt at WrongKind f
+
+-- the tree is some value
+abbrev pub IsRead : {V : Type 0} → Kind V → Tree → Type 0
+IsRead {V} k t = (v : V) × k.Reads t v
+
+-- its JSON kind is another; or it is no value, for this reason
+abbrev pub ValueBreaks : {V : Type 0} → (Tree → Type 0) → FieldWhy → Kind V → List Place → Tree → FieldFault → Type 0
+ValueBreaks Is why k at t f = OtherKind (Is t) at f ⊎ (Is t × ¬ IsRead k t × IsAt at why f)
 
 -- ---- a row: the member of one name
 
@@ -77,10 +90,6 @@ MessageBreaks r at t f =
     ⊎ ((ms : Members) × (t ≡ object ms) × RowsBreak r at ms f)
 
 -- ---- lists
-
--- the tree is some value
-abbrev pub IsRead : {V : Type 0} → Kind V → Tree → Type 0
-IsRead {V} k t = (v : V) × k.Reads t v
 
 -- the first of the items that is no value has the fault, under its index
 abbrev pub ItemBreaks : {V : Type 0} → Kind V → List Place → Items → FieldFault → Type 0

@@ -7,16 +7,18 @@ ghost use Rattle.mes_json.specs.Tree.Tree.{object};
 ghost use Rattle.mes_part.specs.Paths.{Place};
 ghost use Rattle.mes_part.specs.Kinds.{Breaks};
 ghost use Rattle.mes_part.specs.Leaves.{texts, booleans, objects, left_out};
+ghost use Rattle.mes_part.specs.Numbers.{whole, signed32, fixed};
+ghost use Rattle.mes_part.specs.Binary.{base64_bytes};
 ghost use Rattle.mes_part.specs.Lists.{list_of};
 ghost use Rattle.mes_part.specs.Labels.{label};
 ghost use Rattle.mes_part.specs.EitherLists.{either_list};
 ghost use Rattle.mes_part.specs.Rows.{Table, need, maybe, many, flag, no_rows, ◌⨾◌, mapped, message};
 ghost use Rattle.mes_part.specs.Choices.{Choice, type_name, no_other, others, case, typed};
 ghost use Rattle.mes_part.specs.Fields.{below};
-ghost use Rattle.mes_part.specs.FirstFaults.{no_values, no_values_exact, no_type, AreRead, IsExact, IsAt, IsString, IsBoolean, IsObject, OtherKind, RowsBreak, MaybeBreaks, NeedBreaks, JoinedBreak, MessageBreaks, ListBreaks, EitherListBreaks, ChoiceBreaks, TypedBreak, CaseBreaks};
+ghost use Rattle.mes_part.specs.FirstFaults.{no_values, no_values_exact, no_type, AreRead, IsExact, IsAt, IsString, IsBoolean, IsNumber, IsObject, OtherKind, ValueBreaks, RowsBreak, MaybeBreaks, NeedBreaks, JoinedBreak, MessageBreaks, ListBreaks, EitherListBreaks, ChoiceBreaks, TypedBreak, CaseBreaks};
 ghost use Rattle.mes_part.specs.declared.field.FieldFault.{FieldFault};
 ghost use Rattle.mes_part.specs.declared.field.FieldWhy.{FieldWhy};
-ghost use Rattle.mes_part.specs.declared.field.FieldWhy.TheVariants.{LeftOut};
+ghost use Rattle.mes_part.specs.declared.field.FieldWhy.TheVariants.{BadBase64, NumberRange, LeftOut};
 
 use crate::part::Part;
 use std::marker::Brand;
@@ -44,10 +46,19 @@ impl<F> AnyChoice<F> for Brand {
 }
 
 /// A text, a truth value, an object kept whole: another JSON kind stands in its place.
-pub fn leaf_breaks()
+pub fn kind_breaks()
     ensures text { (at : List Place) (t : Tree) (f : FieldFault) → Breaks texts at t f ↔ OtherKind (IsString t) at f }
     ensures truth { (at : List Place) (t : Tree) (f : FieldFault) → Breaks booleans at t f ↔ OtherKind (IsBoolean t) at f }
     ensures object { (at : List Place) (t : Tree) (f : FieldFault) → Breaks objects at t f ↔ OtherKind (IsObject t) at f }
+{}
+
+/// A number, or bytes: another JSON kind stands in its place, or a number out of range, or a string that is no base64.
+pub fn value_breaks()
+    ensures whole { (at : List Place) (t : Tree) (f : FieldFault) → Breaks whole at t f ↔ ValueBreaks IsNumber NumberRange whole at t f }
+    ensures signed { (at : List Place) (t : Tree) (f : FieldFault) → Breaks signed32 at t f ↔ ValueBreaks IsNumber NumberRange signed32 at t f }
+    ensures units { (places : ℕ) (at : List Place) (t : Tree) (f : FieldFault)
+        → Breaks (fixed places) at t f ↔ ValueBreaks IsNumber NumberRange (fixed places) at t f }
+    ensures bytes { (at : List Place) (t : Tree) (f : FieldFault) → Breaks base64_bytes at t f ↔ ValueBreaks IsString BadBase64 base64_bytes at t f }
 {}
 
 /// A member that must be there: it stands twice, or is missing, or its value has the fault.

@@ -1,4 +1,4 @@
-use Rattle.mes_part.proofs.FirstFaultLemmas.{case_breaks, no_other_breaks}
+use Rattle.mes_part.proofs.RowFaults.{case_breaks, no_other_breaks}
 use Rattle.mes_part.proofs.first_fault.case_breaks.Goals as goal
 
 pub returns-clause-of : goal.returns-clause-of

@@ -1,4 +1,4 @@
-use Rattle.mes_part.proofs.FirstFaultLemmas.{either_list_breaks}
+use Rattle.mes_part.proofs.ListFaults.{either_list_breaks}
 use Rattle.mes_part.proofs.first_fault.either_list_breaks.Goals as goal
 
 pub returns : goal.returns

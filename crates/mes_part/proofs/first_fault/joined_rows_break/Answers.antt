@@ -1,4 +1,4 @@
-use Rattle.mes_part.proofs.FirstFaultLemmas.{joined_breaks}
+use Rattle.mes_part.proofs.RowFaults.{joined_breaks}
 use Rattle.mes_part.proofs.first_fault.joined_rows_break.Goals as goal
 
 pub returns-clause-both : goal.returns-clause-both

@@ -1,4 +1,4 @@
-use Rattle.mes_part.proofs.FirstFaultLemmas.{label_is_broken}
+use Rattle.mes_part.proofs.LabelFaults.{label_is_broken}
 use Rattle.mes_part.proofs.first_fault.label_breaks.Goals as goal
 
 pub returns : goal.returns

@@ -1,4 +1,5 @@
-use Rattle.mes_part.proofs.FirstFaultLemmas.{maybe_breaks, left_out_breaks}
+use Rattle.mes_part.proofs.RowFaults.{maybe_breaks}
+use Rattle.mes_part.proofs.ValueFaults.{left_out_breaks}
 use Rattle.mes_part.specs.Leaves.{left_out}
 use Rattle.mes_part.proofs.first_fault.left_out_row_breaks.Goals as goal
 

@@ -1,4 +1,4 @@
-use Rattle.mes_part.proofs.FirstFaultLemmas.{list_breaks}
+use Rattle.mes_part.proofs.ListFaults.{list_breaks}
 use Rattle.mes_part.proofs.first_fault.list_breaks.Goals as goal
 
 pub returns : goal.returns

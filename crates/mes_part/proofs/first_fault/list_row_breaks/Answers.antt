@@ -1,4 +1,4 @@
-use Rattle.mes_part.proofs.FirstFaultLemmas.{many_breaks}
+use Rattle.mes_part.proofs.RowFaults.{many_breaks}
 use Rattle.mes_part.proofs.first_fault.list_row_breaks.Goals as goal
 
 pub returns : goal.returns

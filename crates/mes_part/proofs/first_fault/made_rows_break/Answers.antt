@@ -1,4 +1,4 @@
-use Rattle.mes_part.proofs.FirstFaultLemmas.{mapped_breaks}
+use Rattle.mes_part.proofs.RowFaults.{mapped_breaks}
 use Rattle.mes_part.proofs.first_fault.made_rows_break.Goals as goal
 
 pub returns : goal.returns

@@ -1,4 +1,4 @@
-use Rattle.mes_part.proofs.FirstFaultLemmas.{message_breaks}
+use Rattle.mes_part.proofs.RowFaults.{message_breaks}
 use Rattle.mes_part.proofs.first_fault.message_breaks.Goals as goal
 
 pub returns : goal.returns

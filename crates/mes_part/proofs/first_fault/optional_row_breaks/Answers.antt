@@ -1,4 +1,4 @@
-use Rattle.mes_part.proofs.FirstFaultLemmas.{maybe_breaks}
+use Rattle.mes_part.proofs.RowFaults.{maybe_breaks}
 use Rattle.mes_part.proofs.first_fault.optional_row_breaks.Goals as goal
 
 pub returns : goal.returns

@@ -1,5 +1,5 @@
-use Rattle.mes_part.proofs.FirstFaultLemmas.{texts_break, booleans_break, objects_break}
-use Rattle.mes_part.proofs.first_fault.leaf_breaks.Goals as goal
+use Rattle.mes_part.proofs.ValueFaults.{texts_break, booleans_break, objects_break}
+use Rattle.mes_part.proofs.first_fault.kind_breaks.Goals as goal
 
 pub returns-clause-text : goal.returns-clause-text
 returns-clause-text c = texts_break
