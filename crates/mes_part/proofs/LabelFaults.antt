@@ -8,18 +8,12 @@ use Rattle.mes_part.specs.Kinds.{Breaks}
 use Rattle.mes_part.specs.Leaves.{texts}
 use Rattle.mes_part.specs.Rows.{need, maybe, no_rows, ◌⨾◌, mapped}
 use Rattle.mes_part.specs.KindLaws.{lawful_texts}
-use Rattle.mes_part.specs.RowLaws.{LawfulTable, lawful_need, lawful_maybe}
+use Rattle.mes_part.specs.RowLaws.{lawful_need, lawful_maybe}
 use Rattle.mes_part.specs.Layouts.{kind_of}
 use Rattle.mes_part.specs.Labels.{label_layout, label}
-use Rattle.mes_part.specs.FirstFaults.{AreRead, IsExact, IsObject, OtherKind, MaybeBreaks, NeedBreaks, RowsBreak, JoinedBreak, MessageBreaks}
-use Rattle.mes_part.proofs.RowFaults.{need_breaks, maybe_breaks, joined_breaks, mapped_breaks, message_breaks}
+use Rattle.mes_part.specs.FirstFaults.{AreRead, IsObject, OtherKind, MaybeBreaks, NeedBreaks, RowsBreak, JoinedBreak, MessageBreaks}
+use Rattle.mes_part.proofs.RowFaults.{need_breaks, maybe_breaks, exact_rows, joined_breaks, mapped_breaks, message_breaks}
 use Rattle.mes_part.specs.declared.field.FieldFault.{FieldFault}
-
-key_exact : IsExact (need (codes "key") texts)
-key_exact at ms x = let lawful : LawfulTable (need (codes "key") texts) 1 = lawful_need lawful_texts in (lawful.sound at ms x, lawful.complete at ms x)
-
-value_exact : IsExact (maybe (codes "value") texts)
-value_exact at ms x = let lawful : LawfulTable (maybe (codes "value") texts) 1 = lawful_maybe lawful_texts in (lawful.sound at ms x, lawful.complete at ms x)
 
 abbrev LabelRowsBreak : List Place → Members → FieldFault → Type 0
 LabelRowsBreak at ms f = NeedBreaks texts (codes "key") at ms f ⊎ (AreRead (need (codes "key") texts) ms × MaybeBreaks texts (codes "value") at ms f)
@@ -27,10 +21,10 @@ LabelRowsBreak at ms f = NeedBreaks texts (codes "key") at ms f ⊎ (AreRead (ne
 label_rows_break : (at : List Place) (ms : Members) (f : FieldFault) → RowsBreak label_layout.rows.table at ms f ↔ LabelRowsBreak at ms f
 label_rows_break at ms f = (to, from) where
   both : RowsBreak label_layout.rows.table at ms f ↔ JoinedBreak (need (codes "key") texts) (maybe (codes "value") texts ⨾ no_rows) at ms f
-  both = joined_breaks (need (codes "key") texts) (maybe (codes "value") texts ⨾ no_rows) key_exact at ms f
+  both = joined_breaks (need (codes "key") texts) (maybe (codes "value") texts ⨾ no_rows) (exact_rows (lawful_need lawful_texts)) at ms f
 
   behind : RowsBreak (maybe (codes "value") texts ⨾ no_rows) at ms f ↔ JoinedBreak (maybe (codes "value") texts) no_rows at ms f
-  behind = joined_breaks (maybe (codes "value") texts) no_rows value_exact at ms f
+  behind = joined_breaks (maybe (codes "value") texts) no_rows (exact_rows (lawful_maybe lawful_texts)) at ms f
 
   to : RowsBreak label_layout.rows.table at ms f → LabelRowsBreak at ms f
   to e = elim (both.0 e) [

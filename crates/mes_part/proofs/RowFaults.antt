@@ -137,6 +137,10 @@ flag_breaks n at ms f =
 
 -- ---- rows together
 
+-- rows that have a law are read as their relation says
+pub exact_rows : {F : Type 0} {r : Table F} {steps : ℕ} → LawfulTable r steps → IsExact r
+exact_rows lawful at ms x = (lawful.sound at ms x, lawful.complete at ms x)
+
 pub joined_breaks : {F G : Type 0} (r : Table F) (s : Table G) → IsExact r → (at : List Place) (ms : Members) (f : FieldFault)
     → RowsBreak (r ⨾ s) at ms f ↔ JoinedBreak r s at ms f
 joined_breaks {F} {G} r s exact at ms f = (to, from) where
