@@ -87,7 +87,7 @@ pub fn left_out_row_breaks()
     ensures value { (at : List Place) (t : Tree) (f : FieldFault) → Breaks left_out at t f ↔ IsAt at LeftOut f }
 {}
 
-/// Rows one behind the other: those in front have the fault, or they are read and those behind have it. No row has none.
+/// Rows one behind the other: those in front have the fault, or they are read and those behind have it. Without rows there is no fault.
 pub fn joined_rows_break<F, G, R: AnyRows<F>, S: AnyRows<G>>()
     ensures both { (at : List Place) (ms : Members) (f : FieldFault) → RowsBreak (R.table ⨾ S.table) at ms f ↔ JoinedBreak R.table S.table at ms f }
     ensures none { (at : List Place) (ms : Members) (f : FieldFault) → RowsBreak no_rows at ms f → ⊥ }
