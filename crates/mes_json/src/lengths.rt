@@ -29,15 +29,14 @@ impl Node {
     }
 }
 
-/// Has each array and object on the tape tell how many nodes it has. Goes once over the nodes, from the last to the first.
-pub(crate) fn tell_lengths(nodes: &mut [Node])
+/// Has each array and object on the tape tell how many nodes it has. Goes once over the nodes, from the last to the first. The room for
+/// ends is the caller's, so that it is not cleared for each tape.
+pub(crate) fn tell_lengths(nodes: &mut [Node], ends: &mut Ends)
     ensures held { (texts : List ℕ) → tokens_held texts nodes.new ≡ tokens_held texts nodes.old }
     ensures spans { (texts : List ℕ) → AllByRecursion (HasSpan texts) nodes.old → AllByRecursion (HasSpan texts) nodes.new }
     ensures told { TellLengths nodes.new }
 {
-    let mut ends = Ends {
-        behind: ArrayVec::new(),
-    };
+    ends.behind.clear();
     let count = nodes.len();
     let mut place = count;
     while place > 0 {
@@ -48,12 +47,19 @@ pub(crate) fn tell_lengths(nodes: &mut [Node])
 
 /// The ends of the arrays and objects that begin before a place.
 #[derive(Drop)]
-struct Ends {
-    /// How many nodes stand behind each, the nearest end last: in 32 bits, since the room is cleared for each record.
+pub(crate) struct Ends {
+    /// How many nodes stand behind each, the nearest end last.
     behind: ArrayVec<u32, NESTING_LIMIT>,
 }
 
 impl Ends {
+    /// Room for the ends of a tape. Takes no memory.
+    pub(crate) fn new() -> Ends {
+        Ends {
+            behind: ArrayVec::new(),
+        }
+    }
+
     /// Has the node that stands before so many others tell its length, where that is known.
     #[inline(always)]
     fn pass(&mut self, node: &mut Node, behind: usize)

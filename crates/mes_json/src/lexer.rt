@@ -12,6 +12,7 @@ ghost use Rattle.mes_json.specs.Lexer.{HasLexed, HasNoMemory, IsOutOfMemory, IsL
 ghost use Rattle.mes_json.specs.declared.fault.ReadFault.TheVariants.{NoMemory as no_memory};
 
 use crate::fault::{ReadFault, TextFault, Why};
+use crate::lengths::Ends;
 use crate::limits::NESTING_LIMIT;
 use crate::memory::{NoMemory, NoMemoryAt};
 use crate::reader::Reader;
@@ -41,6 +42,8 @@ pub struct Lexer {
     /// How many bytes were taken before a fault, as far as a u64 counts.
     count: u64,
     state: LexerState,
+    /// Room that is used when a tape is told how long its arrays and objects are.
+    ends: Ends,
 }
 
 // Not inlined, so that taking a byte makes no room for what is let go here.
@@ -64,7 +67,7 @@ impl LexerState {
 
 impl LexerState {
     /// The tape of the value that the bytes spell, of which there were so many, or their fault. After it the state is of no use.
-    fn take(&mut self, alloc: Global, count: u64) -> Result<Tape, ReadFault>
+    fn take(&mut self, alloc: Global, count: u64, ends: &mut Ends) -> Result<Tape, ReadFault>
         requires { IsPossible (count, self.old) }
         ensures read { (p : List ℕ) → StandsFor count self.old p → IfOk result (λ tape. (t : Tree) × IsText NESTING_LIMIT p t × (tape ≡ tokens t)) }
         ensures only { (p : List ℕ) → StandsFor count self.old p → (t : Tree) → IsText NESTING_LIMIT p t
@@ -74,7 +77,7 @@ impl LexerState {
         ensures memory { HasNoMemory self.old → result ≡ Err ReadFault.NoMemory }
     {
         match self {
-            LexerState::Reading(reader) => match reader.take_tape(alloc)? {
+            LexerState::Reading(reader) => match reader.take_tape(alloc, ends)? {
                 Some(tape) => Ok(tape),
                 None => Err(ReadFault::Text(TextFault {
                     byte: count,
@@ -144,6 +147,7 @@ impl Lexer {
             alloc,
             count: 0,
             state: LexerState::Reading(reader),
+            ends: Ends::new(),
         }
     }
 
@@ -277,7 +281,7 @@ impl Lexer {
         ensures memory { IsOutOfMemory self.new → ⊥ }
     {
         let alloc = self.alloc;
-        let tape = self.state.take(alloc, self.count);
+        let tape = self.state.take(alloc, self.count, &mut self.ends);
         self.state.restart(alloc, Vec::new(alloc), Vec::new(alloc));
         self.count = 0;
         tape

@@ -12,6 +12,7 @@ use crate::digits::{digit_run, keeps_on};
 use crate::escape::{Escape, Move, whole_escape};
 use crate::fault::Why;
 use crate::kind::Kind;
+use crate::lengths::Ends;
 use crate::limits::NESTING_LIMIT;
 use crate::memory::NoMemory;
 use crate::nesting::Open;
@@ -259,7 +260,11 @@ impl Reader {
     }
 
     /// The tape of what was read, where that is a whole value. After it the reader holds nothing of use.
-    pub(crate) fn take_tape(&mut self, alloc: Global) -> Result<Option<Tape>, NoMemory>
+    pub(crate) fn take_tape(
+        &mut self,
+        alloc: Global,
+        ends: &mut Ends,
+    ) -> Result<Option<Tape>, NoMemory>
         requires fits { Fits self.old }
         requires reached { Reached self.old }
         ensures { IfOk result (λ tape. tape ≡ option_map tokens (finish (state_view self.old))) }
@@ -267,7 +272,7 @@ impl Reader {
         if self.ends()? {
             let text = mem::replace(&mut self.text, Vec::new(alloc));
             let nodes = mem::replace(&mut self.nodes, Vec::new(alloc));
-            let tape = Tape::new(text, nodes);
+            let tape = Tape::new(text, nodes, ends);
             Ok(Some(tape))
         } else {
             Ok(None)
@@ -280,7 +285,7 @@ impl Reader {
         requires reached { Reached self }
         ensures { IfOk result (λ tape. tape ≡ option_map tokens (finish (state_view self))) }
     {
-        self.take_tape(alloc)
+        self.take_tape(alloc, &mut Ends::new())
     }
 
     /// Begins again, in memory that is there.

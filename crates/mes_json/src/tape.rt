@@ -7,7 +7,7 @@ ghost use Rattle.mes_json.specs.Cursor.{tokens_held};
 mod spell;
 
 use crate::cursor::Element;
-use crate::lengths::tell_lengths;
+use crate::lengths::{Ends, tell_lengths};
 use crate::limits::{ROOM_KEPT, TEXTS_MOST};
 use crate::memory::NoMemory;
 use std::alloc::Global;
@@ -68,11 +68,11 @@ impl Model for Tape {
 
 impl Tape {
     /// The tape of these nodes, told how long its arrays and objects are.
-    pub(crate) fn new(texts: Vec<u8>, mut nodes: Vec<Node>) -> Tape
+    pub(crate) fn new(texts: Vec<u8>, mut nodes: Vec<Node>, ends: &mut Ends) -> Tape
         requires { AllByRecursion (HasSpan texts.items) nodes.items }
         ensures { result ≡ tokens_held texts.items nodes.items }
     {
-        tell_lengths(&mut nodes);
+        tell_lengths(&mut nodes, ends);
         Tape { texts, nodes }
     }
 

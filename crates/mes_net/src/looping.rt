@@ -106,7 +106,9 @@ fn answer<O: Sink>(
         &mut dropped,
     );
     if is_whole(&served) {
-        show(alloc, pair, written.bytes(), out)
+        let asked = reader.counts();
+        let was_asked = asked.failures == 0 && asked.idle == 0;
+        show(alloc, pair, written.bytes(), was_asked, out)
     } else {
         tell_unanswered(out, written.counts().failures)
     }
@@ -122,12 +124,18 @@ fn is_whole(served: &Result<Served, WriteFault>) -> bool
     }
 }
 
-/// Shows the answer, which the other end writes in turn. Where memory was refused there is none, which is told.
-fn show<O: Sink>(alloc: Global, pair: &Pair, bytes: &[u8], out: &mut O) -> Ended
+/// Shows the answer, which the other end writes in turn. Where the request came whole and there is none, memory was refused, which is told.
+fn show<O: Sink>(
+    alloc: Global,
+    pair: &Pair,
+    bytes: &[u8],
+    was_asked: bool,
+    out: &mut O,
+) -> Ended
     ensures { ShowsSome (device_of O.written O.counts out.old) (device_of O.written O.counts out.new) result
         ⊎ LacksMemory (device_of O.written O.counts out.old) (device_of O.written O.counts out.new) result }
 {
-    if bytes.is_empty() {
+    if bytes.is_empty() && was_asked {
         return out_of_memory(out);
     }
     // What is written is to go out at once, not to wait for what comes behind it.

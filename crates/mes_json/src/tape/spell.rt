@@ -6,6 +6,7 @@ ghost use Rattle.mes_json.specs.Cursor.{token_of};
 ghost use Rattle.mes_json.specs.Spell.{HasNoText, text_token, IsTextOf};
 ghost use Rattle.mes_json.specs.View.{view, items_view, members_view};
 
+use crate::lengths::Ends;
 use crate::memory::NoMemory;
 use crate::tape::{Node, Tape, text_place};
 use crate::text::Text;
@@ -80,7 +81,7 @@ impl Spelling {
     fn into_tape(self) -> Tape
         ensures { result ≡ self }
     {
-        Tape::new(self.texts, self.nodes)
+        Tape::new(self.texts, self.nodes, &mut Ends::new())
     }
 
     #[cycle(spell)]

@@ -3,7 +3,7 @@ use Rattle.mes_json.proofs.LengthsLemmas.{telling_none, telling_more}
 use Rattle.mes_json.proofs.lengths.tell_lengths.Goals as goal
 
 pub loop-place-init : goal.loop-place-init
-loop-place-init c = (omega arith, refl, rw c.new.ensures (telling_none c.args.nodes.now (length c.args.nodes.now) refl))
+loop-place-init c = (omega arith, refl, rw c.clear.ensures (telling_none c.args.nodes.now (length c.args.nodes.now) refl))
 
 size : (c : goal.After-pass) → length (drop c.loop-place.place c.loop-place.nodes) ≡ (length c.args.nodes.now - 1) - (c.loop-place.place - 1)
 size c = omega (arith, length-drop c.loop-place.place c.loop-place.nodes, c.loop-place.invariant.0, c.loop-place.invariant.1, c.loop-place-test.true)

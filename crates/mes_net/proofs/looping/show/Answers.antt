@@ -1,8 +1,8 @@
 use Rattle.std.proofs.Common.{inl, inr}
 use Rattle.mes_net.proofs.looping.show.Goals as goal
 
-pub returns-then-is_empty : goal.returns-then-is_empty
-returns-then-is_empty g c = inr c.out_of_memory.ensures
+pub returns-then-was_asked : goal.returns-then-was_asked
+returns-then-was_asked g c = inr c.out_of_memory.ensures
 
 pub returns-in-Ok : goal.returns-in-Ok
 returns-in-Ok g c = inl c.show_from.ensures
