@@ -125,13 +125,7 @@ fn is_whole(served: &Result<Served, WriteFault>) -> bool
 }
 
 /// Shows the answer, which the other end writes in turn. Where the request came whole and there is none, memory was refused, which is told.
-fn show<O: Sink>(
-    alloc: Global,
-    pair: &Pair,
-    bytes: &[u8],
-    was_asked: bool,
-    out: &mut O,
-) -> Ended
+fn show<O: Sink>(alloc: Global, pair: &Pair, bytes: &[u8], was_asked: bool, out: &mut O) -> Ended
     ensures { ShowsSome (device_of O.written O.counts out.old) (device_of O.written O.counts out.new) result
         ⊎ LacksMemory (device_of O.written O.counts out.old) (device_of O.written O.counts out.new) result }
 {
