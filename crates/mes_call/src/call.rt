@@ -3,6 +3,7 @@ ghost use Rattle.std.specs.Prelude.{◌≡◌, ◌+◌, ◌≤◌, [], ◌∷◌
 ghost use Rattle.mes_part.specs.Tree.{Members};
 ghost use Rattle.mes_part.specs.Tree.Tree.{string};
 ghost use Rattle.mes_part.specs.View.{view};
+ghost use Rattle.mes_part.specs.Appended.{AppendsMembers};
 ghost use Rattle.mes_part.specs.Choices.{type_name};
 ghost use Rattle.mes_part.specs.Fields.{values_named};
 ghost use Rattle.mes_part.specs.FoundRows.{IsFound};
@@ -18,9 +19,9 @@ use mes_call_body::{Accept, Acknowledge, Decline, Kill, Reconcile, Shutdown, Sub
 use mes_frame::Limit;
 use mes_part::json::{self, Element, NoMemory, Text};
 use mes_part::{
-    Choice, FieldWhy, Found, Part, PartFault, Path, STEPS_MOST, Trail, copy_some, left_out,
-    optional, put, put_some, put_type, read_part, read_typed, required, type_of, type_refusal,
-    typed_tree,
+    Choice, FieldWhy, Found, Part, PartFault, Path, STEPS_MOST, Trail, append_case, append_row,
+    append_some, append_type, copy_some, deeper, left_out, optional, put, put_some, put_type,
+    read_part, read_typed, required, type_of, type_refusal, typed_text, typed_tree,
 };
 use mes_record::{EncodeFault, Message, RecordFault, canonical_bytes, read_bytes};
 use mes_resource::Id;
@@ -276,6 +277,38 @@ impl Choice for Call {
         }
     }
 
+    fn append_choice(&self, alloc: Global, out: &mut Vec<u8>) -> Result<u64, NoMemory> {
+        match self {
+            Call::Subscribe { framework_id, body } => {
+                append_subscribe(alloc, framework_id, body, out)
+            }
+            Call::Accept { framework_id, body } => {
+                append_call(alloc, "ACCEPT", framework_id, "accept", body, out)
+            }
+            Call::Decline { framework_id, body } => {
+                append_call(alloc, "DECLINE", framework_id, "decline", body, out)
+            }
+            Call::Revive { framework_id } => append_head(alloc, "REVIVE", framework_id, out),
+            Call::Kill { framework_id, body } => {
+                append_call(alloc, "KILL", framework_id, "kill", body, out)
+            }
+            Call::Acknowledge { framework_id, body } => {
+                append_call(alloc, "ACKNOWLEDGE", framework_id, "acknowledge", body, out)
+            }
+            Call::Reconcile { framework_id, body } => {
+                append_call(alloc, "RECONCILE", framework_id, "reconcile", body, out)
+            }
+            Call::Teardown { framework_id } => append_head(alloc, "TEARDOWN", framework_id, out),
+            Call::Suppress { framework_id } => append_head(alloc, "SUPPRESS", framework_id, out),
+            Call::Shutdown { framework_id, body } => {
+                append_call(alloc, "SHUTDOWN", framework_id, "shutdown", body, out)
+            }
+            Call::Message { framework_id, body } => {
+                append_call(alloc, "MESSAGE", framework_id, "message", body, out)
+            }
+        }
+    }
+
     fn copy_choice(&self, alloc: Global) -> Result<Call, NoMemory> {
         match self {
             Call::Subscribe { framework_id, body } => Ok(Call::Subscribe {
@@ -346,6 +379,11 @@ impl Part for Call {
     #[tactic(auto, using(crate::specs::Calls::call_back), unfolding(crate::specs::Calls::call))]
     fn tree(&self, alloc: Global) -> Result<json::Json, NoMemory> {
         typed_tree(alloc, self)
+    }
+
+    #[tactic(auto, using(crate::specs::Calls::call_back), unfolding(crate::specs::Calls::call))]
+    fn write_json(&self, alloc: Global, out: &mut Vec<u8>) -> Result<u64, NoMemory> {
+        typed_text(alloc, self, out)
     }
 
     fn copy(&self, alloc: Global) -> Result<Call, NoMemory> {
@@ -425,4 +463,57 @@ fn put_call<T: Part>(
 {
     put_head(members, alloc, kind, framework_id)?;
     put(members, alloc, name, body)
+}
+
+/// Appends the texts of the rows of a SUBSCRIBE, and tells how deep the deepest value nests.
+#[tactic(auto, using(mes_part::proofs::AppendLemmas::both_members))]
+fn append_subscribe(
+    alloc: Global,
+    framework_id: &Option<Id>,
+    body: &Subscribe,
+    out: &mut Vec<u8>,
+) -> Result<u64, NoMemory>
+    ensures members { IfOk result (λ deep. AppendsMembers out.old.items
+        (call_rows.members (Call.Subscribe framework_id.now body.now)) out.new.items deep) }
+    ensures back { OnOk result (call_rows.Back (Call.Subscribe framework_id.now body.now)) }
+{
+    let kind = append_type("SUBSCRIBE", out)?;
+    let framework = append_some(alloc, "framework_id", framework_id, out)?;
+    let rest = append_row(alloc, "subscribe", body, out)?;
+    Ok(deeper(deeper(kind, framework), rest))
+}
+
+/// Appends the texts of the row `type` and of the one of the framework.
+#[tactic(auto, using(mes_part::proofs::AppendLemmas::both_members))]
+fn append_head(
+    alloc: Global,
+    kind: &str,
+    framework_id: &Id,
+    out: &mut Vec<u8>,
+) -> Result<u64, NoMemory>
+    ensures members { IfOk result (λ deep. AppendsMembers out.old.items
+        ((type_name, string kind.now) ∷ (codes "framework_id", id.tree framework_id.now) ∷ []) out.new.items deep) }
+    ensures back { OnOk result (Returns id framework_id.now) }
+{
+    append_case(alloc, kind, "framework_id", framework_id, out)
+}
+
+/// Appends the texts of the row `type`, of the one of the framework and of the one of a body.
+#[tactic(auto, using(mes_part::proofs::AppendLemmas::both_members))]
+fn append_call<T: Part>(
+    alloc: Global,
+    kind: &str,
+    framework_id: &Id,
+    name: &str,
+    body: &T,
+    out: &mut Vec<u8>,
+) -> Result<u64, NoMemory>
+    ensures members { IfOk result (λ deep. AppendsMembers out.old.items
+        ((type_name, string kind.now) ∷ (codes "framework_id", id.tree framework_id.now) ∷ (name.now, T.kind.tree body.now) ∷ []) out.new.items deep) }
+    ensures framework { OnOk result (Returns id framework_id.now) }
+    ensures back { OnOk result (Returns T.kind body.now) }
+{
+    let head = append_head(alloc, kind, framework_id, out)?;
+    let rest = append_row(alloc, name, body, out)?;
+    Ok(deeper(head, rest))
 }

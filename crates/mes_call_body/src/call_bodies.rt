@@ -5,7 +5,7 @@ use mes_model::{Filters, FrameworkInfo, Id, TaskRef};
 use mes_part::json::{self, Element, NoMemory};
 use mes_part::{
     Bytes, List, MadeOf, Many, Maybe, Must, MustRef, Part, PartFault, RowList, RowRefs, Rows1,
-    Rows2, Rows3, Trail, made, message_tree, pairs, read_message,
+    Rows2, Rows3, Trail, made, message_text, message_tree, pairs, read_message,
 };
 use std::alloc::Global;
 
@@ -61,6 +61,11 @@ impl Part for Subscribe {
     #[tactic(auto, using(crate::specs::CallBodies::subscribe_back), unfolding(crate::specs::CallBodies::subscribe))]
     fn tree(&self, alloc: Global) -> Result<json::Json, NoMemory> {
         message_tree(alloc, &SUBSCRIBE_NAMES, &subscribe_rows!(self))
+    }
+
+    #[tactic(auto, using(crate::specs::CallBodies::subscribe_back), unfolding(crate::specs::CallBodies::subscribe))]
+    fn write_json(&self, alloc: Global, out: &mut Vec<u8>) -> Result<u64, NoMemory> {
+        message_text(alloc, &SUBSCRIBE_NAMES, &subscribe_rows!(self), out)
     }
 
     fn copy(&self, alloc: Global) -> Result<Subscribe, NoMemory> {
@@ -131,6 +136,11 @@ impl Part for Accept {
         message_tree(alloc, &ACCEPT_NAMES, &accept_rows!(self))
     }
 
+    #[tactic(auto, using(crate::specs::CallBodies::accept_back), unfolding(crate::specs::CallBodies::accept))]
+    fn write_json(&self, alloc: Global, out: &mut Vec<u8>) -> Result<u64, NoMemory> {
+        message_text(alloc, &ACCEPT_NAMES, &accept_rows!(self), out)
+    }
+
     fn copy(&self, alloc: Global) -> Result<Accept, NoMemory> {
         let values = accept_rows!(self).copy_rows(alloc)?;
         Ok(Accept::made_of(values))
@@ -196,6 +206,11 @@ impl Part for Decline {
         message_tree(alloc, &DECLINE_NAMES, &decline_rows!(self))
     }
 
+    #[tactic(auto, using(crate::specs::CallBodies::decline_back), unfolding(crate::specs::CallBodies::decline))]
+    fn write_json(&self, alloc: Global, out: &mut Vec<u8>) -> Result<u64, NoMemory> {
+        message_text(alloc, &DECLINE_NAMES, &decline_rows!(self), out)
+    }
+
     fn copy(&self, alloc: Global) -> Result<Decline, NoMemory> {
         let values = decline_rows!(self).copy_rows(alloc)?;
         Ok(Decline::made_of(values))
@@ -259,6 +274,11 @@ impl Part for Kill {
     #[tactic(auto, using(crate::specs::CallBodies::kill_back), unfolding(crate::specs::CallBodies::kill))]
     fn tree(&self, alloc: Global) -> Result<json::Json, NoMemory> {
         message_tree(alloc, &KILL_NAMES, &kill_rows!(self))
+    }
+
+    #[tactic(auto, using(crate::specs::CallBodies::kill_back), unfolding(crate::specs::CallBodies::kill))]
+    fn write_json(&self, alloc: Global, out: &mut Vec<u8>) -> Result<u64, NoMemory> {
+        message_text(alloc, &KILL_NAMES, &kill_rows!(self), out)
     }
 
     fn copy(&self, alloc: Global) -> Result<Kill, NoMemory> {
@@ -329,6 +349,11 @@ impl Part for Acknowledge {
         message_tree(alloc, &ACKNOWLEDGE_NAMES, &acknowledge_rows!(self))
     }
 
+    #[tactic(auto, using(crate::specs::CallBodies::acknowledge_back), unfolding(crate::specs::CallBodies::acknowledge))]
+    fn write_json(&self, alloc: Global, out: &mut Vec<u8>) -> Result<u64, NoMemory> {
+        message_text(alloc, &ACKNOWLEDGE_NAMES, &acknowledge_rows!(self), out)
+    }
+
     fn copy(&self, alloc: Global) -> Result<Acknowledge, NoMemory> {
         let values = acknowledge_rows!(self).copy_rows(alloc)?;
         Ok(Acknowledge::made_of(values))
@@ -387,6 +412,11 @@ impl Part for Reconcile {
     #[tactic(auto, using(crate::specs::CallBodies::reconcile_back), unfolding(crate::specs::CallBodies::reconcile))]
     fn tree(&self, alloc: Global) -> Result<json::Json, NoMemory> {
         message_tree(alloc, &RECONCILE_NAMES, &reconcile_rows!(self))
+    }
+
+    #[tactic(auto, using(crate::specs::CallBodies::reconcile_back), unfolding(crate::specs::CallBodies::reconcile))]
+    fn write_json(&self, alloc: Global, out: &mut Vec<u8>) -> Result<u64, NoMemory> {
+        message_text(alloc, &RECONCILE_NAMES, &reconcile_rows!(self), out)
     }
 
     fn copy(&self, alloc: Global) -> Result<Reconcile, NoMemory> {
@@ -449,6 +479,11 @@ impl Part for Shutdown {
     #[tactic(auto, using(crate::specs::CallBodies::shutdown_back), unfolding(crate::specs::CallBodies::shutdown))]
     fn tree(&self, alloc: Global) -> Result<json::Json, NoMemory> {
         message_tree(alloc, &SHUTDOWN_NAMES, &shutdown_rows!(self))
+    }
+
+    #[tactic(auto, using(crate::specs::CallBodies::shutdown_back), unfolding(crate::specs::CallBodies::shutdown))]
+    fn write_json(&self, alloc: Global, out: &mut Vec<u8>) -> Result<u64, NoMemory> {
+        message_text(alloc, &SHUTDOWN_NAMES, &shutdown_rows!(self), out)
     }
 
     fn copy(&self, alloc: Global) -> Result<Shutdown, NoMemory> {

@@ -1,15 +1,16 @@
 //! What is done with offers that are accepted.
 ghost use Rattle.std.specs.Prelude.{◌≡◌, IfOk, OnOk};
 ghost use Rattle.mes_part.specs.View.{view};
+ghost use Rattle.mes_part.specs.Appended.{Appends, AppendsMembers};
 ghost use Rattle.mes_part.specs.Kinds.{Returns};
-ghost use Rattle.mes_call_body.specs.Operations.{launch};
+ghost use Rattle.mes_call_body.specs.Operations.{launch, operation_rows};
 
 use mes_model::TaskInfo;
 use mes_part::json::{self, Element, NoMemory, Text};
 use mes_part::{
-    Choice, FieldWhy, Found, List, MadeOf, Many, Part, PartFault, RowList, Rows1, Trail, copy_list,
-    made, message_tree, pairs, put_type, read_message, read_typed, required, type_of, type_refusal,
-    typed_tree,
+    Choice, FieldWhy, Found, List, MadeOf, Many, Part, PartFault, RowList, Rows1, Trail,
+    append_name, append_type, copy_list, deeper, made, message_text, message_tree, pairs, put_type,
+    read_message, read_typed, required, type_of, type_refusal, typed_text, typed_tree,
 };
 use std::alloc::Global;
 use std::marker::Model;
@@ -75,6 +76,11 @@ impl Choice for Operation {
         Ok(())
     }
 
+    fn append_choice(&self, alloc: Global, out: &mut Vec<u8>) -> Result<u64, NoMemory> {
+        let Operation::Launch { task_infos } = self;
+        append_launch(alloc, task_infos, out)
+    }
+
     fn copy_choice(&self, alloc: Global) -> Result<Operation, NoMemory> {
         let Operation::Launch { task_infos } = self;
         let task_infos = copy_list(alloc, task_infos)?;
@@ -105,6 +111,11 @@ impl Part for Operation {
     #[tactic(auto, using(crate::specs::Operations::operation_back), unfolding(crate::specs::Operations::operation))]
     fn tree(&self, alloc: Global) -> Result<json::Json, NoMemory> {
         typed_tree(alloc, self)
+    }
+
+    #[tactic(auto, using(crate::specs::Operations::operation_back), unfolding(crate::specs::Operations::operation))]
+    fn write_json(&self, alloc: Global, out: &mut Vec<u8>) -> Result<u64, NoMemory> {
+        typed_text(alloc, self, out)
     }
 
     fn copy(&self, alloc: Global) -> Result<Operation, NoMemory> {
@@ -179,6 +190,10 @@ impl Part for Launch {
         launch_tree(alloc, &self.task_infos)
     }
 
+    fn write_json(&self, alloc: Global, out: &mut Vec<u8>) -> Result<u64, NoMemory> {
+        launch_text(alloc, &self.task_infos, out)
+    }
+
     fn copy(&self, alloc: Global) -> Result<Launch, NoMemory> {
         let task_infos = copy_list(alloc, &self.task_infos)?;
         Ok(Launch { task_infos })
@@ -193,4 +208,34 @@ fn launch_tree(alloc: Global, task_infos: &List<TaskInfo>) -> Result<json::Json,
     ensures back { OnOk result (Returns launch task_infos.now) }
 {
     message_tree(alloc, &LAUNCH_NAMES, &pairs!(task_infos))
+}
+
+/// Appends the texts of the row `type` of LAUNCH and of its body, and tells how deep the body nests.
+#[tactic(auto, using(mes_part::proofs::AppendLemmas::both_members))]
+fn append_launch(
+    alloc: Global,
+    task_infos: &List<TaskInfo>,
+    out: &mut Vec<u8>,
+) -> Result<u64, NoMemory>
+    ensures members { IfOk result (λ deep. AppendsMembers out.old.items (operation_rows.members (Operation.Launch task_infos.now)) out.new.items deep) }
+    ensures back { OnOk result (operation_rows.Back (Operation.Launch task_infos.now)) }
+{
+    let first = append_type("LAUNCH", out)?;
+    append_name("launch", out)?;
+    let second = launch_text(alloc, task_infos, out)?;
+    Ok(deeper(first, second))
+}
+
+/// Appends the text of the body of LAUNCH, and tells how deep it nests.
+#[tactic(auto, using(crate::specs::Operations::launch_back), unfolding(crate::specs::Operations::launch))]
+fn launch_text(
+    alloc: Global,
+    task_infos: &List<TaskInfo>,
+    out: &mut Vec<u8>,
+) -> Result<u64, NoMemory>
+    ensures text { IfOk result (λ deep. Appends out.old.items (launch.tree task_infos.now) out.new.items deep) }
+    // It is read back.
+    ensures back { OnOk result (Returns launch task_infos.now) }
+{
+    message_text(alloc, &LAUNCH_NAMES, &pairs!(task_infos), out)
 }

@@ -1,18 +1,20 @@
 //! An event of the scheduler API.
-ghost use Rattle.std.specs.Prelude.{◌≡◌, [], ◌∷◌, ◌++◌, IfErr, OnOk};
+ghost use Rattle.std.specs.Prelude.{◌≡◌, [], ◌∷◌, ◌++◌, IfErr, IfOk, OnOk};
 ghost use Rattle.mes_part.specs.Tree.Tree.{string};
+ghost use Rattle.mes_part.specs.Appended.{AppendsMembers};
 ghost use Rattle.mes_part.specs.Choices.{type_name};
 ghost use Rattle.mes_part.specs.Kinds.{Returns};
 ghost use Rattle.mes_part.specs.Written.{pairs_view, Continues};
 ghost use Rattle.mes_event.specs.Events.{event_rows};
 
 use mes_event_body::{
-    ErrorBody, Failure, Offer, Offers, OtherName, Rescind, Subscribed, Update, offers_tree,
+    ErrorBody, Failure, Offer, Offers, OtherName, Rescind, Subscribed, Update, offers_text,
+    offers_tree,
 };
 use mes_part::json::{self, Element, NoMemory, Text};
 use mes_part::{
-    Choice, Found, List, Part, PartFault, Trail, copy_list, put, put_type, read_typed, required,
-    type_of, typed_tree,
+    Choice, Found, List, Part, PartFault, Trail, append_case, append_name, append_row, append_type,
+    copy_list, deeper, put, put_type, read_typed, required, type_of, typed_text, typed_tree,
 };
 use mes_record::Message;
 use std::alloc::Global;
@@ -110,6 +112,20 @@ impl Choice for Event {
         }
     }
 
+    fn append_choice(&self, alloc: Global, out: &mut Vec<u8>) -> Result<u64, NoMemory> {
+        match self {
+            Event::Subscribed(body) => append_case(alloc, "SUBSCRIBED", "subscribed", body, out),
+            Event::Offers(list) => append_offers(alloc, list, out),
+            Event::Rescind(body) => append_case(alloc, "RESCIND", "rescind", body, out),
+            Event::Update(body) => append_case(alloc, "UPDATE", "update", body, out),
+            Event::Message(body) => append_case(alloc, "MESSAGE", "message", body, out),
+            Event::Failure(body) => append_case(alloc, "FAILURE", "failure", body, out),
+            Event::Error(body) => append_case(alloc, "ERROR", "error", body, out),
+            Event::Heartbeat => append_type("HEARTBEAT", out),
+            Event::Other(name) => append_row(alloc, "type", name.text(), out),
+        }
+    }
+
     fn copy_choice(&self, alloc: Global) -> Result<Event, NoMemory> {
         match self {
             Event::Subscribed(body) => Ok(Event::Subscribed(body.copy(alloc)?)),
@@ -150,6 +166,11 @@ impl Part for Event {
         typed_tree(alloc, self)
     }
 
+    #[tactic(auto, using(crate::specs::Events::event_back), unfolding(crate::specs::Events::event))]
+    fn write_json(&self, alloc: Global, out: &mut Vec<u8>) -> Result<u64, NoMemory> {
+        typed_text(alloc, self, out)
+    }
+
     fn copy(&self, alloc: Global) -> Result<Event, NoMemory> {
         self.copy_choice(alloc)
     }
@@ -186,4 +207,16 @@ fn put_offers(
     let name = Text::of(alloc, "offers")?;
     members.push((name, tree))?;
     Ok(())
+}
+
+/// Appends the texts of the row `type` of OFFERS and of its body, and tells how deep the body nests.
+#[tactic(auto, using(mes_part::proofs::AppendLemmas::both_members))]
+fn append_offers(alloc: Global, list: &List<Offer>, out: &mut Vec<u8>) -> Result<u64, NoMemory>
+    ensures members { IfOk result (λ deep. AppendsMembers out.old.items (event_rows.members (Event.Offers list.now)) out.new.items deep) }
+    ensures back { OnOk result (event_rows.Back (Event.Offers list.now)) }
+{
+    let first = append_type("OFFERS", out)?;
+    append_name("offers", out)?;
+    let second = offers_text(alloc, list, out)?;
+    Ok(deeper(first, second))
 }

@@ -4,7 +4,7 @@ use mes_part::fixed::Micros;
 use mes_part::json::{self, Element, NoMemory, Text};
 use mes_part::{
     MadeOf, Maybe, Must, MustRef, Part, PartFault, RowList, RowRefs, Rows1, Rows2, Rows3, Trail,
-    made, message_tree, pairs, read_message,
+    made, message_text, message_tree, pairs, read_message,
 };
 use mes_resource::Id;
 use mes_task::TaskStatus;
@@ -69,6 +69,11 @@ impl Part for Subscribed {
         message_tree(alloc, &SUBSCRIBED_NAMES, &subscribed_rows!(self))
     }
 
+    #[tactic(auto, using(crate::specs::Bodies::subscribed_back), unfolding(crate::specs::Bodies::subscribed))]
+    fn write_json(&self, alloc: Global, out: &mut Vec<u8>) -> Result<u64, NoMemory> {
+        message_text(alloc, &SUBSCRIBED_NAMES, &subscribed_rows!(self), out)
+    }
+
     fn copy(&self, alloc: Global) -> Result<Subscribed, NoMemory> {
         let values = subscribed_rows!(self).copy_rows(alloc)?;
         Ok(Subscribed::made_of(values))
@@ -129,6 +134,11 @@ impl Part for Rescind {
         message_tree(alloc, &RESCIND_NAMES, &rescind_rows!(self))
     }
 
+    #[tactic(auto, using(crate::specs::Bodies::rescind_back), unfolding(crate::specs::Bodies::rescind))]
+    fn write_json(&self, alloc: Global, out: &mut Vec<u8>) -> Result<u64, NoMemory> {
+        message_text(alloc, &RESCIND_NAMES, &rescind_rows!(self), out)
+    }
+
     fn copy(&self, alloc: Global) -> Result<Rescind, NoMemory> {
         let values = rescind_rows!(self).copy_rows(alloc)?;
         Ok(Rescind::made_of(values))
@@ -187,6 +197,11 @@ impl Part for Update {
     #[tactic(auto, using(crate::specs::Bodies::update_back), unfolding(crate::specs::Bodies::update))]
     fn tree(&self, alloc: Global) -> Result<json::Json, NoMemory> {
         message_tree(alloc, &UPDATE_NAMES, &update_rows!(self))
+    }
+
+    #[tactic(auto, using(crate::specs::Bodies::update_back), unfolding(crate::specs::Bodies::update))]
+    fn write_json(&self, alloc: Global, out: &mut Vec<u8>) -> Result<u64, NoMemory> {
+        message_text(alloc, &UPDATE_NAMES, &update_rows!(self), out)
     }
 
     fn copy(&self, alloc: Global) -> Result<Update, NoMemory> {
@@ -257,6 +272,11 @@ impl Part for Failure {
         message_tree(alloc, &FAILURE_NAMES, &failure_rows!(self))
     }
 
+    #[tactic(auto, using(crate::specs::Bodies::failure_back), unfolding(crate::specs::Bodies::failure))]
+    fn write_json(&self, alloc: Global, out: &mut Vec<u8>) -> Result<u64, NoMemory> {
+        message_text(alloc, &FAILURE_NAMES, &failure_rows!(self), out)
+    }
+
     fn copy(&self, alloc: Global) -> Result<Failure, NoMemory> {
         let values = failure_rows!(self).copy_rows(alloc)?;
         Ok(Failure::made_of(values))
@@ -315,6 +335,11 @@ impl Part for ErrorBody {
     #[tactic(auto, using(crate::specs::Bodies::error_body_back), unfolding(crate::specs::Bodies::error_body))]
     fn tree(&self, alloc: Global) -> Result<json::Json, NoMemory> {
         message_tree(alloc, &ERROR_BODY_NAMES, &error_body_rows!(self))
+    }
+
+    #[tactic(auto, using(crate::specs::Bodies::error_body_back), unfolding(crate::specs::Bodies::error_body))]
+    fn write_json(&self, alloc: Global, out: &mut Vec<u8>) -> Result<u64, NoMemory> {
+        message_text(alloc, &ERROR_BODY_NAMES, &error_body_rows!(self), out)
     }
 
     fn copy(&self, alloc: Global) -> Result<ErrorBody, NoMemory> {

@@ -10,5 +10,5 @@ pub use bodies::{ErrorBody, Failure, Rescind, Subscribed, Update};
 pub use mes_offer::Offer;
 pub use mes_resource::Id;
 pub use mes_task::TaskStatus;
-pub use offers::{Offers, offers_tree};
+pub use offers::{Offers, offers_text, offers_tree};
 pub use other_name::OtherName;

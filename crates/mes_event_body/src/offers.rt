@@ -1,12 +1,16 @@
 //! The body of OFFERS.
 ghost use Rattle.std.specs.Prelude.{◌≡◌, IfOk, OnOk};
 ghost use Rattle.mes_part.specs.View.{view};
+ghost use Rattle.mes_part.specs.Appended.{Appends};
 ghost use Rattle.mes_part.specs.Kinds.{Returns};
 ghost use Rattle.mes_event_body.specs.Offers.{offers};
 
 use mes_offer::Offer;
 use mes_part::json::{self, Element, NoMemory};
-use mes_part::{List, Part, PartFault, Trail, copy_list, put_many, read_either_list, whole_object};
+use mes_part::{
+    List, Part, PartFault, Trail, append_many, close_object, copy_list, put_many, read_either_list,
+    whole_object,
+};
 use std::alloc::Global;
 use std::marker::Model;
 
@@ -63,6 +67,10 @@ impl Part for Offers {
         offers_tree(alloc, &self.offers)
     }
 
+    fn write_json(&self, alloc: Global, out: &mut Vec<u8>) -> Result<u64, NoMemory> {
+        offers_text(alloc, &self.offers, out)
+    }
+
     fn copy(&self, alloc: Global) -> Result<Offers, NoMemory> {
         let offers = copy_list(alloc, &self.offers)?;
         Ok(Offers { offers })
@@ -79,4 +87,16 @@ pub fn offers_tree(alloc: Global, list: &List<Offer>) -> Result<json::Json, NoMe
     let mut members = Vec::new(alloc);
     put_many(&mut members, alloc, "offers", list)?;
     Ok(whole_object(members))
+}
+
+/// Appends the text of the body of OFFERS, and tells how deep it nests.
+#[tactic(auto, using(crate::specs::Offers::offers_back), unfolding(crate::specs::Offers::offers))]
+pub fn offers_text(alloc: Global, list: &List<Offer>, out: &mut Vec<u8>) -> Result<u64, NoMemory>
+    ensures text { IfOk result (λ deep. Appends out.old.items (offers.tree list.now) out.new.items deep) }
+    // It is read back.
+    ensures back { OnOk result (Returns offers list.now) }
+{
+    let start = out.len();
+    let deepest = append_many(alloc, "offers", list, out)?;
+    close_object(deepest, start, out)
 }

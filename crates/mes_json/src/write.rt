@@ -1,5 +1,5 @@
 //! Writes a value as the one canonical text of it.
-ghost use Rattle.std.specs.Prelude.{◌≡◌, ℕ, ◌≤◌, ◌++◌, IfOk, IfErr};
+ghost use Rattle.std.specs.Prelude.{◌≡◌, ℕ, ◌≤◌, ◌++◌, IfOk, IfErr, OnOk};
 ghost use Rattle.std.specs.Str.{IsUtf8};
 ghost use Rattle.mes_json.specs.Tree.{depth};
 ghost use Rattle.mes_json.specs.Grammar.{IsText};
@@ -17,6 +17,7 @@ use crate::write_string::{append, write_quoted};
 pub fn write_text(json: &Json, out: &mut Vec<u8>) -> Result<(), NoMemory>
     ensures written { IfOk result (λ _. out.new.items ≡ out.old.items ++ canonical (view json.now)) }
     ensures unchanged { IfErr result (λ _. out.new.items ≡ out.old.items) }
+    ensures writable { OnOk result (IsWritable (view json.now)) }
 
     // It is a JSON text of the value, at any nesting limit that the value keeps to.
     ensures text { IfOk result (λ _. (d : ℕ) → depth (view json.now) ≤ d → IsText d (canonical (view json.now)) (view json.now)) }

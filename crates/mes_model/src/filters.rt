@@ -3,8 +3,8 @@
 use mes_part::fixed::Micros;
 use mes_part::json::{self, Element, NoMemory};
 use mes_part::{
-    MadeOf, Maybe, Part, PartFault, RowList, RowRefs, Rows1, Trail, made, message_tree, pairs,
-    read_message,
+    MadeOf, Maybe, Part, PartFault, RowList, RowRefs, Rows1, Trail, made, message_text,
+    message_tree, pairs, read_message,
 };
 use std::alloc::Global;
 
@@ -60,6 +60,11 @@ impl Part for Filters {
     #[tactic(auto, using(crate::specs::Filters::filters_back), unfolding(crate::specs::Filters::filters))]
     fn tree(&self, alloc: Global) -> Result<json::Json, NoMemory> {
         message_tree(alloc, &FILTERS_NAMES, &filters_rows!(self))
+    }
+
+    #[tactic(auto, using(crate::specs::Filters::filters_back), unfolding(crate::specs::Filters::filters))]
+    fn write_json(&self, alloc: Global, out: &mut Vec<u8>) -> Result<u64, NoMemory> {
+        message_text(alloc, &FILTERS_NAMES, &filters_rows!(self), out)
     }
 
     fn copy(&self, alloc: Global) -> Result<Filters, NoMemory> {

@@ -4,7 +4,7 @@ use mes_part::fixed::Micros;
 use mes_part::json::{self, Element, NoMemory, Text};
 use mes_part::{
     List, MadeOf, Many, Maybe, Must, MustRef, Part, PartFault, RowList, RowRefs, Rows1, Rows9,
-    Trail, made, message_tree, pairs, read_message,
+    Trail, made, message_text, message_tree, pairs, read_message,
 };
 use mes_resource::Id;
 use std::alloc::Global;
@@ -61,6 +61,11 @@ impl Part for Capability {
     #[tactic(auto, using(crate::specs::Frameworks::capability_back), unfolding(crate::specs::Frameworks::capability))]
     fn tree(&self, alloc: Global) -> Result<json::Json, NoMemory> {
         message_tree(alloc, &CAPABILITY_NAMES, &capability_rows!(self))
+    }
+
+    #[tactic(auto, using(crate::specs::Frameworks::capability_back), unfolding(crate::specs::Frameworks::capability))]
+    fn write_json(&self, alloc: Global, out: &mut Vec<u8>) -> Result<u64, NoMemory> {
+        message_text(alloc, &CAPABILITY_NAMES, &capability_rows!(self), out)
     }
 
     fn copy(&self, alloc: Global) -> Result<Capability, NoMemory> {
@@ -182,6 +187,16 @@ impl Part for FrameworkInfo {
     #[tactic(auto, using(crate::specs::Frameworks::framework_info_back), unfolding(crate::specs::Frameworks::framework_info))]
     fn tree(&self, alloc: Global) -> Result<json::Json, NoMemory> {
         message_tree(alloc, &FRAMEWORK_INFO_NAMES, &framework_info_rows!(self))
+    }
+
+    #[tactic(auto, using(crate::specs::Frameworks::framework_info_back), unfolding(crate::specs::Frameworks::framework_info))]
+    fn write_json(&self, alloc: Global, out: &mut Vec<u8>) -> Result<u64, NoMemory> {
+        message_text(
+            alloc,
+            &FRAMEWORK_INFO_NAMES,
+            &framework_info_rows!(self),
+            out,
+        )
     }
 
     fn copy(&self, alloc: Global) -> Result<FrameworkInfo, NoMemory> {

@@ -49,6 +49,9 @@ fn expect_values<T: Part, R: Abort + AllocGlobal>(rt: &R, values: &str) -> Resul
         let mut out = Vec::new(rt.alloc());
         write_text(&copy.tree(rt.alloc())?, &mut out)?;
         assert_eq!(rt; out.as_slice(), written.as_bytes(), "{text}");
+        out.clear();
+        copy.write_json(rt.alloc(), &mut out)?;
+        assert_eq!(rt; out.as_slice(), written.as_bytes(), "{text}");
     }
     Ok(())
 }

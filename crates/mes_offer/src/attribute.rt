@@ -6,8 +6,8 @@ use crate::text_value::TextValue;
 use mes_part::json::{self, Element, NoMemory, Text};
 use mes_part::{
     Choice, FieldWhy, Found, MadeOf, Must, MustRef, Part, PartFault, RowList, RowRefs, Trail,
-    Typed, TypedRef, made, message_tree, put, put_type, read_message, required, type_of,
-    type_refusal,
+    Typed, TypedRef, append_case, made, message_text, message_tree, put, put_type, read_message,
+    required, type_of, type_refusal,
 };
 use mes_resource::{Ranges, Scalar, Set};
 use std::alloc::Global;
@@ -97,6 +97,15 @@ impl Choice for AttributeValue {
         }
     }
 
+    fn append_choice(&self, alloc: Global, out: &mut Vec<u8>) -> Result<u64, NoMemory> {
+        match self {
+            AttributeValue::Scalar(scalar) => append_case(alloc, "SCALAR", "scalar", scalar, out),
+            AttributeValue::Ranges(ranges) => append_case(alloc, "RANGES", "ranges", ranges, out),
+            AttributeValue::Set(set) => append_case(alloc, "SET", "set", set, out),
+            AttributeValue::Text(text) => append_case(alloc, "TEXT", "text", text, out),
+        }
+    }
+
     fn copy_choice(&self, alloc: Global) -> Result<AttributeValue, NoMemory> {
         self.copy(alloc)
     }
@@ -156,6 +165,11 @@ impl Part for Attribute {
     #[tactic(auto, using(crate::specs::Attributes::attribute_back), unfolding(crate::specs::Attributes::attribute))]
     fn tree(&self, alloc: Global) -> Result<json::Json, NoMemory> {
         message_tree(alloc, &ATTRIBUTE_NAMES, &attribute_rows!(self))
+    }
+
+    #[tactic(auto, using(crate::specs::Attributes::attribute_back), unfolding(crate::specs::Attributes::attribute))]
+    fn write_json(&self, alloc: Global, out: &mut Vec<u8>) -> Result<u64, NoMemory> {
+        message_text(alloc, &ATTRIBUTE_NAMES, &attribute_rows!(self), out)
     }
 
     fn copy(&self, alloc: Global) -> Result<Attribute, NoMemory> {

@@ -4,7 +4,7 @@ use crate::attribute::Attribute;
 use mes_part::json::{self, Element, NoMemory, Text};
 use mes_part::{
     List, MadeOf, Many, Maybe, Must, MustRef, Part, PartFault, RowList, RowRefs, Rows8, Trail,
-    made, message_tree, pairs, read_message,
+    made, message_text, message_tree, pairs, read_message,
 };
 use mes_resource::{Allocation, Id, Resource};
 use std::alloc::Global;
@@ -111,6 +111,11 @@ impl Part for Offer {
     #[tactic(auto, using(crate::specs::Offers::offer_back), unfolding(crate::specs::Offers::offer))]
     fn tree(&self, alloc: Global) -> Result<json::Json, NoMemory> {
         message_tree(alloc, &OFFER_NAMES, &offer_rows!(self))
+    }
+
+    #[tactic(auto, using(crate::specs::Offers::offer_back), unfolding(crate::specs::Offers::offer))]
+    fn write_json(&self, alloc: Global, out: &mut Vec<u8>) -> Result<u64, NoMemory> {
+        message_text(alloc, &OFFER_NAMES, &offer_rows!(self), out)
     }
 
     fn copy(&self, alloc: Global) -> Result<Offer, NoMemory> {

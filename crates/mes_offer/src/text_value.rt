@@ -2,8 +2,8 @@
 
 use mes_part::json::{self, Element, NoMemory, Text};
 use mes_part::{
-    MadeOf, Must, MustRef, Part, PartFault, RowList, RowRefs, Rows1, Trail, made, message_tree,
-    pairs, read_message,
+    MadeOf, Must, MustRef, Part, PartFault, RowList, RowRefs, Rows1, Trail, made, message_text,
+    message_tree, pairs, read_message,
 };
 use std::alloc::Global;
 
@@ -59,6 +59,11 @@ impl Part for TextValue {
     #[tactic(auto, using(crate::specs::TextValues::text_value_back), unfolding(crate::specs::TextValues::text_value))]
     fn tree(&self, alloc: Global) -> Result<json::Json, NoMemory> {
         message_tree(alloc, &TEXT_VALUE_NAMES, &text_value_rows!(self))
+    }
+
+    #[tactic(auto, using(crate::specs::TextValues::text_value_back), unfolding(crate::specs::TextValues::text_value))]
+    fn write_json(&self, alloc: Global, out: &mut Vec<u8>) -> Result<u64, NoMemory> {
+        message_text(alloc, &TEXT_VALUE_NAMES, &text_value_rows!(self), out)
     }
 
     fn copy(&self, alloc: Global) -> Result<TextValue, NoMemory> {

@@ -16,3 +16,4 @@ pub mod ValueFaults
 pub mod RowFaults
 pub mod ListFaults
 pub mod LabelFaults
+pub mod AppendLemmas

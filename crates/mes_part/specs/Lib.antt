@@ -38,6 +38,7 @@ pub mod Objects
 pub mod Parts
 pub mod Refusals
 pub mod Written
+pub mod Appended
 pub mod FoundRows
 pub mod Labels
 pub mod EitherLists

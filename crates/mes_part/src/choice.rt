@@ -2,6 +2,7 @@
 
 ghost use Rattle.std.specs.Prelude.{◌≡◌, ℕ, ◌+◌, ◌≤◌, ◌++◌, List as list, length, IfOk, IfErr, OnOk};
 ghost use Rattle.mes_json.specs.Tree.{Members};
+ghost use Rattle.mes_part.specs.Appended.{AppendsMembers};
 ghost use Rattle.mes_part.specs.FoundRows.{FindsEach};
 ghost use Rattle.mes_part.specs.Parts.{Gives};
 ghost use Rattle.mes_part.specs.RowLaws.{LawfulTable};
@@ -41,6 +42,12 @@ pub trait Choice: Drop {
     fn put_choice(&self, members: &mut Vec<(Text, Json)>, alloc: Global) -> Result<(), NoMemory>
         ensures members { OnOk result (pairs_view members.new.items ≡ pairs_view members.old.items ++ table.members self.now) }
         ensures front { IfErr result (λ _. Continues (pairs_view members.old.items) (pairs_view members.new.items)) }
+        ensures back { OnOk result (table.Back self.now) };
+
+    /// Appends the texts of those rows, each behind a comma, and tells how deep the deepest value nests. After want of memory what
+    /// stands in `out` is of no use.
+    fn append_choice(&self, alloc: Global, out: &mut Vec<u8>) -> Result<u64, NoMemory>
+        ensures members { IfOk result (λ deep. AppendsMembers out.old.items (table.members self.now) out.new.items deep) }
         ensures back { OnOk result (table.Back self.now) };
 
     /// The same value, in memory of its own.

@@ -10,7 +10,7 @@ use crate::field::FieldWhy;
 use crate::part::{Part, PartFault};
 use crate::refusal::refusal_at;
 use crate::trail::Trail;
-use mes_json::{Element, Json, NoMemory};
+use mes_json::{Element, Json, NoMemory, write_text};
 use std::alloc::Global;
 use std::marker::Model;
 
@@ -79,6 +79,12 @@ impl Part for Kept {
     #[tactic(auto, unfolding(crate::specs::Leaves::objects))]
     fn tree(&self, alloc: Global) -> Result<Json, NoMemory> {
         self.json.copy(alloc)
+    }
+
+    #[tactic(auto, unfolding(crate::specs::Leaves::objects))]
+    fn write_json(&self, _alloc: Global, out: &mut Vec<u8>) -> Result<u64, NoMemory> {
+        write_text(&self.json, out)?;
+        Ok(self.json.depth())
     }
 
     fn copy(&self, alloc: Global) -> Result<Kept, NoMemory> {

@@ -1,11 +1,12 @@
 //! Labels: a key, and the value that may stand beside it.
 ghost use Rattle.std.specs.Prelude.{◌≡◌, IfOk, OnOk};
 ghost use Rattle.mes_json.specs.View.{view};
+ghost use Rattle.mes_part.specs.Appended.{Appends};
 ghost use Rattle.mes_part.specs.Kinds.{Returns};
 ghost use Rattle.mes_part.specs.Labels.{labels};
 
 use crate::list::List;
-use crate::message::{MadeOf, message_tree, read_message};
+use crate::message::{MadeOf, message_text, message_tree, read_message};
 use crate::pairs::{Rows1, Rows2};
 use crate::part::{Part, PartFault};
 use crate::row::{Many, Maybe, Must};
@@ -69,6 +70,16 @@ impl Part for Label {
             alloc,
             &LABEL_NAMES,
             &pairs!(MustRef(&self.key), &self.value),
+        )
+    }
+
+    #[tactic(auto, using(crate::specs::Labels::label_back), unfolding(crate::specs::Labels::label))]
+    fn write_json(&self, alloc: Global, out: &mut Vec<u8>) -> Result<u64, NoMemory> {
+        message_text(
+            alloc,
+            &LABEL_NAMES,
+            &pairs!(MustRef(&self.key), &self.value),
+            out,
         )
     }
 
@@ -155,6 +166,10 @@ impl Part for Labels {
         labels_tree(alloc, &self.labels)
     }
 
+    fn write_json(&self, alloc: Global, out: &mut Vec<u8>) -> Result<u64, NoMemory> {
+        labels_text(alloc, &self.labels, out)
+    }
+
     fn copy(&self, alloc: Global) -> Result<Labels, NoMemory> {
         let labels = copy_list(alloc, &self.labels)?;
         Ok(Labels { labels })
@@ -169,4 +184,14 @@ fn labels_tree(alloc: Global, list: &List<Label>) -> Result<Json, NoMemory>
     ensures back { OnOk result (Returns labels list.now) }
 {
     message_tree(alloc, &LABELS_NAMES, &pairs!(list))
+}
+
+/// Appends the text of labels, and tells how deep it nests.
+#[tactic(auto, using(crate::specs::Labels::labels_back), unfolding(crate::specs::Labels::labels))]
+fn labels_text(alloc: Global, list: &List<Label>, out: &mut Vec<u8>) -> Result<u64, NoMemory>
+    ensures text { IfOk result (λ deep. Appends out.old.items (labels.tree list.now) out.new.items deep) }
+    // It is read back.
+    ensures back { OnOk result (Returns labels list.now) }
+{
+    message_text(alloc, &LABELS_NAMES, &pairs!(list), out)
 }

@@ -7,7 +7,7 @@ ghost use Rattle.mes_part.specs.KindLaws.{lawful_texts, lawful_booleans};
 use crate::leaf::{boolean_in, text_in};
 use crate::part::{Part, PartFault};
 use crate::trail::Trail;
-use mes_json::{Element, Json, NoMemory, Text};
+use mes_json::{Element, Json, NoMemory, Text, write_str};
 use std::alloc::Global;
 
 impl Part for Text {
@@ -32,6 +32,12 @@ impl Part for Text {
     #[tactic(auto, unfolding(crate::specs::Leaves::texts))]
     fn tree(&self, alloc: Global) -> Result<Json, NoMemory> {
         Ok(Json::Text(self.copy(alloc)?))
+    }
+
+    #[tactic(auto, unfolding(crate::specs::Leaves::texts))]
+    fn write_json(&self, _alloc: Global, out: &mut Vec<u8>) -> Result<u64, NoMemory> {
+        write_str(self.as_str(), out)?;
+        Ok(0)
     }
 
     fn copy(&self, alloc: Global) -> Result<Text, NoMemory> {
@@ -60,6 +66,13 @@ impl Part for bool {
     #[tactic(auto, unfolding(crate::specs::Leaves::booleans))]
     fn tree(&self, _alloc: Global) -> Result<Json, NoMemory> {
         Ok(Json::Bool(*self))
+    }
+
+    #[tactic(auto, unfolding(crate::specs::Leaves::booleans))]
+    fn write_json(&self, _alloc: Global, out: &mut Vec<u8>) -> Result<u64, NoMemory> {
+        let text = if *self { "true" } else { "false" };
+        out.extend_from_slice(text.as_bytes())?;
+        Ok(0)
     }
 
     fn copy(&self, _alloc: Global) -> Result<bool, NoMemory> {

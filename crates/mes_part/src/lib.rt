@@ -1,6 +1,7 @@
 #![tactic(auto)]
 //! Messages as tables of rows, each read, written and copied by its rows; the kinds of values, paths into a JSON value, and faults.
 
+mod append;
 mod boxed_fault;
 mod bytes;
 mod calls;
@@ -30,6 +31,10 @@ mod trail;
 mod typed;
 mod write_row;
 
+pub use append::{
+    append_case, append_flag, append_many, append_name, append_row, append_some, append_type,
+    close_object, deeper, list_text,
+};
 pub use boxed_fault::BoxedFault;
 pub use bytes::Bytes;
 pub use calls::{
@@ -46,7 +51,9 @@ pub use limits::{NAME_MOST, PATH_TEXT_MOST, ROWS_MOST, STEPS_MOST};
 pub use list::List;
 pub use mes_fixed as fixed;
 pub use mes_json as json;
-pub use message::{MadeOf, message_tree, read_message, read_typed, typed_tree};
+pub use message::{
+    MadeOf, message_text, message_tree, read_message, read_typed, typed_text, typed_tree,
+};
 pub use pairs::{
     Rows1, Rows2, Rows3, Rows4, Rows5, Rows6, Rows7, Rows8, Rows9, Rows10, Rows11, Rows12, Rows13,
     Rows14, Rows15, Rows16,

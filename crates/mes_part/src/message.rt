@@ -5,11 +5,13 @@ ghost use Rattle.mes_json.specs.Tree.{Tree};
 ghost use Rattle.mes_json.specs.Tree.Tree.{object};
 ghost use Rattle.mes_json.specs.Tokens.{BeginsWith};
 ghost use Rattle.mes_json.specs.View.{view, members_of};
+ghost use Rattle.mes_part.specs.Appended.{Appends};
 ghost use Rattle.mes_part.specs.Layouts.{message_of};
 ghost use Rattle.mes_part.specs.Rows.{message};
 ghost use Rattle.mes_part.specs.Parts.{Gives};
 ghost use Rattle.mes_part.specs.RowNames.{are_names};
 
+use crate::append::close_object;
 use crate::choice::Choice;
 use crate::found::find_rows;
 use crate::limits::{ROWS_MOST, STEPS_MOST};
@@ -64,6 +66,23 @@ pub fn message_tree<R: RowRefs>(alloc: Global, names: &[&str], rows: &R) -> Resu
     Ok(whole_object(members))
 }
 
+/// Appends the text of a message whose rows hold these values, and tells how deep it nests.
+pub fn message_text<R: RowRefs>(
+    alloc: Global,
+    names: &[&str],
+    rows: &R,
+    out: &mut Vec<u8>,
+) -> Result<u64, NoMemory>
+    requires { R.COUNT ≡ length names.now }
+    ensures text { IfOk result (λ deep. Appends out.old.items
+        (object (members_of ((R.table (map (λ n. n.now) names.now) 0).members (R.values rows.now)))) out.new.items deep) }
+    ensures back { OnOk result ((R.table (map (λ n. n.now) names.now) 0).Back (R.values rows.now)) }
+{
+    let start = out.len();
+    let deepest = rows.append_rows(alloc, names, 0, out)?;
+    close_object(deepest, start, out)
+}
+
 /// The value with a type that stands at the place, whose rows are the whole message; or the first fault.
 #[inline(always)]
 pub fn read_typed<C: Choice, const N: usize>(
@@ -91,4 +110,14 @@ pub fn typed_tree<C: Choice>(alloc: Global, value: &C) -> Result<Json, NoMemory>
     let mut members = Vec::new(alloc);
     value.put_choice(&mut members, alloc)?;
     Ok(whole_object(members))
+}
+
+/// Appends the text of a value with a type whose rows are the whole message, and tells how deep it nests.
+pub fn typed_text<C: Choice>(alloc: Global, value: &C, out: &mut Vec<u8>) -> Result<u64, NoMemory>
+    ensures text { IfOk result (λ deep. Appends out.old.items ((message C.table).tree value.now) out.new.items deep) }
+    ensures back { OnOk result (C.table.Back value.now) }
+{
+    let start = out.len();
+    let deepest = value.append_choice(alloc, out)?;
+    close_object(deepest, start, out)
 }

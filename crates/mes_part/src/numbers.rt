@@ -8,6 +8,7 @@ ghost use Rattle.mes_json.specs.Tokens.{BeginsWith};
 ghost use Rattle.mes_json.specs.View.{view};
 ghost use Rattle.mes_part.specs.Numbers.{whole, signed32, fixed};
 ghost use Rattle.mes_part.specs.NumberLaws.{lawful_whole, lawful_signed32, lawful_fixed};
+ghost use Rattle.mes_part.specs.Appended.{Appends};
 ghost use Rattle.mes_part.specs.Kinds.{Returns};
 ghost use Rattle.mes_part.specs.Parts.{Gives};
 
@@ -44,6 +45,12 @@ impl Part for u64 {
     fn tree(&self, alloc: Global) -> Result<Json, NoMemory> {
         let number = *self;
         number_tree(alloc, Buffer::new().format(number))
+    }
+
+    #[tactic(auto, using(crate::proofs::NumberPlaces::whole_is_number, crate::specs::NumberBack::whole_returns), unfolding(crate::specs::Numbers::whole))]
+    fn write_json(&self, _alloc: Global, out: &mut Vec<u8>) -> Result<u64, NoMemory> {
+        let number = *self;
+        append_number(Buffer::new().format(number), out)
     }
 
     fn copy(&self, _alloc: Global) -> Result<u64, NoMemory> {
@@ -100,6 +107,11 @@ impl Part for Fixed<3> {
         fixed_tree(alloc, *self)
     }
 
+    #[tactic(auto, using(crate::specs::NumberBack::fixed_returns), unfolding(crate::specs::Numbers::fixed))]
+    fn write_json(&self, _alloc: Global, out: &mut Vec<u8>) -> Result<u64, NoMemory> {
+        append_fixed(*self, out)
+    }
+
     fn copy(&self, _alloc: Global) -> Result<Fixed<3>, NoMemory> {
         Ok(*self)
     }
@@ -125,6 +137,11 @@ impl Part for Fixed<6> {
     #[tactic(auto, using(crate::specs::NumberBack::fixed_returns), unfolding(crate::specs::Numbers::fixed))]
     fn tree(&self, alloc: Global) -> Result<Json, NoMemory> {
         fixed_tree(alloc, *self)
+    }
+
+    #[tactic(auto, using(crate::specs::NumberBack::fixed_returns), unfolding(crate::specs::Numbers::fixed))]
+    fn write_json(&self, _alloc: Global, out: &mut Vec<u8>) -> Result<u64, NoMemory> {
+        append_fixed(*self, out)
     }
 
     fn copy(&self, _alloc: Global) -> Result<Fixed<6>, NoMemory> {
@@ -176,4 +193,24 @@ fn number_tree(alloc: Global, text: &str) -> Result<Json, NoMemory>
 {
     let number = NumText::new(String::from_str(alloc, text)?).unwrap();
     Ok(Json::Num(number))
+}
+
+/// Appends a decimal number's text.
+#[tactic(auto, using(crate::proofs::NumberPlaces::reads_is_number), unfolding(crate::specs::Numbers::fixed))]
+fn append_fixed<const P: u32>(value: Fixed<P>, out: &mut Vec<u8>) -> Result<u64, NoMemory>
+    ensures text { IfOk result (λ deep. Appends out.old.items ((fixed P).tree value.entry) out.new.items deep) }
+    ensures back { OnOk result (Returns (fixed P) value.entry) }
+{
+    let mut text = ArrayString::new();
+    value.write(&mut text);
+    append_number(text.as_str(), out)
+}
+
+/// Appends a number's text.
+fn append_number(text: &str, out: &mut Vec<u8>) -> Result<u64, NoMemory>
+    requires { IsNumber text.now }
+    ensures { IfOk result (λ deep. Appends out.old.items (number text.now) out.new.items deep) }
+{
+    out.extend_from_slice(text.as_bytes())?;
+    Ok(0)
 }

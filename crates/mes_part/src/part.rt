@@ -4,6 +4,7 @@ ghost use Rattle.std.specs.Prelude.{◌≡◌, ℕ, ◌+◌, ◌≤◌, length, 
 ghost use Rattle.mes_json.specs.Tree.{Tree};
 ghost use Rattle.mes_json.specs.Tokens.{BeginsWith};
 ghost use Rattle.mes_json.specs.View.{view};
+ghost use Rattle.mes_part.specs.Appended.{Appends};
 ghost use Rattle.mes_part.specs.Kinds.{Kind, Lawful, Returns};
 ghost use Rattle.mes_part.specs.Parts.{Gives};
 ghost use Rattle.mes_part.specs.declared.part.PartFault.TheVariants.{NoMemory as no_memory};
@@ -12,7 +13,7 @@ use crate::boxed_fault::BoxedFault;
 use crate::limits::STEPS_MOST;
 use crate::path::Path;
 use crate::trail::Trail;
-use mes_json::{Element, Json, NoMemory, Tape};
+use mes_json::{Element, Json, NoMemory, Tape, write_text};
 use std::alloc::{AllocError, AllocFailed, Global};
 
 /// Why a value was not read from a tree.
@@ -76,6 +77,18 @@ pub trait Part: Drop {
         ensures tree { IfOk result (λ t. view t ≡ kind.tree self.now) }
         // It is read back.
         ensures back { OnOk result (Returns kind self.now) };
+
+    /// Appends the canonical text of what the value is written as, and tells how deep that nests. After want of memory what stands
+    /// in `out` is of no use.
+    fn write_json(&self, alloc: Global, out: &mut Vec<u8>) -> Result<u64, NoMemory>
+        ensures text { IfOk result (λ deep. Appends out.old.items (kind.tree self.now) out.new.items deep) }
+        // It is read back.
+        ensures back { OnOk result (Returns kind self.now) }
+    {
+        let tree = self.tree(alloc)?;
+        write_text(&tree, out)?;
+        Ok(tree.depth())
+    }
 
     /// The same value, in memory of its own.
     fn copy(&self, alloc: Global) -> Result<Self, NoMemory>

@@ -1,9 +1,11 @@
 //! What the rows of a message hold, borrowed: each is written under its name, and copied.
 
 ghost use Rattle.std.specs.Prelude.{◌≡◌, ℕ, ◌++◌, List as list, IfOk, IfErr, OnOk};
+ghost use Rattle.mes_part.specs.Appended.{AppendsMembers};
 ghost use Rattle.mes_part.specs.Rows.{Table, need, maybe, many, flag};
 ghost use Rattle.mes_part.specs.Written.{pairs_view};
 
+use crate::append::{append_flag, append_many, append_row, append_some};
 use crate::list::List;
 use crate::part::Part;
 use crate::write_row::{copy_list, copy_some, put, put_flag, put_many, put_some};
@@ -32,6 +34,12 @@ pub trait RowRef {
         ensures unchanged { IfErr result (λ _. pairs_view members.new.items ≡ pairs_view members.old.items) }
         ensures back { OnOk result ((table name.now).Back (value self.now)) };
 
+    /// Appends the text of that member behind a comma, and tells how deep its value nests. After want of memory what stands in `out`
+    /// is of no use.
+    fn append_row(&self, alloc: Global, name: &str, out: &mut Vec<u8>) -> Result<u64, NoMemory>
+        ensures members { IfOk result (λ deep. AppendsMembers out.old.items ((table name.now).members (value self.now)) out.new.items deep) }
+        ensures back { OnOk result ((table name.now).Back (value self.now)) };
+
     /// The same value, in memory of its own.
     fn copy_row(&self, alloc: Global) -> Result<Self::Value, NoMemory>
         ensures { IfOk result (λ v. v ≡ value self.now) };
@@ -57,6 +65,10 @@ impl<'a, T: Part> RowRef for MustRef<'a, T> {
         put(members, alloc, name, self.0)
     }
 
+    fn append_row(&self, alloc: Global, name: &str, out: &mut Vec<u8>) -> Result<u64, NoMemory> {
+        append_row(alloc, name, self.0, out)
+    }
+
     fn copy_row(&self, alloc: Global) -> Result<T, NoMemory> {
         self.0.copy(alloc)
     }
@@ -76,6 +88,10 @@ impl<'a, T: Part> RowRef for &'a Option<T> {
         name: &str,
     ) -> Result<(), NoMemory> {
         put_some(members, alloc, name, self)
+    }
+
+    fn append_row(&self, alloc: Global, name: &str, out: &mut Vec<u8>) -> Result<u64, NoMemory> {
+        append_some(alloc, name, self, out)
     }
 
     fn copy_row(&self, alloc: Global) -> Result<Option<T>, NoMemory> {
@@ -99,6 +115,10 @@ impl<'a, T: Part> RowRef for &'a List<T> {
         put_many(members, alloc, name, self)
     }
 
+    fn append_row(&self, alloc: Global, name: &str, out: &mut Vec<u8>) -> Result<u64, NoMemory> {
+        append_many(alloc, name, self, out)
+    }
+
     fn copy_row(&self, alloc: Global) -> Result<List<T>, NoMemory> {
         copy_list(alloc, self)
     }
@@ -119,6 +139,10 @@ impl RowRef for bool {
         name: &str,
     ) -> Result<(), NoMemory> {
         put_flag(members, alloc, name, *self)
+    }
+
+    fn append_row(&self, _alloc: Global, name: &str, out: &mut Vec<u8>) -> Result<u64, NoMemory> {
+        append_flag(name, *self, out)
     }
 
     fn copy_row(&self, _alloc: Global) -> Result<bool, NoMemory> {

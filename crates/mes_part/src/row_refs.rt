@@ -1,10 +1,12 @@
 //! What all rows of a message hold, borrowed: written one behind the other, and copied.
 
 ghost use Rattle.std.specs.Prelude.{◌≡◌, ℕ, ◌+◌, ◌≤◌, ◌++◌, List as list, length, map, IfOk, IfErr, OnOk};
+ghost use Rattle.mes_part.specs.Appended.{AppendsMembers};
 ghost use Rattle.mes_part.specs.RowNames.{name_at};
 ghost use Rattle.mes_part.specs.Rows.{Table, no_rows, ◌⨾◌};
 ghost use Rattle.mes_part.specs.Written.{pairs_view, Continues};
 
+use crate::append::deeper;
 use crate::row_ref::RowRef;
 use mes_json::{Json, NoMemory, Text};
 use std::alloc::Global;
@@ -38,6 +40,20 @@ pub trait RowRefs {
         ensures front { IfErr result (λ _. Continues (pairs_view members.old.items) (pairs_view members.new.items)) }
         ensures back { OnOk result ((table (map (λ n. n.now) names.now) first).Back (values self.now)) };
 
+    /// Appends the texts of those members, each behind a comma, and tells how deep the deepest value nests. After want of memory
+    /// what stands in `out` is of no use.
+    fn append_rows(
+        &self,
+        alloc: Global,
+        names: &[&str],
+        first: usize,
+        out: &mut Vec<u8>,
+    ) -> Result<u64, NoMemory>
+        requires { first + COUNT ≤ length names.now }
+        ensures members { IfOk result (λ deep. AppendsMembers out.old.items
+            ((table (map (λ n. n.now) names.now) first).members (values self.now)) out.new.items deep) }
+        ensures back { OnOk result ((table (map (λ n. n.now) names.now) first).Back (values self.now)) };
+
     /// The same values, in memory of their own.
     fn copy_rows(&self, alloc: Global) -> Result<Self::Values, NoMemory>
         ensures { IfOk result (λ v. v ≡ values self.now) };
@@ -60,6 +76,17 @@ impl RowRefs for () {
         _first: usize,
     ) -> Result<(), NoMemory> {
         Ok(())
+    }
+
+    #[tactic(auto, using(crate::proofs::AppendLemmas::no_members))]
+    fn append_rows(
+        &self,
+        _alloc: Global,
+        _names: &[&str],
+        _first: usize,
+        _out: &mut Vec<u8>,
+    ) -> Result<u64, NoMemory> {
+        Ok(0)
     }
 
     fn copy_rows(&self, _alloc: Global) -> Result<(), NoMemory> {
@@ -85,6 +112,19 @@ impl<H: RowRef, T: RowRefs> RowRefs for (H, T) {
     ) -> Result<(), NoMemory> {
         self.0.put_row(members, alloc, names[first])?;
         self.1.put_rows(members, alloc, names, first + 1)
+    }
+
+    #[tactic(auto, using(crate::proofs::AppendLemmas::both_members))]
+    fn append_rows(
+        &self,
+        alloc: Global,
+        names: &[&str],
+        first: usize,
+        out: &mut Vec<u8>,
+    ) -> Result<u64, NoMemory> {
+        let head = self.0.append_row(alloc, names[first], out)?;
+        let rest = self.1.append_rows(alloc, names, first + 1, out)?;
+        Ok(deeper(head, rest))
     }
 
     fn copy_rows(&self, alloc: Global) -> Result<(H::Value, T::Values), NoMemory> {

@@ -4,6 +4,7 @@ ghost use Rattle.std.specs.Prelude.{◌+◌, ◌&&◌, max};
 ghost use Rattle.mes_part.specs.RowNames.{stand_at};
 ghost use Rattle.mes_part.specs.Rows.{◌⨾◌};
 
+use crate::append::deeper;
 use crate::choice::Choice;
 use crate::found::Found;
 use crate::part::PartFault;
@@ -65,6 +66,19 @@ impl<'a, C: Choice, T: RowRefs> RowRefs for TypedRef<'a, C, T> {
     ) -> Result<(), NoMemory> {
         self.0.put_choice(members, alloc)?;
         self.1.put_rows(members, alloc, names, first + C::COUNT)
+    }
+
+    #[tactic(auto, using(crate::proofs::AppendLemmas::both_members))]
+    fn append_rows(
+        &self,
+        alloc: Global,
+        names: &[&str],
+        first: usize,
+        out: &mut Vec<u8>,
+    ) -> Result<u64, NoMemory> {
+        let own = self.0.append_choice(alloc, out)?;
+        let rest = self.1.append_rows(alloc, names, first + C::COUNT, out)?;
+        Ok(deeper(own, rest))
     }
 
     fn copy_rows(&self, alloc: Global) -> Result<(C, T::Values), NoMemory> {

@@ -4,7 +4,7 @@ ghost use Rattle.mes_record.specs.Texts.{IsTextOf, canonical_of, Fits, IsRefusal
 
 use mes_frame::Limit;
 use mes_part::Part;
-use mes_part::json::{NESTING_LIMIT, NoMemory, text_length, write_text};
+use mes_part::json::{NESTING_LIMIT, NoMemory};
 use std::alloc::Global;
 
 /// Why an event or a call has no canonical text that a record can hold.
@@ -41,16 +41,13 @@ pub fn canonical_bytes<T: Part>(
     ensures only { Fits T.kind value.now limit → MatchResult result (λ text. text.items ≡ canonical_of T.kind value.now) (λ e. e ≡ EncodeFault.NoMemory) }
     ensures err { IfErr result (IsRefusalOf T.kind value.now limit) }
 {
-    let tree = value.tree(alloc)?;
-    if tree.depth() > NESTING_LIMIT as u64 {
+    let mut text = Vec::new(alloc);
+    let depth = value.write_json(alloc, &mut text)?;
+    if depth > NESTING_LIMIT as u64 {
         return Err(EncodeFault::TooDeep);
     }
-    let Some(length) = text_length(&tree, limit.get() as usize) else {
+    if text.len() > limit.get() as usize {
         return Err(EncodeFault::TooLarge);
-    };
-    let Ok(mut text) = Vec::with_capacity(alloc, length) else {
-        return Err(EncodeFault::NoMemory);
-    };
-    write_text(&tree, &mut text)?;
+    }
     Ok(text)
 }

@@ -3,7 +3,7 @@
 use mes_part::json::{self, Element, NoMemory};
 use mes_part::{
     Bytes, MadeOf, Must, MustRef, Part, PartFault, RowList, RowRefs, Rows3, Trail, made,
-    message_tree, pairs, read_message,
+    message_text, message_tree, pairs, read_message,
 };
 use mes_resource::Id;
 use std::alloc::Global;
@@ -69,6 +69,11 @@ impl Part for Message {
     #[tactic(auto, using(crate::specs::Messages::message_body_back), unfolding(crate::specs::Messages::message_body))]
     fn tree(&self, alloc: Global) -> Result<json::Json, NoMemory> {
         message_tree(alloc, &MESSAGE_NAMES, &message_rows!(self))
+    }
+
+    #[tactic(auto, using(crate::specs::Messages::message_body_back), unfolding(crate::specs::Messages::message_body))]
+    fn write_json(&self, alloc: Global, out: &mut Vec<u8>) -> Result<u64, NoMemory> {
+        message_text(alloc, &MESSAGE_NAMES, &message_rows!(self), out)
     }
 
     fn copy(&self, alloc: Global) -> Result<Message, NoMemory> {

@@ -2,8 +2,8 @@
 
 use mes_part::json::{self, Element, NoMemory, Text};
 use mes_part::{
-    MadeOf, Maybe, Part, PartFault, RowList, RowRefs, Rows1, Trail, made, message_tree, pairs,
-    read_message,
+    MadeOf, Maybe, Part, PartFault, RowList, RowRefs, Rows1, Trail, made, message_text,
+    message_tree, pairs, read_message,
 };
 use std::alloc::Global;
 
@@ -59,6 +59,11 @@ impl Part for Allocation {
     #[tactic(auto, using(crate::specs::Reservations::allocation_back), unfolding(crate::specs::Reservations::allocation))]
     fn tree(&self, alloc: Global) -> Result<json::Json, NoMemory> {
         message_tree(alloc, &ALLOCATION_NAMES, &allocation_rows!(self))
+    }
+
+    #[tactic(auto, using(crate::specs::Reservations::allocation_back), unfolding(crate::specs::Reservations::allocation))]
+    fn write_json(&self, alloc: Global, out: &mut Vec<u8>) -> Result<u64, NoMemory> {
+        message_text(alloc, &ALLOCATION_NAMES, &allocation_rows!(self), out)
     }
 
     fn copy(&self, alloc: Global) -> Result<Allocation, NoMemory> {

@@ -2,8 +2,8 @@
 
 use mes_part::json::{self, Element, NoMemory, Text};
 use mes_part::{
-    MadeOf, Must, MustRef, Part, PartFault, RowList, RowRefs, Rows1, Trail, made, message_tree,
-    pairs, read_message,
+    MadeOf, Must, MustRef, Part, PartFault, RowList, RowRefs, Rows1, Trail, made, message_text,
+    message_tree, pairs, read_message,
 };
 use std::alloc::Global;
 
@@ -55,6 +55,11 @@ impl Part for Id {
     #[tactic(auto, using(crate::specs::Ids::id_back), unfolding(crate::specs::Ids::id))]
     fn tree(&self, alloc: Global) -> Result<json::Json, NoMemory> {
         message_tree(alloc, &ID_NAMES, &id_rows!(self))
+    }
+
+    #[tactic(auto, using(crate::specs::Ids::id_back), unfolding(crate::specs::Ids::id))]
+    fn write_json(&self, alloc: Global, out: &mut Vec<u8>) -> Result<u64, NoMemory> {
+        message_text(alloc, &ID_NAMES, &id_rows!(self), out)
     }
 
     fn copy(&self, alloc: Global) -> Result<Id, NoMemory> {

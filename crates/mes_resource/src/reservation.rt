@@ -2,8 +2,8 @@
 
 use mes_part::json::{self, Element, NoMemory, Text};
 use mes_part::{
-    Labels, MadeOf, Maybe, Part, PartFault, RowList, RowRefs, Rows4, Trail, made, message_tree,
-    pairs, read_message,
+    Labels, MadeOf, Maybe, Part, PartFault, RowList, RowRefs, Rows4, Trail, made, message_text,
+    message_tree, pairs, read_message,
 };
 use std::alloc::Global;
 
@@ -70,6 +70,11 @@ impl Part for Reservation {
     #[tactic(auto, using(crate::specs::Reservations::reservation_back), unfolding(crate::specs::Reservations::reservation))]
     fn tree(&self, alloc: Global) -> Result<json::Json, NoMemory> {
         message_tree(alloc, &RESERVATION_NAMES, &reservation_rows!(self))
+    }
+
+    #[tactic(auto, using(crate::specs::Reservations::reservation_back), unfolding(crate::specs::Reservations::reservation))]
+    fn write_json(&self, alloc: Global, out: &mut Vec<u8>) -> Result<u64, NoMemory> {
+        message_text(alloc, &RESERVATION_NAMES, &reservation_rows!(self), out)
     }
 
     fn copy(&self, alloc: Global) -> Result<Reservation, NoMemory> {

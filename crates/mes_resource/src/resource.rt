@@ -9,8 +9,8 @@ use crate::value::{Ranges, Scalar, Set};
 use mes_part::json::{self, Element, NoMemory, Text};
 use mes_part::{
     Choice, FieldWhy, Flag, Found, Kept, List, MadeOf, Many, Maybe, Must, MustRef, Part, PartFault,
-    RowList, RowRefs, Rows8, Trail, Typed, TypedRef, made, message_tree, pairs, put, put_type,
-    read_message, required, type_of, type_refusal,
+    RowList, RowRefs, Rows8, Trail, Typed, TypedRef, append_case, made, message_text, message_tree,
+    pairs, put, put_type, read_message, required, type_of, type_refusal,
 };
 use std::alloc::Global;
 
@@ -88,6 +88,14 @@ impl Choice for ResourceValue {
                 put_type(members, alloc, "SET")?;
                 put(members, alloc, "set", set)
             }
+        }
+    }
+
+    fn append_choice(&self, alloc: Global, out: &mut Vec<u8>) -> Result<u64, NoMemory> {
+        match self {
+            ResourceValue::Scalar(scalar) => append_case(alloc, "SCALAR", "scalar", scalar, out),
+            ResourceValue::Ranges(ranges) => append_case(alloc, "RANGES", "ranges", ranges, out),
+            ResourceValue::Set(set) => append_case(alloc, "SET", "set", set, out),
         }
     }
 
@@ -221,6 +229,11 @@ impl Part for Resource {
     #[tactic(auto, using(crate::specs::Resources::resource_back), unfolding(crate::specs::Resources::resource))]
     fn tree(&self, alloc: Global) -> Result<json::Json, NoMemory> {
         message_tree(alloc, &RESOURCE_NAMES, &resource_rows!(self))
+    }
+
+    #[tactic(auto, using(crate::specs::Resources::resource_back), unfolding(crate::specs::Resources::resource))]
+    fn write_json(&self, alloc: Global, out: &mut Vec<u8>) -> Result<u64, NoMemory> {
+        message_text(alloc, &RESOURCE_NAMES, &resource_rows!(self), out)
     }
 
     fn copy(&self, alloc: Global) -> Result<Resource, NoMemory> {

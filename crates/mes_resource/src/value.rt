@@ -4,7 +4,7 @@ use mes_part::fixed::Thousandths;
 use mes_part::json::{self, Element, NoMemory, Text};
 use mes_part::{
     List, MadeOf, Many, Must, MustRef, Part, PartFault, RowList, RowRefs, Rows1, Rows2, Trail,
-    made, message_tree, pairs, read_message,
+    made, message_text, message_tree, pairs, read_message,
 };
 use std::alloc::Global;
 
@@ -60,6 +60,11 @@ impl Part for Scalar {
     #[tactic(auto, using(crate::specs::Values::scalar_back), unfolding(crate::specs::Values::scalar))]
     fn tree(&self, alloc: Global) -> Result<json::Json, NoMemory> {
         message_tree(alloc, &SCALAR_NAMES, &scalar_rows!(self))
+    }
+
+    #[tactic(auto, using(crate::specs::Values::scalar_back), unfolding(crate::specs::Values::scalar))]
+    fn write_json(&self, alloc: Global, out: &mut Vec<u8>) -> Result<u64, NoMemory> {
+        message_text(alloc, &SCALAR_NAMES, &scalar_rows!(self), out)
     }
 
     fn copy(&self, alloc: Global) -> Result<Scalar, NoMemory> {
@@ -127,6 +132,11 @@ impl Part for Range {
         message_tree(alloc, &RANGE_NAMES, &range_rows!(self))
     }
 
+    #[tactic(auto, using(crate::specs::Values::range_back), unfolding(crate::specs::Values::range))]
+    fn write_json(&self, alloc: Global, out: &mut Vec<u8>) -> Result<u64, NoMemory> {
+        message_text(alloc, &RANGE_NAMES, &range_rows!(self), out)
+    }
+
     fn copy(&self, alloc: Global) -> Result<Range, NoMemory> {
         let values = range_rows!(self).copy_rows(alloc)?;
         Ok(Range::made_of(values))
@@ -187,6 +197,11 @@ impl Part for Ranges {
         message_tree(alloc, &RANGES_NAMES, &ranges_rows!(self))
     }
 
+    #[tactic(auto, using(crate::specs::Values::ranges_back), unfolding(crate::specs::Values::ranges))]
+    fn write_json(&self, alloc: Global, out: &mut Vec<u8>) -> Result<u64, NoMemory> {
+        message_text(alloc, &RANGES_NAMES, &ranges_rows!(self), out)
+    }
+
     fn copy(&self, alloc: Global) -> Result<Ranges, NoMemory> {
         let values = ranges_rows!(self).copy_rows(alloc)?;
         Ok(Ranges::made_of(values))
@@ -241,6 +256,11 @@ impl Part for Set {
     #[tactic(auto, using(crate::specs::Values::set_back), unfolding(crate::specs::Values::set))]
     fn tree(&self, alloc: Global) -> Result<json::Json, NoMemory> {
         message_tree(alloc, &SET_NAMES, &set_rows!(self))
+    }
+
+    #[tactic(auto, using(crate::specs::Values::set_back), unfolding(crate::specs::Values::set))]
+    fn write_json(&self, alloc: Global, out: &mut Vec<u8>) -> Result<u64, NoMemory> {
+        message_text(alloc, &SET_NAMES, &set_rows!(self), out)
     }
 
     fn copy(&self, alloc: Global) -> Result<Set, NoMemory> {

@@ -2,6 +2,7 @@
 //! The two ends of a connection over any devices: one to a test master, served; and a stream of events, subscribed to and shown.
 
 mod asked;
+mod going;
 mod laws;
 mod lines;
 mod opening;

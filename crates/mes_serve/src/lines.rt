@@ -18,7 +18,7 @@ pub const WRITE_FAILED: &str = "net write failed\n";
 /// The lines of a connection: the status that was answered and the type of the call, each `-` if there was none; and one more where
 /// the reply could not be encoded or written.
 pub(crate) fn served_lines(
-    reply: &Reply,
+    reply: &Reply<'_>,
     asked: &Asked,
     sent: &Result<(), Unsent>,
 ) -> ArrayString<LINES_MOST>

@@ -3,24 +3,23 @@
 ghost use Rattle.std.specs.Prelude.{◌≡◌, ◌≤◌, length};
 ghost use Rattle.mes_serve.specs.Lines.{reply_name};
 
+use crate::going::Going;
 use http::StatusCode;
 use itoa::Buffer;
 use mes_http::StreamId;
-use mes_msg::Event;
-use mes_part::List;
 
 /// What a connection is answered.
 #[derive(Drop)]
-pub(crate) enum Reply {
+pub(crate) enum Reply<'a> {
     /// Nothing: it is closed.
     Nothing,
     /// This status, and no body.
     Status(StatusCode),
     /// Status 200, and the stream of this id with these events.
-    Stream(StreamId, List<Event>),
+    Stream(StreamId, Going<'a>),
 }
 
-impl Reply {
+impl<'a> Reply<'a> {
     /// The status, written into the buffer, or `-`.
     pub(crate) fn name<'b>(&self, digits: &'b mut Buffer) -> &'b str
         ensures name { result.now ≡ reply_name self.now }

@@ -8,6 +8,7 @@ ghost use Rattle.mes_serve.specs.Opening.{so_far, and_all_given};
 ghost use Rattle.mes_serve.specs.Replying.{Replies, IsService, Lacks, reply_to_fault, reply_to_text, service, streamed};
 
 use crate::asked::Asked;
+use crate::going::Going;
 use crate::opening::send_all;
 use crate::reply::Reply;
 use http::StatusCode;
@@ -15,11 +16,15 @@ use mes_http::{HeadFault, StreamId};
 use mes_json::NoMemory;
 use mes_master::Master;
 use mes_msg::{Call, Event, RecordFault};
-use mes_part::List;
 use std::alloc::Global;
 
 /// What is answered to what was asked, with these events for a stream. Refused memory, nothing is answered.
-pub(crate) fn reply_to(alloc: Global, master: &mut Master, given: &[Event], asked: &Asked) -> Reply
+pub(crate) fn reply_to<'a>(
+    alloc: Global,
+    master: &mut Master,
+    given: &'a [Event],
+    asked: &Asked,
+) -> Reply<'a>
     ensures { Replies master.old given.now asked.now result master.new }
 {
     match asked {
@@ -35,7 +40,7 @@ pub(crate) fn reply_to(alloc: Global, master: &mut Master, given: &[Event], aske
 }
 
 /// What is answered where no request came, or one that was refused.
-fn reply_to_fault(fault: HeadFault) -> Reply
+fn reply_to_fault<'a>(fault: HeadFault) -> Reply<'a>
     ensures { result ≡ reply_to_fault fault }
 {
     match fault {
@@ -47,7 +52,7 @@ fn reply_to_fault(fault: HeadFault) -> Reply
 }
 
 /// What is answered to a body that is no call.
-fn reply_to_text(fault: &RecordFault) -> Reply
+fn reply_to_text<'a>(fault: &RecordFault) -> Reply<'a>
     ensures { result ≡ reply_to_text fault.now }
 {
     match fault {
@@ -57,13 +62,13 @@ fn reply_to_text(fault: &RecordFault) -> Reply
 }
 
 /// What is answered to a call that names this stream, or none.
-fn reply_to_call(
+fn reply_to_call<'a>(
     alloc: Global,
     master: &mut Master,
-    given: &[Event],
+    given: &'a [Event],
     stream: Option<&StreamId>,
     call: &Call,
-) -> Result<Reply, NoMemory>
+) -> Result<Reply<'a>, NoMemory>
     ensures ok { IfOk result (λ reply. IsService (service (handled master.old call.now (option_copied stream.entry)) given.now) reply master.new) }
     ensures memory { OnErr result (MayWantMemory master.old call.now (option_copied stream.entry)) }
     ensures err { OnErr result (Lacks master.old (handled master.old call.now (option_copied stream.entry)) given.now master.new) }
@@ -76,21 +81,21 @@ fn reply_to_call(
 }
 
 /// The stream that a master with these first events opens.
-fn open_stream(
+fn open_stream<'a>(
     alloc: Global,
     master: &mut Master,
-    given: &[Event],
+    given: &'a [Event],
     first: Vec<Event>,
-) -> Result<Reply, NoMemory>
+) -> Result<Reply<'a>, NoMemory>
     ensures ok { IfOk result (λ reply. IsService (streamed master.old.stream (and_all_given (so_far first.items master.old) given.now)) reply master.new) }
     ensures err { OnErr result ((front : list EventValue) × (rest : list EventValue) × (given.now ≡ front ++ rest)
         × (master.new ≡ (and_all_given (so_far first.items master.old) front).master)) }
 {
     let id = master.stream().map(StreamId::copy);
-    let mut events = first;
-    send_all(alloc, master, given, &mut events)?;
+    let mut events = Going::new(alloc, first);
+    send_all(master, given, &mut events)?;
     match id {
-        Some(id) => Ok(Reply::Stream(id, List::new(events))),
+        Some(id) => Ok(Reply::Stream(id, events)),
         None => Ok(Reply::Nothing),
     }
 }

@@ -24,7 +24,7 @@ pub struct Served {
 /// Prints the lines of a connection, and answers what became of it.
 pub(crate) fn tell_served<O: Sink>(
     out: &mut O,
-    reply: &Reply,
+    reply: &Reply<'_>,
     asked: &Asked,
     sent: &Result<(), Unsent>,
 ) -> Result<Served, WriteFault>

@@ -5,13 +5,14 @@ ghost use Rattle.mes_frame.specs.Devices.{device_of};
 ghost use Rattle.mes_serve.specs.Writing.{Writes, WritesRecords};
 ghost use Rattle.mes_serve.specs.declared.reply.Reply.TheVariants as reply;
 
+use crate::going::Going;
 use crate::reply::Reply;
 use http::StatusCode;
 use mes_frame::{CHUNK_LEAST, CHUNK_MOST, Limit, Sink, WriteFault, write_chunked};
 use mes_http::{StreamId, write_ok, write_status};
-use mes_msg::{Event, SendFault};
+use mes_msg::SendFault;
 use mes_run::ChunkSize;
-use mes_stream::encode_events;
+use mes_stream::encode_each;
 use std::alloc::Global;
 
 /// Why a reply did not go out whole.
@@ -54,7 +55,7 @@ impl From<SendFault> for Unsent {
 /// Writes a reply: a stream in chunks of `most` bytes, all of whose events are encoded before the first byte is written.
 pub(crate) fn write_reply<W: Sink>(
     alloc: Global,
-    reply: &Reply,
+    reply: &Reply<'_>,
     most: ChunkSize,
     writer: &mut W,
 ) -> Result<(), Unsent>
@@ -63,7 +64,7 @@ pub(crate) fn write_reply<W: Sink>(
     match reply {
         Reply::Nothing => Ok(()),
         Reply::Status(code) => write_head(*code, writer),
-        Reply::Stream(id, events) => write_stream(alloc, id, events.as_slice(), most, writer),
+        Reply::Stream(id, events) => write_stream(alloc, id, events, most, writer),
     }
 }
 
@@ -79,13 +80,16 @@ fn write_head<W: Sink>(code: StatusCode, writer: &mut W) -> Result<(), Unsent>
 fn write_stream<W: Sink>(
     alloc: Global,
     id: &StreamId,
-    events: &[Event],
+    events: &Going<'_>,
     most: ChunkSize,
     writer: &mut W,
 ) -> Result<(), Unsent>
     ensures { Writes most (reply.Stream id.now events.now) (device_of W.written W.counts writer.old) (device_of W.written W.counts writer.new) result }
 {
-    let records = encode_events(alloc, events, Limit::USUAL)?;
+    let Ok(all) = events.all(alloc) else {
+        return Err(Unsent::NoMemory);
+    };
+    let records = encode_each(alloc, all.as_slice(), Limit::USUAL)?;
     write_records(id, records.as_slice(), most.get(), writer)
 }
 

@@ -1,8 +1,8 @@
 -- Events encoded one by one, and what became of their bytes.
-use Rattle.std.proofs.Common.{◌≡◌, ℕ, suc, ◌+◌, ◌^◌, ◌<◌, List, [], ◌∷◌, ◌++◌, Option, length, take, drop, get_or, ap, sym, ◌∙◌, subst, append-nil, arith, length-take-le}
+use Rattle.std.proofs.Common.{◌≡◌, ℕ, suc, ◌+◌, ◌^◌, ◌<◌, List, [], ◌∷◌, ◌++◌, Option, length, take, drop, get_or, ap, sym, ◌∙◌, subst, append-nil, arith, length-take-le, map, Bor}
 use Rattle.std.proofs.Math.Seq.{split_at}
 use Rattle.std.proofs.lemmas.Grind.{flat_map-append}
-use Rattle.std.proofs.lemmas.List.{take_more}
+use Rattle.std.proofs.lemmas.List.{take_more, get_or-map, length-map}
 use Rattle.std.proofs.lemmas.List.Elements.{All-append, All-nil, All-cons}
 use Rattle.std.specs.Io.KnownBytes.{Appends}
 use Rattle.mes_frame.proofs.Framings.{one_framing, framing_is_chunked}
@@ -24,6 +24,17 @@ use Rattle.mes_stream.specs.Sending.{records_of, AllGood, IsBad, IsFirstBad, IsP
 use Rattle.mes_msg.specs.declared.send_fault.EncodeWhy.{EncodeWhy}
 use Rattle.mes_msg.specs.declared.send_fault.EncodeWhy.TheVariants.{TooDeep, TooLarge}
 use Rattle.mes_msg.specs.declared.send_fault.SendFault.TheVariants.{Write}
+
+-- the events that are borrowed
+abbrev pub borrowed : List (Bor Event) → List Event
+borrowed refs = map (λ event. event.now) refs
+
+pub behind_refs : (refs : List (Bor Event)) (i : ℕ) → i < length refs → i < length (borrowed refs)
+behind_refs refs i inside = omega (arith, inside, length-map refs (λ (event : Bor Event). event.now))
+
+pub ref_at : (refs : List (Bor Event)) (i : ℕ) (ref : Bor Event) → i < length refs → ref ≡ get_or refs i ref → ref.now ≡ get_or (borrowed refs) i ref.now
+ref_at refs i ref inside here =
+    ap (λ (event : Bor Event). event.now) here ∙ sym (get_or-map (λ (event : Bor Event). event.now) refs i ref ref.now inside)
 
 -- one event more
 pub plain_of_more : (limit : ℕ) (events : List Event) (i : ℕ) (event : Event) (old new : List ℕ) → i < length events → event ≡ get_or events i event

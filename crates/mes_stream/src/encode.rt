@@ -1,6 +1,6 @@
 //! Events encoded to the records of plain RecordIO.
 
-ghost use Rattle.std.specs.Prelude.{◌≡◌, ◌++◌, OnOk, IfOk, IfErr};
+ghost use Rattle.std.specs.Prelude.{◌≡◌, ◌++◌, map, OnOk, IfOk, IfErr};
 ghost use Rattle.mes_frame.specs.Frames.{record_bytes};
 ghost use Rattle.mes_frame.specs.Record.{IsRecord};
 ghost use Rattle.mes_msg.specs.Canon.{canonical_text, IsGood, IsEncodeFault};
@@ -18,6 +18,28 @@ use std::alloc::Global;
 pub fn encode_events(alloc: Global, events: &[Event], limit: Limit) -> Result<Vec<u8>, SendFault>
     ensures ok { IfOk result (λ body. IsPlainOf limit events.now body.items) }
     ensures err { IfErr result (IsUnsent limit events.now) }
+{
+    match event_refs(alloc, events) {
+        Ok(refs) => encode_each(alloc, refs.as_slice(), limit),
+        Err(_) => Err(SendFault::NoMemory),
+    }
+}
+
+/// The events, borrowed one by one.
+pub fn event_refs(alloc: Global, events: &[Event]) -> Result<Vec<&Event>, NoMemory>
+    ensures { IfOk result (λ refs. map (λ event. event.now) refs.items ≡ events.now) }
+{
+    let mut refs = Vec::with_capacity(alloc, events.len())?;
+    for event in events {
+        refs.push(event)?;
+    }
+    Ok(refs)
+}
+
+/// The records of the canonical texts of events that need not stand side by side, as of `encode_events`.
+pub fn encode_each(alloc: Global, events: &[&Event], limit: Limit) -> Result<Vec<u8>, SendFault>
+    ensures ok { IfOk result (λ body. IsPlainOf limit (map (λ event. event.now) events.now) body.items) }
+    ensures err { IfErr result (IsUnsent limit (map (λ event. event.now) events.now)) }
 {
     let mut body = Vec::new(alloc);
     for (index, event) in events.iter().enumerate() {

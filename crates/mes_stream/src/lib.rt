@@ -25,7 +25,7 @@ mod unsent;
 pub use body::Body;
 pub use chunked::ChunkedBody;
 pub use decoder::{Decoder, RecordDecoder};
-pub use encode::encode_events;
+pub use encode::{encode_each, encode_events, event_refs};
 pub use event_reader::EventReader;
 pub use fault::{Fault, Report, Stop};
 pub use laws::{

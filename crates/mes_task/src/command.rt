@@ -2,8 +2,8 @@
 
 use mes_part::json::{self, Element, NoMemory, Text};
 use mes_part::{
-    List, MadeOf, Many, Maybe, Part, PartFault, RowList, RowRefs, Rows3, Trail, made, message_tree,
-    pairs, read_message,
+    List, MadeOf, Many, Maybe, Part, PartFault, RowList, RowRefs, Rows3, Trail, made, message_text,
+    message_tree, pairs, read_message,
 };
 use std::alloc::Global;
 
@@ -67,6 +67,11 @@ impl Part for Command {
     #[tactic(auto, using(crate::specs::Tasks::command_back), unfolding(crate::specs::Tasks::command))]
     fn tree(&self, alloc: Global) -> Result<json::Json, NoMemory> {
         message_tree(alloc, &COMMAND_NAMES, &command_rows!(self))
+    }
+
+    #[tactic(auto, using(crate::specs::Tasks::command_back), unfolding(crate::specs::Tasks::command))]
+    fn write_json(&self, alloc: Global, out: &mut Vec<u8>) -> Result<u64, NoMemory> {
+        message_text(alloc, &COMMAND_NAMES, &command_rows!(self), out)
     }
 
     fn copy(&self, alloc: Global) -> Result<Command, NoMemory> {

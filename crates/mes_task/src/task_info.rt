@@ -4,7 +4,7 @@ use crate::command::Command;
 use mes_part::json::{self, Element, NoMemory, Text};
 use mes_part::{
     Kept, List, MadeOf, Many, Maybe, Must, MustRef, Part, PartFault, RowList, RowRefs, Rows6,
-    Trail, made, message_tree, pairs, read_message,
+    Trail, made, message_text, message_tree, pairs, read_message,
 };
 use mes_resource::{Id, Resource};
 use std::alloc::Global;
@@ -92,6 +92,11 @@ impl Part for TaskInfo {
     #[tactic(auto, using(crate::specs::Tasks::task_info_back), unfolding(crate::specs::Tasks::task_info))]
     fn tree(&self, alloc: Global) -> Result<json::Json, NoMemory> {
         message_tree(alloc, &TASK_INFO_NAMES, &task_info_rows!(self))
+    }
+
+    #[tactic(auto, using(crate::specs::Tasks::task_info_back), unfolding(crate::specs::Tasks::task_info))]
+    fn write_json(&self, alloc: Global, out: &mut Vec<u8>) -> Result<u64, NoMemory> {
+        message_text(alloc, &TASK_INFO_NAMES, &task_info_rows!(self), out)
     }
 
     fn copy(&self, alloc: Global) -> Result<TaskInfo, NoMemory> {

@@ -3,7 +3,7 @@
 use mes_part::json::{self, Element, NoMemory};
 use mes_part::{
     MadeOf, Maybe, Must, MustRef, Part, PartFault, RowList, RowRefs, Rows2, Trail, made,
-    message_tree, pairs, read_message,
+    message_text, message_tree, pairs, read_message,
 };
 use mes_resource::Id;
 use std::alloc::Global;
@@ -65,6 +65,11 @@ impl Part for TaskRef {
     #[tactic(auto, using(crate::specs::Tasks::task_ref_back), unfolding(crate::specs::Tasks::task_ref))]
     fn tree(&self, alloc: Global) -> Result<json::Json, NoMemory> {
         message_tree(alloc, &TASK_REF_NAMES, &task_ref_rows!(self))
+    }
+
+    #[tactic(auto, using(crate::specs::Tasks::task_ref_back), unfolding(crate::specs::Tasks::task_ref))]
+    fn write_json(&self, alloc: Global, out: &mut Vec<u8>) -> Result<u64, NoMemory> {
+        message_text(alloc, &TASK_REF_NAMES, &task_ref_rows!(self), out)
     }
 
     fn copy(&self, alloc: Global) -> Result<TaskRef, NoMemory> {

@@ -116,6 +116,12 @@ impl Part for TaskState {
         Ok(json::Json::Text(Text::of(alloc, self.name())?))
     }
 
+    #[tactic(auto, unfolding(crate::specs::TaskStates::states))]
+    fn write_json(&self, _alloc: Global, out: &mut Vec<u8>) -> Result<u64, NoMemory> {
+        json::write_str(self.name(), out)?;
+        Ok(0)
+    }
+
     fn copy(&self, _alloc: Global) -> Result<TaskState, NoMemory> {
         Ok(*self)
     }

@@ -10,7 +10,7 @@ use mes_part::fixed::Micros;
 use mes_part::json::{self, Element, NoMemory, Text};
 use mes_part::{
     Bytes, Labels, MadeOf, Maybe, Must, MustRef, Part, PartFault, RowList, RowRefs, Rows13, Trail,
-    made, message_tree, pairs, read_message,
+    made, message_text, message_tree, pairs, read_message,
 };
 use mes_resource::Id;
 use std::alloc::Global;
@@ -175,6 +175,11 @@ impl Part for TaskStatus {
     #[tactic(auto, using(crate::specs::TaskStatuses::task_status_back), unfolding(crate::specs::TaskStatuses::task_status))]
     fn tree(&self, alloc: Global) -> Result<json::Json, NoMemory> {
         message_tree(alloc, &TASK_STATUS_NAMES, &task_status_rows!(self))
+    }
+
+    #[tactic(auto, using(crate::specs::TaskStatuses::task_status_back), unfolding(crate::specs::TaskStatuses::task_status))]
+    fn write_json(&self, alloc: Global, out: &mut Vec<u8>) -> Result<u64, NoMemory> {
+        message_text(alloc, &TASK_STATUS_NAMES, &task_status_rows!(self), out)
     }
 
     fn copy(&self, alloc: Global) -> Result<TaskStatus, NoMemory> {

@@ -2,8 +2,8 @@
 
 use mes_part::json::{self, Element, NoMemory};
 use mes_part::{
-    MadeOf, Must, MustRef, Part, PartFault, RowList, RowRefs, Rows1, Trail, made, message_tree,
-    pairs, read_message,
+    MadeOf, Must, MustRef, Part, PartFault, RowList, RowRefs, Rows1, Trail, made, message_text,
+    message_tree, pairs, read_message,
 };
 use std::alloc::Global;
 
@@ -59,6 +59,11 @@ impl Part for TimeInfo {
     #[tactic(auto, using(crate::specs::Times::time_info_back), unfolding(crate::specs::Times::time_info))]
     fn tree(&self, alloc: Global) -> Result<json::Json, NoMemory> {
         message_tree(alloc, &TIME_INFO_NAMES, &time_info_rows!(self))
+    }
+
+    #[tactic(auto, using(crate::specs::Times::time_info_back), unfolding(crate::specs::Times::time_info))]
+    fn write_json(&self, alloc: Global, out: &mut Vec<u8>) -> Result<u64, NoMemory> {
+        message_text(alloc, &TIME_INFO_NAMES, &time_info_rows!(self), out)
     }
 
     fn copy(&self, alloc: Global) -> Result<TimeInfo, NoMemory> {

@@ -1,5 +1,5 @@
 //! What a test master sends of its own.
-ghost use Rattle.std.specs.Prelude.{◌≡◌, ◌⊎◌, ◌++◌, [], ◌∷◌, false, Ok, Err, IsOk, IsSome, IfOk, IfErr, OnErr};
+ghost use Rattle.std.specs.Prelude.{◌≡◌, ◌≢◌, ◌⊎◌, ◌++◌, [], ◌∷◌, false, Ok, Err, IsOk, IsSome, IfSome, IfNone, IfOk, IfErr, OnOk, OnErr};
 ghost use Rattle.mes_master.specs.declared.refusal.MasterRefusal.TheVariants.{NoMemory as no_memory};
 ghost use Rattle.mes_master.specs.Masters.{is_owing, update_event};
 ghost use Rattle.mes_master.specs.Sending.{offer_ids, comes_again, made, offers_sent, rescind_sent, told, told_owing, update_sent, resend_sent};
@@ -10,7 +10,7 @@ use crate::news;
 use crate::refusal::MasterRefusal;
 use crate::updates::{is_owing, note, note_owing, waiting_at};
 use mes_json::{NoMemory, Text};
-use mes_model::{Id, Offer, OwedKey, TaskStatus};
+use mes_model::{Id, Offer, TaskStatus};
 use mes_msg::{Event, Rescind};
 use mes_part::Part;
 
@@ -21,27 +21,51 @@ impl Master {
         ensures err { IfErr result (λ why. (self.new ≡ self.old) × ((why ≡ no_memory) ⊎ (offers_sent self.old offers.now ≡ Err why))) }
         ensures memory { IfErr result (λ why. why ≡ no_memory → IsOk (offers_sent self.old offers.now)) }
     {
+        if let Some(why) = self.refusal_of(offers) {
+            return Err(why);
+        }
+        let event = news::offers(self.alloc, offers)?;
+        self.make(offers)?;
+        Ok(event)
+    }
+
+    /// The same for who has that OFFERS: the offers are outstanding then, and no event is given.
+    pub fn note_offers(&mut self, offers: &[Offer]) -> Result<(), MasterRefusal>
+        ensures ok { OnOk result (offers_sent self.old offers.now ≡ Ok (Event.Offers offers.now, self.new)) }
+        ensures err { IfErr result (λ why. (self.new ≡ self.old) × ((why ≡ no_memory) ⊎ (offers_sent self.old offers.now ≡ Err why))) }
+        ensures memory { IfErr result (λ why. why ≡ no_memory → IsOk (offers_sent self.old offers.now)) }
+    {
+        match self.refusal_of(offers) {
+            None => Ok(self.make(offers)?),
+            Some(why) => Err(why),
+        }
+    }
+
+    /// Why these offers may not be made, M1 or M2, if they may not. Takes no memory.
+    fn refusal_of(&self, offers: &[Offer]) -> Option<MasterRefusal>
+        ensures none { IfNone result (IsSome self.now.stream × (comes_again self.now.offered (offer_ids offers.now) ≡ false)) }
+        ensures some { IfSome result (λ why. (why ≢ no_memory) × (offers_sent self.now offers.now ≡ Err why)) }
+    {
         if self.stream.is_none() {
-            return Err(MasterRefusal::NoStream);
+            return Some(MasterRefusal::NoStream);
         }
         if comes_again(&self.offered, offers) {
-            return Err(MasterRefusal::OfferTwice);
+            return Some(MasterRefusal::OfferTwice);
         }
-        Ok(self.make(offers)?)
+        None
     }
 
     /// Makes offers none of which was made before, nor two of one identifier.
-    fn make(&mut self, offers: &[Offer]) -> Result<Event, NoMemory>
+    fn make(&mut self, offers: &[Offer]) -> Result<(), NoMemory>
         requires { comes_again self.old.offered (offer_ids offers.now) ≡ false }
-        ensures ok { IfOk result (λ event. made self.old offers.now ≡ (event, self.new)) }
+        ensures ok { OnOk result (made self.old offers.now ≡ (Event.Offers offers.now, self.new)) }
         ensures err { OnErr result (self.new ≡ self.old) }
     {
-        let event = news::offers(self.alloc, offers)?;
         let ids = ids_of_offers(self.alloc, offers)?;
         reserve(&mut self.offered, ids.len())?;
         self.outstanding.add(self.alloc, offers)?;
         put_new(&mut self.offered, ids);
-        Ok(event)
+        Ok(())
     }
 
     /// The RESCIND that takes back the outstanding offer of that identifier, or M1, M3 or, in the place of the event, M6.
@@ -71,34 +95,27 @@ impl Master {
         if self.stream.is_none() {
             return Err(MasterRefusal::NoStream);
         }
+        let event = news::update(self.alloc, status)?;
+        self.note_update(status)?;
+        Ok(event)
+    }
+
+    /// The same for who has that UPDATE: the status is the last of its task then, and no event is given.
+    pub fn note_update(&mut self, status: &TaskStatus) -> Result<(), MasterRefusal>
+        ensures ok { OnOk result (update_sent self.old status.now ≡ Ok (update_event status.now, self.new)) }
+        ensures err { IfErr result (λ why. (self.new ≡ self.old) × ((why ≡ no_memory) ⊎ (update_sent self.old status.now ≡ Err why))) }
+        ensures memory { IfErr result (λ why. why ≡ no_memory → IsSome self.old.stream) }
+    {
+        if self.stream.is_none() {
+            return Err(MasterRefusal::NoStream);
+        }
         let Some(key) = status.owed_key(self.alloc)? else {
-            return Ok(self.tell(status)?);
+            return Ok(note(self.alloc, &mut self.latest, status)?);
         };
         if is_owing(&self.owing, &key) {
             return Err(MasterRefusal::UpdateTwice);
         }
-        Ok(self.tell_owing(key, status)?)
-    }
-
-    /// Tells a status that owes nothing.
-    fn tell(&mut self, status: &TaskStatus) -> Result<Event, NoMemory>
-        ensures ok { IfOk result (λ event. (event ≡ update_event status.now) × (self.new ≡ told self.old status.now)) }
-        ensures err { OnErr result (self.new ≡ self.old) }
-    {
-        let event = news::update(self.alloc, status)?;
-        note(self.alloc, &mut self.latest, status)?;
-        Ok(event)
-    }
-
-    /// Tells a status that owes an acknowledgement, of a key that was not used before.
-    fn tell_owing(&mut self, key: OwedKey, status: &TaskStatus) -> Result<Event, NoMemory>
-        requires { is_owing self.old.owing key ≡ false }
-        ensures ok { IfOk result (λ event. (event ≡ update_event status.now) × (self.new ≡ told_owing self.old key status.now)) }
-        ensures err { OnErr result (self.new ≡ self.old) }
-    {
-        let event = news::update(self.alloc, status)?;
-        note_owing(self.alloc, &mut self.latest, &mut self.owing, key, status)?;
-        Ok(event)
+        Ok(note_owing(self.alloc, &mut self.latest, &mut self.owing, key, status)?)
     }
 
     /// The UPDATE again that stands at that place among those that owe an acknowledgement and have none, or M1, M5 or, in the place of the

@@ -30,7 +30,23 @@ fn expect_text<R: Abort>(rt: &R, alloc: Global, tree: &Json, expected: &str) -> 
     Ok(())
 }
 
-/// The value and its copy are written so.
+/// The text is written so behind a byte that stands there, and the depth told is that of the tree.
+fn expect_direct<R: Abort, T: Part>(
+    rt: &R,
+    alloc: Global,
+    value: &T,
+    expected: &str,
+) -> Result<(), Fail> {
+    let mut out = Vec::from_slice(alloc, b"!")?;
+    let mut whole = Vec::from_slice(alloc, b"!")?;
+    whole.extend_from_slice(expected.as_bytes())?;
+    let deep = value.write_json(alloc, &mut out)?;
+    assert_eq!(rt; deep, value.tree(alloc)?.depth());
+    assert_eq!(rt; out.as_slice(), whole.as_slice());
+    Ok(())
+}
+
+/// The value and its copy are written so, by its tree and without one.
 fn expect_written<R: Abort, T: Part>(
     rt: &R,
     alloc: Global,
@@ -38,6 +54,7 @@ fn expect_written<R: Abort, T: Part>(
     expected: &str,
 ) -> Result<(), Fail> {
     expect_text(rt, alloc, &value.tree(alloc)?, expected)?;
+    expect_direct(rt, alloc, value, expected)?;
     expect_text(rt, alloc, &value.copy(alloc)?.tree(alloc)?, expected)
 }
 

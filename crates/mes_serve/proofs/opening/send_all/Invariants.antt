@@ -4,4 +4,4 @@ use Rattle.mes_serve.proofs.opening.send_all.Given as goal
 
 abbrev pub invariant-loop-event : goal.invariant-loop-event
 invariant-loop-event l =
-    so_far l.sent.items l.master ≡ and_all_given (so_far l.initial.sent.items l.initial.master) (take l.event-index l.given)
+    so_far l.sent l.master ≡ and_all_given (so_far l.initial.sent l.initial.master) (take l.event-index l.given)

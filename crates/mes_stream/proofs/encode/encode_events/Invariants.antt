@@ -1,7 +1,0 @@
-use Rattle.std.proofs.Common.{take}
-use Rattle.mes_stream.specs.Sending.{IsPlainOf}
-use Rattle.mes_stream.proofs.encode.encode_events.Given as goal
-
--- the records of the events so far
-abbrev pub invariant-loop-index : goal.invariant-loop-index
-invariant-loop-index l = IsPlainOf l.limit (take l.index l.events) l.body.items
