@@ -1,0 +1,37 @@
+/* Reads a plain stream from standard input by libmesosev, and prints what `mesosev check` prints: c_stream [without-texts].
+ * It is what bench/c_library measures beside mesosev. */
+#include <mesosev.h>
+#include <stdio.h>
+#include <string.h>
+#include <unistd.h>
+
+static char piece[65536];
+
+int main(int count, char **words)
+{
+    uint32_t flags = count > 1 && strcmp(words[1], "without-texts") == 0 ? MES_WITHOUT_TEXTS : 0;
+    uint64_t events = 0, used_all = 0;
+    mes_decoder *decoder;
+    mes_event event;
+    ssize_t length;
+
+    if (mes_decoder_new(MES_LIMIT_USUAL, MES_PLAIN, flags, &decoder) != MES_GOOD)
+        return 2;
+    uint32_t status = MES_MORE;
+    while (status == MES_MORE && (length = read(0, piece, sizeof piece)) > 0) {
+        size_t at = 0, used;
+        while ((status = mes_decoder_next(decoder, piece + at, (size_t)length - at, &used, &event)) == MES_EVENT) {
+            at += used;
+            events++;
+        }
+        used_all += at + used;
+    }
+    if (status == MES_MORE)
+        status = mes_decoder_finish(decoder, &event);
+    if (status == MES_END)
+        printf("events %llu bytes %llu\n", (unsigned long long)events, (unsigned long long)used_all);
+    else
+        printf("%.*s\n", (int)event.length, event.text);
+    mes_decoder_free(decoder);
+    return status != MES_END;
+}

@@ -1,0 +1,49 @@
+-- What the functions that C calls answer.
+use Rattle.std.specs.Prelude.{◌≡◌, ℕ, ◌⊎◌, List, length, Result, Ok, Err}
+use Rattle.std.specs.Vec.{vec_ptr}
+use Rattle.mes_c.specs.Asking.{IsAsked, refused_status}
+use Rattle.mes_c.specs.Inputs.{TellsInput}
+use Rattle.mes_c.specs.Telling.{TellsNext, TellsFinish}
+use Rattle.mes_c.specs.declared.asking.Asked.{Asked}
+use Rattle.mes_c.specs.declared.asking.Refused.{Refused}
+use Rattle.mes_c.specs.declared.exports.Answer.{Answer}
+use Rattle.mes_c.specs.declared.exports.Counts.{Counts}
+use Rattle.mes_c.specs.declared.statuses.TheConstants.{GOOD, NO_MEMORY}
+use Rattle.mes_c.specs.declared.text_decoder.TextDecoder.{TextDecoder}
+use Rattle.mes_c.specs.declared.text_decoder.Told.{Told}
+
+-- a whole input by what was asked for: what it came to; or a refusal, and nothing else is told
+abbrev pub ChecksAsked : Result Asked Refused → List ℕ → Counts → Counts → List ℕ → List ℕ → ℕ → Type 0
+ChecksAsked (Ok asked) w old new before room status = TellsInput asked.framing asked.limit w new before room status
+ChecksAsked (Err refused) w old new before room status = (status ≡ refused_status refused) × (new ≡ old) × (room ≡ before)
+
+abbrev pub AnswersCheck : ℕ → ℕ → List ℕ → Counts → Counts → List ℕ → List ℕ → ℕ → Type 0
+AnswersCheck limit framing w old new before room status = (asked : Result Asked Refused) × IsAsked limit framing asked × ChecksAsked asked w old new before room status
+
+-- a decoder by what was asked for: it was made, or memory was refused; or a refusal
+abbrev pub MadeAsked : Result Asked Refused → ℕ → Type 0
+MadeAsked (Ok asked) status = (status ≡ GOOD) ⊎ (status ≡ NO_MEMORY)
+MadeAsked (Err refused) status = status ≡ refused_status refused
+
+abbrev pub AnswersNew : ℕ → ℕ → ℕ → Type 0
+AnswersNew limit framing status = (asked : Result Asked Refused) × IsAsked limit framing asked × MadeAsked asked status
+
+-- what was told stands in the answer, with the decoder's text
+pub record IsGiven (decoder : TextDecoder) (told : Told) (used : ℕ) (answer : Answer) (status : ℕ) : Type 0 where
+  pub is_status : status ≡ told.status
+  pub is_used : answer.used ≡ used
+  pub is_kind : answer.kind ≡ told.kind
+  pub is_text : answer.text ≡ vec_ptr decoder.text
+  pub is_size : answer.size ≡ length decoder.text.items
+
+-- a piece was taken
+pub record AnswersNext (old new : TextDecoder) (piece : List ℕ) (answer : Answer) (status : ℕ) : Type 0 where
+  pub told : Told
+  pub next : TellsNext old new piece answer.used told
+  pub given : IsGiven new told answer.used answer status
+
+-- the input has ended
+pub record AnswersFinish (old new : TextDecoder) (answer : Answer) (status : ℕ) : Type 0 where
+  pub told : Told
+  pub finish : TellsFinish old new told
+  pub given : IsGiven new told 0 answer status

@@ -1,0 +1,10 @@
+pub mod Asking
+pub mod CallTexts
+pub mod Decoders
+pub mod Exports
+pub mod HandleLends
+pub mod Handles
+pub mod Inputs
+pub mod Numbers
+pub mod Rooms
+pub mod Telling

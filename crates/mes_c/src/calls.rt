@@ -1,0 +1,96 @@
+//! A call's canonical text, or its fault.
+
+ghost use Rattle.std.specs.Prelude.{◌≡◌};
+ghost use Rattle.mes_call.specs.Calls.{call};
+ghost use Rattle.mes_record.specs.Texts.{IsFaultOf, canonical_of};
+ghost use Rattle.mes_stream.specs.Refusals.{fault_at_record, refusal_of};
+ghost use Rattle.mes_c.specs.CallTexts.{IsCallTold, IsTextTold, PutsCall};
+
+use crate::room::put_text;
+use crate::statuses::{GOOD, NO_TEXT, fault_number};
+use arrayvec::ArrayString;
+use mes_frame::Limit;
+use mes_msg::{Call, RecordFault};
+use mes_part::FieldFault;
+use mes_stream::{FAULT_LINE_MOST, Fault, fault_line};
+use std::alloc::Global;
+
+/// What bytes are to a reader of calls.
+#[derive(Debug, Drop)]
+pub enum CallTold {
+    /// Those of a call with this canonical text.
+    Text(Vec<u8>),
+    /// Those of a call whose canonical text nests too deep, is too large, or wants memory that was refused.
+    NoText,
+    /// Those of no call; they are taken as record 1.
+    Fault(Fault),
+}
+
+/// Reads a call, and tells its canonical text, or its fault.
+pub fn tell_call(alloc: Global, bytes: &[u8]) -> CallTold
+    ensures { IsCallTold bytes.now result }
+{
+    match Call::read_record(alloc, bytes) {
+        Ok(call) => text_told(alloc, &call),
+        Err(fault) => CallTold::Fault(fault_of_call(fault)),
+    }
+}
+
+// The canonical text of a call, or that it has none.
+fn text_told(alloc: Global, of: &Call) -> CallTold
+    ensures { IsTextTold of.now result }
+{
+    match of.canon(alloc, Limit::MOST) {
+        Ok(text) => CallTold::Text(text),
+        Err(_) => CallTold::NoText,
+    }
+}
+
+// The fault, as that of record 1.
+fn fault_of_call(fault: RecordFault) -> Fault
+    ensures { result ≡ fault_at_record 1 (refusal_of fault) }
+{
+    match fault {
+        RecordFault::Text(fault) => Fault::Text {
+            at_record: 1,
+            byte: fault.byte,
+            why: fault.why,
+        },
+        RecordFault::Field(fault) => {
+            let FieldFault { path, why } = fault.into_fault();
+            Fault::Field {
+                at_record: 1,
+                path,
+                why,
+            }
+        }
+        RecordFault::NoMemory => Fault::NoMemory,
+    }
+}
+
+impl CallTold {
+    /// Writes the text, or the line of the fault behind so many bytes, into a caller's room, as much of it as there is place for, and
+    /// tells how long it is. Answers `GOOD`, `NO_TEXT` or the number of the fault.
+    pub fn put(&self, used: u64, size: &mut u64, room: &mut [u8]) -> u32
+        ensures { PutsCall self.now used size.new room.old room.new result }
+    {
+        match self {
+            CallTold::Text(text) => {
+                put_text(text.as_slice(), room);
+                *size = text.len() as u64;
+                GOOD
+            }
+            CallTold::NoText => {
+                *size = 0;
+                NO_TEXT
+            }
+            CallTold::Fault(fault) => {
+                let mut line = ArrayString::<FAULT_LINE_MOST>::new();
+                fault_line(fault, used, &mut line);
+                put_text(line.as_str().as_bytes(), room);
+                *size = line.len() as u64;
+                fault_number(fault)
+            }
+        }
+    }
+}

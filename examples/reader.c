@@ -1,0 +1,28 @@
+/* Prints the canonical text of each event of a plain stream, a line each, and then the fault, if there is one:
+ * cc reader.c $(pkg-config --cflags --libs mesosev) */
+#include <mesosev.h>
+#include <stdio.h>
+
+int main(void)
+{
+    char piece[4096];
+    size_t length, at, used;
+    mes_decoder *decoder;
+    mes_event event;
+
+    if (mes_decoder_new(MES_LIMIT_USUAL, MES_PLAIN, 0, &decoder) != MES_GOOD)
+        return 2;
+    uint32_t status = MES_MORE;
+    while (status == MES_MORE && (length = fread(piece, 1, sizeof piece, stdin)) > 0)
+        for (at = 0, status = MES_EVENT; status == MES_EVENT; at += used) {
+            status = mes_decoder_next(decoder, piece + at, length - at, &used, &event);
+            if (status == MES_EVENT)
+                printf("%.*s\n", (int)event.length, event.text);
+        }
+    if (status == MES_MORE)
+        status = mes_decoder_finish(decoder, &event);
+    if (MES_IS_FAULT(status))
+        printf("%.*s\n", (int)event.length, event.text);
+    mes_decoder_free(decoder);
+    return status == MES_END ? 0 : 1;
+}

@@ -1,0 +1,141 @@
+/* What stands between a C program and the proved functions of crates/mes_c: it refuses null pointers, and ends texts by a NUL. */
+#include "mesosev.h"
+
+#define PUBLIC __attribute__((visibility("default")))
+
+/* What the proved functions take and give (crates/mes_c/src/exports.rt, handle.rt). */
+struct counts {
+    uint64_t events;
+    uint64_t used;
+    uint64_t line;
+};
+
+struct answer {
+    uint64_t used;
+    const uint8_t *text;
+    uint64_t length;
+    uint32_t kind;
+};
+
+struct handle {
+    uint8_t *at;
+};
+
+uint32_t mes_c_check(const uint8_t *bytes, size_t length, uint32_t limit, uint32_t framing, struct counts *counts,
+                     uint8_t *room, size_t place);
+uint32_t mes_c_call(const uint8_t *bytes, size_t length, uint64_t *size, uint8_t *room, size_t place);
+uint32_t mes_c_decoder_new(uint32_t limit, uint32_t framing, uint32_t texts, uint8_t **slot);
+uint32_t mes_c_decoder_next(struct handle *handle, const uint8_t *bytes, size_t length, struct answer *answer);
+uint32_t mes_c_decoder_finish(struct handle *handle, struct answer *answer);
+void mes_c_decoder_free(struct handle handle);
+
+/* Is this pointer null, and not to no bytes? */
+static int is_lost(const void *bytes, size_t length)
+{
+    return bytes == NULL && length > 0;
+}
+
+/* A room without a byte, for a null pointer. */
+static uint8_t nothing;
+
+static const uint8_t *readable(const void *bytes)
+{
+    return bytes != NULL ? bytes : &nothing;
+}
+
+/* Ends a text of so many bytes by a NUL, where the room has a byte. */
+static void end_text(char *room, size_t place, uint64_t length)
+{
+    if (place > 0)
+        room[length < place ? length : place - 1] = '\0';
+}
+
+PUBLIC const char *mes_version(void)
+{
+    return MES_VERSION;
+}
+
+PUBLIC uint32_t mes_check(const void *bytes, size_t length, uint32_t limit, uint32_t framing,
+                          uint64_t *events, uint64_t *used, char *line, size_t room)
+{
+    struct counts counts = {0, 0, 0};
+    uint8_t *place = line != NULL ? (uint8_t *)line : &nothing;
+
+    if (is_lost(bytes, length) || is_lost(line, room))
+        return MES_BAD_POINTER;
+    uint32_t status = mes_c_check(readable(bytes), length, limit, framing, &counts, place, room > 0 ? room - 1 : 0);
+    if (status == MES_BAD_LIMIT || status == MES_BAD_FRAMING)
+        return status;
+    if (events != NULL)
+        *events = counts.events;
+    if (used != NULL)
+        *used = counts.used;
+    end_text(line, room, counts.line);
+    return status;
+}
+
+PUBLIC uint32_t mes_call(const void *bytes, size_t length, char *text, size_t room, size_t *size)
+{
+    uint64_t counted = 0;
+    uint8_t *place = text != NULL ? (uint8_t *)text : &nothing;
+
+    if (is_lost(bytes, length) || is_lost(text, room))
+        return MES_BAD_POINTER;
+    uint32_t status = mes_c_call(readable(bytes), length, &counted, place, room > 0 ? room - 1 : 0);
+    if (size != NULL)
+        *size = counted;
+    end_text(text, room, counted);
+    return status;
+}
+
+PUBLIC uint32_t mes_decoder_new(uint32_t limit, uint32_t framing, uint32_t flags, mes_decoder **decoder)
+{
+    uint8_t *made = NULL;
+
+    if (decoder == NULL)
+        return MES_BAD_POINTER;
+    uint32_t status = mes_c_decoder_new(limit, framing, !(flags & MES_WITHOUT_TEXTS), &made);
+    *decoder = (mes_decoder *)made;
+    return status;
+}
+
+/* Hands out what a decoder told. */
+static void tell(mes_event *event, const struct answer *answer)
+{
+    event->type = answer->kind;
+    event->text = answer->length > 0 ? (const char *)answer->text : NULL;
+    event->length = answer->length;
+}
+
+PUBLIC uint32_t mes_decoder_next(mes_decoder *decoder, const void *bytes, size_t length, size_t *used, mes_event *event)
+{
+    struct handle handle = {(uint8_t *)decoder};
+    struct answer answer = {0, NULL, 0, 0};
+
+    if (decoder == NULL || is_lost(bytes, length) || used == NULL || event == NULL)
+        return MES_BAD_POINTER;
+    uint32_t status = mes_c_decoder_next(&handle, readable(bytes), length, &answer);
+    *used = answer.used;
+    tell(event, &answer);
+    return status;
+}
+
+PUBLIC uint32_t mes_decoder_finish(mes_decoder *decoder, mes_event *event)
+{
+    struct handle handle = {(uint8_t *)decoder};
+    struct answer answer = {0, NULL, 0, 0};
+
+    if (decoder == NULL || event == NULL)
+        return MES_BAD_POINTER;
+    uint32_t status = mes_c_decoder_finish(&handle, &answer);
+    tell(event, &answer);
+    return status;
+}
+
+PUBLIC void mes_decoder_free(mes_decoder *decoder)
+{
+    struct handle handle = {(uint8_t *)decoder};
+
+    if (decoder != NULL)
+        mes_c_decoder_free(handle);
+}

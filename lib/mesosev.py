@@ -1,0 +1,249 @@
+"""The event stream of the Apache Mesos v1 scheduler API, read by the proved library libmesosev.
+
+    import mesosev
+    for event in mesosev.events(open("stream.recordio", "rb")):
+        print(event.name, event.value())
+
+The library is the file that the variable MESOSEV_LIBRARY names, else the one that lib/build installed with this module, else the system's.
+"""
+
+import collections
+import ctypes
+import ctypes.util
+import json
+import os
+import re
+import struct
+
+PLAIN = 0
+CHUNKED = 1
+LIMIT_USUAL = 4_194_304
+LIMIT_MOST = 67_108_864
+READ_MOST = 65_536
+
+_GOOD, _NO_MEMORY, _MORE, _EVENT, _END, _NO_TEXT = 0, 13, 32, 33, 34, 35
+_WITHOUT_TEXTS = 1
+_LINE_ROOM = 641
+_REFUSALS = {
+    100: "the limit is not 1 to 67108864",
+    101: "the framing is neither PLAIN nor CHUNKED",
+    102: "a pointer is null",
+}
+_NAMES = ("", "SUBSCRIBED", "OFFERS", "RESCIND", "UPDATE", "MESSAGE", "FAILURE", "ERROR", "HEARTBEAT")
+_LINE = re.compile(r"fault F(\d+) (\S+)(?: record (\d+)(?: byte (\d+) (\S+)| (\S*) (\S+))?)? after (\d+)")
+
+
+# What a decoder tells, as it lies in memory: a mes_event and, behind it, how many bytes were used.
+_TOLD = struct.Struct("@IPNN")
+_USED_AT = _TOLD.size - struct.calcsize("@N")
+
+# The bytes that stand at an address.
+_bytes_at = ctypes.pythonapi.PyBytes_FromStringAndSize
+_bytes_at.argtypes = [ctypes.c_void_p, ctypes.c_ssize_t]
+_bytes_at.restype = ctypes.py_object
+
+
+def _load():
+    here = os.path.dirname(os.path.abspath(__file__))
+    # Beside the folder where this module is installed, or in the sources where lib/build was given no prefix.
+    built = [os.path.join(here, name, "libmesosev.so") for name in ("..", "out/lib")]
+    path = os.environ.get("MESOSEV_LIBRARY") or next(filter(os.path.exists, built), None) or ctypes.util.find_library("mesosev")
+    if not path:
+        raise ImportError("libmesosev is not there: build it by lib/build, or name it in MESOSEV_LIBRARY")
+    library = ctypes.CDLL(path)
+    number, size, address = ctypes.c_uint32, ctypes.c_size_t, ctypes.c_void_p
+    takes = {
+        "mes_check": [address, size, number, number, address, address, address, size],
+        "mes_call": [address, size, address, size, address],
+        "mes_decoder_new": [number, number, number, address],
+        "mes_decoder_next": [address, address, size, address, address],
+        "mes_decoder_finish": [address, address],
+    }
+    for name, kinds in takes.items():
+        getattr(library, name).argtypes = kinds
+        getattr(library, name).restype = number
+    library.mes_decoder_free.argtypes = [address]
+    library.mes_decoder_free.restype = None
+    library.mes_version.argtypes = []
+    library.mes_version.restype = ctypes.c_char_p
+    return library
+
+
+_library = _load()
+
+
+class Fault(Exception):
+    """A fault of a stream or a call.
+
+    number: 1 to 16, that of its name. name: as `Field`. record: the number of the record, from 1. place: the path of the member that is
+    wrong, or how many bytes of the record stand before the first that no JSON text has there. why: as `Missing`. used: how many bytes were
+    used up to the fault. line: all of it, as it is printed. What a fault does not tell is None.
+    """
+
+    def __init__(self, number, line):
+        super().__init__(line or f"fault F{number}")
+        self.number, self.line = number, line
+        self.name = self.record = self.place = self.why = self.used = None
+        told = _LINE.fullmatch(line)
+        if told:
+            self.name, self.used = told[2], int(told[8])
+            self.record = int(told[3]) if told[3] else None
+            self.place = int(told[4]) if told[4] else told[6]
+            self.why = told[5] or told[7]
+
+
+class Event(collections.namedtuple("Event", ("type", "text"))):
+    """An event: its type's number, and its canonical JSON text as bytes; None where texts are not made, or this one is not given."""
+
+    __slots__ = ()
+
+    def value(self):
+        """What the text is, by `json`."""
+        if self.text is None:
+            raise ValueError("the event has no text")
+        return json.loads(self.text)
+
+    @property
+    def name(self):
+        """The name of its type."""
+        return _NAMES[self.type] if 0 < self.type else self.value()["type"]
+
+
+Counts = collections.namedtuple("Counts", ("events", "used"))
+
+
+def _raise_refusal(status):
+    if status == _NO_MEMORY:
+        raise MemoryError
+    raise ValueError(_REFUSALS.get(status, f"status {status}"))
+
+
+class _Bytes:
+    """The bytes of an object, and where they stand while this is held."""
+
+    def __init__(self, data):
+        self.kept = data if isinstance(data, bytes) else bytes(data)
+        self.address = ctypes.cast(ctypes.c_char_p(self.kept), ctypes.c_void_p).value
+        self.size = len(self.kept)
+
+
+class Decoder:
+    """A decoder of a stream that comes in pieces, however cut. It is used by one thread."""
+
+    # Kept here, since names of the module may be gone when the last decoders are.
+    _free = _library.mes_decoder_free
+
+    def __init__(self, framing=PLAIN, limit=LIMIT_USUAL, texts=True):
+        self._handle = None
+        self._told = ctypes.create_string_buffer(_TOLD.size)
+        # Whether the stream has ended.
+        self.ended = False
+        made = ctypes.c_void_p()
+        status = _library.mes_decoder_new(limit, framing, 0 if texts else _WITHOUT_TEXTS, ctypes.byref(made))
+        if status != _GOOD:
+            _raise_refusal(status)
+        self._handle = made.value
+
+    def feed(self, data):
+        """The events whose records end in these bytes, one by one. A fault is raised behind those before it. All of them are to be taken
+        before more bytes are given."""
+        # The names of the loop are looked up once: it runs for each event.
+        following, unpack, bytes_at, make = _library.mes_decoder_next, _TOLD.unpack_from, _bytes_at, tuple.__new__
+        handle, told = self._handle, self._told
+        event = ctypes.addressof(told)
+        piece = _Bytes(data)
+        address, size = piece.address, piece.size
+        while True:
+            status = following(handle, address, size, event + _USED_AT, event)
+            kind, text, length, used = unpack(told)
+            address += used
+            size -= used
+            if status == _EVENT:
+                yield make(Event, (kind, bytes_at(text, length) if text else None))
+            elif status == _NO_TEXT:
+                yield make(Event, (kind, None))
+            elif status == _MORE:
+                return
+            else:
+                return self._stop(status)
+
+    def finish(self):
+        """The stream has no more bytes. Raises the fault if it may not end there."""
+        self._stop(_library.mes_decoder_finish(self._handle, ctypes.addressof(self._told)))
+
+    def _stop(self, status):
+        self.ended = True
+        if status == _END:
+            return
+        if not 1 <= status <= 16:
+            _raise_refusal(status)
+        _, text, length, _ = _TOLD.unpack_from(self._told)
+        raise Fault(status, _bytes_at(text, length).decode() if text else "")
+
+    def close(self):
+        """Frees the decoder."""
+        handle, self._handle = self._handle, None
+        if handle is not None:
+            self._free(handle)
+
+    def __enter__(self):
+        return self
+
+    def __exit__(self, *_):
+        self.close()
+
+    def __del__(self):
+        self.close()
+
+
+def _pieces(source, most):
+    """The pieces of a file object or a socket, or of bytes."""
+    if isinstance(source, (bytes, bytearray, memoryview)):
+        return iter((source,))
+    read = getattr(source, "recv", None) or getattr(source, "read1", None) or source.read
+    return iter(lambda: read(most), b"")
+
+
+def events(source, framing=PLAIN, limit=LIMIT_USUAL, texts=True, most=READ_MOST):
+    """The events of a file object, a socket or bytes, read by at most so many bytes at a time. A fault is raised behind the events before it."""
+    with Decoder(framing, limit, texts) as decoder:
+        for piece in _pieces(source, most):
+            yield from decoder.feed(piece)
+            if decoder.ended:
+                return
+        decoder.finish()
+
+
+def check(data, framing=PLAIN, limit=LIMIT_USUAL):
+    """How many events these bytes, a whole stream, have, and how many bytes were used. Raises the first fault."""
+    piece, counted, used = _Bytes(data), ctypes.c_uint64(), ctypes.c_uint64()
+    line = ctypes.create_string_buffer(_LINE_ROOM)
+    status = _library.mes_check(
+        piece.address, piece.size, limit, framing, ctypes.byref(counted), ctypes.byref(used), line, _LINE_ROOM
+    )
+    if status == _GOOD:
+        return Counts(counted.value, used.value)
+    if not 1 <= status <= 16:
+        _raise_refusal(status)
+    raise Fault(status, line.value.decode())
+
+
+def call(data):
+    """The canonical text of a scheduler's call, as bytes. Raises the fault where the bytes are of none; ValueError where it has no text."""
+    piece, size, room = _Bytes(data), ctypes.c_size_t(), 2 * len(data) + _LINE_ROOM
+    while True:
+        text = ctypes.create_string_buffer(room)
+        status = _library.mes_call(piece.address, piece.size, text, room, ctypes.byref(size))
+        if size.value < room:
+            break
+        room = size.value + 1
+    if status == _GOOD:
+        return text.raw[: size.value]
+    if status == _NO_TEXT:
+        raise ValueError("the call has no canonical text: it is too large or too deep, or wants memory")
+    raise Fault(status, text.raw[: size.value].decode())
+
+
+def version():
+    """The version of the library."""
+    return _library.mes_version().decode()

@@ -1,0 +1,429 @@
+/*
+ * What tests/c_library builds and runs over libmesosev. Input is standard input.
+ *
+ *   stream FRAMING LIMIT PIECE [FLAGS]  each event's text as a record on standard output, and then the line of counts or of the fault
+ *   cuts FRAMING LIMIT STEP             each cut in two, and in pieces of 1, 7 and 512 bytes, tells what the whole does
+ *   check FRAMING LIMIT ROOM            the counts, the status and the line
+ *   call ROOM                           the status, the size and the text
+ *   handles COUNT                       so many decoders at once, each freed at another place of the stream
+ *   refuse FRAMING                      each growth of the library's memory refused in turn; built with REFUSING and the linker's --wrap
+ *   misuse                              null pointers, bad words and calls behind the end
+ */
+#include <inttypes.h>
+#include <stdio.h>
+#include <stdlib.h>
+#include <string.h>
+
+#include "mesosev.h"
+
+/* Bytes that grow. */
+struct bytes {
+    char *at;
+    size_t length, room;
+};
+
+/* What a stream came to. */
+struct outcome {
+    struct bytes texts; /* each event's type and text */
+    uint64_t events, used;
+    uint32_t status;
+    char line[MES_LINE_ROOM];
+};
+
+/* Whether a call of the library runs; how many growths there were, which of them is refused, and whether all behind it are too. */
+static int inside, behind;
+static long growths, refused = -1;
+
+#ifdef REFUSING
+void *__real_malloc(size_t size);
+void *__real_realloc(void *at, size_t size);
+void *__wrap_malloc(size_t size);
+void *__wrap_realloc(void *at, size_t size);
+
+static int is_refused(void)
+{
+    long growth = growths;
+    growths += inside;
+    return inside && (growth == refused || (behind && growth > refused));
+}
+
+void *__wrap_malloc(size_t size)
+{
+    return is_refused() ? NULL : __real_malloc(size);
+}
+
+void *__wrap_realloc(void *at, size_t size)
+{
+    return is_refused() ? NULL : __real_realloc(at, size);
+}
+#endif
+
+_Noreturn static void fail(const char *what)
+{
+    fprintf(stderr, "c_reader: %s\n", what);
+    exit(3);
+}
+
+static void expect(int holds, const char *what)
+{
+    if (!holds)
+        fail(what);
+}
+
+static void append(struct bytes *to, const char *from, size_t length)
+{
+    while (to->length + length > to->room) {
+        to->room = to->room > 0 ? 2 * to->room : 4096;
+        to->at = realloc(to->at, to->room);
+        expect(to->at != NULL, "no memory");
+    }
+    if (length > 0)
+        memcpy(to->at + to->length, from, length);
+    to->length += length;
+}
+
+static struct bytes standard_input(void)
+{
+    struct bytes all = {NULL, 0, 0};
+    char piece[65536];
+    size_t length;
+
+    while ((length = fread(piece, 1, sizeof piece, stdin)) > 0)
+        append(&all, piece, length);
+    return all;
+}
+
+/* A copy of its own size, so that a read behind its end is seen. */
+static char *alone(const char *from, size_t length)
+{
+    char *to = malloc(length > 0 ? length : 1);
+    expect(to != NULL, "no memory");
+    if (length > 0)
+        memcpy(to, from, length);
+    return to;
+}
+
+/* Keeps what a decoder told at its end. */
+static void keep_end(struct outcome *to, uint32_t status, const mes_event *event)
+{
+    to->status = status;
+    expect(event->type == 0, "a type without an event");
+    expect(event->length < sizeof to->line, "a line that is too long");
+    if (event->length > 0)
+        memcpy(to->line, event->text, event->length);
+    to->line[event->length] = '\0';
+    if (status == MES_END)
+        snprintf(to->line, sizeof to->line, "events %" PRIu64 " bytes %" PRIu64, to->events, to->used);
+}
+
+/* Keeps an event. */
+static void keep_event(struct outcome *to, const mes_event *event)
+{
+    char head[64];
+    int length = snprintf(head, sizeof head, "%u %zu ", event->type, event->length);
+
+    append(&to->texts, head, (size_t)length);
+    append(&to->texts, event->text, event->length);
+    to->events++;
+}
+
+/* Gives a decoder bytes. Whether more are wanted. */
+static int feed(mes_decoder *decoder, const char *bytes, size_t length, struct outcome *to)
+{
+    char *piece = alone(bytes, length);
+    size_t at = 0, used = 0;
+    mes_event event;
+    uint32_t status;
+
+    do {
+        inside = 1;
+        status = mes_decoder_next(decoder, piece + at, length - at, &used, &event);
+        inside = 0;
+        expect(used <= length - at, "more used than there is");
+        at += used;
+        to->used += used;
+        if (status == MES_EVENT || status == MES_NO_TEXT)
+            keep_event(to, &event);
+    } while (status == MES_EVENT || status == MES_NO_TEXT);
+    free(piece);
+    if (status == MES_MORE) {
+        expect(at == length, "bytes are left where more are wanted");
+        return 1;
+    }
+    keep_end(to, status, &event);
+    return 0;
+}
+
+/* A decoder, or null where memory for it was refused. */
+static mes_decoder *made(uint32_t framing, uint32_t limit, uint32_t flags)
+{
+    mes_decoder *decoder;
+    inside = 1;
+    uint32_t status = mes_decoder_new(limit, framing, flags, &decoder);
+    inside = 0;
+    expect(status == MES_GOOD || (refused >= 0 && status == MES_NO_MEMORY && decoder == NULL), "no decoder");
+    return decoder;
+}
+
+/* What a stream comes to whose first piece has so many bytes, and each other one `piece`. */
+static struct outcome outcome_of(const struct bytes *all, size_t first, size_t piece, uint32_t framing, uint32_t limit, uint32_t flags)
+{
+    struct outcome to = {{NULL, 0, 0}, 0, 0, 0, ""};
+    mes_decoder *decoder = made(framing, limit, flags);
+    size_t at = 0, next = first;
+    int goes_on = 1;
+    mes_event event;
+
+    if (decoder == NULL) {
+        to.status = MES_NO_MEMORY;
+        return to;
+    }
+    while (goes_on && at < all->length) {
+        size_t length = next < all->length - at ? next : all->length - at;
+        goes_on = feed(decoder, all->at + at, length, &to);
+        at += length;
+        next = piece;
+    }
+    inside = 1;
+    uint32_t status = mes_decoder_finish(decoder, &event);
+    inside = 0;
+    if (goes_on)
+        keep_end(&to, status, &event);
+    expect(status == to.status, "another end at the end of the input");
+    mes_decoder_free(decoder);
+    return to;
+}
+
+static int is_same(const struct outcome *one, const struct outcome *other)
+{
+    return one->status == other->status && one->events == other->events && one->used == other->used
+        && strcmp(one->line, other->line) == 0 && one->texts.length == other->texts.length
+        && memcmp(one->texts.at, other->texts.at, one->texts.length) == 0;
+}
+
+/* Prints each text as a record. */
+static void print_records(const struct bytes *texts)
+{
+    const char *at = texts->at, *end = texts->at + texts->length;
+    while (at < end) {
+        char *behind;
+        strtoul(at, &behind, 10);
+        size_t length = strtoul(behind, &behind, 10);
+        printf("%zu\n", length);
+        fwrite(behind + 1, 1, length, stdout);
+        at = behind + 1 + length;
+    }
+}
+
+static int stream(uint32_t framing, uint32_t limit, size_t piece, uint32_t flags)
+{
+    struct bytes all = standard_input();
+    struct outcome told = outcome_of(&all, piece, piece, framing, limit, flags);
+
+    print_records(&told.texts);
+    fprintf(stderr, "%s\n", told.line);
+    free(told.texts.at);
+    free(all.at);
+    return told.status == MES_END ? 0 : 1;
+}
+
+static int cuts(uint32_t framing, uint32_t limit, size_t step)
+{
+    struct bytes all = standard_input();
+    struct outcome whole = outcome_of(&all, all.length, all.length, framing, limit, 0);
+    size_t pieces[] = {1, 7, 512}, count = 0;
+
+    for (size_t first = 1; first < all.length; first += step, count++) {
+        struct outcome told = outcome_of(&all, first, all.length, framing, limit, 0);
+        expect(is_same(&told, &whole), "a cut tells something else");
+        free(told.texts.at);
+    }
+    for (size_t i = 0; i < 3; i++, count++) {
+        struct outcome told = outcome_of(&all, pieces[i], pieces[i], framing, limit, 0);
+        expect(is_same(&told, &whole), "pieces tell something else");
+        free(told.texts.at);
+    }
+    printf("%zu cuts: %s\n", count, whole.line);
+    free(whole.texts.at);
+    free(all.at);
+    return 0;
+}
+
+static int check(uint32_t framing, uint32_t limit, size_t room)
+{
+    struct bytes all = standard_input();
+    char *bytes = alone(all.at, all.length), *line = alone("", 0);
+    uint64_t events = 0, used = 0;
+
+    if (room > 0) {
+        free(line);
+        line = malloc(room);
+        expect(line != NULL, "no memory");
+        memset(line, 'x', room);
+    }
+    uint32_t status = mes_check(bytes, all.length, limit, framing, &events, &used, line, room);
+    printf("%u %" PRIu64 " %" PRIu64 " %s\n", status, events, used, room > 0 ? line : "");
+    free(line);
+    free(bytes);
+    free(all.at);
+    return 0;
+}
+
+static int call(size_t room)
+{
+    struct bytes all = standard_input();
+    char *bytes = alone(all.at, all.length), *text = room > 0 ? malloc(room) : NULL;
+    size_t size = 0;
+
+    uint32_t status = mes_call(bytes, all.length, text, room, &size);
+    printf("%u %zu %s\n", status, size, text != NULL ? text : "");
+    free(text);
+    free(bytes);
+    free(all.at);
+    return 0;
+}
+
+static int handles(size_t count)
+{
+    struct bytes all = standard_input();
+    mes_decoder **decoders = calloc(count, sizeof *decoders);
+    size_t used;
+    mes_event event;
+
+    expect(decoders != NULL, "no memory");
+    for (size_t i = 0; i < count; i++)
+        decoders[i] = made(MES_PLAIN, MES_LIMIT_USUAL, i % 2);
+    for (size_t i = 0; i < count; i++) {
+        size_t at = 0, length = i * 37 % (all.length + 1);
+        while (at < length) {
+            uint32_t status = mes_decoder_next(decoders[i], all.at + at, length - at, &used, &event);
+            expect(status == MES_EVENT || status == MES_MORE, "a fault");
+            at += used;
+        }
+    }
+    for (size_t i = 0; i < count; i++)
+        mes_decoder_free(decoders[count - 1 - i]);
+    free(decoders);
+    free(all.at);
+    printf("%zu decoders\n", count);
+    return 0;
+}
+
+/* What a stream comes to where growths are refused: it stops there, or an event has no text, or the fault no line. A single growth may
+ * be asked for again, and all is told. */
+static void expect_refused(const struct outcome *told, const struct outcome *whole)
+{
+    if (told->status == MES_NO_MEMORY) {
+        expect(told->events <= whole->events && told->used <= whole->used, "more than there is");
+        expect(told->line[0] == '\0' || strncmp(told->line, "fault F13 NoMemory after ", 25) == 0, "another line");
+    } else {
+        expect(told->status == whole->status && told->events == whole->events && told->used == whole->used, "another outcome");
+        expect(!behind || !is_same(told, whole), "growths were refused without a word");
+        expect(told->texts.length <= whole->texts.length, "longer texts");
+    }
+}
+
+static int refuse(uint32_t framing)
+{
+    struct bytes all = standard_input();
+    struct outcome whole = outcome_of(&all, 512, 512, framing, MES_LIMIT_USUAL, 0);
+    int goes_on;
+
+    for (behind = 0; behind < 2; behind++)
+        for (refused = 0, goes_on = 1; goes_on; refused++) {
+            growths = 0;
+            struct outcome told = outcome_of(&all, 512, 512, framing, MES_LIMIT_USUAL, 0);
+            goes_on = growths > refused;
+            if (goes_on)
+                expect_refused(&told, &whole);
+            else
+                expect(is_same(&told, &whole), "another outcome with all memory");
+            free(told.texts.at);
+        }
+    printf("%s\n", refused > 1 ? "each growth refused" : "no growth");
+    free(whole.texts.at);
+    free(all.at);
+    return 0;
+}
+
+static void misuse_decoder(uint32_t framing)
+{
+    static const char beat[] = "20\n{\"type\":\"HEARTBEAT\"}";
+    static const char line[] = "fault F6 EndsInsideChunks after 0";
+    mes_decoder *decoder = made(framing, MES_LIMIT_USUAL, 0);
+    size_t used = 5;
+    mes_event event;
+
+    expect(mes_decoder_next(NULL, beat, 1, &used, &event) == MES_BAD_POINTER, "a null decoder");
+    expect(mes_decoder_finish(NULL, &event) == MES_BAD_POINTER, "a null decoder at the end");
+    expect(mes_decoder_next(decoder, NULL, 1, &used, &event) == MES_BAD_POINTER, "null bytes");
+    expect(mes_decoder_next(decoder, beat, 1, NULL, &event) == MES_BAD_POINTER, "nowhere for what was used");
+    expect(mes_decoder_next(decoder, beat, 1, &used, NULL) == MES_BAD_POINTER, "nowhere for the event");
+    expect(mes_decoder_finish(decoder, NULL) == MES_BAD_POINTER, "nowhere for the event at the end");
+    expect(used == 5, "a refused call used bytes");
+    expect(mes_decoder_next(decoder, NULL, 0, &used, &event) == MES_MORE && used == 0, "no bytes");
+    expect(event.text == NULL && event.length == 0 && event.type == 0, "no event");
+    /* Behind the end the same end is told, whatever comes. */
+    uint32_t end = mes_decoder_finish(decoder, &event);
+    expect(end == (framing == MES_PLAIN ? MES_END : 6u), "the end of no bytes");
+    for (int i = 0; i < 3; i++) {
+        expect(mes_decoder_next(decoder, beat, sizeof beat - 1, &used, &event) == end && used == 0, "the end again");
+        expect(mes_decoder_finish(decoder, &event) == end, "the end of the input again");
+        expect(end == MES_END || (event.length == sizeof line - 1 && memcmp(event.text, line, event.length) == 0), "its line again");
+    }
+    mes_decoder_free(decoder);
+}
+
+static int misuse(void)
+{
+    mes_decoder *decoder = (mes_decoder *)&decoder;
+    uint64_t events = 7;
+    char line[4] = "abc";
+    size_t size = 0;
+
+    expect(mes_decoder_new(MES_LIMIT_USUAL, MES_PLAIN, 0, NULL) == MES_BAD_POINTER, "nowhere for the decoder");
+    expect(mes_decoder_new(0, MES_PLAIN, 0, &decoder) == MES_BAD_LIMIT && decoder == NULL, "a limit of 0");
+    expect(mes_decoder_new(MES_LIMIT_MOST + 1, 9, 0, &decoder) == MES_BAD_LIMIT, "a limit that is too large");
+    expect(mes_decoder_new(1, 2, 0, &decoder) == MES_BAD_FRAMING && decoder == NULL, "a framing that is none");
+    mes_decoder_free(NULL);
+    misuse_decoder(MES_PLAIN);
+    misuse_decoder(MES_CHUNKED);
+    expect(mes_check(NULL, 1, 1, 0, NULL, NULL, NULL, 0) == MES_BAD_POINTER, "null bytes of a check");
+    expect(mes_check("", 0, 1, 0, NULL, NULL, NULL, 1) == MES_BAD_POINTER, "a null line");
+    expect(mes_check("", 0, 0, 0, &events, NULL, line, 4) == MES_BAD_LIMIT && events == 7, "a check with a limit of 0");
+    expect(mes_check("", 0, 1, 2, &events, NULL, line, 4) == MES_BAD_FRAMING && strcmp(line, "abc") == 0, "a check of no framing");
+    expect(mes_check(NULL, 0, 1, 0, NULL, NULL, NULL, 0) == MES_GOOD, "a check of no bytes");
+    expect(mes_check(NULL, 0, 1, 1, &events, NULL, line, 4) == 6 && events == 0 && strcmp(line, "fau") == 0, "no chunked bytes");
+    expect(mes_call(NULL, 1, NULL, 0, NULL) == MES_BAD_POINTER, "null bytes of a call");
+    expect(mes_call(NULL, 0, NULL, 0, &size) == 11 && size > 0, "a call of no bytes");
+    expect(mes_call("", 0, NULL, 1, &size) == MES_BAD_POINTER, "a null text");
+    expect(strlen(mes_version()) >= 5, "the version");
+    puts("refused as told");
+    return 0;
+}
+
+static uint32_t number(const char *word)
+{
+    return (uint32_t)strtoul(word, NULL, 10);
+}
+
+int main(int count, char **words)
+{
+    const char *what = count > 1 ? words[1] : "";
+
+    if (strcmp(what, "stream") == 0 && count >= 5)
+        return stream(number(words[2]), number(words[3]), number(words[4]), count > 5 ? number(words[5]) : 0);
+    if (strcmp(what, "cuts") == 0 && count == 5)
+        return cuts(number(words[2]), number(words[3]), number(words[4]));
+    if (strcmp(what, "check") == 0 && count == 5)
+        return check(number(words[2]), number(words[3]), number(words[4]));
+    if (strcmp(what, "call") == 0 && count == 3)
+        return call(number(words[2]));
+    if (strcmp(what, "handles") == 0 && count == 3)
+        return handles(number(words[2]));
+    if (strcmp(what, "refuse") == 0 && count == 3)
+        return refuse(number(words[2]));
+    if (strcmp(what, "misuse") == 0 && count == 2)
+        return misuse();
+    fail("bad words");
+}
