@@ -9,7 +9,8 @@ use Rattle.mes_hand.specs.declared.refusal.Refusal.{Refusal}
 use Rattle.mes_hand.specs.Held.{Held}
 use Rattle.mes_hand.specs.Refusals.{Answers}
 use Rattle.mes_session.specs.History.{after}
-use Rattle.mes_session.specs.Making.{subscribe_call, Applied}
+use Rattle.mes_session.specs.Made.{subscribe_call}
+use Rattle.mes_session.specs.Making.{Applied}
 use Rattle.mes_master.specs.declared.refusal.MasterRefusal.{MasterRefusal}
 use Rattle.mes_master.specs.declared.refusal.MasterRefusal.TheVariants.{NoMemory}
 use Rattle.mes_master.specs.Masters.{MasterState, MasterAnswer, IsAnswer, handled}

@@ -14,7 +14,7 @@ use Rattle.mes_hand.specs.declared.refusal.Refusal.{Refusal}
 use Rattle.mes_hand.specs.Held.{without_offer}
 use Rattle.mes_hand.specs.Refusals.{Answers}
 use Rattle.mes_session.specs.History.{after}
-use Rattle.mes_session.specs.Making.{subscribe_call}
+use Rattle.mes_session.specs.Made.{subscribe_call}
 use Rattle.mes_master.specs.declared.refusal.MasterRefusal.{MasterRefusal}
 use Rattle.mes_master.specs.declared.refusal.MasterRefusal.TheVariants.{NoStream, OfferTwice, NoSuchOffer, UpdateTwice, NoSuchUpdate}
 use Rattle.mes_master.specs.Masters.{MasterState, MasterAnswer, plain, subscribed, update_event, is_there, is_owing, carried_out, is_subscribe}

@@ -9,7 +9,7 @@ use Rattle.mes_hand.specs.declared.refusal.Refusal.{Refusal}
 use Rattle.mes_hand.specs.Held.{Held}
 use Rattle.mes_hand.specs.Refusals.{Answers}
 use Rattle.mes_session.specs.History.{at_first, after}
-use Rattle.mes_session.specs.Making.{subscribe_call}
+use Rattle.mes_session.specs.Made.{subscribe_call}
 use Rattle.mes_master.specs.Masters.{MasterState, MasterAnswer, handled}
 use Rattle.mes_master.specs.Sending.{Sends, offers_sent, rescind_sent, update_sent, resend_sent}
 use Rattle.mes_master.specs.Runs.{new_master}

@@ -15,7 +15,7 @@ use Rattle.mes_msg.specs.declared.send_fault.SendFault.TheVariants as send
 use Rattle.mes_run.specs.Printing.{Prints, LacksMemory}
 use Rattle.mes_run.specs.Showing.{Shows}
 use Rattle.mes_run.specs.declared.ended.Ended.{Ended}
-use Rattle.mes_session.specs.Making.{subscribe_call}
+use Rattle.mes_session.specs.Made.{subscribe_call}
 use Rattle.mes_serve.specs.Lines.{write_failed_line}
 use Rattle.mes_stream.specs.declared.stream_reader.Framing.TheVariants.{Chunked}
 

@@ -28,7 +28,8 @@ use Rattle.mes_hand.specs.Calls.{named_by, acknowledged_by}
 use Rattle.mes_hand.specs.Held.{Held, with_offers, without_offer, without_offers, with_key, without_key}
 use Rattle.mes_hand.specs.Refusals.{Answers, IsFaulty, IsOwn}
 use Rattle.mes_session.specs.History.{StandsFor, StandsNext, is_key, after}
-use Rattle.mes_session.specs.Making.{subscribe_call, Applied, Made, IsTold, NotMade}
+use Rattle.mes_making.specs.Made.{subscribe_call}
+use Rattle.mes_session.specs.Making.{Applied, Made, IsTold, NotMade}
 use Rattle.mes_session.proofs.HistoryLemmas.{StandsFor-push}
 
 -- ---- all stay, or none

@@ -5,12 +5,16 @@ ghost use Rattle.mes_model.specs.Id.{Id as IdValue};
 ghost use Rattle.mes_msg.specs.declared.entry.Entry.TheVariants.{Said};
 ghost use Rattle.mes_hand.specs.Calls.{accept_call, decline_call, acknowledge_call};
 ghost use Rattle.mes_session.specs.History.{after};
-ghost use Rattle.mes_session.specs.Making.{subscribe_call, kill_call, reconcile_call, shutdown_call, message_call, Applied, Made, NotMade};
+ghost use Rattle.mes_making.specs.Made.{subscribe_call, kill_call, reconcile_call, shutdown_call, message_call};
+ghost use Rattle.mes_session.specs.Making.{Applied, Made, NotMade};
 
-use crate::copies;
 use crate::session::Session;
 use mes_hand::Refusal;
 use mes_json::NoMemory;
+use mes_making::{
+    make_accept, make_acknowledge, make_decline, make_kill, make_message, make_reconcile,
+    make_revive, make_shutdown, make_subscribe, make_suppress, make_teardown,
+};
 use mes_model::{Filters, FrameworkInfo, Id, OwedKey, TaskInfo, TaskRef};
 use mes_msg::Call;
 
@@ -23,7 +27,7 @@ impl Session {
         ensures err { IfErr result (λ refusal. refusal ≡ Refusal.NoMemory) }
         ensures same { OnErr result (self.new ≡ self.old) }
     {
-        let call = copies::subscribe(self.alloc, self.framework.as_ref(), info);
+        let call = make_subscribe(self.alloc, self.framework.as_ref(), info);
         self.say(call)
     }
 
@@ -40,7 +44,7 @@ impl Session {
         if let Some(refusal) = self.standing().refusal_of_accept(ids, tasks) {
             return Err(refusal);
         }
-        let call = copies::accept(self.alloc, self.own(), ids, tasks, filters);
+        let call = make_accept(self.alloc, self.own(), ids, tasks, filters);
         self.say(call)
     }
 
@@ -52,7 +56,7 @@ impl Session {
         if let Some(refusal) = self.standing().refusal_of_decline(ids) {
             return Err(refusal);
         }
-        let call = copies::decline(self.alloc, self.own(), ids, filters);
+        let call = make_decline(self.alloc, self.own(), ids, filters);
         self.say(call)
     }
 
@@ -64,7 +68,7 @@ impl Session {
         if let Some(refusal) = self.standing().refusal_of_plain() {
             return Err(refusal);
         }
-        let call = copies::revive(self.alloc, self.own());
+        let call = make_revive(self.alloc, self.own());
         self.say(call)
     }
 
@@ -76,7 +80,7 @@ impl Session {
         if let Some(refusal) = self.standing().refusal_of_plain() {
             return Err(refusal);
         }
-        let call = copies::kill(self.alloc, self.own(), task, agent);
+        let call = make_kill(self.alloc, self.own(), task, agent);
         self.say(call)
     }
 
@@ -88,7 +92,7 @@ impl Session {
         if let Some(refusal) = self.standing().refusal_of_acknowledge(key) {
             return Err(refusal);
         }
-        let call = copies::acknowledge(self.alloc, self.own(), key);
+        let call = make_acknowledge(self.alloc, self.own(), key);
         self.say(call)
     }
 
@@ -100,7 +104,7 @@ impl Session {
         if let Some(refusal) = self.standing().refusal_of_plain() {
             return Err(refusal);
         }
-        let call = copies::reconcile(self.alloc, self.own(), tasks);
+        let call = make_reconcile(self.alloc, self.own(), tasks);
         self.say(call)
     }
 
@@ -112,7 +116,7 @@ impl Session {
         if let Some(refusal) = self.standing().refusal_of_plain() {
             return Err(refusal);
         }
-        let call = copies::teardown(self.alloc, self.own());
+        let call = make_teardown(self.alloc, self.own());
         self.say(call)
     }
 
@@ -124,7 +128,7 @@ impl Session {
         if let Some(refusal) = self.standing().refusal_of_plain() {
             return Err(refusal);
         }
-        let call = copies::suppress(self.alloc, self.own());
+        let call = make_suppress(self.alloc, self.own());
         self.say(call)
     }
 
@@ -136,7 +140,7 @@ impl Session {
         if let Some(refusal) = self.standing().refusal_of_plain() {
             return Err(refusal);
         }
-        let call = copies::shutdown(self.alloc, self.own(), executor, agent);
+        let call = make_shutdown(self.alloc, self.own(), executor, agent);
         self.say(call)
     }
 
@@ -148,7 +152,7 @@ impl Session {
         if let Some(refusal) = self.standing().refusal_of_plain() {
             return Err(refusal);
         }
-        let call = copies::message(self.alloc, self.own(), agent, executor, data);
+        let call = make_message(self.alloc, self.own(), agent, executor, data);
         self.say(call)
     }
 

@@ -3,7 +3,6 @@
 //! it may make. It gives on what reads and writes the log of a session, so that one name has all of it.
 
 mod calls;
-mod copies;
 mod laws;
 mod line;
 mod replaying;

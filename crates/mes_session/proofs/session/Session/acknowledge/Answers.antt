@@ -12,7 +12,7 @@ pub returns-clause-ok : goal.returns-clause-ok
 returns-clause-ok c =
     made_ok (λ (framework : Id). acknowledge_call framework c.args.key.now) c.standing.result c.args.self.now c.standing.ensures c.refusal_of_acknowledge.result
     (λ f own. c.refusal_of_acknowledge.ensures.answers f own)
-    c.say.new.self c.own.result.now c.acknowledge-call.result c.say.result c.in_default.is c.own.ensures c.acknowledge-call.ensures c.say.ensures.ok
+    c.say.new.self c.own.result.now c.make_acknowledge-call.result c.say.result c.in_default.is c.own.ensures c.make_acknowledge-call.ensures c.say.ensures.ok
 
 pub returns-clause-err : goal.returns-clause-err
 returns-clause-err c =

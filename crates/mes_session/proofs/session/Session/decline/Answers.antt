@@ -13,7 +13,7 @@ pub returns-clause-ok : goal.returns-clause-ok
 returns-clause-ok c =
     made_ok (λ (framework : Id). decline_call framework c.args.ids.now (option_copied c.args.filters)) c.standing.result c.args.self.now c.standing.ensures c.refusal_of_decline.result
     (λ f own. c.refusal_of_decline.ensures.answers f (option_copied c.args.filters) own)
-    c.say.new.self c.own.result.now c.decline-call.result c.say.result c.in_default.is c.own.ensures c.decline-call.ensures c.say.ensures.ok
+    c.say.new.self c.own.result.now c.make_decline-call.result c.say.result c.in_default.is c.own.ensures c.make_decline-call.ensures c.say.ensures.ok
 
 pub returns-clause-err : goal.returns-clause-err
 returns-clause-err c =

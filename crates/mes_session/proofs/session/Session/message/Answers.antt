@@ -1,6 +1,6 @@
 use Rattle.std.proofs.Common.{refl}
 use Rattle.mes_model.specs.Id.{Id}
-use Rattle.mes_session.specs.Making.{message_call}
+use Rattle.mes_making.specs.Made.{message_call}
 use Rattle.mes_session.proofs.SessionLemmas.{turned_down, made_ok, made_err}
 use Rattle.mes_session.proofs.session.Session.message.Goals as goal
 
@@ -13,7 +13,7 @@ pub returns-clause-ok : goal.returns-clause-ok
 returns-clause-ok c =
     made_ok (λ (framework : Id). message_call framework c.args.agent.now c.args.executor.now c.args.«data».now) c.standing.result c.args.self.now c.standing.ensures c.refusal_of_plain.result
     (λ f own. c.refusal_of_plain.ensures.answers f (message_call f c.args.agent.now c.args.executor.now c.args.«data».now) own refl tt)
-    c.say.new.self c.own.result.now c.message-call.result c.say.result c.in_default.is c.own.ensures c.message-call.ensures c.say.ensures.ok
+    c.say.new.self c.own.result.now c.make_message-call.result c.say.result c.in_default.is c.own.ensures c.make_message-call.ensures c.say.ensures.ok
 
 pub returns-clause-err : goal.returns-clause-err
 returns-clause-err c =

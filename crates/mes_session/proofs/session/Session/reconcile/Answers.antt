@@ -1,6 +1,6 @@
 use Rattle.std.proofs.Common.{refl}
 use Rattle.mes_model.specs.Id.{Id}
-use Rattle.mes_session.specs.Making.{reconcile_call}
+use Rattle.mes_making.specs.Made.{reconcile_call}
 use Rattle.mes_session.proofs.SessionLemmas.{turned_down, made_ok, made_err}
 use Rattle.mes_session.proofs.session.Session.reconcile.Goals as goal
 
@@ -13,7 +13,7 @@ pub returns-clause-ok : goal.returns-clause-ok
 returns-clause-ok c =
     made_ok (λ (framework : Id). reconcile_call framework c.args.tasks.now) c.standing.result c.args.self.now c.standing.ensures c.refusal_of_plain.result
     (λ f own. c.refusal_of_plain.ensures.answers f (reconcile_call f c.args.tasks.now) own refl tt)
-    c.say.new.self c.own.result.now c.reconcile-call.result c.say.result c.in_default.is c.own.ensures c.reconcile-call.ensures c.say.ensures.ok
+    c.say.new.self c.own.result.now c.make_reconcile-call.result c.say.result c.in_default.is c.own.ensures c.make_reconcile-call.ensures c.say.ensures.ok
 
 pub returns-clause-err : goal.returns-clause-err
 returns-clause-err c =

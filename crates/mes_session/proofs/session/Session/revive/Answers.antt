@@ -13,7 +13,7 @@ pub returns-clause-ok : goal.returns-clause-ok
 returns-clause-ok c =
     made_ok (λ (framework : Id). Revive framework) c.standing.result c.args.self.now c.standing.ensures c.refusal_of_plain.result
     (λ f own. c.refusal_of_plain.ensures.answers f (Revive f) own refl tt)
-    c.say.new.self c.own.result.now c.revive-call.result c.say.result c.in_default.is c.own.ensures c.revive-call.ensures c.say.ensures.ok
+    c.say.new.self c.own.result.now c.make_revive-call.result c.say.result c.in_default.is c.own.ensures c.make_revive-call.ensures c.say.ensures.ok
 
 pub returns-clause-err : goal.returns-clause-err
 returns-clause-err c =

@@ -13,7 +13,7 @@ pub returns-clause-ok : goal.returns-clause-ok
 returns-clause-ok c =
     made_ok (λ (framework : Id). Suppress framework) c.standing.result c.args.self.now c.standing.ensures c.refusal_of_plain.result
     (λ f own. c.refusal_of_plain.ensures.answers f (Suppress f) own refl tt)
-    c.say.new.self c.own.result.now c.suppress-call.result c.say.result c.in_default.is c.own.ensures c.suppress-call.ensures c.say.ensures.ok
+    c.say.new.self c.own.result.now c.make_suppress-call.result c.say.result c.in_default.is c.own.ensures c.make_suppress-call.ensures c.say.ensures.ok
 
 pub returns-clause-err : goal.returns-clause-err
 returns-clause-err c =

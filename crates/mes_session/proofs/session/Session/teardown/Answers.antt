@@ -13,7 +13,7 @@ pub returns-clause-ok : goal.returns-clause-ok
 returns-clause-ok c =
     made_ok (λ (framework : Id). Teardown framework) c.standing.result c.args.self.now c.standing.ensures c.refusal_of_plain.result
     (λ f own. c.refusal_of_plain.ensures.answers f (Teardown f) own refl tt)
-    c.say.new.self c.own.result.now c.teardown-call.result c.say.result c.in_default.is c.own.ensures c.teardown-call.ensures c.say.ensures.ok
+    c.say.new.self c.own.result.now c.make_teardown-call.result c.say.result c.in_default.is c.own.ensures c.make_teardown-call.ensures c.say.ensures.ok
 
 pub returns-clause-err : goal.returns-clause-err
 returns-clause-err c =

@@ -1,37 +1,17 @@
-//! Calls made of copies of what is told in them.
+//! The calls of scheduler.proto, each of copies of what is told in it. `NoMemory` is answered where a growth was refused, and nothing else.
 ghost use Rattle.std.specs.Prelude.{◌≡◌, option_copied, IfOk};
 ghost use Rattle.std.specs.Option.{option_or};
 ghost use Rattle.mes_hand.specs.Calls.{operations_of, accept_call, decline_call, acknowledge_call};
-ghost use Rattle.mes_session.specs.Making.{subscribe_call, kill_call, reconcile_call, shutdown_call, message_call};
+ghost use Rattle.mes_making.specs.Made.{subscribe_call, kill_call, reconcile_call, shutdown_call, message_call};
 
-use mes_json::NoMemory;
+use crate::copies::{copies_of, maybe};
 use mes_model::{Filters, FrameworkInfo, Id, OwedKey, TaskInfo, TaskRef};
 use mes_msg::{
     Accept, Acknowledge, Call, Decline, Kill, Message, Operation, Reconcile, Shutdown, Subscribe,
 };
+use mes_part::json::NoMemory;
 use mes_part::{Bytes, List, Part};
 use std::alloc::Global;
-
-/// The same values, in memory of their own.
-fn copies_of<T: Part>(alloc: Global, values: &[T]) -> Result<List<T>, NoMemory>
-    ensures { IfOk result (λ copies. copies ≡ values.now) }
-{
-    let mut copies = Vec::with_capacity(alloc, values.len())?;
-    for value in values {
-        copies.push(value.copy(alloc)?)?;
-    }
-    Ok(List::new(copies))
-}
-
-/// The same value, if there is one, in memory of its own.
-fn maybe<T: Part>(alloc: Global, value: Option<&T>) -> Result<Option<T>, NoMemory>
-    ensures { IfOk result (λ copy. copy ≡ option_copied value.entry) }
-{
-    match value {
-        Some(value) => Ok(Some(value.copy(alloc)?)),
-        None => Ok(None),
-    }
-}
 
 /// No operation where there are no tasks, else one LAUNCH of them.
 fn operations(alloc: Global, tasks: &[TaskInfo]) -> Result<List<Operation>, NoMemory>
@@ -55,8 +35,8 @@ fn named(alloc: Global, known: Option<&Id>, info: &FrameworkInfo) -> Result<Opti
     }
 }
 
-/// A SUBSCRIBE.
-pub(crate) fn subscribe(
+/// The SUBSCRIBE of what a framework tells of itself. It names the framework that is known, there too, or else the one that is told.
+pub fn make_subscribe(
     alloc: Global,
     known: Option<&Id>,
     info: &FrameworkInfo,
@@ -72,8 +52,8 @@ pub(crate) fn subscribe(
     })
 }
 
-/// An ACCEPT.
-pub(crate) fn accept(
+/// The ACCEPT of these offers. No tasks make no operation, else there is one LAUNCH of them.
+pub fn make_accept(
     alloc: Global,
     framework: &Id,
     ids: &[Id],
@@ -96,8 +76,8 @@ pub(crate) fn accept(
     })
 }
 
-/// A DECLINE.
-pub(crate) fn decline(
+/// The DECLINE of these offers.
+pub fn make_decline(
     alloc: Global,
     framework: &Id,
     ids: &[Id],
@@ -114,16 +94,16 @@ pub(crate) fn decline(
     })
 }
 
-/// A REVIVE.
-pub(crate) fn revive(alloc: Global, framework: &Id) -> Result<Call, NoMemory>
+/// The REVIVE of a framework.
+pub fn make_revive(alloc: Global, framework: &Id) -> Result<Call, NoMemory>
     ensures { IfOk result (λ call. call ≡ Call.Revive framework.now) }
 {
     let framework_id = framework.copy(alloc)?;
     Ok(Call::Revive { framework_id })
 }
 
-/// A KILL.
-pub(crate) fn kill(
+/// The KILL of a task, on an agent where one is told.
+pub fn make_kill(
     alloc: Global,
     framework: &Id,
     task: &Id,
@@ -140,8 +120,8 @@ pub(crate) fn kill(
     })
 }
 
-/// An ACKNOWLEDGE.
-pub(crate) fn acknowledge(alloc: Global, framework: &Id, key: &OwedKey) -> Result<Call, NoMemory>
+/// The ACKNOWLEDGE of an update by its key.
+pub fn make_acknowledge(alloc: Global, framework: &Id, key: &OwedKey) -> Result<Call, NoMemory>
     ensures { IfOk result (λ call. call ≡ acknowledge_call framework.now key.now) }
 {
     let framework_id = framework.copy(alloc)?;
@@ -158,8 +138,8 @@ pub(crate) fn acknowledge(alloc: Global, framework: &Id, key: &OwedKey) -> Resul
     })
 }
 
-/// A RECONCILE.
-pub(crate) fn reconcile(alloc: Global, framework: &Id, tasks: &[TaskRef]) -> Result<Call, NoMemory>
+/// The RECONCILE of these tasks, or of all where there are none.
+pub fn make_reconcile(alloc: Global, framework: &Id, tasks: &[TaskRef]) -> Result<Call, NoMemory>
     ensures { IfOk result (λ call. call ≡ reconcile_call framework.now tasks.now) }
 {
     let framework_id = framework.copy(alloc)?;
@@ -170,24 +150,24 @@ pub(crate) fn reconcile(alloc: Global, framework: &Id, tasks: &[TaskRef]) -> Res
     })
 }
 
-/// A TEARDOWN.
-pub(crate) fn teardown(alloc: Global, framework: &Id) -> Result<Call, NoMemory>
+/// The TEARDOWN of a framework.
+pub fn make_teardown(alloc: Global, framework: &Id) -> Result<Call, NoMemory>
     ensures { IfOk result (λ call. call ≡ Call.Teardown framework.now) }
 {
     let framework_id = framework.copy(alloc)?;
     Ok(Call::Teardown { framework_id })
 }
 
-/// A SUPPRESS.
-pub(crate) fn suppress(alloc: Global, framework: &Id) -> Result<Call, NoMemory>
+/// The SUPPRESS of a framework.
+pub fn make_suppress(alloc: Global, framework: &Id) -> Result<Call, NoMemory>
     ensures { IfOk result (λ call. call ≡ Call.Suppress framework.now) }
 {
     let framework_id = framework.copy(alloc)?;
     Ok(Call::Suppress { framework_id })
 }
 
-/// A SHUTDOWN.
-pub(crate) fn shutdown(
+/// The SHUTDOWN of an executor on an agent.
+pub fn make_shutdown(
     alloc: Global,
     framework: &Id,
     executor: &Id,
@@ -207,8 +187,8 @@ pub(crate) fn shutdown(
     })
 }
 
-/// A MESSAGE.
-pub(crate) fn message(
+/// The MESSAGE of these bytes to an executor on an agent.
+pub fn make_message(
     alloc: Global,
     framework: &Id,
     agent: &Id,
