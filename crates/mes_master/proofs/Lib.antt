@@ -1,5 +1,4 @@
 pub mod AgainLemmas
 pub mod FitLemmas
-pub mod IdLemmas
 pub mod RunLemmas
-pub mod UpdateLemmas
+pub mod ThereLemmas

@@ -18,12 +18,12 @@ use Rattle.mes_hand.specs.Keeping.{put}
 use Rattle.mes_hand.specs.Held.{name_of, names, without_offer, without_offers, with_offers}
 use Rattle.mes_hand.specs.Calls.{framework_of}
 use Rattle.mes_hand.specs.Refusals.{stands_in, stands_twice, ids_of}
+use Rattle.mes_ledger.proofs.IdLemmas.{comes_more}
 use Rattle.mes_master.specs.declared.refusal.MasterRefusal.TheVariants.{OfferTwice, NoSuchOffer}
 use Rattle.mes_master.specs.Masters.{MasterState, MasterAnswer, plain, subscribed, is_there, all_there, named, new_tasks, launchable, accepted, declined, is_owing, agrees, carried_out, is_named, in_stream, is_subscribe, handled}
 use Rattle.mes_master.specs.Sending.{Sends, on_stream, offer_ids, comes_again, made, told, told_owing, updated, waiting, resent}
 use Rattle.mes_master.specs.Runs.{new_master, Deed, Past, after_call, after_sending, after, past_of, LaunchedOnce, TakenOnce}
 use Rattle.mes_master.specs.Runs.Deed.{handles, offers, rescinds, updates, resends}
-use Rattle.mes_master.proofs.IdLemmas.{comes_more}
 
 -- ---- how often an identifier stands in a list
 

@@ -1,7 +1,6 @@
 -- A test master: what it holds, and what it answers to each call.
-use Rattle.std.specs.Prelude.{◌≡◌, ℕ, Bool, true, false, ◌||◌, not, if◌then◌else◌, List, [], ◌∷◌, ◌++◌, map, filter, filter_map, Option, Some, None, is_some, codes}
+use Rattle.std.specs.Prelude.{◌≡◌, ℕ, Bool, true, false, ◌||◌, not, if◌then◌else◌, List, [], ◌∷◌, ◌++◌, map, filter, Option, Some, None, is_some}
 use Rattle.std.specs.List.{list_all}
-use Rattle.std.specs.Map.{values_of, lookup}
 use Rattle.std.specs.Str.{bytes_eq}
 use Rattle.uuid.specs.Text.{hyphenated_text, lower}
 use Rattle.mes_model.specs.Id.{Id}
@@ -12,16 +11,14 @@ use Rattle.mes_model.specs.TaskRef.{TaskRef}
 use Rattle.mes_model.specs.TaskStatus.{TaskStatus}
 use Rattle.mes_msg.specs.Call.{Call}
 use Rattle.mes_msg.specs.Call.TheVariants as of
-use Rattle.mes_msg.specs.Acknowledge.{Acknowledge}
 use Rattle.mes_msg.specs.Event.{Event}
-use Rattle.mes_msg.specs.Event.TheVariants as event
 use Rattle.mes_fit.specs.Launched.{launched, launched_by}
-use Rattle.mes_hand.specs.Held.{offer_in, names, without_offers, same_key, with_key}
+use Rattle.mes_hand.specs.Held.{offer_in, names, without_offers, with_key}
 use Rattle.mes_hand.specs.Calls.{framework_of}
-use Rattle.mes_hand.specs.Refusals.{stands_in, ids_of}
-
-abbrev pub same_id : Id → Id → Bool
-same_id a b = bytes_eq a.value b.value
+use Rattle.mes_hand.specs.Refusals.{ids_of}
+pub use Rattle.mes_ledger.specs.Ids.{same_id, new_tasks}
+pub use Rattle.mes_ledger.specs.News.{interval, subscribed_event, update_event, reconciled_event, last_of, asked_for}
+pub use Rattle.mes_ledger.specs.Updates.{is_owing, key_in}
 
 -- what a master holds
 pub record MasterState : Type 0 where
@@ -56,13 +53,6 @@ plain status m = record { status = status; events = []; took = []; ran = []; mas
 
 -- ---- SUBSCRIBE
 
--- 15 seconds, in microseconds
-abbrev pub interval : ℕ
-interval = 15000000
-
-abbrev pub subscribed_event : Id → Event
-subscribed_event framework = event.Subscribed (record { framework_id = framework; heartbeat_interval_seconds = Some interval })
-
 -- the next id becomes that of the stream, and no offer is outstanding
 abbrev pub subscribed : MasterState → List (List ℕ) → MasterAnswer
 subscribed m [] = plain 403 m
@@ -87,11 +77,6 @@ all_there offers (d ∷ ds) = list_all (is_there offers) (d ∷ ds)
 -- the offers that are named
 abbrev pub named : List Id → List Offer → List Offer
 named ids offers = filter (names ids) offers
-
--- the tasks of identifiers that are not known; of two of one identifier the first
-abbrev pub new_tasks : List Id → List TaskInfo → List TaskInfo
-new_tasks known [] = []
-new_tasks known (t ∷ ts) = if stands_in t.task_id known then new_tasks known ts else t ∷ new_tasks (known ++ t.task_id ∷ []) ts
 
 -- the tasks that an ACCEPT of these offers launches
 abbrev pub launchable : MasterState → List Id → List TaskInfo → List TaskInfo
@@ -118,33 +103,10 @@ declined m ids = record {
 
 -- ---- ACKNOWLEDGE
 
--- whether the key is that of an update
-abbrev pub is_owing : List (OwedKey × TaskStatus) → OwedKey → Bool
-is_owing owing key = is_some (lookup (same_key key) owing)
-
 abbrev pub acknowledged : MasterState → OwedKey → MasterState
 acknowledged m key = record m { acked = if is_owing m.owing key then with_key m.acked key else m.acked }
 
-abbrev pub key_in : Acknowledge → OwedKey
-key_in body = record { agent = body.agent_id; task = body.task_id; uuid = body.uuid }
-
 -- ---- RECONCILE
-
-abbrev pub update_event : TaskStatus → Event
-update_event status = event.Update (record { status = status })
-
--- a status that is told again owes nothing
-abbrev pub reconciled_event : TaskStatus → Event
-reconciled_event status = update_event (record status { reason = Some (codes "REASON_RECONCILIATION"); uuid = None })
-
--- the last status of a task
-abbrev pub last_of : List (Id × TaskStatus) → TaskRef → Option TaskStatus
-last_of latest task = lookup (same_id task.task_id) latest
-
--- the statuses that are asked for: of the tasks that are named, in order, so far as one was given; where none is named, of all
-abbrev pub asked_for : List (Id × TaskStatus) → List TaskRef → List TaskStatus
-asked_for latest [] = values_of latest
-asked_for latest (task ∷ tasks) = filter_map (last_of latest) (task ∷ tasks)
 
 abbrev pub reconciled : MasterState → List TaskRef → MasterAnswer
 reconciled m tasks = record { status = 202; events = map reconciled_event (asked_for m.latest tasks); took = []; ran = []; master = m }

@@ -1,5 +1,5 @@
 -- What a test master sends of its own: the event, and the master then, or why not.
-use Rattle.std.specs.Prelude.{ℕ, Bool, false, ◌||◌, not, if◌then◌else◌, List, [], ◌∷◌, ◌++◌, map, filter, slice_get, Option, Some, None, is_some, Result, Ok, Err}
+use Rattle.std.specs.Prelude.{ℕ, if◌then◌else◌, List, [], ◌∷◌, ◌++◌, slice_get, Option, Some, None, is_some, Result, Ok, Err}
 use Rattle.indexmap.specs.IndexMap.{insert_entry}
 use Rattle.mes_model.specs.Id.{Id}
 use Rattle.mes_model.specs.Offer.{Offer}
@@ -8,8 +8,9 @@ use Rattle.mes_model.specs.TaskStatus.{TaskStatus}
 use Rattle.mes_model.specs.Owed.{owed_key_of}
 use Rattle.mes_msg.specs.Event.{Event}
 use Rattle.mes_msg.specs.Event.TheVariants as event
-use Rattle.mes_hand.specs.Held.{with_offers, without_offer, is_owed}
-use Rattle.mes_hand.specs.Refusals.{stands_in}
+use Rattle.mes_hand.specs.Held.{with_offers, without_offer}
+pub use Rattle.mes_ledger.specs.Ids.{offer_ids, comes_again}
+pub use Rattle.mes_ledger.specs.Updates.{waiting}
 use Rattle.mes_master.specs.declared.refusal.MasterRefusal.{MasterRefusal}
 use Rattle.mes_master.specs.declared.refusal.MasterRefusal.TheVariants.{NoStream, OfferTwice, NoSuchOffer, UpdateTwice, NoSuchUpdate}
 use Rattle.mes_master.specs.Masters.{MasterState, same_id, is_there, is_owing, update_event}
@@ -21,14 +22,6 @@ Sends = Result (Event × MasterState) MasterRefusal
 -- each needs a stream
 abbrev pub on_stream : MasterState → Sends → Sends
 on_stream m sends = if is_some m.stream then sends else Err NoStream
-
-abbrev pub offer_ids : List Offer → List Id
-offer_ids offers = map (λ (o : Offer). o.id) offers
-
--- whether one of the identifiers was offered before, or stands once more behind
-abbrev pub comes_again : List Id → List Id → Bool
-comes_again offered [] = false
-comes_again offered (d ∷ ds) = (stands_in d offered || stands_in d ds) || comes_again offered ds
 
 abbrev pub made : MasterState → List Offer → Event × MasterState
 made m offers = (event.Offers offers, record m { offered = m.offered ++ offer_ids offers; outstanding = with_offers m.outstanding offers })
@@ -57,10 +50,6 @@ updated m status (Some key) = if is_owing m.owing key then Err UpdateTwice else 
 
 abbrev pub update_sent : MasterState → TaskStatus → Sends
 update_sent m status = on_stream m (updated m status (owed_key_of status))
-
--- the updates that were not acknowledged
-abbrev pub waiting : List (OwedKey × TaskStatus) → List OwedKey → List (OwedKey × TaskStatus)
-waiting owing acked = filter (λ e. not (is_owed e.0 acked)) owing
 
 abbrev pub resent : MasterState → Option (OwedKey × TaskStatus) → Sends
 resent m None = Err NoSuchUpdate

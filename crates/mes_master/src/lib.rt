@@ -3,12 +3,9 @@
 //! that are outstanding, the tasks that were launched and the updates that were acknowledged, and says which events to send.
 
 mod answer;
-mod ids;
 mod laws;
 mod master;
-mod news;
 mod refusal;
-mod updates;
 
 pub use answer::Answer;
 pub use laws::master_laws;

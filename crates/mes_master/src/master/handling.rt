@@ -8,13 +8,13 @@ ghost use Rattle.mes_master.specs.Memory.{notes, MayWantMemory};
 
 use super::Master;
 use crate::answer::Answer;
-use crate::ids::launch;
-use crate::news;
-use crate::updates::{is_owing, key_in};
 use http::StatusCode;
 use mes_hand::Hand;
 use mes_http::StreamId;
 use mes_json::NoMemory;
+use mes_ledger::ids::launch;
+use mes_ledger::news;
+use mes_ledger::updates::{is_owing, key_in};
 use mes_model::{Id, TaskRef};
 use mes_msg::{Acknowledge, Call, Operation};
 

@@ -5,11 +5,11 @@ ghost use Rattle.mes_master.specs.Masters.{is_owing, update_event};
 ghost use Rattle.mes_master.specs.Sending.{offer_ids, comes_again, made, offers_sent, rescind_sent, told, told_owing, update_sent, resend_sent};
 
 use super::Master;
-use crate::ids::{comes_again, ids_of_offers, put_new, reserve};
-use crate::news;
 use crate::refusal::MasterRefusal;
-use crate::updates::{is_owing, note, note_owing, waiting_at};
 use mes_json::{NoMemory, Text};
+use mes_ledger::ids::{comes_again, ids_of_offers, put_new, reserve};
+use mes_ledger::news;
+use mes_ledger::updates::{is_owing, note, note_owing, waiting_at};
 use mes_model::{Id, Offer, TaskStatus};
 use mes_msg::{Event, Rescind};
 use mes_part::Part;

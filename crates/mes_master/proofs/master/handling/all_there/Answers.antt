@@ -1,5 +1,5 @@
 use Rattle.std.proofs.Common.{◌∙◌}
-use Rattle.mes_master.proofs.IdLemmas.{some_named}
+use Rattle.mes_master.proofs.ThereLemmas.{some_named}
 use Rattle.mes_master.proofs.master.handling.all_there.Goals as goal
 
 pub returns : goal.returns
