@@ -5,33 +5,36 @@
 #include <string.h>
 #include <unistd.h>
 
-static char piece[65536];
+enum { ROOM = 256 };
 
-int main(int count, char **words)
+static char piece[65536];
+static mes_event events[ROOM];
+
+int main(int words_count, char **words)
 {
-    uint32_t flags = count > 1 && strcmp(words[1], "without-texts") == 0 ? MES_WITHOUT_TEXTS : 0;
-    uint64_t events = 0, used_all = 0;
+    uint32_t flags = words_count > 1 && strcmp(words[1], "without-texts") == 0 ? MES_WITHOUT_TEXTS : 0;
+    uint64_t told = 0, used_all = 0;
     mes_decoder *decoder;
-    mes_event event;
+    mes_event last;
     ssize_t length;
 
     if (mes_decoder_new(MES_LIMIT_USUAL, MES_PLAIN, flags, &decoder) != MES_GOOD)
         return 2;
     uint32_t status = MES_MORE;
     while (status == MES_MORE && (length = read(0, piece, sizeof piece)) > 0) {
-        size_t at = 0, used;
-        while ((status = mes_decoder_next(decoder, piece + at, (size_t)length - at, &used, &event)) == MES_EVENT) {
+        size_t at = 0, used, count;
+        do {
+            status = mes_decoder_many(decoder, piece + at, (size_t)length - at, &used, events, ROOM, &count);
             at += used;
-            events++;
-        }
-        used_all += at + used;
+            told += count;
+        } while (status == MES_EVENT);
+        used_all += at;
     }
-    if (status == MES_MORE)
-        status = mes_decoder_finish(decoder, &event);
+    status = mes_decoder_finish(decoder, &last);
     if (status == MES_END)
-        printf("events %llu bytes %llu\n", (unsigned long long)events, (unsigned long long)used_all);
+        printf("events %llu bytes %llu\n", (unsigned long long)told, (unsigned long long)used_all);
     else
-        printf("%.*s\n", (int)event.length, event.text);
+        printf("%.*s\n", (int)last.length, last.text);
     mes_decoder_free(decoder);
     return status != MES_END;
 }

@@ -1,9 +1,11 @@
 /* What stands between a C program and the proved functions of crates/mes_c: it refuses null pointers, and ends texts by a NUL. */
 #include "mesosev.h"
 
+#include <string.h>
+
 #define PUBLIC __attribute__((visibility("default")))
 
-/* What the proved functions take and give (crates/mes_c/src/exports.rt, handle.rt). */
+/* What the proved functions take and give (crates/mes_c/src/exports.rt, rows.rt, handle.rt). */
 struct counts {
     uint64_t events;
     uint64_t used;
@@ -17,6 +19,23 @@ struct answer {
     uint32_t kind;
 };
 
+struct answers {
+    uint64_t used;
+    uint64_t count;
+    const uint8_t *texts;
+};
+
+/* A mes_event in which the place of its text among the texts stands where the pointer to it will. */
+struct row {
+    uint32_t kind;
+    uint64_t start;
+    uint64_t size;
+};
+
+_Static_assert(sizeof(struct row) == sizeof(mes_event) && sizeof(uint64_t) == sizeof(const char *), "a row lies as an event");
+_Static_assert(offsetof(struct row, start) == offsetof(mes_event, text), "a row's place lies as an event's text");
+_Static_assert(offsetof(struct row, size) == offsetof(mes_event, length), "a row's size lies as an event's length");
+
 struct handle {
     uint8_t *at;
 };
@@ -26,6 +45,8 @@ uint32_t mes_c_check(const uint8_t *bytes, size_t length, uint32_t limit, uint32
 uint32_t mes_c_call(const uint8_t *bytes, size_t length, uint64_t *size, uint8_t *room, size_t place);
 uint32_t mes_c_decoder_new(uint32_t limit, uint32_t framing, uint32_t texts, uint8_t **slot);
 uint32_t mes_c_decoder_next(struct handle *handle, const uint8_t *bytes, size_t length, struct answer *answer);
+uint32_t mes_c_decoder_many(struct handle *handle, const uint8_t *bytes, size_t length, struct row *rows, size_t most,
+                            struct answers *answers);
 uint32_t mes_c_decoder_finish(struct handle *handle, struct answer *answer);
 void mes_c_decoder_free(struct handle handle);
 
@@ -117,6 +138,34 @@ PUBLIC uint32_t mes_decoder_next(mes_decoder *decoder, const void *bytes, size_t
     uint32_t status = mes_c_decoder_next(&handle, readable(bytes), length, &answer);
     *used = answer.used;
     tell(event, &answer);
+    return status;
+}
+
+/* Makes events of rows. */
+static void place_texts(mes_event *events, uint64_t count, const uint8_t *texts)
+{
+    struct row row;
+
+    for (uint64_t i = 0; i < count; i++) {
+        memcpy(&row, &events[i], sizeof row);
+        events[i].type = row.kind;
+        events[i].text = row.size > 0 ? (const char *)texts + row.start : NULL;
+        events[i].length = row.size;
+    }
+}
+
+PUBLIC uint32_t mes_decoder_many(mes_decoder *decoder, const void *bytes, size_t length, size_t *used,
+                                 mes_event *events, size_t most, size_t *count)
+{
+    struct handle handle = {(uint8_t *)decoder};
+    struct answers answers = {0, 0, NULL};
+
+    if (decoder == NULL || is_lost(bytes, length) || used == NULL || events == NULL || count == NULL)
+        return MES_BAD_POINTER;
+    uint32_t status = mes_c_decoder_many(&handle, readable(bytes), length, (struct row *)events, most, &answers);
+    *used = answers.used;
+    *count = answers.count;
+    place_texts(events, answers.count, answers.texts);
     return status;
 }
 

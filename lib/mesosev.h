@@ -9,7 +9,7 @@
  * - malloc, realloc and free are of one allocator, which aligns to 16. No call is made from a signal handler, or in the child of a
  *   fork of a process with threads.
  *
- * Texts are UTF-8. Those of mes_event are not ended by a NUL; they live until the next call on the decoder.
+ * Texts are UTF-8. Those of mes_event are not ended by a NUL; they lie in memory of the decoder, and live until the next call on it.
  */
 #ifndef MESOSEV_H
 #define MESOSEV_H
@@ -26,7 +26,7 @@ enum {
     MES_GOOD = 0,         /* a whole stream or a call was read, or a decoder was made */
     MES_NO_MEMORY = 13,   /* F13: memory was refused */
     MES_MORE = 32,        /* all bytes were used, and more are wanted */
-    MES_EVENT = 33,       /* an event has come */
+    MES_EVENT = 33,       /* an event has come; of mes_decoder_many: as many as there is room for */
     MES_END = 34,         /* the stream has ended */
     MES_NO_TEXT = 35,     /* an event has come, or a call, whose canonical text is too large, too deep, or wants memory */
     MES_BAD_LIMIT = 100,  /* the limit is not 1 to MES_LIMIT_MOST */
@@ -109,12 +109,26 @@ uint32_t mes_decoder_new(uint32_t limit, uint32_t framing, uint32_t flags, mes_d
 uint32_t mes_decoder_next(mes_decoder *decoder, const void *bytes, size_t length, size_t *used, mes_event *event);
 
 /*
+ * Takes bytes of the stream as mes_decoder_next does, again and again, and tells many events at once: for a language whose calls of C
+ * are dear. It goes on until the bytes are used, `most` events were told, or the stream ended.
+ * events: room for `most` events, at least 1. *count: how many were told, in their order, in its front; the rest of it stays.
+ * *used: how many bytes were used by all of them; the next call takes those behind them.
+ * Answers MES_MORE, where all bytes were used; MES_EVENT, where there is no room for another event; MES_END, or the number of a fault, and
+ * then the events before it are told all the same, and mes_decoder_finish tells the fault's line; or MES_BAD_POINTER, and then nothing is
+ * taken. An event that mes_decoder_next would answer by MES_NO_TEXT has a null text and the length 0, and without texts each has.
+ * The texts of a call lie one behind the other, and live until the next call on the decoder. Where memory is refused for one of them, the
+ * events before it in the same call have none either.
+ */
+uint32_t mes_decoder_many(mes_decoder *decoder, const void *bytes, size_t length, size_t *used,
+                          mes_event *events, size_t most, size_t *count);
+
+/*
  * The stream has no more bytes. Answers MES_END; or the number of a fault: 6 where a chunked body has not ended, 10 where a record
  * has not, or that of an earlier fault. The same is answered from then on.
  */
 uint32_t mes_decoder_finish(mes_decoder *decoder, mes_event *event);
 
-/* Frees a decoder, and the text that it told last. A null pointer is let be. */
+/* Frees a decoder, and the texts that it told last. A null pointer is let be. */
 void mes_decoder_free(mes_decoder *decoder);
 
 #ifdef __cplusplus

@@ -10,6 +10,7 @@ The library is the file that the variable MESOSEV_LIBRARY names, else the one th
 import collections
 import ctypes
 import ctypes.util
+import itertools
 import json
 import os
 import re
@@ -21,7 +22,7 @@ LIMIT_USUAL = 4_194_304
 LIMIT_MOST = 67_108_864
 READ_MOST = 65_536
 
-_GOOD, _NO_MEMORY, _MORE, _EVENT, _END, _NO_TEXT = 0, 13, 32, 33, 34, 35
+_GOOD, _NO_MEMORY, _MORE, _FULL, _END, _NO_TEXT = 0, 13, 32, 33, 34, 35
 _WITHOUT_TEXTS = 1
 _LINE_ROOM = 641
 _REFUSALS = {
@@ -33,9 +34,8 @@ _NAMES = ("", "SUBSCRIBED", "OFFERS", "RESCIND", "UPDATE", "MESSAGE", "FAILURE",
 _LINE = re.compile(r"fault F(\d+) (\S+)(?: record (\d+)(?: byte (\d+) (\S+)| (\S*) (\S+))?)? after (\d+)")
 
 
-# What a decoder tells, as it lies in memory: a mes_event and, behind it, how many bytes were used.
-_TOLD = struct.Struct("@IPNN")
-_USED_AT = _TOLD.size - struct.calcsize("@N")
+# A mes_event as it lies in memory.
+_EVENT = struct.Struct("@IPN")
 
 # The bytes that stand at an address.
 _bytes_at = ctypes.pythonapi.PyBytes_FromStringAndSize
@@ -56,7 +56,7 @@ def _load():
         "mes_check": [address, size, number, number, address, address, address, size],
         "mes_call": [address, size, address, size, address],
         "mes_decoder_new": [number, number, number, address],
-        "mes_decoder_next": [address, address, size, address, address],
+        "mes_decoder_many": [address, address, size, address, address, size, address],
         "mes_decoder_finish": [address, address],
     }
     for name, kinds in takes.items():
@@ -109,6 +109,9 @@ class Event(collections.namedtuple("Event", ("type", "text"))):
         return _NAMES[self.type] if 0 < self.type else self.value()["type"]
 
 
+# The event of each type without its text: those of a decoder that makes no texts.
+_BARE = tuple(Event(kind, None) for kind in range(len(_NAMES)))
+
 Counts = collections.namedtuple("Counts", ("events", "used"))
 
 
@@ -127,15 +130,33 @@ class _Bytes:
         self.size = len(self.kept)
 
 
+def _events(room):
+    """The events in a room, with copies of their texts, which lie one behind the other."""
+    kinds, places, sizes = zip(*_EVENT.iter_unpack(room))
+    if not any(sizes):
+        return map(_BARE.__getitem__, kinds)
+    first = next(filter(None, places))
+    texts = _bytes_at(first, sum(sizes))
+    ends = tuple(itertools.accumulate(sizes))
+    cut = map(texts.__getitem__, map(slice, (0,) + ends, ends))
+    if 0 in sizes:
+        cut = (text or None for text in cut)
+    return map(tuple.__new__, itertools.repeat(Event), zip(kinds, cut))
+
+
 class Decoder:
     """A decoder of a stream that comes in pieces, however cut. It is used by one thread."""
 
     # Kept here, since names of the module may be gone when the last decoders are.
     _free = _library.mes_decoder_free
+    # For how many events there is room: where a piece has more, the rest of it is given again.
+    _most = 1024
 
     def __init__(self, framing=PLAIN, limit=LIMIT_USUAL, texts=True):
         self._handle = None
-        self._told = ctypes.create_string_buffer(_TOLD.size)
+        # Room for the events of a call, and for how many bytes were used and how many events were told.
+        self._room = ctypes.create_string_buffer(self._most * _EVENT.size)
+        self._used, self._count = ctypes.c_size_t(), ctypes.c_size_t()
         # Whether the stream has ended.
         self.ended = False
         made = ctypes.c_void_p()
@@ -147,38 +168,43 @@ class Decoder:
     def feed(self, data):
         """The events whose records end in these bytes, one by one. A fault is raised behind those before it. All of them are to be taken
         before more bytes are given."""
-        # The names of the loop are looked up once: it runs for each event.
-        following, unpack, bytes_at, make = _library.mes_decoder_next, _TOLD.unpack_from, _bytes_at, tuple.__new__
-        handle, told = self._handle, self._told
-        event = ctypes.addressof(told)
         piece = _Bytes(data)
-        address, size = piece.address, piece.size
-        while True:
-            status = following(handle, address, size, event + _USED_AT, event)
-            kind, text, length, used = unpack(told)
-            address += used
-            size -= used
-            if status == _EVENT:
-                yield make(Event, (kind, bytes_at(text, length) if text else None))
-            elif status == _NO_TEXT:
-                yield make(Event, (kind, None))
-            elif status == _MORE:
-                return
-            else:
-                return self._stop(status)
+        at, status = 0, _FULL
+        while status == _FULL:
+            status = self._take(piece, at)
+            fault = None if status in (_MORE, _FULL) else self._fault(status)
+            at += self._used.value
+            if self._count.value:
+                yield from _events(memoryview(self._room)[: self._count.value * _EVENT.size])
+        if status != _MORE:
+            self._stop(fault)
+
+    def _take(self, piece, at):
+        """Takes what stands behind so many bytes of a piece, and tells the status."""
+        used, count = ctypes.byref(self._used), ctypes.byref(self._count)
+        return _library.mes_decoder_many(self._handle, piece.address + at, piece.size - at, used, self._room, self._most, count)
 
     def finish(self):
         """The stream has no more bytes. Raises the fault if it may not end there."""
-        self._stop(_library.mes_decoder_finish(self._handle, ctypes.addressof(self._told)))
+        self._stop(self._fault(_END))
 
-    def _stop(self, status):
-        self.ended = True
-        if status == _END:
-            return
-        if not 1 <= status <= 16:
+    def _fault(self, status):
+        """The fault that the stream ended with, or none. Nothing is given where the status refuses the call."""
+        if status >= 100:
             _raise_refusal(status)
-        _, text, length, _ = _TOLD.unpack_from(self._told)
-        raise Fault(status, _bytes_at(text, length).decode() if text else "")
+        line = ctypes.create_string_buffer(_EVENT.size)
+        status = _library.mes_decoder_finish(self._handle, line)
+        if status >= 100:
+            _raise_refusal(status)
+        if status == _END:
+            return None
+        _, text, length = _EVENT.unpack(line)
+        return Fault(status, _bytes_at(text, length).decode() if text else "")
+
+    def _stop(self, fault):
+        self.ended = True
+        if fault is not None:
+            raise fault
 
     def close(self):
         """Frees the decoder."""

@@ -72,6 +72,88 @@ class Streams(unittest.TestCase):
         self.assertEqual(len(list(mesosev.events(source, mesosev.CHUNKED))), 13)
 
 
+class Narrow(mesosev.Decoder):
+    """A decoder with room for one event."""
+
+    _most = 1
+
+
+class ManyEvents(unittest.TestCase):
+    def told_of(self, data, cut, make, **how):
+        """The events of bytes that are cut in two, and the line of the fault, if one was raised."""
+        told = []
+        with make(**how) as decoder:
+            try:
+                for piece in (data[:cut], data[cut:]):
+                    for event in decoder.feed(piece):
+                        told.append(event)
+                decoder.finish()
+            except mesosev.Fault as fault:
+                told.append(fault.line)
+        return told
+
+    def test_each_cut(self):
+        for name, how in (("stream.recordio", {}), ("broken.recordio", {}), ("stream.chunked", {"framing": mesosev.CHUNKED})):
+            data = example(name)
+            whole = self.told_of(data, 0, mesosev.Decoder, **how)
+            self.assertEqual(len(whole), 6 if "broken" in name else 13)
+            for cut in range(len(data)):
+                self.assertEqual(self.told_of(data, cut, mesosev.Decoder, **how), whole)
+
+    def test_a_room_of_one_event(self):
+        for name in ("stream.recordio", "broken.recordio"):
+            for texts in (True, False):
+                data = example(name)
+                whole = self.told_of(data, 0, mesosev.Decoder, texts=texts)
+                for cut in range(0, len(data), 7):
+                    self.assertEqual(self.told_of(data, cut, Narrow, texts=texts), whole)
+
+    def test_more_events_than_there_is_room_for(self):
+        for count in (1023, 1024, 1025, 2048, 5000):
+            told = list(mesosev.events(BEAT * count, texts=False))
+            self.assertEqual(told, [(8, None)] * count)
+            told = list(mesosev.events(BEAT * count))
+            self.assertEqual(told, [(8, b'{"type":"HEARTBEAT"}')] * count)
+
+    def test_a_fault_behind_events_in_one_piece(self):
+        for make in (mesosev.Decoder, Narrow):
+            told = self.told_of(BEAT * 3 + b"x", 0, make)
+            self.assertEqual(told, [(8, b'{"type":"HEARTBEAT"}')] * 3 + [f"fault F7 BadSizeLine after {3 * len(BEAT) + 1}"])
+            with make() as decoder:
+                seen = decoder.feed(BEAT * 3 + b"x")
+                self.assertEqual([next(seen).type, next(seen).type, next(seen).type, decoder.ended], [8, 8, 8, False])
+                self.assertRaises(mesosev.Fault, next, seen)
+                self.assertTrue(decoder.ended)
+
+    def test_an_event_without_a_text_among_others(self):
+        # Its canonical text has two bytes more, and so too many.
+        front, back = b'{"type":"SUBSCRIBED","subscribed":{"framework_id":{"value":"', b'"},"heartbeat_interval_seconds":15}}'
+        large = record(front + b"a" * (mesosev.LIMIT_MOST - len(front) - len(back)) + back)
+        for make in (mesosev.Decoder, Narrow):
+            with make(limit=mesosev.LIMIT_MOST) as decoder:
+                told = list(decoder.feed(BEAT + large + BEAT * 2))
+            beat = (8, b'{"type":"HEARTBEAT"}')
+            self.assertEqual(told, [beat, (1, None), beat, beat])
+
+    def test_freed_early(self):
+        decoder = mesosev.Decoder()
+        events = decoder.feed(BEAT * 3000)
+        first = next(events)
+        decoder.close()
+        # Those that were read with it are still given.
+        told = [first]
+        with self.assertRaises(ValueError):
+            for event in events:
+                told.append(event)
+        self.assertEqual(told, [(8, b'{"type":"HEARTBEAT"}')] * 1024)
+
+    def test_events_are_left(self):
+        for make in (mesosev.Decoder, Narrow):
+            decoder = make()
+            self.assertEqual(next(decoder.feed(BEAT * 3)).type, 8)
+            decoder.close()
+
+
 class Faults(unittest.TestCase):
     def fault(self, data, **how):
         with self.assertRaises(mesosev.Fault) as told:

@@ -1,12 +1,14 @@
 /*
  * What tests/c_library builds and runs over libmesosev. Input is standard input.
  *
- *   stream FRAMING LIMIT PIECE [FLAGS]  each event's text as a record on standard output, and then the line of counts or of the fault
- *   cuts FRAMING LIMIT STEP             each cut in two, and in pieces of 1, 7 and 512 bytes, tells what the whole does
+ * With a ROOM that is not 0 events are told by mes_decoder_many, with room for so many at a time; else by mes_decoder_next.
+ *
+ *   stream FRAMING LIMIT PIECE ROOM [FLAGS]  each event's text as a record on standard output, and then the line of counts or of the fault
+ *   cuts FRAMING LIMIT STEP ROOM        each cut in two, and in pieces of 1, 7 and 512 bytes, tells what the whole does
  *   check FRAMING LIMIT ROOM            the counts, the status and the line
  *   call ROOM                           the status, the size and the text
  *   handles COUNT                       so many decoders at once, each freed at another place of the stream
- *   refuse FRAMING                      each growth of the library's memory refused in turn; built with REFUSING and the linker's --wrap
+ *   refuse FRAMING ROOM                 each growth of the library's memory refused in turn; built with REFUSING and the linker's --wrap
  *   misuse                              null pointers, bad words and calls behind the end
  */
 #include <inttypes.h>
@@ -29,6 +31,9 @@ struct outcome {
     uint32_t status;
     char line[MES_LINE_ROOM];
 };
+
+/* For how many events there is room; 0 where they are told one by one. */
+static size_t room;
 
 /* Whether a call of the library runs; how many growths there were, which of them is refused, and whether all behind it are too. */
 static int inside, behind;
@@ -127,30 +132,67 @@ static void keep_event(struct outcome *to, const mes_event *event)
     to->events++;
 }
 
+/* Takes a piece up to an event. */
+static uint32_t take_next(mes_decoder *decoder, const char *bytes, size_t length, size_t *used, struct outcome *to, mes_event *last)
+{
+    inside = 1;
+    uint32_t status = mes_decoder_next(decoder, bytes, length, used, last);
+    inside = 0;
+    if (status != MES_EVENT && status != MES_NO_TEXT)
+        return status;
+    keep_event(to, last);
+    return MES_EVENT;
+}
+
+/* Takes a piece up to the event for which there is no room. */
+static uint32_t take_many(mes_decoder *decoder, const char *bytes, size_t length, size_t *used, struct outcome *to, mes_event *last)
+{
+    mes_event *events = malloc(room * sizeof *events);
+    const char *behind_text = NULL;
+    size_t count = room + 1;
+
+    expect(events != NULL, "no memory");
+    inside = 1;
+    uint32_t status = mes_decoder_many(decoder, bytes, length, used, events, room, &count);
+    inside = 0;
+    expect(count <= room && (count == room) == (status == MES_EVENT), "another count than that of the room");
+    for (size_t i = 0; i < count; i++) {
+        expect((events[i].text == NULL) == (events[i].length == 0), "a text without bytes, or bytes without a text");
+        expect(behind_text == NULL || events[i].text == NULL || events[i].text == behind_text, "texts that stand apart");
+        if (events[i].text != NULL)
+            behind_text = events[i].text + events[i].length;
+        keep_event(to, &events[i]);
+    }
+    free(events);
+    if (status == MES_MORE || status == MES_EVENT)
+        return status;
+    inside = 1;
+    uint32_t again = mes_decoder_finish(decoder, last);
+    inside = 0;
+    expect(again == status, "another end than that behind many events");
+    return status;
+}
+
 /* Gives a decoder bytes. Whether more are wanted. */
 static int feed(mes_decoder *decoder, const char *bytes, size_t length, struct outcome *to)
 {
     char *piece = alone(bytes, length);
     size_t at = 0, used = 0;
-    mes_event event;
+    mes_event last;
     uint32_t status;
 
     do {
-        inside = 1;
-        status = mes_decoder_next(decoder, piece + at, length - at, &used, &event);
-        inside = 0;
+        status = (room > 0 ? take_many : take_next)(decoder, piece + at, length - at, &used, to, &last);
         expect(used <= length - at, "more used than there is");
         at += used;
         to->used += used;
-        if (status == MES_EVENT || status == MES_NO_TEXT)
-            keep_event(to, &event);
-    } while (status == MES_EVENT || status == MES_NO_TEXT);
+    } while (status == MES_EVENT);
     free(piece);
     if (status == MES_MORE) {
         expect(at == length, "bytes are left where more are wanted");
         return 1;
     }
-    keep_end(to, status, &event);
+    keep_end(to, status, &last);
     return 0;
 }
 
@@ -249,33 +291,33 @@ static int cuts(uint32_t framing, uint32_t limit, size_t step)
     return 0;
 }
 
-static int check(uint32_t framing, uint32_t limit, size_t room)
+static int check(uint32_t framing, uint32_t limit, size_t place)
 {
     struct bytes all = standard_input();
     char *bytes = alone(all.at, all.length), *line = alone("", 0);
     uint64_t events = 0, used = 0;
 
-    if (room > 0) {
+    if (place > 0) {
         free(line);
-        line = malloc(room);
+        line = malloc(place);
         expect(line != NULL, "no memory");
-        memset(line, 'x', room);
+        memset(line, 'x', place);
     }
-    uint32_t status = mes_check(bytes, all.length, limit, framing, &events, &used, line, room);
-    printf("%u %" PRIu64 " %" PRIu64 " %s\n", status, events, used, room > 0 ? line : "");
+    uint32_t status = mes_check(bytes, all.length, limit, framing, &events, &used, line, place);
+    printf("%u %" PRIu64 " %" PRIu64 " %s\n", status, events, used, place > 0 ? line : "");
     free(line);
     free(bytes);
     free(all.at);
     return 0;
 }
 
-static int call(size_t room)
+static int call(size_t place)
 {
     struct bytes all = standard_input();
-    char *bytes = alone(all.at, all.length), *text = room > 0 ? malloc(room) : NULL;
+    char *bytes = alone(all.at, all.length), *text = place > 0 ? malloc(place) : NULL;
     size_t size = 0;
 
-    uint32_t status = mes_call(bytes, all.length, text, room, &size);
+    uint32_t status = mes_call(bytes, all.length, text, place, &size);
     printf("%u %zu %s\n", status, size, text != NULL ? text : "");
     free(text);
     free(bytes);
@@ -351,7 +393,7 @@ static void misuse_decoder(uint32_t framing)
     static const char beat[] = "20\n{\"type\":\"HEARTBEAT\"}";
     static const char line[] = "fault F6 EndsInsideChunks after 0";
     mes_decoder *decoder = made(framing, MES_LIMIT_USUAL, 0);
-    size_t used = 5;
+    size_t used = 5, count = 7;
     mes_event event;
 
     expect(mes_decoder_next(NULL, beat, 1, &used, &event) == MES_BAD_POINTER, "a null decoder");
@@ -360,14 +402,25 @@ static void misuse_decoder(uint32_t framing)
     expect(mes_decoder_next(decoder, beat, 1, NULL, &event) == MES_BAD_POINTER, "nowhere for what was used");
     expect(mes_decoder_next(decoder, beat, 1, &used, NULL) == MES_BAD_POINTER, "nowhere for the event");
     expect(mes_decoder_finish(decoder, NULL) == MES_BAD_POINTER, "nowhere for the event at the end");
+    expect(mes_decoder_many(NULL, beat, 1, &used, &event, 1, &count) == MES_BAD_POINTER, "a null decoder of many");
+    expect(mes_decoder_many(decoder, NULL, 1, &used, &event, 1, &count) == MES_BAD_POINTER, "null bytes of many");
+    expect(mes_decoder_many(decoder, beat, 1, NULL, &event, 1, &count) == MES_BAD_POINTER, "nowhere for what many used");
+    expect(mes_decoder_many(decoder, beat, 1, &used, NULL, 1, &count) == MES_BAD_POINTER, "nowhere for many events");
+    expect(mes_decoder_many(decoder, beat, 1, &used, &event, 1, NULL) == MES_BAD_POINTER, "nowhere for how many");
+    expect(count == 7, "a refused call told events");
     expect(used == 5, "a refused call used bytes");
     expect(mes_decoder_next(decoder, NULL, 0, &used, &event) == MES_MORE && used == 0, "no bytes");
     expect(event.text == NULL && event.length == 0 && event.type == 0, "no event");
+    event.type = 9;
+    expect(mes_decoder_many(decoder, NULL, 0, &used, &event, 1, &count) == MES_MORE && used == 0 && count == 0, "no bytes of many");
+    expect(mes_decoder_many(decoder, beat, sizeof beat - 1, &used, &event, 0, &count) == MES_EVENT && used == 0 && count == 0, "no room");
+    expect(event.type == 9, "an event without room for it");
     /* Behind the end the same end is told, whatever comes. */
     uint32_t end = mes_decoder_finish(decoder, &event);
     expect(end == (framing == MES_PLAIN ? MES_END : 6u), "the end of no bytes");
     for (int i = 0; i < 3; i++) {
         expect(mes_decoder_next(decoder, beat, sizeof beat - 1, &used, &event) == end && used == 0, "the end again");
+        expect(mes_decoder_many(decoder, beat, sizeof beat - 1, &used, &event, 1, &count) == end && used == 0 && count == 0, "the end of many");
         expect(mes_decoder_finish(decoder, &event) == end, "the end of the input again");
         expect(end == MES_END || (event.length == sizeof line - 1 && memcmp(event.text, line, event.length) == 0), "its line again");
     }
@@ -411,18 +464,24 @@ int main(int count, char **words)
 {
     const char *what = count > 1 ? words[1] : "";
 
-    if (strcmp(what, "stream") == 0 && count >= 5)
-        return stream(number(words[2]), number(words[3]), number(words[4]), count > 5 ? number(words[5]) : 0);
-    if (strcmp(what, "cuts") == 0 && count == 5)
+    if (strcmp(what, "stream") == 0 && count >= 6) {
+        room = number(words[5]);
+        return stream(number(words[2]), number(words[3]), number(words[4]), count > 6 ? number(words[6]) : 0);
+    }
+    if (strcmp(what, "cuts") == 0 && count == 6) {
+        room = number(words[5]);
         return cuts(number(words[2]), number(words[3]), number(words[4]));
+    }
     if (strcmp(what, "check") == 0 && count == 5)
         return check(number(words[2]), number(words[3]), number(words[4]));
     if (strcmp(what, "call") == 0 && count == 3)
         return call(number(words[2]));
     if (strcmp(what, "handles") == 0 && count == 3)
         return handles(number(words[2]));
-    if (strcmp(what, "refuse") == 0 && count == 3)
+    if (strcmp(what, "refuse") == 0 && count == 4) {
+        room = number(words[3]);
         return refuse(number(words[2]));
+    }
     if (strcmp(what, "misuse") == 0 && count == 2)
         return misuse();
     fail("bad words");

@@ -1,3 +1,6 @@
 pub mod AsBox
+pub mod BatchLemmas
 pub mod DecoderLemmas
 pub mod InputLemmas
+pub mod NumberLemmas
+pub mod RowLemmas

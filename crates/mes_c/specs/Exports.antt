@@ -2,13 +2,17 @@
 use Rattle.std.specs.Prelude.{◌≡◌, ℕ, ◌⊎◌, List, length, Result, Ok, Err}
 use Rattle.std.specs.Vec.{vec_ptr}
 use Rattle.mes_c.specs.Asking.{IsAsked, refused_status}
+use Rattle.mes_c.specs.Batches.{TellsBatch}
 use Rattle.mes_c.specs.Inputs.{TellsInput}
 use Rattle.mes_c.specs.Telling.{TellsNext, TellsFinish}
 use Rattle.mes_c.specs.declared.asking.Asked.{Asked}
 use Rattle.mes_c.specs.declared.asking.Refused.{Refused}
 use Rattle.mes_c.specs.declared.exports.Answer.{Answer}
+use Rattle.mes_c.specs.declared.exports.Answers.{Answers}
 use Rattle.mes_c.specs.declared.exports.Counts.{Counts}
 use Rattle.mes_c.specs.declared.statuses.TheConstants.{GOOD, NO_MEMORY}
+use Rattle.mes_c.specs.declared.rows.Row.{Row}
+use Rattle.mes_c.specs.declared.text_decoder.Batch.{Batch}
 use Rattle.mes_c.specs.declared.text_decoder.TextDecoder.{TextDecoder}
 use Rattle.mes_c.specs.declared.text_decoder.Told.{Told}
 
@@ -41,6 +45,19 @@ pub record AnswersNext (old new : TextDecoder) (piece : List ℕ) (answer : Answ
   pub told : Told
   pub next : TellsNext old new piece answer.used told
   pub given : IsGiven new told answer.used answer status
+
+-- what was told of many events stands in the answers, with where the decoder's texts stand
+pub record AreGiven (decoder : TextDecoder) (batch : Batch) (answers : Answers) (status : ℕ) : Type 0 where
+  pub is_status : status ≡ batch.status
+  pub is_used : answers.used ≡ batch.used
+  pub is_count : answers.count ≡ batch.count
+  pub is_texts : answers.texts ≡ vec_ptr decoder.text
+
+-- a piece was taken, with room for many events
+pub record AnswersMany (old new : TextDecoder) (piece : List ℕ) (before rows : List Row) (answers : Answers) (status : ℕ) : Type 0 where
+  pub batch : Batch
+  pub tells : TellsBatch old new piece before rows batch
+  pub given : AreGiven new batch answers status
 
 -- the input has ended
 pub record AnswersFinish (old new : TextDecoder) (answer : Answer) (status : ℕ) : Type 0 where

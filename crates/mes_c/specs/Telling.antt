@@ -10,6 +10,7 @@ use Rattle.mes_stream.specs.declared.taken.Out.{Out}
 use Rattle.mes_stream.specs.declared.taken.Out.TheVariants as out
 use Rattle.mes_c.specs.Decoders.{Takes, EndsInput}
 use Rattle.mes_c.specs.Numbers.{number_of_event, number_of_fault}
+use Rattle.mes_c.specs.declared.event_decoder.EventDecoder.{EventDecoder}
 use Rattle.mes_c.specs.declared.statuses.TheConstants.{MORE, EVENT, END, NO_TEXT}
 use Rattle.mes_c.specs.declared.text_decoder.TextDecoder.{TextDecoder}
 use Rattle.mes_c.specs.declared.text_decoder.Told.{Told}
@@ -47,11 +48,15 @@ pub record KeepsAll (old new : TextDecoder) : Type 0 where
   pub decoder : new.decoder ≡ old.decoder
   pub texts : new.texts ≡ old.texts
 
+-- a call of `next`, where texts are made or not: so many bytes were used, and that was told, with this text
+pub record TellsStep (texts : Bool) (old new : EventDecoder) (piece : List ℕ) (used : ℕ) (told : Told) (text : List ℕ) : Type 0 where
+  pub out : Out Event
+  pub takes : Takes old new piece used out
+  pub tells : TellsOut texts new.used out text told
+
 -- a call that took a piece
 pub record TellsNext (old new : TextDecoder) (piece : List ℕ) (used : ℕ) (told : Told) : Type 0 where
-  pub out : Out Event
-  pub takes : Takes old.decoder new.decoder piece used out
-  pub tells : TellsOut old.texts new.decoder.used out new.text.items told
+  pub step : TellsStep old.texts old.decoder new.decoder piece used told new.text.items
   pub texts : new.texts ≡ old.texts
 
 -- a call at the end of the input

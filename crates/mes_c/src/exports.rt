@@ -2,7 +2,7 @@
 
 ghost use Rattle.std.specs.Prelude.{◌≡◌, ◌⊎◌, length};
 ghost use Rattle.mes_c.specs.CallTexts.{TellsCall};
-ghost use Rattle.mes_c.specs.Exports.{AnswersCheck, AnswersNew, AnswersNext, AnswersFinish, IsGiven};
+ghost use Rattle.mes_c.specs.Exports.{AnswersCheck, AnswersNew, AnswersNext, AnswersMany, AnswersFinish, IsGiven, AreGiven};
 ghost use Rattle.mes_c.specs.Inputs.{line_of, status_of, used_of};
 ghost use Rattle.mes_c.specs.Rooms.{with_text};
 
@@ -10,8 +10,9 @@ use crate::asking::asked_by;
 use crate::calls::tell_call;
 use crate::handle::Handle;
 use crate::room::put_text;
+use crate::rows::Row;
 use crate::statuses::{GOOD, NO_MEMORY};
-use crate::text_decoder::{TextDecoder, Told};
+use crate::text_decoder::{Batch, TextDecoder, Told};
 use crate::whole::{Checked, check_whole};
 use arrayvec::ArrayString;
 use mes_stream::FAULT_LINE_MOST;
@@ -41,6 +42,18 @@ pub struct Answer {
     pub size: u64,
     /// The number of an event's type; 0 where no event has come.
     pub kind: u32,
+}
+
+/// What a decoder told of many events.
+#[repr(C)]
+#[derive(Drop)]
+pub struct Answers {
+    /// How many bytes of the piece were used.
+    pub used: u64,
+    /// How many events were told.
+    pub count: u64,
+    /// Where their texts stand, until the next call on the handle. To be read only where one has a text.
+    pub texts: *const u8,
 }
 
 /// Reads the bytes of a whole input. Answers `GOOD` or the number of the first fault, with the counts and the line that `mesosev check`
@@ -122,6 +135,22 @@ pub extern "C" fn mes_c_decoder_next(handle: &mut Handle, bytes: &[u8], answer: 
     give(decoder, told, used as u64, answer)
 }
 
+/// Takes a piece as `mes_c_decoder_next` does, again and again, until the piece is used, there is no room for another event, or the stream
+/// has ended, and tells of each event in a row of the room. Answers `EVENT` where there is no room for another.
+#[unsafe(no_mangle)]
+pub extern "C" fn mes_c_decoder_many(
+    handle: &mut Handle,
+    bytes: &[u8],
+    room: &mut [Row],
+    answers: &mut Answers,
+) -> u32
+    ensures { AnswersMany handle.old.held handle.new.held bytes.now room.old room.new answers.new result }
+{
+    let decoder = handle.reach();
+    let batch = decoder.many(bytes, room);
+    give_many(decoder, batch, answers)
+}
+
 /// Tells what it means that the input has no more bytes.
 #[unsafe(no_mangle)]
 pub extern "C" fn mes_c_decoder_finish(handle: &mut Handle, answer: &mut Answer) -> u32
@@ -160,4 +189,14 @@ fn give(decoder: &TextDecoder, told: Told, used: u64, answer: &mut Answer) -> u3
     answer.text = decoder.text_at();
     answer.size = decoder.text().len() as u64;
     told.status
+}
+
+// Gives what was told of many events, with where their texts stand.
+fn give_many(decoder: &TextDecoder, batch: Batch, answers: &mut Answers) -> u32
+    ensures { AreGiven decoder.now batch answers.new result }
+{
+    answers.used = batch.used as u64;
+    answers.count = batch.count as u64;
+    answers.texts = decoder.text_at();
+    batch.status
 }

@@ -5,9 +5,11 @@
 mod asking;
 mod calls;
 mod event_decoder;
+mod event_text;
 mod exports;
 mod handle;
 mod room;
+mod rows;
 mod statuses;
 mod text_decoder;
 mod whole;
@@ -16,12 +18,13 @@ pub use asking::{Asked, Refused, asked_by};
 pub use calls::{CallTold, tell_call};
 pub use event_decoder::{EventDecoder, StreamEnd};
 pub use exports::{
-    Answer, Counts, mes_c_call, mes_c_check, mes_c_decoder_finish, mes_c_decoder_free,
-    mes_c_decoder_new, mes_c_decoder_next,
+    Answer, Answers, Counts, mes_c_call, mes_c_check, mes_c_decoder_finish, mes_c_decoder_free,
+    mes_c_decoder_many, mes_c_decoder_new, mes_c_decoder_next,
 };
 pub use handle::Handle;
+pub use rows::Row;
 pub use statuses::{
     BAD_FRAMING, BAD_LIMIT, END, EVENT, GOOD, MORE, NO_MEMORY, NO_TEXT, event_number, fault_number,
 };
-pub use text_decoder::{TextDecoder, Told};
+pub use text_decoder::{Batch, TextDecoder, Told};
 pub use whole::{Checked, check_whole};

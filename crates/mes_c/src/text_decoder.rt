@@ -1,16 +1,21 @@
 //! A decoder that tells each event by a number and its canonical text, and a fault by its number and its line.
 
-ghost use Rattle.std.specs.Prelude.{◌≡◌, []};
+ghost use Rattle.std.specs.Prelude.{◌≡◌, ◌<◌, [], length};
 ghost use Rattle.std.specs.Vec.{vec_ptr};
+ghost use Rattle.mes_c.specs.Adding.{AddsText, AddsEvent, HasStatus};
+ghost use Rattle.mes_c.specs.Batches.{TellsBatch};
 ghost use Rattle.mes_c.specs.Decoders.{Stands};
 ghost use Rattle.mes_c.specs.Telling.{TellsNext, TellsFinish, TellsOut, TellsEvent, TellsFault, KeepsAll};
 
 use crate::event_decoder::EventDecoder;
+use crate::event_text::{Appended, append_text};
+use crate::rows::{Row, forget_texts};
 use crate::statuses::{END, EVENT, MORE, NO_TEXT, event_number, fault_number};
 use arrayvec::ArrayString;
 use mes_frame::Limit;
+use mes_json::ROOM_KEPT;
 use mes_msg::Event;
-use mes_stream::{FAULT_LINE_MOST, Fault, Framing, Out, Step, fault_line};
+use mes_stream::{FAULT_LINE_MOST, Fault, Framing, Out, fault_line};
 use std::alloc::Global;
 
 /// What a call told, by numbers.
@@ -22,6 +27,17 @@ pub struct Told {
     pub kind: u32,
 }
 
+/// What a call told that takes many events.
+#[derive(Clone, Copy, Debug, PartialEq, Eq)]
+pub struct Batch {
+    /// `EVENT` where there is no room for another event, else `MORE`, `END`, or the number of a fault.
+    pub status: u32,
+    /// How many events were told.
+    pub count: usize,
+    /// How many bytes of the piece were used.
+    pub used: usize,
+}
+
 /// A decoder of either framing, with the text of what it told last.
 #[derive(Drop)]
 pub struct TextDecoder {
@@ -29,7 +45,7 @@ pub struct TextDecoder {
     decoder: EventDecoder,
     // Whether texts of events are made.
     texts: bool,
-    // The canonical text of the event that was told last, or the line of the fault; empty where there is none.
+    // The canonical texts of the events that were told last, one behind the other, or the line of the fault.
     text: Vec<u8>,
 }
 
@@ -47,7 +63,7 @@ impl TextDecoder {
         }
     }
 
-    /// The text of what was told last: an event's canonical text, or a fault's line without its LF.
+    /// The text of what was told last: the canonical text of an event, or of many one behind the other, or a fault's line without its LF.
     pub fn text(&self) -> &[u8]
         ensures { result.now ≡ self.now.text.items }
     {
@@ -66,8 +82,37 @@ impl TextDecoder {
     pub fn next(&mut self, piece: &[u8]) -> (Told, usize)
         ensures { TellsNext self.old self.new piece.now result.1 result.0 }
     {
-        let Step { used, out } = self.decoder.next(piece);
-        (self.tell(out), used)
+        let step = self.decoder.next(piece);
+        (self.tell(&step.out), step.used)
+    }
+
+    /// Takes a piece as `next` does, again and again, until the piece is used, there is no room for another event, or the stream has
+    /// ended, and tells of each event in a row of the room. The texts stand one behind the other.
+    pub fn many(&mut self, piece: &[u8], room: &mut [Row]) -> Batch
+        ensures { TellsBatch self.old self.new piece.now room.old room.new result }
+    {
+        self.clear_text();
+        let mut used: usize = 0;
+        let mut count: usize = 0;
+        while count < room.len() {
+            let step = self.decoder.next(&piece[used..]);
+            used += step.used;
+            let status = status_of(&step.out);
+            let Out::Event(event) = &step.out else {
+                return Batch {
+                    status,
+                    count,
+                    used,
+                };
+            };
+            self.add(event, room, count);
+            count += 1;
+        }
+        Batch {
+            status: EVENT,
+            count,
+            used,
+        }
     }
 
     /// Tells what it means that the input has no more bytes: the end, or a fault. The same is told from then on.
@@ -75,7 +120,7 @@ impl TextDecoder {
         ensures { TellsFinish self.old self.new result }
     {
         let outcome = self.decoder.finish();
-        self.text.clear();
+        self.clear_text();
         match outcome {
             Ok(()) => Told {
                 status: END,
@@ -85,23 +130,35 @@ impl TextDecoder {
         }
     }
 
-    // Tells what the bytes that were used were.
-    fn tell(&mut self, out: Out<Event>) -> Told
-        ensures tells { TellsOut self.old.texts self.old.decoder.used out self.new.text.items result }
+    // Takes the text away of what was told last, and gives the memory of a long one back.
+    fn clear_text(&mut self)
+        ensures text { self.new.text.items ≡ [] }
         ensures keeps { KeepsAll self.old self.new }
     {
-        self.text.clear();
+        if self.text.capacity() > ROOM_KEPT {
+            self.text = Vec::new(self.alloc);
+        } else {
+            self.text.clear();
+        }
+    }
+
+    // Tells what the bytes that were used were.
+    fn tell(&mut self, out: &Out<Event>) -> Told
+        ensures tells { TellsOut self.old.texts self.old.decoder.used out.now self.new.text.items result }
+        ensures keeps { KeepsAll self.old self.new }
+    {
+        self.clear_text();
         match out {
             Out::More => Told {
                 status: MORE,
                 kind: 0,
             },
-            Out::Event(event) => self.tell_event(&event),
+            Out::Event(event) => self.tell_event(event),
             Out::End => Told {
                 status: END,
                 kind: 0,
             },
-            Out::Fault(fault) => self.tell_fault(&fault),
+            Out::Fault(fault) => self.tell_fault(fault),
         }
     }
 
@@ -118,18 +175,52 @@ impl TextDecoder {
                 kind,
             };
         }
-        match event.canon(self.alloc, Limit::MOST) {
-            Ok(text) => {
-                self.text = text;
-                Told {
-                    status: EVENT,
-                    kind,
-                }
-            }
-            Err(_) => Told {
+        match append_text(self.alloc, event, &mut self.text) {
+            Appended::Whole => Told {
+                status: EVENT,
+                kind,
+            },
+            Appended::Unfit => Told {
                 status: NO_TEXT,
                 kind,
             },
+            Appended::Lost => Told {
+                status: NO_TEXT,
+                kind,
+            },
+        }
+    }
+
+    // Tells of an event in the row behind so many, and makes its text behind theirs.
+    fn add(&mut self, event: &Event, room: &mut [Row], count: usize)
+        requires { count < length room.old }
+        ensures adds { AddsEvent self.old.texts event.now self.old.text.items self.new.text.items count room.old room.new }
+        ensures keeps { KeepsAll self.old self.new }
+    {
+        let start = self.add_text(event, &mut room[..count]);
+        room[count] = Row {
+            kind: event_number(event),
+            start: start as u64,
+            size: (self.text.len() - start) as u64,
+        };
+    }
+
+    // Makes an event's text behind those of others, and tells where it begins. Where memory is refused for it, theirs are lost too.
+    fn add_text(&mut self, event: &Event, others: &mut [Row]) -> usize
+        ensures adds { AddsText self.old.texts event.now self.old.text.items self.new.text.items others.old others.new result }
+        ensures keeps { KeepsAll self.old self.new }
+    {
+        let start = self.text.len();
+        if !self.texts {
+            return start;
+        }
+        match append_text(self.alloc, event, &mut self.text) {
+            Appended::Whole => start,
+            Appended::Unfit => start,
+            Appended::Lost => {
+                forget_texts(others);
+                0
+            }
         }
     }
 
@@ -149,5 +240,17 @@ impl TextDecoder {
             status: fault_number(fault),
             kind: 0,
         }
+    }
+}
+
+// The status of an answer.
+fn status_of(out: &Out<Event>) -> u32
+    ensures { HasStatus out.now result }
+{
+    match out {
+        Out::More => MORE,
+        Out::Event(_) => EVENT,
+        Out::End => END,
+        Out::Fault(fault) => fault_number(fault),
     }
 }
