@@ -1,6 +1,5 @@
 -- Many events, told one by one.
-use Rattle.std.proofs.Common.{◌≡◌, ℕ, ◌+◌, ◌-◌, ◌<◌, ◌≤◌, List, [], ◌∷◌, ◌++◌, suc, length, take, drop, map, refl, sym, ◌∙◌, ap, subst, arith, append_assoc, append-nil, zero-add, length-append, length-take-le, Bool, true, false, inl, inr}
-use Rattle.std.specs.Prelude.{◌⊎◌}
+use Rattle.std.proofs.Common.{◌≡◌, ℕ, ◌+◌, ◌-◌, ◌<◌, ◌≤◌, List, [], ◌∷◌, ◌++◌, length, take, drop, map, refl, sym, ◌∙◌, ap, subst, arith, append_assoc, append-nil, zero-add, length-append, length-take-le, Bool, true, false, inl, inr}
 use Rattle.std.proofs.Math.ListN.{set}
 use Rattle.std.proofs.Math.Seq.{take-append_seam, drop-append-add}
 use Rattle.std.proofs.lemmas.List.{drop-drop, length-map}
@@ -9,7 +8,6 @@ use Rattle.mes_msg.specs.Canon.{canonical_text, IsEncodeFault}
 use Rattle.mes_msg.specs.EncodeFault.{EncodeFault}
 use Rattle.mes_msg.specs.EncodeFault.TheVariants.{NoMemory}
 use Rattle.mes_msg.specs.Event.{Event}
-use Rattle.mes_stream.specs.declared.fault.Fault.{Fault}
 use Rattle.mes_stream.specs.declared.taken.Out.{Out}
 use Rattle.mes_stream.specs.declared.taken.Out.TheVariants as out
 use Rattle.mes_c.specs.Adding.{KeepsTexts, LosesTexts, AddsText, AddsEvent, HasStatus}
@@ -32,9 +30,16 @@ pub each_more : (texts : Bool) (events : List Telling) (old mid new : EventDecod
     → TellsEach texts old mid piece used events → IsEvent one.told.status → TellsStep texts mid new (drop used piece) more one.told one.text → TellsEach texts old new piece (used + more) (events ++ one ∷ [])
 each_more texts [] old mid new piece used more one h is step =
     (new, more, 0, omega (arith, h.1), is, subst (λ (d : EventDecoder). TellsStep texts d new piece more one.told one.text) h.0 (subst (λ (n : ℕ). TellsStep texts mid new (drop n piece) more one.told one.text) h.1 step), (refl, refl))
-each_more texts (e ∷ es) old mid new piece used more one (between, first, rest, by, its, does, others) is step =
-    (between, first, rest + more, omega (arith, by), its, does, each_more texts es between mid new (drop first piece) rest more one others is
-    (subst (λ (ys : List ℕ). TellsStep texts mid new ys more one.told one.text) (ap (λ n. drop n piece) by ∙ sym (drop-drop rest first piece)) step))
+each_more texts (e ∷ es) old mid new piece used more one (between, first, rest, by, its, does, others) is step = (
+  between,
+  first,
+  rest + more,
+  omega (arith, by),
+  its,
+  does,
+  each_more texts es between mid new (drop first piece) rest more one others is
+      (subst (λ (ys : List ℕ). TellsStep texts mid new ys more one.told one.text) (ap (λ n. drop n piece) by ∙ sym (drop-drop rest first piece)) step),
+)
 
 -- ---- the same events without their texts
 
@@ -208,13 +213,16 @@ stops_there old new mid piece before after used count more status answer h insid
     taken = used;
     rest = more;
     each = h.each;
-    stops = inr (subst (λ (n : ℕ). n < length before) h.counted inside, record {
-      told = record { status = status; kind = 0 };
-      text = [];
-      step = record { out = answer; takes = takes; tells = tells_out old.texts new.decoder.used answer status none is };
-      no_event = no_event answer status none is;
-      is_status = refl;
-    });
+    stops = inr (
+      subst (λ (n : ℕ). n < length before) h.counted inside,
+      record {
+        told = record { status = status; kind = 0 };
+        text = [];
+        step = record { out = answer; takes = takes; tells = tells_out old.texts new.decoder.used answer status none is };
+        no_event = no_event answer status none is;
+        is_status = refl;
+      },
+    );
     is_used = refl;
   };
   count = h.counted;

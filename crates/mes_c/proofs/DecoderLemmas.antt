@@ -1,5 +1,5 @@
 -- What a decoder made of a piece, by what its reader did.
-use Rattle.std.proofs.Common.{◌≡◌, ℕ, ◌+◌, ◌≤◌, List, ◌++◌, length, take, refl, ◌∙◌, arith, length-append, length-take-le, Option, None, Some}
+use Rattle.std.proofs.Common.{◌≡◌, ℕ, ◌+◌, ◌≤◌, List, ◌++◌, length, take, refl, ◌∙◌, arith, length-append, length-take-le, None, Some}
 use Rattle.mes_msg.specs.Event.{Event}
 use Rattle.mes_msg.specs.Events.{Spells}
 use Rattle.mes_stream.specs.EventData.{HoldsData}
@@ -12,9 +12,8 @@ use Rattle.mes_stream.specs.declared.stream_reader.Framing.{Framing}
 use Rattle.mes_stream.specs.declared.stream_reader.StreamReader.{StreamReader}
 use Rattle.mes_stream.specs.declared.taken.Out.{Out}
 use Rattle.mes_stream.specs.declared.taken.Out.TheVariants as out
-use Rattle.mes_c.specs.Decoders.{Takes, Stands, StateStands, EndsBy, answer_of, end_at}
+use Rattle.mes_c.specs.Decoders.{Takes, StateStands, EndsBy, answer_of}
 use Rattle.mes_c.specs.declared.event_decoder.EventDecoder.{EventDecoder}
-use Rattle.mes_c.specs.declared.event_decoder.State.{State}
 use Rattle.mes_c.specs.declared.event_decoder.State.TheVariants as state
 use Rattle.mes_c.specs.declared.event_decoder.StreamEnd.{StreamEnd}
 use Rattle.mes_c.specs.declared.event_decoder.StreamEnd.TheVariants.{Closed, Failed}

@@ -1,5 +1,5 @@
 -- Rows that tell of many events.
-use Rattle.std.proofs.Common.{◌≡◌, ℕ, ◌+◌, ◌≤◌, ◌<◌, suc, List, [], ◌∷◌, ◌++◌, length, take, drop, map, get_or, refl, sym, ◌∙◌, ap, arith, append_assoc, append-nil, length-append, length-take-le, add-one}
+use Rattle.std.proofs.Common.{◌≡◌, ℕ, ◌+◌, ◌<◌, suc, List, [], ◌∷◌, ◌++◌, length, take, drop, map, get_or, refl, sym, ◌∙◌, ap, arith, append_assoc, append-nil, length-append, length-take-le, add-one}
 use Rattle.std.specs.Prelude.{slice_index_or, slice_set}
 use Rattle.std.proofs.Math.ListN.{set}
 use Rattle.std.proofs.Math.Seq.{set-append_seam, get_or-append_seam, drop-cons}
@@ -25,9 +25,6 @@ get_seam front xs n d is inside =
 -- ---- one row more without its text
 
 module _ (rows : List Row) (n : ℕ) (d : Row) (inside : n < length rows) where
-
-
-
   front_is : length (map without_text (take n rows)) ≡ n
   front_is = length-map (take n rows) without_text ∙ length-take-le n rows (omega arith)
 

@@ -1,8 +1,9 @@
 -- What the functions that C calls answer.
-use Rattle.std.specs.Prelude.{◌≡◌, ℕ, ◌⊎◌, List, length, Result, Ok, Err}
+use Rattle.std.specs.Prelude.{◌≡◌, ◌==◌, ℕ, ◌⊎◌, List, [], length, not, Some, Result, Ok, Err}
 use Rattle.std.specs.Vec.{vec_ptr}
 use Rattle.mes_c.specs.Asking.{IsAsked, refused_status}
 use Rattle.mes_c.specs.Batches.{TellsBatch}
+use Rattle.mes_c.specs.Decoders.{Stands}
 use Rattle.mes_c.specs.Inputs.{TellsInput}
 use Rattle.mes_c.specs.Telling.{TellsNext, TellsFinish}
 use Rattle.mes_c.specs.declared.asking.Asked.{Asked}
@@ -11,6 +12,7 @@ use Rattle.mes_c.specs.declared.exports.Answer.{Answer}
 use Rattle.mes_c.specs.declared.exports.Answers.{Answers}
 use Rattle.mes_c.specs.declared.exports.Counts.{Counts}
 use Rattle.mes_c.specs.declared.statuses.TheConstants.{GOOD, NO_MEMORY}
+use Rattle.mes_c.specs.declared.handle.Slot.{Slot}
 use Rattle.mes_c.specs.declared.rows.Row.{Row}
 use Rattle.mes_c.specs.declared.text_decoder.Batch.{Batch}
 use Rattle.mes_c.specs.declared.text_decoder.TextDecoder.{TextDecoder}
@@ -24,13 +26,22 @@ ChecksAsked (Err refused) w old new before room status = (status ≡ refused_sta
 abbrev pub AnswersCheck : ℕ → ℕ → List ℕ → Counts → Counts → List ℕ → List ℕ → ℕ → Type 0
 AnswersCheck limit framing w old new before room status = (asked : Result Asked Refused) × IsAsked limit framing asked × ChecksAsked asked w old new before room status
 
--- a decoder by what was asked for: it was made, or memory was refused; or a refusal
-abbrev pub MadeAsked : Result Asked Refused → ℕ → Type 0
-MadeAsked (Ok asked) status = (status ≡ GOOD) ⊎ (status ≡ NO_MEMORY)
-MadeAsked (Err refused) status = status ≡ refused_status refused
+-- a handle of the decoder was put into the slot; or memory was refused, and the slot stays
+abbrev pub IsPlaced : TextDecoder → Slot → Slot → ℕ → Type 0
+IsPlaced decoder old new status = ((status ≡ GOOD) × (new.held ≡ Some decoder)) ⊎ ((status ≡ NO_MEMORY) × (new ≡ old))
 
-abbrev pub AnswersNew : ℕ → ℕ → ℕ → Type 0
-AnswersNew limit framing status = (asked : Result Asked Refused) × IsAsked limit framing asked × MadeAsked asked status
+-- a decoder before the first byte of what was asked for, which makes texts of events unless `texts` is 0
+pub record IsNew (asked : Asked) (texts : ℕ) (decoder : TextDecoder) : Type 0 where
+  pub stands : Stands decoder.decoder asked.framing asked.limit [] []
+  pub makes : decoder.texts ≡ not (texts == 0)
+
+-- a decoder by what was asked for was placed; or a refusal, and the slot stays
+abbrev pub MadeAsked : Result Asked Refused → ℕ → Slot → Slot → ℕ → Type 0
+MadeAsked (Ok asked) texts old new status = (decoder : TextDecoder) × IsNew asked texts decoder × IsPlaced decoder old new status
+MadeAsked (Err refused) texts old new status = (status ≡ refused_status refused) × (new ≡ old)
+
+abbrev pub AnswersNew : ℕ → ℕ → ℕ → Slot → Slot → ℕ → Type 0
+AnswersNew limit framing texts old new status = (asked : Result Asked Refused) × IsAsked limit framing asked × MadeAsked asked texts old new status
 
 -- what was told stands in the answer, with the decoder's text
 pub record IsGiven (decoder : TextDecoder) (told : Told) (used : ℕ) (answer : Answer) (status : ℕ) : Type 0 where

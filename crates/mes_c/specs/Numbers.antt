@@ -1,6 +1,5 @@
 -- The numbers that stand for faults and types of events in C.
 use Rattle.std.specs.Prelude.{ℕ}
-use Rattle.mes_frame.specs.declared.fault.FrameFault.{FrameFault}
 use Rattle.mes_frame.specs.declared.fault.FrameFault.TheVariants.{BadChunkLine, ChunkLineTooLong, ChunkTooLarge, BadChunkEnd, TrailersTooLong, BadSizeLine, SizeLineTooLong, RecordTooLarge}
 use Rattle.mes_msg.specs.Event.{Event}
 use Rattle.mes_msg.specs.Event.TheVariants as event

@@ -1,14 +1,14 @@
 //! The functions that C calls. What a C caller owes is told in `lib/mesosev.h`.
 
-ghost use Rattle.std.specs.Prelude.{◌≡◌, ◌⊎◌, length};
+ghost use Rattle.std.specs.Prelude.{◌≡◌, length};
 ghost use Rattle.mes_c.specs.CallTexts.{TellsCall};
-ghost use Rattle.mes_c.specs.Exports.{AnswersCheck, AnswersNew, AnswersNext, AnswersMany, AnswersFinish, IsGiven, AreGiven};
+ghost use Rattle.mes_c.specs.Exports.{AnswersCheck, AnswersNew, AnswersNext, AnswersMany, AnswersFinish, IsGiven, AreGiven, IsPlaced};
 ghost use Rattle.mes_c.specs.Inputs.{line_of, status_of, used_of};
 ghost use Rattle.mes_c.specs.Rooms.{with_text};
 
 use crate::asking::asked_by;
 use crate::calls::tell_call;
-use crate::handle::Handle;
+use crate::handle::{Handle, Slot};
 use crate::room::put_text;
 use crate::rows::Row;
 use crate::statuses::{GOOD, NO_MEMORY};
@@ -104,17 +104,17 @@ pub extern "C" fn mes_c_call(alloc: Global, bytes: &[u8], size: &mut u64, room: 
     tell_call(alloc, bytes).put(bytes.len() as u64, size, room)
 }
 
-/// Makes a decoder, which makes texts of events unless `texts` is 0. Answers `GOOD` with where it stands, 13 where memory was refused,
-/// or `BAD_LIMIT` or `BAD_FRAMING`.
+/// Makes a decoder, which makes texts of events unless `texts` is 0, and puts a handle of it into the slot. Answers `GOOD`; or 13 where
+/// memory was refused, or `BAD_LIMIT` or `BAD_FRAMING`, and then leaves the slot as it was.
 #[unsafe(no_mangle)]
 pub extern "C" fn mes_c_decoder_new(
     alloc: Global,
     limit: u32,
     framing: u32,
     texts: u32,
-    slot: &mut *mut u8,
+    slot: &mut Slot,
 ) -> u32
-    ensures { AnswersNew limit framing result }
+    ensures { AnswersNew limit framing texts slot.old slot.new result }
 {
     match asked_by(limit, framing) {
         Ok(asked) => {
@@ -167,13 +167,13 @@ pub extern "C" fn mes_c_decoder_free(handle: Handle) {
     drop(handle);
 }
 
-// Puts a decoder on the heap, and tells where it stands.
-fn place_in(alloc: Global, decoder: TextDecoder, slot: &mut *mut u8) -> u32
-    ensures { (result ≡ GOOD) ⊎ (result ≡ NO_MEMORY) }
+// Puts a decoder on the heap, and a handle of it into the slot.
+fn place_in(alloc: Global, decoder: TextDecoder, slot: &mut Slot) -> u32
+    ensures { IsPlaced decoder slot.old slot.new result }
 {
     match Box::new(alloc, decoder) {
         Ok(placed) => {
-            *slot = Box::into_raw(placed).cast::<u8>();
+            *slot = Slot::of(placed);
             GOOD
         }
         Err(_) => NO_MEMORY,

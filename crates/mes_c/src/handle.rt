@@ -1,8 +1,8 @@
 //! The handle of a decoder on the heap. All functions on raw memory stand here, and their proofs are by hand.
 
-ghost use Rattle.std.specs.Prelude.{◌≡◌};
+ghost use Rattle.std.specs.Prelude.{◌≡◌, Option, Some};
 ghost use Rattle.std.specs.Box.Ownership.{box_owns};
-ghost use Rattle.mes_c.specs.Handles.{handle_owns, decoder_coded};
+ghost use Rattle.mes_c.specs.Handles.{handle_owns, slot_owns, decoder_coded, maybe_coded};
 ghost use Rattle.mes_c.specs.declared.text_decoder.TextDecoder.{TextDecoder};
 
 use crate::text_decoder::TextDecoder;
@@ -47,6 +47,40 @@ impl Handle {
     }
 }
 
+/// Where a C program has a handle put. A slot that is let go of forgets the handle in it.
+#[repr(C)]
+#[derive(Drop)]
+pub struct Slot {
+    ptr: *mut u8,
+    alloc: Global,
+    /// The decoder of the handle in it, if there is one.
+    pub ghost held: { Option TextDecoder } by { maybe_coded },
+}
+
+impl Model for Slot {
+    ghost also_owns = { λ s. slot_owns s.alloc s.ptr s.held };
+}
+
+impl Slot {
+    /// A slot with a handle of the decoder in a box.
+    pub fn of(placed: Box<TextDecoder>) -> Slot
+        ensures { result.held ≡ Some placed.value }
+    {
+        Slot::of_parts(Parts::of(placed))
+    }
+
+    // A slot with the parts of the decoder's box.
+    fn of_parts(parts: Parts<TextDecoder, Global>) -> Slot
+        ensures { result.held ≡ Some parts.value }
+    {
+        let Parts { ptr, alloc } = parts;
+        Slot {
+            ptr: ptr.cast::<u8>(),
+            alloc,
+        }
+    }
+}
+
 impl Drop for Handle {
     fn drop(self) {
         drop(self.into_parts().into_box());
@@ -65,6 +99,16 @@ impl<T, A: Allocator> Model for Parts<T, A> {
 }
 
 impl<T, A: Allocator> Parts<T, A> {
+    // The parts of a box.
+    fn of(placed: Box<T, A>) -> Parts<T, A>
+    where
+        T: Drop,
+        ensures { result.value ≡ placed.value }
+    {
+        let (ptr, alloc) = Box::into_raw_with_allocator(placed);
+        Parts { ptr, alloc }
+    }
+
     // The box.
     fn into_box(self) -> Box<T, A>
         ensures { result.value ≡ self.value }

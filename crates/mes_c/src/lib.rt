@@ -21,7 +21,7 @@ pub use exports::{
     Answer, Answers, Counts, mes_c_call, mes_c_check, mes_c_decoder_finish, mes_c_decoder_free,
     mes_c_decoder_many, mes_c_decoder_new, mes_c_decoder_next,
 };
-pub use handle::Handle;
+pub use handle::{Handle, Slot};
 pub use rows::Row;
 pub use statuses::{
     BAD_FRAMING, BAD_LIMIT, END, EVENT, GOOD, MORE, NO_MEMORY, NO_TEXT, event_number, fault_number,

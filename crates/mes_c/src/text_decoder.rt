@@ -107,6 +107,7 @@ impl TextDecoder {
             };
             self.add(event, room, count);
             count += 1;
+            drop(step);
         }
         Batch {
             status: EVENT,

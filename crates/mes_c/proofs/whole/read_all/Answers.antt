@@ -1,4 +1,4 @@
-use Rattle.std.proofs.Common.{◌+◌, ◌-◌, ◌<◌, length, take, ap, arith, length-drop}
+use Rattle.std.proofs.Common.{◌-◌, ◌<◌, length, take, ap, arith, length-drop}
 use Rattle.std.proofs.lemmas.List.{take_rest}
 use Rattle.mes_c.proofs.InputLemmas.{counting_none, counting_more, counting_event, ends_amid, stops_amid, ends_all}
 use Rattle.mes_c.proofs.whole.read_all.Goals as goal

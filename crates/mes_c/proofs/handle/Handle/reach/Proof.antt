@@ -9,14 +9,12 @@ use mir.Raw.{raw as bare}
 use mir.Val.{Val, vptr}
 use base.Logic.{ent, sep, id⊢}
 use base.Fml.{GName, Fml, ftrue, flft, fsep}
-use prog.Wp.{Env}
 use types.Logic.{Logic, sem}
 use contract.Running.{tables}
-use types.Kit.{‵, raw, ◌⊛◌, some, later, at_ret, ◌$◌, ◌∵◌, !, qed, by, move, keep, use1, drop, split, join, pick, rewrite, fsplit, fsplit3, fjoin, fpack, suffices, frame, await, group, done}
+use types.Kit.{‵, raw, ◌⊛◌, some, later, at_ret, ◌$◌, ◌∵◌, !, qed, move, keep, use1, drop, split, join, pick, rewrite, fsplit, fsplit3, fjoin, fpack, suffices, frame, await, group, done}
 use types.Part.{whole, sub, look_in}
 use types.Run.{stop, fld, load, of_opd, first, blocks, exec, returns, enter, addr}
 use types.ByLocal.{alloc_all, pass_all, free_all, look_at, get, through, sets, env, sets_last}
-use denote.RattleType.{RattleType}
 use denote.Exit.{no}
 use denote.Memory.{part_at, part_of, mem, cell_at}
 use denote.RawPtr.{block_ptr}
@@ -28,7 +26,7 @@ use denote.Triple.Walked.{says, Stays, stay_dropped, walk_of, ends_at, Goes-spen
 use Rattle.std.proofs.alloc.Calls.{token}
 use Rattle.std.proofs.raw_atomic.Walks.{proved}
 use Rattle.std_alloc.proofs.VecSteps.Shapes.{after}
-use Rattle.std_alloc.proofs.BoxSteps.Form.{B, D, R, τ, word, handle}
+use Rattle.std_alloc.proofs.BoxSteps.Form.{B, D, τ, word, handle}
 use Rattle.std_alloc.proofs.BoxSteps.Steps.{box_out, box_in}
 use Rattle.mes_c.proofs.AsBox.{E}
 use Rattle.mes_c.specs.HandleLends.{with_decoder}

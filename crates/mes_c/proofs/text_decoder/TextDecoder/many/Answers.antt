@@ -1,4 +1,4 @@
-use Rattle.std.proofs.Common.{◌+◌, ◌∙◌, arith, ap, length, length-drop}
+use Rattle.std.proofs.Common.{◌∙◌, arith, ap, length, length-drop}
 use Rattle.std.proofs.lemmas.List.{take_rest}
 use Rattle.mes_c.proofs.BatchLemmas.{stops_there, so_far_more}
 use Rattle.mes_c.proofs.text_decoder.TextDecoder.many.Goals as goal
