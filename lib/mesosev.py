@@ -171,35 +171,34 @@ class Decoder:
         piece = _Bytes(data)
         at, status = 0, _FULL
         while status == _FULL:
-            status = self._take(piece, at)
-            fault = None if status in (_MORE, _FULL) else self._fault(status)
+            status, told = self._take(piece, at)
             at += self._used.value
-            if self._count.value:
-                yield from _events(memoryview(self._room)[: self._count.value * _EVENT.size])
+            fault = None if status in (_MORE, _FULL) else self._fault()
+            yield from told
         if status != _MORE:
             self._stop(fault)
 
-    def _take(self, piece, at):
-        """Takes what stands behind so many bytes of a piece, and tells the status."""
-        used, count = ctypes.byref(self._used), ctypes.byref(self._count)
-        return _library.mes_decoder_many(self._handle, piece.address + at, piece.size - at, used, self._room, self._most, count)
-
     def finish(self):
         """The stream has no more bytes. Raises the fault if it may not end there."""
-        self._stop(self._fault(_END))
+        self._stop(self._fault())
 
-    def _fault(self, status):
-        """The fault that the stream ended with, or none. Nothing is given where the status refuses the call."""
+    def _take(self, piece, at):
+        """Takes what stands behind so many bytes of a piece, and tells the status and the events."""
+        used, count = ctypes.byref(self._used), ctypes.byref(self._count)
+        status = _library.mes_decoder_many(self._handle, piece.address + at, piece.size - at, used, self._room, self._most, count)
         if status >= 100:
             _raise_refusal(status)
-        line = ctypes.create_string_buffer(_EVENT.size)
-        status = _library.mes_decoder_finish(self._handle, line)
+        told = self._count.value
+        return status, _events(memoryview(self._room)[: told * _EVENT.size]) if told else ()
+
+    def _fault(self):
+        """The fault that the stream ends with, or none. The texts of the events are to be copied before."""
+        end = ctypes.create_string_buffer(_EVENT.size)
+        status = _library.mes_decoder_finish(self._handle, end)
         if status >= 100:
             _raise_refusal(status)
-        if status == _END:
-            return None
-        _, text, length = _EVENT.unpack(line)
-        return Fault(status, _bytes_at(text, length).decode() if text else "")
+        _, text, length = _EVENT.unpack(end)
+        return None if status == _END else Fault(status, _bytes_at(text, length).decode() if text else "")
 
     def _stop(self, fault):
         self.ended = True
