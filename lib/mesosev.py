@@ -10,6 +10,7 @@ The library is the file that the variable MESOSEV_LIBRARY names, else the one th
 import collections
 import ctypes
 import ctypes.util
+import io
 import itertools
 import json
 import os
@@ -34,7 +35,7 @@ _NAMES = ("", "SUBSCRIBED", "OFFERS", "RESCIND", "UPDATE", "MESSAGE", "FAILURE",
 _LINE = re.compile(r"fault F(\d+) (\S+)(?: record (\d+)(?: byte (\d+) (\S+)| (\S*) (\S+))?)? after (\d+)")
 
 
-# A mes_event as it lies in memory.
+# A mes_event as it lies in memory: three words, of which the number of its type has the front of the first.
 _EVENT = struct.Struct("@IPN")
 
 # The bytes that stand at an address.
@@ -130,18 +131,10 @@ class _Bytes:
         self.size = len(self.kept)
 
 
-def _events(room):
-    """The events in a room, with copies of their texts, which lie one behind the other."""
-    kinds, places, sizes = zip(*_EVENT.iter_unpack(room))
-    if not any(sizes):
-        return map(_BARE.__getitem__, kinds)
-    first = next(filter(None, places))
-    texts = _bytes_at(first, sum(sizes))
-    ends = tuple(itertools.accumulate(sizes))
-    cut = map(texts.__getitem__, map(slice, (0,) + ends, ends))
-    if 0 in sizes:
-        cut = (text or None for text in cut)
-    return map(tuple.__new__, itertools.repeat(Event), zip(kinds, cut))
+def _numbers_of(room):
+    """The types of the events in a room, where their texts stand, and how long those are."""
+    numbers, words = (memoryview(room).cast("B").cast(kind) for kind in "IN")
+    return numbers[:: _EVENT.size // numbers.itemsize], words[1::3], words[2::3]
 
 
 class Decoder:
@@ -154,8 +147,9 @@ class Decoder:
 
     def __init__(self, framing=PLAIN, limit=LIMIT_USUAL, texts=True):
         self._handle = None
-        # Room for the events of a call, and for how many bytes were used and how many events were told.
+        # Room for the events of a call, the numbers in it, and how many bytes were used and how many events were told.
         self._room = ctypes.create_string_buffer(self._most * _EVENT.size)
+        self._kinds, self._places, self._sizes = _numbers_of(self._room)
         self._used, self._count = ctypes.c_size_t(), ctypes.c_size_t()
         # Whether the stream has ended.
         self.ended = False
@@ -171,8 +165,9 @@ class Decoder:
         piece = _Bytes(data)
         at, status = 0, _FULL
         while status == _FULL:
-            status, told = self._take(piece, at)
+            status = self._take(piece, at)
             at += self._used.value
+            told = self._told()
             fault = None if status in (_MORE, _FULL) else self._fault()
             yield from told
         if status != _MORE:
@@ -183,13 +178,25 @@ class Decoder:
         self._stop(self._fault())
 
     def _take(self, piece, at):
-        """Takes what stands behind so many bytes of a piece, and tells the status and the events."""
+        """Takes what stands behind so many bytes of a piece, and tells the status."""
         used, count = ctypes.byref(self._used), ctypes.byref(self._count)
         status = _library.mes_decoder_many(self._handle, piece.address + at, piece.size - at, used, self._room, self._most, count)
         if status >= 100:
             _raise_refusal(status)
-        told = self._count.value
-        return status, _events(memoryview(self._room)[: told * _EVENT.size]) if told else ()
+        return status
+
+    def _told(self):
+        """The events that were told last, with copies of their texts, which lie one behind the other."""
+        # No line of Python runs for each of them.
+        count = self._count.value
+        kinds, sizes = self._kinds[:count].tolist(), self._sizes[:count].tolist()
+        if not any(sizes):
+            return map(_BARE.__getitem__, kinds)
+        first = next(filter(None, self._places[:count]))
+        texts = map(io.BytesIO(_bytes_at(first, sum(sizes))).read, sizes)
+        if 0 in sizes:
+            texts = (text or None for text in texts)
+        return map(tuple.__new__, itertools.repeat(Event), zip(kinds, texts))
 
     def _fault(self):
         """The fault that the stream ends with, or none. The texts of the events are to be copied before."""
