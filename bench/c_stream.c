@@ -1,21 +1,39 @@
-/* Reads a plain stream from standard input by libmesosev, and prints what `mesosev check` prints: c_stream [without-texts].
- * It is what bench/c_library measures beside mesosev. */
+/* Reads a plain stream from standard input by libmesosev, and prints what `mesosev check` prints: c_stream [without-texts | whole].
+ * It is what bench/c_library measures beside mesosev: a decoder over pieces, or one call over all bytes. */
 #include <mesosev.h>
 #include <stdio.h>
+#include <stdlib.h>
 #include <string.h>
 #include <unistd.h>
 
-enum { ROOM = 256 };
+enum { PIECE = 65536, ROOM = 256 };
 
-static char piece[65536];
+static char piece[PIECE];
 static mes_event events[ROOM];
 
-int main(int words_count, char **words)
+static int read_whole(void)
 {
-    uint32_t flags = words_count > 1 && strcmp(words[1], "without-texts") == 0 ? MES_WITHOUT_TEXTS : 0;
+    char *bytes = NULL, line[MES_LINE_ROOM];
+    size_t length = 0, room = 0;
+    ssize_t more;
+
+    do {
+        if (room - length < PIECE && (bytes = realloc(bytes, room = 2 * room + PIECE)) == NULL)
+            return 2;
+        more = read(0, bytes + length, PIECE);
+        length += more > 0 ? (size_t)more : 0;
+    } while (more > 0);
+    uint32_t status = mes_check(bytes, length, MES_LIMIT_USUAL, MES_PLAIN, NULL, NULL, line, sizeof line);
+    puts(line);
+    free(bytes);
+    return status != MES_GOOD;
+}
+
+static int read_pieces(uint32_t flags)
+{
     uint64_t told = 0, used_all = 0;
     mes_decoder *decoder;
-    mes_event last;
+    mes_event end;
     ssize_t length;
 
     if (mes_decoder_new(MES_LIMIT_USUAL, MES_PLAIN, flags, &decoder) != MES_GOOD)
@@ -30,11 +48,20 @@ int main(int words_count, char **words)
         } while (status == MES_EVENT);
         used_all += at;
     }
-    status = mes_decoder_finish(decoder, &last);
+    status = mes_decoder_finish(decoder, &end);
     if (status == MES_END)
         printf("events %llu bytes %llu\n", (unsigned long long)told, (unsigned long long)used_all);
     else
-        printf("%.*s\n", (int)last.length, last.text);
+        printf("%.*s\n", (int)end.length, end.text);
     mes_decoder_free(decoder);
     return status != MES_END;
+}
+
+int main(int count, char **words)
+{
+    const char *word = count > 1 ? words[1] : "";
+
+    if (strcmp(word, "whole") == 0)
+        return read_whole();
+    return read_pieces(strcmp(word, "without-texts") == 0 ? MES_WITHOUT_TEXTS : 0);
 }

@@ -43,7 +43,7 @@ struct handle {
 uint32_t mes_c_check(const uint8_t *bytes, size_t length, uint32_t limit, uint32_t framing, struct counts *counts,
                      uint8_t *room, size_t place);
 uint32_t mes_c_call(const uint8_t *bytes, size_t length, uint64_t *size, uint8_t *room, size_t place);
-uint32_t mes_c_decoder_new(uint32_t limit, uint32_t framing, uint32_t texts, uint8_t **slot);
+uint32_t mes_c_decoder_new(uint32_t limit, uint32_t framing, uint32_t texts, struct handle *slot);
 uint32_t mes_c_decoder_next(struct handle *handle, const uint8_t *bytes, size_t length, struct answer *answer);
 uint32_t mes_c_decoder_many(struct handle *handle, const uint8_t *bytes, size_t length, struct row *rows, size_t most,
                             struct answers *answers);
@@ -111,12 +111,13 @@ PUBLIC uint32_t mes_call(const void *bytes, size_t length, char *text, size_t ro
 
 PUBLIC uint32_t mes_decoder_new(uint32_t limit, uint32_t framing, uint32_t flags, mes_decoder **decoder)
 {
-    uint8_t *made = NULL;
+    /* A slot without a handle. */
+    struct handle slot = {NULL};
 
     if (decoder == NULL)
         return MES_BAD_POINTER;
-    uint32_t status = mes_c_decoder_new(limit, framing, !(flags & MES_WITHOUT_TEXTS), &made);
-    *decoder = (mes_decoder *)made;
+    uint32_t status = mes_c_decoder_new(limit, framing, !(flags & MES_WITHOUT_TEXTS), &slot);
+    *decoder = (mes_decoder *)slot.at;
     return status;
 }
 

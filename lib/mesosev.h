@@ -113,9 +113,10 @@ uint32_t mes_decoder_next(mes_decoder *decoder, const void *bytes, size_t length
  * are dear. It goes on until the bytes are used, `most` events were told, or the stream ended.
  * events: room for `most` events, at least 1. *count: how many were told, in their order, in its front; the rest of it stays.
  * *used: how many bytes were used by all of them; the next call takes those behind them.
- * Answers MES_MORE, where all bytes were used; MES_EVENT, where there is no room for another event; MES_END, or the number of a fault, and
- * then the events before it are told all the same, and mes_decoder_finish tells the fault's line; or MES_BAD_POINTER, and then nothing is
- * taken. An event that mes_decoder_next would answer by MES_NO_TEXT has a null text and the length 0, and without texts each has.
+ * Answers MES_MORE, where all bytes were used; MES_EVENT, where there is no room for another event; MES_END or the number of a fault, and
+ * then the events before it are told all the same; or MES_BAD_POINTER, and then nothing is taken. The line of a fault is told by
+ * mes_decoder_finish, once the texts of the events are used: it is the next call.
+ * An event that mes_decoder_next would answer by MES_NO_TEXT has a null text and the length 0, and without texts each has.
  * The texts of a call lie one behind the other, and live until the next call on the decoder. Where memory is refused for one of them, the
  * events before it in the same call have none either.
  */

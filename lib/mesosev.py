@@ -9,7 +9,6 @@ The library is the file that the variable MESOSEV_LIBRARY names, else the one th
 
 import collections
 import ctypes
-import ctypes.util
 import io
 import itertools
 import json
@@ -44,11 +43,18 @@ _bytes_at.argtypes = [ctypes.c_void_p, ctypes.c_ssize_t]
 _bytes_at.restype = ctypes.py_object
 
 
+def _find_library():
+    # Imported here, since it takes as long as half of the rest of this module.
+    import ctypes.util
+
+    return ctypes.util.find_library("mesosev")
+
+
 def _load():
     here = os.path.dirname(os.path.abspath(__file__))
     # Beside the folder where this module is installed, or in the sources where lib/build was given no prefix.
     built = [os.path.join(here, name, "libmesosev.so") for name in ("..", "out/lib")]
-    path = os.environ.get("MESOSEV_LIBRARY") or next(filter(os.path.exists, built), None) or ctypes.util.find_library("mesosev")
+    path = os.environ.get("MESOSEV_LIBRARY") or next(filter(os.path.exists, built), None) or _find_library()
     if not path:
         raise ImportError("libmesosev is not there: build it by lib/build, or name it in MESOSEV_LIBRARY")
     library = ctypes.CDLL(path)
@@ -151,6 +157,8 @@ class Decoder:
         self._room = ctypes.create_string_buffer(self._most * _EVENT.size)
         self._kinds, self._places, self._sizes = _numbers_of(self._room)
         self._used, self._count = ctypes.c_size_t(), ctypes.c_size_t()
+        # What each call of a piece is passed behind the piece.
+        self._given = ctypes.byref(self._used), self._room, self._most, ctypes.byref(self._count)
         # Whether the stream has ended.
         self.ended = False
         made = ctypes.c_void_p()
@@ -179,8 +187,7 @@ class Decoder:
 
     def _take(self, piece, at):
         """Takes what stands behind so many bytes of a piece, and tells the status."""
-        used, count = ctypes.byref(self._used), ctypes.byref(self._count)
-        status = _library.mes_decoder_many(self._handle, piece.address + at, piece.size - at, used, self._room, self._most, count)
+        status = _library.mes_decoder_many(self._handle, piece.address + at, piece.size - at, *self._given)
         if status >= 100:
             _raise_refusal(status)
         return status

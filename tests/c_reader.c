@@ -240,7 +240,7 @@ static int is_same(const struct outcome *one, const struct outcome *other)
 {
     return one->status == other->status && one->events == other->events && one->used == other->used
         && strcmp(one->line, other->line) == 0 && one->texts.length == other->texts.length
-        && memcmp(one->texts.at, other->texts.at, one->texts.length) == 0;
+        && (one->texts.length == 0 || memcmp(one->texts.at, other->texts.at, one->texts.length) == 0);
 }
 
 /* Prints each text as a record. */
