@@ -3,9 +3,7 @@ use Rattle.std.proofs.Common.{◌≡◌, ◌≢◌, ℕ, ◌⊎◌, inl, inr, Li
 use Rattle.std.proofs.lemmas.Bool.{cases_eq}
 use Rattle.mes_part.specs.Kinds.{Kind}
 use Rattle.mes_msg.specs.Events.{event}
-use Rattle.mes_msg.specs.Event.{Event}
 use Rattle.mes_msg.specs.Calls.{call}
-use Rattle.mes_msg.specs.Call.{Call}
 use Rattle.mes_msg.specs.Texts.{IsTextOf, IsFaultOf}
 use Rattle.mes_msg.specs.RecordFault.{RecordFault}
 use Rattle.mes_msg.specs.RecordFault.TheVariants as message
@@ -15,7 +13,7 @@ use Rattle.mes_stream.specs.PlainReading.{IsExact, IsDecided}
 use Rattle.mes_stream.specs.Refusals.{refusal_of}
 use Rattle.mes_stream.specs.declared.refusal.RecordRefusal.{RecordRefusal}
 use Rattle.mes_stream.specs.declared.refusal.RecordRefusal.TheVariants as refusal
-use Rattle.mes_entry.specs.Entries.{BehindLetter, IsOther, IsBreak, SpellsEntry, IsBadEntry, IsMessageFault, EntryBreaks, SpellsFirst, FirstBreaks}
+use Rattle.mes_entry.specs.Entries.{IsBreak, SpellsEntry, IsBadEntry, IsMessageFault, EntryBreaks, SpellsFirst, FirstBreaks}
 use Rattle.mes_entry.specs.declared.first_reader.FirstRecord.{FirstRecord}
 use Rattle.mes_entry.specs.declared.first_reader.FirstRecord.TheVariants as first
 use Rattle.mes_entry.specs.declared.letters.TheConstants.{EVENT, CALL, BROKEN, HEADER}
@@ -78,7 +76,8 @@ break_or_not version letter [] = elim (cases_eq version 2) [
 pub message_breaks : (version : ℕ) (r : List ℕ) (f : RecordFault) → IsMessageFault r f → EntryBreaks version r (refusal_of f)
 message_breaks version r (message.Text f) h = h
 message_breaks version r (message.Field f) h = h
-message_breaks version r message.NoMemory h = tt
+message_breaks version r message.NoMemory (inl h) = inl (inl (h.0, h.1, tt))
+message_breaks version r message.NoMemory (inr h) = inl (inr (h.0, h.1, tt))
 
 -- what a refusal says of the data
 data Why (version : ℕ) (r : List ℕ) (why : RecordRefusal) : Type 0 where
@@ -223,7 +222,7 @@ module _ (events : OneMessage event) (calls : OneMessage call) where
   first_breaks r (refusal.Text f) known other h = h
   first_breaks r (refusal.Field f) known other h = h
   first_breaks r refusal.BadEntry known other h = (h, other)
-  first_breaks r refusal.NoMemory known other h = tt
+  first_breaks r refusal.NoMemory known other h = absurd (known refl)
 
   pub first_decided : IsDecided SpellsFirst FirstBreaks
   first_decided r = elim (header_or_not r) [

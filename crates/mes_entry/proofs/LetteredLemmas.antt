@@ -1,13 +1,13 @@
 -- What lettered data are, over the places where a reader of them stands.
-use Rattle.std.proofs.Common.{◌≡◌, ◌≢◌, ℕ, ◌+◌, ◌^◌, ◌<◌, ◌≤◌, inl, inr, List, [], ◌∷◌, ◌++◌, length, refl, ap, sym, ◌∙◌, subst, arith, Bool, true, false}
+use Rattle.std.proofs.Common.{◌≡◌, ℕ, ◌^◌, ◌<◌, ◌≤◌, inl, inr, List, [], ◌∷◌, ◌++◌, length, refl, ap, sym, ◌∙◌, subst, arith, Bool, true, false}
 use Rattle.std.specs.Prelude.{◌==◌}
-use Rattle.mes_json.specs.Inner.{Stand, outside, is_of_number, inner, inner_from, behind}
+use Rattle.mes_json.specs.Inner.{inner}
 use Rattle.mes_json.specs.Lexer.{HasLexed, IsBounded, IsOutOfMemory, held}
 use Rattle.mes_json.specs.declared.lexer.Lexer.{Lexer}
 use Rattle.mes_part.specs.Kinds.{Kind}
 use Rattle.mes_msg.specs.Events.{event}
 use Rattle.mes_msg.specs.Calls.{call}
-use Rattle.mes_msg.specs.Texts.{IsTextOf, IsFaultOf}
+use Rattle.mes_msg.specs.Texts.{IsFaultOf}
 use Rattle.mes_msg.specs.RecordFault.{RecordFault}
 use Rattle.mes_msg.specs.RecordFault.TheVariants as message
 use Rattle.mes_stream.specs.Refusals.{refusal_of}
@@ -34,13 +34,13 @@ pub event_refused : (r : List ℕ) (text : List ℕ) (why : RecordRefusal) → r
 event_refused r text (refusal.Text f) is h = inl (text, is, h)
 event_refused r text (refusal.Field f) is h = inl (text, is, h)
 event_refused r text refusal.BadEntry is h = absurd h
-event_refused r text refusal.NoMemory is h = tt
+event_refused r text refusal.NoMemory is h = inl (text, is, tt)
 
 pub call_refused : (r : List ℕ) (text : List ℕ) (why : RecordRefusal) → r ≡ CALL ∷ text → IsTextRefusal call text why → LetteredBreaks r why
 call_refused r text (refusal.Text f) is h = inr (text, is, h)
 call_refused r text (refusal.Field f) is h = inr (text, is, h)
 call_refused r text refusal.BadEntry is h = absurd h
-call_refused r text refusal.NoMemory is h = tt
+call_refused r text refusal.NoMemory is h = inr (text, is, tt)
 
 -- why a text is none of a message of the kind, as a refusal
 pub text_refused : {V : Type 0} (k : Kind V) (text : List ℕ) (f : RecordFault) → IsFaultOf k text f → IsTextRefusal k text (refusal_of f)

@@ -1,6 +1,6 @@
 -- An entry of a session log, in the data of a record: `E` and the JSON text of an event, `C` and that of a call, or in version 2 a `B`
 -- alone, for a stream that broke. A log of version 2 begins with a header, a record whose data are `2`; one that doesn't is of version 1.
-use Rattle.std.specs.Prelude.{◌≡◌, ◌≢◌, ℕ, ◌⊎◌, List, [], ◌∷◌, ◌++◌}
+use Rattle.std.specs.Prelude.{◌≡◌, ◌≢◌, ℕ, ◌⊎◌, List, [], ◌∷◌}
 use Rattle.mes_msg.specs.Events.{event, Spells}
 use Rattle.mes_msg.specs.Calls.{call}
 use Rattle.mes_msg.specs.Texts.{IsTextOf, IsFaultOf}
@@ -43,12 +43,16 @@ IsBadEntry version (letter ∷ text) = IsOther letter × (IsBreak version (lette
 abbrev pub IsMessageFault : List ℕ → RecordFault → Type 0
 IsMessageFault r fault = BehindLetter EVENT (λ text. IsFaultOf event text fault) r ⊎ BehindLetter CALL (λ text. IsFaultOf call text fault) r
 
--- why the data are no entry's; want of memory says nothing of them
+-- the data begin with the letter of an event or of a call
+abbrev pub HasLetter : List ℕ → Type 0
+HasLetter r = BehindLetter EVENT (λ text. Unit {0}) r ⊎ BehindLetter CALL (λ text. Unit {0}) r
+
+-- why the data are no entry's; want of memory is told only of data that begin as an entry's do
 abbrev pub EntryBreaks : ℕ → List ℕ → RecordRefusal → Type 0
 EntryBreaks version r (refusal.Text fault) = IsMessageFault r (message.Text fault)
 EntryBreaks version r (refusal.Field fault) = IsMessageFault r (message.Field fault)
 EntryBreaks version r refusal.BadEntry = IsBadEntry version r
-EntryBreaks version r refusal.NoMemory = Unit {0}
+EntryBreaks version r refusal.NoMemory = HasLetter r ⊎ IsBreak version r
 
 -- ---- the first record
 
@@ -62,7 +66,7 @@ abbrev pub FirstBreaks : List ℕ → RecordRefusal → Type 0
 FirstBreaks r (refusal.Text fault) = EntryBreaks 1 r (refusal.Text fault)
 FirstBreaks r (refusal.Field fault) = EntryBreaks 1 r (refusal.Field fault)
 FirstBreaks r refusal.BadEntry = IsBadEntry 1 r × (r ≢ HEADER ∷ [])
-FirstBreaks r refusal.NoMemory = Unit {0}
+FirstBreaks r refusal.NoMemory = HasLetter r ⊎ (r ≡ HEADER ∷ [])
 
 -- which version begins so
 abbrev pub version_of : FirstRecord → ℕ

@@ -9,7 +9,7 @@ use Rattle.mes_msg.specs.Texts.{IsTextOf, IsFaultOf}
 use Rattle.mes_msg.specs.RecordFault.TheVariants as message
 use Rattle.mes_stream.specs.declared.refusal.RecordRefusal.{RecordRefusal}
 use Rattle.mes_stream.specs.declared.refusal.RecordRefusal.TheVariants as refusal
-use Rattle.mes_entry.specs.Entries.{BehindLetter, IsOther, IsMessageFault}
+use Rattle.mes_entry.specs.Entries.{BehindLetter, HasLetter, IsOther, IsMessageFault}
 use Rattle.mes_entry.specs.declared.letters.TheConstants.{EVENT, CALL}
 use Rattle.mes_entry.specs.declared.lettered.Lettered.{Lettered}
 use Rattle.mes_entry.specs.declared.lettered.Lettered.TheVariants as lettered
@@ -48,12 +48,12 @@ SpellsLettered r (lettered.Alone letter) = (r ≡ letter ∷ []) × IsOther lett
 abbrev pub IsBadData : List ℕ → Type 0
 IsBadData r = (r ≡ []) ⊎ ((letter : ℕ) × (next : ℕ) × (more : List ℕ) × (r ≡ letter ∷ next ∷ more) × IsOther letter)
 
--- why they are none of these
+-- why they are none of these; want of memory is told only of data with the letter of a message
 abbrev pub LetteredBreaks : List ℕ → RecordRefusal → Type 0
 LetteredBreaks r (refusal.Text fault) = IsMessageFault r (message.Text fault)
 LetteredBreaks r (refusal.Field fault) = IsMessageFault r (message.Field fault)
 LetteredBreaks r refusal.BadEntry = IsBadData r
-LetteredBreaks r refusal.NoMemory = Unit {0}
+LetteredBreaks r refusal.NoMemory = HasLetter r
 
 -- why a text is none of a message of this kind
 abbrev pub IsTextRefusal : {V : Type 0} → Kind V → List ℕ → RecordRefusal → Type 0
