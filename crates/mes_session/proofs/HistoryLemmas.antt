@@ -1,23 +1,21 @@
 -- What one more entry leaves, and that it can be told of a history in one way alone.
-use Rattle.std.proofs.Common.{◌≡◌, ℕ, zero, suc, ◌+◌, Bool, true, false, not, cond, if◌then◌else◌, ◌&&◌, ◌||◌, Option, Some, None, List, [], ◌∷◌, ◌++◌, length, reverse, take, slice_get, refl, sym, ◌∙◌, ap, subst, arith, append_assoc, append-nil}
-use Rattle.std.specs.List.{list_any, filter, filter_map, fold, flat_map, take_while, cons_option}
-use Rattle.std.specs.Option.{option_or, option_to_list}
+use Rattle.std.proofs.Common.{◌≡◌, ℕ, Bool, true, false, not, cond, if◌then◌else◌, ◌&&◌, ◌||◌, Option, Some, None, List, [], ◌∷◌, ◌++◌, reverse, slice_get, refl, sym, ◌∙◌, ap, subst, append_assoc, append-nil}
+use Rattle.std.specs.List.{list_any, filter_map, fold, take_while, cons_option}
+use Rattle.std.specs.Option.{option_or}
 use Rattle.std.specs.Str.{bytes_eq}
 use Rattle.std.proofs.lemmas.List.{reverse-append}
-use Rattle.std.proofs.lemmas.List.Sums.{take_while-cons, fold-append}
+use Rattle.std.proofs.lemmas.List.Sums.{take_while-cons}
 use Rattle.std.proofs.lemmas.List.Folds.{list_any-append}
 use Rattle.std.proofs.lemmas.Slice.Eq.{bytes_eq-Decides}
 use mathlib.Core.List.{reverse-cons}
 use Rattle.mes_model.specs.Id.{Id}
-use Rattle.mes_model.specs.Offer.{Offer}
 use Rattle.mes_model.specs.OwedKey.{OwedKey}
 use Rattle.mes_msg.specs.declared.entry.Entry.{Entry}
 use Rattle.mes_msg.specs.declared.entry.Entry.TheVariants.{Heard, Said, Broken}
 use Rattle.mes_msg.specs.Event.TheVariants as heard
-use Rattle.mes_hand.specs.Calls.{named_by}
 use Rattle.mes_hand.specs.Held.{Held, name_of, same_key}
-use Rattle.mes_session.specs.Kept.{after_last, IsKept}
-use Rattle.mes_session.specs.History.{subscribed_by, subscribes, breaks, framework_after, connected_after, offers_of, takes_offer, IsHand, owed_by, acknowledges, IsOwed, StandsFor, at_first, after}
+use Rattle.mes_session.specs.Kept.{after_last}
+use Rattle.mes_session.specs.History.{subscribed_by, subscribes, breaks, framework_after, connected_after, offers_of, takes_offer, owed_by, acknowledges, StandsFor, at_first, after}
 use Rattle.mes_session.proofs.KeptLemmas.{IsKept-nil, IsKept-push, IsKept-unique}
 
 -- ---- names and keys are one where they look alike

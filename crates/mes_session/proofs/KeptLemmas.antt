@@ -1,6 +1,6 @@
 -- One more entry, and what it leaves of the items kept.
 use Rattle.std.proofs.Common.{◌≡◌, ℕ, zero, suc, ◌+◌, ◌-◌, ◌≤◌, ◌<◌, Bool, true, false, not, cond, if◌then◌else◌, ◌⊎◌, inl, inr, Option, Some, None, List, [], ◌∷◌, ◌++◌, length, reverse, refl, sym, ◌∙◌, ap, subst, arith, append_assoc, append-nil, length-append, take, drop}
-use Rattle.std.specs.List.{AllPairs, find, flat_map, position_or_len, filter, fold, prefix_len, take_while, slice_index_or}
+use Rattle.std.specs.List.{AllPairs, find, position_or_len, filter, fold, prefix_len, take_while, slice_index_or}
 use Rattle.std.specs.Option.{option_or}
 use Rattle.std.proofs.lemmas.List.Sums.{take_while-cons}
 use Rattle.std.proofs.lemmas.List.{reverse-append, reverse-reverse, take-append-drop}

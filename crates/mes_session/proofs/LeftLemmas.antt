@@ -1,5 +1,5 @@
 -- A key has a value exactly where an entry brings it and no later one takes it away: so in hand, and owed, in a sentence.
-use Rattle.std.proofs.Common.{◌≡◌, ℕ, zero, suc, ◌<◌, ◌+◌, ◌≤◌, Bool, true, false, ◌||◌, cond, ◌⊎◌, inl, inr, ◌↔◌, Option, Some, None, is_some, List, [], ◌∷◌, ◌++◌, length, reverse, slice_get, refl, sym, ◌∙◌, ap, subst, arith, length-append}
+use Rattle.std.proofs.Common.{◌≡◌, ℕ, zero, suc, ◌<◌, Bool, true, false, ◌||◌, cond, ◌⊎◌, inl, inr, ◌↔◌, Option, Some, None, is_some, List, [], ◌∷◌, ◌++◌, length, reverse, slice_get, refl, sym, ◌∙◌, ap, subst, arith, length-append}
 use Rattle.std.specs.List.{find, list_any}
 use Rattle.std.specs.Option.{option_or}
 use Rattle.std.proofs.lemmas.List.{reverse-append, reverse-reverse}

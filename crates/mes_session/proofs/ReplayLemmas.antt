@@ -1,5 +1,5 @@
 -- Histories entry by entry: what is legal so far, and where it stops.
-use Rattle.std.proofs.Common.{◌≡◌, ℕ, zero, suc, ◌+◌, ◌<◌, ◌≤◌, ◌⊎◌, inl, inr, Some, None, List, [], ◌∷◌, ◌++◌, length, take, slice_get, refl, sym, ◌∙◌, ap, subst, arith, add-one, get_or}
+use Rattle.std.proofs.Common.{◌≡◌, ℕ, zero, suc, ◌+◌, ◌<◌, ◌≤◌, ◌⊎◌, inl, inr, Some, List, [], ◌∷◌, ◌++◌, length, take, slice_get, refl, sym, ◌∙◌, ap, subst, arith, add-one, get_or}
 use Rattle.mes_msg.specs.Call.{Call}
 use Rattle.mes_msg.specs.declared.entry.Entry.{Entry}
 use Rattle.mes_msg.specs.declared.entry.Entry.TheVariants.{Heard, Said, Broken}
@@ -8,7 +8,7 @@ use Rattle.mes_hand.specs.Held.{Held}
 use Rattle.mes_hand.specs.Refusals.{IsRefused}
 use Rattle.mes_session.specs.History.{StandsFor, after, RefusedAfter, IsLegal, IsStopped, StopsAt}
 use Rattle.mes_session.specs.Making.{Passes, IsTurnedAway}
-use Rattle.mes_session.proofs.HistoryLemmas.{StandsFor-nil, StandsFor-push, StandsFor-unique}
+use Rattle.mes_session.proofs.HistoryLemmas.{StandsFor-push, StandsFor-unique}
 
 module _ {X : Type 0} where
   -- an entry of a list with one more behind is one of the list, or the last

@@ -1,5 +1,5 @@
 -- What an entry of each kind leaves, and what a session stands for then.
-use Rattle.std.proofs.Common.{Result, Ok, Err, IfOk, IfErr, OnOk, ◌≡◌, ℕ, zero, suc, Bool, true, false, not, ◌⊎◌, inl, inr, Option, Some, None, IfSome, List, [], ◌∷◌, ◌++◌, slice_get, refl, sym, ◌∙◌, ap, subst, arith, is_some, IsTrue, ◌↔◌}
+use Rattle.std.proofs.Common.{Result, Ok, Err, IfOk, IfErr, OnOk, ◌≡◌, ℕ, Bool, true, false, not, inl, inr, Option, Some, None, IfSome, List, [], ◌∷◌, ◌++◌, refl, sym, ◌∙◌, ap, subst, is_some, IsTrue, ◌↔◌}
 use Rattle.std.specs.List.{filter, fold}
 use Rattle.std.specs.Option.{option_or, option_to_list}
 use Rattle.mes_model.specs.Owed.{owed_key_of, Owes}
@@ -29,7 +29,7 @@ use Rattle.mes_hand.specs.Held.{Held, with_offers, without_offer, without_offers
 use Rattle.mes_hand.specs.Refusals.{Answers, IsFaulty, IsOwn}
 use Rattle.mes_session.specs.History.{StandsFor, StandsNext, is_key, after}
 use Rattle.mes_making.specs.Made.{subscribe_call}
-use Rattle.mes_session.specs.Making.{Applied, Made, IsTold, NotMade}
+use Rattle.mes_session.specs.Making.{Applied, Made, NotMade}
 use Rattle.mes_session.proofs.HistoryLemmas.{StandsFor-push}
 
 -- ---- all stay, or none

@@ -1,5 +1,5 @@
 -- What a framework holds after what it has heard and said (scheduler.proto, `Event` and `Call`).
-use Rattle.std.specs.Prelude.{◌≡◌, ◌<◌, ℕ, Bool, true, false, ◌&&◌, not, if◌then◌else◌, fold, filter, filter_map, reverse, take, slice_get, List, [], ◌∷◌, ◌++◌, length, Option, Some, None}
+use Rattle.std.specs.Prelude.{◌≡◌, ◌<◌, ℕ, Bool, true, false, not, if◌then◌else◌, fold, filter, filter_map, reverse, take, slice_get, List, [], ◌∷◌, ◌++◌, length, Option, Some, None}
 use Rattle.std.specs.List.{list_any}
 use Rattle.std.specs.Option.{option_or, option_to_list}
 use Rattle.std.specs.Str.{bytes_eq}

@@ -1,4 +1,4 @@
-use Rattle.std.proofs.Common.{option_copied, refl}
+use Rattle.std.proofs.Common.{option_copied}
 use Rattle.mes_model.specs.Id.{Id}
 use Rattle.mes_hand.specs.Calls.{accept_call}
 use Rattle.mes_session.proofs.SessionLemmas.{turned_down, made_ok, made_err}
