@@ -3,6 +3,14 @@
 #include <mesosev.h>
 #include <stdio.h>
 
+/* A line; an empty one of an event that has no text. */
+static void tell(const mes_event *event)
+{
+    if (event->length > 0)
+        fwrite(event->text, 1, event->length, stdout);
+    putchar('\n');
+}
+
 int main(void)
 {
     char piece[4096];
@@ -14,15 +22,15 @@ int main(void)
         return 2;
     uint32_t status = MES_MORE;
     while (status == MES_MORE && (length = fread(piece, 1, sizeof piece, stdin)) > 0)
-        for (at = 0, status = MES_EVENT; status == MES_EVENT; at += used) {
+        for (at = 0, status = MES_EVENT; MES_IS_EVENT(status); at += used) {
             status = mes_decoder_next(decoder, piece + at, length - at, &used, &event);
-            if (status == MES_EVENT)
-                printf("%.*s\n", (int)event.length, event.text);
+            if (MES_IS_EVENT(status))
+                tell(&event);
         }
-    if (status == MES_MORE)
+    if (status == MES_MORE && !ferror(stdin))
         status = mes_decoder_finish(decoder, &event);
     if (MES_IS_FAULT(status))
-        printf("%.*s\n", (int)event.length, event.text);
+        tell(&event);
     mes_decoder_free(decoder);
     return status == MES_END ? 0 : 1;
 }

@@ -1,10 +1,14 @@
 // As reader.c: c++ reader.cc $(pkg-config --cflags --libs mesosev)
 #include <mesosev.h>
 
+#include <cstdio>
 #include <iostream>
 #include <memory>
 #include <string_view>
 #include <vector>
+
+// A line; an empty one of an event that has no text.
+static void tell(const mes_event &event) { std::cout << std::string_view(event.text, event.length) << '\n'; }
 
 int main() {
     mes_decoder *made = nullptr;
@@ -19,10 +23,11 @@ int main() {
             size_t used = 0;
             status = mes_decoder_next(decoder.get(), rest.data(), rest.size(), &used, &event);
             rest.remove_prefix(used);
-            if (status == MES_EVENT) std::cout << std::string_view(event.text, event.length) << '\n';
-        } while (status == MES_EVENT);
+            if (MES_IS_EVENT(status)) tell(event);
+        } while (MES_IS_EVENT(status));
     }
-    if (status == MES_MORE) status = mes_decoder_finish(decoder.get(), &event);
-    if (MES_IS_FAULT(status)) std::cout << std::string_view(event.text, event.length) << '\n';
+    // std::cin does not tell a failed read from the end; the C stream behind it does.
+    if (status == MES_MORE && !std::ferror(stdin)) status = mes_decoder_finish(decoder.get(), &event);
+    if (MES_IS_FAULT(status)) tell(event);
     return status == MES_END ? 0 : 1;
 }

@@ -7,6 +7,7 @@ import "C"
 
 import (
 	"fmt"
+	"io"
 	"os"
 	"unsafe"
 )
@@ -15,31 +16,46 @@ func tell(event C.mes_event) {
 	fmt.Println(C.GoStringN(event.text, C.int(event.length)))
 }
 
-func main() {
-	var decoder *C.mes_decoder
+// Reads standard input up to the end of the stream or a fault, and tells the status there.
+func read(decoder *C.mes_decoder) C.uint32_t {
 	var used, count C.size_t
 	var end C.mes_event
 	var events [256]C.mes_event
 	var piece [65536]byte
-	if C.mes_decoder_new(C.MES_LIMIT_USUAL, C.MES_PLAIN, 0, &decoder) != C.MES_GOOD {
-		os.Exit(2)
-	}
-	defer C.mes_decoder_free(decoder)
-	for status := C.uint32_t(C.MES_MORE); status == C.MES_MORE; {
-		length, _ := os.Stdin.Read(piece[:])
-		if length == 0 {
+	status := C.uint32_t(C.MES_MORE)
+	for status == C.MES_MORE {
+		length, err := os.Stdin.Read(piece[:])
+		if err == io.EOF {
 			break
 		}
-		status = C.MES_EVENT
-		for at := 0; status == C.MES_EVENT; at += int(used) {
-			bytes := unsafe.Add(unsafe.Pointer(&piece), at)
-			status = C.mes_decoder_many(decoder, bytes, C.size_t(length-at), &used, &events[0], C.size_t(len(events)), &count)
+		if err != nil {
+			return status
+		}
+		for at := 0; at < length && status == C.MES_MORE; at += int(used) {
+			status = C.mes_decoder_many(decoder, unsafe.Pointer(&piece[at]), C.size_t(length-at), &used, &events[0], C.size_t(len(events)), &count)
 			for _, event := range events[:count] {
 				tell(event)
 			}
+			if status == C.MES_EVENT {
+				status = C.MES_MORE
+			}
 		}
 	}
-	if C.mes_decoder_finish(decoder, &end) != C.MES_END {
+	status = C.mes_decoder_finish(decoder, &end)
+	if status != C.MES_END {
 		tell(end)
+	}
+	return status
+}
+
+func main() {
+	var decoder *C.mes_decoder
+	if C.mes_decoder_new(C.MES_LIMIT_USUAL, C.MES_PLAIN, 0, &decoder) != C.MES_GOOD {
+		os.Exit(2)
+	}
+	status := read(decoder)
+	C.mes_decoder_free(decoder)
+	if status != C.MES_END {
+		os.Exit(1)
 	}
 }

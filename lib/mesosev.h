@@ -5,7 +5,8 @@
  * - Bytes that are passed are `length` readable bytes, and nothing writes them during the call. What is written through a pointer
  *   is the caller's own, aligned, and lies in none of the other arguments. A null pointer stands for no bytes where the length is 0.
  * - A decoder comes from a mes_decoder_new that answered MES_GOOD, and is freed once, by mes_decoder_free. It is used by one call at
- *   a time, and stays on the thread that made it. Different decoders have nothing in common.
+ *   a time, on whichever thread. Different decoders have nothing in common.
+ * - A thread that makes a call has 64 KiB of stack left.
  * - malloc, realloc and free are of one allocator, which aligns to 16. No call is made from a signal handler, or in the child of a
  *   fork of a process with threads.
  *
@@ -26,7 +27,7 @@ enum {
     MES_GOOD = 0,         /* a whole stream or a call was read, or a decoder was made */
     MES_NO_MEMORY = 13,   /* F13: memory was refused */
     MES_MORE = 32,        /* all bytes were used, and more are wanted */
-    MES_EVENT = 33,       /* an event has come; of mes_decoder_many: as many as there is room for */
+    MES_EVENT = 33,       /* an event has come; of mes_decoder_many: as many as there is room for, also where all bytes were used */
     MES_END = 34,         /* the stream has ended */
     MES_NO_TEXT = 35,     /* an event has come, or a call, whose canonical text is too large, too deep, or wants memory */
     MES_BAD_LIMIT = 100,  /* the limit is not 1 to MES_LIMIT_MOST */
@@ -36,6 +37,9 @@ enum {
 
 /* Whether an answer is the number of a fault. */
 #define MES_IS_FAULT(status) ((status) >= 1 && (status) <= 16)
+
+/* Whether an answer of mes_decoder_next tells that an event has come, with a text or without. */
+#define MES_IS_EVENT(status) ((status) == MES_EVENT || (status) == MES_NO_TEXT)
 
 /* How the records of a stream come: one behind the other, or as the data of a chunked HTTP body. */
 enum { MES_PLAIN = 0, MES_CHUNKED = 1 };
@@ -88,7 +92,7 @@ uint32_t mes_check(const void *bytes, size_t length, uint32_t limit, uint32_t fr
 
 /*
  * Reads a call of a scheduler. Answers MES_GOOD with its canonical text; or the number of its fault, 11 to 13, with the line of that
- * as of record 1; or MES_NO_TEXT; or MES_BAD_POINTER.
+ * as of record 1; or MES_NO_TEXT, with the size 0 and an empty text; or MES_BAD_POINTER.
  * text: room for `room` bytes, which gets the text or the line, ended by a NUL, as much of it as there is place for. It may be null
  * where the room is 0. size: how many bytes the text or the line has, without the NUL. It may be null.
  */
@@ -97,7 +101,7 @@ uint32_t mes_call(const void *bytes, size_t length, char *text, size_t room, siz
 /*
  * Makes a decoder before the first byte of a stream. Answers MES_GOOD, and then the caller owns *decoder; or MES_NO_MEMORY,
  * MES_BAD_LIMIT, MES_BAD_FRAMING or MES_BAD_POINTER, and then *decoder is null.
- * flags: 0, or MES_WITHOUT_TEXTS.
+ * flags: 0, or MES_WITHOUT_TEXTS. Other bits are passed over: they are for later versions.
  */
 uint32_t mes_decoder_new(uint32_t limit, uint32_t framing, uint32_t flags, mes_decoder **decoder);
 
@@ -111,11 +115,12 @@ uint32_t mes_decoder_next(mes_decoder *decoder, const void *bytes, size_t length
 /*
  * Takes bytes of the stream as mes_decoder_next does, again and again, and tells many events at once: for a language whose calls of C
  * are dear. It goes on until the bytes are used, `most` events were told, or the stream ended.
- * events: room for `most` events, at least 1. *count: how many were told, in their order, in its front; the rest of it stays.
+ * events: room for `most` events, at least 1: with room for none nothing is taken, and MES_EVENT is answered for ever, behind an end
+ * too. *count: how many were told, in their order, in its front; the rest of it stays.
  * *used: how many bytes were used by all of them; the next call takes those behind them.
- * Answers MES_MORE, where all bytes were used; MES_EVENT, where there is no room for another event; MES_END or the number of a fault, and
- * then the events before it are told all the same; or MES_BAD_POINTER, and then nothing is taken. The line of a fault is told by
- * mes_decoder_finish, once the texts of the events are used: it is the next call.
+ * Answers MES_EVENT, where there is no room for another event, also where all bytes were used; else MES_MORE, where all bytes were
+ * used; MES_END or the number of a fault, and then the events before it are told all the same; or MES_BAD_POINTER, and then nothing is
+ * taken. The line of a fault is told by mes_decoder_finish, once the texts of the events are used: it is the next call.
  * An event that mes_decoder_next would answer by MES_NO_TEXT has a null text and the length 0, and without texts each has.
  * The texts of a call lie one behind the other, and live until the next call on the decoder. Where memory is refused for one of them, the
  * events before it in the same call have none either.

@@ -9,9 +9,11 @@ The library is the file that the variable MESOSEV_LIBRARY names, else the one th
 
 import collections
 import ctypes
+import errno
 import io
 import itertools
 import json
+import operator
 import os
 import re
 import struct
@@ -98,6 +100,9 @@ class Fault(Exception):
             self.place = int(told[4]) if told[4] else told[6]
             self.why = told[5] or told[7]
 
+    def __reduce__(self):
+        return type(self), (self.number, self.line), self.__dict__
+
 
 class Event(collections.namedtuple("Event", ("type", "text"))):
     """An event: its type's number, and its canonical JSON text as bytes; None where texts are not made, or this one is not given."""
@@ -128,13 +133,44 @@ def _raise_refusal(status):
     raise ValueError(_REFUSALS.get(status, f"status {status}"))
 
 
+def _asked(limit, framing):
+    """The two numbers. C would take them modulo 2^32."""
+    for number, refusal in ((limit, 100), (framing, 101)):
+        if not 0 <= number < 2**32:
+            raise ValueError(_REFUSALS[refusal])
+    return limit, framing
+
+
 class _Bytes:
     """The bytes of an object, and where they stand while this is held."""
 
     def __init__(self, data):
-        self.kept = data if isinstance(data, bytes) else bytes(data)
+        self.kept = data if isinstance(data, bytes) else bytes(memoryview(data))
         self.address = ctypes.cast(ctypes.c_char_p(self.kept), ctypes.c_void_p).value
         self.size = len(self.kept)
+
+
+class _Piece(_Bytes):
+    """A piece of a stream, and how far a decoder has taken it."""
+
+    def __init__(self, data):
+        super().__init__(data)
+        # How many bytes were used, and what was answered last.
+        self.at, self.status = 0, _MORE
+        # The events that were told last, and the numbers of those that nobody has taken.
+        self.told = self.kinds = iter(())
+
+    def goes_on(self):
+        """Whether bytes of it are still to be taken."""
+        return self.status == _FULL and self.at < self.size
+
+    def ends(self):
+        """Whether the stream has ended in it or before it, well or by a fault."""
+        return self.status not in (_MORE, _FULL)
+
+    def is_left(self):
+        """Whether there are events that nobody has taken."""
+        return self.goes_on() or operator.length_hint(self.kinds) > 0
 
 
 def _numbers_of(room):
@@ -144,7 +180,7 @@ def _numbers_of(room):
 
 
 class Decoder:
-    """A decoder of a stream that comes in pieces, however cut. It is used by one thread."""
+    """A decoder of a stream that comes in pieces, however cut. It is used by one thread at a time."""
 
     # Kept here, since names of the module may be gone when the last decoders are.
     _free = _library.mes_decoder_free
@@ -159,44 +195,74 @@ class Decoder:
         self._used, self._count = ctypes.c_size_t(), ctypes.c_size_t()
         # What each call of a piece is passed behind the piece.
         self._given = ctypes.byref(self._used), self._room, self._most, ctypes.byref(self._count)
+        # The last piece.
+        self._piece = _Piece(b"")
         # Whether the stream has ended.
         self.ended = False
         made = ctypes.c_void_p()
-        status = _library.mes_decoder_new(limit, framing, 0 if texts else _WITHOUT_TEXTS, ctypes.byref(made))
+        status = _library.mes_decoder_new(*_asked(limit, framing), 0 if texts else _WITHOUT_TEXTS, ctypes.byref(made))
         if status != _GOOD:
             _raise_refusal(status)
         self._handle = made.value
 
     def feed(self, data):
-        """The events whose records end in these bytes, one by one. A fault is raised behind those before it. All of them are to be taken
-        before more bytes are given."""
-        piece = _Bytes(data)
-        at, status = 0, _FULL
-        while status == _FULL:
-            status = self._take(piece, at)
-            at += self._used.value
-            told = self._told()
-            fault = None if status in (_MORE, _FULL) else self._fault()
-            yield from told
-        if status != _MORE:
-            self._stop(fault)
+        """The events whose records end in these bytes, one by one. The bytes are taken at the call. A fault is raised behind the events
+        before it. All are to be taken before more bytes are given: where some were left, the next `feed` or `finish` raises RuntimeError."""
+        return self._events(self._give(data))
 
     def finish(self):
         """The stream has no more bytes. Raises the fault if it may not end there."""
-        self._stop(self._fault())
+        self._refuse_left()
+        fault = self._fault()
+        self.ended = True
+        if fault is not None:
+            raise fault
 
-    def _take(self, piece, at):
-        """Takes what stands behind so many bytes of a piece, and tells the status."""
-        status = _library.mes_decoder_many(self._handle, piece.address + at, piece.size - at, *self._given)
+    @property
+    def unused(self):
+        """The bytes of the last piece behind the end of the stream, or behind the fault; none before."""
+        return self._piece.kept[self._piece.at :] if self.ended else b""
+
+    def _give(self, data):
+        """Takes the front of a piece."""
+        self._refuse_left()
+        piece = _Piece(data)
+        self._take(piece)
+        self._piece = piece
+        return piece
+
+    def _refuse_left(self):
+        if self._handle is None:
+            raise ValueError("the decoder is closed")
+        if self._piece.is_left():
+            raise RuntimeError("events of the bytes before were not taken")
+
+    def _take(self, piece):
+        """Takes what stands behind the bytes of a piece that were used, and tells the events."""
+        if self._handle is None:
+            raise ValueError("the decoder is closed")
+        status = _library.mes_decoder_many(self._handle, piece.address + piece.at, piece.size - piece.at, *self._given)
         if status >= 100:
             _raise_refusal(status)
-        return status
+        piece.at += self._used.value
+        piece.status = status
+        piece.kinds = iter(self._kinds[: self._count.value].tolist())
+        piece.told = self._told(piece.kinds)
 
-    def _told(self):
-        """The events that were told last, with copies of their texts, which lie one behind the other."""
+    def _events(self, piece):
+        """The events of a piece whose front was taken."""
+        yield from piece.told
+        while piece.goes_on():
+            self._take(piece)
+            yield from piece.told
+        if piece.ends():
+            self.finish()
+
+    def _told(self, kinds):
+        """The events of these types that were told last, with copies of their texts, which lie one behind the other."""
         # No line of Python runs for each of them.
         count = self._count.value
-        kinds, sizes = self._kinds[:count].tolist(), self._sizes[:count].tolist()
+        sizes = self._sizes[:count].tolist()
         if not any(sizes):
             return map(_BARE.__getitem__, kinds)
         first = next(filter(None, self._places[:count]))
@@ -206,18 +272,13 @@ class Decoder:
         return map(tuple.__new__, itertools.repeat(Event), zip(kinds, texts))
 
     def _fault(self):
-        """The fault that the stream ends with, or none. The texts of the events are to be copied before."""
+        """The fault that the stream ends with, or none."""
         end = ctypes.create_string_buffer(_EVENT.size)
         status = _library.mes_decoder_finish(self._handle, end)
         if status >= 100:
             _raise_refusal(status)
         _, text, length = _EVENT.unpack(end)
         return None if status == _END else Fault(status, _bytes_at(text, length).decode() if text else "")
-
-    def _stop(self, fault):
-        self.ended = True
-        if fault is not None:
-            raise fault
 
     def close(self):
         """Frees the decoder."""
@@ -234,23 +295,90 @@ class Decoder:
     def __del__(self):
         self.close()
 
+    def __reduce__(self):
+        raise TypeError("a decoder can't be copied or pickled")
 
-def _pieces(source, most):
-    """The pieces of a file object or a socket, or of bytes."""
+
+def _waits(source):
+    """Whether reading waits until there are bytes, as far as the source tells."""
+    try:
+        return os.get_blocking(source.fileno())
+    except (AttributeError, OSError, TypeError, ValueError):
+        return False
+
+
+def _reader(source, most):
+    """What reads the next piece of a file object or a socket, or of bytes, and b"" at the end."""
+    if most < 1:
+        raise ValueError("a piece has at least one byte")
     if isinstance(source, (bytes, bytearray, memoryview)):
-        return iter((source,))
-    read = getattr(source, "recv", None) or getattr(source, "read1", None) or source.read
-    return iter(lambda: read(most), b"")
+        pieces = iter((bytes(source),))
+        return lambda: next(pieces, b"")
+    buffered = getattr(source, "read1", None)
+    read = getattr(source, "recv", None) or buffered or source.read
+
+    def piece():
+        data = read(most)
+        if data == b"" and read is buffered and not _waits(source):
+            # `read1` tells the end and no bytes for now alike; `read` does not.
+            data = source.read(1)
+        if data is None:
+            raise BlockingIOError(errno.EAGAIN, "the source has no bytes now")
+        return data
+
+    return piece
+
+
+class _Events:
+    """The events of a source, one by one. What the source raises is passed on, and a later loop or `next` goes on behind it."""
+
+    def __init__(self, read, decoder):
+        self._read, self._decoder = read, decoder
+
+    def __iter__(self):
+        # What is not taken yet stands in the decoder's piece, so it stays when a loop is left.
+        decoder = self._decoder
+        while True:
+            told = decoder._piece.told
+            yield from told
+            if told is decoder._piece.told and not self._goes_on():
+                return
+
+    def __next__(self):
+        for event in self:
+            return event
+        raise StopIteration
+
+    def _goes_on(self):
+        """Whether the stream goes on, some more of which is taken."""
+        decoder, piece = self._decoder, self._decoder._piece
+        if decoder.ended or piece.ends():
+            decoder.finish()
+        elif piece.goes_on():
+            decoder._take(piece)
+        elif data := self._read():
+            decoder._give(data)
+        else:
+            decoder.finish()
+        return not decoder.ended
+
+    @property
+    def unused(self):
+        """The bytes that were read and stand behind the end of the stream, or behind the fault; none before."""
+        return self._decoder.unused
+
+    def close(self):
+        """Frees the decoder."""
+        self._decoder.close()
+
+    def __reduce__(self):
+        raise TypeError("events that are read can't be copied or pickled")
 
 
 def events(source, framing=PLAIN, limit=LIMIT_USUAL, texts=True, most=READ_MOST):
-    """The events of a file object, a socket or bytes, read by at most so many bytes at a time. A fault is raised behind the events before it."""
-    with Decoder(framing, limit, texts) as decoder:
-        for piece in _pieces(source, most):
-            yield from decoder.feed(piece)
-            if decoder.ended:
-                return
-        decoder.finish()
+    """The events of a file object, a socket or bytes, read by at most so many bytes at a time. A fault is raised behind the events before it.
+    Where the source has no bytes now, or a timeout, that is raised, and the iterator can be asked again."""
+    return _Events(_reader(source, most), Decoder(framing, limit, texts))
 
 
 def check(data, framing=PLAIN, limit=LIMIT_USUAL):
@@ -258,7 +386,7 @@ def check(data, framing=PLAIN, limit=LIMIT_USUAL):
     piece, counted, used = _Bytes(data), ctypes.c_uint64(), ctypes.c_uint64()
     line = ctypes.create_string_buffer(_LINE_ROOM)
     status = _library.mes_check(
-        piece.address, piece.size, limit, framing, ctypes.byref(counted), ctypes.byref(used), line, _LINE_ROOM
+        piece.address, piece.size, *_asked(limit, framing), ctypes.byref(counted), ctypes.byref(used), line, _LINE_ROOM
     )
     if status == _GOOD:
         return Counts(counted.value, used.value)
@@ -269,7 +397,8 @@ def check(data, framing=PLAIN, limit=LIMIT_USUAL):
 
 def call(data):
     """The canonical text of a scheduler's call, as bytes. Raises the fault where the bytes are of none; ValueError where it has no text."""
-    piece, size, room = _Bytes(data), ctypes.c_size_t(), 2 * len(data) + _LINE_ROOM
+    piece, size = _Bytes(data), ctypes.c_size_t()
+    room = 2 * piece.size + _LINE_ROOM
     while True:
         text = ctypes.create_string_buffer(room)
         status = _library.mes_call(piece.address, piece.size, text, room, ctypes.byref(size))

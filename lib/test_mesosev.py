@@ -1,8 +1,10 @@
 """Tests of mesosev.py, by unittest: python3 -m unittest in lib/, with MESOSEV_LIBRARY naming the built library."""
 
+import copy
 import io
 import json
 import os
+import pickle
 import socket
 import threading
 import unittest
@@ -67,9 +69,106 @@ class Streams(unittest.TestCase):
             list(mesosev.events(b"", mesosev.CHUNKED))
         self.assertEqual((told.exception.number, told.exception.used), (6, 0))
 
-    def test_bytes_behind_the_end_are_left(self):
-        source = io.BytesIO(example("stream.chunked") + b"rest")
-        self.assertEqual(len(list(mesosev.events(source, mesosev.CHUNKED))), 13)
+    def test_bytes_behind_the_end_are_told(self):
+        data = example("stream.chunked") + b"rest"
+        for most in (1, len(data) - 2, len(data), 100_000):
+            source = io.BytesIO(data)
+            events = mesosev.events(source, mesosev.CHUNKED, most=most)
+            self.assertEqual(events.unused, b"")
+            self.assertEqual(len(list(events)), 13)
+            self.assertEqual(events.unused + source.read(), b"rest")
+            self.assertEqual(list(events), [])
+        with mesosev.Decoder(mesosev.CHUNKED) as decoder:
+            self.assertEqual(len(list(decoder.feed(data))), 13)
+            self.assertEqual(decoder.unused, b"rest")
+            self.assertEqual(list(decoder.feed(b"more")), [])
+            self.assertEqual(decoder.unused, b"more")
+
+    def test_what_is_no_bytes(self):
+        for wrong in (3, "20", [50, 48], None):
+            self.assertRaises(TypeError, mesosev.check, wrong)
+            self.assertRaises(TypeError, mesosev.call, wrong)
+            self.assertRaises(TypeError, mesosev.Decoder().feed, wrong)
+
+
+class Sources(unittest.TestCase):
+    """Sources that wait, or have no bytes for now."""
+
+    def left_open(self, make):
+        """What is read of a source that has a record, then nothing for now, then another, then its end."""
+        reader, writer = make()
+        writer(BEAT)
+        events = mesosev.events(reader)
+        told = [next(events).type]
+        for how in (next, list):
+            self.assertRaises(BlockingIOError, how, events)
+        writer(BEAT[:7])
+        self.assertRaises(BlockingIOError, next, events)
+        writer(BEAT[7:])
+        told += [next(events).type]
+        writer(None)
+        self.assertRaises(StopIteration, next, events)
+        reader.close()
+        self.assertEqual(told, [8, 8])
+
+    def pipe(self, buffering):
+        reader, writer = os.pipe()
+        os.set_blocking(reader, False)
+        return os.fdopen(reader, "rb", buffering), lambda data: os.close(writer) if data is None else os.write(writer, data)
+
+    def pair(self, wrap):
+        ours, theirs = socket.socketpair()
+        ours.setblocking(False)
+        reader = wrap(ours)
+        if reader is not ours:
+            ours.close()
+        return reader, lambda data: theirs.close() if data is None else theirs.sendall(data)
+
+    def test_no_bytes_for_now(self):
+        self.left_open(lambda: self.pipe(0))
+        self.left_open(lambda: self.pipe(4096))
+        self.left_open(lambda: self.pair(lambda ours: ours))
+        self.left_open(lambda: self.pair(lambda ours: ours.makefile("rb")))
+        self.left_open(lambda: self.pair(lambda ours: ours.makefile("rwb")))
+
+    def test_a_timeout(self):
+        ours, theirs = socket.socketpair()
+        with ours, theirs:
+            ours.settimeout(0.01)
+            events = mesosev.events(ours)
+            for _ in range(3):
+                theirs.sendall(BEAT * 2)
+                self.assertEqual([next(events).type, next(events).type], [8, 8])
+                self.assertRaises(TimeoutError, next, events)
+            theirs.sendall(BEAT[:5])
+            self.assertRaises(TimeoutError, next, events)
+            theirs.close()
+            for _ in range(2):
+                with self.assertRaises(mesosev.Fault) as told:
+                    next(events)
+                self.assertEqual(told.exception.number, 10)
+
+    def test_a_loop_that_is_left(self):
+        for make in (bytes, io.BytesIO):
+            events = mesosev.events(make(BEAT * 3000))
+            for _ in events:
+                break
+            self.assertEqual(next(events).type, 8)
+            self.assertEqual(len(list(events)), 2998)
+            self.assertEqual(list(events), [])
+
+    def test_no_room_for_a_byte(self):
+        for most in (0, -1):
+            for source in (BEAT, io.BytesIO(BEAT)):
+                self.assertRaises(ValueError, mesosev.events, source, most=most)
+
+    def test_bytes_are_taken_at_the_call(self):
+        data = bytearray(BEAT * 2)
+        for make in (mesosev.events, lambda piece: mesosev.Decoder().feed(memoryview(piece))):
+            data[:] = BEAT * 2
+            events = make(data)
+            data[:] = b"x" * len(data)
+            self.assertEqual([event.type for event in events], [8, 8])
 
 
 class Narrow(mesosev.Decoder):
@@ -153,6 +252,33 @@ class ManyEvents(unittest.TestCase):
             self.assertEqual(next(decoder.feed(BEAT * 3)).type, 8)
             decoder.close()
 
+    def test_no_event_is_lost_without_a_word(self):
+        for make in (mesosev.Decoder, Narrow):
+            with make() as decoder:
+                events = decoder.feed(BEAT * 1025)
+                for _ in range(1024):
+                    next(events)
+                    self.assertRaises(RuntimeError, decoder.feed, BEAT)
+                    self.assertRaises(RuntimeError, decoder.finish)
+                # Those are still there.
+                self.assertEqual(next(events).type, 8)
+                self.assertEqual([event.type for event in decoder.feed(BEAT)], [8])
+                decoder.feed(BEAT)
+                self.assertRaises(RuntimeError, decoder.feed, BEAT)
+
+    def test_a_piece_without_an_event_is_taken(self):
+        with mesosev.Decoder() as decoder:
+            decoder.feed(BEAT[:9])
+            self.assertEqual([event.type for event in decoder.feed(BEAT[9:])], [8])
+            decoder.finish()
+
+    def test_copies(self):
+        with mesosev.Decoder() as decoder:
+            for made in (decoder, mesosev.events(BEAT)):
+                self.assertRaises(TypeError, pickle.dumps, made)
+                self.assertRaises(TypeError, copy.copy, made)
+                self.assertRaises(TypeError, copy.deepcopy, made)
+
 
 class Faults(unittest.TestCase):
     def fault(self, data, **how):
@@ -176,6 +302,11 @@ class Faults(unittest.TestCase):
                 seen.append(event)
         self.assertEqual(len(seen), 5)
 
+    def test_copies(self):
+        told = self.fault(example("broken.recordio"))
+        for made in (copy.copy(told), copy.deepcopy(told), pickle.loads(pickle.dumps(told))):
+            self.assertEqual((type(made), made.args, vars(made)), (mesosev.Fault, told.args, vars(told)))
+
     def test_the_framing(self):
         self.assertEqual(self.fault(b"x").number, 7)
         self.assertEqual(self.fault(b"2\n{").number, 10)
@@ -193,18 +324,18 @@ class Faults(unittest.TestCase):
         decoder.close()
 
     def test_bad_words(self):
-        for how in ({"limit": 0}, {"limit": mesosev.LIMIT_MOST + 1}, {"framing": 2}):
-            with self.assertRaises(ValueError):
-                mesosev.Decoder(**how)
-            with self.assertRaises(ValueError):
-                mesosev.check(b"", **how)
+        limits = (0, mesosev.LIMIT_MOST + 1, -1, 2**32 + 30, 30 - 2**32, 2**64 + 30)
+        framings = (2, -1, 2**32, 2**32 + 1, 1 - 2**32)
+        for how in (*({"limit": limit} for limit in limits), *({"framing": framing} for framing in framings)):
+            for call in (lambda: mesosev.Decoder(**how), lambda: mesosev.events(BEAT, **how), lambda: mesosev.check(BEAT, **how)):
+                self.assertRaises(ValueError, call)
 
     def test_a_closed_decoder(self):
         decoder = mesosev.Decoder()
         decoder.close()
         decoder.close()
-        with self.assertRaises(ValueError):
-            list(decoder.feed(b"1"))
+        for call in (lambda: decoder.feed(b"1"), decoder.finish):
+            self.assertRaisesRegex(ValueError, "closed", call)
 
 
 class Whole(unittest.TestCase):
