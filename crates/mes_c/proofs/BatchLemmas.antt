@@ -4,7 +4,7 @@ use Rattle.std.proofs.Math.ListN.{set}
 use Rattle.std.proofs.Math.Seq.{take-append_seam, drop-append-add}
 use Rattle.std.proofs.lemmas.List.{drop-drop, length-map}
 use Rattle.mes_frame.specs.declared.limits.TheConstants.{RECORD_LIMIT_MOST}
-use Rattle.mes_msg.specs.Canon.{canonical_text, IsEncodeFault}
+use Rattle.mes_msg.specs.Canon.{canonical_text, IsGood, IsEncodeFault}
 use Rattle.mes_msg.specs.EncodeFault.{EncodeFault}
 use Rattle.mes_msg.specs.EncodeFault.TheVariants.{NoMemory}
 use Rattle.mes_msg.specs.Event.{Event}
@@ -13,12 +13,11 @@ use Rattle.mes_stream.specs.declared.taken.Out.TheVariants as out
 use Rattle.mes_c.specs.Adding.{KeepsTexts, LosesTexts, AddsText, AddsEvent, HasStatus}
 use Rattle.mes_c.specs.Batches.{IsEvent, TellsEach, TellsBatch}
 use Rattle.mes_c.specs.Decoders.{Takes}
-use Rattle.mes_c.specs.Numbers.{number_of_event, number_of_fault}
+use Rattle.mes_c.specs.Numbers.{MORE, EVENT, END, NO_TEXT, number_of_event, number_of_fault}
 use Rattle.mes_c.specs.Rows.{Telling, texts_of, rows_of, without_text}
 use Rattle.mes_c.specs.Telling.{TellsStep, TellsOut, TellsEvent}
 use Rattle.mes_c.specs.declared.event_decoder.EventDecoder.{EventDecoder}
 use Rattle.mes_c.specs.declared.rows.Row.{Row}
-use Rattle.mes_c.specs.declared.statuses.TheConstants.{MORE, EVENT, END, NO_TEXT}
 use Rattle.mes_c.specs.declared.text_decoder.TextDecoder.{TextDecoder}
 use Rattle.mes_c.specs.declared.text_decoder.Told.{Told}
 use Rattle.mes_c.proofs.NumberLemmas.{number_most}
@@ -170,10 +169,10 @@ adds_none texts event text rows at is start =
     let one : Telling = record { told = record { status = EVENT; kind = number_of_event event }; text = [] } in
     inl (record { one = one; is_event = inl refl; tells = subst (λ (b : Bool). TellsEvent b event [] one.told) (sym is) (refl, refl, refl); text = sym (append-nil text); rows = refl; start = start })
 
-pub adds_whole : (texts : Bool) (event : Event) (text grown : List ℕ) (rows : List Row) (at : ℕ) → texts ≡ true → at ≡ length text → grown ≡ text ++ canonical_text event → AddsText texts event text grown rows rows at
-adds_whole texts event text grown rows at is start whole =
+pub adds_whole : (texts : Bool) (event : Event) (text grown : List ℕ) (rows : List Row) (at : ℕ) → texts ≡ true → at ≡ length text → grown ≡ text ++ canonical_text event → IsGood event RECORD_LIMIT_MOST → AddsText texts event text grown rows rows at
+adds_whole texts event text grown rows at is start whole good =
     let one : Telling = record { told = record { status = EVENT; kind = number_of_event event }; text = canonical_text event } in
-    inl (record { one = one; is_event = inl refl; tells = subst (λ (b : Bool). TellsEvent b event (canonical_text event) one.told) (sym is) (refl, inl (refl, refl)); text = whole; rows = refl; start = start })
+    inl (record { one = one; is_event = inl refl; tells = subst (λ (b : Bool). TellsEvent b event (canonical_text event) one.told) (sym is) (refl, inl (refl, refl, good)); text = whole; rows = refl; start = start })
 
 pub adds_unfit : (texts : Bool) (event : Event) (text same : List ℕ) (rows : List Row) (at : ℕ) → texts ≡ true → at ≡ length text → same ≡ text → (why : EncodeFault) → IsEncodeFault event RECORD_LIMIT_MOST why → AddsText texts event text same rows rows at
 adds_unfit texts event text same rows at is start stays why unfit =

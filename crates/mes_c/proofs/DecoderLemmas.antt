@@ -1,5 +1,5 @@
 -- What a decoder made of a piece, by what its reader did.
-use Rattle.std.proofs.Common.{◌≡◌, ℕ, ◌+◌, ◌≤◌, List, ◌++◌, length, take, refl, ◌∙◌, arith, length-append, length-take-le, None, Some}
+use Rattle.std.proofs.Common.{◌≡◌, ◌≢◌, ℕ, ◌+◌, ◌<◌, ◌≤◌, List, ◌++◌, length, take, refl, ◌∙◌, arith, length-append, length-take-le, None, Some}
 use Rattle.mes_msg.specs.Event.{Event}
 use Rattle.mes_msg.specs.Events.{Spells}
 use Rattle.mes_stream.specs.EventData.{HoldsData}
@@ -32,6 +32,7 @@ ended used end piece = record {
   says = λ framing limit w events s. absurd s.0;
   before = λ framing limit w events s. absurd s.0;
   more = λ e. absurd (never_more end e);
+  some = λ e. absurd (cc);
   within = omega arith;
   count = λ e. absurd (cc);
   ends = ends_by end;
@@ -61,7 +62,7 @@ module _ (was : ℕ) (stream after : StreamReader EventReader) (piece : List ℕ
     (says : (ahead : ℕ) (framing : Framing) (limit : ℕ) (w : List ℕ) (events : List Event) → StreamStands HoldsData Spells ahead stream framing limit w events
     → SaysIn framing (StreamStands HoldsData Spells ahead after framing limit) Spells IsEventRefusal ahead limit w events piece used answer)
     (before : (ahead : ℕ) (framing : Framing) (limit : ℕ) (w : List ℕ) (events : List Event) → StreamStands HoldsData Spells ahead stream framing limit w events → GoesBefore framing Spells limit w events piece used)
-    (more : answer ≡ out.More → used ≡ length piece) (within : used ≤ length piece) (count : total ≡ saturated (was + used)) where
+    (more : answer ≡ out.More → used ≡ length piece) (some : answer ≢ out.More → 0 < used) (within : used ≤ length piece) (count : total ≡ saturated (was + used)) where
   abbrev pub going : EventDecoder
   going = record { state = state.Going stream; used = was }
 
@@ -73,6 +74,7 @@ module _ (was : ℕ) (stream after : StreamReader EventReader) (piece : List ℕ
     says = λ framing limit w events s. says_counted framing (StreamStands HoldsData Spells 0 after framing limit) limit w piece events used total answer (counted w s.1) (says 0 framing limit w events s.0);
     before = λ framing limit w events s. before 0 framing limit w events s.0;
     more = more;
+    some = λ e. some;
     within = within;
     count = λ e. count;
     ends = none;
@@ -85,6 +87,7 @@ module _ (was : ℕ) (stream after : StreamReader EventReader) (piece : List ℕ
         (says 0 framing limit w events s.0);
     before = λ framing limit w events s. before 0 framing limit w events s.0;
     more = more;
+    some = λ e. some;
     within = within;
     count = λ e. count;
     ends = by;

@@ -4,11 +4,10 @@ use Rattle.mes_msg.specs.Event.{Event}
 use Rattle.mes_stream.specs.declared.taken.Out.{Out}
 use Rattle.mes_stream.specs.declared.taken.Out.TheVariants as out
 use Rattle.mes_c.specs.Batches.{IsEvent}
-use Rattle.mes_c.specs.Numbers.{number_of_event, number_of_fault}
+use Rattle.mes_c.specs.Numbers.{MORE, EVENT, END, number_of_event, number_of_fault}
 use Rattle.mes_c.specs.Rows.{Telling, without_text}
 use Rattle.mes_c.specs.Telling.{TellsEvent}
 use Rattle.mes_c.specs.declared.rows.Row.{Row}
-use Rattle.mes_c.specs.declared.statuses.TheConstants.{MORE, EVENT, END}
 
 -- its text, which begins there, stands behind the others
 pub record KeepsTexts (texts : Bool) (event : Event) (old new : List ℕ) (before after : List Row) (at : ℕ) : Type 0 where

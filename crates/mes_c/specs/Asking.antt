@@ -6,7 +6,7 @@ use Rattle.mes_stream.specs.declared.stream_reader.Framing.TheVariants.{Plain, C
 use Rattle.mes_c.specs.declared.asking.Asked.{Asked}
 use Rattle.mes_c.specs.declared.asking.Refused.{Refused}
 use Rattle.mes_c.specs.declared.asking.Refused.TheVariants as refused
-use Rattle.mes_c.specs.declared.statuses.TheConstants.{BAD_LIMIT, BAD_FRAMING}
+use Rattle.mes_c.specs.Numbers.{BAD_LIMIT, BAD_FRAMING}
 
 -- a record limit may have so many bytes
 abbrev pub IsLimit : ℕ → Type 0

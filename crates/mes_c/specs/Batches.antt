@@ -4,7 +4,7 @@ use Rattle.mes_c.specs.Rows.{Telling, texts_of, rows_of}
 use Rattle.mes_c.specs.Telling.{TellsStep}
 use Rattle.mes_c.specs.declared.event_decoder.EventDecoder.{EventDecoder}
 use Rattle.mes_c.specs.declared.rows.Row.{Row}
-use Rattle.mes_c.specs.declared.statuses.TheConstants.{EVENT, NO_TEXT}
+use Rattle.mes_c.specs.Numbers.{EVENT, NO_TEXT}
 use Rattle.mes_c.specs.declared.text_decoder.Batch.{Batch}
 use Rattle.mes_c.specs.declared.text_decoder.TextDecoder.{TextDecoder}
 use Rattle.mes_c.specs.declared.text_decoder.Told.{Told}

@@ -1,5 +1,5 @@
 -- What a decoder of events stands for, and what it makes of a piece of the stream.
-use Rattle.std.specs.Prelude.{◌≡◌, ℕ, ◌+◌, ◌≤◌, List, length, Option, None, Some, IfSome, Result, Ok, Err}
+use Rattle.std.specs.Prelude.{◌≡◌, ◌≢◌, ℕ, ◌+◌, ◌<◌, ◌≤◌, List, length, Option, None, Some, IfSome, Result, Ok, Err}
 use Rattle.mes_msg.specs.Event.{Event}
 use Rattle.mes_msg.specs.Events.{Spells}
 use Rattle.mes_stream.specs.EventData.{HoldsData}
@@ -62,6 +62,8 @@ pub record Takes (old new : EventDecoder) (piece : List ℕ) (used : ℕ) (answe
   pub before : (framing : Framing) (limit : ℕ) (w : List ℕ) (events : List Event) → Stands old framing limit w events → GoesBefore framing Spells limit w events piece used
   -- more is wanted only behind the whole piece
   pub more : answer ≡ out.More → used ≡ length piece
+  -- anything else is shown by a byte
+  pub some : end_of old ≡ None → answer ≢ out.More → 0 < used
   pub within : used ≤ length piece
   -- the bytes are counted where the stream went on
   pub count : end_of old ≡ None → new.used ≡ saturated (old.used + used)

@@ -5,13 +5,13 @@ use Rattle.mes_c.specs.Asking.{IsAsked, refused_status}
 use Rattle.mes_c.specs.Batches.{TellsBatch}
 use Rattle.mes_c.specs.Decoders.{Stands}
 use Rattle.mes_c.specs.Inputs.{TellsInput}
+use Rattle.mes_c.specs.Numbers.{GOOD, NO_MEMORY}
 use Rattle.mes_c.specs.Telling.{TellsNext, TellsFinish}
 use Rattle.mes_c.specs.declared.asking.Asked.{Asked}
 use Rattle.mes_c.specs.declared.asking.Refused.{Refused}
 use Rattle.mes_c.specs.declared.exports.Answer.{Answer}
 use Rattle.mes_c.specs.declared.exports.Answers.{Answers}
 use Rattle.mes_c.specs.declared.exports.Counts.{Counts}
-use Rattle.mes_c.specs.declared.statuses.TheConstants.{GOOD, NO_MEMORY}
 use Rattle.mes_c.specs.declared.handle.Slot.{Slot}
 use Rattle.mes_c.specs.declared.rows.Row.{Row}
 use Rattle.mes_c.specs.declared.text_decoder.Batch.{Batch}

@@ -1,10 +1,41 @@
--- The numbers that stand for faults and types of events in C.
+-- The numbers that stand for answers, faults and types of events in C.
 use Rattle.std.specs.Prelude.{ℕ}
 use Rattle.mes_frame.specs.declared.fault.FrameFault.TheVariants.{BadChunkLine, ChunkLineTooLong, ChunkTooLarge, BadChunkEnd, TrailersTooLong, BadSizeLine, SizeLineTooLong, RecordTooLarge}
 use Rattle.mes_msg.specs.Event.{Event}
 use Rattle.mes_msg.specs.Event.TheVariants as event
 use Rattle.mes_stream.specs.declared.fault.Fault.{Fault}
 use Rattle.mes_stream.specs.declared.fault.Fault.TheVariants.{Frame, EndsInsideChunks, EndsInsideRecord, Text, Field, NoMemory, Read, ReadsSpent, BadEntry}
+
+-- all was read, or a handle was made
+abbrev pub GOOD : ℕ
+GOOD = 0
+
+-- memory was refused for a handle: the number of F13
+abbrev pub NO_MEMORY : ℕ
+NO_MEMORY = 13
+
+-- more bytes are wanted
+abbrev pub MORE : ℕ
+MORE = 32
+
+-- an event has come
+abbrev pub EVENT : ℕ
+EVENT = 33
+
+-- the stream has ended
+abbrev pub END : ℕ
+END = 34
+
+-- an event has come, or a call, and no text of it
+abbrev pub NO_TEXT : ℕ
+NO_TEXT = 35
+
+-- no limit is that, and no framing has that number
+abbrev pub BAD_LIMIT : ℕ
+BAD_LIMIT = 100
+
+abbrev pub BAD_FRAMING : ℕ
+BAD_FRAMING = 101
 
 -- the number in a fault's name
 abbrev pub number_of_fault : Fault → ℕ

@@ -1,7 +1,7 @@
 -- What a decoder tells, by numbers and texts.
 use Rattle.std.specs.Prelude.{◌≡◌, ℕ, ◌⊎◌, List, [], Bool, true, false, Result, Ok, Err}
 use Rattle.mes_frame.specs.declared.limits.TheConstants.{RECORD_LIMIT_MOST}
-use Rattle.mes_msg.specs.Canon.{canonical_text, IsEncodeFault}
+use Rattle.mes_msg.specs.Canon.{canonical_text, IsGood, IsEncodeFault}
 use Rattle.mes_msg.specs.EncodeFault.{EncodeFault}
 use Rattle.mes_msg.specs.Event.{Event}
 use Rattle.mes_stream.specs.Lines.{fault_text}
@@ -9,18 +9,17 @@ use Rattle.mes_stream.specs.declared.fault.Fault.{Fault}
 use Rattle.mes_stream.specs.declared.taken.Out.{Out}
 use Rattle.mes_stream.specs.declared.taken.Out.TheVariants as out
 use Rattle.mes_c.specs.Decoders.{Takes, EndsInput}
-use Rattle.mes_c.specs.Numbers.{number_of_event, number_of_fault}
+use Rattle.mes_c.specs.Numbers.{MORE, EVENT, END, NO_TEXT, number_of_event, number_of_fault}
 use Rattle.mes_c.specs.declared.event_decoder.EventDecoder.{EventDecoder}
-use Rattle.mes_c.specs.declared.statuses.TheConstants.{MORE, EVENT, END, NO_TEXT}
 use Rattle.mes_c.specs.declared.text_decoder.TextDecoder.{TextDecoder}
 use Rattle.mes_c.specs.declared.text_decoder.Told.{Told}
 
--- of an event: its type's number and, where texts are made, its canonical text, or that there is none and why
+-- of an event: its type's number and, where texts are made, its canonical text, which fits into a record of the largest limit, or that there is none and why
 abbrev pub TellsEvent : Bool → Event → List ℕ → Told → Type 0
 TellsEvent false event text told = (told.status ≡ EVENT) × (told.kind ≡ number_of_event event) × (text ≡ [])
 TellsEvent true event text told =
     (told.kind ≡ number_of_event event)
-    × (((told.status ≡ EVENT) × (text ≡ canonical_text event))
+    × (((told.status ≡ EVENT) × (text ≡ canonical_text event) × IsGood event RECORD_LIMIT_MOST)
     ⊎ ((told.status ≡ NO_TEXT) × (text ≡ []) × ((why : EncodeFault) × IsEncodeFault event RECORD_LIMIT_MOST why)))
 
 -- of a fault behind so many bytes: its number and its line, or no line where memory was refused for it

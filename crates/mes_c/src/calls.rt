@@ -10,7 +10,7 @@ use crate::room::put_text;
 use crate::statuses::{GOOD, NO_TEXT, fault_number};
 use arrayvec::ArrayString;
 use mes_frame::Limit;
-use mes_msg::{Call, RecordFault};
+use mes_msg::{Call, EncodeFault, RecordFault};
 use mes_part::FieldFault;
 use mes_stream::{FAULT_LINE_MOST, Fault, fault_line};
 use std::alloc::Global;
@@ -20,8 +20,10 @@ use std::alloc::Global;
 pub enum CallTold {
     /// Those of a call with this canonical text.
     Text(Vec<u8>),
-    /// Those of a call whose canonical text nests too deep, is too large, or wants memory that was refused.
-    NoText,
+    /// Those of a call whose canonical text nests too deep or is too large.
+    Unfit,
+    /// Those of a call for whose canonical text memory was refused.
+    Lost,
     /// Those of no call; they are taken as record 1.
     Fault(Fault),
 }
@@ -42,7 +44,9 @@ fn text_told(alloc: Global, of: &Call) -> CallTold
 {
     match of.canon(alloc, Limit::MOST) {
         Ok(text) => CallTold::Text(text),
-        Err(_) => CallTold::NoText,
+        Err(EncodeFault::TooDeep) => CallTold::Unfit,
+        Err(EncodeFault::TooLarge) => CallTold::Unfit,
+        Err(EncodeFault::NoMemory) => CallTold::Lost,
     }
 }
 
@@ -80,7 +84,11 @@ impl CallTold {
                 *size = text.len() as u64;
                 GOOD
             }
-            CallTold::NoText => {
+            CallTold::Unfit => {
+                *size = 0;
+                NO_TEXT
+            }
+            CallTold::Lost => {
                 *size = 0;
                 NO_TEXT
             }
