@@ -107,8 +107,8 @@ uint32_t mes_decoder_new(uint32_t limit, uint32_t framing, uint32_t flags, mes_d
 
 /*
  * Takes bytes of the stream, up to the end of a record or of the stream, or a fault, or their end. *used: how many were used; the
- * next call takes those behind them. Answers MES_MORE, MES_EVENT, MES_END or the number of a fault, and from an end or a fault on the
- * same, with no byte used; or MES_NO_TEXT; or MES_BAD_POINTER, and then nothing is taken.
+ * next call takes those behind them. Answers MES_MORE, where all were used; or, with at least one used, MES_EVENT, MES_NO_TEXT, MES_END
+ * or the number of a fault, and from an end or a fault on the same, with none used; or MES_BAD_POINTER, and then nothing is taken.
  */
 uint32_t mes_decoder_next(mes_decoder *decoder, const void *bytes, size_t length, size_t *used, mes_event *event);
 
