@@ -1,6 +1,6 @@
 -- How a reader goes on behind a value in objects and arrays.
 --     object_ends, array_ends                   the last byte
---     name_follows, item_follows                a comma
+--     name_follows, name_led, item_follows      a comma
 --     nothing_follows, no_object, no_array      what is refused
 use Rattle.std.proofs.Common.{◌≡◌, ℕ, ◌+◌, inl, inr, List, [], ◌∷◌, Option, Some, None, Result, OnOk, IfErr, refl, ap, sym, ◌∙◌, subst, arith}
 use Rattle.mes_json.specs.Tree.{Tree, Members}
@@ -81,6 +81,19 @@ pub name_follows : (old : Reader) → Fits old → old.at ≡ at.TheVariants.Aft
 name_follows old fits is_at inside =
     let h : AfterValue old.nesting.items (tape_of old) = form_at old at.TheVariants.After is_at fits in
     record { at = next_name old.nesting.items _ h.frames h.tree h.is h.are_open (top_is _ h.frames _ h.are_open inside); tape = fits.tape; start = fits.start; covered = covered_at old at.TheVariants.After is_at fits }
+
+comma_taken : (d c : ℕ) (s : State) (fs : List Frame) (t : Tree) → s ≡ state fs (m.At.after t) → top_of fs ≡ Some Object → kind_of c ≡ m.Kind.comma → step d s c ≡ Some (name_due s)
+comma_taken d c s [] t is top kind = absurd (cc)
+comma_taken d c s (frame ms k ∷ fs) t is top kind =
+    ap (λ (x : State). step d x c) is ∙ ap (on_after (frame ms k ∷ fs) t) kind ∙ ap (λ (x : State). Some (name_due x)) (sym is)
+comma_taken d c s (array_frame ts ∷ fs) t is top kind = absurd (cc)
+
+pub name_led : (old : Reader) (c : ℕ) → Fits old → old.at ≡ at.TheVariants.After → innermost old.nesting.items ≡ Some Object → kind_of c ≡ m.Kind.comma
+    → step NESTING_LIMIT (state_view old) c ≡ Some (state_view (record old { at = at.TheVariants.Name }))
+name_led old c fits is_at inside kind =
+    let h : AfterValue old.nesting.items (tape_of old) = form_at old at.TheVariants.After is_at fits in
+    ap (λ (s : State). step NESTING_LIMIT s c) (view_at old at.TheVariants.After is_at)
+    ∙ comma_taken NESTING_LIMIT c (tape_of old) h.frames h.tree h.is (top_is _ h.frames _ h.are_open inside) kind
 
 record NextItem (n : List Open) (s : State) (c : ℕ) : Type 0 where
   gives : step NESTING_LIMIT s c ≡ Some (value_due s)

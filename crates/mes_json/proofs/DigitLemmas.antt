@@ -1,7 +1,8 @@
 -- How digits move the reader where they leave a number in its part, all at once.
 --     digits_taken         a run of them is taken
 --     digit_front_taken    or none of it
-use Rattle.std.proofs.Common.{◌≡◌, ℕ, ◌+◌, ◌-◌, ◌≤◌, ◌==◌, Bool, true, false, List, [], ◌∷◌, ◌++◌, length, take, drop, Some, option_and_then, refl, ap, sym, ◌∙◌, subst, arith, append_assoc, append-nil, ◌⊎◌, inl, inr}
+--     part_more            the part of a number that one more byte leads to
+use Rattle.std.proofs.Common.{◌≡◌, ℕ, ◌+◌, ◌-◌, ◌<◌, ◌≤◌, ◌==◌, Bool, true, false, List, [], ◌∷◌, ◌++◌, length, take, drop, get_or, take-suc, add-one, Option, Some, None, option_and_then, refl, ap, sym, ◌∙◌, subst, arith, append_assoc, append-nil, ◌⊎◌, inl, inr}
 use Rattle.std.proofs.lemmas.Bool.Decides.{nat_tests}
 use Rattle.std.specs.List.{AllByRecursion}
 use Rattle.mes_fixed.specs.Automaton.{nought, digit, letter_of, number_next}
@@ -10,7 +11,7 @@ use Rattle.mes_json.specs.Machine as m
 use Rattle.mes_json.specs.Machine.{Frame, State, run, on_digits}
 use Rattle.mes_json.specs.Machine.State.{state}
 use Rattle.mes_json.specs.Machine.Token.{digits}
-use Rattle.mes_json.specs.Reader.{with_read, Fits, Keeps, RunsTo, IsDigit, KeepsOn, AtValue}
+use Rattle.mes_json.specs.Reader.{with_read, Fits, Keeps, RunsTo, IsDigit, KeepsOn, AtValue, part_behind}
 use Rattle.mes_json.specs.declared.limits.TheConstants.{NESTING_LIMIT}
 use Rattle.mes_json.specs.declared.at.At as at
 use Rattle.mes_json.specs.declared.reader.Reader.{Reader}
@@ -61,3 +62,23 @@ digit_front_taken old new x b from run n fits is_at keeps_on within few all (inl
     (subst (λ (k : ℕ). AllByRecursion IsDigit (take k (take (length b - from) (drop from b)))) (sym whole) all) keeps
 digit_front_taken old new x b from run n fits is_at keeps_on within few all (inr none) keeps =
     none_kept old new (at.TheVariants.Digits x) b (take (length b - from) (drop from b)) from n none fits is_at within keeps
+
+-- ---- the part of a number behind one more byte
+over_more : (x : NumberState) (q : List ℕ) (c : ℕ) → part_behind x (q ++ c ∷ []) ≡ option_and_then (λ y. number_next y (letter_of c)) (part_behind x q)
+over_more x [] c = by (number_next x (letter_of c))
+  where
+    by : (o : Option NumberState) → option_and_then (λ y. part_behind y []) o ≡ o
+    by None = refl
+    by (Some y) = refl
+over_more x (b ∷ q) c = by (number_next x (letter_of b)) (λ y. over_more y q c)
+  where
+    by : (o : Option NumberState) → ((y : NumberState) → part_behind y (q ++ c ∷ []) ≡ option_and_then (λ z. number_next z (letter_of c)) (part_behind y q))
+        → option_and_then (λ y. part_behind y (q ++ c ∷ [])) o ≡ option_and_then (λ y. number_next y (letter_of c)) (option_and_then (λ y. part_behind y q) o)
+    by None h = refl
+    by (Some y) h = h y
+
+pub part_more : (x y z : NumberState) (b : List ℕ) (n : ℕ) → n < length b → part_behind x (take n b) ≡ Some y → number_next y (letter_of (get_or b n 0)) ≡ Some z
+    → part_behind x (take (n + 1) b) ≡ Some z
+part_more x y z b n inside is next =
+    ap (λ (m : ℕ). part_behind x (take m b)) (add-one n) ∙ ap (part_behind x) (take-suc b n 0 inside)
+    ∙ over_more x (take n b) (get_or b n 0) ∙ ap (option_and_then (λ y. number_next y (letter_of (get_or b n 0)))) is ∙ next

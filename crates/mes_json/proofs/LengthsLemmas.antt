@@ -1,126 +1,238 @@
 -- How long the arrays and the objects on a tape are.
---     over_ends                          behind as many ends as are open
---     tells_array, tells_object          the length that a node is given
---     ends_end, ends_less, ends_first    the ends that stand open, with one more or one less, and the first
---     ends_none                          none is known
---     tell_from, spans_from              the nodes from a place on
---     telling_none, telling_more         the lengths of the last nodes are told
-use Rattle.std.proofs.Common.{◌≡◌, ◌≢◌, ℕ, zero, suc, ◌+◌, ◌-◌, ◌≤◌, List, [], ◌∷◌, ◌++◌, length, drop, set, get_or, reverse, Option, Some, None, refl, ap, sym, ◌∙◌, arith}
-use Rattle.std.proofs.lemmas.List.{reverse-append, drop-set, length-set, drop_all}
-use Rattle.std.proofs.Math.Seq.{map-set_same}
+--     begun_leaf, begun_open, begun_end, begun_close     one more node: one that opens and closes nothing, one that opens, and an end
+--     begun_none                                         what is open is not known any more
+--     begun_tells                                        what the nodes tell is so
+--     untold_close, untold_tokens, untold_spans          what is seen of the nodes: an end is put, tokens, spans
+--     tell_from, spans_from                              the nodes from a place on
+use Rattle.std.proofs.Common.{◌≡◌, ◌≢◌, ℕ, zero, suc, ◌+◌, ◌-◌, List, [], ◌∷◌, ◌++◌, length, drop, map, set, get_or, Option, Some, None, refl, ap, sym, ◌∙◌, subst, arith, append_assoc, length-append}
+use Rattle.std.proofs.lemmas.List.{map-append}
+use Rattle.std.proofs.Math.Seq.{map-set_same, get_or-append_seam, set-append_seam}
 use Rattle.std.specs.List.{AllByRecursion}
 use Rattle.mes_json.specs.Tokens.{Token}
 use Rattle.mes_json.specs.Tape.{HasSpan}
 use Rattle.mes_json.specs.Cursor.{token_of, tokens_held}
 use Rattle.mes_json.specs.Passing.{behind}
-use Rattle.mes_json.specs.Lengths.{told, HasRest, TellsTruth, TellLengths, open_ends, AreOpenEnds, IsRestOf}
+use Rattle.mes_json.specs.Lengths.{told, untold, telling, HasRest, TellsTruth, TellLengths, IsLeaf, IsWhole, AreBegun}
 use Rattle.mes_json.specs.declared.tape.Node.{Node}
 use Rattle.mes_json.specs.declared.tape.Node.TheVariants.{Null, Bool, Number, Text, Name, List as list, Map, End}
-
--- the element in that place
-abbrev nth : List ℕ → ℕ → Option ℕ
-nth [] k = None
-nth (x ∷ xs) zero = Some x
-nth (x ∷ xs) (suc k) = nth xs k
-
-nth_behind : (xs : List ℕ) (k : ℕ) → nth (drop 1 xs) k ≡ nth xs (suc k)
-nth_behind [] k = refl
-nth_behind (x ∷ xs) k = refl
-
-one_node : (n end : ℕ) (x : Token) (xs : List Token) → end ≤ n → drop (suc n - end) (x ∷ xs) ≡ drop (n - end) xs
-one_node n end x xs h = ap (λ (m : ℕ). drop m (x ∷ xs)) (more n end h) where
-  more : (n end : ℕ) → end ≤ n → suc n - end ≡ suc (n - end)
-  more n end h = omega (arith, h)
-
-pub record ClosesAt (texts : List ℕ) (xs : List Node) (k end : ℕ) : Type 0 where
-  pub inside : end ≤ length xs
-  pub is : behind (suc k) (tokens_held texts xs) ≡ drop (length xs - end) (tokens_held texts xs)
-
--- a node that opens and closes nothing, or one that opens an array or an object
-closes_more : (texts : List ℕ) (x : Node) (xs : List Node) (k m end : ℕ) → behind (suc k) (tokens_held texts (x ∷ xs)) ≡ behind (suc m) (tokens_held texts xs)
-    → ClosesAt texts xs m end → ClosesAt texts (x ∷ xs) k end
-closes_more texts x xs k m end same h = record {
-  inside = omega (arith, h.inside);
-  is = same ∙ h.is ∙ sym (one_node (length xs) end (token_of texts x) (tokens_held texts xs) h.inside);
-}
-
-pub over_ends : (texts : List ℕ) (xs : List Node) (k end : ℕ) → nth (open_ends xs) k ≡ Some end → ClosesAt texts xs k end
-over_ends texts [] k end is = absurd (never is) where
-  never : {end : ℕ} → (let none : Option ℕ = None in none ≡ Some end) → ⊥
-  never h = cc
-over_ends texts (Null ∷ xs) k end is = closes_more texts Null xs k k end refl (over_ends texts xs k end is)
-over_ends texts (Bool x ∷ xs) k end is = closes_more texts (Bool x) xs k k end refl (over_ends texts xs k end is)
-over_ends texts (Number from to ∷ xs) k end is = closes_more texts (Number from to) xs k k end refl (over_ends texts xs k end is)
-over_ends texts (Text from to ∷ xs) k end is = closes_more texts (Text from to) xs k k end refl (over_ends texts xs k end is)
-over_ends texts (Name from to ∷ xs) k end is = closes_more texts (Name from to) xs k k end refl (over_ends texts xs k end is)
-over_ends texts (list n ∷ xs) k end is = closes_more texts (list n) xs k (suc k) end refl (over_ends texts xs (suc k) end (sym (nth_behind (open_ends xs) k) ∙ is))
-over_ends texts (Map n ∷ xs) k end is = closes_more texts (Map n) xs k (suc k) end refl (over_ends texts xs (suc k) end (sym (nth_behind (open_ends xs) k) ∙ is))
-over_ends texts (End ∷ xs) zero end is =
-    let same : length xs ≡ end = some is in
-    record {
-      inside = omega (arith, same);
-      is = ap (λ (m : ℕ). drop m (Token.ends ∷ tokens_held texts xs)) (one (length xs) end same);
-    } where
-      some : {a b : ℕ} → Some a ≡ Some b → a ≡ b
-      some h = cc
-
-      one : (n end : ℕ) → n ≡ end → 1 ≡ suc n - end
-      one n end h = omega (arith, h)
-over_ends texts (End ∷ xs) (suc k) end is = closes_more texts End xs (suc k) k end refl (over_ends texts xs k end is)
-
--- the first of the open ends
-first_open : (texts : List ℕ) (xs : List Node) (end : ℕ) (rest : List ℕ) → open_ends xs ≡ end ∷ rest → ClosesAt texts xs 0 end
-first_open texts xs end rest is = over_ends texts xs 0 end (ap (λ (us : List ℕ). nth us 0) is)
-
-has_rest : (x : Node) (xs : List Node) (n many : ℕ) → length xs ≡ many → ((texts : List ℕ) → behind 0 (tokens_held texts (x ∷ xs)) ≡ behind 1 (tokens_held texts xs))
-    → n ≢ 0 → IsRestOf n many (open_ends xs) → HasRest n x xs
-has_rest x xs n many size opens some known =
-    let found = known some in
-    let count : n ≡ length xs - found.0 = omega (arith, found.3, size) in
-    record {
-      inside = omega (arith, count);
-      ends = λ texts. opens texts ∙ (first_open texts xs found.0 found.1 found.2).is ∙ ap (λ (m : ℕ). drop m (tokens_held texts xs)) (sym count);
-    }
 
 none_some : {m : ℕ} {T : Type 0} → (let none : Option ℕ = None in none ≡ Some m) → T
 none_some h = absurd (never h) where
   never : {m : ℕ} → (let none : Option ℕ = None in none ≡ Some m) → ⊥
   never h = cc
 
+some_none : {m : ℕ} {T : Type 0} → (let none : Option ℕ = None in Some m ≡ none) → T
+some_none h = none_some (sym h)
+
 some_same : {a b : ℕ} → Some a ≡ Some b → a ≡ b
 some_same h = cc
 
-pub tells_array : (xs : List Node) (n many : ℕ) → length xs ≡ many → IsRestOf n many (open_ends xs) → TellsTruth (list n) xs
-tells_array xs zero many size known m is = none_some is
-tells_array xs (suc n) many size known m is = rw (← some_same is) (has_rest (list (suc n)) xs (suc n) many size (λ texts. refl) (omega arith) known)
-
-pub tells_object : (xs : List Node) (n many : ℕ) → length xs ≡ many → IsRestOf n many (open_ends xs) → TellsTruth (Map n) xs
-tells_object xs zero many size known m is = none_some is
-tells_object xs (suc n) many size known m is = rw (← some_same is) (has_rest (Map (suc n)) xs (suc n) many size (λ texts. refl) (omega arith) known)
-
+-- ---- what single nodes tell
 -- a node that is a value of its own
-pub tells_none : (x : Node) (xs : List Node) → told x ≡ Some 0 → ((texts : List ℕ) → behind 0 (tokens_held texts (x ∷ xs)) ≡ tokens_held texts xs) → TellsTruth x xs
+tells_none : (x : Node) (xs : List Node) → told x ≡ Some 0 → ((texts : List ℕ) → behind 0 (tokens_held texts (x ∷ xs)) ≡ tokens_held texts xs) → TellsTruth x xs
 tells_none x xs is one m also =
     let same : 0 ≡ m = some_same (sym is ∙ also) in
     rw (← same) (record { inside = omega arith; ends = one })
 
--- ---- the ends
-pub ends_end : (ends found : List ℕ) (end : ℕ) → AreOpenEnds ends found → AreOpenEnds (ends ++ end ∷ []) (end ∷ found)
-ends_end ends found end (rest, is) = (rest, ap (λ (us : List ℕ). end ∷ us) is ∙ ap (λ (us : List ℕ). us ++ rest) (sym (reverse-append ends (end ∷ []))))
+tells_leaf : (x : Node) (xs : List Node) → IsLeaf x → TellsTruth x xs
+tells_leaf Null xs h = tells_none Null xs refl (λ texts. refl)
+tells_leaf (Bool b) xs h = tells_none (Bool b) xs refl (λ texts. refl)
+tells_leaf (Number from to) xs h = tells_none (Number from to) xs refl (λ texts. refl)
+tells_leaf (Text from to) xs h = tells_none (Text from to) xs refl (λ texts. refl)
+tells_leaf (Name from to) xs h = tells_none (Name from to) xs refl (λ texts. refl)
+tells_leaf (list n) xs h = absurd h
+tells_leaf (Map n) xs h = absurd h
+tells_leaf End xs h = absurd h
 
-pub ends_begin : (old new found : List ℕ) (end : ℕ) → old ≡ new ++ end ∷ [] → AreOpenEnds old found → (rest : List ℕ) × (found ≡ end ∷ (reverse new ++ rest))
-ends_begin old new found end same (rest, is) =
-    (rest, is ∙ ap (λ (us : List ℕ). reverse us ++ rest) same ∙ ap (λ (us : List ℕ). us ++ rest) (reverse-append new (end ∷ [])))
+tells_end : (xs : List Node) → TellsTruth End xs
+tells_end xs = tells_none End xs refl (λ texts. refl)
 
-pub ends_less : (old new found : List ℕ) (end : ℕ) → old ≡ new ++ end ∷ [] → AreOpenEnds old found → AreOpenEnds new (drop 1 found)
-ends_less old new found end same known = let begun = ends_begin old new found end same known in (begun.0, ap (λ (us : List ℕ). drop 1 us) begun.1)
+tells_nothing : (x : Node) (xs : List Node) → told x ≡ None → TellsTruth x xs
+tells_nothing x xs none m is = none_some (sym none ∙ is)
 
-pub ends_first : (old new found : List ℕ) (end n length_is many : ℕ) → old ≡ new ++ end ∷ [] → length_is ≡ many - end → (n ≢ 0 → n ≡ length_is) → AreOpenEnds old found → IsRestOf n many found
-ends_first old new found end n length_is many same is kept known some =
-    let begun = ends_begin old new found end same known in (end, reverse new ++ begun.0, begun.1, kept some ∙ is)
+-- ---- nodes that are whole
+whole_none : IsWhole []
+whole_none = record { tells = λ ys h. h; passes = λ texts n ts. refl }
 
-pub ends_none : (new found : List ℕ) → new ≡ [] → AreOpenEnds new (drop 1 found)
-ends_none new found is = (drop 1 found, ap (λ (us : List ℕ). reverse us ++ drop 1 found) (sym is))
+whole_append : (xs ys : List Node) → IsWhole xs → IsWhole ys → IsWhole (xs ++ ys)
+whole_append xs ys a b = record {
+  tells = λ zs h. subst TellLengths (sym (append_assoc xs ys zs)) (a.tells (ys ++ zs) (b.tells zs h));
+  passes = λ texts n ts. ap (λ (us : List Token). behind (suc n) (us ++ ts)) (map-append (token_of texts) xs ys)
+      ∙ ap (behind (suc n)) (append_assoc (tokens_held texts xs) (tokens_held texts ys) ts)
+      ∙ a.passes texts n (tokens_held texts ys ++ ts) ∙ b.passes texts n ts;
+}
+
+leaf_passed : (x : Node) → IsLeaf x → (texts : List ℕ) (n : ℕ) (ts : List Token) → behind (suc n) (token_of texts x ∷ ts) ≡ behind (suc n) ts
+leaf_passed Null h texts n ts = refl
+leaf_passed (Bool b) h texts n ts = refl
+leaf_passed (Number from to) h texts n ts = refl
+leaf_passed (Text from to) h texts n ts = refl
+leaf_passed (Name from to) h texts n ts = refl
+leaf_passed (list m) h texts n ts = absurd h
+leaf_passed (Map m) h texts n ts = absurd h
+leaf_passed End h texts n ts = absurd h
+
+whole_leaf : (x : Node) → IsLeaf x → IsWhole (x ∷ [])
+whole_leaf x h = record { tells = λ ys more. (tells_leaf x ys h, more); passes = leaf_passed x h }
+
+-- an array or an object with what is inside and its end, as tokens
+abbrev closed_tokens : List ℕ → List Node → List Token → List Token
+closed_tokens texts inner ts = tokens_held texts inner ++ Token.ends ∷ ts
+
+closed_is : (texts : List ℕ) (inner : List Node) (ts : List Token) → tokens_held texts (inner ++ End ∷ []) ++ ts ≡ closed_tokens texts inner ts
+closed_is texts inner ts =
+    ap (λ (us : List Token). us ++ ts) (map-append (token_of texts) inner (End ∷ [])) ∙ append_assoc (tokens_held texts inner) (Token.ends ∷ []) ts
+
+closed_over : (texts : List ℕ) (inner : List Node) (n : ℕ) (ts : List Token) → IsWhole inner → behind (suc (suc n)) (closed_tokens texts inner ts) ≡ behind (suc n) ts
+closed_over texts inner n ts whole = whole.passes texts (suc n) (Token.ends ∷ ts)
+
+-- the length of an array or an object that ends, where it is told
+abbrev IsClosedBy : ℕ → List Node → Type 0
+IsClosedBy n inner = n ≢ 0 → n ≡ length inner + 1
+
+behind_first : (texts : List ℕ) (inner ys : List Node) → tokens_held texts ys ≡ drop (suc (length inner)) (tokens_held texts ((inner ++ End ∷ []) ++ ys))
+behind_first texts [] ys = refl
+behind_first texts (x ∷ inner) ys = behind_first texts inner ys
+
+one_more : {n m : ℕ} → n ≡ m + 1 → n ≡ suc m
+one_more is = omega (arith, is)
+
+rest_closed : (n : ℕ) (x : Node) (inner ys : List Node) → ((texts : List ℕ) (us : List Token) → behind 0 (token_of texts x ∷ us) ≡ behind 1 us) → IsWhole inner
+    → n ≡ length inner + 1 → HasRest n x ((inner ++ End ∷ []) ++ ys)
+rest_closed n x inner ys opens whole is = record {
+  inside = omega (arith, is, length-append (inner ++ End ∷ []) ys, length-append inner (End ∷ []));
+  ends = λ texts. opens texts (tokens_held texts ((inner ++ End ∷ []) ++ ys))
+      ∙ ap (behind 1) (map-append (token_of texts) (inner ++ End ∷ []) ys ∙ closed_is texts inner (tokens_held texts ys))
+      ∙ whole.passes texts 0 (Token.ends ∷ tokens_held texts ys)
+      ∙ behind_first texts inner ys ∙ ap (λ (m : ℕ). drop m (tokens_held texts ((inner ++ End ∷ []) ++ ys))) (sym (one_more is));
+}
+
+tells_array : (n : ℕ) (inner ys : List Node) → IsWhole inner → IsClosedBy n inner → TellsTruth (list n) ((inner ++ End ∷ []) ++ ys)
+tells_array zero inner ys whole known m is = none_some is
+tells_array (suc n) inner ys whole known m is =
+    rw (← some_same is) (rest_closed (suc n) (list (suc n)) inner ys (λ texts us. refl) whole (known (omega arith)))
+
+tells_object : (n : ℕ) (inner ys : List Node) → IsWhole inner → IsClosedBy n inner → TellsTruth (Map n) ((inner ++ End ∷ []) ++ ys)
+tells_object zero inner ys whole known m is = none_some is
+tells_object (suc n) inner ys whole known m is =
+    rw (← some_same is) (rest_closed (suc n) (Map (suc n)) inner ys (λ texts us. refl) whole (known (omega arith)))
+
+-- what stands inside, and the end, as the nodes behind the first one
+inside_tells : (inner ys : List Node) → IsWhole inner → TellLengths ys → TellLengths ((inner ++ End ∷ []) ++ ys)
+inside_tells inner ys whole more =
+    subst TellLengths (sym (append_assoc inner (End ∷ []) ys)) (whole.tells (End ∷ ys) (tells_end ys, more))
+
+whole_closed : (n : ℕ) (x : Node) (inner : List Node) → told x ≡ None → IsWhole inner → IsClosedBy n inner → IsWhole (telling n x ∷ (inner ++ End ∷ []))
+whole_closed n Null inner none whole known = some_none none
+whole_closed n (Bool b) inner none whole known = some_none none
+whole_closed n (Number from to) inner none whole known = some_none none
+whole_closed n (Text from to) inner none whole known = some_none none
+whole_closed n (Name from to) inner none whole known = some_none none
+whole_closed n (list m) inner none whole known = record {
+  tells = λ ys more. (tells_array n inner ys whole known, inside_tells inner ys whole more);
+  passes = λ texts k ts. ap (behind (suc (suc k))) (closed_is texts inner ts) ∙ closed_over texts inner k ts whole;
+}
+whole_closed n (Map m) inner none whole known = record {
+  tells = λ ys more. (tells_object n inner ys whole known, inside_tells inner ys whole more);
+  passes = λ texts k ts. ap (behind (suc (suc k))) (closed_is texts inner ts) ∙ closed_over texts inner k ts whole;
+}
+whole_closed n End inner none whole known = some_none none
+
+-- ---- what is open
+begun_more : (places : List ℕ) (xs ys : List Node) → AreBegun places xs → IsWhole ys → AreBegun places (xs ++ ys)
+begun_more [] xs ys h whole = λ zs more. subst TellLengths (sym (append_assoc xs ys zs)) (h (ys ++ zs) (whole.tells zs more))
+begun_more (place ∷ places) xs ys h whole = record {
+  outer = h.outer;
+  first = h.first;
+  inner = h.inner ++ ys;
+  is = ap (λ (us : List Node). us ++ ys) h.is ∙ append_assoc h.outer (h.first ∷ h.inner) ys;
+  begins = h.begins;
+  unknown = h.unknown;
+  whole = whole_append h.inner ys h.whole whole;
+  before = h.before;
+}
+
+pub begun_leaf : (places : List ℕ) (xs : List Node) (x : Node) → AreBegun places xs → IsLeaf x → AreBegun places (xs ++ x ∷ [])
+begun_leaf places xs x h leaf = begun_more places xs (x ∷ []) h (whole_leaf x leaf)
+
+pub begun_tells : (places : List ℕ) (xs ys : List Node) → AreBegun places xs → TellLengths ys → TellLengths (xs ++ ys)
+begun_tells [] xs ys h more = h ys more
+begun_tells (place ∷ places) xs ys h more =
+    subst TellLengths (sym (append_assoc h.outer (h.first ∷ h.inner) ys) ∙ ap (λ (us : List Node). us ++ ys) (sym h.is))
+    (begun_tells places h.outer (h.first ∷ (h.inner ++ ys)) h.before (tells_nothing h.first (h.inner ++ ys) h.unknown, h.whole.tells ys more))
+
+pub begun_none : (places : List ℕ) (xs : List Node) → AreBegun places xs → AreBegun [] xs
+begun_none places xs h ys more = begun_tells places xs ys h more
+
+pub begun_open : (places : List ℕ) (xs : List Node) (x : Node) → AreBegun places xs → told x ≡ None → AreBegun (length xs ∷ places) (xs ++ x ∷ [])
+begun_open places xs x h none =
+    record { outer = xs; first = x; inner = []; is = refl; begins = refl; unknown = none; whole = whole_none; before = h }
+
+-- an end that closes nothing that is known
+pub begun_end : (xs : List Node) → AreBegun [] xs → AreBegun [] (xs ++ End ∷ [])
+begun_end xs h = λ ys more. subst TellLengths (sym (append_assoc xs (End ∷ []) ys)) (h (End ∷ ys) (tells_end ys, more))
+
+-- an end that closes the innermost one, which is told how long it is, or nothing
+pub begun_close : (n place : ℕ) (places : List ℕ) (xs : List Node) (d : Node) → AreBegun (place ∷ places) xs → (n ≢ 0 → n ≡ length xs - place)
+    → AreBegun places (set xs place (telling n (get_or xs place d)) ++ End ∷ [])
+begun_close n place places xs d h known =
+    let at_first : get_or xs place d ≡ h.first = ap (λ (us : List Node). get_or us place d) h.is ∙ ap (λ (m : ℕ). get_or (h.outer ++ h.first ∷ h.inner) m d) h.begins
+    ∙ get_or-append_seam h.outer h.first h.inner d in
+    let put : set xs place (telling n (get_or xs place d)) ++ End ∷ [] ≡ h.outer ++ (telling n h.first ∷ (h.inner ++ End ∷ [])) =
+    ap (λ (x : Node). set xs place (telling n x) ++ End ∷ []) at_first
+    ∙ ap (λ (us : List Node). set us place (telling n h.first) ++ End ∷ []) h.is
+    ∙ ap (λ (m : ℕ). set (h.outer ++ h.first ∷ h.inner) m (telling n h.first) ++ End ∷ []) h.begins
+    ∙ ap (λ (us : List Node). us ++ End ∷ []) (set-append_seam h.outer h.first h.inner (telling n h.first))
+    ∙ append_assoc h.outer (telling n h.first ∷ h.inner) (End ∷ []) in
+    let counted : IsClosedBy n h.inner = λ some. omega (arith, known some, ap length h.is, length-append h.outer (h.first ∷ h.inner), h.begins) in
+    subst (AreBegun places) (sym put)
+    (begun_more places h.outer (telling n h.first ∷ (h.inner ++ End ∷ [])) h.before (whole_closed n h.first h.inner h.unknown h.whole counted))
+
+-- ---- lengths that are told, or not
+untold_same : (n : ℕ) (x : Node) → untold (telling n x) ≡ untold x
+untold_same n Null = refl
+untold_same n (Bool b) = refl
+untold_same n (Number from to) = refl
+untold_same n (Text from to) = refl
+untold_same n (Name from to) = refl
+untold_same n (list m) = refl
+untold_same n (Map m) = refl
+untold_same n End = refl
+
+-- an end, and the length of what it closes
+pub untold_close : (n place : ℕ) (xs : List Node) (d : Node) → map untold (set xs place (telling n (get_or xs place d)) ++ End ∷ []) ≡ map untold xs ++ End ∷ []
+untold_close n place xs d =
+    map-append untold (set xs place (telling n (get_or xs place d))) (End ∷ [])
+    ∙ ap (λ (us : List Node). us ++ End ∷ []) (map-set_same untold xs place (telling n (get_or xs place d)) d (untold_same n (get_or xs place d)))
+
+untold_token : (texts : List ℕ) (x : Node) → token_of texts (untold x) ≡ token_of texts x
+untold_token texts Null = refl
+untold_token texts (Bool b) = refl
+untold_token texts (Number from to) = refl
+untold_token texts (Text from to) = refl
+untold_token texts (Name from to) = refl
+untold_token texts (list m) = refl
+untold_token texts (Map m) = refl
+untold_token texts End = refl
+
+pub untold_tokens : (texts : List ℕ) (xs : List Node) → tokens_held texts (map untold xs) ≡ tokens_held texts xs
+untold_tokens texts [] = refl
+untold_tokens texts (x ∷ xs) =
+    ap (λ (t : Token). t ∷ tokens_held texts (map untold xs)) (untold_token texts x) ∙ ap (λ (ts : List Token). token_of texts x ∷ ts) (untold_tokens texts xs)
+
+untold_span : (texts : List ℕ) (x : Node) → HasSpan texts (untold x) → HasSpan texts x
+untold_span texts Null h = h
+untold_span texts (Bool b) h = h
+untold_span texts (Number from to) h = h
+untold_span texts (Text from to) h = h
+untold_span texts (Name from to) h = h
+untold_span texts (list m) h = h
+untold_span texts (Map m) h = h
+untold_span texts End h = h
+
+pub untold_spans : (texts : List ℕ) (xs : List Node) → AllByRecursion (HasSpan texts) (map untold xs) → AllByRecursion (HasSpan texts) xs
+untold_spans texts [] h = tt
+untold_spans texts (x ∷ xs) h = (untold_span texts x h.0, untold_spans texts xs h.1)
 
 -- ---- the nodes from a place on
 pub tell_from : (n : ℕ) (xs : List Node) → TellLengths xs → TellLengths (drop n xs)
@@ -132,35 +244,3 @@ pub spans_from : (texts : List ℕ) (n : ℕ) (xs : List Node) → AllByRecursio
 spans_from texts zero xs h = h
 spans_from texts (suc n) [] h = tt
 spans_from texts (suc n) (x ∷ xs) h = spans_from texts n xs h.1
-
--- the lengths of the nodes from a place on are told
-pub record Telling (old now : List Node) (place : ℕ) (ends : List ℕ) : Type 0 where
-  pub size : length now ≡ length old
-  pub held : (texts : List ℕ) → tokens_held texts now ≡ tokens_held texts old
-  pub spans : (texts : List ℕ) → AllByRecursion (HasSpan texts) old → AllByRecursion (HasSpan texts) now
-  pub are_told : TellLengths (drop place now)
-  pub are_open : AreOpenEnds ends (open_ends (drop place now))
-
-pub telling_none : (xs : List Node) (place : ℕ) → place ≡ length xs → Telling xs xs place []
-telling_none xs place is =
-    let none : drop place xs ≡ [] = drop_all place xs (omega (arith, is)) in
-    record { size = refl; held = λ texts. refl; spans = λ texts h. h; are_told = rw none tt; are_open = rw none ([], refl) }
-
-set_spans : (texts : List ℕ) (xs : List Node) (i : ℕ) (x d : Node) → (HasSpan texts (get_or xs i d) → HasSpan texts x) → AllByRecursion (HasSpan texts) xs
-    → AllByRecursion (HasSpan texts) (set xs i x)
-set_spans texts [] i x d h all = all
-set_spans texts (y ∷ xs) zero x d h all = (h all.0, all.1)
-set_spans texts (y ∷ xs) (suc i) x d h all = (all.0, set_spans texts xs i x d h all.1)
-
-pub telling_more : (old now : List Node) (place at : ℕ) (ends more : List ℕ) (x d : Node) → at + 1 ≡ place → place ≤ length now
-    → ((texts : List ℕ) → token_of texts x ≡ token_of texts (get_or now at d)) → ((texts : List ℕ) → HasSpan texts (get_or now at d) → HasSpan texts x)
-    → TellsTruth x (drop place now) → AreOpenEnds more (open_ends (x ∷ drop place now)) → Telling old now place ends → Telling old (set now at x) at more
-telling_more old now place at ends more x d next inside token span truth opens before =
-    let here : drop at (set now at x) ≡ x ∷ drop place now = drop-set now at x (omega (arith, next, inside)) ∙ ap (λ (n : ℕ). x ∷ drop n now) next in
-    record {
-      size = length-set now at x ∙ before.size;
-      held = λ texts. map-set_same (token_of texts) now at x d (token texts) ∙ before.held texts;
-      spans = λ texts h. set_spans texts now at x d (span texts) (before.spans texts h);
-      are_told = rw here (truth, before.are_told);
-      are_open = rw here opens;
-    }

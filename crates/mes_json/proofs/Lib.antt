@@ -42,6 +42,8 @@ pub mod ReadLemmas
 pub mod InnerLemmas
 pub mod MeasureLemmas
 pub mod MemberLemmas
+pub mod NumberRuns
+pub mod NumberEnds
 pub mod PaidLemmas
 pub mod PaidStrings
 pub mod PaidSteps

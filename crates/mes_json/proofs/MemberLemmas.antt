@@ -4,9 +4,9 @@
 --     left                none, where nothing has changed but, perhaps, the room
 --     any_name_begins     the quotation mark of a name
 --     object_opens, object_closes, array_closes
-use Rattle.std.proofs.Common.{◌≡◌, ℕ, ◌+◌, ◌<◌, ◌⊎◌, inl, inr, List, [], ◌∷◌, ◌++◌, length, get_or, Some, Ok, refl, ap, sym, ◌∙◌, arith}
+use Rattle.std.proofs.Common.{◌≡◌, ℕ, ◌+◌, ◌<◌, ◌⊎◌, inl, inr, List, [], ◌∷◌, ◌++◌, length, get_or, Some, Ok, refl, ap, ◌∙◌, arith}
 use Rattle.mes_json.specs.Machine.{step}
-use Rattle.mes_json.specs.Reader.{state_view, innermost, outer, Fits, Reached, Begins, Puts, Stays, RunsTo}
+use Rattle.mes_json.specs.Reader.{state_view, innermost, outer, Fits, Begins, Puts, Stays, RunsTo}
 use Rattle.mes_json.specs.declared.limits.TheConstants.{NESTING_LIMIT}
 use Rattle.mes_json.specs.declared.nesting.Open.TheVariants.{Object, Array}
 use Rattle.mes_json.specs.declared.utf8.Mid as mid

@@ -1,8 +1,10 @@
 -- A reader at the end of its bytes, and the tape that it gives.
 --     ends_behind        behind a value
 --     tape_found         the tape of the value that is whole
+--     tape_spans         its spans
 use Rattle.std.proofs.Common.{◌≡◌, ◌==◌, Bool, true, false, List, [], ◌∷◌, ◌++◌, length, Option, Some, option_map, ap, sym, ◌∙◌, subst, arith}
 use Rattle.std.proofs.lemmas.Grind.{common_steps}
+use Rattle.std.specs.List.{AllByRecursion}
 use Rattle.mes_json.specs.Tree.{Tree}
 use Rattle.mes_json.specs.Machine.{Frame, finish}
 use Rattle.mes_json.specs.Machine.At.{after}
@@ -11,6 +13,7 @@ use Rattle.mes_json.specs.Machine.Frame.{frame, array_frame}
 use Rattle.mes_json.specs.Reader.{opens, state_view, AfterValue, Fits, EndsWhole}
 use Rattle.mes_json.specs.Tokens.{Token, tokens}
 use Rattle.mes_json.specs.Cursor.{tokens_held}
+use Rattle.mes_json.specs.Tape.{HasSpan}
 use Rattle.mes_json.specs.declared.nesting.Open.{Open}
 use Rattle.mes_json.specs.declared.at.At as at
 use Rattle.mes_json.specs.declared.reader.Reader.{Reader}
@@ -38,3 +41,9 @@ tape_found r whole found tape here h held = by (subst (λ (b : Bool). EndsWhole 
     by : EndsWhole true found r → Some tape ≡ option_map tokens found
     by (t, finds, is, fits) =
         ap (λ (x : List Token). Some x) (held ∙ tokens_spelled r.text.items r.nodes.items t fits.placed is) ∙ ap (option_map tokens) (sym finds)
+
+pub tape_spans : (r : Reader) (whole : Bool) (found : Option Tree) → whole ≡ true → EndsWhole whole found r → AllByRecursion (HasSpan r.text.items) r.nodes.items
+tape_spans r whole found here h = by (subst (λ (b : Bool). EndsWhole b found r) here h)
+  where
+    by : EndsWhole true found r → AllByRecursion (HasSpan r.text.items) r.nodes.items
+    by (t, finds, is, fits) = fits.spans

@@ -1,5 +1,6 @@
 -- How long the arrays and the objects on a tape are, as their first nodes tell it. Private clauses alone cite it.
-use Rattle.std.specs.Prelude.{◌≡◌, ◌≢◌, ℕ, zero, suc, ◌-◌, ◌≤◌, List, [], ◌∷◌, ◌++◌, length, drop, reverse, Option, Some, None}
+use Rattle.std.specs.Prelude.{◌≡◌, ℕ, zero, suc, ◌≤◌, List, [], ◌∷◌, ◌++◌, length, drop, Option, Some, None}
+use Rattle.mes_json.specs.Tokens.{Token}
 use Rattle.mes_json.specs.Cursor.{tokens_held}
 use Rattle.mes_json.specs.Passing.{behind}
 use Rattle.mes_json.specs.declared.tape.Node.{Node}
@@ -34,22 +35,56 @@ abbrev pub TellLengths : List Node → Type 0
 TellLengths [] = Unit {0}
 TellLengths (x ∷ xs) = TellsTruth x xs × TellLengths xs
 
--- how many nodes stand behind each end whose array or object begins before these nodes, the first end first
-abbrev pub open_ends : List Node → List ℕ
-open_ends [] = []
-open_ends (Null ∷ xs) = open_ends xs
-open_ends (Bool x ∷ xs) = open_ends xs
-open_ends (Number from to ∷ xs) = open_ends xs
-open_ends (Text from to ∷ xs) = open_ends xs
-open_ends (Name from to ∷ xs) = open_ends xs
-open_ends (list n ∷ xs) = drop 1 (open_ends xs)
-open_ends (Map n ∷ xs) = drop 1 (open_ends xs)
-open_ends (End ∷ xs) = length xs ∷ open_ends xs
+-- the node, where it tells no length
+abbrev pub untold : Node → Node
+untold Null = Null
+untold (Bool x) = Bool x
+untold (Number from to) = Number from to
+untold (Text from to) = Text from to
+untold (Name from to) = Name from to
+untold (list n) = list 0
+untold (Map n) = Map 0
+untold End = End
 
--- the first ends are these, the nearest last
-abbrev pub AreOpenEnds : List ℕ → List ℕ → Type 0
-AreOpenEnds ends found = (rest : List ℕ) × (found ≡ reverse ends ++ rest)
+-- the node, where it tells this length
+abbrev pub telling : ℕ → Node → Node
+telling n Null = Null
+telling n (Bool x) = Bool x
+telling n (Number from to) = Number from to
+telling n (Text from to) = Text from to
+telling n (Name from to) = Name from to
+telling n (list m) = list n
+telling n (Map m) = Map n
+telling n End = End
 
--- where it is not 0, so many of these nodes are up to the first of those ends
-abbrev pub IsRestOf : ℕ → ℕ → List ℕ → Type 0
-IsRestOf n many found = n ≢ 0 → (end : ℕ) × (rest : List ℕ) × (found ≡ end ∷ rest) × (n ≡ many - end)
+-- the node begins and ends no array and no object
+abbrev pub IsLeaf : Node → Type 0
+IsLeaf Null = Unit {0}
+IsLeaf (Bool x) = Unit {0}
+IsLeaf (Number from to) = Unit {0}
+IsLeaf (Text from to) = Unit {0}
+IsLeaf (Name from to) = Unit {0}
+IsLeaf (list n) = ⊥
+IsLeaf (Map n) = ⊥
+IsLeaf End = ⊥
+
+-- what these nodes tell is so whatever stands behind them, and counting what is open passes over them
+pub record IsWhole (xs : List Node) : Type 0 where
+  pub tells : (ys : List Node) → TellLengths ys → TellLengths (xs ++ ys)
+  pub passes : (texts : List ℕ) (n : ℕ) (ts : List Token) → behind (suc n) (tokens_held texts xs ++ ts) ≡ behind (suc n) ts
+
+-- the array or object that begins in this place is open, and tells no length yet; so much is known of the nodes before it
+pub record IsBegun (place : ℕ) (Known : List Node → Type 0) (xs : List Node) : Type 0 where
+  pub outer : List Node
+  pub first : Node
+  pub inner : List Node
+  pub is : xs ≡ outer ++ first ∷ inner
+  pub begins : place ≡ length outer
+  pub unknown : told first ≡ None
+  pub whole : IsWhole inner
+  pub before : Known outer
+
+-- in these places begin arrays and objects that are open, the innermost first; what all nodes tell is so, whatever stands behind them
+abbrev pub AreBegun : List ℕ → List Node → Type 0
+AreBegun [] xs = (ys : List Node) → TellLengths ys → TellLengths (xs ++ ys)
+AreBegun (place ∷ places) xs = IsBegun place (AreBegun places) xs

@@ -6,6 +6,7 @@ pub mod Machine
 pub mod Refusal
 pub mod Canonical
 pub mod View
+pub mod Texts
 pub mod Tape
 pub mod EscapeView
 pub mod Reader
@@ -19,5 +20,6 @@ pub mod Cursor
 pub mod ValueKinds
 pub mod Passing
 pub mod Lengths
+pub mod Nodes
 pub mod Spell
 pub mod TextForm

@@ -1,6 +1,6 @@
 -- What the reader stands for: a state of the machine. Private clauses alone cite it.
-use Rattle.std.specs.Prelude.{◌≡◌, ◌≢◌, ℕ, ◌-◌, ◌<◌, ◌≤◌, ◌⊎◌, Bool, true, false, List, [], ◌∷◌, ◌++◌, length, take, drop, Option, Some, None, Result, Ok, Err, slice_get}
-use Rattle.mes_fixed.specs.Automaton.{nought, digit, number_next}
+use Rattle.std.specs.Prelude.{◌≡◌, ◌≢◌, ℕ, ◌-◌, ◌<◌, ◌≤◌, ◌⊎◌, Bool, true, false, List, [], ◌∷◌, ◌++◌, length, take, drop, Option, Some, None, option_and_then, Result, Ok, Err, slice_get}
+use Rattle.mes_fixed.specs.Automaton.{nought, digit, letter_of, number_next}
 use Rattle.mes_fixed.specs.declared.automaton.NumberState.{NumberState}
 use Rattle.mes_json.specs.Tree.{Tree, Members}
 use Rattle.mes_json.specs.Tree.Tree.{null, boolean}
@@ -227,6 +227,11 @@ StandAlone q = LeadsTo q m.Mid.between
 abbrev pub IsDigit : ℕ → Type 0
 IsDigit c = (48 ≤ c) × (c ≤ 57)
 
+-- the part of a number that the bytes lead to from this one, where they all go on with it
+abbrev pub part_behind : NumberState → List ℕ → Option NumberState
+part_behind x [] = Some x
+part_behind x (c ∷ q) = option_and_then (λ next. part_behind next q) (number_next x (letter_of c))
+
 -- white space
 abbrev pub IsBlank : ℕ → Type 0
 IsBlank c = (c ≡ 0x20) ⊎ ((c ≡ 0x09) ⊎ ((c ≡ 0x0A) ⊎ (c ≡ 0x0D)))
@@ -242,6 +247,10 @@ pub record Puts (old : Reader) (nesting : List Open) (x : node.Node) (place : at
   pub text : new.text.items ≡ old.text.items
   pub nesting_is : new.nesting.items ≡ nesting
   pub start : new.start ≡ old.start
+
+-- the reader behind a value that is one more node
+abbrev pub with_value : node.Node → Reader → Reader
+with_value x r = record r { at = at.TheVariants.After; nodes = record { items = r.nodes.items ++ x ∷ []; room = r.nodes.room } }
 
 -- nothing has changed but, perhaps, the room
 pub record Stays (old new : Reader) : Type 0 where

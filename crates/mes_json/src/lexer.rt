@@ -12,13 +12,13 @@ ghost use Rattle.mes_json.specs.Lexer.{HasLexed, HasNoMemory, IsOutOfMemory, IsL
 ghost use Rattle.mes_json.specs.declared.fault.ReadFault.TheVariants.{NoMemory as no_memory};
 
 use crate::fault::{ReadFault, TextFault, Why};
-use crate::lengths::Ends;
 use crate::limits::NESTING_LIMIT;
 use crate::memory::{NoMemory, NoMemoryAt};
 use crate::reader::Reader;
 use crate::run::RunStop;
 use crate::stop::Stop;
 use crate::tape::{Node, Tape};
+use crate::texts::Texts;
 use crate::value::Json;
 use std::alloc::Global;
 use std::marker::Model;
@@ -42,8 +42,6 @@ pub struct Lexer {
     /// How many bytes were taken before a fault, as far as a u64 counts.
     count: u64,
     state: LexerState,
-    /// Room that is used when a tape is told how long its arrays and objects are.
-    ends: Ends,
 }
 
 // Not inlined, so that taking a byte makes no room for what is let go here.
@@ -67,7 +65,7 @@ impl LexerState {
 
 impl LexerState {
     /// The tape of the value that the bytes spell, of which there were so many, or their fault. After it the state is of no use.
-    fn take(&mut self, alloc: Global, count: u64, ends: &mut Ends) -> Result<Tape, ReadFault>
+    fn take(&mut self, alloc: Global, count: u64) -> Result<Tape, ReadFault>
         requires { IsPossible (count, self.old) }
         ensures read { (p : List ℕ) → StandsFor count self.old p → IfOk result (λ tape. (t : Tree) × IsText NESTING_LIMIT p t × (tape ≡ tokens t)) }
         ensures only { (p : List ℕ) → StandsFor count self.old p → (t : Tree) → IsText NESTING_LIMIT p t
@@ -77,7 +75,7 @@ impl LexerState {
         ensures memory { HasNoMemory self.old → result ≡ Err ReadFault.NoMemory }
     {
         match self {
-            LexerState::Reading(reader) => match reader.take_tape(alloc, ends)? {
+            LexerState::Reading(reader) => match reader.take_tape(alloc)? {
                 Some(tape) => Ok(tape),
                 None => Err(ReadFault::Text(TextFault {
                     byte: count,
@@ -90,7 +88,7 @@ impl LexerState {
     }
 
     /// The state of a lexer of no byte, in memory that is there. A reader that is there serves again where it stands.
-    fn restart(&mut self, alloc: Global, texts: Vec<u8>, nodes: Vec<Node>)
+    fn restart(&mut self, alloc: Global, texts: Texts, nodes: Vec<Node>)
         requires texts { texts.items ≡ [] }
         requires nodes { nodes.items ≡ [] }
         ensures stands { StandsFor 0 self.new [] }
@@ -147,7 +145,6 @@ impl Lexer {
             alloc,
             count: 0,
             state: LexerState::Reading(reader),
-            ends: Ends::new(),
         }
     }
 
@@ -281,8 +278,9 @@ impl Lexer {
         ensures memory { IsOutOfMemory self.new → ⊥ }
     {
         let alloc = self.alloc;
-        let tape = self.state.take(alloc, self.count, &mut self.ends);
-        self.state.restart(alloc, Vec::new(alloc), Vec::new(alloc));
+        let tape = self.state.take(alloc, self.count);
+        self.state
+            .restart(alloc, Texts::new(alloc), Vec::new(alloc));
         self.count = 0;
         tape
     }

@@ -8,7 +8,7 @@ use crate::at::{At, Purpose};
 use crate::limits::NESTING_LIMIT;
 use crate::nesting::Open;
 use crate::reader::Reader;
-use crate::tape::{Node, put_node};
+use crate::tape::Node;
 use crate::utf8::Mid;
 
 impl Reader {
@@ -47,7 +47,7 @@ impl Reader {
         }
     }
 
-    /// Takes a string, or the beginning of an object with its first name.
+    /// Takes a string, the beginning of an object with its first name, or a number.
     #[inline(always)]
     fn take_value(&mut self, bytes: &[u8], from: usize) -> usize
         requires at { self.old.at ≡ At.Value }
@@ -68,6 +68,7 @@ impl Reader {
                     from
                 }
             }
+            b'-' | b'0'..=b'9' => self.take_number(bytes, from),
             _ => from,
         }
     }
@@ -89,7 +90,7 @@ impl Reader {
         }
     }
 
-    /// Takes what stands behind a value, by what is open.
+    /// Takes what stands behind a value: a comma with the name that may follow it, or the end of what is open.
     #[inline(always)]
     fn take_after(&mut self, bytes: &[u8], from: usize) -> usize
         requires at { self.old.at ≡ At.After }
@@ -98,50 +99,36 @@ impl Reader {
         requires reached { Reached self.old }
         ensures { RunsTo self.old bytes.now from result self.new }
     {
-        match self.innermost() {
-            Some(Open::Object) => self.take_after_member(bytes, from),
-            Some(Open::Array) => self.take_after_item(bytes, from),
-            None => from,
+        if !self.go_behind(bytes[from]) {
+            return from;
+        }
+        match self.at {
+            At::Name => self.take_name(bytes, from + 1),
+            _ => from + 1,
         }
     }
 
-    /// Takes a comma and the name behind it, or the end of the object.
+    /// Takes the byte behind a value, where it is a comma, or the end of what is open and there is memory for it.
     #[inline(always)]
-    fn take_after_member(&mut self, bytes: &[u8], from: usize) -> usize
+    fn go_behind(&mut self, byte: u8) -> bool
         requires at { self.old.at ≡ At.After }
-        requires open { innermost self.old.nesting.items ≡ Some Open.Object }
-        requires inside { from < length bytes.now }
         requires fits { Fits self.old }
-        requires reached { Reached self.old }
-        ensures { RunsTo self.old bytes.now from result self.new }
+        ensures gives { result ≡ true → step NESTING_LIMIT (state_view self.old) byte ≡ Some (state_view self.new) }
+        ensures fits { result ≡ true → Fits self.new }
+        ensures stays { result ≡ false → Stays self.old self.new }
     {
-        match bytes[from] {
-            b',' => {
+        match (self.innermost(), byte) {
+            (Some(Open::Object), b',') => {
                 self.expect_name();
-                self.take_name(bytes, from + 1)
+                true
             }
-            b'}' => { if self.close_object() { from + 1 } else { from } }
-            _ => from,
-        }
-    }
-
-    /// Takes a comma, or the end of the array.
-    #[inline(always)]
-    fn take_after_item(&mut self, bytes: &[u8], from: usize) -> usize
-        requires at { self.old.at ≡ At.After }
-        requires open { innermost self.old.nesting.items ≡ Some Open.Array }
-        requires inside { from < length bytes.now }
-        requires fits { Fits self.old }
-        requires reached { Reached self.old }
-        ensures { RunsTo self.old bytes.now from result self.new }
-    {
-        match bytes[from] {
-            b',' => {
+            (Some(Open::Object), b'}') => self.close_object(),
+            (Some(Open::Array), b',') => {
                 self.expect_item();
-                from + 1
+                true
             }
-            b']' => { if self.close_array() { from + 1 } else { from } }
-            _ => from,
+            (Some(Open::Array), b']') => self.close_array(),
+            _ => false,
         }
     }
 }
@@ -221,7 +208,7 @@ impl Reader {
         if self.nesting.is_full() {
             return false;
         }
-        if let Err(_) = put_node(&mut self.nodes, Node::Map { length: 0 }) {
+        if let Err(_) = self.nodes.put(Node::Map { length: 0 }) {
             return false;
         }
         self.nesting.push(Open::Object);
@@ -262,7 +249,7 @@ impl Reader {
         ensures puts { result ≡ true → Puts self.old (outer self.old.nesting.items) Node.End At.After self.new }
         ensures stays { result ≡ false → Stays self.old self.new }
     {
-        if let Err(_) = put_node(&mut self.nodes, Node::End) {
+        if let Err(_) = self.nodes.put(Node::End) {
             return false;
         }
         self.nesting.pop();

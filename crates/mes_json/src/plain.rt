@@ -1,5 +1,5 @@
 //! The plain characters of a string.
-ghost use Rattle.std.specs.Prelude.{◌≡◌, ◌↔◌, ◌+◌, ◌++◌, ◌<◌, ◌≤◌, ◌⊎◌, IsTrue, length, take, drop, slice_index};
+ghost use Rattle.std.specs.Prelude.{◌≡◌, ◌↔◌, ◌+◌, ◌<◌, ◌≤◌, IsTrue, length, take, drop, slice_index};
 ghost use Rattle.std.specs.List.{AllByRecursion};
 ghost use Rattle.mes_json.specs.Reader.{IsPlain};
 
@@ -66,24 +66,4 @@ fn first_in_block(bytes: &[u8], place: usize) -> usize
     } else {
         marks.trailing_zeros() as usize
     }
-}
-
-/// Appends so many bytes of a slice, or none where that growth is refused memory: how many. The few of most texts go as a whole
-/// block, of which the rest is let go again: a copy of a fixed length calls nothing.
-#[inline(always)]
-pub(crate) fn append_front(text: &mut Vec<u8>, bytes: &[u8], count: usize) -> usize
-    requires { count ≤ length bytes.now }
-    ensures text { text.new.items ≡ text.old.items ++ take result bytes.now }
-    ensures all { (result ≡ count) ⊎ (result ≡ 0) }
-{
-    if count <= BLOCK && BLOCK <= bytes.len() {
-        let end = text.len() + count;
-        if let Err(_) = text.extend_from_slice(&bytes[..BLOCK]) {
-            return 0;
-        }
-        text.truncate(end);
-    } else if let Err(_) = text.extend_from_slice(&bytes[..count]) {
-        return 0;
-    }
-    count
 }

@@ -3,6 +3,7 @@ ghost use Rattle.std.specs.Prelude.{◌≡◌, ◌+◌, ◌<◌, ◌≤◌, [], 
 ghost use Rattle.mes_json.specs.declared.stop.Stop.TheVariants.{NoMemory as no_memory};
 ghost use Rattle.mes_json.specs.Machine.{start, finish};
 ghost use Rattle.mes_json.specs.Tokens.{tokens};
+ghost use Rattle.mes_json.specs.Lengths.{untold};
 ghost use Rattle.mes_json.specs.Reader.{Fits, Reached, EndsWhole, Gives, RunsTo, Enters, Puts, Keeps, Stays, Begins, innermost, outer, string_node, behind_string, state_view};
 
 use crate::at::{At, Purpose};
@@ -12,13 +13,13 @@ use crate::digits::{digit_run, keeps_on};
 use crate::escape::{Escape, Move, whole_escape};
 use crate::fault::Why;
 use crate::kind::Kind;
-use crate::lengths::Ends;
 use crate::limits::NESTING_LIMIT;
 use crate::memory::NoMemory;
 use crate::nesting::Open;
-use crate::plain::append_front;
+use crate::nodes::Nodes;
 use crate::stop::Stop;
-use crate::tape::{Node, Tape, put_node, text_span};
+use crate::tape::{Node, Tape, text_span};
+use crate::texts::Texts;
 use crate::utf8::Mid;
 use crate::word::{Said, Word};
 use arrayvec::ArrayVec;
@@ -33,10 +34,10 @@ pub(crate) struct Reader {
     /// What is open, the innermost last.
     pub(crate) nesting: ArrayVec<Open, NESTING_LIMIT, Global>,
     /// Where the text of the string or the number that is read begins.
-    start: usize,
+    pub(crate) start: usize,
     /// The texts of the strings and the numbers, one behind the other.
-    text: Vec<u8>,
-    pub(crate) nodes: Vec<Node>,
+    pub(crate) text: Texts,
+    pub(crate) nodes: Nodes,
 }
 
 impl Reader {
@@ -45,11 +46,11 @@ impl Reader {
         ensures fits { Fits result }
         ensures start { state_view result ≡ start }
     {
-        Reader::within(alloc, Vec::new(alloc), Vec::new(alloc))
+        Reader::within(alloc, Texts::new(alloc), Vec::new(alloc))
     }
 
     /// The same, in memory that is there.
-    pub(crate) fn within(alloc: Global, text: Vec<u8>, nodes: Vec<Node>) -> Reader
+    pub(crate) fn within(alloc: Global, text: Texts, nodes: Vec<Node>) -> Reader
         requires text { text.items ≡ [] }
         requires nodes { nodes.items ≡ [] }
         ensures fits { Fits result }
@@ -60,7 +61,7 @@ impl Reader {
             nesting: ArrayVec::new_in(alloc),
             start: 0,
             text,
-            nodes,
+            nodes: Nodes::within(nodes),
         }
     }
 
@@ -116,7 +117,7 @@ impl Reader {
             },
             At::Digits(part) if keeps_on(part) => {
                 let rest = &bytes[from..];
-                from + append_front(&mut self.text, rest, digit_run(rest))
+                from + self.text.append_front(rest, digit_run(rest))
             }
             At::Digits(_) | At::Literal(_) => from,
             At::Value | At::FirstItem | At::FirstName | At::Name | At::Colon | At::After => {
@@ -158,7 +159,7 @@ impl Reader {
         ensures at { self.new.at ≡ At.Quoted purpose Mid.Between }
     {
         let rest = &bytes[from..];
-        from + append_front(&mut self.text, rest, character_run(rest))
+        from + self.text.append_front(rest, character_run(rest))
     }
 
     /// Takes the quotation mark at this place, which ends the string, and the colon behind a name.
@@ -260,20 +261,15 @@ impl Reader {
     }
 
     /// The tape of what was read, where that is a whole value. After it the reader holds nothing of use.
-    pub(crate) fn take_tape(
-        &mut self,
-        alloc: Global,
-        ends: &mut Ends,
-    ) -> Result<Option<Tape>, NoMemory>
+    pub(crate) fn take_tape(&mut self, alloc: Global) -> Result<Option<Tape>, NoMemory>
         requires fits { Fits self.old }
         requires reached { Reached self.old }
         ensures { IfOk result (λ tape. tape ≡ option_map tokens (finish (state_view self.old))) }
     {
         if self.ends()? {
-            let text = mem::replace(&mut self.text, Vec::new(alloc));
-            let nodes = mem::replace(&mut self.nodes, Vec::new(alloc));
-            let tape = Tape::new(text, nodes, ends);
-            Ok(Some(tape))
+            let text = mem::replace(&mut self.text, Texts::new(alloc));
+            let nodes = self.nodes.take(alloc);
+            Ok(Some(Tape::new(text, nodes)))
         } else {
             Ok(None)
         }
@@ -285,11 +281,11 @@ impl Reader {
         requires reached { Reached self }
         ensures { IfOk result (λ tape. tape ≡ option_map tokens (finish (state_view self))) }
     {
-        self.take_tape(alloc, &mut Ends::new())
+        self.take_tape(alloc)
     }
 
     /// Begins again, in memory that is there.
-    pub(crate) fn restart(&mut self, text: Vec<u8>, nodes: Vec<Node>)
+    pub(crate) fn restart(&mut self, text: Texts, nodes: Vec<Node>)
         requires text { text.items ≡ [] }
         requires nodes { nodes.items ≡ [] }
         ensures fits { Fits self.new }
@@ -299,7 +295,7 @@ impl Reader {
         self.nesting.clear();
         self.start = 0;
         self.text = text;
-        self.nodes = nodes;
+        self.nodes.restart(nodes);
     }
 
     /// Whether the bytes may end here. A number ends with them.
@@ -550,6 +546,7 @@ impl Reader {
     /// An object or an array begins.
     #[inline(always)]
     fn enter(&mut self, open_one: Open, node: Node, at: At) -> Result<(), Stop>
+        requires { untold node ≡ node }
         ensures { Enters result self.old open_one node at self.new }
     {
         if self.nesting.is_full() {
@@ -601,11 +598,11 @@ impl Reader {
         let (from, to) = text_span(self.start, self.text.len())?;
         match purpose {
             Purpose::Name => {
-                put_node(&mut self.nodes, Node::Name { from, to })?;
+                self.nodes.put(Node::Name { from, to })?;
                 self.at = At::Colon;
             }
             Purpose::Value => {
-                put_node(&mut self.nodes, Node::Text { from, to })?;
+                self.nodes.put(Node::Text { from, to })?;
                 self.at = At::After;
             }
         }
@@ -622,12 +619,13 @@ impl Reader {
     }
 
     /// The number that is read ends.
-    fn end_number(&mut self) -> Result<(), NoMemory>
+    pub(crate) fn end_number(&mut self) -> Result<(), NoMemory>
         requires { self.old.start ≤ length self.old.text.items }
         ensures ok { OnOk result (Puts self.old self.old.nesting.items (Node.Number self.old.start (length self.old.text.items)) At.After self.new) }
+        ensures err { OnErr result (Stays self.old self.new) }
     {
         let (from, to) = text_span(self.start, self.text.len())?;
-        put_node(&mut self.nodes, Node::Number { from, to })?;
+        self.nodes.put(Node::Number { from, to })?;
         self.at = At::After;
         Ok(())
     }
@@ -668,10 +666,11 @@ impl Reader {
     /// The next node.
     #[inline(always)]
     fn put(&mut self, node: Node, at: At) -> Result<(), Stop>
+        requires { untold node ≡ node }
         ensures ok { OnOk result (Puts self.old self.old.nesting.items node at self.new) }
         ensures err { IfErr result (λ e. e ≡ no_memory) }
     {
-        put_node(&mut self.nodes, node)?;
+        self.nodes.put(node)?;
         self.at = at;
         Ok(())
     }

@@ -1,15 +1,16 @@
 //! The tape: a JSON value as one flat list of nodes over one buffer of texts.
-ghost use Rattle.std.specs.Prelude.{◌≡◌, ◌*◌, ◌<◌, ◌≤◌, [], ◌∷◌, ◌++◌, vec_len, vec_capacity, IfOk, IfErr, OnOk, OnErr};
+ghost use Rattle.std.specs.Prelude.{◌≡◌, ◌*◌, ◌<◌, ◌≤◌, [], vec_capacity, IfOk, IfErr};
 ghost use Rattle.std.specs.List.{AllByRecursion};
 ghost use Rattle.mes_json.specs.Tape.{span, IsSpan, HasSpan};
 ghost use Rattle.mes_json.specs.Cursor.{tokens_held};
+ghost use Rattle.mes_json.specs.Lengths.{TellLengths};
 
 mod spell;
 
 use crate::cursor::Element;
-use crate::lengths::{Ends, tell_lengths};
 use crate::limits::{ROOM_KEPT, TEXTS_MOST};
 use crate::memory::NoMemory;
+use crate::texts::Texts;
 use std::alloc::Global;
 use std::marker::Model;
 use std::{mem, str};
@@ -44,7 +45,7 @@ const _: () = prove!(NODE_SIZE == 12);
 #[derive(Drop)]
 pub struct Tape {
     /// The texts of the strings and the numbers, one behind the other.
-    texts: Vec<u8>,
+    texts: Texts,
     nodes: Vec<Node>,
 }
 
@@ -67,12 +68,12 @@ impl Model for Tape {
 }
 
 impl Tape {
-    /// The tape of these nodes, told how long its arrays and objects are.
-    pub(crate) fn new(texts: Vec<u8>, mut nodes: Vec<Node>, ends: &mut Ends) -> Tape
-        requires { AllByRecursion (HasSpan texts.items) nodes.items }
+    /// The tape of these nodes.
+    pub(crate) fn new(texts: Texts, nodes: Vec<Node>) -> Tape
+        requires spans { AllByRecursion (HasSpan texts.items) nodes.items }
+        requires told { TellLengths nodes.items }
         ensures { result ≡ tokens_held texts.items nodes.items }
     {
-        tell_lengths(&mut nodes, ends);
         Tape { texts, nodes }
     }
 
@@ -80,24 +81,21 @@ impl Tape {
     pub fn root(&self) -> Element<'_>
         ensures { result ≡ self.now }
     {
-        Element::new(&self.texts, &self.nodes)
+        Element::new(self.texts.as_slice(), &self.nodes)
     }
 }
 
 impl Tape {
     /// The memory of the tape, emptied; of each vector that has room for more than `ROOM_KEPT` bytes it is given back. Takes no memory.
-    pub(crate) fn into_room(self, alloc: Global) -> (Vec<u8>, Vec<Node>)
+    pub(crate) fn into_room(self, alloc: Global) -> (Texts, Vec<Node>)
         ensures texts { result.0.items ≡ [] }
         ensures nodes { result.1.items ≡ [] }
-        ensures texts_room { vec_capacity result.0 ≤ ROOM_KEPT }
+        ensures texts_room { result.0.room ≤ ROOM_KEPT }
         ensures nodes_room { vec_capacity result.1 * NODE_SIZE ≤ ROOM_KEPT }
     {
         let Tape { texts, nodes } = self;
         let most = ROOM_KEPT / NODE_SIZE;
-        (
-            emptied(alloc, texts, ROOM_KEPT),
-            emptied(alloc, nodes, most),
-        )
+        (texts.emptied(alloc, ROOM_KEPT), emptied(alloc, nodes, most))
     }
 }
 
@@ -133,29 +131,6 @@ pub(crate) fn text_span(from: usize, to: usize) -> Result<(u32, u32), NoMemory>
 {
     let to = text_place(to)?;
     Ok((from as u32, to))
-}
-
-/// Puts a node behind the others. Only the growth is out of line, so a node costs a few instructions wherever one is put.
-#[inline(always)]
-pub(crate) fn put_node(nodes: &mut Vec<Node>, node: Node) -> Result<(), NoMemory>
-    ensures ok { OnOk result (nodes.new.items ≡ nodes.old.items ++ node ∷ []) }
-    ensures err { OnErr result (nodes.new.items ≡ nodes.old.items) }
-{
-    if nodes.len() >= nodes.capacity() {
-        make_room(nodes)?;
-    }
-    nodes.push_reserved(node);
-    Ok(())
-}
-
-/// Makes room for one more node.
-#[cold]
-#[inline(never)]
-fn make_room(nodes: &mut Vec<Node>) -> Result<(), NoMemory>
-    ensures items { nodes.new.items ≡ nodes.old.items }
-    ensures room { OnOk result (vec_len nodes.new < vec_capacity nodes.new) }
-{
-    Ok(nodes.reserve(1)?)
 }
 
 /// The text of a span.

@@ -3,13 +3,15 @@ ghost use Rattle.std.specs.Prelude.{◌≡◌, ℕ, List, [], ◌∷◌, ◌++�
 ghost use Rattle.mes_json.specs.Tokens.{tokens, tokens_of_items, tokens_of_members};
 ghost use Rattle.mes_json.specs.Tape.{span, IsSpan, HasSpan};
 ghost use Rattle.mes_json.specs.Cursor.{token_of};
+ghost use Rattle.mes_json.specs.Lengths.{untold};
 ghost use Rattle.mes_json.specs.Spell.{HasNoText, text_token, IsTextOf};
 ghost use Rattle.mes_json.specs.View.{view, items_view, members_view};
 
-use crate::lengths::Ends;
 use crate::memory::NoMemory;
+use crate::nodes::Nodes;
 use crate::tape::{Node, Tape, text_place};
 use crate::text::Text;
+use crate::texts::Texts;
 use crate::value::Json;
 use std::alloc::Global;
 use std::marker::Model;
@@ -28,6 +30,7 @@ enum Form {
 impl Form {
     /// The node of the text of a span.
     fn node(self, from: u32, to: u32) -> Node
+        ensures untold { untold result ≡ result }
         ensures token { (texts : List ℕ) → token_of texts result ≡ text_token self (span texts from to) }
         ensures span { (texts : List ℕ) → IsSpan texts from to → IsTextOf self (span texts from to) → HasSpan texts result }
     {
@@ -45,19 +48,19 @@ impl Tape {
         ensures { IfOk result (λ tape. tape ≡ tokens (view json.now)) }
     {
         let mut spelling = Spelling {
-            texts: Vec::new(alloc),
-            nodes: Vec::new(alloc),
+            texts: Texts::new(alloc),
+            nodes: Nodes::within(Vec::new(alloc)),
         };
         spelling.put_value(json)?;
-        Ok(spelling.into_tape())
+        Ok(spelling.into_tape(alloc))
     }
 }
 
 /// A tape that is laid. A contract sees it as its tokens.
 #[derive(Drop)]
 struct Spelling {
-    texts: Vec<u8>,
-    nodes: Vec<Node>,
+    texts: Texts,
+    nodes: Nodes,
 }
 
 impl Model for Spelling {
@@ -78,10 +81,11 @@ impl Model for Spelling {
 
 impl Spelling {
     /// The tape, whole.
-    fn into_tape(self) -> Tape
+    fn into_tape(mut self, alloc: Global) -> Tape
         ensures { result ≡ self }
     {
-        Tape::new(self.texts, self.nodes, &mut Ends::new())
+        let nodes = self.nodes.take(alloc);
+        Tape::new(self.texts, nodes)
     }
 
     #[cycle(spell)]
@@ -129,10 +133,11 @@ impl Spelling {
 
     /// One more node, which has no text.
     fn put(&mut self, node: Node) -> Result<(), NoMemory>
-        requires { HasNoText node }
+        requires text { HasNoText node }
+        requires untold { untold node ≡ node }
         ensures { OnOk result (self.new ≡ self.old ++ token_of [] node ∷ []) }
     {
-        self.nodes.push(node)?;
+        self.nodes.put(node)?;
         Ok(())
     }
 
@@ -144,7 +149,7 @@ impl Spelling {
         let from = text_place(self.texts.len())?;
         self.texts.extend_from_slice(text.as_bytes())?;
         let to = text_place(self.texts.len())?;
-        self.nodes.push(form.node(from, to))?;
+        self.nodes.put(form.node(from, to))?;
         Ok(())
     }
 }

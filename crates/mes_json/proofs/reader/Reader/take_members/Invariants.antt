@@ -1,4 +1,4 @@
-use Rattle.std.proofs.Common.{◌≡◌, ◌-◌, length}
+use Rattle.std.proofs.Common.{◌-◌, length}
 use Rattle.mes_json.specs.Reader.{RunsTo}
 use Rattle.mes_json.proofs.reader.Reader.take_members.Given as goal
 

@@ -1,0 +1,18 @@
+-- What contracts see of a buffer of texts. Private clauses alone cite it.
+use Rattle.std.specs.Prelude.{◌≡◌, ℕ, List, [], refl}
+use Rattle.std.specs.Coded.{Coded, code_by, coded×, coded_ℕ, coded_list}
+
+-- the bytes of the texts, and how many bytes of memory they have
+pub record Texts : Type 0 where
+  pub items : List ℕ
+  pub room : ℕ
+
+-- they are stored as the pair of both
+abbrev pub texts_code : Coded Texts
+texts_code =
+    code_by (List ℕ × ℕ) (coded× (coded_list coded_ℕ) coded_ℕ) (λ t. (t.items, t.room)) (λ p. record { items = p.0; room = p.1 }) (λ _. refl)
+
+-- no text, and no memory
+pub record IsNone (t : Texts) : Type 0 where
+  pub items : t.items ≡ []
+  pub room : t.room ≡ 0

@@ -1,0 +1,182 @@
+//! Nodes that are put one behind the other.
+ghost use Rattle.std.specs.Prelude.{◌≡◌, ℕ, ◌+◌, ◌-◌, ◌<◌, ◌≤◌, List, [], ◌∷◌, ◌++◌, None, length, OnOk, OnErr};
+ghost use Rattle.std.specs.List.{AllByRecursion};
+ghost use Rattle.mes_json.specs.Tape.{HasSpan};
+ghost use Rattle.mes_json.specs.Cursor.{tokens_held};
+ghost use Rattle.mes_json.specs.Lengths.{told, untold, IsLeaf, TellLengths};
+
+use crate::lengths::kept_length;
+use crate::limits::NESTING_LIMIT;
+use crate::memory::NoMemory;
+use crate::tape::Node;
+use arrayvec::ArrayVec;
+use std::alloc::Global;
+use std::marker::Model;
+use std::mem;
+
+/// The nodes of a value, one behind the other. Each array and each object among them tells how many nodes it has once its end is put.
+/// A contract sees the nodes without those lengths, and for how many there is memory.
+#[derive(Drop)]
+pub(crate) struct Nodes {
+    nodes: Vec<Node>,
+    /// Where the arrays and objects begin that are open, the innermost last. Of more than there is room for, the outer ones are let
+    /// go, and tell no length.
+    begins: ArrayVec<usize, NESTING_LIMIT>,
+}
+
+impl Model for Nodes {
+    ghost use Rattle.std.specs.Prelude.{map, reverse, vec_capacity};
+    ghost use Rattle.mes_json.specs.Nodes.{Nodes as nodes_seen};
+    ghost use Rattle.mes_json.specs.Lengths.{untold, AreBegun};
+
+    ghost Value = { nodes_seen };
+
+    ghost view = { λ n. record { items = map untold n.nodes.items; room = vec_capacity n.nodes } };
+
+    ghost invariant = { λ n. AreBegun (reverse n.begins.items) n.nodes.items };
+}
+
+impl Nodes {
+    /// No node, in memory that is there. Takes none.
+    pub(crate) fn within(nodes: Vec<Node>) -> Nodes
+        requires { nodes.items ≡ [] }
+        ensures { result.items ≡ [] }
+    {
+        Nodes {
+            nodes,
+            begins: ArrayVec::new(),
+        }
+    }
+
+    /// Begins again, in memory that is there.
+    pub(crate) fn restart(&mut self, nodes: Vec<Node>)
+        requires { nodes.items ≡ [] }
+        ensures { self.new.items ≡ [] }
+    {
+        self.nodes = nodes;
+        self.begins.clear();
+    }
+
+    /// The nodes, with their lengths. None is left.
+    pub(crate) fn take(&mut self, alloc: Global) -> Vec<Node>
+        ensures held { (texts : List ℕ) → tokens_held texts result.items ≡ tokens_held texts self.old.items }
+        ensures spans { (texts : List ℕ) → AllByRecursion (HasSpan texts) self.old.items → AllByRecursion (HasSpan texts) result.items }
+        ensures told { TellLengths result.items }
+        ensures left { self.new.items ≡ [] }
+    {
+        self.begins.clear();
+        mem::replace(&mut self.nodes, Vec::new(alloc))
+    }
+
+    /// Puts a node behind the others. Only the growth is out of line, so a node costs a few instructions wherever one is put.
+    #[inline(always)]
+    pub(crate) fn put(&mut self, node: Node) -> Result<(), NoMemory>
+        requires { untold node ≡ node }
+        ensures ok { OnOk result (self.new.items ≡ self.old.items ++ node ∷ []) }
+        ensures err { OnErr result (self.new.items ≡ self.old.items) }
+    {
+        if self.len() >= self.room() {
+            self.make_room(1)?;
+        }
+        self.put_reserved(node);
+        Ok(())
+    }
+
+    /// Puts two nodes behind the others, or none.
+    #[inline(always)]
+    pub(crate) fn put_both(&mut self, first: Node, second: Node) -> Result<(), NoMemory>
+        requires first { untold first ≡ first }
+        requires second { untold second ≡ second }
+        ensures ok { OnOk result (self.new.items ≡ self.old.items ++ first ∷ second ∷ []) }
+        ensures err { OnErr result (self.new.items ≡ self.old.items) }
+    {
+        if self.room() - self.len() < 2 {
+            self.make_room(2)?;
+        }
+        self.put_reserved(first);
+        self.put_reserved(second);
+        Ok(())
+    }
+
+    /// How many nodes there are.
+    #[inline(always)]
+    fn len(&self) -> usize
+        ensures count { result ≡ length self.now.items }
+        ensures room { result ≤ self.now.room }
+    {
+        self.nodes.len()
+    }
+
+    /// For how many there is memory.
+    #[inline(always)]
+    fn room(&self) -> usize
+        ensures { result ≡ self.now.room }
+    {
+        self.nodes.capacity()
+    }
+
+    /// Makes room for so many more nodes.
+    #[cold]
+    #[inline(never)]
+    fn make_room(&mut self, count: usize) -> Result<(), NoMemory>
+        ensures items { self.new.items ≡ self.old.items }
+        ensures room { OnOk result (length self.new.items + count ≤ self.new.room) }
+    {
+        Ok(self.nodes.reserve(count)?)
+    }
+
+    /// Puts a node behind the others, where there is room.
+    #[inline(always)]
+    fn put_reserved(&mut self, node: Node)
+        requires room { length self.old.items < self.old.room }
+        requires untold { untold node ≡ node }
+        ensures items { self.new.items ≡ self.old.items ++ node ∷ [] }
+        ensures room { self.new.room ≡ self.old.room }
+    {
+        match node {
+            Node::List { .. } | Node::Map { .. } => self.begin(node),
+            Node::End => self.end(),
+            _ => self.put_leaf(node),
+        }
+    }
+
+    /// Puts a node that begins and ends no array and no object.
+    #[inline(always)]
+    fn put_leaf(&mut self, node: Node)
+        requires room { length self.old.items < self.old.room }
+        requires leaf { IsLeaf node }
+        ensures items { self.new.items ≡ self.old.items ++ node ∷ [] }
+        ensures room { self.new.room ≡ self.old.room }
+    {
+        self.nodes.push_reserved(node);
+    }
+
+    /// An array or an object begins.
+    #[inline(always)]
+    fn begin(&mut self, node: Node)
+        requires room { length self.old.items < self.old.room }
+        requires unknown { told node ≡ None }
+        ensures items { self.new.items ≡ self.old.items ++ node ∷ [] }
+        ensures room { self.new.room ≡ self.old.room }
+    {
+        if self.begins.is_full() {
+            self.begins.clear();
+        }
+        self.begins.push(self.nodes.len());
+        self.nodes.push_reserved(node);
+    }
+
+    /// The innermost array or object ends, and tells how many nodes it has behind its first one.
+    #[inline(always)]
+    fn end(&mut self)
+        requires { length self.old.items < self.old.room }
+        ensures items { self.new.items ≡ self.old.items ++ Node.End ∷ [] }
+        ensures room { self.new.room ≡ self.old.room }
+    {
+        if let Some(begin) = self.begins.pop() {
+            let length = kept_length(self.nodes.len() - begin);
+            self.nodes[begin].tell(length);
+        }
+        self.nodes.push_reserved(Node::End);
+    }
+}
