@@ -7,5 +7,6 @@ pub mod Gathers
 pub mod Scaling
 pub mod Readings
 pub mod Options
+pub mod PlainNumbers
 pub mod Texts
 pub mod FixedTexts

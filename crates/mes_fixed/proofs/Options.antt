@@ -21,3 +21,7 @@ if_none_map (Some x) P Q f h = tt
 -- a test that is false refutes its fact
 pub refuted : (b : Bool) (P : Type 0) → (IsTrue b ↔ P) → b ≡ false → P → ⊥
 refuted b P h e p = let t = h.1 p in cc
+
+pub if_some_so : {X : Type 0} (o : Option X) (P Q : X → Type 0) → IfSome o P → ((x : X) → P x → Q x) → IfSome o Q
+if_some_so None P Q p f = tt
+if_some_so (Some x) P Q p f = f x p

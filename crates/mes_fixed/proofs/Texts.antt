@@ -17,6 +17,7 @@ use Rattle.mes_fixed.specs.Gathering.{made}
 use Rattle.mes_fixed.specs.Value.{HalfUp, Nearest, Reads, GivesUnits}
 use Rattle.mes_fixed.specs.Text.{fraction_text, text_of}
 use Rattle.mes_fixed.proofs.Letters.{digit_is_value}
+use Rattle.mes_fixed.proofs.PlainNumbers.{plain_gives}
 use Rattle.mes_fixed.proofs.DigitValues.{value_append, value_cons}
 use Rattle.mes_fixed.proofs.Scales.{shift_is, nearest_iff, one_half_up, power_none}
 
@@ -120,10 +121,6 @@ decimal_int q h = elim (eqb_tells q 0) [
     by_first [] n f = absurd (omega (arith, n.0))
     by_first (d ∷ ds) n f = let r = digit_from_value d n.1.0 in inr (omega (arith, f), r.1, n.1.1)
 
-frac_is : (ds : List ℕ) → IsNumeral 10 ds → IsFrac ds (46 ∷ ds)
-frac_is [] n = absurd (omega (arith, n.0))
-frac_is (d ∷ ds) n = (refl, n.1)
-
 whole_below : (places units : ℕ) → places ≤ 6 → units ≤ UNITS_LIMIT → units / 10 ^ places < 10 ^ (19 - places)
 whole_below places units high le =
     let all : 19 ≡ (19 - places) + places = omega arith in
@@ -144,38 +141,15 @@ text_short places units low high le =
 back_of : (places q r units : ℕ) (ds : List ℕ) → places ≤ 6 → q < 2 ^ 64 → length (decimal q) + 1 + places ≤ 24 → Fraction places r ds → units ≡ q * 10 ^ places + r → units ≤ UNITS_LIMIT → Reads (GivesUnits places) (decimal q ++ (46 ∷ ds)) units
 back_of places q r units ds high small room f is le =
     let short = f.short in
-    let len : length (decimal q ++ (46 ∷ ds)) ≡ length (decimal q) + suc (length ds) = length-append (decimal q) (46 ∷ ds) in
     let joined : digits_value 10 (decimal q ++ ds) ≡ q * 10 ^ length ds + digits_value 10 ds = value_append (decimal q) ds ∙ ap (λ (x : ℕ). x * 10 ^ length ds + digits_value 10 ds) (decimal_is_IsNumeral q small).1 in
-    let power : 10 ^ length ds * 10 ^ ((0 + places) - (length ds + 0)) ≡ 10 ^ places = sym (pow-add 10 (length ds) ((0 + places) - (length ds + 0))) ∙ ap (λ (i : ℕ). 10 ^ i) (omega arith) in
-    let rest : digits_value 10 ds * 10 ^ ((0 + places) - (length ds + 0)) ≡ r = ap (λ (i : ℕ). digits_value 10 ds * 10 ^ i) (omega arith) ∙ f.value in
-    let units_is : units ≡ digits_value 10 (decimal q ++ ds) * 10 ^ ((0 + places) - (length ds + 0)) =
+    let power : 10 ^ length ds * 10 ^ (places - length ds) ≡ 10 ^ places = sym (pow-add 10 (length ds) (places - length ds)) ∙ ap (λ (i : ℕ). 10 ^ i) (omega arith) in
+    let units_is : units ≡ digits_value 10 (decimal q ++ ds) * 10 ^ (places - length ds) =
     is
     ∙ ap (λ (x : ℕ). q * x + r) (sym power)
-    ∙ ap (λ (x : ℕ). q * (10 ^ length ds * 10 ^ ((0 + places) - (length ds + 0))) + x) (sym rest)
-    ∙ sym (spread q (10 ^ length ds) (digits_value 10 ds) (10 ^ ((0 + places) - (length ds + 0))))
-    ∙ ap (λ (x : ℕ). x * 10 ^ ((0 + places) - (length ds + 0))) (sym joined) in
-    let H : ℕ → Type 0 = λ w. HalfUp (digits_value 10 (decimal q ++ ds) * 10 ^ ((0 + places) - (length ds + 0))) w units in
-    let half : H (10 ^ ((length ds + 0) - (0 + places))) = subst H (sym (power_none ((length ds + 0) - (0 + places)) (omega arith))) (one_half_up _ units units_is) in
-    let N : ℤ → Type 0 = λ z. Nearest (digits_value 10 (decimal q ++ ds)) z units in
-    record {
-      short = omega (arith, len);
-      numeral = made false (decimal q) ds false [];
-      spells = record {
-        minus = [];
-        frac = 46 ∷ ds;
-        exp = [];
-        is = ap (λ (x : List ℕ). decimal q ++ x) (sym (append-nil (46 ∷ ds)));
-        is_minus = refl;
-        is_int = decimal_int q small;
-        is_frac = frac_is ds f.numeral;
-        is_exp = (refl, refl);
-      };
-      gives = record {
-        unsigned = λ e. absurd (cc);
-        rounds = subst N (sym (shift_is false 0 (length ds) places)) ((nearest_iff (digits_value 10 (decimal q ++ ds)) (0 + places) (length ds + 0) units).1 half);
-        fits = le;
-      };
-    }
+    ∙ ap (λ (x : ℕ). q * (10 ^ length ds * 10 ^ (places - length ds)) + x) (sym f.value)
+    ∙ sym (spread q (10 ^ length ds) (digits_value 10 ds) (10 ^ (places - length ds)))
+    ∙ ap (λ (x : ℕ). x * 10 ^ (places - length ds)) (sym joined) in
+    plain_gives places units (decimal q) ds high (decimal_int q small) f.numeral short (omega (arith, room, short)) units_is le
 
 pub text_back : (places units : ℕ) → 1 ≤ places → places ≤ 6 → units ≤ UNITS_LIMIT → Reads (GivesUnits places) (text_of places units) units
 text_back places units low high le =

@@ -7,6 +7,7 @@ ghost use Rattle.mes_fixed.specs.Value.{GivesUnits, LacksUnits, Reads, Refuses};
 use crate::decimal::Decimal;
 use crate::fault::NumFault;
 use crate::limits::UNITS_LIMIT;
+use crate::plain::plain_units;
 use arrayvec::ArrayString;
 use itoa::Buffer;
 use std::fmt;
@@ -84,6 +85,11 @@ impl<const P: u32> Fixed<P> {
         // `TooLong`: more than TEXT_LIMIT bytes; else `Shape`: no number; else `Range`.
         ensures fault { IfErr result (Refuses (LacksUnits P) text.now) }
     {
+        if let Some(units) = plain_units(text, P as usize) {
+            if let Some(fixed) = Self::of_units(units) {
+                return Ok(fixed);
+            }
+        }
         let decimal = Decimal::read(text)?;
         if decimal.is_below_zero() {
             return Err(NumFault::Range);

@@ -9,6 +9,7 @@ mod fault;
 mod fixed_point;
 mod laws;
 mod limits;
+mod plain;
 mod whole;
 
 pub use automaton::is_number;

@@ -5,6 +5,7 @@ ghost use Rattle.mes_fixed.specs.Value.{GivesWhole, LacksWhole, GivesSigned, Lac
 
 use crate::decimal::Decimal;
 use crate::fault::NumFault;
+use crate::plain::plain_whole;
 
 /// The whole number that `text` writes (RFC 8259 section 6). `-0` is 0.
 pub fn read_u64(text: &[u8]) -> Result<u64, NumFault>
@@ -14,6 +15,9 @@ pub fn read_u64(text: &[u8]) -> Result<u64, NumFault>
     // `TooLong`: more than TEXT_LIMIT bytes; else `Shape`: no number; else `Range`.
     ensures fault { IfErr result (Refuses LacksWhole text.now) }
 {
+    if let Some(value) = plain_whole(text) {
+        return Ok(value);
+    }
     let decimal = Decimal::read(text)?;
     if decimal.is_below_zero() {
         return Err(NumFault::Range);

@@ -1,4 +1,4 @@
-use Rattle.std.proofs.Common.{Err}
+use Rattle.std.proofs.Common.{Err, Ok}
 use Rattle.mes_fixed.specs.declared.fault.NumFault.TheVariants.{Range}
 use Rattle.mes_fixed.specs.Value.{GivesWhole, LacksWhole}
 use Rattle.mes_fixed.proofs.Options.{if_some_both, if_none_map, refuted}
@@ -33,3 +33,6 @@ returns-clause-fault c =
 
 pub returns-clause-only : goal.returns-clause-only
 returns-clause-only c = whole_only c.args.text.now c.ok_or.result (returns-clause-ok c) (returns-clause-fault c)
+
+pub returns-in-Some-clause-only : goal.returns-in-Some-clause-only
+returns-in-Some-clause-only c = whole_only c.args.text.now (Ok c.in-Some.value) c.in-Some.ensures tt

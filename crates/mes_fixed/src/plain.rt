@@ -1,0 +1,82 @@
+//! Numbers written plainly, as most are: digits, with a point and digits behind them or without, and neither a sign nor an exponent.
+//! Their value is taken as the digits are read. What is written otherwise is left to `Decimal`, which tells every fault.
+ghost use Rattle.std.specs.Prelude.{◌≡◌, ◌≤◌, ◌<◌, ◌^◌, length, slice_index, IsTrue, IfSome};
+ghost use Rattle.std.specs.Str.Parse.{AllDigits, digits_value_after};
+ghost use Rattle.mes_fixed.specs.declared.limits.TheConstants.{TEXT_LIMIT, UNITS_LIMIT};
+ghost use Rattle.mes_fixed.specs.Number.{IsInt};
+ghost use Rattle.mes_fixed.specs.Value.{GivesUnits, GivesWhole, Reads};
+
+use crate::digits::with_zeros;
+use crate::limits::TEXT_LIMIT;
+
+/// The units of 10^-`places` that a text of digits on both sides of a point writes, of which at most `places` stand behind it; `None` for
+/// any other text, and from 2^64 on.
+#[inline(always)]
+pub fn plain_units(text: &[u8], places: usize) -> Option<u64>
+    requires { places ≤ 6 }
+    ensures { IfSome result (λ units. units ≤ UNITS_LIMIT → Reads (GivesUnits places) text.now units) }
+{
+    if text.len() > TEXT_LIMIT {
+        return None;
+    }
+    let point = point_in(text)?;
+    let (whole, rest) = text.split_at(point);
+    let fraction = &rest[1..];
+    if !may_be_int(whole) || fraction.is_empty() || fraction.len() > places {
+        return None;
+    }
+    let value = with_digits(with_digits(0, whole)?, fraction)?;
+    with_zeros(value, places - fraction.len())
+}
+
+/// The number that a text of digits alone writes; `None` for any other text, and from 2^64 on.
+#[inline(always)]
+pub fn plain_whole(text: &[u8]) -> Option<u64>
+    ensures { IfSome result (λ value. Reads GivesWhole text.now value) }
+{
+    if text.len() > TEXT_LIMIT || !may_be_int(text) {
+        return None;
+    }
+    with_digits(0, text)
+}
+
+/// Where the first point of a text stands.
+#[inline(always)]
+fn point_in(text: &[u8]) -> Option<usize>
+    ensures { IfSome result (λ at. (at < length text.now) × (slice_index text.now at ≡ 46)) }
+{
+    for (at, byte) in text.iter().enumerate() {
+        if *byte == b'.' {
+            return Some(at);
+        }
+    }
+    None
+}
+
+/// Whether digits are an int (RFC 8259 section 6): some, and no zero before others.
+#[inline(always)]
+fn may_be_int(digits: &[u8]) -> bool
+    ensures { IsTrue result → AllDigits 10 digits.now → IsInt digits.now }
+{
+    match digits {
+        [] => false,
+        [b'0', rest @ ..] => rest.is_empty(),
+        _ => true,
+    }
+}
+
+/// The number that digits write behind those of `value`; `None` where another byte stands among them, and from 2^64 on.
+#[inline(always)]
+fn with_digits(value: u64, digits: &[u8]) -> Option<u64>
+    ensures digits { IfSome result (λ more. AllDigits 10 digits.now × (more ≡ digits_value_after 10 value digits.now)) }
+    ensures bound { IfSome result (λ more. more < 2 ^ 64) }
+{
+    let mut more = value;
+    for digit in digits {
+        if !digit.is_ascii_digit() {
+            return None;
+        }
+        more = more.checked_mul(10)?.checked_add(u64::from(*digit - b'0'))?;
+    }
+    Some(more)
+}
