@@ -4,6 +4,7 @@ pub mod OneReading
 pub mod OneState
 pub mod Chunks
 pub mod ChunkParts
+pub mod ChunkFraming
 pub mod ChunkRun
 pub mod ChunkBytes
 pub mod ChunkGoes

@@ -78,6 +78,16 @@ pub begun_of : (s : RecordState) (x r : List ℕ) → RecordStands s x r → Beg
 unfolding RecordStands
 begun_of s x r stands = begun_at s.place s.limit x r stands
 
+room_begun : (p : Place) (limit : ℕ) (x r : List ℕ) → PlaceStands p limit x r → 0 < room_at p → DataBegun x r (room_at p) limit
+room_begun (Size digits value) limit x r stands some = absurd (omega arith)
+room_begun (Data left) limit x r stands some = stands
+room_begun (Failed fault) limit x r stands some = absurd stands
+
+-- where there is room for data, so many bytes of them are to come
+pub begun_room : (s : RecordState) (x r : List ℕ) → RecordStands s x r → 0 < room_of s → DataBegun x r (room_of s) (limit_of s)
+unfolding RecordStands
+begun_room s x r stands some = room_begun s.place s.limit x r stands some
+
 no_fault_at : (p : Place) (limit : ℕ) (x r : List ℕ) → PlaceStands p limit x r → fault_at p ≡ None
 no_fault_at (Size digits value) limit x r stands = refl
 no_fault_at (Data left) limit x r stands = refl

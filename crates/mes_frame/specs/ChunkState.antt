@@ -1,8 +1,8 @@
 -- What a state of the reader of chunked bodies stands for.
-use Rattle.std.specs.Prelude.{◌≡◌, ℕ, ◌+◌, ◌<◌, ◌⊎◌, Bool, true, false, List, [], ◌∷◌, ◌++◌, length, Option, None, Some}
+use Rattle.std.specs.Prelude.{◌≡◌, ℕ, ◌+◌, ◌<◌, ◌≤◌, ◌⊎◌, Bool, true, false, List, [], ◌∷◌, ◌++◌, length, take, Option, None, Some}
 use Rattle.std.specs.Str.Parse.{digits_value}
 use Rattle.mes_frame.specs.Chunk.{Line, size_of, Chunk, IsChunk, chunk_bytes, trailers_bytes, IsChunked}
-use Rattle.mes_frame.specs.ChunkFront.{InSize, InExtension, AfterLine, InData, AfterData, InTrailer, AfterTrailer, AfterEnding, After}
+use Rattle.mes_frame.specs.ChunkFront.{InSize, InExtension, AfterLine, InData, AfterData, InTrailer, AfterTrailer, AfterEnding, After, IsOpen}
 use Rattle.mes_frame.specs.ChunkFaults.{PartShows, ChunkShows}
 use Rattle.mes_frame.specs.declared.chunk.Place.{Place}
 use Rattle.mes_frame.specs.declared.chunk.Place.TheVariants.{Size, Extension, LineEnd, Data, DataEnd, Trailer, TrailerEnd, End, Closed, Failed}
@@ -67,6 +67,15 @@ PlaceStands (Failed fault) x d = ⊥
 -- the state has taken w, which is open with the data `body`
 unfoldable pub ChunkStands : ChunkState → List ℕ → List ℕ → Type 0
 ChunkStands s w body = After (PlaceStands s.place) w body
+
+-- the state at a place
+abbrev pub state_at : Place → ChunkState
+state_at place = record { place = place }
+
+-- So many bytes of the framing were taken from the front of a piece, behind w with the data `body`. It goes on behind each.
+abbrev pub PassesFraming : ChunkState → List ℕ → List ℕ → List ℕ → ℕ → Type 0
+PassesFraming new w body piece count =
+    ChunkStands new (w ++ take count piece) body × ((n : ℕ) → n ≤ count → IsOpen (w ++ take n piece) body)
 
 -- the part and the byte b end a chunk with that data, or go on with it
 abbrev pub GoesOn : Place → List ℕ → List ℕ → Type 0

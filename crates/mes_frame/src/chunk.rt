@@ -4,10 +4,10 @@
 ghost use Rattle.std.specs.Prelude.{◌≡◌, ℕ, ◌+◌, ◌<◌, ◌≤◌, List, [], ◌++◌, length, take, IfSome};
 ghost use Rattle.std.specs.Char.{digit_value};
 ghost use Rattle.mes_frame.specs.ChunkFront.{IsOpen};
-ghost use Rattle.mes_frame.specs.ChunkState.{PlaceStands, PlaceSteps, ChunkStands, ChunkSteps, OutWith, end_at, end_of, room_at, room_of};
+ghost use Rattle.mes_frame.specs.ChunkState.{PlaceStands, PlaceSteps, ChunkStands, ChunkSteps, PassesFraming, OutWith, end_at, end_of, room_at, room_of, state_at};
 
 use crate::fault::FrameFault;
-use crate::limits::{CHUNK_LINE_LIMIT, TRAILERS_LIMIT};
+use crate::limits::{CHUNK_LINE_LIMIT, PLAIN_LINE_MOST, TRAILERS_LIMIT};
 
 /// What a byte was to the reader of chunked bodies.
 #[derive(Clone, Copy, Debug, PartialEq, Eq)]
@@ -78,6 +78,27 @@ impl ChunkState {
         out
     }
 
+    /// Takes at once what usually stands at the front of a piece before the data of the next chunk: the end of the chunk before, where
+    /// one has begun, and a line that is a short size alone. Answers how many bytes these are; where anything else stands there, 0.
+    #[inline(always)]
+    pub fn next_chunk(&mut self, piece: &[u8]) -> usize
+        // Behind w with the data `body`. Each front of them is open.
+        ensures passes { (w body : List ℕ) → ChunkStands self.old w body → PassesFraming self.new w body piece.now result }
+        // The next byte is one of data.
+        ensures ahead { 0 < result → 0 < room_of self.new }
+        ensures none { result ≡ 0 → self.new ≡ self.old }
+        ensures within { result ≤ length piece.now }
+    {
+        let Some(start) = self.place.line_start(piece) else {
+            return 0;
+        };
+        let Some(line) = plain_line(piece, start) else {
+            return 0;
+        };
+        self.place = Place::Data { left: line.size };
+        line.end
+    }
+
     /// How many of the next bytes are data of the body: 0 in the framing, after the end and after a fault.
     pub fn room(&self) -> u64
         ensures { result ≡ room_of self.now }
@@ -118,6 +139,25 @@ impl Default for ChunkState {
 }
 
 impl Place {
+    // Where a chunk's line begins in a piece, at its front or behind the end of the chunk before.
+    #[inline(always)]
+    fn line_start(self, piece: &[u8]) -> Option<usize>
+        ensures passes { IfSome result (λ start. (w body : List ℕ) → ChunkStands (state_at self) w body → PassesFraming (state_at (Place.Size 0 0)) w body piece.now start) }
+        ensures within { IfSome result (λ start. start ≤ length piece.now) }
+    {
+        match self {
+            Place::Size { count: 0, size: 0 } => Some(0),
+            Place::Data { left: 0 } => {
+                if piece.len() >= 2 && piece[0] == b'\r' && piece[1] == b'\n' {
+                    Some(2)
+                } else {
+                    None
+                }
+            }
+            _ => None,
+        }
+    }
+
     // Where the reader stands after one more byte, and what the byte was.
     fn after(self, byte: u8) -> (Place, ChunkOut)
         ensures steps { (x d : List ℕ) → PlaceStands self x d → PlaceSteps result.0 x d byte result.1 }
@@ -136,6 +176,51 @@ impl Place {
             Place::Closed => (Place::Closed, ChunkOut::Closed),
             Place::Failed(fault) => fail(fault),
         }
+    }
+}
+
+// A line in a piece that is a size alone: where it ends, and the size.
+#[derive(Clone, Copy)]
+struct PlainLine {
+    end: usize,
+    size: u64,
+}
+
+// The line that begins there in a piece, where it is the size alone of a chunk with data and its digits stand in the first bytes.
+#[inline(always)]
+fn plain_line(piece: &[u8], start: usize) -> Option<PlainLine>
+    requires { start ≤ length piece.now }
+    ensures passes { IfSome result (λ line. (w body : List ℕ) → PassesFraming (state_at (Place.Size 0 0)) w body piece.now start → PassesFraming (state_at (Place.Data line.size)) w body piece.now line.end) }
+    ensures some { IfSome result (λ line. 0 < line.size) }
+    ensures within { IfSome result (λ line. (0 < line.end) × (line.end ≤ length piece.now)) }
+{
+    let most = piece.len().min(PLAIN_LINE_MOST);
+    let mut at = start;
+    let mut size = 0;
+    while at < most {
+        let Some(digit) = digit_of(piece[at]) else {
+            break;
+        };
+        size = size * 16 + u64::from(digit);
+        at += 1;
+    }
+    if size > 0 && piece.len() - at >= 2 && piece[at] == b'\r' && piece[at + 1] == b'\n' {
+        Some(PlainLine { end: at + 2, size })
+    } else {
+        None
+    }
+}
+
+// The value of a digit of a size.
+#[inline(always)]
+fn digit_of(byte: u8) -> Option<u8>
+    ensures { IfSome result (λ digit. (digit_value byte ≡ digit) × (digit < 16)) }
+{
+    match byte {
+        b'0'..=b'9' => Some(byte - b'0'),
+        b'a'..=b'f' => Some(byte - b'a' + 10),
+        b'A'..=b'F' => Some(byte - b'A' + 10),
+        _ => None,
     }
 }
 

@@ -58,3 +58,7 @@ pub const CHUNK_MOST: u32 = chunk_most!(number);
 
 /// The bytes of the buffer in which chunks are gathered before they are written.
 pub const CHUNK_BUFFER: usize = 8192;
+
+/// How many bytes the end of a chunk and the digits of the next size have at most where they are taken at once: a size of so many digits
+/// fits 64 bits.
+pub(crate) const PLAIN_LINE_MOST: usize = 15;

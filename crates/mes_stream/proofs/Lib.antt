@@ -5,6 +5,7 @@ mod DecoderLemmas
 mod EntryLemmas
 mod EventLemmas
 mod FramingLemmas
+mod GatherLemmas
 mod Grows
 mod PlainLaw
 pub mod ReadLemmas

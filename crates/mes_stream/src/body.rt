@@ -1,8 +1,8 @@
 //! Reads a body of records: it takes the bytes in runs, however cut, and tells where a record ends.
 
-ghost use Rattle.std.specs.Prelude.{◌≡◌, true, false, ◌+◌, ◌^◌, ◌<◌, ◌≤◌, ℕ, List, [], ◌++◌, length, IfOk, IfErr, take};
+ghost use Rattle.std.specs.Prelude.{◌≡◌, true, false, ◌+◌, ◌^◌, ◌<◌, ◌≤◌, ℕ, List, [], ◌++◌, length, IfOk, IfErr, OnOk, take};
 ghost use Rattle.mes_frame.specs.Record.{Begun};
-ghost use Rattle.mes_frame.specs.RecordState.{RecordStands, limit_of};
+ghost use Rattle.mes_frame.specs.RecordState.{RecordStands, limit_of, room_of};
 ghost use Rattle.mes_stream.specs.Stream.{Records, EndsInside, saturated};
 ghost use Rattle.mes_stream.specs.Decoders.{HoldsInBody};
 ghost use Rattle.mes_stream.specs.Framings.{GoesBefore};
@@ -15,6 +15,7 @@ use crate::refusal::RecordRefusal;
 use crate::small_fault::SmallFault;
 use crate::taken::{SoFar, Taken};
 use mes_frame::{FrameFault, Limit, RecordOut, RecordState};
+use mes_json::NoMemoryAt;
 
 /// Reads a body of records, one behind the other.
 #[derive(Drop)]
@@ -105,6 +106,26 @@ impl<R: RecordReader> Body<R> {
                 },
             },
         }
+    }
+
+    /// How many of the next bytes are data of the record that has begun: 0 in a size line and after a fault.
+    pub(crate) fn room(&self) -> usize
+        ensures { result ≡ room_of self.now.records }
+    {
+        self.records.room()
+    }
+
+    /// Takes a run of data behind which the record goes on.
+    pub(crate) fn pass(&mut self, run: &[u8]) -> Result<(), NoMemoryAt>
+        requires { length run.now < room_of self.old.records }
+        ensures ok { OnOk result ((ahead : ℕ) (b : List ℕ) (values : List R.Value) → BodyStands R.holds R.spells ahead self.old b values
+            → BodyStands R.holds R.spells ahead self.new (b ++ run.now) values) }
+        // Memory was refused for the byte behind those that were taken.
+        ensures err { IfErr result (λ refused. 0 < length run.now → refused.taken < length run.now) }
+        ensures limit { limit_of self.new.records ≡ limit_of self.old.records }
+    {
+        let _ended = self.records.pass(run.len());
+        self.reader.push_run(run)
     }
 
     /// The value of the record that has ended, or why it has none: what the reader of records gives, which is handed on as it is,

@@ -1,17 +1,20 @@
 //! Reads the body of a chunked stream, up to its end or its first fault.
 
-ghost use Rattle.std.specs.Prelude.{◌≡◌, ◌<◌, ◌≤◌, ℕ, List, [], ◌∷◌, ◌++◌, length};
-ghost use Rattle.mes_frame.specs.ChunkState.{ChunkStands, room_of};
+ghost use Rattle.std.specs.Prelude.{◌≡◌, ◌<◌, ◌≤◌, ℕ, List, [], ◌∷◌, ◌++◌, length, slice_index};
+ghost use Rattle.mes_frame.specs.ChunkState.{ChunkStands, PassesFraming, room_of};
 ghost use Rattle.mes_frame.specs.RecordState.{limit_of};
 ghost use Rattle.mes_stream.specs.Taking.{BodyStands, Tells};
-ghost use Rattle.mes_stream.specs.Decoding.{ChunkedStands, PassesFraming, LiveBefore};
+ghost use Rattle.mes_stream.specs.Decoding.{ChunkedStands, Gathers, LiveBefore};
 ghost use Rattle.mes_stream.specs.declared.stream_reader.Framing.TheVariants as framing;
 
 use crate::body::Body;
+use crate::limits::{GATHERED_MOST, SHORT_MOST};
 use crate::record_reader::RecordReader;
 use crate::small_fault::SmallFault;
 use crate::taken::{SoFar, Taken};
+use arrayvec::ArrayVec;
 use mes_frame::{ChunkOut, ChunkState};
+use mes_json::NoMemoryAt;
 
 /// Reads the body of a chunked stream that has not ended. Behind the end or a fault no more pieces are to be taken.
 #[derive(Drop)]
@@ -32,7 +35,7 @@ impl<R: RecordReader> ChunkedBody<R> {
         }
     }
 
-    /// Takes bytes of the framing or a run of data from the front of a piece.
+    /// Takes short chunks, or bytes of the framing or a run of data, from the front of a piece.
     pub(crate) fn take(&mut self, rest: &[u8]) -> Taken
         requires { 0 < length rest.now }
         ensures tells { (ahead : ℕ) (w : List ℕ) (values : List R.Value) → ChunkedStands R.holds R.spells ahead self.old w values
@@ -45,14 +48,7 @@ impl<R: RecordReader> ChunkedBody<R> {
     {
         let room = self.chunks.room();
         if room == 0 {
-            let framed = frame_run(&mut self.chunks, rest);
-            if framed > 0 {
-                return Taken::more(framed);
-            }
-            return Taken {
-                used: 1,
-                so_far: self.frame(rest[0]),
-            };
+            return self.take_between(rest);
         }
         let count = if room < rest.len() as u64 {
             room as usize
@@ -62,6 +58,71 @@ impl<R: RecordReader> ChunkedBody<R> {
         let taken = self.body.take(&rest[..count]);
         self.chunks.pass(taken.used as u64);
         taken
+    }
+
+    // The same, where no data come next.
+    fn take_between(&mut self, rest: &[u8]) -> Taken
+        requires some { 0 < length rest.now }
+        requires none { room_of self.old.chunks ≡ 0 }
+        ensures tells { (ahead : ℕ) (w : List ℕ) (values : List R.Value) → ChunkedStands R.holds R.spells ahead self.old w values
+            → Tells R.holds R.spells R.breaks ahead framing.Chunked (λ body. ChunkedStands R.holds R.spells ahead (record { chunks = self.new.chunks; body = body }))
+            self.new.body (limit_of self.new.body.records) w values rest.now result.used result.so_far }
+        ensures before { (ahead : ℕ) (w : List ℕ) (values : List R.Value) → ChunkedStands R.holds R.spells ahead self.old w values
+            → LiveBefore R.spells (limit_of self.new.body.records) w values rest.now result.used }
+        ensures used { (0 < result.used) × (result.used ≤ length rest.now) }
+        ensures limit { limit_of self.new.body.records ≡ limit_of self.old.body.records }
+    {
+        let taken = self.take_short(rest);
+        if taken.used > 0 {
+            return taken;
+        }
+        self.take_framing(rest)
+    }
+
+    // Takes chunks that are short and plain from the front of a piece, as far as they stand there and the record goes on behind them.
+    fn take_short(&mut self, rest: &[u8]) -> Taken
+        ensures tells { (ahead : ℕ) (w : List ℕ) (values : List R.Value) → ChunkedStands R.holds R.spells ahead self.old w values
+            → Tells R.holds R.spells R.breaks ahead framing.Chunked (λ body. ChunkedStands R.holds R.spells ahead (record { chunks = self.new.chunks; body = body }))
+            self.new.body (limit_of self.new.body.records) w values rest.now result.used result.so_far }
+        ensures before { (ahead : ℕ) (w : List ℕ) (values : List R.Value) → ChunkedStands R.holds R.spells ahead self.old w values
+            → LiveBefore R.spells (limit_of self.new.body.records) w values rest.now result.used }
+        ensures none { result.used ≡ 0 → self.new ≡ self.old }
+        ensures used { result.used ≤ length rest.now }
+        ensures limit { limit_of self.new.body.records ≡ limit_of self.old.body.records }
+    {
+        let most = self.body.room();
+        let gathered = gather(&mut self.chunks, rest, most);
+        if gathered.bytes.is_empty() {
+            return Taken::more(gathered.used);
+        }
+        match self.body.pass(gathered.bytes.as_slice()) {
+            Ok(()) => Taken::more(gathered.used),
+            Err(refused) => Taken::no_memory(NoMemoryAt {
+                taken: gathered.places.as_slice()[refused.taken],
+            }),
+        }
+    }
+
+    // Takes bytes of the framing from the front of a piece.
+    fn take_framing(&mut self, rest: &[u8]) -> Taken
+        requires some { 0 < length rest.now }
+        requires none { room_of self.old.chunks ≡ 0 }
+        ensures tells { (ahead : ℕ) (w : List ℕ) (values : List R.Value) → ChunkedStands R.holds R.spells ahead self.old w values
+            → Tells R.holds R.spells R.breaks ahead framing.Chunked (λ body. ChunkedStands R.holds R.spells ahead (record { chunks = self.new.chunks; body = body }))
+            self.new.body (limit_of self.new.body.records) w values rest.now result.used result.so_far }
+        ensures before { (ahead : ℕ) (w : List ℕ) (values : List R.Value) → ChunkedStands R.holds R.spells ahead self.old w values
+            → LiveBefore R.spells (limit_of self.new.body.records) w values rest.now result.used }
+        ensures used { (0 < result.used) × (result.used ≤ length rest.now) }
+        ensures limit { limit_of self.new.body.records ≡ limit_of self.old.body.records }
+    {
+        let framed = frame_run(&mut self.chunks, rest);
+        if framed > 0 {
+            return Taken::more(framed);
+        }
+        Taken {
+            used: 1,
+            so_far: self.frame(rest[0]),
+        }
     }
 
     // Takes a byte of the framing.
@@ -83,6 +144,48 @@ impl<R: RecordReader> ChunkedBody<R> {
             }
             ChunkOut::Fault(fault) => SoFar::Fault(SmallFault::frame(fault)),
         }
+    }
+}
+
+// What was taken from the front of a piece, of chunks that are short: how many bytes, the data among them, and where in the piece each
+// byte of these stands.
+#[derive(Drop)]
+struct Gathered {
+    used: usize,
+    bytes: ArrayVec<u8, GATHERED_MOST>,
+    places: ArrayVec<usize, GATHERED_MOST>,
+}
+
+// Takes chunks that are short and plain from the front of a piece, as far as they stand there with fewer than `most` bytes of data.
+fn gather(chunks: &mut ChunkState, piece: &[u8], most: usize) -> Gathered
+    ensures gathers { (w body : List ℕ) → ChunkStands chunks.old w body
+        → Gathers chunks.new w body piece.now result.used result.bytes.items result.places.items }
+    ensures few { 0 < length result.bytes.items → length result.bytes.items < most }
+    ensures places { length result.places.items ≡ length result.bytes.items }
+    ensures inside { (k : ℕ) → k < length result.places.items → slice_index result.places.items k < result.used }
+    ensures none { result.used ≡ 0 → (chunks.new ≡ chunks.old) × (result.bytes.items ≡ []) }
+    ensures within { result.used ≤ length piece.now }
+{
+    let mut next = *chunks;
+    let mut used = 0;
+    let mut bytes = ArrayVec::new();
+    let mut places = ArrayVec::new();
+    while bytes.len() < GATHERED_MOST {
+        used += next.next_chunk(&piece[used..]);
+        let room = next.room();
+        if room == 0 || room > SHORT_MOST || used == piece.len() || bytes.len() + 1 >= most {
+            break;
+        }
+        bytes.push(piece[used]);
+        places.push(used);
+        next.pass(1);
+        used += 1;
+    }
+    *chunks = next;
+    Gathered {
+        used,
+        bytes,
+        places,
     }
 }
 

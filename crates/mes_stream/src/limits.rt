@@ -13,3 +13,9 @@ pub const FAULT_LINE_MOST: usize = PATH_TEXT_MOST + 128;
 
 /// The room for a count's line, in bytes: for two numbers of 20 digits and the words between.
 pub const COUNT_LINE_MOST: usize = 64;
+
+/// How many bytes of data are to come at most in a chunk that is short.
+pub(crate) const SHORT_MOST: u64 = 8;
+
+/// How many bytes of data of short chunks are put together at most.
+pub(crate) const GATHERED_MOST: usize = 32;

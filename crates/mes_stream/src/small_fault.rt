@@ -101,7 +101,7 @@ impl SmallFault {
                 why,
             },
             Kind::Field { at_record, fault } => {
-                let FieldFault { path, why } = fault.into_fault();
+                let FieldFault { path, why } = fault.into_inner();
                 Fault::Field {
                     at_record,
                     path,

@@ -1,5 +1,5 @@
 use Rattle.std.proofs.Common.{◌++◌, take, refl, arith}
-use Rattle.mes_stream.proofs.FramingLemmas.{framing_first, framing_next}
+use Rattle.mes_frame.proofs.ChunkFraming.{framing_first, framing_next}
 use Rattle.mes_stream.proofs.chunked.frame_run.Goals as goal
 
 pub loop-count-init : goal.loop-count-init

@@ -1,6 +1,5 @@
 use Rattle.std.proofs.Common.{◌≡◌, ℕ, List, length, ◌-◌, ◌≤◌}
-use Rattle.mes_frame.specs.ChunkState.{ChunkStands}
-use Rattle.mes_stream.specs.Decoding.{PassesFraming}
+use Rattle.mes_frame.specs.ChunkState.{ChunkStands, PassesFraming}
 use Rattle.mes_stream.proofs.chunked.frame_run.Given as goal
 
 abbrev pub invariant-loop-count : goal.invariant-loop-count
