@@ -61,7 +61,7 @@ fn put_event(event: &Event, line: &mut Vec<u8>) -> Result<(), NoMemory>
             put_word("RESCIND", line)?;
             put_id(&body.offer_id, line)
         }
-        Event::Update(body) => put_update(&body.status, line),
+        Event::Update(body) => put_update(body.status.get(), line),
         Event::Message(body) => {
             put_word("MESSAGE", line)?;
             put_id(&body.agent_id, line)?;

@@ -3,8 +3,8 @@
 use mes_part::fixed::Micros;
 use mes_part::json::{self, Element, NoMemory, Text};
 use mes_part::{
-    MadeOf, Maybe, Must, MustRef, Part, PartFault, RowList, RowRefs, Rows1, Rows2, Rows3, Trail,
-    made, message_text, message_tree, pairs, read_message,
+    Boxed, MadeOf, Maybe, Must, MustRef, Part, PartFault, RowList, RowRefs, Rows1, Rows2, Rows3,
+    Trail, made, message_text, message_tree, pairs, read_message,
 };
 use mes_resource::Id;
 use mes_task::TaskStatus;
@@ -148,14 +148,14 @@ impl Part for Rescind {
 /// The state of a task (`Event.Update`).
 #[derive(Debug, Drop)]
 pub struct Update {
-    /// The state, with what is known of it.
-    pub status: TaskStatus,
+    /// The state, with what is known of it. It stands in memory of its own, so that an event is small.
+    pub status: Boxed<TaskStatus>,
 }
 
 /// The names of the rows of the body of UPDATE, in the order of the table.
 const UPDATE_NAMES: [&str; 1] = ["status"];
 
-type UpdateRows = Rows1<Must<TaskStatus>>;
+type UpdateRows = Rows1<Must<Boxed<TaskStatus>>>;
 
 impl MadeOf<<UpdateRows as RowList>::Values> for Update {
     ghost use Rattle.mes_event_body.specs.Bodies.{update_layout};

@@ -4,7 +4,7 @@ ghost use Rattle.std.specs.Str.{bytes_eq};
 ghost use Rattle.mes_fit.specs.Keys.{key_of, keys_agree, type_of};
 
 use mes_json::Text;
-use mes_model::{Kept, Label, Labels, Reservation, Resource, ResourceValue};
+use mes_model::{Boxed, Kept, Label, Labels, Reservation, Resource, ResourceValue};
 
 /// The role of a resource that names none.
 const ANY_ROLE: &str = "*";
@@ -85,28 +85,38 @@ fn same_role(role: &Option<Text>, other: &Option<Text>) -> bool
     role_of(role) == role_of(other)
 }
 
-/// Whether both are one object, as trees.
-fn same_disk(disk: &Option<Kept>, other: &Option<Kept>) -> bool
+/// Whether both are one disk: no object, or one object.
+fn same_disk(disk: &Option<Boxed<Kept>>, other: &Option<Boxed<Kept>>) -> bool
     ensures { IsTrue result ↔ disk.now ≡ other.now }
 {
     match disk {
         None => other.is_none(),
         Some(disk) => match other {
             None => false,
-            Some(other) => disk.get().same(other.get()),
+            Some(other) => same_kept(disk.get(), other.get()),
         },
     }
 }
 
+/// Whether both are one object, as trees.
+fn same_kept(disk: &Kept, other: &Kept) -> bool
+    ensures { IsTrue result ↔ disk.now ≡ other.now }
+{
+    disk.get().same(other.get())
+}
+
 /// Whether both are reserved alike, in the older form.
-fn same_reserved(reservation: &Option<Reservation>, other: &Option<Reservation>) -> bool
+fn same_reserved(
+    reservation: &Option<Boxed<Reservation>>,
+    other: &Option<Boxed<Reservation>>,
+) -> bool
     ensures { IsTrue result ↔ reservation.now ≡ other.now }
 {
     match reservation {
         None => other.is_none(),
         Some(reservation) => match other {
             None => false,
-            Some(other) => same_reservation(reservation, other),
+            Some(other) => same_reservation(reservation.get(), other.get()),
         },
     }
 }

@@ -1,5 +1,8 @@
 mod PathLemmas
 pub mod LeafLemmas
+pub mod LetterLemmas
+pub mod LaneLemmas
+pub mod BlockLemmas
 pub mod NumberPlaces
 pub mod BinaryPlaces
 pub mod PartLemmas

@@ -12,7 +12,6 @@ use Rattle.mes_part.specs.declared.found.Found.{Found}
 use Rattle.mes_part.specs.declared.found.Found.TheVariants.{Nothing, One, More}
 use Rattle.mes_part.specs.declared.read_row.Sole.{Sole}
 use Rattle.mes_part.specs.declared.read_row.Sole.TheVariants.{Absent, Present, Repeated}
-use Rattle.mes_part.specs.declared.rows.Rows.{Rows}
 use Rattle.mes_part.specs.declared.part.PartFault.{PartFault}
 use Rattle.mes_part.specs.Parts.{Refuses}
 use Rattle.mes_part.specs.RowNames.{name_at}
@@ -44,9 +43,9 @@ abbrev pub FindsAll : List (List ℕ) → Members → List Found → Type 0
 FindsAll names ms fs = (i : ℕ) → i < length names → IsFound (slice_index_or fs i Nothing) (values_named (name_at names i) ms)
 
 -- the tree is an object, and the members of these names are found; or it is none, which is told
-abbrev pub FindsRows : {N : ℕ} → List (List ℕ) → List Place → Tree → Result (Rows N) PartFault → Type 0
-FindsRows names at t (Ok rows) = (ms : Members) × (t ≡ object ms) × FindsAll names ms rows.found.items
-FindsRows names at t (Err e) = Refuses (members_at at t) e
+abbrev pub FindsRows : List (List ℕ) → List Place → Tree → List Found → Result (Unit {0}) PartFault → Type 0
+FindsRows names at t fs (Ok _) = (ms : Members) × (t ≡ object ms) × FindsAll names ms fs
+FindsRows names at t fs (Err e) = Refuses (members_at at t) e
 
 -- of what is looked up at a path: there is no value, or one at this place, or the name stands twice
 abbrev pub IsSole : List Place → Result (Option Tree) FieldFault → Sole → Type 0

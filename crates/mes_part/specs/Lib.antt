@@ -45,3 +45,4 @@ pub mod EitherLists
 pub mod EitherListLaws
 pub mod Binary
 pub mod BinaryLaws
+pub mod LetterValues

@@ -7,6 +7,7 @@ ghost use Rattle.mes_part.specs.BinaryLaws.{lawful_base64_bytes};
 ghost use Rattle.mes_part.specs.Kinds.{Returns};
 
 use crate::field::FieldWhy;
+use crate::groups::decoded;
 use crate::leaf::text_in;
 use crate::part::{Part, PartFault};
 use crate::refusal::refusal_at;
@@ -121,7 +122,7 @@ impl Part for Bytes {
         path: &Trail<'_>,
     ) -> Result<Bytes, PartFault> {
         let text = text_in(alloc, element, path)?;
-        match STANDARD.decode(alloc, text.as_bytes()) {
+        match decoded(alloc, text.as_bytes()) {
             Ok(octets) => Ok(Bytes::new(octets)),
             Err(DecodeAllocError::DecodeError(_)) => {
                 Err(refusal_at(alloc, path, FieldWhy::BadBase64))

@@ -1,6 +1,7 @@
 //! The rows of an object, found in one pass over its members.
 
 ghost use Rattle.std.specs.Prelude.{◌≡◌, true, ℕ, ◌<◌, ◌≤◌, [], length, map, bytes_eq, slice_index_or};
+ghost use Rattle.std.specs.Array.{AllOfLen};
 ghost use Rattle.mes_json.specs.Tree.{Tree};
 ghost use Rattle.mes_json.specs.Tokens.{BeginsWith};
 ghost use Rattle.mes_part.specs.FoundRows.{noted, noted_if, FindsRows};
@@ -10,7 +11,6 @@ ghost use Rattle.mes_part.specs.declared.found.Found.TheVariants.{Nothing};
 use crate::field::FieldWhy;
 use crate::part::PartFault;
 use crate::refusal::refusal_at;
-use crate::rows::Rows;
 use crate::trail::Trail;
 use arrayvec::ArrayVec;
 use mes_json::Element;
@@ -27,12 +27,13 @@ pub enum Found<'a> {
     More,
 }
 
-/// What is found under a name before the first member is looked at, and what fills the free room of an `ArrayVec`.
+/// What is found under a name before the first member is looked at.
 impl<'a> Default for Found<'a> {
     ghost use Rattle.mes_part.specs.declared.found.Found.TheVariants.{Nothing};
 
     ghost is_default = { λ f. f ≡ Nothing };
 
+    #[inline(always)]
     fn default() -> Found<'a> {
         Found::Nothing
     }
@@ -51,39 +52,47 @@ impl<'a> Found<'a> {
     }
 }
 
-/// What the object at a place has under these names, at most N, of which none stands twice. Each member is looked at once.
+/// Finds what the object at a place has under these names, at most N, of which none stands twice, where nothing was found before.
+/// Each member is looked at once. What is found stands where it is read from: the rows of a message are some 500 bytes, which would
+/// be moved as a result.
 #[inline(always)]
 pub fn find_rows<'a, const N: usize>(
     alloc: Global,
     element: &Element<'a>,
     names: &[&'static str],
     path: &Trail<'_>,
-) -> Result<Rows<'a, N>, PartFault>
-    requires room { length names.now ≤ N }
+    found: &mut ArrayVec<Found<'a>, N>,
+) -> Result<(), PartFault>
+    requires room { length names.now ≤ length found.old.items }
     requires once { distinct (map (λ n. n.now) names.now) ≡ true }
-    ensures { (t : Tree) → BeginsWith element.now t → FindsRows (map (λ n. n.now) names.now) path.now t result }
+    requires nothing { (i : ℕ) → slice_index_or found.old.items i Nothing ≡ Nothing }
+    ensures all { length found.new.items ≡ length found.old.items }
+    ensures finds { (t : Tree) → BeginsWith element.now t → FindsRows (map (λ n. n.now) names.now) path.now t found.new.items result }
 {
     let Some(mut members) = element.members() else {
         return Err(refusal_at(alloc, path, FieldWhy::WrongKind));
     };
-    let mut found: ArrayVec<Found<'a>, N> = nothing_found();
     while let Some((name, value)) = members.next() {
-        note_member(&mut found, names, name, &value);
+        note_member(found, names, name, &value);
     }
-    Ok(Rows { found })
+    Ok(())
 }
 
-/// Nothing found under any name.
+/// Nothing found under any of N names.
 #[inline(always)]
-fn nothing_found<'a, const N: usize>() -> ArrayVec<Found<'a>, N>
+pub fn nothing_found<'a, const N: usize>() -> ArrayVec<Found<'a>, N>
     ensures none { (i : ℕ) → slice_index_or result.items i Nothing ≡ Nothing }
     ensures all { length result.items ≡ N }
 {
-    let mut found = ArrayVec::new();
-    for _ in 0..N {
-        found.push(Found::Nothing);
-    }
-    found
+    defaults()
+}
+
+/// As many defaults as there is room for, each written once.
+#[inline(always)]
+fn defaults<T: Default, const N: usize>() -> ArrayVec<T, N>
+    ensures { AllOfLen T.is_default result.items N }
+{
+    ArrayVec::from_array_in((), Default::default())
 }
 
 /// Notes a member under the one of these names that it has.

@@ -2,17 +2,20 @@
 //! Messages as tables of rows, each read, written and copied by its rows; the kinds of values, paths into a JSON value, and faults.
 
 mod append;
-mod boxed_fault;
+mod blocks;
+mod boxed;
 mod bytes;
 mod calls;
 mod choice;
 mod field;
 pub mod first_fault;
 mod found;
+mod groups;
 mod kept;
 mod label;
 mod leaf;
 mod leaves;
+mod letters;
 mod limits;
 mod list;
 mod message;
@@ -26,7 +29,6 @@ mod row;
 mod row_list;
 mod row_ref;
 mod row_refs;
-mod rows;
 mod trail;
 mod typed;
 mod write_row;
@@ -35,7 +37,7 @@ pub use append::{
     append_case, append_flag, append_many, append_name, append_row, append_some, append_type,
     close_object, deeper, list_text,
 };
-pub use boxed_fault::BoxedFault;
+pub use boxed::{Boxed, BoxedFault};
 pub use bytes::Bytes;
 pub use calls::{
     either_list_returned, list_returned, most_steps, one_answer, one_either_list, one_list,
@@ -43,7 +45,7 @@ pub use calls::{
 };
 pub use choice::Choice;
 pub use field::{FieldFault, FieldWhy};
-pub use found::{Found, find_rows};
+pub use found::{Found, find_rows, nothing_found};
 pub use kept::Kept;
 pub use label::{Label, Labels};
 pub use leaf::text_in;
@@ -68,7 +70,6 @@ pub use row::{Flag, Many, Maybe, Must, Row};
 pub use row_list::RowList;
 pub use row_ref::{MustRef, RowRef};
 pub use row_refs::RowRefs;
-pub use rows::Rows;
 pub use trail::Trail;
 pub use typed::{Typed, TypedRef};
 pub use write_row::{

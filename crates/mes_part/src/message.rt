@@ -13,7 +13,7 @@ ghost use Rattle.mes_part.specs.RowNames.{are_names};
 
 use crate::append::close_object;
 use crate::choice::Choice;
-use crate::found::find_rows;
+use crate::found::{find_rows, nothing_found};
 use crate::limits::{ROWS_MOST, STEPS_MOST};
 use crate::part::PartFault;
 use crate::row_list::RowList;
@@ -49,8 +49,9 @@ pub fn read_message<R: RowList, M: MadeOf<R::Values>, const N: usize>(
     ensures { (t : Tree) → BeginsWith element.now t
         → Gives (message_of (R.table (map (λ n. n.now) names.now) 0) M.to path.now t) result }
 {
-    let rows = find_rows::<N>(alloc, element, names, path)?;
-    let values = R::read_rows(alloc, rows.as_slice(), names, 0, path)?;
+    let mut found = nothing_found::<N>();
+    find_rows(alloc, element, names, path, &mut found)?;
+    let values = R::read_rows(alloc, found.as_slice(), names, 0, path)?;
     Ok(M::made_of(values))
 }
 
@@ -98,8 +99,9 @@ pub fn read_typed<C: Choice, const N: usize>(
     requires fits { map (λ n. n.now) names.now ≡ C.names }
     ensures { (t : Tree) → BeginsWith element.now t → Gives ((message C.table).read path.now t) result }
 {
-    let rows = find_rows::<N>(alloc, element, names, path)?;
-    C::read_choice(alloc, rows.as_slice(), path)
+    let mut found = nothing_found::<N>();
+    find_rows(alloc, element, names, path, &mut found)?;
+    C::read_choice(alloc, found.as_slice(), path)
 }
 
 /// What a value with a type is written as whose rows are the whole message.

@@ -9,7 +9,7 @@ ghost use Rattle.mes_part.specs.Kinds.{Kind, Lawful, Returns};
 ghost use Rattle.mes_part.specs.Parts.{Gives};
 ghost use Rattle.mes_part.specs.declared.part.PartFault.TheVariants.{NoMemory as no_memory};
 
-use crate::boxed_fault::BoxedFault;
+use crate::boxed::BoxedFault;
 use crate::limits::STEPS_MOST;
 use crate::path::Path;
 use crate::trail::Trail;

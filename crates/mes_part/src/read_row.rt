@@ -14,7 +14,7 @@ ghost use Rattle.mes_part.specs.FoundRows.{IsFound, IsSole};
 ghost use Rattle.mes_part.specs.Parts.{Gives, Shows};
 
 use crate::field::FieldWhy;
-use crate::found::{Found, find_rows};
+use crate::found::{Found, find_rows, nothing_found};
 use crate::limits::STEPS_MOST;
 use crate::list::List;
 use crate::part::{Part, PartFault};
@@ -159,8 +159,9 @@ pub fn read_either_list<T: Part>(
     if element.items().is_some() {
         return read_items(alloc, element, path);
     }
-    let rows = find_rows::<1>(alloc, element, &[name], path)?;
-    repeated(alloc, rows.at(0), name, path)
+    let mut found = nothing_found::<1>();
+    find_rows(alloc, element, &[name], path, &mut found)?;
+    repeated(alloc, &found[0], name, path)
 }
 
 /// What there is to be read under a name.

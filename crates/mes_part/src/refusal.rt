@@ -7,7 +7,7 @@ ghost use Rattle.mes_part.specs.Fields.{below};
 ghost use Rattle.mes_part.specs.Choices.{type_name};
 ghost use Rattle.mes_part.specs.Refusals.{Tells};
 
-use crate::boxed_fault::BoxedFault;
+use crate::boxed::BoxedFault;
 use crate::field::{FieldFault, FieldWhy};
 use crate::limits::STEPS_MOST;
 use crate::part::PartFault;

@@ -8,9 +8,9 @@ use crate::reservation::Reservation;
 use crate::value::{Ranges, Scalar, Set};
 use mes_part::json::{self, Element, NoMemory, Text};
 use mes_part::{
-    Choice, FieldWhy, Flag, Found, Kept, List, MadeOf, Many, Maybe, Must, MustRef, Part, PartFault,
-    RowList, RowRefs, Rows8, Trail, Typed, TypedRef, append_case, made, message_text, message_tree,
-    pairs, put, put_type, read_message, required, type_of, type_refusal,
+    Boxed, Choice, FieldWhy, Flag, Found, Kept, List, MadeOf, Many, Maybe, Must, MustRef, Part,
+    PartFault, RowList, RowRefs, Rows8, Trail, Typed, TypedRef, append_case, made, message_text,
+    message_tree, pairs, put, put_type, read_message, required, type_of, type_refusal,
 };
 use std::alloc::Global;
 
@@ -115,12 +115,12 @@ pub struct Resource {
     pub role: Option<Text>,
     /// The role that it is allocated to.
     pub allocation_info: Option<Allocation>,
-    /// For whom it is reserved, in the older form.
-    pub reservation: Option<Reservation>,
+    /// For whom it is reserved, in the older form. It stands in memory of its own, so that a resource is small.
+    pub reservation: Option<Boxed<Reservation>>,
     /// For whom it is reserved, from the outermost role inwards.
     pub reservations: List<Reservation>,
-    /// What disk it is, kept whole.
-    pub disk: Option<Kept>,
+    /// What disk it is, kept whole, and in memory of its own.
+    pub disk: Option<Boxed<Kept>>,
     /// Whether it may be taken back at any time.
     pub revocable: bool,
     /// Whether several tasks may use it at once.
@@ -153,9 +153,9 @@ type ResourceRows = (
         Rows8<
             Maybe<Text>,
             Maybe<Allocation>,
-            Maybe<Reservation>,
+            Maybe<Boxed<Reservation>>,
             Many<Reservation>,
-            Maybe<Kept>,
+            Maybe<Boxed<Kept>>,
             Flag,
             Flag,
             Maybe<Id>,

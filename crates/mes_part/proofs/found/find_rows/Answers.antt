@@ -1,19 +1,19 @@
-use Rattle.std.proofs.Common.{map, ◌∙◌, arith}
+use Rattle.std.proofs.Common.{map, ◌∙◌, arith, refl}
 use Rattle.std.proofs.lemmas.List.{length-map}
 use Rattle.mes_part.specs.Objects.{members_in}
 use Rattle.mes_part.proofs.FoundLemmas.{members_found, no_members_found, follow_each_first, follow_each_next, follow_each_last}
 use Rattle.mes_part.proofs.PartLemmas.{refuses_told}
 use Rattle.mes_part.proofs.found.find_rows.Goals as goal
 
-pub returns-in_default : goal.returns-in_default
-returns-in_default g c = λ t b. refuses_told _ _ _ c.refusal_at.ensures (no_members_found c.args.path.now t (c.in_default.ensures t b))
+pub returns-in_default-clause-finds : goal.returns-in_default-clause-finds
+returns-in_default-clause-finds g c = λ t b. refuses_told _ _ _ c.refusal_at.ensures (no_members_found c.args.path.now t (c.in_default.ensures t b))
 
 pub loop-name-init : goal.loop-name-init
 loop-name-init g c = (
-  c.nothing_found-found.ensures.all,
+  refl,
   λ t b.
       let found = members_found c.in-Some.members t (c.in-Some.ensures t b) in
-      (found.0, (members_in t, found.1, follow_each_first c.nothing_found-found.result.items (map (λ n. n.now) c.args.names.now) (members_in t) (λ i inside. c.nothing_found-found.ensures.none i))),
+      (found.0, (members_in t, found.1, follow_each_first c.args.found.now.items (map (λ n. n.now) c.args.names.now) (members_in t) (λ i inside. c.requires.nothing i))),
 )
 
 pub loop-name-preserved : goal.loop-name-preserved
@@ -29,8 +29,8 @@ loop-name-preserved g c = (
       ),
 )
 
-pub returns : goal.returns
-returns g c = λ t b.
+pub returns-clause-finds : goal.returns-clause-finds
+returns-clause-finds g c = λ t b.
     let before = c.loop-name.invariant.1 t b in (
       members_in t,
       before.0,

@@ -1,4 +1,3 @@
-use Rattle.std.proofs.Common.{refl}
 use Rattle.mes_part.specs.Binary.{base64_bytes}
 use Rattle.mes_part.specs.Leaves.{text_of}
 use Rattle.mes_part.proofs.BinaryPlaces.{bytes_given, bytes_refused}
@@ -12,7 +11,7 @@ returns-in_err-text c = λ t b. refused_bound (text_of c.args.path.now t) _ _ c.
 
 pub returns-in-Ok : goal.returns-in-Ok
 returns-in-Ok c = λ t b.
-    rw c.new.ensures (bytes_given c.args.path.now t _ c.in-Ok.octets.items (c.in_ok-text.ensures t b) (rw c.as_bytes.ensures.value at (c.in-Ok.ensures.exact (refl, refl))) c.in-Ok.ensures.bytes)
+    rw c.new.ensures (bytes_given c.args.path.now t _ c.in-Ok.octets.items (c.in_ok-text.ensures t b) (rw c.as_bytes.ensures.value at c.in-Ok.ensures.exact) c.in-Ok.ensures.bytes)
 
 pub returns-in-Err-DecodeError : goal.returns-in-Err-DecodeError
 returns-in-Err-DecodeError c = λ t b.
