@@ -61,7 +61,7 @@ fn fault_of_call(fault: RecordFault) -> Fault
             why: fault.why,
         },
         RecordFault::Field(fault) => {
-            let FieldFault { path, why } = fault.into_fault();
+            let FieldFault { path, why } = fault.into_inner();
             Fault::Field {
                 at_record: 1,
                 path,

@@ -10,7 +10,7 @@ use mes_model::{Id, Offer, TaskRef, TaskStatus};
 use mes_msg::{Event, Subscribed, Update};
 use mes_part::fixed::Micros;
 use mes_part::json::{NoMemory, Text};
-use mes_part::{List, Part};
+use mes_part::{Boxed, List, Part};
 use std::alloc::Global;
 
 /// How long the master says that it waits between two heartbeats, in microseconds: 15 seconds.
@@ -41,7 +41,7 @@ pub fn offers(alloc: Global, offers: &[Offer]) -> Result<Event, NoMemory>
 pub fn update(alloc: Global, status: &TaskStatus) -> Result<Event, NoMemory>
     ensures { IfOk result (λ event. event ≡ update_event status.now) }
 {
-    let status = status.copy(alloc)?;
+    let status = Boxed::new(alloc, status.copy(alloc)?)?;
     Ok(Event::Update(Update { status }))
 }
 
@@ -52,6 +52,7 @@ fn reconciled(alloc: Global, status: &TaskStatus) -> Result<Event, NoMemory>
     let mut status = status.copy(alloc)?;
     status.reason = Some(Text::of(alloc, "REASON_RECONCILIATION")?);
     status.uuid = None;
+    let status = Boxed::new(alloc, status)?;
     Ok(Event::Update(Update { status }))
 }
 

@@ -145,7 +145,7 @@ fn offered(alloc: Global, master: &mut Master, text: &str) -> Result<String, Fai
 /// The UPDATE of the status of this text.
 fn updated(alloc: Global, master: &mut Master, text: &str) -> Result<String, Fail> {
     match event_of(alloc, text)? {
-        Event::Update(body) => sent(alloc, master.update(&body.status)),
+        Event::Update(body) => sent(alloc, master.update(body.status.get())),
         _ => Err("an update")?,
     }
 }

@@ -19,7 +19,7 @@ pub(crate) fn row_of(line: &str) -> Result<(&str, &str), Fail> {
 /// The fault of an answer that tells one.
 pub(crate) fn part_fault_of<T: Drop>(answer: Result<T, PartFault>) -> Option<FieldFault> {
     match answer.err()? {
-        PartFault::Field(fault) => Some(fault.into_fault()),
+        PartFault::Field(fault) => Some(fault.into_inner()),
         PartFault::NoMemory => None,
     }
 }
@@ -27,7 +27,7 @@ pub(crate) fn part_fault_of<T: Drop>(answer: Result<T, PartFault>) -> Option<Fie
 /// The fault of an answer that tells one of a field.
 pub(crate) fn field_fault_of<T: Drop>(answer: Result<T, RecordFault>) -> Option<FieldFault> {
     match answer.err()? {
-        RecordFault::Field(fault) => Some(fault.into_fault()),
+        RecordFault::Field(fault) => Some(fault.into_inner()),
         RecordFault::Text(_) | RecordFault::NoMemory => None,
     }
 }

@@ -36,7 +36,7 @@ fn send<'a>(master: &mut Master, given: &'a Event, sent: &mut Going<'a>) -> Resu
         Event::Subscribed(_) => Ok(()),
         Event::Offers(offers) => put(master.note_offers(offers.as_slice()), given, sent),
         Event::Rescind(body) => put(master.rescind(body.offer_id.value.as_str()), given, sent),
-        Event::Update(body) => put(master.note_update(&body.status), given, sent),
+        Event::Update(body) => put(master.note_update(body.status.get()), given, sent),
         _ => sent.push(given),
     }
 }

@@ -216,10 +216,11 @@ impl Session {
         ensures needs { OnErr result (Owes body.now.status) }
         ensures same { OnErr result (self.new ≡ self.old) }
     {
-        if !body.status.owes() {
+        let status = body.status.get();
+        if !status.owes() {
             return Ok(());
         }
-        match body.status.owed_key(self.alloc)? {
+        match status.owed_key(self.alloc)? {
             Some(key) => self.owed.add(key),
             None => Ok(()),
         }

@@ -220,6 +220,13 @@ fn streams_in_every_cut(rt: HostRuntime) -> Result<(), Fail> {
     Ok(())
 }
 
+// A record in one chunk, and the end behind it.
+#[test]
+fn one_chunk_in_every_cut(rt: HostRuntime) -> Result<(), Fail> {
+    let stream = b"17\r\n20\n{\"type\":\"HEARTBEAT\"}\r\n0\r\n\r\n";
+    expect(&rt, rt.alloc(), stream, &[(b'E', 27), (b'C', 34)])
+}
+
 #[test]
 fn long_trailers_in_every_cut(rt: HostRuntime) -> Result<(), Fail> {
     let trailers = long_trailers(rt.alloc())?;

@@ -52,7 +52,7 @@ fn read_offer(alloc: Global, text: &str) -> Option<Move> {
 /// The status of an UPDATE is told.
 fn read_update(alloc: Global, text: &str) -> Option<Move> {
     match Event::read_record(alloc, text.as_bytes()) {
-        Ok(Event::Update(body)) => Some(Move::Update(body.status)),
+        Ok(Event::Update(body)) => Some(Move::Update(body.status.into_inner())),
         _ => None,
     }
 }

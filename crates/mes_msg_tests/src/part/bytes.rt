@@ -1,5 +1,7 @@
 //! Bytes read from JSON strings and written as them, by the test vectors of RFC 4648 section 10.
 
+ghost use Rattle.std.specs.Prelude.{◌<◌, ◌≤◌};
+
 use crate::support::{expect_fault, part_fault_of, row_of};
 use mes_json::{read_tape, write_text};
 use mes_part::{Bytes, Part, PartFault, Trail, written_again};
@@ -43,10 +45,76 @@ null => . WrongKind
 {} => . WrongKind
 "#;
 
+/// The letters by their values (RFC 4648, table 1).
+const LETTERS: &[u8; 64] = b"ABCDEFGHIJKLMNOPQRSTUVWXYZabcdefghijklmnopqrstuvwxyz0123456789+/";
+
+/// The bytes that these encode: each four letters are three of them.
+const OCTETS: &[u8; 48] =
+    b"\x00\x10\x83\x10\x51\x87\x20\x92\x8B\x30\xD3\x8F\x41\x14\x93\x51\x55\x97\x61\x96\x9B\x71\xD7\x9F\x82\x18\xA3\x92\x59\xA7\xA2\x9A\xAB\xB2\xDB\xAF\xC3\x1C\xB3\xD3\x5D\xB7\xE3\x9E\xBB\xF3\xDF\xBF";
+
+/// What may stand behind whole groups of letters, and the bytes that it encodes.
+const LAST: [(&[u8], &[u8]); 3] = [(b"", b""), (b"/w==", b"\xFF"), (b"//8=", b"\xFF\xFF")];
+
+/// The characters beside the letters and between them, and those of the URL-safe alphabet.
+const NO_LETTERS: &[u8; 12] = b" *,-.:@[_`{~";
+
 /// The bytes of a text, read from its tape.
 fn read(alloc: Global, text: &str) -> Result<Result<Bytes, PartFault>, Fail> {
     let tape = read_tape(alloc, text.as_bytes())?;
     Ok(Bytes::read_from(alloc, &tape.root(), &Trail::new()))
+}
+
+/// The bytes of a string of these letters and of what stands behind them.
+fn read_letters(
+    alloc: Global,
+    letters: &[u8],
+    last: &[u8],
+) -> Result<Result<Bytes, PartFault>, Fail> {
+    let mut text = Vec::new(alloc);
+    text.push(b'"')?;
+    text.extend_from_slice(letters)?;
+    text.extend_from_slice(last)?;
+    text.push(b'"')?;
+    let tape = read_tape(alloc, text.as_slice())?;
+    Ok(Bytes::read_from(alloc, &tape.root(), &Trail::new()))
+}
+
+/// So many groups of letters are read, whatever stands behind them.
+fn expect_groups<R: Abort>(rt: &R, alloc: Global, groups: usize) -> Result<(), Fail>
+    requires { groups ≤ 16 }
+{
+    for (last, octets) in LAST {
+        let Ok(bytes) = read_letters(alloc, &LETTERS[..4 * groups], last)? else {
+            return Err("they are bytes")?;
+        };
+        let mut expected = Vec::from_slice(alloc, &OCTETS[..3 * groups])?;
+        expected.extend_from_slice(octets)?;
+        assert_eq!(rt; bytes.as_slice(), expected.as_slice());
+    }
+    Ok(())
+}
+
+/// Where a character stands at this place that is no letter, the text is refused.
+fn expect_refused<R: Abort>(rt: &R, alloc: Global, place: usize) -> Result<(), Fail>
+    requires { place < 64 }
+{
+    for bad in *NO_LETTERS {
+        let mut letters = *LETTERS;
+        letters[place] = bad;
+        let answer = read_letters(alloc, &letters, b"")?;
+        expect_fault(rt, "a character", part_fault_of(answer), ". BadBase64")?;
+    }
+    Ok(())
+}
+
+/// The same of a character of two bytes.
+fn expect_wide_refused<R: Abort>(rt: &R, alloc: Global, place: usize) -> Result<(), Fail>
+    requires { place < 63 }
+{
+    let mut letters = *LETTERS;
+    letters[place..place + 2].copy_from_slice("é".as_bytes());
+    let answer = read_letters(alloc, &letters, b"")?;
+    expect_fault(rt, "two bytes", part_fault_of(answer), ". BadBase64")
 }
 
 /// The bytes are these, and are written so.
@@ -89,6 +157,25 @@ fn other_texts_are_refused(rt: HostRuntime) -> Result<(), Fail> {
     for line in REFUSED.lines() {
         let (text, fault) = row_of(line)?;
         expect_fault(&rt, text, part_fault_of(read(rt.alloc(), text)?), fault)?;
+    }
+    Ok(())
+}
+
+#[test]
+fn bytes_of_each_length_are_read(rt: HostRuntime) -> Result<(), Fail> {
+    for groups in 0..17 {
+        expect_groups(&rt, rt.alloc(), groups)?;
+    }
+    Ok(())
+}
+
+#[test]
+fn other_characters_are_refused(rt: HostRuntime) -> Result<(), Fail> {
+    for place in 0..64 {
+        expect_refused(&rt, rt.alloc(), place)?;
+    }
+    for place in 0..63 {
+        expect_wide_refused(&rt, rt.alloc(), place)?;
     }
     Ok(())
 }

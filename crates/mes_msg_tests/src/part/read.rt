@@ -4,7 +4,7 @@ use crate::support::{expect_fault, part_fault_of, row_of};
 use mes_json::{read_tape, read_text, write_text};
 use mes_part::{
     Label, Labels, List, Part, PartFault, Path, Trail, find_rows, left_out, list_tree,
-    read_either_list, read_list, written_again,
+    nothing_found, read_either_list, read_list, written_again,
 };
 use std::alloc::Global;
 use std::process::Abort;
@@ -63,8 +63,9 @@ const NOT_THERE: [&str; 3] = ["{}", "{\"x\":null}", "{\"y\":{},\"y\":{}}"];
 /// The answer to a member `x` that is left out.
 fn read_left_out(alloc: Global, text: &str) -> Result<Result<(), PartFault>, Fail> {
     let tape = read_tape(alloc, text.as_bytes())?;
-    match find_rows::<1>(alloc, &tape.root(), &["x"], &Trail::new()) {
-        Ok(rows) => Ok(left_out(alloc, rows.at(0), "x", &Trail::new())),
+    let mut found = nothing_found::<1>();
+    match find_rows(alloc, &tape.root(), &["x"], &Trail::new(), &mut found) {
+        Ok(()) => Ok(left_out(alloc, &found[0], "x", &Trail::new())),
         Err(_) => Err("an object")?,
     }
 }
