@@ -1,0 +1,83 @@
+//! Calls that a session is asked to make, like given ones.
+
+use mes_model::{OwedKey, Part, TaskInfo};
+use mes_msg::{
+    Accept, Acknowledge, Call, Decline, Kill, Message, Operation, Reconcile, Shutdown, Subscribe,
+};
+use mes_session::{Refusal, Session};
+use std::alloc::Global;
+
+/// Asks for a call made of what stands in another.
+pub(crate) fn make(alloc: Global, session: &mut Session, call: &Call) -> Result<Call, Refusal> {
+    match call {
+        Call::Subscribe { body, .. } => subscribe(session, body),
+        Call::Accept { body, .. } => accept(session, body),
+        Call::Decline { body, .. } => decline(session, body),
+        Call::Revive { .. } => session.revive(),
+        Call::Kill { body, .. } => kill(session, body),
+        Call::Acknowledge { body, .. } => acknowledge(alloc, session, body),
+        Call::Reconcile { body, .. } => reconcile(session, body),
+        Call::Teardown { .. } => session.teardown(),
+        Call::Suppress { .. } => session.suppress(),
+        Call::Shutdown { body, .. } => shutdown(session, body),
+        Call::Message { body, .. } => message(session, body),
+    }
+}
+
+/// Asks for a SUBSCRIBE like another.
+fn subscribe(session: &mut Session, body: &Subscribe) -> Result<Call, Refusal> {
+    session.subscribe(&body.framework_info)
+}
+
+/// Asks for an ACCEPT like another.
+fn accept(session: &mut Session, body: &Accept) -> Result<Call, Refusal> {
+    let ids = body.offer_ids.as_slice();
+    session.accept(ids, tasks_of(body), body.filters.as_ref())
+}
+
+/// The tasks that an ACCEPT launches by its first operation, or none.
+fn tasks_of(body: &Accept) -> &[TaskInfo] {
+    match body.operations.as_slice().first() {
+        Some(Operation::Launch { task_infos }) => task_infos.as_slice(),
+        None => &[],
+    }
+}
+
+/// Asks for a DECLINE like another.
+fn decline(session: &mut Session, body: &Decline) -> Result<Call, Refusal> {
+    session.decline(body.offer_ids.as_slice(), body.filters.as_ref())
+}
+
+/// Asks for a KILL like another.
+fn kill(session: &mut Session, body: &Kill) -> Result<Call, Refusal> {
+    session.kill(&body.task_id, body.agent_id.as_ref())
+}
+
+/// Asks for an ACKNOWLEDGE like another.
+fn acknowledge(alloc: Global, session: &mut Session, body: &Acknowledge) -> Result<Call, Refusal> {
+    let key = key_of(alloc, body)?;
+    session.acknowledge(&key)
+}
+
+/// The key that an ACKNOWLEDGE tells.
+fn key_of(alloc: Global, body: &Acknowledge) -> Result<OwedKey, Refusal> {
+    let agent = body.agent_id.copy(alloc)?;
+    let task = body.task_id.copy(alloc)?;
+    let uuid = body.uuid.copy(alloc)?;
+    Ok(OwedKey { agent, task, uuid })
+}
+
+/// Asks for a RECONCILE like another.
+fn reconcile(session: &mut Session, body: &Reconcile) -> Result<Call, Refusal> {
+    session.reconcile(body.tasks.as_slice())
+}
+
+/// Asks for a SHUTDOWN like another.
+fn shutdown(session: &mut Session, body: &Shutdown) -> Result<Call, Refusal> {
+    session.shutdown(&body.executor_id, &body.agent_id)
+}
+
+/// Asks for a MESSAGE like another.
+fn message(session: &mut Session, body: &Message) -> Result<Call, Refusal> {
+    session.message(&body.agent_id, &body.executor_id, body.payload.as_slice())
+}
