@@ -6,32 +6,24 @@ use crate::memory::NoMemory;
 use crate::plain::BLOCK;
 use std::alloc::Global;
 use std::marker::Model;
-use std::simd::prelude::*;
 
-/// How many bytes behind the texts are cleared at once.
-const CLEARED: usize = 4096;
-
-/// Texts, one behind the other, with room behind them that is cleared. So a short text goes there as a whole block, in one store
-/// of a fixed size, of which only its own bytes count. A contract sees the texts and how many bytes of memory they have.
+/// Texts, one behind the other, of strings and numbers that were read. The vector has their bytes and no other: what room there is
+/// behind them is capacity. A short text goes there as a whole block, in one store of a fixed size, and the rest of the block is
+/// cut off again. A contract sees the texts and how many bytes of memory they have.
 #[derive(Drop)]
 pub(crate) struct Texts {
-    /// The texts, and cleared bytes.
     bytes: Vec<u8>,
-    /// How many of them are texts.
-    used: usize,
 }
 
 impl Model for Texts {
-    ghost use Rattle.std.specs.Prelude.{◌≤◌, length, take, vec_capacity};
+    ghost use Rattle.std.specs.Prelude.{vec_capacity};
     ghost use Rattle.mes_json.specs.Texts.{Texts as texts, texts_code};
 
     ghost Value = { texts };
 
     ghost coded = { texts_code };
 
-    ghost view = { λ t. record { items = take t.used t.bytes.items; room = vec_capacity t.bytes } };
-
-    ghost invariant = { λ t. t.used ≤ length t.bytes.items };
+    ghost view = { λ t. record { items = t.bytes.items; room = vec_capacity t.bytes } };
 }
 
 impl Texts {
@@ -41,7 +33,6 @@ impl Texts {
     {
         Texts {
             bytes: Vec::new(alloc),
-            used: 0,
         }
     }
 
@@ -50,7 +41,7 @@ impl Texts {
     pub(crate) fn len(&self) -> usize
         ensures { result ≡ length self.now.items }
     {
-        self.used
+        self.bytes.len()
     }
 
     /// How many bytes of memory they have.
@@ -65,7 +56,7 @@ impl Texts {
     pub(crate) fn as_slice(&self) -> &[u8]
         ensures { result.now ≡ self.now.items }
     {
-        &self.bytes[..self.used]
+        self.bytes.as_slice()
     }
 
     /// Lets the texts go, and keeps the memory.
@@ -73,7 +64,7 @@ impl Texts {
         ensures items { self.new.items ≡ [] }
         ensures room { self.new.room ≡ self.old.room }
     {
-        self.used = 0;
+        self.bytes.clear();
     }
 
     /// Appends a byte. Without memory for it the texts stay.
@@ -82,12 +73,7 @@ impl Texts {
         ensures ok { OnOk result (self.new.items ≡ self.old.items ++ byte ∷ []) }
         ensures err { OnErr result (self.new.items ≡ self.old.items) }
     {
-        if self.used == self.bytes.len() {
-            make_room(&mut self.bytes, self.used, 1)?;
-        }
-        self.bytes[self.used] = byte;
-        self.used += 1;
-        Ok(())
+        Ok(self.bytes.push(byte)?)
     }
 
     /// Appends bytes. Without memory for them the texts stay.
@@ -95,14 +81,7 @@ impl Texts {
         ensures ok { OnOk result (self.new.items ≡ self.old.items ++ bytes.now) }
         ensures err { OnErr result (self.new.items ≡ self.old.items) }
     {
-        let count = bytes.len();
-        if self.bytes.len() - self.used < count {
-            make_room(&mut self.bytes, self.used, count)?;
-        }
-        let end = self.used + count;
-        self.bytes[self.used..end].copy_from_slice(bytes);
-        self.used = end;
-        Ok(())
+        Ok(self.bytes.extend_from_slice(bytes)?)
     }
 
     /// Appends so many bytes of a slice, or none where that growth is refused memory: how many. The few of most texts go as a whole
@@ -113,13 +92,16 @@ impl Texts {
         ensures text { self.new.items ≡ self.old.items ++ take result bytes.now }
         ensures all { (result ≡ count) ⊎ (result ≡ 0) }
     {
-        let used = self.used;
-        let spare = self.bytes.len() - used;
+        let spare = self.bytes.capacity() - self.bytes.len();
         if count > BLOCK || bytes.len() < BLOCK || spare < BLOCK {
             return self.append_any(bytes, count);
         }
-        u8x16::from_slice(bytes).copy_to_slice(&mut self.bytes[used..]);
-        self.used = used + count;
+        let end = self.bytes.len() + count;
+        // There is room, so this is never refused.
+        match self.bytes.extend_from_slice(&bytes[..BLOCK]) {
+            Ok(()) => self.bytes.truncate(end),
+            Err(_) => return 0,
+        }
         count
     }
 
@@ -148,22 +130,4 @@ impl Texts {
         self.clear();
         self
     }
-}
-
-/// Makes room for so many bytes behind the texts, which are so many, and for a block behind those: some thousands are cleared at
-/// once. Without memory for it the bytes stay.
-#[cold]
-#[inline(never)]
-fn make_room(bytes: &mut Vec<u8>, used: usize, count: usize) -> Result<(), NoMemory>
-    requires { used ≤ length bytes.old.items }
-    ensures stays { take used bytes.new.items ≡ take used bytes.old.items }
-    ensures inside { used ≤ length bytes.new.items }
-    ensures room { OnOk result (used + count ≤ length bytes.new.items) }
-{
-    let least = count.saturating_add(BLOCK);
-    bytes.reserve(least)?;
-    let cleared = bytes.len().saturating_add(least).saturating_add(CLEARED);
-    let most = bytes.capacity();
-    bytes.resize(cleared.min(most), 0)?;
-    Ok(())
 }
