@@ -6,6 +6,7 @@ use crate::memory::NoMemory;
 use crate::plain::BLOCK;
 use std::alloc::Global;
 use std::marker::Model;
+use std::simd::prelude::*;
 
 /// Texts, one behind the other, of strings and numbers that were read. The vector has their bytes and no other: what room there is
 /// behind them is capacity. A short text goes there as a whole block, in one store of a fixed size, and the rest of the block is
@@ -96,9 +97,10 @@ impl Texts {
         if count > BLOCK || bytes.len() < BLOCK || spare < BLOCK {
             return self.append_any(bytes, count);
         }
+        let block = u8x16::from_slice(bytes);
         let end = self.bytes.len() + count;
         // There is room, so this is never refused.
-        match self.bytes.extend_from_slice(&bytes[..BLOCK]) {
+        match self.bytes.extend_from_slice(block.as_array()) {
             Ok(()) => self.bytes.truncate(end),
             Err(_) => return 0,
         }
