@@ -120,16 +120,16 @@ fn take_piece(
     Ok(Some(total))
 }
 
-// The letter of what the end of the input is told as, behind the last piece.
+// The letter of what the end of the input is told as, behind the last piece: K where it is well.
 fn letter_of_end(decoder: &Decoder) -> u8 {
     match decoder.finish() {
-        Ok(()) => b'C',
+        Ok(()) => b'K',
         Err(fault) => letter(&Out::Fault(fault)),
     }
 }
 
-// In a cut into two pieces the answers are these, and where no end and no fault came, behind them that of the end of the input, with
-// all that is used.
+// In a cut into two pieces the answers are these, and where no end and no fault came, behind them M and the answer to the end of the
+// input, with all that is used.
 fn expect_cut(
     rt: &impl Abort,
     alloc: Global,
@@ -149,6 +149,7 @@ fn expect_cut(
         total = take_piece(&mut decoder, rest, before, &mut found)?;
     }
     if let Some(used) = total {
+        found.push((b'M', used))?;
         found.push((letter_of_end(&decoder), used))?;
     }
     assert_eq!(rt; found.as_slice(), expected, "{cut}");
@@ -171,6 +172,7 @@ fn expect_bytes(
         }
     }
     if let Some(used) = total {
+        found.push((b'M', used))?;
         found.push((letter_of_end(&decoder), used))?;
     }
     assert_eq!(rt; found.as_slice(), expected, "by bytes");
@@ -211,10 +213,10 @@ fn long_trailers(alloc: Global) -> Result<Vec<u8>, Fail> {
 
 #[test]
 fn streams_in_every_cut(rt: HostRuntime) -> Result<(), Fail> {
-    let two_and_more = [(b'E', 27), (b'E', 50), (b'6', 55)];
+    let two_and_more = [(b'E', 27), (b'E', 50), (b'M', 55), (b'6', 55)];
     expect(&rt, rt.alloc(), TWO_AND_MORE, &two_and_more)?;
     expect(&rt, rt.alloc(), b"2\r\n5\n\r\n0\r\n\r\n", &[(b'a', 12)])?;
-    expect(&rt, rt.alloc(), b"5\r\n20\n", &[(b'6', 6)])?;
+    expect(&rt, rt.alloc(), b"5\r\n20\n", &[(b'M', 6), (b'6', 6)])?;
     expect(&rt, rt.alloc(), b"0\r\n\r\nXYZ", &[(b'C', 5)])?;
     expect(&rt, rt.alloc(), b"g", &[(b'1', 1)])?;
     expect(&rt, rt.alloc(), b"1\n", &[(b'1', 2)])?;
