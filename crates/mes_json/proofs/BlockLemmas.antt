@@ -1,4 +1,4 @@
--- Sixteen bytes are looked at together for the plain ones.
+-- Some bytes are looked at together for the plain ones.
 --     plain_marks    a byte is marked just where it is not plain
 --     mask_is        the mask that the four tests of a block give
 use Rattle.std.proofs.Common.{◌≡◌, ℕ, ◌+◌, ◌%◌, ◌^◌, ◌≤◌, Bool, true, false, cond, ◌||◌, leb, ltb, eqb, List, [], ◌∷◌, length, map, replicate, take, drop, bit_or, refl, ap, sym, ◌∙◌, arith}
@@ -71,9 +71,9 @@ marked_is_none c is plain =
 pub plain_marks : Marks IsPlain marked
 plain_marks = record { unmarked = λ c is. plain_tests c (sym (is_marked c) ∙ is); marked = marked_is_none }
 
--- ---- the mask of the block at this place
-abbrev pub mask_at : List ℕ → ℕ → ℕ
-mask_at bytes place = mask_l (map (top 7) (marked_lanes 16 (take 16 (drop place bytes)))) % 2 ^ 64
+-- ---- the mask of the block of w bytes at this place
+abbrev pub mask_at : ℕ → List ℕ → ℕ → ℕ
+mask_at w bytes place = mask_l (map (top 7) (marked_lanes w (take w (drop place bytes)))) % 2 ^ 64
 
-pub mask_is : (bytes : List ℕ) (place : ℕ) → place + 16 ≤ length bytes → mask_at bytes place ≡ mask_l (map marked (take 16 (drop place bytes)))
-mask_is bytes place room = marks_of_block (take 16 (drop place bytes)) 16 (length-chunk place 16 bytes room) (omega arith)
+pub mask_is : (w : ℕ) (bytes : List ℕ) (place : ℕ) → w ≤ 64 → place + w ≤ length bytes → mask_at w bytes place ≡ mask_l (map marked (take w (drop place bytes)))
+mask_is w bytes place small room = marks_of_block (take w (drop place bytes)) w (length-chunk place w bytes room) small

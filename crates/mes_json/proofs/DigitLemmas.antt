@@ -25,7 +25,7 @@ is_nought c e = grind (arith, nat_tests)
 is_other : (c : ℕ) → 48 ≤ c → c ≤ 57 → c == 48 ≡ false → letter_of c ≡ digit
 is_other c least most e = grind (arith, nat_tests)
 
-leads : (x : NumberState) (c : ℕ) → KeepsOn x → IsDigit c → number_next x (letter_of c) ≡ Some x
+pub leads : (x : NumberState) (c : ℕ) → KeepsOn x → IsDigit c → number_next x (letter_of c) ≡ Some x
 leads x c keeps is = by (c == 48) refl
   where
     by : (b : Bool) → c == 48 ≡ b → number_next x (letter_of c) ≡ Some x

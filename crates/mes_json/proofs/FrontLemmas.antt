@@ -50,40 +50,40 @@ front_stops : (P : ℕ → Type 0) (mark : ℕ → Bool) → Marks P mark → (x
 front_stops P mark marks xs inside holds =
     marks.marked (get_or xs (front mark xs) 0) (not-false _ (prefix_len_stops (λ c. not (mark c)) xs 0 inside)) holds
 
--- what so many bytes are in front of the block at this place
-pub record IsFront (P : ℕ → Type 0) (bytes : List ℕ) (place n : ℕ) : Type 0 where
-  pub inside : n ≤ 16
+-- what so many bytes are in front of the block of w bytes at this place
+pub record IsFront (P : ℕ → Type 0) (bytes : List ℕ) (place w n : ℕ) : Type 0 where
+  pub inside : n ≤ w
   pub holds : AllByRecursion P (take n (drop place bytes))
-  pub stops : n < 16 → P (get_or bytes (place + n) 0) → ⊥
+  pub stops : n < w → P (get_or bytes (place + n) 0) → ⊥
 
-front_placed : (P : ℕ → Type 0) (mark : ℕ → Bool) → Marks P mark → (bytes : List ℕ) (place n : ℕ) → place + 16 ≤ length bytes
-    → n ≡ front mark (take 16 (drop place bytes)) → IsFront P bytes place n
-front_placed P mark marks bytes place n room is =
-    let block = take 16 (drop place bytes) in
-    let long : length block ≡ 16 = length-chunk place 16 bytes room in
-    let inside : n ≤ 16 = omega (arith, is, long, prefix_len-le-length (λ c. not (mark c)) block) in
+front_placed : (P : ℕ → Type 0) (mark : ℕ → Bool) → Marks P mark → (bytes : List ℕ) (place w n : ℕ) → place + w ≤ length bytes
+    → n ≡ front mark (take w (drop place bytes)) → IsFront P bytes place w n
+front_placed P mark marks bytes place w n room is =
+    let block = take w (drop place bytes) in
+    let long : length block ≡ w = length-chunk place w bytes room in
+    let inside : n ≤ w = omega (arith, is, long, prefix_len-le-length (λ c. not (mark c)) block) in
     let Q : ℕ → Type 0 = λ k. AllByRecursion P (take k block) in
     record {
       inside = inside;
-      holds = subst (λ (q : List ℕ). AllByRecursion P q) (take-take n 16 (drop place bytes) inside) (subst Q (sym is) (front_holds P mark marks block));
+      holds = subst (λ (q : List ℕ). AllByRecursion P q) (take-take n w (drop place bytes) inside) (subst Q (sym is) (front_holds P mark marks block));
       stops = λ below holds.
           let first : front mark block < length block = omega (arith, is, long, below) in
-          let same : get_or bytes (place + n) 0 ≡ get_or block (front mark block) 0 = sym (get_or-chunk place 16 bytes n 0 below) ∙ ap (λ (k : ℕ). get_or block k 0) is in
+          let same : get_or bytes (place + n) 0 ≡ get_or block (front mark block) 0 = sym (get_or-chunk place w bytes n 0 below) ∙ ap (λ (k : ℕ). get_or block k 0) is in
           front_stops P mark marks block first (subst P same holds);
     }
 
 -- ---- by the mask of the block at this place
-pub front_whole : (P : ℕ → Type 0) (mark : ℕ → Bool) → Marks P mark → (bytes : List ℕ) (place mask : ℕ) → mask ≡ mask_l (map mark (take 16 (drop place bytes))) → mask ≡ 0
-    → AllByRecursion P (take 16 (drop place bytes))
-front_whole P mark marks bytes place mask is none = none_marked P mark marks (take 16 (drop place bytes)) (sym is ∙ none)
+pub front_whole : (P : ℕ → Type 0) (mark : ℕ → Bool) → Marks P mark → (bytes : List ℕ) (place w mask : ℕ) → mask ≡ mask_l (map mark (take w (drop place bytes))) → mask ≡ 0
+    → AllByRecursion P (take w (drop place bytes))
+front_whole P mark marks bytes place w mask is none = none_marked P mark marks (take w (drop place bytes)) (sym is ∙ none)
 
-pub front_found : (P : ℕ → Type 0) (mark : ℕ → Bool) → Marks P mark → (bytes : List ℕ) (place mask : ℕ) → place + 16 ≤ length bytes
-    → mask ≡ mask_l (map mark (take 16 (drop place bytes))) → (mask ≡ 0 → ⊥) → IsFront P bytes place (count_trailing_zeros 64 mask)
-front_found P mark marks bytes place mask room is some =
-    let block = take 16 (drop place bytes) in
+pub front_found : (P : ℕ → Type 0) (mark : ℕ → Bool) → Marks P mark → (bytes : List ℕ) (place w mask : ℕ) → w ≤ 64 → place + w ≤ length bytes
+    → mask ≡ mask_l (map mark (take w (drop place bytes))) → (mask ≡ 0 → ⊥) → IsFront P bytes place w (count_trailing_zeros 64 mask)
+front_found P mark marks bytes place w mask small room is some =
+    let block = take w (drop place bytes) in
     let found : 0 < mask_l (map mark block) = omega (arith, is, some) in
-    front_placed P mark marks bytes place (count_trailing_zeros 64 mask) room
-    (ap (λ (k : ℕ). count_trailing_zeros 64 k) is ∙ trailing_mask_l mark 64 block (omega (arith, length-chunk place 16 bytes room)) found)
+    front_placed P mark marks bytes place w (count_trailing_zeros 64 mask) room
+    (ap (λ (k : ℕ). count_trailing_zeros 64 k) is ∙ trailing_mask_l mark 64 block (omega (arith, small, length-chunk place w bytes room)) found)
 
 -- ---- bytes behind bytes
 all_append : (P : ℕ → Type 0) (xs ys : List ℕ) → AllByRecursion P xs → AllByRecursion P ys → AllByRecursion P (xs ++ ys)

@@ -64,6 +64,7 @@ pub mod LengthLemmas
 pub mod LengthsLemmas
 pub mod RunOfBytesLemmas
 pub mod SameLemmas
+pub mod ShortLemmas
 pub mod PassingLemmas
 pub mod NextLemmas
 pub mod TokensHeld

@@ -1,10 +1,11 @@
 -- How characters of a string that stand for themselves move the reader, all at once.
 --     characters_taken    a run of them is taken
 --     front_taken         or none of it
+--     few_taken           the same of a few in a block
 --     string_taken        the quotation mark behind them
 --     runs_further        and what is taken behind that
 --     colon_taken         a colon
-use Rattle.std.proofs.Common.{◌≡◌, ℕ, ◌+◌, ◌-◌, ◌<◌, ◌≤◌, List, ◌∷◌, ◌++◌, length, take, drop, Some, Ok, get_or, ap, sym, ◌∙◌, refl, subst, arith, ◌⊎◌, inl, inr}
+use Rattle.std.proofs.Common.{◌≡◌, ℕ, ◌+◌, ◌-◌, ◌<◌, ◌≤◌, List, ◌∷◌, ◌++◌, length, take, drop, Some, Ok, get_or, ap, sym, ◌∙◌, refl, subst, arith, length-drop, ◌⊎◌, inl, inr}
 use Rattle.mes_json.specs.Machine as m
 use Rattle.mes_json.specs.Machine.{Frame, State, step, run}
 use Rattle.mes_json.specs.Machine.Frame.{frame}
@@ -18,7 +19,7 @@ use Rattle.mes_json.specs.declared.at.Purpose as purpose
 use Rattle.mes_json.specs.declared.at.At as at
 use Rattle.mes_json.specs.declared.reader.Reader.{Reader}
 use Rattle.mes_json.proofs.ReaderLemmas.{part, due, view_at, form_at, covered_at}
-use Rattle.mes_json.proofs.TakenLemmas.{runs_over, nothing_taken, none_kept, one_more}
+use Rattle.mes_json.proofs.TakenLemmas.{rest_is, runs_over, nothing_taken, none_kept, one_more}
 use Rattle.mes_json.proofs.StringLemmas.{string_ends}
 
 abbrev pub inside : purpose.Purpose → at.At
@@ -56,6 +57,16 @@ front_taken old new p b from run n fits is_at within few alone (inl all) keeps =
     characters_taken old new p b from n fits is_at within (omega (arith, all, few)) (subst (λ (k : ℕ). StandAlone (take k (take (length b - from) (drop from b)))) (sym all) alone) keeps
 front_taken old new p b from run n fits is_at within few alone (inr none) keeps =
     none_kept old new (inside p) b (take (length b - from) (drop from b)) from n none fits is_at within keeps
+
+-- a few bytes of a block
+pub few_taken : (old new : Reader) (p : purpose.Purpose) (b : List ℕ) (from n : ℕ) → Fits old → old.at ≡ inside p → n < 16 → from + 16 ≤ length b
+    → StandAlone (take n (drop from b)) → Keeps old (take n (take (length b - from) (drop from b))) (inside p) new → RunsTo old b from (from + n) new
+few_taken old new p b from n fits is_at few block alone keeps =
+    let within : from ≤ length b = omega (arith, block) in
+    let same = rest_is b from within in
+    let enough : n ≤ length (drop from b) = subst (λ (k : ℕ). n ≤ k) (sym (length-drop from b)) (omega (arith, few, block)) in
+    characters_taken old new p b from n fits is_at within (subst (λ (x : List ℕ). n ≤ length x) (sym same) enough)
+    (subst (λ (x : List ℕ). StandAlone (take n x)) (sym same) alone) keeps
 
 -- the quotation mark that ends a string
 pub string_taken : (old new : Reader) (p : purpose.Purpose) (b : List ℕ) (from : ℕ) → Puts old old.nesting.items (string_node p old) (behind_string p) new

@@ -1,5 +1,5 @@
 -- What the reader stands for: a state of the machine. Private clauses alone cite it.
-use Rattle.std.specs.Prelude.{◌≡◌, ◌≢◌, ℕ, ◌-◌, ◌<◌, ◌≤◌, ◌⊎◌, Bool, true, false, List, [], ◌∷◌, ◌++◌, length, take, drop, Option, Some, None, option_and_then, Result, Ok, Err, slice_get}
+use Rattle.std.specs.Prelude.{◌≡◌, ◌≢◌, ℕ, ◌+◌, ◌-◌, ◌<◌, ◌≤◌, ◌⊎◌, Bool, true, false, List, [], ◌∷◌, ◌++◌, length, take, drop, Option, Some, None, option_and_then, Result, Ok, Err, slice_get}
 use Rattle.mes_fixed.specs.Automaton.{nought, digit, letter_of, number_next}
 use Rattle.mes_fixed.specs.declared.automaton.NumberState.{NumberState}
 use Rattle.mes_json.specs.Tree.{Tree, Members}
@@ -251,6 +251,19 @@ pub record Puts (old : Reader) (nesting : List Open) (x : node.Node) (place : at
 -- the reader behind a value that is one more node
 abbrev pub with_value : node.Node → Reader → Reader
 with_value x r = record r { at = at.TheVariants.After; nodes = record { items = r.nodes.items ++ x ∷ []; room = r.nodes.room } }
+
+-- the reader within a string that has begun there and of which these bytes are read
+abbrev pub within_string : purpose.Purpose → List ℕ → Reader → Reader
+within_string p q r = record r {
+  at = at.TheVariants.Quoted p mid.TheVariants.Between;
+  start = length r.text.items;
+  text = record { items = r.text.items ++ q; room = r.text.room };
+}
+
+-- there is memory for a block of sixteen bytes of text and for a node
+pub record HasRoom (r : Reader) : Type 0 where
+  pub texts : length r.text.items + 16 ≤ r.text.room
+  pub nodes : length r.nodes.items < r.nodes.room
 
 -- nothing has changed but, perhaps, the room
 pub record Stays (old new : Reader) : Type 0 where

@@ -47,6 +47,9 @@ pub(crate) fn number_run(bytes: &[u8]) -> (usize, NumberState)
 {
     let mut part = NumberState::AtStart;
     for (place, byte) in bytes.iter().enumerate() {
+        if is_digit(*byte) && keeps_on(part) {
+            continue;
+        }
         match next_state(part, *byte) {
             Some(next) => part = next,
             None => return (place, part),

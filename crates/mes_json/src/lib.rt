@@ -30,6 +30,7 @@ mod read;
 mod reader;
 mod run;
 mod same;
+mod short;
 mod skip;
 mod stop;
 mod tape;

@@ -1,6 +1,6 @@
 //! What usually stands behind a string in an object, taken at once: the value behind a name, the ends of objects and arrays, and the
 //! comma with the next name. A reader that has come to anything else goes on byte by byte.
-ghost use Rattle.std.specs.Prelude.{◌≡◌, ◌⊎◌, ◌<◌, ◌≤◌, [], ◌∷◌, ◌++◌, true, false, Some, length};
+ghost use Rattle.std.specs.Prelude.{◌≡◌, ◌⊎◌, ◌<◌, ◌≤◌, [], ◌∷◌, ◌++◌, true, false, Some, length, slice_index};
 ghost use Rattle.mes_json.specs.Machine.{step};
 ghost use Rattle.mes_json.specs.Reader.{Fits, Puts, Reached, RunsTo, Stays, innermost, outer, state_view};
 
@@ -31,7 +31,7 @@ impl Reader {
         place
     }
 
-    /// Takes what is expected at this place, if it stands there.
+    /// Takes what is expected at this place, if it stands there, and the member that may begin behind it.
     #[inline(always)]
     fn take_token(&mut self, bytes: &[u8], from: usize) -> usize
         requires inside { from < length bytes.now }
@@ -39,15 +39,15 @@ impl Reader {
         requires reached { Reached self.old }
         ensures { RunsTo self.old bytes.now from result self.new }
     {
-        match self.at {
+        let behind = match self.at {
             At::Value => self.take_value(bytes, from),
             At::After => self.take_after(bytes, from),
-            At::FirstName | At::Name => self.take_name(bytes, from),
             _ => from,
-        }
+        };
+        self.take_member(bytes, behind)
     }
 
-    /// Takes a string, the beginning of an object with its first name, or a number.
+    /// Takes a string, the beginning of an object, or a number.
     #[inline(always)]
     fn take_value(&mut self, bytes: &[u8], from: usize) -> usize
         requires at { self.old.at ≡ At.Value }
@@ -57,40 +57,14 @@ impl Reader {
         ensures { RunsTo self.old bytes.now from result self.new }
     {
         match bytes[from] {
-            b'"' => {
-                self.begin_text();
-                self.take_string(Purpose::Value, bytes, from + 1)
-            }
-            b'{' => {
-                if self.open_object() {
-                    self.take_name(bytes, from + 1)
-                } else {
-                    from
-                }
-            }
+            b'"' => self.take_text(bytes, from),
+            b'{' => { if self.open_object() { from + 1 } else { from } }
             b'-' | b'0'..=b'9' => self.take_number(bytes, from),
             _ => from,
         }
     }
 
-    /// Takes a name and the colon behind it.
-    #[inline(always)]
-    fn take_name(&mut self, bytes: &[u8], from: usize) -> usize
-        requires at { (self.old.at ≡ At.FirstName) ⊎ (self.old.at ≡ At.Name) }
-        requires inside { from ≤ length bytes.now }
-        requires fits { Fits self.old }
-        requires reached { Reached self.old }
-        ensures { RunsTo self.old bytes.now from result self.new }
-    {
-        if from < bytes.len() && bytes[from] == b'"' {
-            self.begin_name();
-            self.take_string(Purpose::Name, bytes, from + 1)
-        } else {
-            from
-        }
-    }
-
-    /// Takes what stands behind a value: a comma with the name that may follow it, or the end of what is open.
+    /// Takes the byte behind a value: a comma, or the end of what is open.
     #[inline(always)]
     fn take_after(&mut self, bytes: &[u8], from: usize) -> usize
         requires at { self.old.at ≡ At.After }
@@ -99,13 +73,105 @@ impl Reader {
         requires reached { Reached self.old }
         ensures { RunsTo self.old bytes.now from result self.new }
     {
-        if !self.go_behind(bytes[from]) {
-            return from;
+        if self.go_behind(bytes[from]) {
+            from + 1
+        } else {
+            from
         }
+    }
+
+    /// Takes the name at this place, where one is due and stands there, the colon behind it, and the string behind that.
+    #[inline(always)]
+    fn take_member(&mut self, bytes: &[u8], from: usize) -> usize
+        requires inside { from ≤ length bytes.now }
+        requires fits { Fits self.old }
+        requires reached { Reached self.old }
+        ensures { RunsTo self.old bytes.now from result self.new }
+    {
         match self.at {
-            At::Name => self.take_name(bytes, from + 1),
-            _ => from + 1,
+            At::FirstName | At::Name if from < bytes.len() && bytes[from] == b'"' => {
+                let behind = self.take_name(bytes, from);
+                self.take_text_behind(bytes, behind)
+            }
+            _ => from,
         }
+    }
+
+    /// Takes a name from its quotation mark at this place, and the colon behind it.
+    #[inline(always)]
+    fn take_name(&mut self, bytes: &[u8], from: usize) -> usize
+        requires at { (self.old.at ≡ At.FirstName) ⊎ (self.old.at ≡ At.Name) }
+        requires inside { from < length bytes.now }
+        requires quote { slice_index bytes.now from ≡ 34 }
+        requires fits { Fits self.old }
+        requires reached { Reached self.old }
+        ensures { RunsTo self.old bytes.now from result self.new }
+    {
+        if let Some(count) = self.short_run(bytes, from + 1) {
+            let behind = from + 1 + count + 1;
+            if behind < bytes.len() && bytes[behind] == b':' {
+                return self.take_short_name(bytes, from, count);
+            }
+        }
+        self.take_any_name(bytes, from)
+    }
+
+    /// The same of any name. Not inlined, since most are short.
+    #[inline(never)]
+    fn take_any_name(&mut self, bytes: &[u8], from: usize) -> usize
+        requires at { (self.old.at ≡ At.FirstName) ⊎ (self.old.at ≡ At.Name) }
+        requires inside { from < length bytes.now }
+        requires quote { slice_index bytes.now from ≡ 34 }
+        requires fits { Fits self.old }
+        requires reached { Reached self.old }
+        ensures { RunsTo self.old bytes.now from result self.new }
+    {
+        self.begin_name();
+        self.take_string(Purpose::Name, bytes, from + 1)
+    }
+
+    /// Takes the string at this place, where a value is due and it is one.
+    #[inline(always)]
+    fn take_text_behind(&mut self, bytes: &[u8], from: usize) -> usize
+        requires inside { from ≤ length bytes.now }
+        requires fits { Fits self.old }
+        requires reached { Reached self.old }
+        ensures { RunsTo self.old bytes.now from result self.new }
+    {
+        match self.at {
+            At::Value if from < bytes.len() && bytes[from] == b'"' => self.take_text(bytes, from),
+            _ => from,
+        }
+    }
+
+    /// Takes a string that is a value from its quotation mark at this place.
+    #[inline(always)]
+    fn take_text(&mut self, bytes: &[u8], from: usize) -> usize
+        requires at { self.old.at ≡ At.Value }
+        requires inside { from < length bytes.now }
+        requires quote { slice_index bytes.now from ≡ 34 }
+        requires fits { Fits self.old }
+        requires reached { Reached self.old }
+        ensures { RunsTo self.old bytes.now from result self.new }
+    {
+        match self.short_run(bytes, from + 1) {
+            Some(count) => self.take_short_text(bytes, from, count),
+            None => self.take_any_text(bytes, from),
+        }
+    }
+
+    /// The same of any string. Not inlined, since most are short.
+    #[inline(never)]
+    fn take_any_text(&mut self, bytes: &[u8], from: usize) -> usize
+        requires at { self.old.at ≡ At.Value }
+        requires inside { from < length bytes.now }
+        requires quote { slice_index bytes.now from ≡ 34 }
+        requires fits { Fits self.old }
+        requires reached { Reached self.old }
+        ensures { RunsTo self.old bytes.now from result self.new }
+    {
+        self.begin_text();
+        self.take_string(Purpose::Value, bytes, from + 1)
     }
 
     /// Takes the byte behind a value, where it is a comma, or the end of what is open and there is memory for it.

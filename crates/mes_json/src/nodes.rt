@@ -1,5 +1,5 @@
 //! Nodes that are put one behind the other.
-ghost use Rattle.std.specs.Prelude.{◌≡◌, ℕ, ◌+◌, ◌-◌, ◌<◌, ◌≤◌, List, [], ◌∷◌, ◌++◌, None, length, OnOk, OnErr};
+ghost use Rattle.std.specs.Prelude.{◌≡◌, ℕ, ◌+◌, ◌-◌, ◌<◌, ◌≤◌, List, [], ◌∷◌, ◌++◌, true, None, length, OnOk, OnErr};
 ghost use Rattle.std.specs.List.{AllByRecursion};
 ghost use Rattle.mes_json.specs.Tape.{HasSpan};
 ghost use Rattle.mes_json.specs.Cursor.{tokens_held};
@@ -140,9 +140,17 @@ impl Nodes {
         }
     }
 
-    /// Puts a node that begins and ends no array and no object.
+    /// Whether there is memory for one more.
     #[inline(always)]
-    fn put_leaf(&mut self, node: Node)
+    pub(crate) fn has_room(&self) -> bool
+        ensures { result ≡ true → length self.now.items < self.now.room }
+    {
+        self.len() < self.room()
+    }
+
+    /// Puts a node that begins and ends no array and no object, where there is memory for it.
+    #[inline(always)]
+    pub(crate) fn put_leaf(&mut self, node: Node)
         requires room { length self.old.items < self.old.room }
         requires leaf { IsLeaf node }
         ensures items { self.new.items ≡ self.old.items ++ node ∷ [] }

@@ -8,6 +8,9 @@ use std::simd::prelude::*;
 /// How many bytes are looked at together.
 pub(crate) const BLOCK: usize = 16;
 
+/// How many of the last bytes, too few for a block, are.
+const HALF: usize = 8;
+
 /// How many plain characters the slice begins with. A block shows where they end, so most strings need one.
 pub(crate) fn plain_run(bytes: &[u8]) -> usize
     ensures inside { result ≤ length bytes.now }
@@ -22,7 +25,14 @@ pub(crate) fn plain_run(bytes: &[u8]) -> usize
         }
         place += BLOCK;
     }
-    run_by_byte(bytes, place)
+    if bytes.len() - place < HALF {
+        return run_by_byte(bytes, place);
+    }
+    let front = first_in_half(bytes, place);
+    if front < HALF {
+        return place + front;
+    }
+    run_by_byte(bytes, place + HALF)
 }
 
 /// Goes on from a place behind plain characters to the first byte that is none.
@@ -49,7 +59,8 @@ fn is_plain(byte: u8) -> bool
 }
 
 /// How many plain characters the block at this place begins with.
-fn first_in_block(bytes: &[u8], place: usize) -> usize
+#[inline(always)]
+pub(crate) fn first_in_block(bytes: &[u8], place: usize) -> usize
     requires { place + BLOCK ≤ length bytes.now }
     ensures inside { result ≤ BLOCK }
     ensures plain { AllByRecursion IsPlain (take result (drop place bytes.now)) }
@@ -63,6 +74,27 @@ fn first_in_block(bytes: &[u8], place: usize) -> usize
     let marks = marked.to_bitmask();
     if marks == 0 {
         BLOCK
+    } else {
+        marks.trailing_zeros() as usize
+    }
+}
+
+/// How many plain characters the half of a block at this place begins with.
+#[inline(always)]
+fn first_in_half(bytes: &[u8], place: usize) -> usize
+    requires { place + HALF ≤ length bytes.now }
+    ensures inside { result ≤ HALF }
+    ensures plain { AllByRecursion IsPlain (take result (drop place bytes.now)) }
+    ensures stops { result < HALF → IsPlain (slice_index bytes.now (place + result)) → ⊥ }
+{
+    let half = u8x8::from_slice(&bytes[place..]);
+    let marked = half.simd_lt(u8x8::splat(0x20))
+        | half.simd_ge(u8x8::splat(0x80))
+        | half.simd_eq(u8x8::splat(b'"'))
+        | half.simd_eq(u8x8::splat(b'\\'));
+    let marks = marked.to_bitmask();
+    if marks == 0 {
+        HALF
     } else {
         marks.trailing_zeros() as usize
     }

@@ -164,7 +164,7 @@ impl Reader {
 
     /// Takes the quotation mark at this place, which ends the string, and the colon behind a name.
     #[inline(always)]
-    fn take_end(&mut self, purpose: Purpose, bytes: &[u8], from: usize) -> usize
+    pub(crate) fn take_end(&mut self, purpose: Purpose, bytes: &[u8], from: usize) -> usize
         requires at { self.old.at ≡ At.Quoted purpose Mid.Between }
         requires inside { from < length bytes.now }
         requires quote { slice_index bytes.now from ≡ 34 }
@@ -572,7 +572,8 @@ impl Reader {
     /// The text of a string or a number begins.
     #[inline(always)]
     pub(crate) fn begin(&mut self, at: At)
-        ensures { Begins self.old [] at self.new }
+        ensures begins { Begins self.old [] at self.new }
+        ensures text { self.new.text ≡ self.old.text }
     {
         self.start = self.text.len();
         self.at = at;
@@ -656,9 +657,14 @@ impl Reader {
         ensures ok { OnOk result (Keeps self.old (encode_utf8 character) at self.new) }
         ensures err { OnErr result (Stays self.old self.new) }
     {
-        let mut bytes = [0; 4];
-        let text = character.encode_utf8(&mut bytes);
-        self.text.extend_from_slice(text.as_bytes())?;
+        let code = u32::from(character);
+        if code < 0x80 {
+            self.text.push(code as u8)?;
+        } else {
+            let mut bytes = [0; 4];
+            let text = character.encode_utf8(&mut bytes);
+            self.text.extend_from_slice(text.as_bytes())?;
+        }
         self.at = at;
         Ok(())
     }

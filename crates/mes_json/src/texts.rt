@@ -1,5 +1,5 @@
 //! The buffer of texts: what was read of strings and numbers, one behind the other.
-ghost use Rattle.std.specs.Prelude.{◌≡◌, ◌+◌, ◌⊎◌, ◌<◌, ◌≤◌, [], ◌∷◌, ◌++◌, length, take, OnOk, OnErr};
+ghost use Rattle.std.specs.Prelude.{◌≡◌, ◌+◌, ◌⊎◌, ◌≤◌, [], ◌∷◌, ◌++◌, true, length, take, OnOk, OnErr};
 ghost use Rattle.mes_json.specs.Texts.{IsNone};
 
 use crate::memory::NoMemory;
@@ -43,6 +43,15 @@ impl Texts {
         ensures { result ≡ length self.now.items }
     {
         self.bytes.len()
+    }
+
+    /// How many bytes the texts have with so many more, for which there is memory.
+    #[inline(always)]
+    pub(crate) fn end_behind(&self, count: usize) -> usize
+        requires { length self.now.items + count ≤ self.now.room }
+        ensures { result ≡ length self.now.items + count }
+    {
+        self.bytes.len() + count
     }
 
     /// How many bytes of memory they have.
@@ -93,18 +102,34 @@ impl Texts {
         ensures text { self.new.items ≡ self.old.items ++ take result bytes.now }
         ensures all { (result ≡ count) ⊎ (result ≡ 0) }
     {
-        let spare = self.bytes.capacity() - self.bytes.len();
-        if count > BLOCK || bytes.len() < BLOCK || spare < BLOCK {
+        if count > BLOCK || bytes.len() < BLOCK || !self.has_block() {
             return self.append_any(bytes, count);
         }
+        self.append_block(bytes, count);
+        count
+    }
+
+    /// Whether there is memory for a block behind the texts.
+    #[inline(always)]
+    pub(crate) fn has_block(&self) -> bool
+        ensures { result ≡ true → length self.now.items + BLOCK ≤ self.now.room }
+    {
+        self.bytes.capacity() - self.bytes.len() >= BLOCK
+    }
+
+    /// Appends so many bytes of the block that a slice begins with, by one store, where there is memory for the block.
+    #[inline(always)]
+    pub(crate) fn append_block(&mut self, bytes: &[u8], count: usize)
+        requires few { count ≤ BLOCK }
+        requires block { BLOCK ≤ length bytes.now }
+        requires room { length self.old.items + BLOCK ≤ self.old.room }
+        ensures { self.new.items ≡ self.old.items ++ take count bytes.now }
+    {
         let block = u8x16::from_slice(bytes);
         let end = self.bytes.len() + count;
-        // There is room, so this is never refused.
-        match self.bytes.extend_from_slice(block.as_array()) {
-            Ok(()) => self.bytes.truncate(end),
-            Err(_) => return 0,
+        if let Ok(()) = self.bytes.extend_from_slice(block.as_array()) {
+            self.bytes.truncate(end);
         }
-        count
     }
 
     /// The same, whatever their number. Not inlined, since most texts are short.

@@ -63,6 +63,66 @@ fn reads_each_end_of_a_run(rt: HostRuntime) -> Result<(), Fail> {
     Ok(())
 }
 
+/// Whether the bytes are an object whose first member has this name and this text.
+fn begins_with(alloc: Global, bytes: &[u8], wanted: &[u8], characters: &[u8]) -> bool {
+    let Ok(Json::Map(members)) = read_text(alloc, bytes) else {
+        return false;
+    };
+    match members.as_slice() {
+        [(name, Json::Text(text)), ..] => {
+            name.as_str().as_bytes() == wanted && text.as_str().as_bytes() == characters
+        }
+        _ => false,
+    }
+}
+
+// What stands between a name and its value.
+const COLONS: [&[u8]; 3] = [b":", b" :", b": "];
+
+// What stands behind the first member.
+const BEHIND: [&[u8]; 4] = [
+    b"}",
+    b" , \"c\" : 1 }",
+    b",\"a name that is longer than a block\":\"and a text that is, too\"}",
+    b"}                                ",
+];
+
+#[test]
+fn reads_members_of_each_length(rt: HostRuntime) -> Result<(), Fail> {
+    for length in 0..36 {
+        let plain = &PLAIN[..length];
+        for colon in COLONS {
+            for behind in BEHIND {
+                let parts = [b"{\"", plain, b"\"", colon, b"\"", plain, b"\"", behind];
+                let bytes = joined(rt.alloc(), &parts)?;
+                assert!(rt;
+                    begins_with(rt.alloc(), &bytes, plain, plain),
+                    "{length} {colon:?} {behind:?}"
+                );
+            }
+        }
+    }
+    Ok(())
+}
+
+#[test]
+fn reads_each_end_of_a_run_in_a_member(rt: HostRuntime) -> Result<(), Fail> {
+    for length in 0..20 {
+        let plain = &PLAIN[..length];
+        for (written, meant) in ENDS {
+            let parts = [b"{\"", plain, written, b"!\":\"", plain, written, b"\"}"];
+            let bytes = joined(rt.alloc(), &parts)?;
+            let name = joined(rt.alloc(), &[plain, meant, b"!"])?;
+            let characters = joined(rt.alloc(), &[plain, meant])?;
+            assert!(rt;
+                begins_with(rt.alloc(), &bytes, &name, &characters),
+                "{length} {written:?}"
+            );
+        }
+    }
+    Ok(())
+}
+
 fn expect_fault<R: Abort + AllocGlobal>(rt: &R, bytes: &[u8], byte: u64) {
     let fault = TextFault {
         byte,
