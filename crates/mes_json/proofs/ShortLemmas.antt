@@ -1,7 +1,7 @@
 -- How a short string moves the reader, from its quotation mark to what stands behind it.
 --     text_taken     one that is a value
 --     name_taken     a name, and the colon behind it
-use Rattle.std.proofs.Common.{◌≡◌, ℕ, ◌+◌, ◌-◌, ◌<◌, ◌≤◌, ◌⊎◌, inl, inr, List, [], ◌++◌, length, take, drop, Some, get_or, refl, ap, sym, ◌∙◌, subst, arith, append-nil}
+use Rattle.std.proofs.Common.{◌≡◌, ℕ, ◌+◌, ◌-◌, ◌<◌, ◌≤◌, ◌⊎◌, inl, inr, List, [], length, take, drop, Some, get_or, refl, ap, sym, ◌∙◌, arith, append-nil}
 use Rattle.mes_json.specs.Machine.{State, step}
 use Rattle.mes_json.specs.Tape.{name_due}
 use Rattle.mes_json.specs.Reader.{with_read, state_view, Fits, Reached, Begins, Puts, RunsTo, StandAlone, string_node, behind_string, within_string}

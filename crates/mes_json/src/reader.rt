@@ -164,7 +164,7 @@ impl Reader {
 
     /// Takes the quotation mark at this place, which ends the string, and the colon behind a name.
     #[inline(always)]
-    pub(crate) fn take_end(&mut self, purpose: Purpose, bytes: &[u8], from: usize) -> usize
+    fn take_end(&mut self, purpose: Purpose, bytes: &[u8], from: usize) -> usize
         requires at { self.old.at ≡ At.Quoted purpose Mid.Between }
         requires inside { from < length bytes.now }
         requires quote { slice_index bytes.now from ≡ 34 }
@@ -572,8 +572,7 @@ impl Reader {
     /// The text of a string or a number begins.
     #[inline(always)]
     pub(crate) fn begin(&mut self, at: At)
-        ensures begins { Begins self.old [] at self.new }
-        ensures text { self.new.text ≡ self.old.text }
+        ensures { Begins self.old [] at self.new }
     {
         self.start = self.text.len();
         self.at = at;

@@ -5,7 +5,7 @@ use Rattle.mes_json.proofs.StringLemmas.{name_begins}
 use Rattle.mes_json.proofs.reader.Reader.first_name.Goals as goal
 
 pub returns-in-Quote-clause-fits : goal.returns-in-Quote-clause-fits
-returns-in-Quote-clause-fits c = name_begins c.args.self.now c.begin.new.self c.requires.fits c.requires.at c.begin.ensures.begins
+returns-in-Quote-clause-fits c = name_begins c.args.self.now c.begin.new.self c.requires.fits c.requires.at c.begin.ensures
 
 pub returns-in-Closing-clause-gives : goal.returns-in-Closing-clause-gives
 returns-in-Closing-clause-gives c =

@@ -7,7 +7,7 @@ use Rattle.mes_json.proofs.TokenLemmas.{number_begins}
 use Rattle.mes_json.proofs.reader.Reader.value.Goals as goal
 
 pub returns-in-Quote-clause-fits : goal.returns-in-Quote-clause-fits
-returns-in-Quote-clause-fits c = text_begins c.args.self.now c.begin.new.self c.requires.fits c.requires.at c.begin.ensures.begins
+returns-in-Quote-clause-fits c = text_begins c.args.self.now c.begin.new.self c.requires.fits c.requires.at c.begin.ensures
 
 pub returns-in-Opening-clause-gives : goal.returns-in-Opening-clause-gives
 returns-in-Opening-clause-gives c =
