@@ -1,5 +1,4 @@
 -- What the escape that is read stands for. Private clauses alone cite it.
-use Rattle.std.specs.Prelude.{◌+◌}
 use Rattle.mes_json.specs.Escape as e
 use Rattle.mes_json.specs.declared.escape.Escape as escape
 use Rattle.mes_json.specs.declared.escape.Move as move
@@ -14,8 +13,8 @@ escape_view (escape.TheVariants.High h) = e.Escape.high h
 escape_view (escape.TheVariants.HighBackslash h) = e.Escape.high_backslash h
 escape_view (escape.TheVariants.Low0 h) = e.Escape.low0 h
 escape_view (escape.TheVariants.Low1 h) = e.Escape.low1 h
-escape_view (escape.TheVariants.Low2 v h) = e.Escape.low2 h v
-escape_view (escape.TheVariants.Low3 v h) = e.Escape.low3 h (0xD00 + v)
+escape_view (escape.TheVariants.Low2 h v) = e.Escape.low2 h v
+escape_view (escape.TheVariants.Low3 h v) = e.Escape.low3 h v
 
 abbrev pub move_view : move.Move → e.Move
 move_view (move.TheVariants.On x) = e.Move.on (escape_view x)

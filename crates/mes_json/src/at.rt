@@ -3,7 +3,6 @@
 use crate::utf8::Mid;
 use crate::word::Word;
 use mes_fixed::automaton::NumberState;
-use std::mem;
 
 /// What a string is read for.
 #[derive(Clone, Copy)]
@@ -36,6 +35,3 @@ pub(crate) enum At {
     /// The rest of a number.
     Digits(NumberState),
 }
-
-// One store writes a place, as many as there are tokens.
-const _: () = prove!(mem::size_of::<At>() == 8);

@@ -28,9 +28,9 @@ pub(crate) enum Escape {
     /// A high surrogate, `\u` and a digit, which is D.
     Low1(u16),
     /// A high surrogate, `\u` and the first two digits of a low one, with their value.
-    Low2 { value: u8, high: u16 },
-    /// A high surrogate, `\u` and the first three digits of a low one, with the value of the second and the third: the first is D.
-    Low3 { value: u8, high: u16 },
+    Low2 { high: u16, value: u8 },
+    /// A high surrogate, `\u` and the first three digits of a low one, with their value.
+    Low3 { high: u16, value: u16 },
 }
 
 /// Where a byte leads in an escape.
@@ -156,16 +156,16 @@ impl Escape {
             (Escape::Unit3(value), Some(digit)) => four_digits(value * 16 + u16::from(digit)),
             (Escape::Low0(high), Some(13)) => Move::On(Escape::Low1(high)),
             (Escape::Low1(high), Some(digit)) if digit >= 12 => Move::On(Escape::Low2 {
+                high,
                 value: 13 * 16 + digit,
-                high,
             }),
-            (Escape::Low2 { value, high }, Some(digit)) => Move::On(Escape::Low3 {
-                value: (value - 13 * 16) * 16 + digit,
+            (Escape::Low2 { high, value }, Some(digit)) => Move::On(Escape::Low3 {
                 high,
+                value: u16::from(value) * 16 + u16::from(digit),
             }),
-            (Escape::Low3 { value, high }, Some(digit)) => Move::Makes(pair(
+            (Escape::Low3 { high, value }, Some(digit)) => Move::Makes(pair(
                 high,
-                0xD000 + u16::from(value) * 16 + u16::from(digit),
+                value * 16 + u16::from(digit),
             )),
             _ => Move::Refused,
         }

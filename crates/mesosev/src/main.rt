@@ -11,7 +11,7 @@ use std::io::{BufReader, ErrorKind};
 use std::process::ExitCode;
 
 /// How many bytes standard input is read ahead.
-const READ_AHEAD: usize = 65_536;
+const READ_AHEAD: usize = 16_384;
 
 fn main(rt: HostRuntime) -> ExitCode {
     let mut out = Output::new(FromStd::new(rt.stdout()));
