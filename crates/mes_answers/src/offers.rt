@@ -3,7 +3,7 @@
 use crate::words::Words;
 use arrayvec::ArrayString;
 use mes_model::{
-    Allocation, Attribute, AttributeValue, Id, Kept, Label, Labels, Offer, Range, Ranges,
+    Allocation, Attribute, AttributeValue, Boxed, Id, Kept, Label, Labels, Offer, Range, Ranges,
     Reservation, Resource, ResourceValue, Scalar, Set,
 };
 use mes_part::json::{Json, Text};
@@ -204,9 +204,9 @@ fn add_flag(words: &mut Words, name: &str, is_set: bool) {
 }
 
 /// Who provides a resource, where it is told.
-fn add_provider(words: &mut Words, provider: Option<&Id>) {
+fn add_provider(words: &mut Words, provider: Option<&Boxed<Id>>) {
     if let Some(id) = provider {
-        add_member(words, "provider", id.value.as_str());
+        add_member(words, "provider", id.get().value.as_str());
     }
 }
 

@@ -4,7 +4,7 @@ ghost use Rattle.std.specs.Str.{bytes_eq};
 ghost use Rattle.mes_fit.specs.Keys.{key_of, keys_agree, type_of};
 
 use mes_json::Text;
-use mes_model::{Boxed, Kept, Label, Labels, Reservation, Resource, ResourceValue};
+use mes_model::{Boxed, Id, Kept, Label, Labels, Reservation, Resource, ResourceValue};
 
 /// The role of a resource that names none.
 const ANY_ROLE: &str = "*";
@@ -24,7 +24,7 @@ fn is_same_key(resource: &Resource, other: &Resource) -> bool
         && resource.revocable == other.revocable
         && resource.shared == other.shared
         && same_role(&resource.role, &other.role)
-        && resource.provider_id == other.provider_id
+        && same_provider(&resource.provider_id, &other.provider_id)
         && same_disk(&resource.disk, &other.disk)
         && same_reserved(&resource.reservation, &other.reservation)
         && same_reservations(
@@ -83,6 +83,19 @@ fn same_role(role: &Option<Text>, other: &Option<Text>) -> bool
     ensures { IsTrue result ↔ unwrap_or role.now (codes "*") ≡ unwrap_or other.now (codes "*") }
 {
     role_of(role) == role_of(other)
+}
+
+/// Whether both are of one provider, or of none.
+fn same_provider(provider: &Option<Boxed<Id>>, other: &Option<Boxed<Id>>) -> bool
+    ensures { IsTrue result ↔ provider.now ≡ other.now }
+{
+    match provider {
+        None => other.is_none(),
+        Some(provider) => match other {
+            None => false,
+            Some(other) => provider.get() == other.get(),
+        },
+    }
 }
 
 /// Whether both are one disk: no object, or one object.

@@ -125,8 +125,8 @@ pub struct Resource {
     pub revocable: bool,
     /// Whether several tasks may use it at once.
     pub shared: bool,
-    /// Who provides it, if not the agent.
-    pub provider_id: Option<Id>,
+    /// Who provides it, if not the agent. It stands in memory of its own.
+    pub provider_id: Option<Boxed<Id>>,
 }
 
 /// The names of the rows of a resource, in the order of the table.
@@ -158,7 +158,7 @@ type ResourceRows = (
             Maybe<Boxed<Kept>>,
             Flag,
             Flag,
-            Maybe<Id>,
+            Maybe<Boxed<Id>>,
         >,
     >,
 );
