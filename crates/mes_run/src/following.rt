@@ -100,7 +100,7 @@ impl<O: Sink> Consumer<O> for Follower {
 
 /// Reads a stream in at most `max_reads` reads, prints what is wanted of each event before the next read behind the one that ends its
 /// record, and then how many events there were, or the first fault. Behind a failed output no more is read. Holds the events of one
-/// read at a time, and at most `LINES_MOST` bytes of their lines, which go out together.
+/// read at a time, and at most `LINES_MOST` bytes of their lines, which go out together; where memory for those is refused, fewer.
 pub fn follow<I: Source, O: Sink>(
     alloc: Global,
     detail: Detail,
@@ -119,7 +119,7 @@ pub fn follow<I: Source, O: Sink>(
         reading: Reading::new(framing, EventReader::new(alloc), limit),
         events: Vec::new(alloc),
         text: Vec::new(alloc),
-        lines: LineBuffer::new(),
+        lines: LineBuffer::new(alloc),
         number: 1,
     };
     match ended(read_device(input, max_reads, &mut follower, out)) {

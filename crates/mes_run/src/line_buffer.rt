@@ -1,29 +1,31 @@
 //! What the lines of one read's events are gathered in, so that they go out by one write.
 
-ghost use Rattle.std.specs.Prelude.{◌≡◌, [], ◌++◌, length, OnOk, IfOk, IfErr};
+ghost use Rattle.std.specs.Prelude.{◌≡◌, ◌≤◌, [], ◌++◌, true, false, length, OnOk, IfOk, IfErr};
 ghost use Rattle.std.specs.Io.KnownBytes.{Appends};
 ghost use Rattle.mes_frame.specs.Counts.{up};
 ghost use Rattle.mes_frame.specs.Write.{CallsFor, NoneFails, StopsWrite};
 ghost use Rattle.mes_frame.specs.Written.{Passes, Stops, WentOut, WrotePart};
 
 use crate::limits::LINES_MOST;
-use arrayvec::ArrayVec;
 use mes_frame::{Sink, WriteFault, write_all};
+use std::alloc::Global;
 
-/// Lines that are still to go out, and how many bytes went out before them. It takes no memory.
+/// Lines that are still to go out, at most `LINES_MOST` bytes of them, and how many bytes went out before them. Its memory grows with
+/// the lines; where that is refused, they go out at once.
 #[derive(Drop)]
 pub(crate) struct LineBuffer {
-    held: ArrayVec<u8, { LINES_MOST }>,
+    held: Vec<u8>,
     sent: u64,
 }
 
 impl LineBuffer {
-    pub(crate) fn new() -> Self
+    /// No line. Takes no memory.
+    pub(crate) fn new(alloc: Global) -> Self
         ensures held { result.held.items ≡ [] }
         ensures sent { result.sent ≡ 0 }
     {
         LineBuffer {
-            held: ArrayVec::new(),
+            held: Vec::new(alloc),
             sent: 0,
         }
     }
@@ -35,22 +37,36 @@ impl LineBuffer {
         self.sent
     }
 
-    /// Holds these lines behind those that are held. Where there is no room those go out first, and these too, alone, if they are
-    /// more than the buffer has room for.
+    /// Holds these lines behind those that are held. Where there is no room, or no memory, those go out first, and these too, alone, if
+    /// they are more than the buffer has room for.
     pub(crate) fn hold<O: Sink>(&mut self, out: &mut O, lines: &[u8]) -> Result<(), WriteFault>
         ensures ok { OnOk result (Passes (O.written out.old) (O.written out.new) (O.counts out.old) (O.counts out.new)
             (self.old.held.items ++ lines.now) self.new.held.items self.old.sent self.new.sent) }
+        ensures most { OnOk result (length self.new.held.items ≤ LINES_MOST) }
         ensures err { IfErr result (λ fault. Stops (O.written out.old) (O.written out.new) (O.counts out.old) (O.counts out.new)
             (self.old.held.items ++ lines.now) self.old.sent fault) }
     {
-        if self.held.try_extend_from_slice(lines).is_ok() {
+        if self.append(lines) {
             return Ok(());
         }
         self.flush(out)?;
-        if self.held.try_extend_from_slice(lines).is_err() {
+        if !self.append(lines) {
             self.sent = write_behind(out, lines, self.sent)?;
         }
         Ok(())
+    }
+
+    /// Appends these lines, where they have room and memory: whether they have.
+    fn append(&mut self, lines: &[u8]) -> bool
+        ensures held { result ≡ true → self.new.held.items ≡ self.old.held.items ++ lines.now }
+        ensures room { result ≡ true → length self.new.held.items ≤ LINES_MOST }
+        ensures left { result ≡ false → self.new.held.items ≡ self.old.held.items }
+        ensures sent { self.new.sent ≡ self.old.sent }
+    {
+        if LINES_MOST < self.held.len().saturating_add(lines.len()) {
+            return false;
+        }
+        self.held.extend_from_slice(lines).is_ok()
     }
 
     /// Writes what is held.
