@@ -7,6 +7,7 @@ use mes_frame::FromStd;
 use mes_run::Output;
 use run::{end_without_memory, end_without_text, run};
 use std::env;
+use std::fs::File;
 use std::io::{BufReader, ErrorKind};
 use std::process::ExitCode;
 
@@ -14,6 +15,7 @@ use std::process::ExitCode;
 const READ_AHEAD: usize = 16_384;
 
 fn main(rt: HostRuntime) -> ExitCode {
+    let _places = [take_place(&rt), take_place(&rt), take_place(&rt)];
     let mut out = Output::new(FromStd::new(rt.stdout()));
     let mut err = FromStd::new(rt.stderr());
     let words = match env::args(&rt) {
@@ -34,4 +36,10 @@ fn main(rt: HostRuntime) -> ExitCode {
     };
     let mut input = FromStd::new(input);
     ExitCode::from(run(&rt, words.as_slice(), &mut input, &mut out, &mut err))
+}
+
+/// Takes the place of a standard stream that is closed, if one is; else a socket would take it, and what is printed would go to its peer.
+/// There stands a folder then, which can be neither read nor written, so that such a stream fails as before.
+fn take_place(rt: &HostRuntime) -> Option<File> {
+    File::open(rt, "/").ok()
 }
