@@ -111,20 +111,12 @@ named_once x (n ∷ ns) zero (suc k) once is less inside =
     let yes : bytes_eq (get_or ns k []) n ≡ true = subst (λ (y : List ℕ). bytes_eq y n ≡ true) (sym (names_equal x n is) ∙ e) (same_name n) in absurd (cc))
 named_once x (n ∷ ns) (suc i) (suc k) once is less inside = named_once x ns i k (distinct_first n ns once).1 is (omega (arith, less)) (omega (arith, inside))
 
--- nor one before it
-named_first : (x : List ℕ) (ns : List (List ℕ)) (i k : ℕ) → distinct ns ≡ true → bytes_eq x (get_or ns i []) ≡ true → k < i → i < length ns → bytes_eq x (get_or ns k []) ≡ false
-named_first x ns i k once is less inside =
-    by_test (bytes_eq x (get_or ns k [])) refl where
-      by_test : (y : Bool) → bytes_eq x (get_or ns k []) ≡ y → y ≡ false
-      by_test false e = refl
-      by_test true e = let no = named_once x ns k i once e less inside in absurd (cc)
-
 -- it is noted under that one alone
 pub noted_once : (fs : List Found) (names : List (List ℕ)) (x : List ℕ) (e : List Token) (place : ℕ) → distinct names ≡ true → place < length names → length names ≤ length fs
-    → bytes_eq x (get_or names place []) ≡ true
+    → bytes_eq x (get_or names place []) ≡ true → ((k : ℕ) → k < place → bytes_eq x (get_or names k []) ≡ false)
     → (i : ℕ) → i < length names → get_or (set fs place (noted e (get_or fs place Nothing))) i Nothing ≡ noted_if (bytes_eq x (get_or names i [])) e (get_or fs i Nothing)
-noted_once fs names x e place once here room is i inside = elim (cases_lt i place) [
-  | inl less ↦ get_or-set_other fs place i (noted e (get_or fs place Nothing)) Nothing (λ same. absurd (omega (arith, less, same))) ∙ rw (named_first x names place i once is less here) refl
+noted_once fs names x e place once here room is before i inside = elim (cases_lt i place) [
+  | inl less ↦ get_or-set_other fs place i (noted e (get_or fs place Nothing)) Nothing (λ same. absurd (omega (arith, less, same))) ∙ rw (before i less) refl
   | inr rest ↦ elim (cases_lt place i) [
     | inl more ↦ get_or-set_other fs place i (noted e (get_or fs place Nothing)) Nothing (λ same. absurd (omega (arith, more, same))) ∙ rw (named_once x names place i once is more inside) refl
     | inr behind ↦

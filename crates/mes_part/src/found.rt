@@ -1,6 +1,6 @@
 //! The rows of an object, found in one pass over its members.
 
-ghost use Rattle.std.specs.Prelude.{◌≡◌, true, false, ℕ, ◌<◌, ◌≤◌, [], None, length, map, bytes_eq, slice_index_or, IfSome};
+ghost use Rattle.std.specs.Prelude.{◌≡◌, true, ℕ, ◌<◌, ◌≤◌, [], length, map, bytes_eq, slice_index_or};
 ghost use Rattle.std.specs.Array.{AllOfLen};
 ghost use Rattle.mes_json.specs.Tree.{Tree};
 ghost use Rattle.mes_json.specs.Tokens.{BeginsWith};
@@ -72,9 +72,8 @@ pub fn find_rows<'a, const N: usize>(
     let Some(mut members) = element.members() else {
         return Err(refusal_at(alloc, path, FieldWhy::WrongKind));
     };
-    let mut due = 0;
     while let Some((name, value)) = members.next() {
-        due = note_member(found, names, name, &value, due);
+        note_member(found, names, name, &value);
     }
     Ok(())
 }
@@ -96,58 +95,24 @@ fn defaults<T: Default, const N: usize>() -> ArrayVec<T, N>
     ArrayVec::from_array_in((), Default::default())
 }
 
-/// Notes a member under the one of these names that it has, and answers the place behind that name; under none, the place that was
-/// due. The search begins at the place that is due: members mostly stand in the order of the names.
+/// Notes a member under the one of these names that it has.
 #[inline(always)]
 fn note_member<'a, const N: usize>(
     found: &mut ArrayVec<Found<'a>, N>,
     names: &[&'static str],
     name: &str,
     value: &Element<'a>,
-    due: usize,
-) -> usize
-    requires due { due ≤ length names.now }
+)
     requires room { length names.now ≤ length found.old.items }
     requires once { distinct (map (λ n. n.now) names.now) ≡ true }
-    ensures due { result ≤ length names.now }
     ensures all { length found.new.items ≡ length found.old.items }
     ensures notes { (i : ℕ) → i < length names.now → slice_index_or found.new.items i Nothing
         ≡ noted_if (bytes_eq name.now (slice_index_or (map (λ n. n.now) names.now) i [])) value.now (slice_index_or found.old.items i Nothing) }
 {
-    match place_of(names, name, due) {
-        Some(place) => {
-            found[place].note(value);
-            place + 1
-        }
-        None => due,
-    }
-}
-
-/// The place under which a name stands, looked for from the place that is due on, and then before it.
-#[inline(always)]
-fn place_of(names: &[&'static str], name: &str, due: usize) -> Option<usize>
-    requires { due ≤ length names.now }
-    ensures some { IfSome result (λ place. (place < length names.now) × (bytes_eq name.now (slice_index_or (map (λ n. n.now) names.now) place []) ≡ true)) }
-    ensures none { result ≡ None → (i : ℕ) → i < length names.now → bytes_eq name.now (slice_index_or (map (λ n. n.now) names.now) i []) ≡ false }
-{
-    match place_among(names, name, due, names.len()) {
-        Some(place) => Some(place),
-        None => place_among(names, name, 0, due),
-    }
-}
-
-/// The first place from one to another under which a name stands.
-#[inline(always)]
-fn place_among(names: &[&'static str], name: &str, from: usize, to: usize) -> Option<usize>
-    requires order { from ≤ to }
-    requires inside { to ≤ length names.now }
-    ensures some { IfSome result (λ place. (place < to) × (bytes_eq name.now (slice_index_or (map (λ n. n.now) names.now) place []) ≡ true)) }
-    ensures none { result ≡ None → (i : ℕ) → from ≤ i → i < to → bytes_eq name.now (slice_index_or (map (λ n. n.now) names.now) i []) ≡ false }
-{
-    for place in from..to {
-        if name == names[place] {
-            return Some(place);
+    for (i, row) in names.iter().enumerate() {
+        if name == *row {
+            found[i].note(value);
+            return;
         }
     }
-    None
 }

@@ -10,7 +10,6 @@ returns-in_default-clause-finds g c = λ t b. refuses_told _ _ _ c.refusal_at.en
 
 pub loop-name-init : goal.loop-name-init
 loop-name-init g c = (
-  omega arith,
   refl,
   λ t b.
       let found = members_found c.in-Some.members t (c.in-Some.ensures t b) in
@@ -19,21 +18,20 @@ loop-name-init g c = (
 
 pub loop-name-preserved : goal.loop-name-preserved
 loop-name-preserved g c = (
-  c.note_member-due.ensures.due,
-  c.note_member-due.ensures.all ∙ c.loop-name.invariant.1,
+  c.note_member.ensures.all ∙ c.loop-name.invariant.0,
   λ t b.
-      let before = c.loop-name.invariant.2 t b in (
+      let before = c.loop-name.invariant.1 t b in (
         before.0,
-        follow_each_next c.loop-name.found.items c.note_member-due.new.found.items (map (λ n. n.now) c.args.names.now) (members_in t) before.1.0
+        follow_each_next c.loop-name.found.items c.note_member.new.found.items (map (λ n. n.now) c.args.names.now) (members_in t) before.1.0
             (c.in-Some-next.name.now, c.in-Some-next.value) c.next.new.self
-            (λ i inside. c.note_member-due.ensures.notes i (omega (arith, inside, length-map c.args.names.now (λ n. n.now))))
+            (λ i inside. c.note_member.ensures.notes i (omega (arith, inside, length-map c.args.names.now (λ n. n.now))))
             (c.in-Some-next.ensures.member before.1.0 before.1.1) before.1.2,
       ),
 )
 
 pub returns-clause-finds : goal.returns-clause-finds
 returns-clause-finds g c = λ t b.
-    let before = c.loop-name.invariant.2 t b in (
+    let before = c.loop-name.invariant.1 t b in (
       members_in t,
       before.0,
       follow_each_last c.loop-name.found.items (map (λ n. n.now) c.args.names.now) (members_in t) before.1.0 _

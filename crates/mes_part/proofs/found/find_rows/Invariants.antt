@@ -1,4 +1,4 @@
-use Rattle.std.proofs.Common.{◌≡◌, ◌≤◌, length, map}
+use Rattle.std.proofs.Common.{◌≡◌, length, map}
 use Rattle.mes_json.specs.Tree.{Tree, Members}
 use Rattle.mes_json.specs.Tree.Tree.{object}
 use Rattle.mes_json.specs.Tokens.{BeginsWith, BeginsMembers}
@@ -8,7 +8,7 @@ use Rattle.mes_part.proofs.found.find_rows.Given as goal
 
 abbrev pub invariant-loop-name : goal.invariant-loop-name
 invariant-loop-name g l =
-    (l.due ≤ length l.names) × (length l.found.items ≡ length l.initial.found.items) × ((t : Tree) → BeginsWith l.element t
+    (length l.found.items ≡ length l.initial.found.items) × ((t : Tree) → BeginsWith l.element t
     → (t ≡ object (members_in t)) × ((rest : Members) × BeginsMembers l.members rest × FollowEach l.found.items (map (λ n. n.now) l.names) (members_in t) rest))
 
 abbrev pub decreases-loop-name : goal.decreases-loop-name
