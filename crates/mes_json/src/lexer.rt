@@ -65,6 +65,7 @@ impl LexerState {
 
 impl LexerState {
     /// The tape of the value that the bytes spell, of which there were so many, or their fault. After it the state is of no use.
+    #[inline(always)]
     fn take(&mut self, alloc: Global, count: u64) -> Result<Tape, ReadFault>
         requires { IsPossible (count, self.old) }
         ensures read { (p : List ℕ) → StandsFor count self.old p → IfOk result (λ tape. (t : Tree) × IsText NESTING_LIMIT p t × (tape ≡ tokens t)) }
@@ -88,6 +89,7 @@ impl LexerState {
     }
 
     /// The state of a lexer of no byte, in memory that is there. A reader that is there serves again where it stands.
+    #[inline(always)]
     fn restart(&mut self, alloc: Global, texts: Texts, nodes: Vec<Node>)
         requires texts { texts.items ≡ [] }
         requires nodes { nodes.items ≡ [] }
@@ -181,6 +183,7 @@ impl Lexer {
     }
 
     /// Takes the bytes of a run as `push` would in turn, but the plain characters of a string all at once.
+    #[inline(always)]
     pub fn push_run(&mut self, bytes: &[u8]) -> Result<(), NoMemoryAt>
         ensures lexed { (p : List ℕ) → HasLexed self.old p → HasLexed self.new (p ++ bytes.now) }
         ensures tells { Tells result self.new }
@@ -267,6 +270,7 @@ impl Lexer {
     }
 
     /// The same, and the lexer is one of no byte then, so that nothing is moved but the tape. `reuse` gives it the tape's memory again.
+    #[inline(always)]
     pub fn take(&mut self) -> Result<Tape, ReadFault>
         ensures read { (p : List ℕ) → HasLexed self.old p → IfOk result (λ tape. (t : Tree) × IsText NESTING_LIMIT p t × (tape ≡ tokens t)) }
         ensures only { (p : List ℕ) → HasLexed self.old p → (t : Tree) → IsText NESTING_LIMIT p t
@@ -286,6 +290,7 @@ impl Lexer {
     }
 
     /// The lexer becomes one of no byte in the memory of a tape that is not wanted any more, as `reusing` makes one. Takes no memory.
+    #[inline(always)]
     pub fn reuse(&mut self, tape: Tape)
         ensures lexed { HasLexed self.new [] }
         ensures memory { IsOutOfMemory self.new → ⊥ }

@@ -261,6 +261,7 @@ impl Reader {
     }
 
     /// The tape of what was read, where that is a whole value. After it the reader holds nothing of use.
+    #[inline(always)]
     pub(crate) fn take_tape(&mut self, alloc: Global) -> Result<Option<Tape>, NoMemory>
         requires fits { Fits self.old }
         requires reached { Reached self.old }
@@ -285,6 +286,7 @@ impl Reader {
     }
 
     /// Begins again, in memory that is there.
+    #[inline(always)]
     pub(crate) fn restart(&mut self, text: Texts, nodes: Vec<Node>)
         requires text { text.items ≡ [] }
         requires nodes { nodes.items ≡ [] }

@@ -87,6 +87,7 @@ impl Tape {
 
 impl Tape {
     /// The memory of the tape, emptied; of each vector that has room for more than `ROOM_KEPT` bytes it is given back. Takes no memory.
+    #[inline(always)]
     pub(crate) fn into_room(self, alloc: Global) -> (Texts, Vec<Node>)
         ensures texts { result.0.items ≡ [] }
         ensures nodes { result.1.items ≡ [] }
@@ -100,6 +101,7 @@ impl Tape {
 }
 
 /// The memory of a vector, emptied. Where it has room for more elements than so many, it is given back.
+#[inline(always)]
 fn emptied<T: Drop>(alloc: Global, mut room: Vec<T>, most: usize) -> Vec<T>
     ensures items { result.items ≡ [] }
     ensures most { vec_capacity result ≤ most }

@@ -146,6 +146,7 @@ impl Texts {
     }
 
     /// The memory of the texts, emptied. Where it has more than so many bytes, it is given back.
+    #[inline(always)]
     pub(crate) fn emptied(mut self, alloc: Global, most: usize) -> Texts
         ensures items { result.items ≡ [] }
         ensures most { result.room ≤ most }

@@ -177,6 +177,7 @@ impl<R: RecordReader> Body<R> {
 }
 
 // Tells what the front of a run is, and moves the reader of records over it.
+#[inline(always)]
 fn front_of(records: &mut RecordState, run: &[u8]) -> Front
     requires { 0 < length run.now }
     ensures fronts { (x r : List ℕ) → RecordStands records.old x r → Fronts records.new x r run.now result }
