@@ -70,6 +70,7 @@ impl<R: RecordReader> Body<R> {
     }
 
     /// Takes bytes of a size line or a run of data from the front of a run.
+    #[inline(always)]
     pub(crate) fn take(&mut self, run: &[u8]) -> Taken
         requires { 0 < length run.now }
         ensures tells { (ahead : ℕ) (b : List ℕ) (values : List R.Value) → BodyStands R.holds R.spells ahead self.old b values

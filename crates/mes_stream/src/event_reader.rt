@@ -46,6 +46,7 @@ impl RecordReader for EventReader {
 
     ghost room = { inner };
 
+    #[inline(always)]
     fn push_run(&mut self, bytes: &[u8]) -> Result<(), NoMemoryAt> {
         self.lexer.push_run(bytes)
     }
@@ -57,6 +58,7 @@ impl RecordReader for EventReader {
         Ok(event)
     }
 
+    #[inline(always)]
     fn finish_into(&mut self, events: &mut Vec<Event>) -> Result<(), RecordRefusal> {
         let tape = self.lexer.take()?;
         let event = Event::read_from(self.alloc, &tape.root(), &Trail::new())?;
