@@ -19,18 +19,31 @@ pub(super) fn same(one: &Result<Json, ReadFault>, other: &Result<Json, ReadFault
     }
 }
 
-fn read_by_bytes(alloc: Global, bytes: &[u8]) -> Result<Json, ReadFault> {
-    let mut lexer = Lexer::new(alloc);
+/// Pushes bytes one by one.
+fn push_bytes(lexer: &mut Lexer, bytes: &[u8]) -> Result<(), ReadFault> {
     for byte in bytes {
         lexer.push(*byte)?;
     }
+    Ok(())
+}
+
+/// Pushes runs, one behind the other.
+fn push_runs(lexer: &mut Lexer, runs: &[&[u8]]) -> Result<(), ReadFault> {
+    for run in runs {
+        lexer.push_run(run)?;
+    }
+    Ok(())
+}
+
+fn read_by_bytes(alloc: Global, bytes: &[u8]) -> Result<Json, ReadFault> {
+    let mut lexer = Lexer::new(alloc);
+    push_bytes(&mut lexer, bytes)?;
     lexer.finish()
 }
 
-fn read_by_runs(alloc: Global, first: &[u8], second: &[u8]) -> Result<Json, ReadFault> {
+fn read_by_runs(alloc: Global, runs: &[&[u8]]) -> Result<Json, ReadFault> {
     let mut lexer = Lexer::new(alloc);
-    lexer.push_run(first)?;
-    lexer.push_run(second)?;
+    push_runs(&mut lexer, runs)?;
     lexer.finish()
 }
 
@@ -43,7 +56,7 @@ pub(super) fn expect_same<R: Abort + AllocGlobal>(rt: &R, text: &[u8]) {
             "{front:?}"
         );
         for cut in 0..front.len() + 1 {
-            let cut_in_two = read_by_runs(rt.alloc(), &front[..cut], &front[cut..]);
+            let cut_in_two = read_by_runs(rt.alloc(), &[&front[..cut], &front[cut..]]);
             assert!(rt; same(&cut_in_two, &whole), "{front:?} cut at {cut}");
         }
     }
@@ -117,44 +130,60 @@ const HELD: [(&[u8], u64); 22] = [
     (b"[\"abc\",12x \"more\"", 0),
 ];
 
+/// How many bytes are held behind bytes that are pushed one by one.
+fn held_by_bytes(alloc: Global, bytes: &[u8]) -> Result<u64, ReadFault> {
+    let mut lexer = Lexer::new(alloc);
+    push_bytes(&mut lexer, bytes)?;
+    Ok(lexer.held())
+}
+
+/// The same behind one run of them.
+fn held_by_run(alloc: Global, bytes: &[u8]) -> Result<u64, ReadFault> {
+    let mut lexer = Lexer::new(alloc);
+    lexer.push_run(bytes)?;
+    Ok(lexer.held())
+}
+
 #[test]
 fn holds_texts_and_numbers(rt: HostRuntime) -> Result<(), Fail> {
     for (pushed, held) in HELD {
-        let mut by_bytes = Lexer::new(rt.alloc());
-        for byte in pushed {
-            by_bytes.push(*byte)?;
-        }
-        assert_eq!(rt; by_bytes.held(), held, "{pushed:?}");
-        let mut by_run = Lexer::new(rt.alloc());
-        by_run.push_run(pushed)?;
-        assert_eq!(rt; by_run.held(), held, "{pushed:?}");
+        let both = [
+            held_by_bytes(rt.alloc(), pushed)?,
+            held_by_run(rt.alloc(), pushed)?,
+        ];
+        assert_eq!(rt; both, [held, held], "{pushed:?}");
     }
     Ok(())
 }
 
+/// Pushes a text with a fault, and more behind it by the byte and by the run, the last of which is empty.
+fn push_behind_a_fault(lexer: &mut Lexer) -> Result<(), ReadFault> {
+    push_runs(lexer, &[b"[1"])?;
+    push_bytes(lexer, b"x]")?;
+    push_runs(lexer, &[b" \"more\" x {", b""])
+}
+
+fn read_behind_a_fault(alloc: Global) -> Result<Json, ReadFault> {
+    let mut lexer = Lexer::new(alloc);
+    push_behind_a_fault(&mut lexer)?;
+    lexer.finish()
+}
+
 #[test]
-fn swallows_what_follows_a_fault(rt: HostRuntime) -> Result<(), Fail> {
-    let mut lexer = Lexer::new(rt.alloc());
-    lexer.push_run(b"[1")?;
-    lexer.push(b'x')?;
-    lexer.push(b']')?;
-    lexer.push_run(b" \"more\" x {")?;
-    lexer.push_run(b"")?;
+fn swallows_what_follows_a_fault(rt: HostRuntime) {
     let fault = TextFault {
         byte: 2,
         why: Why::Byte,
     };
-    assert_eq!(rt; lexer.finish().err(), Some(ReadFault::Text(fault)));
-    Ok(())
+    assert_eq!(rt;
+        read_behind_a_fault(rt.alloc()).err(),
+        Some(ReadFault::Text(fault))
+    );
 }
 
 #[test]
-fn a_run_ends_no_number(rt: HostRuntime) -> Result<(), Fail> {
-    let mut lexer = Lexer::new(rt.alloc());
-    lexer.push_run(b"12")?;
-    lexer.push_run(b"")?;
-    lexer.push_run(b"3")?;
-    let json = lexer.finish()?;
-    assert!(rt; json.same(&read_text(rt.alloc(), b"123")?));
-    Ok(())
+fn a_run_ends_no_number(rt: HostRuntime) {
+    let in_runs = read_by_runs(rt.alloc(), &[b"12", b"", b"3"]);
+    assert!(rt; in_runs.is_ok());
+    assert!(rt; same(&in_runs, &read_text(rt.alloc(), b"123")));
 }

@@ -33,9 +33,8 @@ fn following(seed: u64) -> u64 {
         .wrapping_add(1_442_695_040_888_963_407)
 }
 
-/// Reads the text in runs of 0 to 31 bytes.
-fn read_by_any_runs(alloc: Global, text: &[u8], seed: u64) -> Result<Json, ReadFault> {
-    let mut lexer = Lexer::new(alloc);
+/// Pushes the text in runs of 0 to 31 bytes.
+fn push_any_runs(lexer: &mut Lexer, text: &[u8], seed: u64) -> Result<(), ReadFault> {
     let mut rest = text;
     let mut chosen = seed;
     for _ in 0..text.len() {
@@ -44,7 +43,13 @@ fn read_by_any_runs(alloc: Global, text: &[u8], seed: u64) -> Result<Json, ReadF
         lexer.push_run(&rest[..run])?;
         rest = &rest[run..];
     }
-    lexer.push_run(rest)?;
+    Ok(lexer.push_run(rest)?)
+}
+
+/// Reads the text in runs of 0 to 31 bytes.
+fn read_by_any_runs(alloc: Global, text: &[u8], seed: u64) -> Result<Json, ReadFault> {
+    let mut lexer = Lexer::new(alloc);
+    push_any_runs(&mut lexer, text, seed)?;
     lexer.finish()
 }
 

@@ -1,6 +1,6 @@
 //! Strings about as long as the blocks that are looked at together, with each kind of end, and white space between tokens.
 
-use mes_json::{Json, ReadFault, TextFault, Why, read_text};
+use mes_json::{Json, ReadFault, Text, TextFault, Why, read_text};
 use std::alloc::Global;
 use std::process::Abort;
 use std::test::Fail;
@@ -19,7 +19,7 @@ fn joined(alloc: Global, parts: &[&[u8]]) -> Result<Vec<u8>, Fail> {
 
 /// Whether the bytes spell the string of these characters.
 fn spells(alloc: Global, bytes: &[u8], characters: &[u8]) -> bool {
-    match read_text(alloc, bytes) {
+    match &read_text(alloc, bytes) {
         Ok(Json::Text(text)) => text.as_str().as_bytes() == characters,
         _ => false,
     }
@@ -29,10 +29,10 @@ fn spells(alloc: Global, bytes: &[u8], characters: &[u8]) -> bool {
 fn reads_strings_of_each_length(rt: HostRuntime) -> Result<(), Fail> {
     for length in 0..101 {
         let plain = &PLAIN[..length];
-        let bytes = joined(rt.alloc(), &[b"\"", plain, b"\""])?;
-        assert!(rt; spells(rt.alloc(), &bytes, plain), "{length}");
-        let spaced = joined(rt.alloc(), &[b"\"", plain, b"\"", &[b' '; 64]])?;
-        assert!(rt; spells(rt.alloc(), &spaced, plain), "{length}");
+        for behind in [b"", &[b' '; 64] as &[u8]] {
+            let bytes = joined(rt.alloc(), &[b"\"", plain, b"\"", behind])?;
+            assert!(rt; spells(rt.alloc(), &bytes, plain), "{length}");
+        }
     }
     Ok(())
 }
@@ -65,10 +65,15 @@ fn reads_each_end_of_a_run(rt: HostRuntime) -> Result<(), Fail> {
 
 /// Whether the bytes are an object whose first member has this name and this text.
 fn begins_with(alloc: Global, bytes: &[u8], wanted: &[u8], characters: &[u8]) -> bool {
-    let Ok(Json::Map(members)) = read_text(alloc, bytes) else {
-        return false;
-    };
-    match members.as_slice() {
+    match &read_text(alloc, bytes) {
+        Ok(Json::Map(members)) => is_first(members.as_slice(), wanted, characters),
+        _ => false,
+    }
+}
+
+/// Whether the first of the members has this name and this text.
+fn is_first(members: &[(Text, Json)], wanted: &[u8], characters: &[u8]) -> bool {
+    match members {
         [(name, Json::Text(text)), ..] => {
             name.as_str().as_bytes() == wanted && text.as_str().as_bytes() == characters
         }
@@ -123,16 +128,17 @@ fn reads_each_end_of_a_run_in_a_member(rt: HostRuntime) -> Result<(), Fail> {
     Ok(())
 }
 
-fn expect_fault<R: Abort + AllocGlobal>(rt: &R, bytes: &[u8], byte: u64) {
+/// Whether the bytes are refused for the byte at this place.
+fn is_refused(alloc: Global, bytes: &[u8], byte: u64) -> bool {
     let fault = TextFault {
         byte,
         why: Why::Byte,
     };
-    assert_eq!(rt;
-        read_text(rt.alloc(), bytes).err(),
-        Some(ReadFault::Text(fault)),
-        "{bytes:?}"
-    );
+    read_text(alloc, bytes).err() == Some(ReadFault::Text(fault))
+}
+
+fn expect_fault<R: Abort + AllocGlobal>(rt: &R, bytes: &[u8], byte: u64) {
+    assert!(rt; is_refused(rt.alloc(), bytes, byte), "{bytes:?} at {byte}");
 }
 
 // Bytes that no string has behind plain characters.
@@ -167,17 +173,26 @@ const BLANKS: [&[u8]; 7] = [
     &[b'\n'; 17],
 ];
 
+/// The tokens with the blank around each.
+fn spaced(alloc: Global, blank: &[u8]) -> Result<Vec<u8>, Fail> {
+    let mut bytes = joined(alloc, &[blank])?;
+    for token in TOKENS {
+        bytes.extend_from_slice(token)?;
+        bytes.extend_from_slice(blank)?;
+    }
+    Ok(bytes)
+}
+
+fn read_spaced(alloc: Global, blank: &[u8]) -> Result<Json, Fail> {
+    let bytes = spaced(alloc, blank)?;
+    Ok(read_text(alloc, &bytes)?)
+}
+
 #[test]
 fn passes_over_white_space(rt: HostRuntime) -> Result<(), Fail> {
-    let close = read_text(rt.alloc(), &joined(rt.alloc(), &TOKENS)?)?;
+    let close = read_spaced(rt.alloc(), b"")?;
     for blank in BLANKS {
-        let mut bytes = joined(rt.alloc(), &[blank])?;
-        for token in TOKENS {
-            bytes.extend_from_slice(token)?;
-            bytes.extend_from_slice(blank)?;
-        }
-        let json = read_text(rt.alloc(), &bytes)?;
-        assert!(rt; json.same(&close), "{blank:?}");
+        assert!(rt; read_spaced(rt.alloc(), blank)?.same(&close), "{blank:?}");
     }
     Ok(())
 }

@@ -2,7 +2,6 @@
 
 use mes_json::{Json, Lexer, ReadFault, Tape, TextFault, Why, read_tape, read_text, write_text};
 use std::alloc::Global;
-use std::process::Abort;
 use std::test::Fail;
 
 /// Texts, and each as it is written anew: no blanks, the least escapes.
@@ -38,11 +37,17 @@ const FAULTY: [(&[u8], u64, Why); 7] = [
     (b"1 2", 2, Why::Byte),
 ];
 
-fn is_written<R: Abort + AllocGlobal>(rt: &R, json: &Json, wanted: &[u8]) -> Result<(), Fail> {
-    let mut out = Vec::new(rt.alloc());
+fn written(alloc: Global, json: &Json) -> Result<Vec<u8>, Fail> {
+    let mut out = Vec::new(alloc);
     write_text(json, &mut out)?;
-    assert!(rt; out.as_slice() == wanted, "{out:?}");
-    Ok(())
+    Ok(out)
+}
+
+/// Whether the value of the tape is written so.
+fn is_written(alloc: Global, tape: &Tape, wanted: &[u8]) -> Result<bool, Fail> {
+    let json = tape.root().to_json(alloc)?;
+    let out = written(alloc, &json)?;
+    Ok(out.as_slice() == wanted)
 }
 
 fn lexed(lexer: Lexer, bytes: &[u8]) -> Result<Tape, ReadFault> {
@@ -51,24 +56,40 @@ fn lexed(lexer: Lexer, bytes: &[u8]) -> Result<Tape, ReadFault> {
     lexer.end()
 }
 
+/// The tape of the tree that the text spells.
+fn tape_of_tree(alloc: Global, text: &[u8]) -> Result<Tape, Fail> {
+    let json = read_text(alloc, text)?;
+    Ok(Tape::of_json(alloc, &json)?)
+}
+
+/// Whether the value of the text is written so, from the tape that is read and from that of its tree.
+fn is_read_so(alloc: Global, text: &[u8], wanted: &[u8]) -> Result<bool, Fail> {
+    let tape = read_tape(alloc, text)?;
+    let of_tree = tape_of_tree(alloc, text)?;
+    Ok(is_written(alloc, &tape, wanted)? && is_written(alloc, &of_tree, wanted)?)
+}
+
 #[test]
 fn holds_the_value(rt: HostRuntime) -> Result<(), Fail> {
     for (text, wanted) in WRITTEN {
-        let tape = read_tape(rt.alloc(), text)?;
-        is_written(&rt, &tape.root().to_json(rt.alloc())?, wanted)?;
-        let json = read_text(rt.alloc(), text)?;
-        let again = Tape::of_json(rt.alloc(), &json)?;
-        is_written(&rt, &again.root().to_json(rt.alloc())?, wanted)?;
+        assert!(rt; is_read_so(rt.alloc(), text, wanted)?, "{text:?}");
     }
     Ok(())
+}
+
+/// The faults of the bytes: as a text that is there, and as one that comes.
+fn faults(alloc: Global, bytes: &[u8]) -> [Option<ReadFault>; 2] {
+    [
+        read_tape(alloc, bytes).err(),
+        lexed(Lexer::new(alloc), bytes).err(),
+    ]
 }
 
 #[test]
 fn tells_the_fault(rt: HostRuntime) {
     for (bytes, byte, why) in FAULTY {
         let wanted = Some(ReadFault::Text(TextFault { byte, why }));
-        assert_eq!(rt; read_tape(rt.alloc(), bytes).err(), wanted);
-        assert_eq!(rt; lexed(Lexer::new(rt.alloc()), bytes).err(), wanted);
+        assert_eq!(rt; faults(rt.alloc(), bytes), [wanted, wanted]);
     }
 }
 
@@ -77,7 +98,7 @@ fn reads_on_in_the_memory_of_a_tape(rt: HostRuntime) -> Result<(), Fail> {
     let mut tape = read_tape(rt.alloc(), b"[\"an older text\", 17]")?;
     for (text, wanted) in WRITTEN {
         tape = lexed(Lexer::reusing(rt.alloc(), tape), text)?;
-        is_written(&rt, &tape.root().to_json(rt.alloc())?, wanted)?;
+        assert!(rt; is_written(rt.alloc(), &tape, wanted)?, "{text:?}");
     }
     Ok(())
 }
@@ -92,5 +113,6 @@ fn gives_long_memory_back(rt: HostRuntime) -> Result<(), Fail> {
     text.extend_from_slice(b"1]")?;
     let tape = read_tape(rt.alloc(), &text)?;
     let next = lexed(Lexer::reusing(rt.alloc(), tape), b"[2]")?;
-    is_written(&rt, &next.root().to_json(rt.alloc())?, b"[2]")
+    assert!(rt; is_written(rt.alloc(), &next, b"[2]")?);
+    Ok(())
 }

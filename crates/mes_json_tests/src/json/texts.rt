@@ -1,10 +1,11 @@
 //! JSON texts with the trees that they spell.
 
 use mes_json::{Json, NESTING_LIMIT, Text, read_text, write_text};
+use std::alloc::Global;
 use std::test::Fail;
 
 /// What a value is, of arrays and objects how many items or members they have.
-#[derive(Clone, Copy, Debug)]
+#[derive(Clone, Copy)]
 enum Kind {
     Null,
     Bool(bool),
@@ -15,13 +16,14 @@ enum Kind {
 }
 
 fn is_kind(json: &Json, kind: Kind) -> bool {
-    match json {
-        Json::Null => matches!(kind, Kind::Null),
-        Json::Bool(truth) => matches!(kind, Kind::Bool(expected) if expected == *truth),
-        Json::Num(number) => matches!(kind, Kind::Number(digits) if digits == number.as_str()),
-        Json::Text(text) => matches!(kind, Kind::Text(characters) if characters == text.as_str()),
-        Json::List(items) => matches!(kind, Kind::List(count) if count == items.len()),
-        Json::Map(members) => matches!(kind, Kind::Map(count) if count == members.len()),
+    match (json, kind) {
+        (Json::Null, Kind::Null) => true,
+        (Json::Bool(truth), Kind::Bool(expected)) => *truth == expected,
+        (Json::Num(number), Kind::Number(digits)) => number.as_str() == digits,
+        (Json::Text(text), Kind::Text(characters)) => text.as_str() == characters,
+        (Json::List(items), Kind::List(count)) => items.len() == count,
+        (Json::Map(members), Kind::Map(count)) => members.len() == count,
+        _ => false,
     }
 }
 
@@ -85,16 +87,22 @@ const VALUES: [(&[u8], &[usize], Kind); 25] = [
     (b"\"\"", &[], Kind::Text("")),
 ];
 
-#[test]
-fn reads_each_value(rt: HostRuntime) -> Result<(), Fail> {
-    for (text, places, kind) in VALUES {
-        let json = read_text(rt.alloc(), text)?;
-        let Some(value) = value_at(&json, places) else {
-            return Err("a value")?;
-        };
-        assert!(rt; is_kind(value, kind), "{text:?} {places:?}");
+/// Whether the places lead to such a value in what the text spells.
+fn is_at(alloc: Global, text: &[u8], places: &[usize], kind: Kind) -> bool {
+    match &read_text(alloc, text) {
+        Ok(json) => value_at(json, places).is_some_and(|value| is_kind(value, kind)),
+        Err(_) => false,
     }
-    Ok(())
+}
+
+#[test]
+fn reads_each_value(rt: HostRuntime) {
+    for (text, places, kind) in VALUES {
+        assert!(rt;
+            is_at(rt.alloc(), text, places, kind),
+            "{text:?} {places:?}"
+        );
+    }
 }
 
 // A text, the places that lead to an object, and the name of a member in a place of it.
@@ -111,16 +119,22 @@ const NAMES: [(&[u8], &[usize], usize, &str); 9] = [
     (br#"{"\u0061\/":"","a/":""}"#, &[], 1, "a/"),
 ];
 
-#[test]
-fn reads_each_name(rt: HostRuntime) -> Result<(), Fail> {
-    for (text, places, at, name) in NAMES {
-        let json = read_text(rt.alloc(), text)?;
-        let Some(object) = value_at(&json, places) else {
-            return Err("an object")?;
-        };
-        assert_eq!(rt; name_at(object, at), Some(name), "{text:?} {places:?}");
+/// Whether the places lead to an object in what the text spells, with a member of that name in this place.
+fn is_named(alloc: Global, text: &[u8], places: &[usize], at: usize, name: &str) -> bool {
+    match &read_text(alloc, text) {
+        Ok(json) => value_at(json, places).is_some_and(|object| name_at(object, at) == Some(name)),
+        Err(_) => false,
     }
-    Ok(())
+}
+
+#[test]
+fn reads_each_name(rt: HostRuntime) {
+    for (text, places, at, name) in NAMES {
+        assert!(rt;
+            is_named(rt.alloc(), text, places, at, name),
+            "{text:?} {places:?} {name}"
+        );
+    }
 }
 
 const NUMBERS: [&str; 13] = [
@@ -147,19 +161,27 @@ const AROUND: [(&[u8], &[u8], &[usize]); 4] = [
     (b"{\"a\":", b"}", &[0]),
 ];
 
+/// Whether the number is read as it is written, with this before and behind it.
+fn is_kept(
+    alloc: Global,
+    digits: &'static str,
+    front: &'static [u8],
+    end: &'static [u8],
+    places: &[usize],
+) -> bool {
+    match &[front, digits.as_bytes(), end].concat(alloc) {
+        Ok(text) => is_at(alloc, text, places, Kind::Number(digits)),
+        Err(_) => false,
+    }
+}
+
 #[test]
-fn keeps_numbers_as_written(rt: HostRuntime) -> Result<(), Fail> {
+fn keeps_numbers_as_written(rt: HostRuntime) {
     for digits in NUMBERS {
         for (front, end, places) in AROUND {
-            let text = [front, digits.as_bytes(), end].concat(rt.alloc())?;
-            let json = read_text(rt.alloc(), &text)?;
-            let Some(Json::Num(number)) = value_at(&json, places) else {
-                return Err("a number")?;
-            };
-            assert_eq!(rt; number.as_str(), digits);
+            assert!(rt; is_kept(rt.alloc(), digits, front, end, places), "{digits}");
         }
     }
-    Ok(())
 }
 
 const ESCAPES: [(&[u8], &str); 12] = [
@@ -184,59 +206,104 @@ const ESCAPES: [(&[u8], &str); 12] = [
 const CHARACTERS: &str =
     "\u{20}\u{7f}\u{80}\u{7ff}\u{800}\u{fff}\u{1000}\u{cfff}\u{d000}\u{d7ff}\u{e000}\u{ffff}\u{10000}\u{3ffff}\u{40000}\u{fffff}\u{100000}\u{10ffff}";
 
+/// Whether the string of the characters, none of which needs an escape, is read as them.
+fn is_read(alloc: Global, characters: &'static str) -> Result<bool, Fail> {
+    let text = format!(in alloc; "\"{characters}\"")?;
+    Ok(is_at(alloc, text.as_bytes(), &[], Kind::Text(characters)))
+}
+
 #[test]
 fn reads_characters_and_escapes(rt: HostRuntime) -> Result<(), Fail> {
-    let characters = format!(in rt.alloc(); "\"{CHARACTERS}\"")?;
-    let json = read_text(rt.alloc(), characters.as_bytes())?;
-    assert!(rt; is_kind(&json, Kind::Text(CHARACTERS)));
+    assert!(rt; is_read(rt.alloc(), CHARACTERS)?);
     for (bytes, text) in ESCAPES {
-        let json = read_text(rt.alloc(), bytes)?;
-        assert!(rt; is_kind(&json, Kind::Text(text)), "{bytes:?}");
+        assert!(rt;
+            is_at(rt.alloc(), bytes, &[], Kind::Text(text)),
+            "{bytes:?}"
+        );
     }
     Ok(())
+}
+
+/// A thousand times the part.
+fn repeated(alloc: Global, part: &str) -> Result<String, Fail> {
+    let mut text = String::new(alloc);
+    for _ in 0..1000 {
+        text.push_str(part)?;
+    }
+    Ok(text)
+}
+
+/// Whether the bytes spell the string of these characters.
+fn spells(alloc: Global, bytes: &[u8], characters: &str) -> bool {
+    match &read_text(alloc, bytes) {
+        Ok(Json::Text(text)) => text.as_str() == characters,
+        _ => false,
+    }
 }
 
 #[test]
 fn reads_long_texts(rt: HostRuntime) -> Result<(), Fail> {
     // Longer than any buffer begins, with a character of two bytes and an escape in the middle.
-    let mut expected = String::new(rt.alloc());
-    let mut bytes = Vec::new(rt.alloc());
-    bytes.push(b'"')?;
-    for _ in 0..1000 {
-        expected.push_str("plain text, \u{e9}\n")?;
-        bytes.extend_from_slice("plain text, \u{e9}\\n".as_bytes())?;
-    }
-    bytes.push(b'"')?;
-    let Json::Text(text) = read_text(rt.alloc(), &bytes)? else {
-        return Err("a text")?;
-    };
-    assert_eq!(rt; text.as_str(), expected.as_str());
+    let expected = repeated(rt.alloc(), "plain text, \u{e9}\n")?;
+    let written = repeated(rt.alloc(), "plain text, \u{e9}\\n")?;
+    let text = format!(in rt.alloc(); "\"{written}\"")?;
+    assert!(rt; spells(rt.alloc(), text.as_bytes(), &expected));
     Ok(())
 }
 
 // As deep as the limit: the first of these once less than the limit, the second, the third as often as the limit.
 const DEEP: [(&[u8], &[u8], &[u8]); 2] = [(b"[", b"[", b"]"), (b"{\"a\":", b"{", b"}")];
 
+/// The bytes, so many times.
+fn times(alloc: Global, count: usize, bytes: &[u8]) -> Result<Vec<u8>, Fail> {
+    let mut all = Vec::new(alloc);
+    for _ in 0..count {
+        all.extend_from_slice(bytes)?;
+    }
+    Ok(all)
+}
+
+fn deep(alloc: Global, front: &[u8], inner: &[u8], end: &[u8]) -> Result<Vec<u8>, Fail> {
+    let fronts = times(alloc, NESTING_LIMIT - 1, front)?;
+    let ends = times(alloc, NESTING_LIMIT, end)?;
+    Ok([&fronts, inner, &ends].concat(alloc)?)
+}
+
+fn written(alloc: Global, json: &Json) -> Result<Vec<u8>, Fail> {
+    let mut out = Vec::new(alloc);
+    write_text(json, &mut out)?;
+    Ok(out)
+}
+
+/// Whether the text is written as it is read, and nests as deep as the limit.
+fn is_deepest(alloc: Global, text: &[u8]) -> Result<bool, Fail> {
+    let json = read_text(alloc, text)?;
+    let out = written(alloc, &json)?;
+    Ok(out.as_slice() == text && json.depth() == NESTING_LIMIT as u64)
+}
+
 #[test]
 fn reads_as_deep_as_the_limit(rt: HostRuntime) -> Result<(), Fail> {
     for (front, inner, end) in DEEP {
-        let mut bytes = Vec::new(rt.alloc());
-        for _ in 1..NESTING_LIMIT {
-            bytes.extend_from_slice(front)?;
-        }
-        bytes.extend_from_slice(inner)?;
-        for _ in 0..NESTING_LIMIT {
-            bytes.extend_from_slice(end)?;
-        }
-        let json = read_text(rt.alloc(), &bytes)?;
-        let mut out = Vec::new(rt.alloc());
-        write_text(&json, &mut out)?;
-        assert_eq!(rt;
-            (out.as_slice(), json.depth()),
-            (bytes.as_slice(), NESTING_LIMIT as u64)
-        );
+        let text = deep(rt.alloc(), front, inner, end)?;
+        assert!(rt; is_deepest(rt.alloc(), &text)?);
     }
     Ok(())
+}
+
+/// Whether a text of the characters and a copy of it have them, as texts and as strings.
+fn is_kept_as_text(alloc: Global, characters: &str) -> Result<bool, Fail> {
+    let text = Text::of(alloc, characters)?;
+    let copy = text.copy(alloc)?;
+    let is_same = copy == text && text.as_str() == characters;
+    Ok(is_same && copy.into_string(alloc)?.as_str() == characters)
+}
+
+/// The same of the text of a string.
+fn is_kept_as_string(alloc: Global, characters: &str) -> Result<bool, Fail> {
+    let text = Text::new(String::from_str(alloc, characters)?);
+    let is_same = text == Text::of(alloc, characters)?;
+    Ok(is_same && text.into_string(alloc)?.as_str() == characters)
 }
 
 #[test]
@@ -249,18 +316,8 @@ fn keeps_texts_of_any_length(rt: HostRuntime) -> Result<(), Fail> {
         "123456789 1234567",
         "123456789 12345\u{e9}",
     ] {
-        let text = Text::of(rt.alloc(), characters)?;
-        let copy = text.copy(rt.alloc())?;
-        let of_string = Text::new(String::from_str(rt.alloc(), characters)?);
-        assert!(rt; copy == text && of_string == text && text.as_str() == characters);
-        let strings = (
-            copy.into_string(rt.alloc())?,
-            of_string.into_string(rt.alloc())?,
-        );
-        assert_eq!(rt;
-            (strings.0.as_str(), strings.1.as_str()),
-            (characters, characters)
-        );
+        assert!(rt; is_kept_as_text(rt.alloc(), characters)?, "{characters}");
+        assert!(rt; is_kept_as_string(rt.alloc(), characters)?, "{characters}");
     }
     Ok(())
 }

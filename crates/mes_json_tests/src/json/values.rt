@@ -23,12 +23,22 @@ fn takes_numbers_only(rt: HostRuntime) -> Result<(), Fail> {
     Ok(())
 }
 
+/// The number of these digits.
+fn number(alloc: Global, digits: &str) -> Result<NumText, Fail> {
+    let number = NumText::new(String::from_str(alloc, digits)?).ok();
+    Ok(number.ok_or("a number")?)
+}
+
+/// Whether a copy of the number is the same, with these digits.
+fn is_copied(alloc: Global, number: &NumText, digits: &str) -> Result<bool, Fail> {
+    let copy = number.copy(alloc)?;
+    Ok(copy == *number && copy.as_str() == digits)
+}
+
 #[test]
 fn copies_a_number(rt: HostRuntime) -> Result<(), Fail> {
-    let number = NumText::new(String::from_str(rt.alloc(), "-0.50")?).expect(&rt, "a number");
-    let copy = number.copy(rt.alloc())?;
-    assert!(rt; copy == number);
-    assert_eq!(rt; copy.as_str(), "-0.50");
+    let number = number(rt.alloc(), "-0.50")?;
+    assert!(rt; is_copied(rt.alloc(), &number, "-0.50")?);
     Ok(())
 }
 
@@ -71,26 +81,42 @@ fn is_long(json: &Json, length: usize) -> bool {
     text_length(json, length) == Some(length) && text_length(json, usize::MAX) == Some(length)
 }
 
+/// Whether the value is written so, and told to be so long.
+fn is_written(alloc: Global, json: &Json, wanted: &[u8]) -> Result<bool, Fail> {
+    let out = written(alloc, json)?;
+    Ok(out.as_slice() == wanted && is_long(json, wanted.len()))
+}
+
+/// Whether the value nests so deep, and is written as it is read and told to be so long.
+fn is_deep(alloc: Global, text: &str, depth: u64) -> Result<bool, Fail> {
+    let json = read_text(alloc, text.as_bytes())?;
+    Ok(json.depth() == depth && is_written(alloc, &json, text.as_bytes())?)
+}
+
 #[test]
 fn writes_and_measures_each_kind(rt: HostRuntime) -> Result<(), Fail> {
     for (text, depth) in VALUES {
-        let json = read_text(rt.alloc(), text.as_bytes())?;
-        assert_eq!(rt; json.depth(), depth, "{text}");
-        assert!(rt; is_long(&json, text.len()), "{text}");
-        let out = written(rt.alloc(), &json)?;
-        assert_eq!(rt; out.as_slice(), text.as_bytes());
+        assert!(rt; is_deep(rt.alloc(), text, depth)?, "{text}");
     }
     Ok(())
+}
+
+/// The value that the bytes spell, copied, once it is the same as the copy and is gone.
+fn copied(alloc: Global, bytes: &[u8]) -> Result<Json, Fail> {
+    let json = read_text(alloc, bytes)?;
+    let copy = json.copy(alloc)?;
+    if json.same(&copy) {
+        Ok(copy)
+    } else {
+        Err("the same")?
+    }
 }
 
 #[test]
 fn copies_each_kind(rt: HostRuntime) -> Result<(), Fail> {
     for (text, _) in VALUES {
-        let json = read_text(rt.alloc(), text.as_bytes())?;
-        let copy = json.copy(rt.alloc())?;
-        assert!(rt; json.same(&copy), "{text}");
-        drop(json);
-        assert_eq!(rt; written(rt.alloc(), &copy)?.as_slice(), text.as_bytes());
+        let copy = copied(rt.alloc(), text.as_bytes())?;
+        assert!(rt; is_written(rt.alloc(), &copy, text.as_bytes())?, "{text}");
     }
     Ok(())
 }
@@ -141,32 +167,35 @@ fn text(alloc: Global, characters: &str) -> Result<Text, Fail> {
     Ok(Text::new(String::from_str(alloc, characters)?))
 }
 
+/// This member alone.
+fn single(alloc: Global, member: (Text, Json)) -> Result<Vec<(Text, Json)>, Fail> {
+    let mut members = Vec::new(alloc);
+    members.push(member)?;
+    Ok(members)
+}
+
 /// An object with one member, which is null.
 fn named(alloc: Global, name: &str) -> Result<Json, Fail> {
-    let mut members = Vec::new(alloc);
-    members.push((text(alloc, name)?, Json::Null))?;
-    Ok(Json::Map(members))
+    let member = (text(alloc, name)?, Json::Null);
+    Ok(Json::Map(single(alloc, member)?))
 }
 
 #[test]
 fn escapes_what_has_to_be(rt: HostRuntime) -> Result<(), Fail> {
     for (characters, expected) in ESCAPES {
         let json = Json::Text(text(rt.alloc(), characters)?);
-        assert_eq!(rt; written(rt.alloc(), &json)?.as_slice(), expected);
-        assert!(rt; is_long(&json, expected.len()));
+        assert!(rt; is_written(rt.alloc(), &json, expected)?, "{characters}");
     }
     Ok(())
 }
 
-// A name is a string too: `{` before it, `:null}` behind it.
+// A name is a string too.
 #[test]
 fn escapes_names_alike(rt: HostRuntime) -> Result<(), Fail> {
     for (characters, expected) in ESCAPES {
         let json = named(rt.alloc(), characters)?;
-        let out = written(rt.alloc(), &json)?;
-        assert_eq!(rt; out.get(1..expected.len() + 1), Some(expected));
-        assert_eq!(rt; out.len(), expected.len() + 7);
-        assert!(rt; is_long(&json, expected.len() + 7));
+        let wanted = [b"{", expected, b":null}"].concat(rt.alloc())?;
+        assert!(rt; is_written(rt.alloc(), &json, &wanted)?, "{characters}");
     }
     Ok(())
 }
@@ -179,19 +208,20 @@ fn nested(alloc: Global, depth: usize) -> Result<Vec<u8>, Fail> {
     Ok(bytes)
 }
 
+/// Whether the two spell the same.
+fn is_same(alloc: Global, one: &[u8], other: &[u8]) -> Result<bool, Fail> {
+    let one = read_text(alloc, one)?;
+    let other = read_text(alloc, other)?;
+    Ok(one.same(&other))
+}
+
 #[test]
 fn copies_compares_and_writes_what_is_deep(rt: HostRuntime) -> Result<(), Fail> {
     let bytes = nested(rt.alloc(), NESTING_LIMIT)?;
-    let json = read_text(rt.alloc(), &bytes)?;
-    let copy = json.copy(rt.alloc())?;
-    assert!(rt; copy.same(&json));
-    drop(json);
-    assert_eq!(rt;
-        (written(rt.alloc(), &copy)?.as_slice(), copy.depth()),
-        (bytes.as_slice(), NESTING_LIMIT as u64)
-    );
-    assert!(rt; is_long(&copy, 2 * NESTING_LIMIT));
-    let other = read_text(rt.alloc(), &nested(rt.alloc(), NESTING_LIMIT - 1)?)?;
-    assert!(rt; !copy.same(&other));
+    let copy = copied(rt.alloc(), &bytes)?;
+    assert!(rt; is_written(rt.alloc(), &copy, &bytes)?);
+    assert_eq!(rt; copy.depth(), NESTING_LIMIT as u64);
+    let other = nested(rt.alloc(), NESTING_LIMIT - 1)?;
+    assert!(rt; !is_same(rt.alloc(), &bytes, &other)?);
     Ok(())
 }
