@@ -1,5 +1,6 @@
 //! Session logs: read, replayed and written.
 
+use crate::asking::look_at;
 use crate::bytes::{Bytes, bytes_of};
 use crate::messages::{call_text, event_text};
 use crate::told::{Told, refusal_behind};
@@ -96,8 +97,9 @@ fn tell(alloc: Global, what: &str, entries: &[Entry], words: &mut Words) -> Resu
 
 /// Tells the report of the session that entries lead to.
 fn tell_session(alloc: Global, entries: &[Entry], words: &mut Words) -> Result<(), Told> {
-    let session = session_of(alloc, entries)?;
-    say_session(&session, entries.len() as u64, words)
+    look_at(session_of(alloc, entries)?, |session| {
+        say_session(session, entries.len() as u64, words)
+    })
 }
 
 /// Tells the report of a session that so many entries lead to.

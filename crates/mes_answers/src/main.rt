@@ -2,6 +2,7 @@
 //! answered. Where memory was refused, the line says so and the row is asked again; docs/FORMAT.md has the lines.
 #![tactic(auto)]
 
+mod asking;
 mod bytes;
 mod heads;
 mod held;

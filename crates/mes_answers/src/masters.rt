@@ -1,5 +1,6 @@
 //! A test master: what it answers and sends, and what it has then.
 
+use crate::asking::{ask_twice, change, look_at};
 use crate::held::held_by_master;
 use crate::messages::{call_of, event_of, say_event};
 use crate::streams::tell_events;
@@ -39,8 +40,9 @@ enum Sending<'a> {
 
 /// Does the steps of a row with a new master.
 pub(crate) fn run(alloc: Global, steps: &str, words: &mut Words) -> Result<(), Told> {
-    let mut master = new_master(alloc)?;
-    do_steps(alloc, &mut master, steps, words)
+    change(new_master(alloc)?, |master| {
+        do_steps(alloc, master, steps, words)
+    })
 }
 
 /// Does steps, one behind the other. One that is refused says so; want of memory ends the row.
@@ -95,8 +97,9 @@ fn do_step(alloc: Global, master: &mut Master, step: &str, words: &mut Words) ->
 
 /// Answers the call of a text, and tells the answer.
 fn call(alloc: Global, master: &mut Master, text: &str, words: &mut Words) -> Result<(), Told> {
-    let call = call_of(alloc, text)?;
-    answer_call(alloc, master, &call, words)
+    look_at(call_of(alloc, text)?, |call| {
+        answer_call(alloc, master, call, words)
+    })
 }
 
 /// Answers a call, and tells the answer.
@@ -118,13 +121,7 @@ fn tell_answer(alloc: Global, answer: &Answer, words: &mut Words) -> Result<(), 
 
 /// What a call is answered. Where memory is refused, it is asked once more.
 fn handle(master: &mut Master, call: &Call, words: &mut Words) -> Result<Answer, Told> {
-    match handle_once(master, call) {
-        Err(Told::NoMemory) => {
-            words.say("no memory");
-            handle_once(master, call)
-        }
-        answer => answer,
-    }
+    ask_twice(|| handle_once(master, call), words)
 }
 
 /// What a call is answered. Where memory is refused, all that looks has to answer as before.
@@ -144,8 +141,9 @@ fn send_like(
     text: &str,
     words: &mut Words,
 ) -> Result<(), Told> {
-    let event = event_of(alloc, text.as_bytes())?;
-    send_told(alloc, master, &event, words)
+    look_at(event_of(alloc, text.as_bytes())?, |event| {
+        send_told(alloc, master, event, words)
+    })
 }
 
 /// Sends what an event tells.
@@ -169,8 +167,9 @@ fn note_like(
     text: &str,
     words: &mut Words,
 ) -> Result<(), Told> {
-    let event = event_of(alloc, text.as_bytes())?;
-    note_told(master, &event, words)
+    look_at(event_of(alloc, text.as_bytes())?, |event| {
+        note_told(master, event, words)
+    })
 }
 
 /// Notes as sent what an event tells.
@@ -184,8 +183,9 @@ fn note_told(master: &mut Master, event: &Event, words: &mut Words) -> Result<()
 
 /// Has the master note something, and tells that it did. No event is given.
 fn note(master: &mut Master, sending: Sending<'_>, words: &mut Words) -> Result<(), Told> {
-    let event = sent_event(master, sending, words)?;
-    words.say(if event.is_none() { "noted" } else { "sent" });
+    look_at(sent_event(master, sending, words)?, |event| {
+        words.say(if event.is_none() { "noted" } else { "sent" });
+    });
     Ok(())
 }
 
@@ -204,10 +204,10 @@ fn send(
     sending: Sending<'_>,
     words: &mut Words,
 ) -> Result<(), Told> {
-    match sent_event(master, sending, words)? {
-        Some(event) => say_event(alloc, &event, words),
+    look_at(sent_event(master, sending, words)?, |event| match event {
+        Some(event) => say_event(alloc, event, words),
         None => Err(Told::fault("no event")),
-    }
+    })
 }
 
 /// The event that the master sends, or none of what it notes. Where memory is refused, it is asked once more.
@@ -216,13 +216,7 @@ fn sent_event(
     sending: Sending<'_>,
     words: &mut Words,
 ) -> Result<Option<Event>, Told> {
-    match send_once(master, sending) {
-        Err(Told::NoMemory) => {
-            words.say("no memory");
-            send_once(master, sending)
-        }
-        answer => answer,
-    }
+    ask_twice(|| send_once(master, sending), words)
 }
 
 /// The event that the master sends, or none. Where it is refused, all that looks has to answer as before.

@@ -1,5 +1,6 @@
 //! Events, calls and resources, read from their texts and written again.
 
+use crate::asking::look_at;
 use crate::told::Told;
 use crate::words::Words;
 use mes_model::{Part, Path, Resource};
@@ -95,8 +96,7 @@ pub(crate) fn tell_short(alloc: Global, text: &str, words: &mut Words) -> Result
 
 /// Reads a call, and tells its canonical text.
 pub(crate) fn tell_call(alloc: Global, text: &str, words: &mut Words) -> Result<(), Told> {
-    let call = call_of(alloc, text)?;
-    say_call(alloc, &call, words)
+    look_at(call_of(alloc, text)?, |call| say_call(alloc, call, words))
 }
 
 /// The call that a text spells.

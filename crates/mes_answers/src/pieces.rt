@@ -1,5 +1,6 @@
 //! Chunked bodies that come in pieces.
 
+use crate::asking::look_at;
 use crate::bytes::bytes_of;
 use crate::messages::say_event;
 use crate::told::{Told, fault_behind};
@@ -101,9 +102,10 @@ fn next(
     piece: &[u8],
     words: &mut Words,
 ) -> Result<(usize, Front), Told> {
-    let step = decoder.next(piece);
-    answered.add(alloc, &step, words)?;
-    Ok((step.used, front_of(&step)))
+    look_at(decoder.next(piece), |step| {
+        answered.add(alloc, step, words)?;
+        Ok((step.used, front_of(step)))
+    })
 }
 
 /// What a decoder answers by a step.

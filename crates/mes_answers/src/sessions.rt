@@ -1,5 +1,6 @@
 //! Sessions: what they hear, the calls that they make, and what they hold then.
 
+use crate::asking::{ask_twice, change, look_at};
 use crate::held::held_by_session;
 use crate::making::make;
 use crate::messages::{call_of, event_of, say_call};
@@ -12,8 +13,9 @@ use std::alloc::Global;
 
 /// Does the steps of a row with a new session.
 pub(crate) fn run(alloc: Global, steps: &str, words: &mut Words) -> Result<(), Told> {
-    let mut session = Session::new(alloc);
-    do_steps(alloc, &mut session, steps, words)
+    change(Session::new(alloc), |session| {
+        do_steps(alloc, session, steps, words)
+    })
 }
 
 /// Does steps, one behind the other. One that is refused says so; want of memory ends the row.
@@ -55,13 +57,7 @@ fn hear(alloc: Global, session: &mut Session, text: &str, words: &mut Words) -> 
 
 /// Hears an event. Where memory is refused, once more.
 fn hear_event(session: &mut Session, event: &Event, words: &mut Words) -> Result<(), Told> {
-    match hear_once(session, event) {
-        Err(Told::NoMemory) => {
-            words.say("no memory");
-            hear_once(session, event)
-        }
-        answer => answer,
-    }
+    ask_twice(|| hear_once(session, event), words)
 }
 
 /// Hears an event. Where it is refused, all that looks has to answer as before.
@@ -80,8 +76,9 @@ fn make_like(
     text: &str,
     words: &mut Words,
 ) -> Result<(), Told> {
-    let like = call_of(alloc, text)?;
-    tell_made(alloc, session, &like, words)
+    look_at(call_of(alloc, text)?, |like| {
+        tell_made(alloc, session, like, words)
+    })
 }
 
 /// Makes a call like this one, and tells it.
@@ -91,8 +88,8 @@ fn tell_made(
     like: &Call,
     words: &mut Words,
 ) -> Result<(), Told> {
-    let call = make_call(alloc, session, like, words)?;
-    say_call(alloc, &call, words)
+    let made = make_call(alloc, session, like, words)?;
+    look_at(made, |call| say_call(alloc, call, words))
 }
 
 /// Makes a call like this one. Where memory is refused, once more.
@@ -102,13 +99,7 @@ fn make_call(
     like: &Call,
     words: &mut Words,
 ) -> Result<Call, Told> {
-    match make_once(alloc, session, like) {
-        Err(Told::NoMemory) => {
-            words.say("no memory");
-            make_once(alloc, session, like)
-        }
-        answer => answer,
-    }
+    ask_twice(|| make_once(alloc, session, like), words)
 }
 
 /// Makes a call like this one. Where it is refused, all that looks has to answer as before.

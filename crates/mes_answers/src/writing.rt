@@ -1,5 +1,6 @@
 //! Events, chunks, calls and heads that are written.
 
+use crate::asking::look_at;
 use crate::bytes::{Bytes, bytes_of};
 use crate::messages::call_of;
 use crate::told::Told;
@@ -90,8 +91,9 @@ fn write_chunks(alloc: Global, words: &mut Words) -> Result<(), Told> {
 
 /// A call is written as a request.
 fn write_request(alloc: Global, text: &str, words: &mut Words) -> Result<(), Told> {
-    let call = call_of(alloc, text)?;
-    tell_request(alloc, &call, words)
+    look_at(call_of(alloc, text)?, |call| {
+        tell_request(alloc, call, words)
+    })
 }
 
 /// Writes a call as a request, and tells what went out.
