@@ -25,6 +25,38 @@ fn expect_faults<R: Abort + AllocGlobal>(rt: &R, faults: &str) -> Result<(), Fai
     Ok(())
 }
 
+/// A text with so many objects inside each other between its two ends.
+fn nested(alloc: Global, front: &[u8], objects: usize, behind: &[u8]) -> Result<Vec<u8>, Fail> {
+    let mut text = Vec::new(alloc);
+    text.extend_from_slice(front)?;
+    for _ in 1..objects {
+        text.extend_from_slice(br#"{"a":"#)?;
+    }
+    text.extend_from_slice(b"{}")?;
+    for _ in 1..objects {
+        text.extend_from_slice(b"}")?;
+    }
+    text.extend_from_slice(behind)?;
+    Ok(text)
+}
+
+/// The event of a text that is one.
+fn event_of(alloc: Global, text: &[u8]) -> Result<Event, Fail> {
+    match Event::read_record(alloc, text) {
+        Ok(event) => Ok(event),
+        Err(_) => Err("an event")?,
+    }
+}
+
+/// The event of the tree of a text.
+fn event_of_tree(alloc: Global, text: &str) -> Result<Event, Fail> {
+    let tree = read_text(alloc, text.as_bytes())?;
+    match Event::of_tree(alloc, &tree) {
+        Ok(event) => Ok(event),
+        Err(_) => Err("an event")?,
+    }
+}
+
 /// The canonical text of an event that has one.
 fn canon(event: &Event, alloc: Global, limit: Limit) -> Result<Vec<u8>, Fail> {
     match event.canon(alloc, limit) {
@@ -33,15 +65,19 @@ fn canon(event: &Event, alloc: Global, limit: Limit) -> Result<Vec<u8>, Fail> {
     }
 }
 
-/// The event has this canonical text, within a limit of just its length.
+/// Whether the event has more bytes than the limit.
+fn is_too_large(event: &Event, alloc: Global, limit: Limit) -> bool {
+    matches!(event.canon(alloc, limit), Err(EncodeFault::TooLarge))
+}
+
+/// The event has this canonical text, within a limit of just its length, and none within a smaller one.
 fn expect_canon<R: Abort + AllocGlobal>(rt: &R, event: &Event, written: &str) -> Result<(), Fail> {
     let length = written.len().min(RECORD_LIMIT_MOST as usize) as u32;
     let limit = Limit::new(length).ok_or("a limit")?;
+    let below = Limit::new(length.saturating_sub(1)).ok_or("a limit")?;
     let out = canon(event, rt.alloc(), limit)?;
     assert_eq!(rt; out.as_slice(), written.as_bytes());
-    let below = Limit::new(length.saturating_sub(1)).ok_or("a limit")?;
-    let refused = event.canon(rt.alloc(), below);
-    assert!(rt; matches!(refused, Err(EncodeFault::TooLarge)), "{written}");
+    assert!(rt; is_too_large(event, rt.alloc(), below), "{written}");
     Ok(())
 }
 
@@ -57,26 +93,30 @@ fn expect_events<R: Abort + AllocGlobal>(rt: &R, events: &str) -> Result<(), Fai
 
 /// The text is an event with this canonical text, and so is its copy.
 fn expect_record<R: Abort + AllocGlobal>(rt: &R, text: &str, written: &str) -> Result<(), Fail> {
-    match Event::read_record(rt.alloc(), text.as_bytes()) {
-        Ok(event) => {
-            expect_canon(rt, &event, written)?;
-            expect_copy(rt, &event, written)
-        }
-        Err(_) => Err("an event")?,
-    }
+    let event = event_of(rt.alloc(), text.as_bytes())?;
+    let answer = expect_both(rt, &event, written);
+    drop(event);
+    answer
+}
+
+/// The event has this canonical text, and so has its copy.
+fn expect_both<R: Abort + AllocGlobal>(rt: &R, event: &Event, written: &str) -> Result<(), Fail> {
+    expect_canon(rt, event, written)?;
+    expect_copy(rt, event, written)
 }
 
 /// The copy of the event has this canonical text.
 fn expect_copy<R: Abort + AllocGlobal>(rt: &R, event: &Event, written: &str) -> Result<(), Fail> {
     let copy = event.copy(rt.alloc())?;
-    expect_canon(rt, &copy, written)
+    let answer = expect_canon(rt, &copy, written);
+    drop(copy);
+    answer
 }
 
 /// The tree of the text is an event with this canonical text.
 fn expect_tree<R: Abort + AllocGlobal>(rt: &R, text: &str, written: &str) -> Result<(), Fail> {
-    let tree = read_text(rt.alloc(), text.as_bytes())?;
-    match Event::of_tree(rt.alloc(), &tree) {
-        Ok(event) => expect_canon(rt, &event, written),
-        Err(_) => Err("an event")?,
-    }
+    let event = event_of_tree(rt.alloc(), text)?;
+    let answer = expect_canon(rt, &event, written);
+    drop(event);
+    answer
 }

@@ -5,15 +5,35 @@
 //! function makes each later step of it dear to check, so the functions that make one are small.
 
 use arrayvec::ArrayString;
-use mes_json::Why;
+use mes_json::{Json, Why, write_text};
 use mes_msg::RecordFault;
 use mes_part::{FieldFault, PATH_TEXT_MOST, PartFault};
+use std::alloc::Global;
 use std::process::Abort;
 use std::test::Fail;
 
 /// The two sides of a row.
 pub(crate) fn row_of(line: &str) -> Result<(&str, &str), Fail> {
     Ok(line.split_once(" => ").ok_or("a row has two sides")?)
+}
+
+/// The text of a tree.
+pub(crate) fn text_of(alloc: Global, tree: &Json) -> Result<Vec<u8>, Fail> {
+    let mut out = Vec::new(alloc);
+    write_text(tree, &mut out)?;
+    Ok(out)
+}
+
+/// The tree is written so.
+pub(crate) fn expect_text<R: Abort>(
+    rt: &R,
+    alloc: Global,
+    tree: &Json,
+    expected: &str,
+) -> Result<(), Fail> {
+    let out = text_of(alloc, tree)?;
+    assert_eq!(rt; out.as_slice(), expected.as_bytes());
+    Ok(())
 }
 
 /// The fault of an answer that tells one.
@@ -47,11 +67,14 @@ pub(crate) fn expect_fault<R: Abort>(
     fault: Option<FieldFault>,
     expected: &str,
 ) -> Result<(), Fail> {
-    let fault = fault.ok_or("a fault")?;
     let (path, why) = expected.split_once(' ').ok_or("a path and why")?;
+    let fault = fault.ok_or("a fault")?;
     let mut path_text: ArrayString<PATH_TEXT_MOST> = ArrayString::new();
     fault.path.text(&mut path_text);
-    assert_eq!(rt; path_text.as_str(), path, "{text}");
-    assert_eq!(rt; fault.why.name(), why, "{text}");
+    assert_eq!(rt;
+        (path_text.as_str(), fault.why.name()),
+        (path, why),
+        "{text}"
+    );
     Ok(())
 }

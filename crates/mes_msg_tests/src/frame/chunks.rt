@@ -119,11 +119,19 @@ const LONG: [(&[&[u8]], Option<(usize, ChunkOut)>, u64); 9] = [
     ),
 ];
 
+// The answer that ends the body of these parts, and how many bytes of data come next.
+fn end_and_room(
+    alloc: Global,
+    parts: &[&[u8]],
+) -> Result<(Option<(usize, ChunkOut)>, u64), AllocError> {
+    let body = parts.concat(alloc)?;
+    Ok((first_end(&body), room_behind(&body)))
+}
+
 #[test]
 fn lines_and_trailers_have_a_limit(rt: HostRuntime) -> Result<(), AllocError> {
     for (parts, end, room) in LONG {
-        let body = parts.concat(rt.alloc())?;
-        assert_eq!(rt; (first_end(&body), room_behind(&body)), (end, room));
+        assert_eq!(rt; end_and_room(rt.alloc(), parts)?, (end, room));
     }
     Ok(())
 }
@@ -140,12 +148,16 @@ fn steps<const N: usize>(state: &mut ChunkState, bytes: &[u8; N]) -> [ChunkOut; 
 #[test]
 fn an_end_is_answered_again(rt: HostRuntime) {
     let mut broken = ChunkState::new();
-    assert_eq!(rt; steps(&mut broken, b"g1\r"), [BAD_LINE; 3]);
-    assert_eq!(rt; broken.room(), 0);
+    assert_eq!(rt;
+        (steps(&mut broken, b"g1\r"), broken.room()),
+        ([BAD_LINE; 3], 0)
+    );
     let mut closed = ChunkState::new();
     assert_eq!(rt; steps(&mut closed, b"0\r\n\r"), [ChunkOut::Quiet; 4]);
-    assert_eq!(rt; steps(&mut closed, b"\n1\r\nx"), [CLOSED; 5]);
-    assert_eq!(rt; closed.room(), 0);
+    assert_eq!(rt;
+        (steps(&mut closed, b"\n1\r\nx"), closed.room()),
+        ([CLOSED; 5], 0)
+    );
 }
 
 // A chunk of five bytes, and two chunks' ends: a run of data at once is as many steps.
@@ -155,11 +167,12 @@ fn data_of_chunks_passes_in_runs(rt: HostRuntime) {
     run.pass(0);
     assert_eq!(rt; steps(&mut run, b"5\r\n"), [ChunkOut::Quiet; 3]);
     let mut stepped = run;
-    assert_eq!(rt; steps(&mut stepped, b"\r\n0"), [ChunkOut::Byte; 3]);
-    assert_eq!(rt; run.room(), 5);
+    assert_eq!(rt;
+        (steps(&mut stepped, b"\r\n0"), run.room()),
+        ([ChunkOut::Byte; 3], 5)
+    );
     run.pass(3);
-    assert_eq!(rt; run.room(), 2);
-    assert_eq!(rt; stepped.room(), 2);
+    assert_eq!(rt; [run.room(), stepped.room()], [2, 2]);
     assert_eq!(rt; steps(&mut run, b"de"), [ChunkOut::Byte; 2]);
     stepped.pass(2);
     let quiet = [ChunkOut::Quiet; 6];
@@ -173,14 +186,13 @@ fn data_of_chunks_passes_in_runs(rt: HostRuntime) {
     assert_eq!(rt; (run.step(b'\n'), stepped.step(b'\n')), (CLOSED, CLOSED));
 }
 
-// The bytes of the body that the pieces hold, and the answer that ends it with how many bytes had been taken then; runs of
+// Adds the bytes of the body that the pieces hold; tells the answer that ends it and how many bytes had been taken then. Runs of
 // data pass at once.
 fn read_pieces(
-    alloc: Global,
+    body: &mut Vec<u8>,
     pieces: [&[u8]; 2],
-) -> Result<(Vec<u8>, Option<(usize, ChunkOut)>), AllocError> {
+) -> Result<Option<(usize, ChunkOut)>, AllocError> {
     let mut state = ChunkState::new();
-    let mut body = Vec::new(alloc);
     let mut taken: usize = 0;
     for piece in pieces {
         let mut rest = piece;
@@ -199,12 +211,12 @@ fn read_pieces(
             match out {
                 ChunkOut::Quiet => {}
                 ChunkOut::Byte => body.push(*byte)?,
-                ChunkOut::Closed => return Ok((body, Some((taken, out)))),
-                ChunkOut::Fault(_) => return Ok((body, Some((taken, out)))),
+                ChunkOut::Closed => return Ok(Some((taken, out))),
+                ChunkOut::Fault(_) => return Ok(Some((taken, out))),
             }
         }
     }
-    Ok((body, None))
+    Ok(None)
 }
 
 // Each body with its data and its end.
@@ -233,9 +245,13 @@ fn each_cut_into_two_reads_alike(rt: HostRuntime) -> Result<(), std::test::Fail>
     for (bytes, data, end) in BODIES {
         for cut in 0..bytes.len() + 1 {
             let (first, second) = bytes.split_at(cut);
-            let read = read_pieces(rt.alloc(), [first, second])?;
-            assert_eq!(rt; read.0.as_slice(), data, "{bytes:?} cut at {cut}");
-            assert_eq!(rt; read.1, end, "{bytes:?} cut at {cut}");
+            let mut body = Vec::new(rt.alloc());
+            let ended = read_pieces(&mut body, [first, second])?;
+            assert_eq!(rt;
+                (body.as_slice(), ended),
+                (data, end),
+                "{bytes:?} cut at {cut}"
+            );
         }
     }
     Ok(())

@@ -60,6 +60,13 @@ fn told(answer: io::Result<usize>) -> Option<usize> {
     }
 }
 
+/// Four calls, one of which was interrupted.
+const FOUR_CALLS: Counts = Counts {
+    calls: 4,
+    failures: 1,
+    idle: 0,
+};
+
 #[test]
 fn a_fetch_is_one_read(rt: HostRuntime) {
     let mut reader = Reader {
@@ -70,20 +77,16 @@ fn a_fetch_is_one_read(rt: HostRuntime) {
     let mut large = [0; 4096];
     let mut small = [0; 512];
     let mut one = [0; 1];
-    assert_eq!(rt; told(source.fetch(&mut large)), Some(100));
-    assert_eq!(rt; told(source.fetch(&mut small)), Some(100));
-    assert_eq!(rt; told(source.fetch(&mut large)), None);
-    assert_eq!(rt; told(source.fetch(&mut one)), Some(1));
+    let fetched = [
+        told(source.fetch(&mut large)),
+        told(source.fetch(&mut small)),
+        told(source.fetch(&mut large)),
+        told(source.fetch(&mut one)),
+    ];
+    let counts = source.counts();
+    assert_eq!(rt; fetched, [Some(100), Some(100), None, Some(1)]);
     assert_eq!(rt; one, [7]);
-    assert_eq!(rt;
-        source.counts(),
-        Counts {
-            calls: 4,
-            failures: 1,
-            idle: 0
-        }
-    );
-    assert_eq!(rt; reader.calls, 4);
+    assert_eq!(rt; (counts, reader.calls), (FOUR_CALLS, 4));
 }
 
 #[test]
@@ -93,19 +96,15 @@ fn a_put_is_one_write(rt: HostRuntime) {
         interrupted: 3,
     };
     let mut sink = FromStd::new(&mut writer);
-    assert_eq!(rt; told(sink.put(&[7; 4096])), Some(100));
-    assert_eq!(rt; told(sink.put(&[7; 512])), Some(100));
-    assert_eq!(rt; told(sink.put(&[7; 4096])), None);
-    assert_eq!(rt; told(sink.put(&[7; 1])), Some(1));
-    assert_eq!(rt;
-        sink.counts(),
-        Counts {
-            calls: 4,
-            failures: 1,
-            idle: 0
-        }
-    );
-    assert_eq!(rt; writer.calls, 4);
+    let put = [
+        told(sink.put(&[7; 4096])),
+        told(sink.put(&[7; 512])),
+        told(sink.put(&[7; 4096])),
+        told(sink.put(&[7; 1])),
+    ];
+    let counts = sink.counts();
+    assert_eq!(rt; put, [Some(100), Some(100), None, Some(1)]);
+    assert_eq!(rt; (counts, writer.calls), (FOUR_CALLS, 4));
 }
 
 #[test]
@@ -122,16 +121,15 @@ fn a_device_lasts(rt: HostRuntime) {
     let mut sink = FromStd::new(&mut writer);
     let mut buffer = [0; 1];
     for _ in 0..1_000_000 {
-        assert_eq!(rt; told(source.fetch(&mut buffer)), Some(1));
-        assert_eq!(rt; told(sink.put(&buffer)), Some(1));
+        let moved = [told(source.fetch(&mut buffer)), told(sink.put(&buffer))];
+        assert_eq!(rt; moved, [Some(1), Some(1)]);
     }
-    assert_eq!(rt; told(source.fetch(&mut buffer)), None);
-    assert_eq!(rt; told(sink.put(&buffer)), None);
+    let moved = [told(source.fetch(&mut buffer)), told(sink.put(&buffer))];
+    assert_eq!(rt; moved, [None, None]);
     let counts = Counts {
         calls: 1_000_001,
         failures: 1,
         idle: 0,
     };
-    assert_eq!(rt; source.counts(), counts);
-    assert_eq!(rt; sink.counts(), counts);
+    assert_eq!(rt; [source.counts(), sink.counts()], [counts, counts]);
 }

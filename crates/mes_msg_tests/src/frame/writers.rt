@@ -1,42 +1,65 @@
 //! Worked examples of what is written: records and chunked bodies.
+
+ghost use Rattle.std.specs.Prelude.{◌≤◌};
+
 use mes_frame::*;
+use std::process::Abort;
 
 const HEARTBEAT: &[u8] = b"20\n{\"type\":\"HEARTBEAT\"}";
 
-#[test]
-fn records_are_written(rt: HostRuntime) {
-    let mut sink = MemorySink::new(rt.alloc(), 5);
-    assert_eq!(rt;
-        write_record(&mut sink, b"{\"type\":\"HEARTBEAT\"}"),
-        Ok(())
-    );
-    assert_eq!(rt; sink.bytes(), HEARTBEAT);
-    let mut empty = MemorySink::new(rt.alloc(), 5);
-    assert_eq!(rt; write_record(&mut empty, b""), Ok(()));
-    assert_eq!(rt; empty.bytes(), b"0\n".as_slice());
-    let mut failing = MemorySink::stopping_after(rt.alloc(), 5, 2, MemoryStop::Fails);
-    assert_eq!(rt;
-        write_record(&mut failing, b"{\"type\":\"HEARTBEAT\"}"),
-        Err(WriteFault {
-            sent: 2,
-            why: WriteWhy::Device
-        })
-    );
-    assert_eq!(rt; failing.bytes(), b"20".as_slice());
+fn stopped(sent: u64, why: WriteWhy) -> Result<(), WriteFault> {
+    Err(WriteFault { sent, why })
+}
+
+/// The record is answered so, and these bytes go out.
+fn expect_record<R: Abort>(
+    rt: &R,
+    mut sink: MemorySink,
+    text: &[u8],
+    answer: Result<(), WriteFault>,
+    bytes: &[u8],
+) {
+    assert_eq!(rt; write_record(&mut sink, text), answer);
+    assert_eq!(rt; sink.bytes(), bytes);
 }
 
 #[test]
+fn records_are_written(rt: HostRuntime) {
+    let text = b"{\"type\":\"HEARTBEAT\"}";
+    let sink = MemorySink::new(rt.alloc(), 5);
+    expect_record(&rt, sink, text, Ok(()), HEARTBEAT);
+    let empty = MemorySink::new(rt.alloc(), 5);
+    expect_record(&rt, empty, b"", Ok(()), b"0\n");
+    let failing = MemorySink::stopping_after(rt.alloc(), 5, 2, MemoryStop::Fails);
+    expect_record(&rt, failing, text, stopped(2, WriteWhy::Device), b"20");
+}
+
+/// The body in chunks of this size is answered so, and these bytes go out.
+fn expect_body<R: Abort>(
+    rt: &R,
+    mut sink: MemorySink,
+    body: &[u8],
+    size: u32,
+    answer: Result<(), WriteFault>,
+    bytes: &[u8],
+)
+    requires least { CHUNK_LEAST ≤ size }
+    requires greatest { size ≤ CHUNK_MOST }
+{
+    assert_eq!(rt; write_chunked(&mut sink, body, size), answer);
+    assert_eq!(rt; sink.bytes(), bytes);
+}
+
+/// That record in chunks of 10 bytes.
+const CHUNKS: &[u8] = b"a\r\n20\n{\"type\"\r\na\r\n:\"HEARTBEA\r\n3\r\nT\"}\r\n0\r\n\r\n";
+
+#[test]
 fn bodies_are_written_in_chunks(rt: HostRuntime) {
-    let mut sink = MemorySink::new(rt.alloc(), 64);
-    assert_eq!(rt; write_chunked(&mut sink, HEARTBEAT, 10), Ok(()));
-    assert_eq!(rt;
-        sink.bytes(),
-        b"a\r\n20\n{\"type\"\r\na\r\n:\"HEARTBEA\r\n3\r\nT\"}\r\n0\r\n\r\n".as_slice()
-    );
-    assert_eq!(rt; sink.bytes().len(), 43);
-    let mut empty = MemorySink::new(rt.alloc(), 64);
-    assert_eq!(rt; write_chunked(&mut empty, b"", 10), Ok(()));
-    assert_eq!(rt; empty.bytes(), b"0\r\n\r\n".as_slice());
+    assert_eq!(rt; CHUNKS.len(), 43);
+    let sink = MemorySink::new(rt.alloc(), 64);
+    expect_body(&rt, sink, HEARTBEAT, 10, Ok(()), CHUNKS);
+    let empty = MemorySink::new(rt.alloc(), 64);
+    expect_body(&rt, empty, b"", 10, Ok(()), b"0\r\n\r\n");
     let mut single = MemorySink::new(rt.alloc(), 64);
     assert_eq!(rt; write_chunked(&mut single, HEARTBEAT, 1), Ok(()));
     assert_eq!(rt; single.bytes().len(), 143);
@@ -49,24 +72,12 @@ fn bodies_are_written_in_chunks(rt: HostRuntime) {
 
 #[test]
 fn chunks_stop_where_the_writer_does(rt: HostRuntime) {
-    let mut failing = MemorySink::stopping_after(rt.alloc(), 64, 7, MemoryStop::Fails);
-    assert_eq!(rt;
-        write_chunked(&mut failing, HEARTBEAT, 4096),
-        Err(WriteFault {
-            sent: 7,
-            why: WriteWhy::Device
-        })
-    );
-    assert_eq!(rt; failing.bytes(), b"17\r\n20\n".as_slice());
-    let mut idle = MemorySink::stopping_after(rt.alloc(), 64, 0, MemoryStop::TakesNone);
-    assert_eq!(rt;
-        write_chunked(&mut idle, HEARTBEAT, 4096),
-        Err(WriteFault {
-            sent: 0,
-            why: WriteWhy::Zero
-        })
-    );
-    assert_eq!(rt; idle.bytes(), b"".as_slice());
+    let failing = MemorySink::stopping_after(rt.alloc(), 64, 7, MemoryStop::Fails);
+    let answer = stopped(7, WriteWhy::Device);
+    expect_body(&rt, failing, HEARTBEAT, 4096, answer, b"17\r\n20\n");
+    let idle = MemorySink::stopping_after(rt.alloc(), 64, 0, MemoryStop::TakesNone);
+    let answer = stopped(0, WriteWhy::Zero);
+    expect_body(&rt, idle, HEARTBEAT, 4096, answer, b"");
 }
 
 #[test]
@@ -75,14 +86,12 @@ fn each_front_of_a_body_is_exact(rt: HostRuntime) {
     assert_eq!(rt; write_chunked(&mut whole, HEARTBEAT, 1), Ok(()));
     for good in 0..143 {
         let mut sink = MemorySink::stopping_after(rt.alloc(), 2, good, MemoryStop::Fails);
+        let sent = write_chunked(&mut sink, HEARTBEAT, 1);
+        let answer = stopped(good as u64, WriteWhy::Device);
         assert_eq!(rt;
-            write_chunked(&mut sink, HEARTBEAT, 1),
-            Err(WriteFault {
-                sent: good as u64,
-                why: WriteWhy::Device
-            })
+            (sent, Some(sink.bytes())),
+            (answer, whole.bytes().get(..good))
         );
-        assert_eq!(rt; Some(sink.bytes()), whole.bytes().get(..good));
     }
 }
 
@@ -93,17 +102,16 @@ fn small_chunks_are_gathered(rt: HostRuntime) {
     let body = [b'x'; 3000];
     let mut sink = MemorySink::new(rt.alloc(), usize::MAX);
     assert_eq!(rt; write_chunked(&mut sink, &body, 1), Ok(()));
-    assert_eq!(rt; sink.bytes().len(), 18_005);
-    assert_eq!(rt; sink.counts().calls, 3);
+    assert_eq!(rt; (sink.bytes().len(), sink.counts().calls), (18_005, 3));
     let mut failing = MemorySink::stopping_after(rt.alloc(), usize::MAX, 10_000, MemoryStop::Fails);
+    let sent = write_chunked(&mut failing, &body, 1);
     assert_eq!(rt;
-        write_chunked(&mut failing, &body, 1),
-        Err(WriteFault {
-            sent: 10_000,
-            why: WriteWhy::Device
-        })
+        (sent, Some(failing.bytes())),
+        (
+            stopped(10_000, WriteWhy::Device),
+            sink.bytes().get(..10_000)
+        )
     );
-    assert_eq!(rt; Some(failing.bytes()), sink.bytes().get(..10_000));
 }
 
 #[test]

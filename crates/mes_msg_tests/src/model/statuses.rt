@@ -1,6 +1,6 @@
 //! Statuses of tasks, their states, and what they owe.
 
-use super::{expect_faults, expect_values, read};
+use super::{expect_faults, expect_values, value_of};
 use crate::support::row_of;
 use mes_model::{OwedKey, Part, TaskState, TaskStatus};
 use std::alloc::{AllocGlobal, Global};
@@ -210,17 +210,21 @@ const OTHERS_OWED: &str =
 {"task_id":{"value":"a"},"state":"TASK_LOST","agent_id":{"value":"t"},"uuid":"Zm8="} => {"task_id":{"value":"t"},"state":"TASK_LOST","agent_id":{"value":"a"},"uuid":"Zm8="}
 "#;
 
-/// The status of a text.
-fn status_of(alloc: Global, text: &str) -> Result<TaskStatus, Fail> {
-    match read(alloc, text)? {
-        Ok(status) => Ok(status),
-        Err(_) => Err("a status")?,
-    }
+/// The key that the status of a text owes, if it owes one.
+fn owed_key_of(alloc: Global, text: &str) -> Result<Option<OwedKey>, Fail> {
+    let status: TaskStatus = value_of(alloc, text)?;
+    Ok(status.owed_key(alloc)?)
+}
+
+/// Whether the status of a text owes a key.
+fn owes(alloc: Global, text: &str) -> Result<bool, Fail> {
+    let status: TaskStatus = value_of(alloc, text)?;
+    Ok(status.owes())
 }
 
 /// The key that the status of a text owes.
 fn key_of(alloc: Global, text: &str) -> Result<OwedKey, Fail> {
-    match status_of(alloc, text)?.owed_key(alloc)? {
+    match owed_key_of(alloc, text)? {
         Some(key) => Ok(key),
         None => Err("a key")?,
     }
@@ -282,11 +286,16 @@ fn statuses_written(rt: HostRuntime) -> Result<(), Fail> {
 #[test]
 fn owed_keys(rt: HostRuntime) -> Result<(), Fail> {
     for (text, owed) in OWING {
-        let status = status_of(rt.alloc(), text)?;
-        assert_eq!(rt; status.owes(), owed.is_some(), "{text}");
-        let key = status.owed_key(rt.alloc())?;
-        assert_eq!(rt; key.as_ref().map(parts), owed, "{text}");
+        assert_eq!(rt; owes(rt.alloc(), text)?, owed.is_some(), "{text}");
+        expect_owed(&rt, text, owed)?;
     }
+    Ok(())
+}
+
+/// The status of the text owes this key.
+fn expect_owed<R: Abort + AllocGlobal>(rt: &R, text: &str, owed: Option<Key>) -> Result<(), Fail> {
+    let key = owed_key_of(rt.alloc(), text)?;
+    assert_eq!(rt; key.as_ref().map(parts), owed, "{text}");
     Ok(())
 }
 

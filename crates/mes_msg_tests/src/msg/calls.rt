@@ -2,6 +2,7 @@
 
 mod faults;
 
+use super::nested;
 use crate::support::{expect_fault, field_fault_of, row_of, text_fault_of};
 use mes_frame::RECORD_LIMIT_MOST;
 use mes_json::{NESTING_LIMIT, Text, Why, read_tape, read_text};
@@ -84,37 +85,58 @@ fn is_too_large(call: &Call, alloc: Global, limit: Limit) -> bool {
 fn expect_canon<R: Abort + AllocGlobal>(rt: &R, call: &Call, written: &str) -> Result<(), Fail> {
     let length = written.len().min(RECORD_LIMIT_MOST as usize) as u32;
     let limit = Limit::new(length).ok_or("a limit")?;
+    let below = Limit::new(length.saturating_sub(1)).ok_or("a limit")?;
     let out = canon(call, rt.alloc(), limit)?;
     assert_eq!(rt; out.as_slice(), written.as_bytes());
-    let below = Limit::new(length.saturating_sub(1)).ok_or("a limit")?;
     assert!(rt; is_too_large(call, rt.alloc(), below), "{written}");
     Ok(())
+}
+
+/// The call of a text that is one.
+fn call_of(alloc: Global, text: &str) -> Result<Call, Fail> {
+    match Call::read_record(alloc, text.as_bytes()) {
+        Ok(call) => Ok(call),
+        Err(_) => Err("a call")?,
+    }
+}
+
+/// The call of the tree of a text.
+fn call_of_tree(alloc: Global, text: &str) -> Result<Call, Fail> {
+    let tree = read_text(alloc, text.as_bytes())?;
+    match Call::of_tree(alloc, &tree) {
+        Ok(call) => Ok(call),
+        Err(_) => Err("a call")?,
+    }
 }
 
 /// The copy of the call has this canonical text.
 fn expect_copy<R: Abort + AllocGlobal>(rt: &R, call: &Call, written: &str) -> Result<(), Fail> {
     let copy = call.copy(rt.alloc())?;
-    expect_canon(rt, &copy, written)
+    let answer = expect_canon(rt, &copy, written);
+    drop(copy);
+    answer
 }
 
 /// The text is a call with this canonical text, and so is its copy.
 fn expect_record<R: Abort + AllocGlobal>(rt: &R, text: &str, written: &str) -> Result<(), Fail> {
-    match Call::read_record(rt.alloc(), text.as_bytes()) {
-        Ok(call) => {
-            expect_canon(rt, &call, written)?;
-            expect_copy(rt, &call, written)
-        }
-        Err(_) => Err("a call")?,
-    }
+    let call = call_of(rt.alloc(), text)?;
+    let answer = expect_both(rt, &call, written);
+    drop(call);
+    answer
+}
+
+/// The call has this canonical text, and so has its copy.
+fn expect_both<R: Abort + AllocGlobal>(rt: &R, call: &Call, written: &str) -> Result<(), Fail> {
+    expect_canon(rt, call, written)?;
+    expect_copy(rt, call, written)
 }
 
 /// The tree of the text is a call with this canonical text.
 fn expect_tree<R: Abort + AllocGlobal>(rt: &R, text: &str, written: &str) -> Result<(), Fail> {
-    let tree = read_text(rt.alloc(), text.as_bytes())?;
-    match Call::of_tree(rt.alloc(), &tree) {
-        Ok(call) => expect_canon(rt, &call, written),
-        Err(_) => Err("a call")?,
-    }
+    let call = call_of_tree(rt.alloc(), text)?;
+    let answer = expect_canon(rt, &call, written);
+    drop(call);
+    answer
 }
 
 /// The text is a call with this canonical text, read from its bytes and from its tree.
@@ -156,58 +178,75 @@ fn calls_have_their_bytes_counted(rt: HostRuntime) -> Result<(), Fail> {
     expect_call(&rt, SUPPRESS, SUPPRESS)
 }
 
-/// A task whose executor is so many objects inside each other.
-fn deep_task(alloc: Global, objects: usize) -> Result<TaskInfo, Fail> {
-    let mut text = Vec::new(alloc);
-    text.extend_from_slice(
-        br#"{"name":"t","task_id":{"value":"T1"},"agent_id":{"value":"A1"},"executor":"#,
-    )?;
-    for _ in 1..objects {
-        text.extend_from_slice(br#"{"a":"#)?;
-    }
-    text.extend_from_slice(b"{}")?;
-    for _ in 1..objects {
-        text.extend_from_slice(b"}")?;
-    }
-    text.extend_from_slice(b"}")?;
-    let tape = read_tape(alloc, text.as_slice())?;
+/// The task of a text that is one.
+fn task_of(alloc: Global, text: &[u8]) -> Result<TaskInfo, Fail> {
+    let tape = read_tape(alloc, text)?;
     match TaskInfo::read_from(alloc, &tape.root(), &Trail::new()) {
         Ok(task) => Ok(task),
         Err(_) => Err("a task")?,
     }
 }
 
-/// An ACCEPT that launches it.
-fn deep_call(alloc: Global, objects: usize) -> Result<Call, Fail> {
+/// A task whose executor is so many objects inside each other.
+fn deep_task(alloc: Global, objects: usize) -> Result<TaskInfo, Fail> {
+    let text = nested(
+        alloc,
+        br#"{"name":"t","task_id":{"value":"T1"},"agent_id":{"value":"A1"},"executor":"#,
+        objects,
+        b"}",
+    )?;
+    task_of(alloc, text.as_slice())
+}
+
+/// The operation that launches it.
+fn deep_launch(alloc: Global, objects: usize) -> Result<Operation, Fail> {
     let mut tasks = Vec::new(alloc);
     tasks.push(deep_task(alloc, objects)?)?;
-    let mut operations = Vec::new(alloc);
-    operations.push(Operation::Launch {
+    Ok(Operation::Launch {
         task_infos: List::new(tasks),
-    })?;
+    })
+}
+
+/// What accepts by that operation.
+fn deep_accept(alloc: Global, objects: usize) -> Result<Accept, Fail> {
+    let mut operations = Vec::new(alloc);
+    operations.push(deep_launch(alloc, objects)?)?;
+    Ok(Accept {
+        offer_ids: List::new(Vec::new(alloc)),
+        operations: List::new(operations),
+        filters: None,
+    })
+}
+
+/// An ACCEPT of it.
+fn deep_call(alloc: Global, objects: usize) -> Result<Call, Fail> {
     Ok(Call::Accept {
         framework_id: Id {
             value: Text::new(String::from_str(alloc, "F1")?),
         },
-        body: Accept {
-            offer_ids: List::new(Vec::new(alloc)),
-            operations: List::new(operations),
-            filters: None,
-        },
+        body: deep_accept(alloc, objects)?,
     })
 }
 
 /// The canonical text of that call.
 fn deep_text(alloc: Global, objects: usize) -> Result<Vec<u8>, Fail> {
     let call = deep_call(alloc, objects)?;
-    canon(&call, alloc, Limit::MOST)
+    let text = canon(&call, alloc, Limit::MOST);
+    drop(call);
+    text
 }
 
 /// Whether the call nests deeper than a text may.
+fn nests_too_deep(call: &Call, alloc: Global) -> bool {
+    matches!(call.canon(alloc, Limit::MOST), Err(EncodeFault::TooDeep))
+}
+
+/// Whether that call nests deeper than a text may.
 fn is_too_deep(alloc: Global, objects: usize) -> Result<bool, Fail> {
     let call = deep_call(alloc, objects)?;
-    let answer = call.canon(alloc, Limit::MOST);
-    Ok(matches!(answer, Err(EncodeFault::TooDeep)))
+    let deep = nests_too_deep(&call, alloc);
+    drop(call);
+    Ok(deep)
 }
 
 // The executor stands inside seven objects and arrays.

@@ -1,6 +1,6 @@
 //! Events that have no canonical text, and the names of other events.
 
-use super::canon;
+use super::{canon, event_of, nested};
 use mes_json::{NESTING_LIMIT, Text};
 use mes_msg::{EncodeFault, Event, Limit, OtherName};
 use std::alloc::Global;
@@ -11,28 +11,18 @@ const MOST_OBJECTS: usize = NESTING_LIMIT - 6;
 
 /// An OFFERS in the form of the bare array, with one offer whose resource has a `disk` of so many objects inside each other.
 fn deep_offers(alloc: Global, objects: usize) -> Result<Vec<u8>, Fail> {
-    let mut text = Vec::new(alloc);
-    text.extend_from_slice(
+    nested(
+        alloc,
         br#"{"type":"OFFERS","offers":[{"id":{"value":"O1"},"framework_id":{"value":"F1"},"agent_id":{"value":"A1"},"hostname":"h","resources":[{"name":"disk","type":"SET","set":{},"disk":"#,
-    )?;
-    for _ in 1..objects {
-        text.extend_from_slice(br#"{"a":"#)?;
-    }
-    text.extend_from_slice(b"{}")?;
-    for _ in 1..objects {
-        text.extend_from_slice(b"}")?;
-    }
-    text.extend_from_slice(b"}]}]}")?;
-    Ok(text)
+        objects,
+        b"}]}]}",
+    )
 }
 
 /// The event of that text.
 fn deep_event(alloc: Global, objects: usize) -> Result<Event, Fail> {
     let text = deep_offers(alloc, objects)?;
-    match Event::read_record(alloc, text.as_slice()) {
-        Ok(event) => Ok(event),
-        Err(_) => Err("an event")?,
-    }
+    event_of(alloc, text.as_slice())
 }
 
 /// The canonical text of that event.
@@ -77,10 +67,8 @@ fn deep_events_have_their_bytes_counted(rt: HostRuntime) -> Result<(), Fail> {
 
 /// What is written of the event of a text.
 fn rewritten(alloc: Global, text: &[u8]) -> Result<Vec<u8>, Fail> {
-    match Event::read_record(alloc, text) {
-        Ok(event) => canon(&event, alloc, Limit::MOST),
-        Err(_) => Err("an event")?,
-    }
+    let event = event_of(alloc, text)?;
+    canon(&event, alloc, Limit::MOST)
 }
 
 #[test]

@@ -1,17 +1,15 @@
 //! The lines of events.
 
+use super::event_of;
 use crate::support::row_of;
-use mes_msg::Event;
 use std::alloc::Global;
 use std::process::Abort;
 use std::test::Fail;
 
 // The lines of the event that a record spells, under this number.
 fn lines_of(alloc: Global, number: u64, record: &str) -> Result<Vec<u8>, Fail> {
-    match Event::read_record(alloc, record.as_bytes()) {
-        Ok(event) => Ok(event.show_lines(alloc, number)?),
-        Err(_) => Err("the record is an event")?,
-    }
+    let event = event_of(alloc, record.as_bytes())?;
+    Ok(event.show_lines(alloc, number)?)
 }
 
 // Asserts the lines of the event that a record spells, under this number.
@@ -72,6 +70,15 @@ fn offers_have_lines_of_their_own(rt: HostRuntime) -> Result<(), Fail> {
     Ok(())
 }
 
+// Asserts the rest of the line of an update whose status has these members behind its state.
+fn expect_update<R: Abort>(rt: &R, alloc: Global, members: &str, rest: &str) -> Result<(), Fail> {
+    let record = format!(in alloc;
+        "{{\"type\":\"UPDATE\",\"update\":{{\"status\":{{\"task_id\":{{\"value\":\"T1\"}},\"state\":\"TASK_RUNNING\"{members}}}}}}}"
+    )?;
+    let lines = format!(in alloc; "1 UPDATE \"T1\" {rest}")?;
+    expect_lines(rt, alloc, 1, record.as_str(), lines.as_str())
+}
+
 // The 16 bytes 00 to 0f, then 15 of them, none, and no uuid.
 #[test]
 fn uuids_are_told_by_their_length(rt: HostRuntime) -> Result<(), Fail> {
@@ -89,11 +96,7 @@ fn uuids_are_told_by_their_length(rt: HostRuntime) -> Result<(), Fail> {
         ("", "TASK_RUNNING -\n"),
     ];
     for (uuid, rest) in updates {
-        let record = format!(in rt.alloc();
-            "{{\"type\":\"UPDATE\",\"update\":{{\"status\":{{\"task_id\":{{\"value\":\"T1\"}},\"state\":\"TASK_RUNNING\"{uuid}}}}}}}"
-        )?;
-        let lines = format!(in rt.alloc(); "1 UPDATE \"T1\" {rest}")?;
-        expect_lines(&rt, rt.alloc(), 1, record.as_str(), lines.as_str())?;
+        expect_update(&rt, rt.alloc(), uuid, rest)?;
     }
     Ok(())
 }

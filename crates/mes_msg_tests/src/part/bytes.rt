@@ -2,8 +2,8 @@
 
 ghost use Rattle.std.specs.Prelude.{◌<◌, ◌≤◌};
 
-use crate::support::{expect_fault, part_fault_of, row_of};
-use mes_json::{read_tape, write_text};
+use crate::support::{expect_fault, expect_text, part_fault_of, row_of};
+use mes_json::read_tape;
 use mes_part::{Bytes, Part, PartFault, Trail, written_again};
 use std::alloc::Global;
 use std::process::Abort;
@@ -79,16 +79,21 @@ fn read_letters(
     Ok(Bytes::read_from(alloc, &tape.root(), &Trail::new()))
 }
 
+/// The bytes of an answer that has some.
+fn bytes_of(answer: Result<Bytes, PartFault>) -> Result<Bytes, Fail> {
+    match answer {
+        Ok(bytes) => Ok(bytes),
+        Err(_) => Err("they are bytes")?,
+    }
+}
+
 /// So many groups of letters are read, whatever stands behind them.
 fn expect_groups<R: Abort>(rt: &R, alloc: Global, groups: usize) -> Result<(), Fail>
     requires { groups ≤ 16 }
 {
     for (last, octets) in LAST {
-        let Ok(bytes) = read_letters(alloc, &LETTERS[..4 * groups], last)? else {
-            return Err("they are bytes")?;
-        };
-        let mut expected = Vec::from_slice(alloc, &OCTETS[..3 * groups])?;
-        expected.extend_from_slice(octets)?;
+        let expected = [&OCTETS[..3 * groups], octets].concat(alloc)?;
+        let bytes = bytes_of(read_letters(alloc, &LETTERS[..4 * groups], last)?)?;
         assert_eq!(rt; bytes.as_slice(), expected.as_slice());
     }
     Ok(())
@@ -126,26 +131,33 @@ fn expect_bytes<R: Abort>(
     text: &str,
 ) -> Result<(), Fail> {
     assert_eq!(rt; bytes.as_slice(), octets);
-    assert_eq!(rt; bytes.len(), octets.len());
-    assert_eq!(rt; bytes.is_empty(), octets.is_empty());
-    let mut out = Vec::new(alloc);
-    write_text(&bytes.tree(alloc)?, &mut out)?;
-    assert_eq!(rt; out.as_slice(), text.as_bytes());
-    Ok(())
+    assert_eq!(rt;
+        (bytes.len(), bytes.is_empty()),
+        (octets.len(), octets.is_empty())
+    );
+    expect_text(rt, alloc, &bytes.tree(alloc)?, text)
+}
+
+/// The bytes, written and read again.
+fn again(alloc: Global, bytes: &Bytes) -> Result<Bytes, Fail> {
+    match written_again(alloc, bytes) {
+        Ok(again) => Ok(again),
+        Err(_) => Err("they are written and read")?,
+    }
+}
+
+/// The bytes of the text are these, and so are their copy and what is read of them again.
+fn expect_read<R: Abort>(rt: &R, alloc: Global, octets: &[u8], text: &str) -> Result<(), Fail> {
+    let bytes = bytes_of(read(alloc, text)?)?;
+    expect_bytes(rt, alloc, &bytes, octets, text)?;
+    expect_bytes(rt, alloc, &bytes.copy(alloc)?, octets, text)?;
+    expect_bytes(rt, alloc, &again(alloc, &bytes)?, octets, text)
 }
 
 #[test]
 fn bytes_are_read_and_written(rt: HostRuntime) -> Result<(), Fail> {
     for (octets, text) in VECTORS {
-        let Ok(bytes) = read(rt.alloc(), text)? else {
-            return Err("they are bytes")?;
-        };
-        expect_bytes(&rt, rt.alloc(), &bytes, octets, text)?;
-        expect_bytes(&rt, rt.alloc(), &bytes.copy(rt.alloc())?, octets, text)?;
-        let Ok(again) = written_again(rt.alloc(), &bytes) else {
-            return Err("they are written and read")?;
-        };
-        expect_bytes(&rt, rt.alloc(), &again, octets, text)?;
+        expect_read(&rt, rt.alloc(), octets, text)?;
         let made = Bytes::new(Vec::from_slice(rt.alloc(), octets)?);
         expect_bytes(&rt, rt.alloc(), &made, octets, text)?;
     }

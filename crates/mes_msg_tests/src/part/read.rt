@@ -1,9 +1,9 @@
 //! Labels read from JSON texts, by the table of labels: the value, or the path and the reason of the first fault.
 
-use crate::support::{expect_fault, part_fault_of, row_of};
-use mes_json::{read_tape, read_text, write_text};
+use crate::support::{expect_fault, expect_text, part_fault_of, row_of};
+use mes_json::{Json, read_tape, read_text};
 use mes_part::{
-    Label, Labels, List, Part, PartFault, Path, Trail, find_rows, left_out, list_tree,
+    FieldFault, Label, Labels, List, Part, PartFault, Path, Trail, find_rows, left_out, list_tree,
     nothing_found, read_either_list, read_list, written_again,
 };
 use std::alloc::Global;
@@ -82,50 +82,76 @@ fn read_either(alloc: Global, text: &str) -> Result<Result<List<Label>, PartFaul
     Ok(read_either_list(alloc, &tape.root(), "labels", &Trail::new()))
 }
 
+/// The fault of the labels of a text, read from its tree.
+fn fault_of_tree(alloc: Global, text: &str) -> Result<Option<FieldFault>, Fail> {
+    let tree = read_text(alloc, text.as_bytes())?;
+    Ok(part_fault_of(Labels::read(alloc, &tree, &Path::new())))
+}
+
 #[test]
 fn faults_are_told(rt: HostRuntime) -> Result<(), Fail> {
     for line in FAULTS.lines() {
         let (text, fault) = row_of(line)?;
         expect_fault(&rt, text, part_fault_of(read(rt.alloc(), text)?), fault)?;
-        let tree = read_text(rt.alloc(), text.as_bytes())?;
-        let answer = Labels::read(rt.alloc(), &tree, &Path::new());
-        expect_fault(&rt, text, part_fault_of(answer), fault)?;
+        expect_fault(&rt, text, fault_of_tree(rt.alloc(), text)?, fault)?;
     }
     Ok(())
+}
+
+/// The labels of a text that has some.
+fn labels_of(alloc: Global, text: &str) -> Result<Labels, Fail> {
+    match read(alloc, text)? {
+        Ok(labels) => Ok(labels),
+        Err(_) => Err("they are labels")?,
+    }
+}
+
+/// The tree of the labels of a text, which were written and read again.
+fn tree_again(alloc: Global, text: &str) -> Result<Json, Fail> {
+    let labels = labels_of(alloc, text)?;
+    match &written_again(alloc, &labels) {
+        Ok(again) => Ok(again.tree(alloc)?),
+        Err(_) => Err("they are written and read")?,
+    }
+}
+
+fn expect_labels<R: Abort>(rt: &R, alloc: Global, text: &str, expected: &str) -> Result<(), Fail> {
+    let tree = tree_again(alloc, text)?;
+    expect_text(rt, alloc, &tree, expected)
 }
 
 #[test]
 fn labels_are_read(rt: HostRuntime) -> Result<(), Fail> {
     for line in LABELS.lines() {
         let (text, expected) = row_of(line)?;
-        let Ok(labels) = read(rt.alloc(), text)? else {
-            return Err("they are labels")?;
-        };
-        let Ok(again) = written_again(rt.alloc(), &labels) else {
-            return Err("they are written and read")?;
-        };
-        let mut out = Vec::new(rt.alloc());
-        write_text(&again.tree(rt.alloc())?, &mut out)?;
-        assert_eq!(rt; out.as_slice(), expected.as_bytes());
+        expect_labels(&rt, rt.alloc(), text, expected)?;
     }
     Ok(())
+}
+
+/// The tree of the list of labels of a text, in either form.
+fn tree_of_either(alloc: Global, text: &str) -> Result<Json, Fail> {
+    match &read_either(alloc, text)? {
+        Ok(labels) => Ok(list_tree(alloc, labels)?),
+        Err(_) => Err("they are labels")?,
+    }
+}
+
+fn expect_either<R: Abort>(rt: &R, alloc: Global, text: &str, expected: &str) -> Result<(), Fail> {
+    let tree = tree_of_either(alloc, text)?;
+    expect_text(rt, alloc, &tree, expected)
 }
 
 #[test]
 fn lists_are_read_in_either_form(rt: HostRuntime) -> Result<(), Fail> {
     for line in EITHER.lines() {
         let (text, expected) = row_of(line)?;
-        let Ok(labels) = read_either(rt.alloc(), text)? else {
-            return Err("they are labels")?;
-        };
-        let mut out = Vec::new(rt.alloc());
-        write_text(&list_tree(rt.alloc(), &labels)?, &mut out)?;
-        assert_eq!(rt; out.as_slice(), expected.as_bytes());
+        expect_either(&rt, rt.alloc(), text, expected)?;
     }
     for line in EITHER_FAULTS.lines() {
         let (text, fault) = row_of(line)?;
-        let answer = read_either(rt.alloc(), text)?;
-        expect_fault(&rt, text, part_fault_of(answer), fault)?;
+        let told = part_fault_of(read_either(rt.alloc(), text)?);
+        expect_fault(&rt, text, told, fault)?;
     }
     Ok(())
 }
@@ -148,24 +174,38 @@ fn read_array(alloc: Global, text: &str) -> Result<Result<List<Label>, PartFault
     Ok(read_list(alloc, &tree, &Path::new()))
 }
 
+/// The list of labels of a text that is an array of them.
+fn list_of(alloc: Global, text: &str) -> Result<List<Label>, Fail> {
+    match read_array(alloc, text)? {
+        Ok(list) => Ok(list),
+        Err(_) => Err("it is a list")?,
+    }
+}
+
+/// The tree of that list, which was made labels, of as many, in between.
+fn tree_of_array<R: Abort>(rt: &R, alloc: Global, text: &str) -> Result<Json, Fail> {
+    let list = list_of(alloc, text)?;
+    let count = list.len();
+    let labels = Labels::new(list);
+    assert_eq!(rt; labels.as_slice().len(), count);
+    Ok(list_tree(alloc, &labels.into_list())?)
+}
+
+fn expect_array<R: Abort>(rt: &R, alloc: Global, text: &str, expected: &str) -> Result<(), Fail> {
+    let tree = tree_of_array(rt, alloc, text)?;
+    expect_text(rt, alloc, &tree, expected)
+}
+
 #[test]
 fn lists_are_read_from_trees(rt: HostRuntime) -> Result<(), Fail> {
     for line in ARRAYS.lines() {
         let (text, expected) = row_of(line)?;
-        let Ok(list) = read_array(rt.alloc(), text)? else {
-            return Err("it is a list")?;
-        };
-        let count = list.len();
-        let labels = Labels::new(list);
-        assert_eq!(rt; labels.as_slice().len(), count);
-        let mut out = Vec::new(rt.alloc());
-        write_text(&list_tree(rt.alloc(), &labels.into_list())?, &mut out)?;
-        assert_eq!(rt; out.as_slice(), expected.as_bytes());
+        expect_array(&rt, rt.alloc(), text, expected)?;
     }
     for line in NO_ARRAYS.lines() {
         let (text, fault) = row_of(line)?;
-        let answer = read_array(rt.alloc(), text)?;
-        expect_fault(&rt, text, part_fault_of(answer), fault)?;
+        let told = part_fault_of(read_array(rt.alloc(), text)?);
+        expect_fault(&rt, text, told, fault)?;
     }
     Ok(())
 }

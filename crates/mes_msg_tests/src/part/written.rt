@@ -1,7 +1,8 @@
 //! Values written as JSON texts.
 
+use crate::support::expect_text;
 use mes_fixed::{Micros, Thousandths};
-use mes_json::{Json, Text, write_text};
+use mes_json::{Json, Text};
 use mes_part::{Kept, Label, Labels, List, Part, put_flag, whole_object};
 use std::alloc::Global;
 use std::process::Abort;
@@ -22,12 +23,10 @@ fn label(alloc: Global, key: &str, value: Option<&str>) -> Result<Label, Fail> {
     })
 }
 
-/// The tree is written so.
-fn expect_text<R: Abort>(rt: &R, alloc: Global, tree: &Json, expected: &str) -> Result<(), Fail> {
-    let mut out = Vec::new(alloc);
-    write_text(tree, &mut out)?;
-    assert_eq!(rt; out.as_slice(), expected.as_bytes());
-    Ok(())
+/// Writes the value's text behind what stands there; answers the depth told, and that of the tree.
+fn write_direct<T: Part>(alloc: Global, value: &T, out: &mut Vec<u8>) -> Result<(u64, u64), Fail> {
+    let deep = value.write_json(alloc, out)?;
+    Ok((deep, value.tree(alloc)?.depth()))
 }
 
 /// The text is written so behind a byte that stands there, and the depth told is that of the tree.
@@ -37,12 +36,10 @@ fn expect_direct<R: Abort, T: Part>(
     value: &T,
     expected: &str,
 ) -> Result<(), Fail> {
+    let whole = [b"!".as_slice(), expected.as_bytes()].concat(alloc)?;
     let mut out = Vec::from_slice(alloc, b"!")?;
-    let mut whole = Vec::from_slice(alloc, b"!")?;
-    whole.extend_from_slice(expected.as_bytes())?;
-    let deep = value.write_json(alloc, &mut out)?;
-    assert_eq!(rt; deep, value.tree(alloc)?.depth());
-    assert_eq!(rt; out.as_slice(), whole.as_slice());
+    let (deep, depth) = write_direct(alloc, value, &mut out)?;
+    assert_eq!(rt; (deep, out.as_slice()), (depth, whole.as_slice()));
     Ok(())
 }
 
@@ -72,52 +69,62 @@ fn leaves_are_written(rt: HostRuntime) -> Result<(), Fail> {
     expect_written(&rt, alloc, &Micros::of_units(1).unwrap(), "0.000001")
 }
 
+/// Adds a member of this name.
+fn put(members: &mut Vec<(Text, Json)>, name: Text, value: Json) -> Result<(), Fail> {
+    Ok(members.push((name, value))?)
+}
+
+/// An object with two members of one name.
+fn twice(alloc: Global) -> Result<Json, Fail> {
+    let mut members = Vec::new(alloc);
+    put(&mut members, text(alloc, "a")?, Json::Null)?;
+    put(&mut members, text(alloc, "a")?, Json::Bool(true))?;
+    Ok(Json::Map(members))
+}
+
+/// That object, kept.
+fn kept(alloc: Global) -> Result<Kept, Fail> {
+    match Kept::new(twice(alloc)?) {
+        Ok(kept) => Ok(kept),
+        Err(_) => Err("an object is one")?,
+    }
+}
+
 #[test]
 fn objects_are_kept_whole(rt: HostRuntime) -> Result<(), Fail> {
     let alloc = rt.alloc();
-    let mut members = Vec::new(alloc);
-    members.push((text(alloc, "a")?, Json::Null))?;
-    members.push((text(alloc, "a")?, Json::Bool(true)))?;
-    match Kept::new(Json::Map(members)) {
-        Ok(kept) => {
-            expect_written(&rt, alloc, &kept, "{\"a\":null,\"a\":true}")?;
-            expect_text(&rt, alloc, kept.get(), "{\"a\":null,\"a\":true}")?;
-        }
-        Err(_) => Err("an object is one")?,
-    }
+    let kept = kept(alloc)?;
+    expect_written(&rt, alloc, &kept, "{\"a\":null,\"a\":true}")?;
+    expect_text(&rt, alloc, kept.get(), "{\"a\":null,\"a\":true}")?;
     assert!(rt; Kept::new(Json::List(Vec::new(alloc))).is_err());
     Ok(())
+}
+
+/// Keys and values of labels, and what they are written as.
+const LABELS: [(&str, Option<&str>, &str); 3] = [
+    ("rack", None, "{\"key\":\"rack\"}"),
+    ("rack", Some("r1"), "{\"key\":\"rack\",\"value\":\"r1\"}"),
+    ("", Some(""), "{\"key\":\"\",\"value\":\"\"}"),
+];
+
+/// Two labels, of which one has a value.
+fn two_labels(alloc: Global) -> Result<Labels, Fail> {
+    let mut labels = Vec::new(alloc);
+    labels.push(label(alloc, "a", None)?)?;
+    labels.push(label(alloc, "b", Some("c"))?)?;
+    Ok(Labels::new(List::new(labels)))
 }
 
 #[test]
 fn labels_are_written(rt: HostRuntime) -> Result<(), Fail> {
     let alloc = rt.alloc();
+    for (key, value, expected) in LABELS {
+        expect_written(&rt, alloc, &label(alloc, key, value)?, expected)?;
+    }
     expect_written(
         &rt,
         alloc,
-        &label(alloc, "rack", None)?,
-        "{\"key\":\"rack\"}",
-    )?;
-    expect_written(
-        &rt,
-        alloc,
-        &label(alloc, "rack", Some("r1"))?,
-        "{\"key\":\"rack\",\"value\":\"r1\"}",
-    )?;
-    expect_written(
-        &rt,
-        alloc,
-        &label(alloc, "", Some(""))?,
-        "{\"key\":\"\",\"value\":\"\"}",
-    )?;
-    let mut labels = Vec::new(alloc);
-    labels.push(label(alloc, "a", None)?)?;
-    labels.push(label(alloc, "b", Some("c"))?)?;
-    let labels = Labels::new(List::new(labels));
-    expect_written(
-        &rt,
-        alloc,
-        &labels,
+        &two_labels(alloc)?,
         "{\"labels\":[{\"key\":\"a\"},{\"key\":\"b\",\"value\":\"c\"}]}",
     )?;
     expect_written(&rt, alloc, &Labels::new(List::new(Vec::new(alloc))), "{}")
