@@ -1,6 +1,6 @@
 //! The status of each call in each state.
 
-use crate::support::{called, new_master};
+use crate::support::{called, change, new_master};
 use mes_master::Master;
 use std::alloc::{AllocGlobal, Global};
 use std::test::Fail;
@@ -40,25 +40,37 @@ const STATUSES: &str =
 {"type":"SUBSCRIBE","framework_id":{"value":"F1"},"subscribe":{"framework_info":{"user":"root","name":"n"}}} => 200 200 200 / 200 200 200 / 403 403 403
 "#;
 
-/// A master with no stream yet, with two streams one after the other, or with a TEARDOWN behind them.
-fn master_in(alloc: Global, state: usize) -> Result<Master, Fail> {
-    let mut master = new_master(alloc)?;
+/// Leaves a new master with no stream yet, or brings it to two streams one after the other, or to a TEARDOWN behind them.
+fn bring_to(alloc: Global, master: &mut Master, state: usize) -> Result<(), Fail> {
     if state > 0 {
-        called(alloc, &mut master, "-", SUBSCRIBE)?;
-        called(alloc, &mut master, "-", SUBSCRIBE)?;
+        called(alloc, master, "-", SUBSCRIBE)?;
+        called(alloc, master, "-", SUBSCRIBE)?;
     }
     if state > 1 {
-        called(alloc, &mut master, "2", TEARDOWN)?;
+        called(alloc, master, "2", TEARDOWN)?;
     }
-    Ok(master)
+    Ok(())
+}
+
+/// The status of the answer of a new master to a call in this state that names this stream.
+fn status_of(
+    alloc: Global,
+    master: &mut Master,
+    state: usize,
+    stream: &str,
+    call: &str,
+) -> Result<String, Fail> {
+    bring_to(alloc, master, state)?;
+    let told = called(alloc, master, stream, call)?;
+    let status = told.split(" ").next().unwrap_or("");
+    Ok(String::from_str(alloc, status)?)
 }
 
 /// The status of the answer to a call in this state that names this stream.
 fn status_in(alloc: Global, state: usize, stream: &str, call: &str) -> Result<String, Fail> {
-    let mut master = master_in(alloc, state)?;
-    let told = called(alloc, &mut master, stream, call)?;
-    let status = told.split(" ").next().unwrap_or("");
-    Ok(String::from_str(alloc, status)?)
+    change(new_master(alloc)?, |master| {
+        status_of(alloc, master, state, stream, call)
+    })
 }
 
 /// The statuses of the answers to a call, in each state by each stream.

@@ -19,6 +19,21 @@ use uuid::Uuid;
 /// A stream's id, but for the last digit.
 const STREAM_FRONT: &str = "00000000-0000-4000-8000-00000000000";
 
+/// Looks at a value, and then drops it.
+fn look_at<T: Drop, R, F: FnOnce(&T) -> R>(value: T, look: F) -> R
+    requires { F.IsAlwaysCallable look }
+{
+    look(&value)
+}
+
+/// Changes a value, and then drops it.
+pub(crate) fn change<T: Drop, R, F: FnOnce(&mut T) -> R>(value: T, change: F) -> R
+    requires { F.IsAlwaysCallable change }
+{
+    let mut value = value;
+    change(&mut value)
+}
+
 /// The text of the id of the stream of this number.
 fn stream_text(alloc: Global, number: &str) -> Result<String, Fail> {
     Ok(format!(in alloc; "{}{}", STREAM_FRONT, number)?)
@@ -101,7 +116,7 @@ fn number_of(why: MasterRefusal) -> &'static str {
 /// What is sent, in words.
 fn sent(alloc: Global, answer: Result<Event, MasterRefusal>) -> Result<String, Fail> {
     match answer {
-        Ok(event) => text_of(alloc, &event),
+        Ok(event) => look_at(event, |event| text_of(alloc, event)),
         Err(why) => Ok(String::from_str(alloc, number_of(why))?),
     }
 }
@@ -114,9 +129,23 @@ fn handled(
     stream: Option<&StreamId>,
 ) -> Result<String, Fail> {
     match master.handle(call, stream) {
-        Ok(answer) => told(alloc, &answer),
+        Ok(answer) => look_at(answer, |answer| told(alloc, answer)),
         Err(_) => Err("memory")?,
     }
+}
+
+/// The answer to a call that names the stream of this number, or none where that is `-`.
+fn called_by(
+    alloc: Global,
+    master: &mut Master,
+    stream: &str,
+    call: &Call,
+) -> Result<String, Fail> {
+    if stream == "-" {
+        return handled(alloc, master, call, None);
+    }
+    let id = stream_of(alloc, stream)?;
+    handled(alloc, master, call, Some(&id))
 }
 
 /// The answer to the call of this text that names the stream of this number, or none where that is `-`.
@@ -126,28 +155,25 @@ pub(crate) fn called(
     stream: &str,
     text: &str,
 ) -> Result<String, Fail> {
-    let call = call_of(alloc, text)?;
-    if stream == "-" {
-        return handled(alloc, master, &call, None);
-    }
-    let id = stream_of(alloc, stream)?;
-    handled(alloc, master, &call, Some(&id))
+    look_at(call_of(alloc, text)?, |call| {
+        called_by(alloc, master, stream, call)
+    })
 }
 
 /// The OFFERS of the offers of this text.
 fn offered(alloc: Global, master: &mut Master, text: &str) -> Result<String, Fail> {
-    match event_of(alloc, text)? {
+    look_at(event_of(alloc, text)?, |event| match event {
         Event::Offers(offers) => sent(alloc, master.offer(offers.as_slice())),
         _ => Err("offers")?,
-    }
+    })
 }
 
 /// The UPDATE of the status of this text.
 fn updated(alloc: Global, master: &mut Master, text: &str) -> Result<String, Fail> {
-    match event_of(alloc, text)? {
+    look_at(event_of(alloc, text)?, |event| match event {
         Event::Update(body) => sent(alloc, master.update(body.status.get())),
         _ => Err("an update")?,
-    }
+    })
 }
 
 /// The UPDATE again of this index.
@@ -245,11 +271,22 @@ fn expect_row<R: Abort + AllocGlobal>(rt: &R, master: &mut Master, row: &str) ->
     Ok(())
 }
 
+/// Each row's deed is answered so, and the master holds that then.
+fn expect_rows<R: Abort + AllocGlobal>(
+    rt: &R,
+    master: &mut Master,
+    rows: &str,
+) -> Result<(), Fail> {
+    for row in rows.lines() {
+        expect_row(rt, master, row)?;
+    }
+    Ok(())
+}
+
 /// A new master answers each row's deed so, and holds that then.
 pub(crate) fn expect_run<R: Abort + AllocGlobal>(rt: &R, rows: &str) -> Result<(), Fail> {
     let mut master = new_master(rt.alloc())?;
-    for row in rows.lines() {
-        expect_row(rt, &mut master, row)?;
-    }
-    Ok(())
+    let answer = expect_rows(rt, &mut master, rows);
+    drop(master);
+    answer
 }
