@@ -1,7 +1,7 @@
 //! Connections that are served and break: their reader ends or fails, their writer stops, or their lines can't be printed, at each byte.
 
 use crate::support::{
-    BAD, STREAM, SUBSCRIBE_REQUEST, bytes_of, events_of, new_master, push_bytes, serve, served,
+    BAD, STREAM, SUBSCRIBE_REQUEST, bytes_of, events_of, push_bytes, serve_anew, served_anew,
 };
 use mes_frame::{MemorySink, MemorySource, MemoryStop};
 use std::alloc::{AllocGlobal, Global};
@@ -11,19 +11,13 @@ use std::test::Fail;
 /// The head of `SUBSCRIBE_REQUEST`, in bytes.
 const HEAD: usize = 141;
 
-/// What is told of what the source gives to a master with no stream.
-fn told(alloc: Global, source: &mut MemorySource<'_>) -> Result<String, Fail> {
-    let mut master = new_master(alloc)?;
-    served(alloc, &mut master, &[], source)
-}
-
 // A head that ends early is refused; a body that does is not answered.
 #[test]
 fn requests_that_end_early(rt: HostRuntime) -> Result<(), Fail> {
     let bytes = bytes_of(rt.alloc(), SUBSCRIBE_REQUEST)?;
     for cut in 0..bytes.len() {
         let expected = if cut < HEAD { BAD } else { " => - -~" };
-        let told = told(rt.alloc(), &mut MemorySource::new(&bytes[..cut], 7))?;
+        let told = served_anew(rt.alloc(), &mut MemorySource::new(&bytes[..cut], 7))?;
         assert_eq!(rt; told.as_str(), expected, "{cut}");
     }
     Ok(())
@@ -31,7 +25,7 @@ fn requests_that_end_early(rt: HostRuntime) -> Result<(), Fail> {
 
 /// What is told of these bytes, behind so many of which each read fails.
 fn failing(alloc: Global, request: &[u8], good: usize) -> Result<String, Fail> {
-    told(alloc, &mut MemorySource::failing_after(request, 7, good))
+    served_anew(alloc, &mut MemorySource::failing_after(request, 7, good))
 }
 
 #[test]
@@ -52,17 +46,8 @@ fn answered(
     out: &mut MemorySink,
 ) -> Result<Result<(bool, u64), u64>, Fail> {
     let events = events_of(alloc, r#"{"type":"HEARTBEAT"}"#)?;
-    let mut master = new_master(alloc)?;
     let mut source = MemorySource::new(request, 64);
-    Ok(serve(
-        alloc,
-        &mut master,
-        events.as_slice(),
-        4_096,
-        &mut source,
-        writer,
-        out,
-    ))
+    serve_anew(alloc, events.as_slice(), 4_096, &mut source, writer, out)
 }
 
 /// What is told of these bytes where the writer stops behind so many, if exactly those of the answer are written and all that is told

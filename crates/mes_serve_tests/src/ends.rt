@@ -1,8 +1,8 @@
 //! A SUBSCRIBE that is written and its stream that is shown, where an end stops or fails at each byte; and both ends together.
 
 use crate::support::{
-    SHOWN, STREAM, SUBSCRIBE_REQUEST, bytes_of, events_of, framework, leaves, new_master,
-    printed_of, serve, shown,
+    SHOWN, STREAM, SUBSCRIBE_REQUEST, bytes_of, events_of, framework, leaves, printed_of,
+    serve_anew, shown,
 };
 use mes_frame::{MemorySink, MemorySource, MemoryStop, WriteFault, WriteWhy};
 use mes_json::Text;
@@ -186,18 +186,16 @@ fn sent(alloc: Global, writer: &mut MemorySink) -> Result<(), Fail> {
 /// Answers a SUBSCRIBE with a stream that has a HEARTBEAT.
 fn answered(alloc: Global, request: &[u8], writer: &mut MemorySink) -> Result<(), Fail> {
     let events = events_of(alloc, r#"{"type":"HEARTBEAT"}"#)?;
-    let mut master = new_master(alloc)?;
     let mut source = MemorySource::new(request, 64);
     let mut out = MemorySink::new(alloc, 64);
-    match serve(
+    match serve_anew(
         alloc,
-        &mut master,
         events.as_slice(),
         4_096,
         &mut source,
         writer,
         &mut out,
-    ) {
+    )? {
         Ok((true, 14)) => Ok(()),
         _ => Err("a stream goes out")?,
     }

@@ -1,6 +1,6 @@
 //! Requests served: each row is what a connection gives, what is written to it and what is printed of it.
 
-use crate::support::{BAD, bytes_of, expect_calls, leaves, new_master, row_of, served};
+use crate::support::{BAD, bytes_of, expect_calls, leaves, row_of, served_anew};
 use mes_frame::MemorySource;
 use std::alloc::Global;
 use std::test::Fail;
@@ -59,13 +59,7 @@ fn calls_are_answered(rt: HostRuntime) -> Result<(), Fail> {
 /// What is told of a connection to a master with no stream.
 fn told(alloc: Global, request: &str, most: usize) -> Result<String, Fail> {
     let bytes = bytes_of(alloc, request)?;
-    let mut master = new_master(alloc)?;
-    served(
-        alloc,
-        &mut master,
-        &[],
-        &mut MemorySource::new(bytes.as_slice(), most),
-    )
+    served_anew(alloc, &mut MemorySource::new(bytes.as_slice(), most))
 }
 
 #[test]
@@ -88,9 +82,8 @@ fn told_of(alloc: Global, taken: &[u8], behind: &[u8]) -> Result<String, Fail> {
     let mut bytes = Vec::new(alloc);
     bytes.extend_from_slice(taken)?;
     bytes.extend_from_slice(behind)?;
-    let mut master = new_master(alloc)?;
     let mut source = MemorySource::new(bytes.as_slice(), 4_096);
-    let told = served(alloc, &mut master, &[], &mut source)?;
+    let told = served_anew(alloc, &mut source)?;
     if !leaves(&mut source, behind)? {
         return Err("so many bytes are taken, and none behind them")?;
     }

@@ -1,7 +1,7 @@
 //! Streams that a SUBSCRIBE opens, with the events that are given to it.
 
 use crate::support::{
-    STREAM, SUBSCRIBE_REQUEST, bytes_of, event_of, events_of, expect_calls, new_master, serve,
+    STREAM, SUBSCRIBE_REQUEST, bytes_of, event_of, events_of, expect_calls, serve_anew,
 };
 use mes_frame::{MemorySink, MemorySource};
 use mes_json::NESTING_LIMIT;
@@ -92,16 +92,7 @@ fn writes(alloc: Global, events: &[Event], most: u32, stream: &str) -> Result<bo
     let mut source = MemorySource::new(request.as_slice(), 64);
     let mut writer = MemorySink::new(alloc, 64);
     let mut out = MemorySink::new(alloc, 64);
-    let mut master = new_master(alloc)?;
-    let told = serve(
-        alloc,
-        &mut master,
-        events,
-        most,
-        &mut source,
-        &mut writer,
-        &mut out,
-    );
+    let told = serve_anew(alloc, events, most, &mut source, &mut writer, &mut out)?;
     Ok(told == Ok((true, 14)) && writer.bytes() == expected.as_slice())
 }
 

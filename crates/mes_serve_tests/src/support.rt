@@ -6,7 +6,7 @@
 use mes_frame::{MemorySink, MemorySource, Source};
 use mes_json::Text;
 use mes_master::Master;
-use mes_model::{FrameworkInfo, Id};
+use mes_model::{FrameworkInfo, Id, Part};
 use mes_msg::{Call, Event};
 use mes_run::{ChunkSize, Ended};
 use mes_serve::{serve_one, show_answer};
@@ -107,12 +107,28 @@ pub(crate) fn events_of(alloc: Global, text: &str) -> Result<Vec<Event>, Fail> {
     Ok(events)
 }
 
-/// The framework that a SUBSCRIBE tells of.
-pub(crate) fn framework(alloc: Global) -> Result<FrameworkInfo, Fail> {
-    match Call::read_record(alloc, SUBSCRIBE.as_bytes()) {
-        Ok(Call::Subscribe { body, .. }) => Ok(body.framework_info),
+/// The call of a text.
+fn call_of(alloc: Global, text: &str) -> Result<Call, Fail> {
+    match Call::read_record(alloc, text.as_bytes()) {
+        Ok(call) => Ok(call),
+        Err(_) => Err("a call")?,
+    }
+}
+
+/// The framework that a call tells of, if it is a SUBSCRIBE.
+fn framework_of(alloc: Global, call: &Call) -> Result<FrameworkInfo, Fail> {
+    match call {
+        Call::Subscribe { body, .. } => Ok(body.framework_info.copy(alloc)?),
         _ => Err("a SUBSCRIBE")?,
     }
+}
+
+/// The framework that a SUBSCRIBE tells of.
+pub(crate) fn framework(alloc: Global) -> Result<FrameworkInfo, Fail> {
+    let call = call_of(alloc, SUBSCRIBE)?;
+    let framework = framework_of(alloc, &call);
+    drop(call);
+    framework
 }
 
 /// A call as a request, on the stream with this id, or none where that is `-`.
@@ -130,7 +146,7 @@ fn request_of(alloc: Global, stream: &str, call: &str) -> Result<Vec<u8>, Fail> 
 
 /// What a master makes of what the source gives, in chunks of so many bytes: whether all was answered and how many bytes were printed, or behind how many the output
 /// stopped.
-pub(crate) fn serve(
+fn serve(
     alloc: Global,
     master: &mut Master,
     events: &[Event],
@@ -148,8 +164,31 @@ pub(crate) fn serve(
     }
 }
 
+/// What a new master makes of it.
+pub(crate) fn serve_anew(
+    alloc: Global,
+    events: &[Event],
+    most: u32,
+    source: &mut MemorySource<'_>,
+    writer: &mut MemorySink,
+    out: &mut MemorySink,
+) -> Result<Result<(bool, u64), u64>, Fail> {
+    let mut master = new_master(alloc)?;
+    let told = serve(alloc, &mut master, events, most, source, writer, out);
+    drop(master);
+    Ok(told)
+}
+
+/// What is told of a connection that gives these bytes to a new master.
+pub(crate) fn served_anew(alloc: Global, source: &mut MemorySource<'_>) -> Result<String, Fail> {
+    let mut master = new_master(alloc)?;
+    let told = served(alloc, &mut master, &[], source);
+    drop(master);
+    told
+}
+
 /// What is told of a connection that gives these bytes.
-pub(crate) fn served(
+fn served(
     alloc: Global,
     master: &mut Master,
     events: &[Event],
@@ -188,6 +227,21 @@ fn called(alloc: Global, master: &mut Master, events: &[Event], row: &str) -> Re
     served(alloc, master, events, &mut source)
 }
 
+/// Each row of the table is told so by the master.
+fn expect_rows<R: Abort + AllocGlobal>(
+    rt: &R,
+    master: &mut Master,
+    events: &[Event],
+    table: &str,
+) -> Result<(), Fail> {
+    for row in table.lines() {
+        let (call, expected) = row_of(row)?;
+        let told = called(rt.alloc(), master, events, call)?;
+        assert_eq!(rt; told.as_str(), expected, "{row}");
+    }
+    Ok(())
+}
+
 /// Each row of the table is told so, one after the other by one master.
 pub(crate) fn expect_calls<R: Abort + AllocGlobal>(
     rt: &R,
@@ -195,12 +249,9 @@ pub(crate) fn expect_calls<R: Abort + AllocGlobal>(
     table: &str,
 ) -> Result<(), Fail> {
     let mut master = new_master(rt.alloc())?;
-    for row in table.lines() {
-        let (call, expected) = row_of(row)?;
-        let told = called(rt.alloc(), &mut master, events, call)?;
-        assert_eq!(rt; told.as_str(), expected, "{row}");
-    }
-    Ok(())
+    let answer = expect_rows(rt, &mut master, events, table);
+    drop(master);
+    answer
 }
 
 /// What is printed of what the source gives, in so many reads behind the head, and the status where it isn't 0.
