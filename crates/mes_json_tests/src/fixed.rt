@@ -50,7 +50,7 @@ fn reads_thousandths(rt: HostRuntime) {
 #[test]
 fn writes_without_needless_zeros(rt: HostRuntime) -> Result<(), Fail> {
     let mut text = ArrayString::new();
-    for (units, written) in [(1001, "1.001"), (1000, "1.0"), (1, "0.001"), (0, "0.0")] {
+    for &(units, written) in &[(1001, "1.001"), (1000, "1.0"), (1, "0.001"), (0, "0.0")] {
         let number = Thousandths::of_units(units).ok_or("in range")?;
         number.write(&mut text);
         assert_eq!(rt; text.as_str(), written);
@@ -77,10 +77,10 @@ fn adds_and_subtracts_within_the_limits(rt: HostRuntime) -> Result<(), Fail> {
 
 #[test]
 fn knows_the_shape_of_a_number(rt: HostRuntime) {
-    for text in ["0", "-0", "10", "0.5", "-12.50e+3", "1E9", "0e-0"] {
+    for &text in &["0", "-0", "10", "0.5", "-12.50e+3", "1E9", "0e-0"] {
         assert!(rt; is_number(text.as_bytes()), "at {text}");
     }
-    for text in [
+    for &text in &[
         "", "-", "01", "1.", ".5", "+1", "1e", "1e+", " 1", "1 ", "1\n", "NaN", "0x1",
     ] {
         assert!(rt; !is_number(text.as_bytes()), "at {text}");

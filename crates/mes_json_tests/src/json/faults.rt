@@ -329,7 +329,7 @@ const DEPTH_IN_OBJECTS: [(&[u8], Why); 5] = [
 
 #[test]
 fn depth(rt: HostRuntime) -> Result<(), Fail> {
-    for (bytes, why) in DEPTH_IN_ARRAYS {
+    for &(bytes, why) in &DEPTH_IN_ARRAYS {
         let text = nested(&rt, b"[", NESTING_LIMIT, bytes)?;
         let fault = TextFault {
             byte: NESTING_LIMIT as u64,
@@ -341,7 +341,7 @@ fn depth(rt: HostRuntime) -> Result<(), Fail> {
             "{bytes:?}"
         );
     }
-    for (bytes, why) in DEPTH_IN_OBJECTS {
+    for &(bytes, why) in &DEPTH_IN_OBJECTS {
         // Each front has 5 bytes.
         let text = nested(&rt, b"{\"a\":", NESTING_LIMIT, bytes)?;
         let fault = TextFault {

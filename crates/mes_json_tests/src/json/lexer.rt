@@ -146,7 +146,7 @@ fn held_by_run(alloc: Global, bytes: &[u8]) -> Result<u64, ReadFault> {
 
 #[test]
 fn holds_texts_and_numbers(rt: HostRuntime) -> Result<(), Fail> {
-    for (pushed, held) in HELD {
+    for &(pushed, held) in &HELD {
         let both = [
             held_by_bytes(rt.alloc(), pushed)?,
             held_by_run(rt.alloc(), pushed)?,

@@ -22,7 +22,7 @@ const TEXTS: [&[u8]; 12] = [
 
 #[test]
 fn reads_messages_in_pieces(rt: HostRuntime) {
-    for text in TEXTS {
+    for &text in &TEXTS {
         expect_same(&rt, text);
     }
 }
@@ -63,7 +63,7 @@ fn expect_same_by_any_runs<R: Abort + AllocGlobal>(rt: &R, text: &[u8]) {
 
 #[test]
 fn reads_messages_in_any_runs(rt: HostRuntime) {
-    for text in TEXTS {
+    for &text in &TEXTS {
         expect_same_by_any_runs(&rt, text);
     }
 }

@@ -18,7 +18,7 @@ fn joined(alloc: Global, parts: &[&[u8]]) -> Result<Vec<u8>, Fail> {
 }
 
 /// Whether the bytes spell the string of these characters.
-fn spells(alloc: Global, bytes: &[u8], characters: &[u8]) -> bool {
+pub(super) fn spells(alloc: Global, bytes: &[u8], characters: &[u8]) -> bool {
     match &read_text(alloc, bytes) {
         Ok(Json::Text(text)) => text.as_str().as_bytes() == characters,
         _ => false,
@@ -51,7 +51,7 @@ const ENDS: [(&[u8], &[u8]); 6] = [
 fn reads_each_end_of_a_run(rt: HostRuntime) -> Result<(), Fail> {
     for length in 0..49 {
         let plain = &PLAIN[..length];
-        for (written, meant) in ENDS {
+        for &(written, meant) in &ENDS {
             let bytes = joined(rt.alloc(), &[b"\"", plain, written, &PLAIN, b"\""])?;
             let characters = joined(rt.alloc(), &[plain, meant, &PLAIN])?;
             assert!(rt;
@@ -96,8 +96,8 @@ const BEHIND: [&[u8]; 4] = [
 fn reads_members_of_each_length(rt: HostRuntime) -> Result<(), Fail> {
     for length in 0..36 {
         let plain = &PLAIN[..length];
-        for colon in COLONS {
-            for behind in BEHIND {
+        for &colon in &COLONS {
+            for &behind in &BEHIND {
                 let parts = [b"{\"", plain, b"\"", colon, b"\"", plain, b"\"", behind];
                 let bytes = joined(rt.alloc(), &parts)?;
                 assert!(rt;
@@ -114,7 +114,7 @@ fn reads_members_of_each_length(rt: HostRuntime) -> Result<(), Fail> {
 fn reads_each_end_of_a_run_in_a_member(rt: HostRuntime) -> Result<(), Fail> {
     for length in 0..20 {
         let plain = &PLAIN[..length];
-        for (written, meant) in ENDS {
+        for &(written, meant) in &ENDS {
             let parts = [b"{\"", plain, written, b"!\":\"", plain, written, b"\"}"];
             let bytes = joined(rt.alloc(), &parts)?;
             let name = joined(rt.alloc(), &[plain, meant, b"!"])?;
@@ -148,7 +148,7 @@ const FAULTS: [&[u8]; 6] = [b"\x00", b"\n", b"\x1f", b"\x80", b"\xc1", b"\xff"];
 fn stops_a_run_at_a_fault(rt: HostRuntime) -> Result<(), Fail> {
     for length in 0..49 {
         let plain = &PLAIN[..length];
-        for fault in FAULTS {
+        for &fault in &FAULTS {
             let bytes = joined(rt.alloc(), &[b"\"", plain, fault, &PLAIN, b"\""])?;
             expect_fault(&rt, &bytes, length as u64 + 1);
         }
@@ -176,7 +176,7 @@ const BLANKS: [&[u8]; 7] = [
 /// The tokens with the blank around each.
 fn spaced(alloc: Global, blank: &[u8]) -> Result<Vec<u8>, Fail> {
     let mut bytes = joined(alloc, &[blank])?;
-    for token in TOKENS {
+    for &token in &TOKENS {
         bytes.extend_from_slice(token)?;
         bytes.extend_from_slice(blank)?;
     }
@@ -191,7 +191,7 @@ fn read_spaced(alloc: Global, blank: &[u8]) -> Result<Json, Fail> {
 #[test]
 fn passes_over_white_space(rt: HostRuntime) -> Result<(), Fail> {
     let close = read_spaced(rt.alloc(), b"")?;
-    for blank in BLANKS {
+    for &blank in &BLANKS {
         assert!(rt; read_spaced(rt.alloc(), blank)?.same(&close), "{blank:?}");
     }
     Ok(())
@@ -201,7 +201,7 @@ fn passes_over_white_space(rt: HostRuntime) -> Result<(), Fail> {
 const OTHERS: [&[u8]; 6] = [b"\x00", b"\x0b", b"\x0c", b"\x1f", b"\x7f", b"\xa0"];
 
 fn expect_no_other<R: Abort + AllocGlobal>(rt: &R, front: &[u8]) -> Result<(), Fail> {
-    for other in OTHERS {
+    for &other in &OTHERS {
         let bytes = joined(rt.alloc(), &[front, b" \t", other, b" "])?;
         expect_fault(rt, &bytes, front.len() as u64 + 2);
     }
@@ -211,7 +211,7 @@ fn expect_no_other<R: Abort + AllocGlobal>(rt: &R, front: &[u8]) -> Result<(), F
 #[test]
 fn passes_over_no_other_byte(rt: HostRuntime) -> Result<(), Fail> {
     let mut front = joined(rt.alloc(), &[b" "])?;
-    for token in TOKENS {
+    for &token in &TOKENS {
         expect_no_other(&rt, &front)?;
         front.extend_from_slice(token)?;
     }
@@ -230,7 +230,7 @@ const WITHIN: [(&[u8], u64); 6] = [
 
 #[test]
 fn keeps_white_space_where_it_counts(rt: HostRuntime) {
-    for (bytes, byte) in WITHIN {
+    for &(bytes, byte) in &WITHIN {
         expect_fault(&rt, bytes, byte);
     }
     assert!(rt; spells(rt.alloc(), b" \" \x7f  a \" ", b" \x7f  a "));

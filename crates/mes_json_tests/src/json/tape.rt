@@ -1,6 +1,7 @@
 //! Tapes: a value in place, the tree of it, and memory used again.
 
-use mes_json::{Json, Lexer, ReadFault, Tape, TextFault, Why, read_tape, read_text, write_text};
+use super::values::written;
+use mes_json::{Lexer, ReadFault, Tape, TextFault, Why, read_tape, read_text};
 use std::alloc::Global;
 use std::test::Fail;
 
@@ -37,12 +38,6 @@ const FAULTY: [(&[u8], u64, Why); 7] = [
     (b"1 2", 2, Why::Byte),
 ];
 
-fn written(alloc: Global, json: &Json) -> Result<Vec<u8>, Fail> {
-    let mut out = Vec::new(alloc);
-    write_text(json, &mut out)?;
-    Ok(out)
-}
-
 /// Whether the value of the tape is written so.
 fn is_written(alloc: Global, tape: &Tape, wanted: &[u8]) -> Result<bool, Fail> {
     let json = tape.root().to_json(alloc)?;
@@ -71,7 +66,7 @@ fn is_read_so(alloc: Global, text: &[u8], wanted: &[u8]) -> Result<bool, Fail> {
 
 #[test]
 fn holds_the_value(rt: HostRuntime) -> Result<(), Fail> {
-    for (text, wanted) in WRITTEN {
+    for &(text, wanted) in &WRITTEN {
         assert!(rt; is_read_so(rt.alloc(), text, wanted)?, "{text:?}");
     }
     Ok(())
@@ -87,18 +82,27 @@ fn faults(alloc: Global, bytes: &[u8]) -> [Option<ReadFault>; 2] {
 
 #[test]
 fn tells_the_fault(rt: HostRuntime) {
-    for (bytes, byte, why) in FAULTY {
+    for &(bytes, byte, why) in &FAULTY {
         let wanted = Some(ReadFault::Text(TextFault { byte, why }));
         assert_eq!(rt; faults(rt.alloc(), bytes), [wanted, wanted]);
+    }
+}
+
+/// The tape of a text, in the memory of an older one, once its value is written so.
+fn read_on(alloc: Global, older: Tape, text: &[u8], wanted: &[u8]) -> Result<Tape, Fail> {
+    let tape = lexed(Lexer::reusing(alloc, older), text)?;
+    if is_written(alloc, &tape, wanted)? {
+        Ok(tape)
+    } else {
+        Err("a value that is written so")?
     }
 }
 
 #[test]
 fn reads_on_in_the_memory_of_a_tape(rt: HostRuntime) -> Result<(), Fail> {
     let mut tape = read_tape(rt.alloc(), b"[\"an older text\", 17]")?;
-    for (text, wanted) in WRITTEN {
-        tape = lexed(Lexer::reusing(rt.alloc(), tape), text)?;
-        assert!(rt; is_written(rt.alloc(), &tape, wanted)?, "{text:?}");
+    for &(text, wanted) in &WRITTEN {
+        tape = read_on(rt.alloc(), tape, text, wanted)?;
     }
     Ok(())
 }

@@ -1,6 +1,8 @@
 //! JSON texts with the trees that they spell.
 
-use mes_json::{Json, NESTING_LIMIT, Text, read_text, write_text};
+use super::runs::spells;
+use super::values::written;
+use mes_json::{Json, NESTING_LIMIT, Text, read_text};
 use std::alloc::Global;
 use std::test::Fail;
 
@@ -129,7 +131,7 @@ fn is_named(alloc: Global, text: &[u8], places: &[usize], at: usize, name: &str)
 
 #[test]
 fn reads_each_name(rt: HostRuntime) {
-    for (text, places, at, name) in NAMES {
+    for &(text, places, at, name) in &NAMES {
         assert!(rt;
             is_named(rt.alloc(), text, places, at, name),
             "{text:?} {places:?} {name}"
@@ -177,8 +179,8 @@ fn is_kept(
 
 #[test]
 fn keeps_numbers_as_written(rt: HostRuntime) {
-    for digits in NUMBERS {
-        for (front, end, places) in AROUND {
+    for &digits in &NUMBERS {
+        for &(front, end, places) in &AROUND {
             assert!(rt; is_kept(rt.alloc(), digits, front, end, places), "{digits}");
         }
     }
@@ -215,7 +217,7 @@ fn is_read(alloc: Global, characters: &'static str) -> Result<bool, Fail> {
 #[test]
 fn reads_characters_and_escapes(rt: HostRuntime) -> Result<(), Fail> {
     assert!(rt; is_read(rt.alloc(), CHARACTERS)?);
-    for (bytes, text) in ESCAPES {
+    for &(bytes, text) in &ESCAPES {
         assert!(rt;
             is_at(rt.alloc(), bytes, &[], Kind::Text(text)),
             "{bytes:?}"
@@ -223,36 +225,6 @@ fn reads_characters_and_escapes(rt: HostRuntime) -> Result<(), Fail> {
     }
     Ok(())
 }
-
-/// A thousand times the part.
-fn repeated(alloc: Global, part: &str) -> Result<String, Fail> {
-    let mut text = String::new(alloc);
-    for _ in 0..1000 {
-        text.push_str(part)?;
-    }
-    Ok(text)
-}
-
-/// Whether the bytes spell the string of these characters.
-fn spells(alloc: Global, bytes: &[u8], characters: &str) -> bool {
-    match &read_text(alloc, bytes) {
-        Ok(Json::Text(text)) => text.as_str() == characters,
-        _ => false,
-    }
-}
-
-#[test]
-fn reads_long_texts(rt: HostRuntime) -> Result<(), Fail> {
-    // Longer than any buffer begins, with a character of two bytes and an escape in the middle.
-    let expected = repeated(rt.alloc(), "plain text, \u{e9}\n")?;
-    let written = repeated(rt.alloc(), "plain text, \u{e9}\\n")?;
-    let text = format!(in rt.alloc(); "\"{written}\"")?;
-    assert!(rt; spells(rt.alloc(), text.as_bytes(), &expected));
-    Ok(())
-}
-
-// As deep as the limit: the first of these once less than the limit, the second, the third as often as the limit.
-const DEEP: [(&[u8], &[u8], &[u8]); 2] = [(b"[", b"[", b"]"), (b"{\"a\":", b"{", b"}")];
 
 /// The bytes, so many times.
 fn times(alloc: Global, count: usize, bytes: &[u8]) -> Result<Vec<u8>, Fail> {
@@ -263,16 +235,23 @@ fn times(alloc: Global, count: usize, bytes: &[u8]) -> Result<Vec<u8>, Fail> {
     Ok(all)
 }
 
+#[test]
+fn reads_long_texts(rt: HostRuntime) -> Result<(), Fail> {
+    // Longer than any buffer begins, with a character of two bytes and an escape in the middle.
+    let expected = times(rt.alloc(), 1000, "plain text, \u{e9}\n".as_bytes())?;
+    let written = times(rt.alloc(), 1000, "plain text, \u{e9}\\n".as_bytes())?;
+    let text = [b"\"", written.as_slice(), b"\""].concat(rt.alloc())?;
+    assert!(rt; spells(rt.alloc(), &text, &expected));
+    Ok(())
+}
+
+// As deep as the limit: the first of these once less than the limit, the second, the third as often as the limit.
+const DEEP: [(&[u8], &[u8], &[u8]); 2] = [(b"[", b"[", b"]"), (b"{\"a\":", b"{", b"}")];
+
 fn deep(alloc: Global, front: &[u8], inner: &[u8], end: &[u8]) -> Result<Vec<u8>, Fail> {
     let fronts = times(alloc, NESTING_LIMIT - 1, front)?;
     let ends = times(alloc, NESTING_LIMIT, end)?;
     Ok([&fronts, inner, &ends].concat(alloc)?)
-}
-
-fn written(alloc: Global, json: &Json) -> Result<Vec<u8>, Fail> {
-    let mut out = Vec::new(alloc);
-    write_text(json, &mut out)?;
-    Ok(out)
 }
 
 /// Whether the text is written as it is read, and nests as deep as the limit.
@@ -284,7 +263,7 @@ fn is_deepest(alloc: Global, text: &[u8]) -> Result<bool, Fail> {
 
 #[test]
 fn reads_as_deep_as_the_limit(rt: HostRuntime) -> Result<(), Fail> {
-    for (front, inner, end) in DEEP {
+    for &(front, inner, end) in &DEEP {
         let text = deep(rt.alloc(), front, inner, end)?;
         assert!(rt; is_deepest(rt.alloc(), &text)?);
     }
@@ -308,7 +287,7 @@ fn is_kept_as_string(alloc: Global, characters: &str) -> Result<bool, Fail> {
 
 #[test]
 fn keeps_texts_of_any_length(rt: HostRuntime) -> Result<(), Fail> {
-    for characters in [
+    for &characters in &[
         "",
         "*",
         "a\u{e9}",
