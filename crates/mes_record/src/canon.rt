@@ -1,5 +1,5 @@
 //! The canonical text of a value.
-ghost use Rattle.std.specs.Prelude.{◌≡◌, IfOk, IfErr, MatchResult};
+ghost use Rattle.std.specs.Prelude.{◌≡◌, IfOk, IfErr, OnOk, MatchResult};
 ghost use Rattle.mes_record.specs.Texts.{IsTextOf, canonical_of, Fits, IsRefusalOf};
 
 use mes_frame::Limit;
@@ -42,12 +42,30 @@ pub fn canonical_bytes<T: Part>(
     ensures err { IfErr result (IsRefusalOf T.kind value.now limit) }
 {
     let mut text = Vec::new(alloc);
-    let depth = value.write_json(alloc, &mut text)?;
+    canonical_into(value, alloc, limit, &mut text)?;
+    Ok(text)
+}
+
+/// The same into memory that may have been used: what stood in `text` goes. After a refusal what stands there is of no use.
+pub fn canonical_into<T: Part>(
+    value: &T,
+    alloc: Global,
+    limit: Limit,
+    text: &mut Vec<u8>,
+) -> Result<(), EncodeFault>
+    ensures text { OnOk result (text.new.items ≡ canonical_of T.kind value.now) }
+    ensures fits { OnOk result (Fits T.kind value.now limit) }
+    ensures again { OnOk result (IsTextOf T.kind text.new.items value.now) }
+    ensures only { Fits T.kind value.now limit → MatchResult result (λ _. text.new.items ≡ canonical_of T.kind value.now) (λ e. e ≡ EncodeFault.NoMemory) }
+    ensures err { IfErr result (IsRefusalOf T.kind value.now limit) }
+{
+    text.clear();
+    let depth = value.write_json(alloc, text)?;
     if depth > NESTING_LIMIT as u64 {
         return Err(EncodeFault::TooDeep);
     }
     if text.len() > limit.get() as usize {
         return Err(EncodeFault::TooLarge);
     }
-    Ok(text)
+    Ok(())
 }

@@ -6,6 +6,6 @@ mod canon;
 mod message;
 mod record;
 
-pub use canon::{EncodeFault, canonical_bytes};
+pub use canon::{EncodeFault, canonical_bytes, canonical_into};
 pub use message::Message;
 pub use record::{RecordFault, read_bytes};

@@ -11,6 +11,7 @@ use itoa::Buffer;
 use mes_frame::Limit;
 use mes_json::NoMemory;
 use mes_msg::{EncodeFault, EncodeWhy, Event, SendFault};
+use mes_record::canonical_into;
 use std::alloc::Global;
 
 /// The records of the events' canonical texts, one behind the other. Errors: the first event that no record of the limit can
@@ -42,19 +43,21 @@ pub fn encode_each(alloc: Global, events: &[&Event], limit: Limit) -> Result<Vec
     ensures err { IfErr result (IsUnsent limit (map (λ event. event.now) events.now)) }
 {
     let mut body = Vec::new(alloc);
+    let mut text = Vec::new(alloc);
     for (index, event) in events.iter().enumerate() {
-        if let Err(fault) = put_event(alloc, event, limit, &mut body) {
+        if let Err(fault) = put_event(alloc, event, limit, &mut text, &mut body) {
             return Err(refused_at(index, fault));
         }
     }
     Ok(body)
 }
 
-/// Appends the record of the event's canonical text.
+/// Appends the record of the event's canonical text, which is made in memory that is used again.
 fn put_event(
     alloc: Global,
     event: &Event,
     limit: Limit,
+    text: &mut Vec<u8>,
     body: &mut Vec<u8>,
 ) -> Result<(), EncodeFault>
     ensures ok { OnOk result (body.new.items ≡ body.old.items ++ record_bytes (canonical_text event.now)) }
@@ -63,7 +66,7 @@ fn put_event(
     ensures spells { OnOk result (Spells (canonical_text event.now) event.now) }
     ensures err { IfErr result (IsEncodeFault event.now limit) }
 {
-    let text = event.canon(alloc, limit)?;
+    canonical_into(event, alloc, limit, text)?;
     put_record(text.as_slice(), body)?;
     Ok(())
 }

@@ -5,5 +5,5 @@ use Rattle.mes_stream.proofs.encode.put_event.Goals as goal
 
 pub returns-clause-read : goal.returns-clause-read
 returns-clause-read c =
-    let is = ap length c.in_ok-text.ensures.text in
-    written_is_record (canonical_text c.args.event.now) c.args.limit (omega arith) c.in_ok-text.ensures.good.1
+    let is = ap length c.in_ok-canonical_into.ensures.text in
+    written_is_record (canonical_text c.args.event.now) c.args.limit (omega arith) c.in_ok-canonical_into.ensures.fits.1
