@@ -114,7 +114,7 @@ const READS: [(usize, usize); 5] = [(4, 3), (1, 1), (0, 0), (4, 1), (4, 0)];
 fn a_memory_source_gives_a_few_bytes_a_read(rt: HostRuntime) {
     let mut buffer = [0; 4];
     let mut source = MemorySource::new(b"abcde", 3);
-    for (size, given) in READS {
+    for &(size, given) in &READS {
         let fetched = source.fetch(&mut buffer[..size.min(4)]).ok();
         assert_eq!(rt; fetched, Some(given));
     }

@@ -85,7 +85,7 @@ const ROOMS: [(&[u8], u64); 5] = [
 
 #[test]
 fn chunks_have_room_for_their_data(rt: HostRuntime) {
-    for (front, room) in ROOMS {
+    for &(front, room) in &ROOMS {
         assert_eq!(rt; room_behind(front), room, "{front:?}");
     }
 }
@@ -240,16 +240,27 @@ const BODIES: [(&[u8], &[u8], Option<(usize, ChunkOut)>); 5] = [
     ),
 ];
 
+// Whether the pieces hold just these data, and end so.
+fn read_as(
+    alloc: Global,
+    pieces: [&[u8]; 2],
+    data: &[u8],
+    end: Option<(usize, ChunkOut)>,
+) -> Result<bool, AllocError> {
+    let mut body = Vec::new(alloc);
+    let ended = read_pieces(&mut body, pieces);
+    let held = body.as_slice() == data;
+    drop(body);
+    Ok(held && ended? == end)
+}
+
 #[test]
-fn each_cut_into_two_reads_alike(rt: HostRuntime) -> Result<(), std::test::Fail> {
+fn each_cut_into_two_reads_alike(rt: HostRuntime) -> Result<(), AllocError> {
     for (bytes, data, end) in BODIES {
         for cut in 0..bytes.len() + 1 {
             let (first, second) = bytes.split_at(cut);
-            let mut body = Vec::new(rt.alloc());
-            let ended = read_pieces(&mut body, [first, second])?;
-            assert_eq!(rt;
-                (body.as_slice(), ended),
-                (data, end),
+            assert!(rt;
+                read_as(rt.alloc(), [first, second], data, end)?,
                 "{bytes:?} cut at {cut}"
             );
         }

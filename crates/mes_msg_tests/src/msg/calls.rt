@@ -249,11 +249,21 @@ fn is_too_deep(alloc: Global, objects: usize) -> Result<bool, Fail> {
     Ok(deep)
 }
 
+/// Whether the bytes are a call.
+fn is_call(alloc: Global, bytes: &[u8]) -> bool {
+    Call::read_record(alloc, bytes).is_ok()
+}
+
+/// Whether the text of that call is a call again.
+fn is_read_again(alloc: Global, objects: usize) -> Result<bool, Fail> {
+    let text = deep_text(alloc, objects)?;
+    Ok(is_call(alloc, text.as_slice()))
+}
+
 // The executor stands inside seven objects and arrays.
 #[test]
 fn calls_nest_to_the_limit(rt: HostRuntime) -> Result<(), Fail> {
-    let deepest = deep_text(rt.alloc(), NESTING_LIMIT - 7)?;
-    assert!(rt; Call::read_record(rt.alloc(), deepest.as_slice()).is_ok());
+    assert!(rt; is_read_again(rt.alloc(), NESTING_LIMIT - 7)?);
     Ok(())
 }
 

@@ -121,10 +121,10 @@ fn is_other(alloc: Global, name: &str) -> Result<bool, Fail> {
 
 #[test]
 fn known_names_are_handed_back(rt: HostRuntime) -> Result<(), Fail> {
-    for name in KNOWN {
+    for &name in &KNOWN {
         assert!(rt; is_handed_back(rt.alloc(), name)?, "{name}");
     }
-    for name in OTHER {
+    for &name in &OTHER {
         assert!(rt; is_other(rt.alloc(), name)?, "{name}");
     }
     Ok(())

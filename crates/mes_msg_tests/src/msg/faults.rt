@@ -190,7 +190,7 @@ const NO_TEXTS: [(&str, u64, Why); 5] = [
 
 #[test]
 fn other_bytes_are_no_text(rt: HostRuntime) {
-    for (text, byte, why) in NO_TEXTS {
+    for &(text, byte, why) in &NO_TEXTS {
         let answer = Event::read_record(rt.alloc(), text.as_bytes());
         assert_eq!(rt; text_fault_of(answer), Some((byte, why)), "{text}");
     }

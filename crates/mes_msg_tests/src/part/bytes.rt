@@ -91,7 +91,7 @@ fn bytes_of(answer: Result<Bytes, PartFault>) -> Result<Bytes, Fail> {
 fn expect_groups<R: Abort>(rt: &R, alloc: Global, groups: usize) -> Result<(), Fail>
     requires { groups ≤ 16 }
 {
-    for (last, octets) in LAST {
+    for &(last, octets) in &LAST {
         let expected = [&OCTETS[..3 * groups], octets].concat(alloc)?;
         let bytes = bytes_of(read_letters(alloc, &LETTERS[..4 * groups], last)?)?;
         assert_eq!(rt; bytes.as_slice(), expected.as_slice());
@@ -156,7 +156,7 @@ fn expect_read<R: Abort>(rt: &R, alloc: Global, octets: &[u8], text: &str) -> Re
 
 #[test]
 fn bytes_are_read_and_written(rt: HostRuntime) -> Result<(), Fail> {
-    for (octets, text) in VECTORS {
+    for &(octets, text) in &VECTORS {
         expect_read(&rt, rt.alloc(), octets, text)?;
         let made = Bytes::new(Vec::from_slice(rt.alloc(), octets)?);
         expect_bytes(&rt, rt.alloc(), &made, octets, text)?;

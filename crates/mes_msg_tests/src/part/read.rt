@@ -217,7 +217,7 @@ fn what_is_left_out_is_refused(rt: HostRuntime) -> Result<(), Fail> {
         let answer = read_left_out(rt.alloc(), text)?;
         expect_fault(&rt, text, part_fault_of(answer), fault)?;
     }
-    for text in NOT_THERE {
+    for &text in &NOT_THERE {
         assert!(rt; read_left_out(rt.alloc(), text)?.is_ok(), "{text}");
     }
     Ok(())
