@@ -17,6 +17,7 @@ use mes_serve::{Served, WRITE_FAILED, send_subscribe, serve_one, show_answer, te
 use mes_stream::read_plain;
 use std::alloc::{AllocGlobal, Global};
 use std::io::{self, BufReader};
+use std::mem;
 use std::net::{Net, TcpListener, TcpStream};
 use uuid::Uuid;
 
@@ -35,7 +36,8 @@ pub const LOOPBACK_STREAM: u128 = 0x4000_8000_0000_0000_0001;
 /// Reads events from the input as plain RecordIO, and then lets a test master of the framework `F1` send them, in chunks of so many bytes,
 /// to a scheduler in the same process, over a socket, and shows what comes there, as `subscribe_over` does. The scheduler subscribes as
 /// user `root` and name `loopback`. Tells the first fault of the input; that the stream can't be encoded, or the SUBSCRIBE not be sent,
-/// `net write failed`; or why there is no connection; with the status 1. Holds all events, and their stream as it is sent.
+/// `net write failed`; or why there is no connection; with the status 1. Holds all events, and their stream as it is sent. The memory of
+/// the events and of the master is left to the end of the process: to give it back piece by piece takes longer than to print the events.
 pub fn loopback<R, I: Source, O: Sink>(rt: &R, most: ChunkSize, input: &mut I, out: &mut O) -> Ended
 where
     R: AllocGlobal + Net<Listener = TcpListener, Stream = TcpStream>,
@@ -47,7 +49,9 @@ where
     match read_plain(alloc, input, Limit::USUAL, READS_MOST, &mut events) {
         Ok(_) => {
             let stream = Uuid::from_u128(LOOPBACK_STREAM);
-            loop_events(rt, stream, most, events.as_slice(), out)
+            let ended = loop_events(rt, stream, most, events.as_slice(), out);
+            mem::forget(events);
+            ended
         }
         Err(stop) => print_fault(out, &stop.fault, stop.used),
     }
@@ -105,6 +109,7 @@ fn answer<O: Sink>(
         &mut written,
         &mut dropped,
     );
+    mem::forget(master);
     if is_whole(&served) {
         let asked = reader.counts();
         let was_asked = asked.failures == 0 && asked.idle == 0;

@@ -10,14 +10,14 @@ returns-in-Ok g c =
     let input : Device = device_of g.I.Source.left g.I.Source.counts c.args.input.now in
     let rest : Device = device_of g.I.Source.left g.I.Source.counts c.read_plain.new.reader in
     let out : Device = device_of g.O.Sink.written g.O.Sink.counts c.args.out.now in
-    let printed : Device = device_of g.O.Sink.written g.O.Sink.counts c.loop_events.new.out in
-    given_events (λ events. LoopsEvents loopback_stream c.args.most events out printed c.loop_events.result) input rest out printed c.loop_events.result
+    let printed : Device = device_of g.O.Sink.written g.O.Sink.counts c.loop_events-ended.new.out in
+    given_events (λ events. LoopsEvents loopback_stream c.args.most events out printed c.loop_events-ended.result) input rest out printed c.loop_events-ended.result
     c.new-events.result.items c.read_plain.new.events.items c.read_plain.result c.in-Ok.field-0 c.read_plain.ensures.reads c.new-events.ensures.items c.in-Ok.is
-    c.as_slice.result.now c.as_slice.ensures.value (subst (λ (s : List ℕ). LoopsEvents s c.args.most c.as_slice.result.now out printed c.loop_events.result) c.from_u128-stream.ensures c.loop_events.ensures)
+    c.as_slice.result.now c.as_slice.ensures.value (subst (λ (s : List ℕ). LoopsEvents s c.args.most c.as_slice.result.now out printed c.loop_events-ended.result) c.from_u128-stream.ensures c.loop_events-ended.ensures)
 
-pub returns : goal.returns
+pub returns-in-Err : goal.returns-in-Err
 unfolding Loops
-returns g c =
+returns-in-Err g c =
     let input : Device = device_of g.I.Source.left g.I.Source.counts c.args.input.now in
     let rest : Device = device_of g.I.Source.left g.I.Source.counts c.read_plain.new.reader in
     let out : Device = device_of g.O.Sink.written g.O.Sink.counts c.args.out.now in
