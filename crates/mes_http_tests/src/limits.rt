@@ -56,7 +56,7 @@ const SIZES: [(Reads, &str, usize, &[u8], &str); 5] = [
 
 #[test]
 fn a_head_has_so_many_bytes(rt: HostRuntime) -> Result<(), Fail> {
-    for (reads, lines, size, end, expected) in SIZES {
+    for &(reads, lines, size, end, expected) in &SIZES {
         let bytes = filled(rt.alloc(), lines, size, end)?;
         assert_eq!(rt;
             answered(rt.alloc(), reads, bytes.as_slice()),

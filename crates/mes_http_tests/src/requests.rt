@@ -92,7 +92,7 @@ fn smuggled_shapes_are_refused(rt: HostRuntime) -> Result<(), Fail> {
         let (lines, expected) = row_of(line)?;
         expect_shape(&rt, lines, expected)?;
     }
-    for (lines, expected) in BYTES {
+    for &(lines, expected) in &BYTES {
         expect_shape(&rt, lines, expected)?;
     }
     Ok(())
@@ -139,7 +139,7 @@ const BODIES: [(&str, usize); 2] = [
 
 #[test]
 fn a_body_may_be_empty_and_large(rt: HostRuntime) -> Result<(), Fail> {
-    for (lines, size) in BODIES {
+    for &(lines, size) in &BODIES {
         let mut body = Vec::new(rt.alloc());
         body.resize(size, b'a')?;
         let mut bytes = bytes_of(rt.alloc(), lines, body.as_slice())?;

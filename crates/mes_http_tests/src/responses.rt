@@ -135,7 +135,7 @@ const IDS: [(&str, bool); 7] = [
 
 #[test]
 fn stream_ids_have_a_form(rt: HostRuntime) {
-    for (text, is_one) in IDS {
+    for &(text, is_one) in &IDS {
         assert_eq!(rt; is_an_id(text), is_one, "{text}");
     }
 }

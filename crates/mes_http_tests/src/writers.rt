@@ -112,7 +112,7 @@ const STATUSES: [(u16, &str); 6] = [
 
 #[test]
 fn a_status_is_answered(rt: HostRuntime) -> Result<(), Fail> {
-    for (code, lines) in STATUSES {
+    for &(code, lines) in &STATUSES {
         let expected = bytes_of(rt.alloc(), lines, b"")?;
         expect_written(&rt, Written::Status(code), &expected);
     }

@@ -104,7 +104,7 @@ resend 0 => {"type":"UPDATE","update":{"status":{"task_id":{"value":"T2"},"state
 
 #[test]
 fn calls_one_after_the_other(rt: HostRuntime) -> Result<(), Fail> {
-    for rows in [EXAMPLE, LAUNCHES, STREAMS, TORN, ACKNOWLEDGED, RECONCILED] {
+    for &rows in &[EXAMPLE, LAUNCHES, STREAMS, TORN, ACKNOWLEDGED, RECONCILED] {
         expect_run(&rt, rows)?;
     }
     Ok(())

@@ -1,6 +1,6 @@
 //! The status of each call in each state.
 
-use crate::support::{called, change, new_master};
+use crate::support::{called, new_master};
 use mes_master::Master;
 use std::alloc::{AllocGlobal, Global};
 use std::test::Fail;
@@ -68,9 +68,10 @@ fn status_of(
 
 /// The status of the answer to a call in this state that names this stream.
 fn status_in(alloc: Global, state: usize, stream: &str, call: &str) -> Result<String, Fail> {
-    change(new_master(alloc)?, |master| {
-        status_of(alloc, master, state, stream, call)
-    })
+    let mut master = new_master(alloc)?;
+    let status = status_of(alloc, &mut master, state, stream, call);
+    drop(master);
+    status
 }
 
 /// The statuses of the answers to a call, in each state by each stream.

@@ -19,21 +19,6 @@ use uuid::Uuid;
 /// A stream's id, but for the last digit.
 const STREAM_FRONT: &str = "00000000-0000-4000-8000-00000000000";
 
-/// Looks at a value, and then drops it.
-fn look_at<T: Drop, R, F: FnOnce(&T) -> R>(value: T, look: F) -> R
-    requires { F.IsAlwaysCallable look }
-{
-    look(&value)
-}
-
-/// Changes a value, and then drops it.
-pub(crate) fn change<T: Drop, R, F: FnOnce(&mut T) -> R>(value: T, change: F) -> R
-    requires { F.IsAlwaysCallable change }
-{
-    let mut value = value;
-    change(&mut value)
-}
-
 /// The text of the id of the stream of this number.
 fn stream_text(alloc: Global, number: &str) -> Result<String, Fail> {
     Ok(format!(in alloc; "{}{}", STREAM_FRONT, number)?)
@@ -116,7 +101,11 @@ fn number_of(why: MasterRefusal) -> &'static str {
 /// What is sent, in words.
 fn sent(alloc: Global, answer: Result<Event, MasterRefusal>) -> Result<String, Fail> {
     match answer {
-        Ok(event) => look_at(event, |event| text_of(alloc, event)),
+        Ok(event) => {
+            let text = text_of(alloc, &event);
+            drop(event);
+            text
+        }
         Err(why) => Ok(String::from_str(alloc, number_of(why))?),
     }
 }
@@ -129,7 +118,11 @@ fn handled(
     stream: Option<&StreamId>,
 ) -> Result<String, Fail> {
     match master.handle(call, stream) {
-        Ok(answer) => look_at(answer, |answer| told(alloc, answer)),
+        Ok(answer) => {
+            let told = told(alloc, &answer);
+            drop(answer);
+            told
+        }
         Err(_) => Err("memory")?,
     }
 }
@@ -155,25 +148,42 @@ pub(crate) fn called(
     stream: &str,
     text: &str,
 ) -> Result<String, Fail> {
-    look_at(call_of(alloc, text)?, |call| {
-        called_by(alloc, master, stream, call)
-    })
+    let call = call_of(alloc, text)?;
+    let told = called_by(alloc, master, stream, &call);
+    drop(call);
+    told
+}
+
+/// The OFFERS of the offers of an event that has some.
+fn offered_as(alloc: Global, master: &mut Master, event: &Event) -> Result<String, Fail> {
+    match event {
+        Event::Offers(offers) => sent(alloc, master.offer(offers.as_slice())),
+        _ => Err("offers")?,
+    }
 }
 
 /// The OFFERS of the offers of this text.
 fn offered(alloc: Global, master: &mut Master, text: &str) -> Result<String, Fail> {
-    look_at(event_of(alloc, text)?, |event| match event {
-        Event::Offers(offers) => sent(alloc, master.offer(offers.as_slice())),
-        _ => Err("offers")?,
-    })
+    let event = event_of(alloc, text)?;
+    let answer = offered_as(alloc, master, &event);
+    drop(event);
+    answer
+}
+
+/// The UPDATE of the status of an event that has one.
+fn updated_as(alloc: Global, master: &mut Master, event: &Event) -> Result<String, Fail> {
+    match event {
+        Event::Update(body) => sent(alloc, master.update(body.status.get())),
+        _ => Err("an update")?,
+    }
 }
 
 /// The UPDATE of the status of this text.
 fn updated(alloc: Global, master: &mut Master, text: &str) -> Result<String, Fail> {
-    look_at(event_of(alloc, text)?, |event| match event {
-        Event::Update(body) => sent(alloc, master.update(body.status.get())),
-        _ => Err("an update")?,
-    })
+    let event = event_of(alloc, text)?;
+    let answer = updated_as(alloc, master, &event);
+    drop(event);
+    answer
 }
 
 /// The UPDATE again of this index.

@@ -99,7 +99,7 @@ fn writes(alloc: Global, events: &[Event], most: u32, stream: &str) -> Result<bo
 #[test]
 fn chunks_have_the_size_that_is_given(rt: HostRuntime) -> Result<(), Fail> {
     let events = events_of(rt.alloc(), r#"{"type":"HEARTBEAT"}"#)?;
-    for (most, stream) in [(100, IN_TWO), (127, STREAM), (4_096, STREAM)] {
+    for &(most, stream) in &[(100, IN_TWO), (127, STREAM), (4_096, STREAM)] {
         assert!(rt;
             writes(rt.alloc(), events.as_slice(), most, stream)?,
             "{most}"

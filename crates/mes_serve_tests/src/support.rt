@@ -164,7 +164,7 @@ fn serve(
     }
 }
 
-/// What a new master makes of it.
+/// The same of a new master.
 pub(crate) fn serve_anew(
     alloc: Global,
     events: &[Event],

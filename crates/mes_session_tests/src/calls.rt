@@ -113,7 +113,7 @@ E {"type":"UPDATE","update":{"status":{"task_id":{"value":"T1"},"state":"TASK_RU
 
 #[test]
 fn calls_as_they_are_made(rt: HostRuntime) -> Result<(), Fail> {
-    for script in [
+    for &script in &[
         BEFORE,
         PLAIN,
         LAUNCHES,

@@ -63,7 +63,7 @@ C {"type":"REVIVE","framework_id":{"value":"F1"}}
 
 #[test]
 fn histories_are_replayed(rt: HostRuntime) -> Result<(), Fail> {
-    for (history, expected) in [
+    for &(history, expected) in &[
         ("", "- off ;"),
         ("B", "- off ;"),
         (LEGAL, "F1 on O2=g ; A1/T1/000102030405060708090a0b0c0d0e0f"),

@@ -17,13 +17,6 @@ use std::alloc::Global;
 use std::process::Abort;
 use std::test::Fail;
 
-/// Looks at a value, and then drops it.
-fn look_at<T: Drop, R, F: FnOnce(&T) -> R>(value: T, look: F) -> R
-    requires { F.IsAlwaysCallable look }
-{
-    look(&value)
-}
-
 /// A refusal in words.
 fn refusal_in_words(alloc: Global, refusal: Refusal) -> Result<String, Fail> {
     let text = match refusal {
@@ -164,24 +157,30 @@ fn hear(alloc: Global, session: &mut Session, text: &str) -> Result<String, Fail
 
 /// Says a call.
 fn say(alloc: Global, session: &mut Session, text: &str) -> Result<String, Fail> {
-    look_at(call_of(alloc, text)?, |call| {
-        in_words(alloc, session.said(call))
-    })
+    let call = call_of(alloc, text)?;
+    let answer = in_words(alloc, session.said(&call));
+    drop(call);
+    answer
 }
 
 /// Asks for a call like this one.
 fn ask_like(alloc: Global, session: &mut Session, call: &Call, text: &str) -> Result<String, Fail> {
     match make(alloc, session, call) {
-        Ok(made) => look_at(made, |made| compared(alloc, made, text)),
+        Ok(made) => {
+            let answer = compared(alloc, &made, text);
+            drop(made);
+            answer
+        }
         Err(refusal) => refusal_in_words(alloc, refusal),
     }
 }
 
 /// Asks for a call.
 fn ask(alloc: Global, session: &mut Session, text: &str) -> Result<String, Fail> {
-    look_at(call_of(alloc, text)?, |call| {
-        ask_like(alloc, session, call, text)
-    })
+    let call = call_of(alloc, text)?;
+    let answer = ask_like(alloc, session, &call, text);
+    drop(call);
+    answer
 }
 
 /// Does what a line says.
@@ -325,7 +324,11 @@ fn entries_of(alloc: Global, history: &str) -> Result<Vec<Entry>, Fail> {
 /// What `replay` answers, in words: what the session holds, or where it stopped and why.
 fn replayed(alloc: Global, entries: &[Entry]) -> Result<String, Fail> {
     match replay(alloc, entries) {
-        Ok(session) => look_at(session, |session| held_in_words(alloc, session)),
+        Ok(session) => {
+            let held = held_in_words(alloc, &session);
+            drop(session);
+            held
+        }
         Err((before, refusal)) => {
             let why = refusal_in_words(alloc, refusal)?;
             Ok(format!(in alloc; "{before} {why}")?)

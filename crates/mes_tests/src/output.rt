@@ -23,7 +23,7 @@ impl Write for Failing {
 /// Whether an output hands on an error of this kind, and counts as closed or not.
 fn hands_on(kind: ErrorKind, closed: bool) -> bool {
     let mut output = Output::new(FromStd::new(Failing { kind }));
-    match output.put(b"x") {
+    match &output.put(b"x") {
         Ok(_) => false,
         Err(error) => error.kind() == kind && output.is_closed() == closed,
     }

@@ -1,5 +1,6 @@
 //! What `check`, `show` and `convert` do over devices in memory that give and take a few bytes at a time, or fail.
 
+use crate::support::heartbeats;
 use mes_frame::{Limit, MemorySink, MemorySource, MemoryStop};
 use mes_run::{Detail, Ended, READS_MOST, convert, finish, follow};
 use mes_stream::Framing;
@@ -10,8 +11,11 @@ use std::test::Fail;
 /// A record of 20 bytes, 23 with its size line.
 const HEARTBEAT: &str = "20\n{\"type\":\"HEARTBEAT\"}";
 
-/// What `show` prints of it, whose second line `check` prints.
+/// What `show` prints of it.
 const LINES: &str = "1 HEARTBEAT\nevents 1 bytes 23\n";
+
+/// What `check` prints of it.
+const COUNTS: &str = "events 1 bytes 23\n";
 
 /// How many bytes the writer takes by one call.
 const WRITE_SIZE: usize = 5;
@@ -34,28 +38,50 @@ fn followed(
     )
 }
 
+/// Asserts what is printed of what the source gives, and how that ends.
+fn expect_printed<R: Abort + AllocGlobal>(
+    rt: &R,
+    detail: Detail,
+    source: &mut MemorySource<'_>,
+    out: &mut MemorySink,
+    lines: &[u8],
+    ended: Ended,
+) {
+    let told = followed(rt.alloc(), detail, source, out);
+    assert_eq!(rt; (out.bytes(), told), (lines, ended));
+}
+
+/// The same with a writer that does not stop.
+fn expect_status<R: Abort + AllocGlobal>(
+    rt: &R,
+    detail: Detail,
+    source: &mut MemorySource<'_>,
+    lines: &str,
+    status: u8,
+) {
+    let mut out = MemorySink::new(rt.alloc(), WRITE_SIZE);
+    let ended = Ended::Status(status);
+    expect_printed(rt, detail, source, &mut out, lines.as_bytes(), ended);
+}
+
 /// Follows the record, given so many bytes by one read, and asserts what is printed.
 fn expect_lines<R: Abort + AllocGlobal>(rt: &R, detail: Detail, lines: &str, size: usize) {
     let mut source = MemorySource::new(HEARTBEAT.as_bytes(), size);
-    let mut out = MemorySink::new(rt.alloc(), WRITE_SIZE);
-    let ended = followed(rt.alloc(), detail, &mut source, &mut out);
-    assert_eq!(rt; (out.bytes(), ended), (lines.as_bytes(), Ended::Status(0)));
+    expect_status(rt, detail, &mut source, lines, 0);
 }
 
 #[test]
 fn records_are_read_by_pieces(rt: HostRuntime) {
     for size in [1, 7, 4096] {
         expect_lines(&rt, Detail::Lines, LINES, size);
-        expect_lines(&rt, Detail::Counts, &LINES[12..], size);
+        expect_lines(&rt, Detail::Counts, COUNTS, size);
     }
 }
 
 /// Follows the record, whose reader fails behind so many bytes, and asserts what is printed.
 fn expect_failed_read<R: Abort + AllocGlobal>(rt: &R, detail: Detail, taken: usize, lines: &str) {
     let mut source = MemorySource::failing_after(HEARTBEAT.as_bytes(), 1, taken);
-    let mut out = MemorySink::new(rt.alloc(), WRITE_SIZE);
-    let ended = followed(rt.alloc(), detail, &mut source, &mut out);
-    assert_eq!(rt; (out.bytes(), ended), (lines.as_bytes(), Ended::Status(1)));
+    expect_status(rt, detail, &mut source, lines, 1);
 }
 
 // The reader fails behind each front of the record, and behind all of it.
@@ -70,132 +96,151 @@ fn a_reader_that_fails_is_told(rt: HostRuntime) -> Result<(), Fail> {
     Ok(())
 }
 
-/// Follows the record, whose writer stops behind so many bytes, and asserts that those are written.
-fn expect_cut<R: Abort + AllocGlobal>(
-    rt: &R,
-    detail: Detail,
-    lines: &str,
-    good: usize,
-    stop: MemoryStop,
-) {
+/// Follows the record, whose writer stops so behind this front of what is printed, and asserts that the front is written.
+fn expect_cut<R: Abort + AllocGlobal>(rt: &R, detail: Detail, front: &[u8], stop: MemoryStop) {
+    let good = front.len();
     let mut source = MemorySource::new(HEARTBEAT.as_bytes(), 7);
     let mut out = MemorySink::stopping_after(rt.alloc(), WRITE_SIZE, good, stop);
-    let ended = followed(rt.alloc(), detail, &mut source, &mut out);
-    assert_eq!(rt;
-        (Some(out.bytes()), ended),
-        (
-            lines.as_bytes().get(..good),
-            Ended::OutputFailed(good as u64)
-        )
-    );
+    let ended = Ended::OutputFailed(good as u64);
+    expect_printed(rt, detail, &mut source, &mut out, front, ended);
 }
 
-// The writer fails, or takes no more, behind each front of the lines.
+/// The writer fails, or takes no more, behind each front of the lines.
+fn expect_cuts<R: Abort + AllocGlobal>(rt: &R, detail: Detail, lines: &[u8]) {
+    for good in 0..lines.len() {
+        let (front, _) = lines.split_at(good);
+        expect_cut(rt, detail, front, MemoryStop::Fails);
+        expect_cut(rt, detail, front, MemoryStop::TakesNone);
+    }
+}
+
 #[test]
 fn lines_are_cut_where_the_writer_stops(rt: HostRuntime) {
-    for good in 0..LINES.len() {
-        expect_cut(&rt, Detail::Lines, LINES, good, MemoryStop::Fails);
-        expect_cut(&rt, Detail::Lines, LINES, good, MemoryStop::TakesNone);
-    }
-    for good in 0..LINES.len() - 12 {
-        expect_cut(&rt, Detail::Counts, &LINES[12..], good, MemoryStop::Fails);
-        expect_cut(
-            &rt,
-            Detail::Counts,
-            &LINES[12..],
-            good,
-            MemoryStop::TakesNone,
-        );
-    }
+    expect_cuts(&rt, Detail::Lines, LINES.as_bytes());
+    expect_cuts(&rt, Detail::Counts, COUNTS.as_bytes());
+}
+
+/// Follows the record by at most so many reads.
+fn followed_by(
+    alloc: Global,
+    max_reads: u32,
+    source: &mut MemorySource<'_>,
+    out: &mut MemorySink,
+) -> Ended {
+    follow(
+        alloc,
+        Detail::Lines,
+        Framing::Plain,
+        Limit::USUAL,
+        max_reads as u64,
+        source,
+        out,
+    )
+}
+
+/// Asserts what is printed where so many reads are spent, and that they were made.
+fn expect_spent_by<R: Abort + AllocGlobal>(
+    rt: &R,
+    max_reads: u32,
+    out: &mut MemorySink,
+    lines: &str,
+) {
+    let mut source = MemorySource::new(HEARTBEAT.as_bytes(), 1);
+    let ended = followed_by(rt.alloc(), max_reads, &mut source, out);
+    assert_eq!(rt; (out.bytes(), ended), (lines.as_bytes(), Ended::Status(1)));
+    assert_eq!(rt; source.counts().calls, max_reads as u64);
+}
+
+/// The same with a new writer.
+fn expect_spent<R: Abort + AllocGlobal>(rt: &R, max_reads: u32, lines: &str) {
+    let mut out = MemorySink::new(rt.alloc(), WRITE_SIZE);
+    expect_spent_by(rt, max_reads, &mut out, lines);
 }
 
 // As many reads as allowed were made, and another was needed; the events of those are printed.
 #[test]
 fn spent_reads_are_told(rt: HostRuntime) -> Result<(), Fail> {
     for max_reads in 0..24 {
-        let mut source = MemorySource::new(HEARTBEAT.as_bytes(), 1);
-        let mut out = MemorySink::new(rt.alloc(), WRITE_SIZE);
-        let limit = Limit::USUAL;
-        let framing = Framing::Plain;
-        let ended = follow(
-            rt.alloc(),
-            Detail::Lines,
-            framing,
-            limit,
-            max_reads,
-            &mut source,
-            &mut out,
-        );
         let shown = if max_reads == 23 { "1 HEARTBEAT\n" } else { "" };
         let lines = format!(in rt.alloc(); "{shown}fault F15 ReadsSpent after {max_reads}\n")?;
-        assert_eq!(rt; (out.bytes(), ended), (lines.as_bytes(), Ended::Status(1)));
-        assert_eq!(rt; source.counts().calls, max_reads);
+        expect_spent(&rt, max_reads, lines.as_str());
     }
     Ok(())
+}
+
+/// How the following of a stream ended, how often its reader was called, and how often its writer.
+type Calls = (Ended, u64, u64);
+
+/// Follows the stream, whose reader gives all it is asked for.
+fn calls_of(alloc: Global, detail: Detail, bytes: &[u8], mut out: MemorySink) -> Calls {
+    let mut source = MemorySource::new(bytes, usize::MAX);
+    let ended = followed(alloc, detail, &mut source, &mut out);
+    (ended, source.counts().calls, out.counts().calls)
+}
+
+/// How often the reader of a stream is called.
+fn reads_of_check(alloc: Global, bytes: &[u8]) -> (Ended, u64) {
+    let out = MemorySink::new(alloc, usize::MAX);
+    let (ended, reads, _) = calls_of(alloc, Detail::Counts, bytes, out);
+    (ended, reads)
 }
 
 // A device that gives all it is asked for is asked once for each 512 bytes, and once more for the end.
 #[test]
 fn a_stream_is_followed_by_few_reads(rt: HostRuntime) -> Result<(), Fail> {
-    let mut bytes = Vec::new(rt.alloc());
-    for _ in 0..100 {
-        let mut source = MemorySource::new(bytes.as_slice(), usize::MAX);
-        let mut out = MemorySink::new(rt.alloc(), usize::MAX);
-        let ended = followed(rt.alloc(), Detail::Counts, &mut source, &mut out);
-        assert_eq!(rt; ended, Ended::Status(0));
-        assert_eq!(rt; source.counts().calls, bytes.len().div_ceil(512) as u64 + 1);
-        bytes.extend_from_slice(HEARTBEAT.as_bytes())?;
+    for records in 0..100 {
+        let bytes = heartbeats(rt.alloc(), records)?;
+        let reads = bytes.len().div_ceil(512) as u64 + 1;
+        let told = reads_of_check(rt.alloc(), bytes.as_slice());
+        assert_eq!(rt; told, (Ended::Status(0), reads));
     }
     Ok(())
+}
+
+/// How the following of a stream ends whose writer fails behind three bytes, and how often its reader is called.
+fn reads_before_failure(alloc: Global, bytes: &[u8]) -> (Ended, u64) {
+    let out = MemorySink::stopping_after(alloc, WRITE_SIZE, 3, MemoryStop::Fails);
+    let (ended, reads, _) = calls_of(alloc, Detail::Lines, bytes, out);
+    (ended, reads)
 }
 
 // Behind a read whose lines the writer did not take no more is read.
 #[test]
 fn nothing_is_read_behind_a_failed_output(rt: HostRuntime) -> Result<(), Fail> {
-    let mut bytes = Vec::new(rt.alloc());
-    for _ in 0..100 {
-        bytes.extend_from_slice(HEARTBEAT.as_bytes())?;
-    }
-    let mut source = MemorySource::new(bytes.as_slice(), usize::MAX);
-    let mut out = MemorySink::stopping_after(rt.alloc(), WRITE_SIZE, 3, MemoryStop::Fails);
-    let ended = followed(rt.alloc(), Detail::Lines, &mut source, &mut out);
-    assert_eq!(rt; ended, Ended::OutputFailed(3));
-    assert_eq!(rt; source.counts().calls, 1);
+    let bytes = heartbeats(rt.alloc(), 100)?;
+    let told = reads_before_failure(rt.alloc(), bytes.as_slice());
+    drop(bytes);
+    assert_eq!(rt; told, (Ended::OutputFailed(3), 1));
     Ok(())
 }
 
-/// Shows the stream to a writer that takes all it is given, and answers how often that was called.
-fn writes_of_show(alloc: Global, bytes: &[u8]) -> u64 {
-    let mut source = MemorySource::new(bytes, usize::MAX);
-    let mut out = MemorySink::new(alloc, usize::MAX);
-    let _ended = followed(alloc, Detail::Lines, &mut source, &mut out);
-    out.counts().calls
-}
-
-/// So many heartbeats.
-fn heartbeats(alloc: Global, count: usize) -> Result<Vec<u8>, Fail> {
-    let mut bytes = Vec::new(alloc);
-    for _ in 0..count {
-        bytes.extend_from_slice(HEARTBEAT.as_bytes())?;
-    }
-    Ok(bytes)
+/// Shows so many records to a writer that takes all it is given, and answers how often that was called.
+fn writes_of_show(alloc: Global, records: usize) -> Result<u64, Fail> {
+    let bytes = heartbeats(alloc, records)?;
+    let out = MemorySink::new(alloc, usize::MAX);
+    let (_, _, writes) = calls_of(alloc, Detail::Lines, bytes.as_slice(), out);
+    Ok(writes)
 }
 
 // The lines of a read's events go out by one write: 22 of them end in the first 512 bytes. The last line is a write of its own.
 #[test]
 fn lines_go_out_by_few_writes(rt: HostRuntime) -> Result<(), Fail> {
-    for (records, writes) in [(0, 1), (1, 2), (22, 2), (23, 3), (45, 4)] {
-        let bytes = heartbeats(rt.alloc(), records)?;
-        assert_eq!(rt; writes_of_show(rt.alloc(), bytes.as_slice()), writes);
+    for &(records, writes) in &[(0, 1), (1, 2), (22, 2), (23, 3), (45, 4)] {
+        assert_eq!(rt; writes_of_show(rt.alloc(), records)?, writes);
     }
     Ok(())
 }
 
-/// Ends a run whose output failed behind 7 bytes, and asserts what is told.
+/// Ends a run whose output failed behind 7 bytes, and asserts what this writer is told.
+fn expect_told_by<R: Abort>(rt: &R, closed: bool, err: &mut MemorySink, line: &str) {
+    let status = finish(Ended::OutputFailed(7), closed, err);
+    assert_eq!(rt; (err.bytes(), status), (line.as_bytes(), 1));
+}
+
+/// The same with a new writer.
 fn expect_told<R: Abort + AllocGlobal>(rt: &R, closed: bool, line: &str) {
     let mut err = MemorySink::new(rt.alloc(), WRITE_SIZE);
-    let status = finish(Ended::OutputFailed(7), closed, &mut err);
-    assert_eq!(rt; (err.bytes(), status), (line.as_bytes(), 1));
+    expect_told_by(rt, closed, &mut err, line);
 }
 
 #[test]
@@ -204,34 +249,52 @@ fn an_output_that_failed_is_told(rt: HostRuntime) {
     expect_told(&rt, true, "");
 }
 
-/// Converts the record into plain RecordIO, whose writer stops behind so many bytes, and asserts what is written and told.
-fn expect_stopped<R: Abort + AllocGlobal>(rt: &R, good: usize, stop: MemoryStop, line: &str) {
+/// Converts the record into plain RecordIO, and answers the status.
+fn converted(alloc: Global, out: &mut MemorySink, err: &mut MemorySink) -> u8 {
     let mut source = MemorySource::new(HEARTBEAT.as_bytes(), 7);
-    let mut out = MemorySink::stopping_after(rt.alloc(), WRITE_SIZE, good, stop);
-    let mut err = MemorySink::new(rt.alloc(), WRITE_SIZE);
-    let status = convert(
-        rt.alloc(),
+    convert(
+        alloc,
         Framing::Plain,
         Limit::USUAL,
         None,
         &mut source,
-        &mut out,
-        &mut err,
-    );
-    assert_eq!(rt;
-        (Some(out.bytes()), status),
-        (HEARTBEAT.as_bytes().get(..good), 1)
-    );
+        out,
+        err,
+    )
+}
+
+/// Converts the record, and asserts what is written and told.
+fn expect_stopped_by<R: Abort + AllocGlobal>(
+    rt: &R,
+    out: &mut MemorySink,
+    err: &mut MemorySink,
+    front: &[u8],
+    line: &str,
+) {
+    let status = converted(rt.alloc(), out, err);
+    assert_eq!(rt; (out.bytes(), status), (front, 1));
     assert_eq!(rt; err.bytes(), line.as_bytes());
 }
 
-// The writer fails, or takes no more, behind each front of the record.
-#[test]
-fn a_writer_that_stops_is_told(rt: HostRuntime) -> Result<(), Fail> {
-    for good in 0..HEARTBEAT.len() {
+/// The same with a writer that stops so behind this front of the record.
+fn expect_stopped<R: Abort + AllocGlobal>(rt: &R, front: &[u8], stop: MemoryStop, line: &str) {
+    let mut out = MemorySink::stopping_after(rt.alloc(), WRITE_SIZE, front.len(), stop);
+    let mut err = MemorySink::new(rt.alloc(), WRITE_SIZE);
+    expect_stopped_by(rt, &mut out, &mut err, front, line);
+}
+
+/// The writer fails, or takes no more, behind each front of the record.
+fn expect_stops<R: Abort + AllocGlobal>(rt: &R, record: &[u8]) -> Result<(), Fail> {
+    for good in 0..record.len() {
+        let (front, _) = record.split_at(good);
         let line = format!(in rt.alloc(); "write failed after {good}\n")?;
-        expect_stopped(&rt, good, MemoryStop::Fails, line.as_str());
-        expect_stopped(&rt, good, MemoryStop::TakesNone, line.as_str());
+        expect_stopped(rt, front, MemoryStop::Fails, line.as_str());
+        expect_stopped(rt, front, MemoryStop::TakesNone, line.as_str());
     }
     Ok(())
+}
+
+#[test]
+fn a_writer_that_stops_is_told(rt: HostRuntime) -> Result<(), Fail> {
+    expect_stops(&rt, HEARTBEAT.as_bytes())
 }

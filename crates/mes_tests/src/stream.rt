@@ -1,10 +1,10 @@
 //! Plain RecordIO with few reads allowed, and chunked streams in pieces and from a device.
 
-use crate::support::{HEARTBEAT, heartbeat_by_bytes};
-use mes_frame::{FrameFault, Limit, MemorySource};
+use crate::support::*;
+use mes_frame::{Limit, MemorySource};
 use mes_msg::Event;
-use mes_stream::{Decoder, EventReader, Fault, Out, read_plain};
-use std::alloc::Global;
+use mes_stream::{Decoder, EventReader, Fault, Framing, Out, Report, Stop};
+use std::alloc::{AllocGlobal, Global};
 use std::process::Abort;
 use std::test::Fail;
 
@@ -15,40 +15,43 @@ mod send;
 
 const ERROR: &[u8] = b"40\n{\"type\":\"ERROR\",\"error\":{\"message\":\"m\"}}";
 
+/// The reading of `ERROR` was good, and that is the event.
+fn expect_error<R: Abort>(
+    rt: &R,
+    end: &Result<Report, Stop>,
+    events: &[Event],
+) -> Result<(), Fail> {
+    match end {
+        Ok(report) => assert_eq!(rt; (report.used, report.rest.is_empty()), (43, true)),
+        Err(_) => Err("the stream is whole")?,
+    }
+    assert_eq!(rt; events.len(), 1);
+    match events.first() {
+        Some(Event::Error(body)) => assert_eq!(rt; body.message.as_str(), "m"),
+        _ => Err("the event is an error")?,
+    }
+    Ok(())
+}
+
+/// By as many reads as it takes `ERROR` is read.
+fn expect_whole<R: Abort + AllocGlobal>(rt: &R) -> Result<(), Fail> {
+    let mut events = Vec::new(rt.alloc());
+    let mut source = MemorySource::new(ERROR, 1);
+    let end = read_into(rt.alloc(), Framing::Plain, &mut source, 44, &mut events);
+    let told = expect_error(rt, &end, events.as_slice());
+    drop(end);
+    drop(events);
+    told
+}
+
 // By one byte a read, the 43 bytes take 43 reads, and their end one more.
 #[test]
 fn reads_are_counted(rt: HostRuntime) -> Result<(), Fail> {
     for max_reads in 0..44 {
-        let mut events = Vec::new(rt.alloc());
-        let mut source = MemorySource::new(ERROR, 1);
-        match read_plain(
-            rt.alloc(),
-            &mut source,
-            Limit::USUAL,
-            max_reads,
-            &mut events,
-        ) {
-            Ok(_) => Err("the end was not asked for")?,
-            Err(stop) => {
-                assert!(rt; matches!(stop.fault, Fault::ReadsSpent), "{max_reads}");
-                assert_eq!(rt; stop.used, max_reads);
-            }
-        }
-        assert_eq!(rt; source.counts().calls, max_reads);
+        let spent = read_by_bytes(rt.alloc(), Framing::Plain, ERROR, max_reads);
+        assert_eq!(rt; spent, ("F15 ReadsSpent", max_reads, max_reads));
     }
-    let mut events = Vec::new(rt.alloc());
-    let mut source = MemorySource::new(ERROR, 1);
-    let Ok(report) = read_plain(rt.alloc(), &mut source, Limit::USUAL, 44, &mut events) else {
-        return Err("the stream is whole")?;
-    };
-    assert_eq!(rt; report.used, 43);
-    assert!(rt; report.rest.is_empty());
-    assert_eq!(rt; events.len(), 1);
-    match &events[0] {
-        Event::Error(body) => assert_eq!(rt; body.message.as_str(), "m"),
-        _ => Err("the event is an error")?,
-    }
-    Ok(())
+    expect_whole(&rt)
 }
 
 // Two records and the begin of a third, in one chunk that isn't whole.
@@ -59,45 +62,50 @@ fn decoder(alloc: Global) -> Decoder {
     Decoder::new(alloc, Limit::USUAL)
 }
 
-// A letter for an answer: E for a heartbeat, o for another event, C for the end, M for more, and a digit or another letter for a fault.
-fn letter(out: &Out<Event>) -> u8 {
+/// The name of an answer: that of a fault has its number too.
+fn name_of(out: &Out<Event>) -> &'static str {
     match out {
-        Out::More => b'M',
-        Out::Event(Event::Heartbeat) => b'E',
-        Out::Event(_) => b'o',
-        Out::End => b'C',
-        Out::Fault(Fault::Frame(FrameFault::BadChunkLine)) => b'1',
-        Out::Fault(Fault::Frame(FrameFault::ChunkLineTooLong)) => b'2',
-        Out::Fault(Fault::Frame(FrameFault::ChunkTooLarge)) => b'3',
-        Out::Fault(Fault::Frame(FrameFault::BadChunkEnd)) => b'4',
-        Out::Fault(Fault::Frame(FrameFault::TrailersTooLong)) => b'5',
-        Out::Fault(Fault::EndsInsideChunks) => b'6',
-        Out::Fault(Fault::Frame(FrameFault::BadSizeLine)) => b'7',
-        Out::Fault(Fault::Frame(FrameFault::SizeLineTooLong)) => b'8',
-        Out::Fault(Fault::Frame(FrameFault::RecordTooLarge)) => b'9',
-        Out::Fault(Fault::EndsInsideRecord) => b'a',
-        Out::Fault(Fault::Text { .. }) => b'b',
-        Out::Fault(Fault::Field { .. }) => b'c',
-        Out::Fault(Fault::NoMemory) => b'd',
-        Out::Fault(Fault::Read) => b'e',
-        Out::Fault(Fault::ReadsSpent) => b'f',
-        Out::Fault(Fault::BadEntry { .. }) => b'g',
+        Out::More => "more",
+        Out::Event(Event::Heartbeat) => "HEARTBEAT",
+        Out::Event(_) => "another event",
+        Out::End => "end",
+        Out::Fault(fault) => fault.title(),
     }
 }
 
-// The letter of the answer to a piece, and how many bytes it used.
-fn told(decoder: &mut Decoder, piece: &[u8]) -> (u8, usize) {
-    let step = decoder.next(piece);
-    (letter(&step.out), step.used)
+/// The name of what the end of the input is told as.
+fn name_of_end(end: &Result<(), Fault>) -> &'static str {
+    match end {
+        Ok(()) => "end",
+        Err(fault) => fault.title(),
+    }
 }
 
-// Takes a piece until it is used up; adds all answers but `More`, each with the bytes used then. Answers how many were used,
-// or nothing behind the end or a fault.
+/// The name of the answer to a piece, and how many bytes it used.
+fn told(decoder: &mut Decoder, piece: &[u8]) -> (&'static str, usize) {
+    let step = decoder.next(piece);
+    (name_of(&step.out), step.used)
+}
+
+/// The name of the answer to the end of the input.
+fn told_at_end(decoder: &Decoder) -> &'static str {
+    name_of_end(&decoder.finish())
+}
+
+/// Adds an answer and how many bytes were used then.
+fn push_answer(alloc: Global, found: &mut String, name: &str, used: usize) -> Result<(), Fail> {
+    let answer = format!(in alloc; "{name} {used};")?;
+    Ok(found.push_str(answer.as_str())?)
+}
+
+/// Takes a piece until it is used up; adds all answers but `more`. Answers how many bytes were used, or nothing behind the end or a
+/// fault.
 fn take_piece(
+    alloc: Global,
     decoder: &mut Decoder,
     piece: &[u8],
     before: usize,
-    found: &mut Vec<(u8, usize)>,
+    found: &mut String,
 ) -> Result<Option<usize>, Fail> {
     let mut rest = piece;
     let mut total = before;
@@ -108,178 +116,198 @@ fn take_piece(
         let (answer, used) = told(decoder, rest);
         total = total.saturating_add(used);
         rest = rest.get(used..).ok_or("no more is used than there is")?;
-        match answer {
-            b'M' => {}
-            b'E' => found.push((b'E', total))?,
-            last => {
-                found.push((last, total))?;
-                return Ok(None);
-            }
+        if answer != "more" {
+            push_answer(alloc, found, answer, total)?;
+        }
+        if answer != "more" && answer != "HEARTBEAT" {
+            return Ok(None);
         }
     }
     Ok(Some(total))
 }
 
-// The letter of what the end of the input is told as, behind the last piece: K where it is well.
-fn letter_of_end(decoder: &Decoder) -> u8 {
-    match decoder.finish() {
-        Ok(()) => b'K',
-        Err(fault) => letter(&Out::Fault(fault)),
-    }
+/// Adds `more` and the answer to the end of the input, behind pieces that brought neither an end nor a fault.
+fn take_end(alloc: Global, decoder: &Decoder, used: usize, found: &mut String) -> Result<(), Fail> {
+    push_answer(alloc, found, "more", used)?;
+    push_answer(alloc, found, told_at_end(decoder), used)
 }
 
-// In a cut into two pieces the answers are these, and where no end and no fault came, behind them M and the answer to the end of the
-// input, with all that is used.
-fn expect_cut(
-    rt: &impl Abort,
+/// Takes two pieces, one behind the other, and the end of the input.
+fn take_two(
     alloc: Global,
-    stream: &[u8],
-    cut: usize,
-    expected: &[(u8, usize)],
+    decoder: &mut Decoder,
+    front: &[u8],
+    rest: &[u8],
+    found: &mut String,
 ) -> Result<(), Fail> {
-    if cut > stream.len() {
-        return Err("a cut lies in the stream")?;
-    }
-    let front = &stream[..cut];
-    let rest = &stream[cut..];
-    let mut found = Vec::new(alloc);
-    let mut decoder = decoder(alloc);
-    let mut total = take_piece(&mut decoder, front, 0, &mut found)?;
+    let mut total = take_piece(alloc, decoder, front, 0, found)?;
     if let Some(before) = total {
-        total = take_piece(&mut decoder, rest, before, &mut found)?;
+        total = take_piece(alloc, decoder, rest, before, found)?;
     }
-    if let Some(used) = total {
-        found.push((b'M', used))?;
-        found.push((letter_of_end(&decoder), used))?;
+    match total {
+        Some(used) => take_end(alloc, decoder, used, found),
+        None => Ok(()),
     }
-    assert_eq!(rt; found.as_slice(), expected, "{cut}");
-    Ok(())
 }
 
-// A byte a piece they are these too.
-fn expect_bytes(
-    rt: &impl Abort,
+/// Takes a stream, a byte a piece, and the end of the input.
+fn take_bytes(
     alloc: Global,
+    decoder: &mut Decoder,
     stream: &[u8],
-    expected: &[(u8, usize)],
+    found: &mut String,
 ) -> Result<(), Fail> {
-    let mut found = Vec::new(alloc);
-    let mut decoder = decoder(alloc);
-    let mut total = Some(0);
+    let mut total = 0;
     for byte in stream {
-        if let Some(before) = total {
-            total = take_piece(&mut decoder, &[*byte], before, &mut found)?;
+        match take_piece(alloc, decoder, &[*byte], total, found)? {
+            Some(used) => total = used,
+            None => return Ok(()),
         }
     }
-    if let Some(used) = total {
-        found.push((b'M', used))?;
-        found.push((letter_of_end(&decoder), used))?;
+    take_end(alloc, decoder, total, found)
+}
+
+/// The answers to a stream in two pieces.
+fn found_in_two(alloc: Global, front: &[u8], rest: &[u8]) -> Result<String, Fail> {
+    let mut found = String::new(alloc);
+    let mut decoder = decoder(alloc);
+    let taken = take_two(alloc, &mut decoder, front, rest, &mut found);
+    drop(decoder);
+    taken?;
+    Ok(found)
+}
+
+/// The answers to a stream, a byte a piece.
+fn found_in_bytes(alloc: Global, stream: &[u8]) -> Result<String, Fail> {
+    let mut found = String::new(alloc);
+    let mut decoder = decoder(alloc);
+    let taken = take_bytes(alloc, &mut decoder, stream, &mut found);
+    drop(decoder);
+    taken?;
+    Ok(found)
+}
+
+/// In every cut into two pieces, and a byte a piece, the answers are these.
+fn expect<R: Abort + AllocGlobal>(rt: &R, stream: &[u8], answers: &str) -> Result<(), Fail> {
+    for cut in 0..stream.len() {
+        let (front, rest) = stream.split_at(cut);
+        let found = found_in_two(rt.alloc(), front, rest)?;
+        assert_eq!(rt; found.as_str(), answers, "{cut}");
     }
-    assert_eq!(rt; found.as_slice(), expected, "by bytes");
+    let found = found_in_bytes(rt.alloc(), stream)?;
+    assert_eq!(rt; found.as_str(), answers, "by bytes");
     Ok(())
 }
 
-// In every cut into two pieces, and a byte a piece, the answers are these.
-fn expect(
-    rt: &impl Abort,
-    alloc: Global,
-    stream: &[u8],
-    expected: &[(u8, usize)],
-) -> Result<(), Fail> {
-    for cut in 0..stream.len() {
-        expect_cut(rt, alloc, stream, cut, expected)?;
-    }
-    expect_bytes(rt, alloc, stream, expected)
+/// The same of a row.
+fn expect_row<R: Abort + AllocGlobal>(rt: &R, row: &str) -> Result<(), Fail> {
+    let (text, answers) = row_of(row)?;
+    let stream = bytes_of(rt.alloc(), text)?;
+    let told = expect(rt, stream.as_slice(), answers);
+    drop(stream);
+    told
 }
 
-// A chunk line that is too long, and trailers that are.
-fn long_line(alloc: Global) -> Result<Vec<u8>, Fail> {
-    let mut line = Vec::new(alloc);
-    line.extend_from_slice(b"1;")?;
-    for _ in 0..255 {
-        line.push(b'a')?;
-    }
-    Ok(line)
-}
+/// Streams, and the answers but `more`, each with the bytes used then; where no end and no fault comes, behind them `more` and the answer
+/// to the end of the input, with all that is used.
+const STREAMS: &str =
+    r#"33|20~{"type":"HEARTBEAT"}20~{"type":"HEARTBEAT"}20~{" => HEARTBEAT 27;HEARTBEAT 50;more 55;F6 EndsInsideChunks 55;
+2|5~|0|| => F10 EndsInsideRecord 12;
+5|20~ => more 6;F6 EndsInsideChunks 6;
+0||XYZ => end 5;
+g => F1 BadChunkLine 1;
+1~ => F1 BadChunkLine 2;
+10000000000000000 => F3 ChunkTooLarge 17;
+1|2X => F4 BadChunkEnd 5;
+2|0~| => F11 Text 5;
+1|x => F7 BadSizeLine 4;
+4|2~{} => F12 Field 7;"#;
 
-fn long_trailers(alloc: Global) -> Result<Vec<u8>, Fail> {
-    let mut trailers = Vec::new(alloc);
-    trailers.extend_from_slice(b"0\r\n")?;
-    for _ in 0..4097 {
-        trailers.push(b'a')?;
-    }
-    Ok(trailers)
+/// Bytes, and so many letters behind them.
+fn with_letters(alloc: Global, front: &[u8], count: usize) -> Result<Vec<u8>, Fail> {
+    let letters = "a".repeat(alloc, count)?;
+    Ok([front, letters.as_bytes()].concat(alloc)?)
 }
 
 #[test]
 fn streams_in_every_cut(rt: HostRuntime) -> Result<(), Fail> {
-    let two_and_more = [(b'E', 27), (b'E', 50), (b'M', 55), (b'6', 55)];
-    expect(&rt, rt.alloc(), TWO_AND_MORE, &two_and_more)?;
-    expect(&rt, rt.alloc(), b"2\r\n5\n\r\n0\r\n\r\n", &[(b'a', 12)])?;
-    expect(&rt, rt.alloc(), b"5\r\n20\n", &[(b'M', 6), (b'6', 6)])?;
-    expect(&rt, rt.alloc(), b"0\r\n\r\nXYZ", &[(b'C', 5)])?;
-    expect(&rt, rt.alloc(), b"g", &[(b'1', 1)])?;
-    expect(&rt, rt.alloc(), b"1\n", &[(b'1', 2)])?;
-    expect(&rt, rt.alloc(), b"10000000000000000", &[(b'3', 17)])?;
-    expect(&rt, rt.alloc(), b"1\r\n2X", &[(b'4', 5)])?;
-    expect(&rt, rt.alloc(), &long_line(rt.alloc())?, &[(b'2', 257)])?;
-    let stream = heartbeat_by_bytes(rt.alloc())?;
-    expect(&rt, rt.alloc(), &stream, &[(b'E', 136), (b'C', 143)])?;
-    expect(&rt, rt.alloc(), b"2\r\n0\n\r\n", &[(b'b', 5)])?;
-    expect(&rt, rt.alloc(), b"1\r\nx", &[(b'7', 4)])?;
-    expect(&rt, rt.alloc(), b"4\r\n2\n{}", &[(b'c', 7)])?;
-    Ok(())
+    for row in STREAMS.lines() {
+        expect_row(&rt, row)?;
+    }
+    expect(&rt, HEARTBEAT_BY_BYTES, "HEARTBEAT 136;end 143;")?;
+    let long_line = with_letters(rt.alloc(), b"1;", 255)?;
+    expect(&rt, long_line.as_slice(), "F2 ChunkLineTooLong 257;")
 }
 
 // A record in one chunk, and the end behind it.
 #[test]
 fn one_chunk_in_every_cut(rt: HostRuntime) -> Result<(), Fail> {
-    let stream = b"17\r\n20\n{\"type\":\"HEARTBEAT\"}\r\n0\r\n\r\n";
-    expect(&rt, rt.alloc(), stream, &[(b'E', 27), (b'C', 34)])
+    expect(&rt, ONE_CHUNK, "HEARTBEAT 27;end 34;")
 }
 
 #[test]
 fn long_trailers_in_every_cut(rt: HostRuntime) -> Result<(), Fail> {
-    let trailers = long_trailers(rt.alloc())?;
+    let trailers = with_letters(rt.alloc(), b"0\r\n", 4097)?;
     assert_eq!(rt; trailers.len(), 4100);
-    expect(&rt, rt.alloc(), &trailers, &[(b'5', 4100)])
+    expect(&rt, trailers.as_slice(), "F5 TrailersTooLong 4100;")
+}
+
+/// A byte of `HEARTBEAT_BY_BYTES` is answered so, and then the input may end or not.
+fn expect_byte<R: Abort>(rt: &R, decoder: &mut Decoder, at: usize, byte: u8) {
+    let answer = match at {
+        135 => "HEARTBEAT",
+        142 => "end",
+        _ => "more",
+    };
+    assert_eq!(rt; told(decoder, &[byte]), (answer, 1), "{at}");
+    assert_eq!(rt; told_at_end(decoder) == "end", at == 142);
+}
+
+/// Each of the bytes is, and none is used behind them.
+fn expect_bytes<R: Abort>(rt: &R, decoder: &mut Decoder, stream: &[u8]) {
+    for (at, byte) in stream.iter().enumerate() {
+        expect_byte(rt, decoder, at, *byte);
+    }
+    assert_eq!(rt; told(decoder, b"more"), ("end", 0));
 }
 
 // Its 143 bytes, one by one.
 #[test]
-fn bytes_one_by_one(rt: HostRuntime) -> Result<(), Fail> {
-    let stream = heartbeat_by_bytes(rt.alloc())?;
-    assert_eq!(rt; stream.len(), 143);
+fn bytes_one_by_one(rt: HostRuntime) {
+    assert_eq!(rt; HEARTBEAT_BY_BYTES.len(), 143);
     let mut decoder = decoder(rt.alloc());
-    for (at, byte) in stream.iter().enumerate() {
-        let expected = match at {
-            135 => b'E',
-            142 => b'C',
-            _ => b'M',
-        };
-        assert_eq!(rt; told(&mut decoder, &[*byte]), (expected, 1), "{at}");
-        assert_eq!(rt; decoder.finish().is_ok(), at == 142);
-    }
-    assert_eq!(rt; told(&mut decoder, b"more"), (b'C', 0));
-    Ok(())
+    expect_bytes(&rt, &mut decoder, HEARTBEAT_BY_BYTES);
+}
+
+fn expect_two_records<R: Abort>(rt: &R, decoder: &mut Decoder) {
+    assert_eq!(rt; told(decoder, TWO_AND_MORE), ("HEARTBEAT", 27));
+    assert_eq!(rt; told(decoder, &TWO_AND_MORE[27..]), ("HEARTBEAT", 23));
+    assert_eq!(rt; told(decoder, &TWO_AND_MORE[50..]), ("more", 5));
+    assert_eq!(rt; told_at_end(decoder), "F6 EndsInsideChunks");
 }
 
 #[test]
 fn a_piece_with_two_records(rt: HostRuntime) {
     let mut decoder = decoder(rt.alloc());
-    assert_eq!(rt; told(&mut decoder, TWO_AND_MORE), (b'E', 27));
-    assert_eq!(rt; told(&mut decoder, &TWO_AND_MORE[27..]), (b'E', 23));
-    assert_eq!(rt; told(&mut decoder, &TWO_AND_MORE[50..]), (b'M', 5));
-    assert!(rt; matches!(decoder.finish(), Err(Fault::EndsInsideChunks)));
+    expect_two_records(&rt, &mut decoder);
+}
+
+/// How many bytes are held.
+fn held(decoder: &Decoder) -> u64 {
+    decoder.held()
+}
+
+fn expect_kept_fault<R: Abort>(rt: &R, decoder: &mut Decoder) {
+    let front = told(decoder, b"20\r\n40\n{\"type\":\"ERR").0;
+    assert_eq!(rt; (front, held(decoder)), ("more", 7));
+    let fault = told(decoder, b"01234567890123456X");
+    assert_eq!(rt; (fault, held(decoder)), (("F4 BadChunkEnd", 18), 0));
+    assert_eq!(rt; told(decoder, b"0\r\n\r\n"), ("F4 BadChunkEnd", 0));
+    assert_eq!(rt; told_at_end(decoder), "F4 BadChunkEnd");
 }
 
 #[test]
 fn a_fault_is_kept_and_nothing_is_held(rt: HostRuntime) {
     let mut decoder = decoder(rt.alloc());
-    assert_eq!(rt; told(&mut decoder, b"20\r\n40\n{\"type\":\"ERR").0, b'M');
-    assert_eq!(rt; decoder.held(), 7);
-    assert_eq!(rt; told(&mut decoder, b"01234567890123456X"), (b'4', 18));
-    assert_eq!(rt; decoder.held(), 0);
-    assert_eq!(rt; told(&mut decoder, b"0\r\n\r\n"), (b'4', 0));
-    assert!(rt; matches!(decoder.finish(), Err(Fault::Frame(FrameFault::BadChunkEnd))));
+    expect_kept_fault(&rt, &mut decoder);
 }

@@ -1,5 +1,10 @@
 //! What the tests of streams ask.
+//!
+//! A text of a table stands on one line: `|` is the CR LF that ends a line, and `~` is an LF.
 
+use mes_frame::{Limit, MemorySource};
+use mes_msg::Event;
+use mes_stream::{Framing, Report, Stop, read_plain, read_stream};
 use std::alloc::Global;
 use std::test::Fail;
 
@@ -7,13 +12,100 @@ use std::test::Fail;
 pub(crate) const HEARTBEAT: &[u8] = b"20\n{\"type\":\"HEARTBEAT\"}";
 
 /// That record in chunks of one byte each, and then the last chunk: 143 bytes.
-pub(crate) fn heartbeat_by_bytes(alloc: Global) -> Result<Vec<u8>, Fail> {
-    let mut stream = Vec::new(alloc);
-    for byte in HEARTBEAT.iter() {
-        stream.extend_from_slice(b"1\r\n")?;
-        stream.push(*byte)?;
-        stream.extend_from_slice(b"\r\n")?;
-    }
-    stream.extend_from_slice(b"0\r\n\r\n")?;
+pub(crate) const HEARTBEAT_BY_BYTES: &[u8] =
+    b"1\r\n2\r\n1\r\n0\r\n1\r\n\n\r\n1\r\n{\r\n1\r\n\"\r\n1\r\nt\r\n1\r\ny\r\n1\r\np\r\n1\r\ne\r\n1\r\n\"\r\n1\r\n:\r\n1\r\n\"\r\n1\r\nH\r\n1\r\nE\r\n1\r\nA\r\n1\r\nR\r\n1\r\nT\r\n1\r\nB\r\n1\r\nE\r\n1\r\nA\r\n1\r\nT\r\n1\r\n\"\r\n1\r\n}\r\n0\r\n\r\n";
+
+/// That record in one chunk, and then the last chunk: 34 bytes.
+pub(crate) const ONE_CHUNK: &[u8] = b"17\r\n20\n{\"type\":\"HEARTBEAT\"}\r\n0\r\n\r\n";
+
+/// The chunk of that record: 29 bytes.
+const CHUNK: &[u8] = b"17\r\n20\n{\"type\":\"HEARTBEAT\"}\r\n";
+
+/// So many of those records.
+pub(crate) fn heartbeats(alloc: Global, count: usize) -> Result<Vec<u8>, Fail> {
+    Ok(HEARTBEAT.repeat(alloc, count)?)
+}
+
+/// So many of those chunks, and behind them the bytes of a text of a table.
+pub(crate) fn chunks_and(alloc: Global, count: usize, last: &str) -> Result<Vec<u8>, Fail> {
+    let mut stream = CHUNK.repeat(alloc, count)?;
+    push_text(&mut stream, last)?;
     Ok(stream)
+}
+
+/// The two sides of a row.
+pub(crate) fn row_of(line: &str) -> Result<(&str, &str), Fail> {
+    Ok(line.split_once(" => ").ok_or("a row has two sides")?)
+}
+
+/// Adds the bytes of a text of a table.
+fn push_text(bytes: &mut Vec<u8>, text: &str) -> Result<(), Fail> {
+    for byte in text.as_bytes() {
+        match *byte {
+            b'|' => bytes.extend_from_slice(b"\r\n")?,
+            b'~' => bytes.push(b'\n')?,
+            other => bytes.push(other)?,
+        }
+    }
+    Ok(())
+}
+
+/// The bytes of a text of a table.
+pub(crate) fn bytes_of(alloc: Global, text: &str) -> Result<Vec<u8>, Fail> {
+    let mut bytes = Vec::new(alloc);
+    push_text(&mut bytes, text)?;
+    Ok(bytes)
+}
+
+/// What a reading came to: how it ended, `end` or the fault, how many events there were, and the bytes used.
+pub(crate) type Came = (&'static str, usize, u64);
+
+/// Reads a stream of either framing.
+pub(crate) fn read_into(
+    alloc: Global,
+    framing: Framing,
+    source: &mut MemorySource<'_>,
+    max_reads: u64,
+    events: &mut Vec<Event>,
+) -> Result<Report, Stop> {
+    let limit = Limit::USUAL;
+    match framing {
+        Framing::Plain => read_plain(alloc, source, limit, max_reads, events),
+        Framing::Chunked => read_stream(alloc, source, limit, max_reads, events),
+    }
+}
+
+/// What a reading of so many events came to.
+fn came_of(end: &Result<Report, Stop>, events: usize) -> Came {
+    match end {
+        Ok(report) => ("end", events, report.used),
+        Err(stop) => (stop.fault.title(), events, stop.used),
+    }
+}
+
+/// What the reading of a stream comes to.
+pub(crate) fn read(
+    alloc: Global,
+    framing: Framing,
+    source: &mut MemorySource<'_>,
+    max_reads: u64,
+) -> Came {
+    let mut events = Vec::new(alloc);
+    let end = read_into(alloc, framing, source, max_reads, &mut events);
+    let came = came_of(&end, events.len());
+    drop(end);
+    drop(events);
+    came
+}
+
+/// How a reading ends that is given a byte by each of at most so many reads, the bytes used, and how often the device was called.
+pub(crate) fn read_by_bytes(
+    alloc: Global,
+    framing: Framing,
+    bytes: &[u8],
+    max_reads: u64,
+) -> (&'static str, u64, u64) {
+    let mut source = MemorySource::new(bytes, 1);
+    let (end, _, used) = read(alloc, framing, &mut source, max_reads);
+    (end, used, source.counts().calls)
 }

@@ -7,117 +7,86 @@ use mes_part::{FieldWhy, Path, Step};
 use mes_stream::{Fault, count_line, fault_line};
 use std::process::Abort;
 
-fn expect_line(rt: &impl Abort, fault: &Fault, used: u64, expected: &str) {
+fn expect_line<R: Abort>(rt: &R, fault: Fault, used: u64, expected: &str) {
     let mut line = ArrayString::new();
-    fault_line(fault, used, &mut line);
+    fault_line(&fault, used, &mut line);
+    drop(fault);
     assert_eq!(rt; line.as_str(), expected);
 }
 
-fn expect_field(
-    rt: &impl Abort,
+/// The line of a fault of the framing, behind five bytes.
+fn expect_framing<R: Abort>(rt: &R, fault: FrameFault, expected: &str) {
+    expect_line(rt, Fault::Frame(fault), 5, expected);
+}
+
+/// The line of a fault of the first record's text.
+fn expect_text<R: Abort>(rt: &R, byte: u64, why: Why, used: u64, expected: &str) {
+    let fault = Fault::Text {
+        at_record: 1,
+        byte,
+        why,
+    };
+    expect_line(rt, fault, used, expected);
+}
+
+fn expect_field<R: Abort>(
+    rt: &R,
     at_record: u64,
     path: Path,
     why: FieldWhy,
     used: u64,
     expected: &str,
 ) {
-    expect_line(
-        rt,
-        &Fault::Field {
-            at_record,
-            path,
-            why,
-        },
-        used,
-        expected,
-    );
+    let fault = Fault::Field {
+        at_record,
+        path,
+        why,
+    };
+    expect_line(rt, fault, used, expected);
 }
 
 #[test]
 fn framing_faults(rt: HostRuntime) {
-    let faults = [
-        (FrameFault::BadChunkLine, "fault F1 BadChunkLine after 5"),
-        (
-            FrameFault::ChunkLineTooLong,
-            "fault F2 ChunkLineTooLong after 5",
-        ),
-        (FrameFault::ChunkTooLarge, "fault F3 ChunkTooLarge after 5"),
-        (FrameFault::BadChunkEnd, "fault F4 BadChunkEnd after 5"),
-        (
-            FrameFault::TrailersTooLong,
-            "fault F5 TrailersTooLong after 5",
-        ),
-        (FrameFault::BadSizeLine, "fault F7 BadSizeLine after 5"),
-        (
-            FrameFault::SizeLineTooLong,
-            "fault F8 SizeLineTooLong after 5",
-        ),
-        (
-            FrameFault::RecordTooLarge,
-            "fault F9 RecordTooLarge after 5",
-        ),
-    ];
-    for (fault, expected) in faults {
-        expect_line(&rt, &Fault::Frame(fault), 5, expected);
-    }
+    use FrameFault::*;
+    expect_framing(&rt, BadChunkLine, "fault F1 BadChunkLine after 5");
+    expect_framing(&rt, ChunkLineTooLong, "fault F2 ChunkLineTooLong after 5");
+    expect_framing(&rt, ChunkTooLarge, "fault F3 ChunkTooLarge after 5");
+    expect_framing(&rt, BadChunkEnd, "fault F4 BadChunkEnd after 5");
+    expect_framing(&rt, TrailersTooLong, "fault F5 TrailersTooLong after 5");
+    expect_framing(&rt, BadSizeLine, "fault F7 BadSizeLine after 5");
+    expect_framing(&rt, SizeLineTooLong, "fault F8 SizeLineTooLong after 5");
+    expect_framing(&rt, RecordTooLarge, "fault F9 RecordTooLarge after 5");
+}
+
+/// The line of a fault behind twelve bytes.
+fn expect_twelve<R: Abort>(rt: &R, fault: Fault, expected: &str) {
+    expect_line(rt, fault, 12, expected);
 }
 
 #[test]
 fn ends_and_device_faults(rt: HostRuntime) {
-    let faults = [
-        (
-            Fault::EndsInsideChunks,
-            "fault F6 EndsInsideChunks after 12",
-        ),
-        (
-            Fault::EndsInsideRecord,
-            "fault F10 EndsInsideRecord after 12",
-        ),
-        (Fault::NoMemory, "fault F13 NoMemory after 12"),
-        (Fault::Read, "fault F14 Read after 12"),
-        (Fault::ReadsSpent, "fault F15 ReadsSpent after 12"),
-    ];
-    for (fault, expected) in faults {
-        expect_line(&rt, &fault, 12, expected);
-    }
+    use Fault::*;
+    expect_twelve(&rt, EndsInsideChunks, "fault F6 EndsInsideChunks after 12");
+    expect_twelve(&rt, EndsInsideRecord, "fault F10 EndsInsideRecord after 12");
+    expect_twelve(&rt, NoMemory, "fault F13 NoMemory after 12");
+    expect_twelve(&rt, Read, "fault F14 Read after 12");
+    expect_twelve(&rt, ReadsSpent, "fault F15 ReadsSpent after 12");
 }
 
 #[test]
 fn entry_faults(rt: HostRuntime) {
     let entry = Fault::BadEntry { at_record: 1 };
-    expect_line(&rt, &entry, 3, "fault F16 BadEntry record 1 after 3");
+    expect_line(&rt, entry, 3, "fault F16 BadEntry record 1 after 3");
 }
 
 #[test]
 fn text_faults(rt: HostRuntime) {
-    let end = Fault::Text {
-        at_record: 1,
-        byte: 0,
-        why: Why::End,
-    };
-    expect_line(&rt, &end, 2, "fault F11 Text record 1 byte 0 End after 2");
-    let depth = Fault::Text {
-        at_record: 1,
-        byte: 128,
-        why: Why::Depth,
-    };
-    expect_line(
-        &rt,
-        &depth,
-        133,
-        "fault F11 Text record 1 byte 128 Depth after 133",
-    );
-    let byte = Fault::Text {
-        at_record: 1,
-        byte: 31,
-        why: Why::Byte,
-    };
-    expect_line(
-        &rt,
-        &byte,
-        37,
-        "fault F11 Text record 1 byte 31 Byte after 37",
-    );
+    let end = "fault F11 Text record 1 byte 0 End after 2";
+    expect_text(&rt, 0, Why::End, 2, end);
+    let depth = "fault F11 Text record 1 byte 128 Depth after 133";
+    expect_text(&rt, 128, Why::Depth, 133, depth);
+    let byte = "fault F11 Text record 1 byte 31 Byte after 37";
+    expect_text(&rt, 31, Why::Byte, 37, byte);
 }
 
 #[test]
@@ -126,31 +95,13 @@ fn field_faults(rt: HostRuntime) {
         .with(Step::Name("update"))
         .with(Step::Name("status"))
         .with(Step::Name("state"));
-    expect_field(
-        &rt,
-        3,
-        state,
-        FieldWhy::Missing,
-        210,
-        "fault F12 Field record 3 update.status.state Missing after 210",
-    );
+    let line = "fault F12 Field record 3 update.status.state Missing after 210";
+    expect_field(&rt, 3, state, FieldWhy::Missing, 210, line);
     let kind = Path::new().with(Step::Name("type"));
-    expect_field(
-        &rt,
-        1,
-        kind,
-        FieldWhy::Missing,
-        4,
-        "fault F12 Field record 1 type Missing after 4",
-    );
-    expect_field(
-        &rt,
-        1,
-        Path::new(),
-        FieldWhy::WrongKind,
-        5,
-        "fault F12 Field record 1 . WrongKind after 5",
-    );
+    let line = "fault F12 Field record 1 type Missing after 4";
+    expect_field(&rt, 1, kind, FieldWhy::Missing, 4, line);
+    let line = "fault F12 Field record 1 . WrongKind after 5";
+    expect_field(&rt, 1, Path::new(), FieldWhy::WrongKind, 5, line);
 }
 
 #[test]
@@ -160,14 +111,8 @@ fn field_faults_of_elements(rt: HostRuntime) {
         .with(Step::Name("b"))
         .with(Step::Index(0))
         .with(Step::Name("c"));
-    expect_field(
-        &rt,
-        2,
-        listed,
-        FieldWhy::NumberRange,
-        98,
-        "fault F12 Field record 2 a.b[0].c NumberRange after 98",
-    );
+    let line = "fault F12 Field record 2 a.b[0].c NumberRange after 98";
+    expect_field(&rt, 2, listed, FieldWhy::NumberRange, 98, line);
 }
 
 #[test]

@@ -1,14 +1,14 @@
 //! Worked examples of what is sent: whole, stopped by the writer at each byte, and refused before the first byte.
 
-use crate::support::{HEARTBEAT, heartbeat_by_bytes};
+use crate::support::{HEARTBEAT, HEARTBEAT_BY_BYTES, read_into};
 use arrayvec::ArrayString;
-use mes_frame::{Limit, MemorySink, MemorySource, MemoryStop, WriteFault, WriteWhy};
+use mes_frame::{Counts, Limit, MemorySink, MemorySource, MemoryStop, WriteFault, WriteWhy};
 use mes_json::NESTING_LIMIT;
 use mes_msg::Event;
 use mes_stream::{
-    EncodeWhy, FAULT_LINE_MOST, SendFault, read_plain, send_line, write_plain, write_stream,
+    EncodeWhy, FAULT_LINE_MOST, Framing, SendFault, send_line, write_plain, write_stream,
 };
-use std::alloc::Global;
+use std::alloc::{AllocGlobal, Global};
 use std::process::Abort;
 use std::test::Fail;
 
@@ -16,14 +16,114 @@ use std::test::Fail;
 const SUBSCRIBED: &[u8] =
     b"98\n{\"type\":\"SUBSCRIBED\",\"subscribed\":{\"framework_id\":{\"value\":\"F1\"},\"heartbeat_interval_seconds\":15}}";
 
-/// The events that plain RecordIO has.
-fn events_of(alloc: Global, bytes: &[u8]) -> Result<Vec<Event>, Fail> {
-    let mut events = Vec::new(alloc);
-    let mut source = MemorySource::new(bytes, 512);
-    match read_plain(alloc, &mut source, Limit::USUAL, 100, &mut events) {
-        Ok(_) => Ok(events),
+// HEARTBEAT, SUBSCRIBED and HEARTBEAT again.
+const THREE: &[u8] =
+    b"20\n{\"type\":\"HEARTBEAT\"}98\n{\"type\":\"SUBSCRIBED\",\"subscribed\":{\"framework_id\":{\"value\":\"F1\"},\"heartbeat_interval_seconds\":15}}20\n{\"type\":\"HEARTBEAT\"}";
+
+/// How events are written.
+#[derive(Clone, Copy)]
+enum Form {
+    /// As plain RecordIO.
+    Plain,
+    /// In chunks of one byte.
+    ByteChunks,
+    /// In chunks of 4,096 bytes.
+    LongChunks,
+}
+
+/// What is sent: the events of records, in a form, under a limit.
+#[derive(Clone, Copy)]
+struct Sending<'a> {
+    records: &'a [u8],
+    form: Form,
+    limit: Limit,
+}
+
+/// Adds the events that plain RecordIO has.
+fn push_events(alloc: Global, records: &[u8], events: &mut Vec<Event>) -> Result<(), Fail> {
+    let mut source = MemorySource::new(records, 512);
+    match &read_into(alloc, Framing::Plain, &mut source, 100, events) {
+        Ok(_) => Ok(()),
         Err(_) => Err("the stream is whole")?,
     }
+}
+
+/// Writes the events.
+fn write(
+    alloc: Global,
+    sending: &Sending<'_>,
+    events: &[Event],
+    sink: &mut MemorySink,
+) -> Result<(), SendFault> {
+    let limit = sending.limit;
+    match sending.form {
+        Form::Plain => write_plain(alloc, sink, events, limit),
+        Form::ByteChunks => write_stream(alloc, sink, events, limit, 1),
+        Form::LongChunks => write_stream(alloc, sink, events, limit, 4096),
+    }
+}
+
+/// Reads the events into an empty list and writes them.
+fn send_by(
+    alloc: Global,
+    sending: &Sending<'_>,
+    events: &mut Vec<Event>,
+    sink: &mut MemorySink,
+) -> Result<Result<(), SendFault>, Fail> {
+    push_events(alloc, sending.records, events)?;
+    Ok(write(alloc, sending, events.as_slice(), sink))
+}
+
+/// Sends the events.
+fn send(
+    alloc: Global,
+    sending: &Sending<'_>,
+    sink: &mut MemorySink,
+) -> Result<Result<(), SendFault>, Fail> {
+    let mut events = Vec::new(alloc);
+    let sent = send_by(alloc, sending, &mut events, sink);
+    drop(events);
+    sent
+}
+
+/// The sending is answered so, and these bytes go out.
+fn expect_answer<R: Abort + AllocGlobal>(
+    rt: &R,
+    sending: &Sending<'_>,
+    sink: &mut MemorySink,
+    answer: Result<(), SendFault>,
+    bytes: &[u8],
+) -> Result<(), Fail> {
+    assert_eq!(rt; send(rt.alloc(), sending, sink)?, answer);
+    assert_eq!(rt; sink.bytes(), bytes);
+    Ok(())
+}
+
+/// The same with this writer, which is gone then. Answers how it was called.
+fn expect_sent<R: Abort + AllocGlobal>(
+    rt: &R,
+    sending: &Sending<'_>,
+    mut sink: MemorySink,
+    answer: Result<(), SendFault>,
+    bytes: &[u8],
+) -> Result<Counts, Fail> {
+    let told = expect_answer(rt, sending, &mut sink, answer, bytes);
+    let counts = sink.counts();
+    drop(sink);
+    told?;
+    Ok(counts)
+}
+
+/// Where no record can hold an event the writer is not called.
+fn expect_refused<R: Abort + AllocGlobal>(
+    rt: &R,
+    sending: &Sending<'_>,
+    fault: SendFault,
+) -> Result<(), Fail> {
+    let sink = MemorySink::new(rt.alloc(), 64);
+    let counts = expect_sent(rt, sending, sink, Err(fault), b"")?;
+    assert_eq!(rt; counts.calls, 0);
+    Ok(())
 }
 
 /// The line that is printed of the fault.
@@ -33,34 +133,51 @@ fn expect_line(rt: &impl Abort, fault: &SendFault, expected: &str) {
     assert_eq!(rt; line.as_str(), expected);
 }
 
+/// A heartbeat in chunks of one byte.
+const BYTES: Sending<'static> = Sending {
+    records: HEARTBEAT,
+    form: Form::ByteChunks,
+    limit: Limit::USUAL,
+};
+
 #[test]
 fn a_heartbeat_in_chunks_of_one_byte(rt: HostRuntime) -> Result<(), Fail> {
-    let expected = heartbeat_by_bytes(rt.alloc())?;
-    let events = events_of(rt.alloc(), HEARTBEAT)?;
-    assert_eq!(rt; expected.len(), 143);
-    let mut sink = MemorySink::new(rt.alloc(), 64);
-    let sent = write_stream(rt.alloc(), &mut sink, events.as_slice(), Limit::USUAL, 1);
-    assert_eq!(rt; sent, Ok(()));
-    assert_eq!(rt; sink.bytes(), expected.as_slice());
+    assert_eq!(rt; HEARTBEAT_BY_BYTES.len(), 143);
+    let sink = MemorySink::new(rt.alloc(), 64);
+    let _ = expect_sent(&rt, &BYTES, sink, Ok(()), HEARTBEAT_BY_BYTES)?;
+    Ok(())
+}
+
+/// A writer that fails behind these bytes has them, and was called once to no effect.
+fn expect_front<R: Abort + AllocGlobal>(rt: &R, front: &[u8]) -> Result<(), Fail> {
+    let good = front.len();
+    let sink = MemorySink::stopping_after(rt.alloc(), 64, good, MemoryStop::Fails);
+    let stopped = WriteFault {
+        sent: good as u64,
+        why: WriteWhy::Device,
+    };
+    let counts = expect_sent(rt, &BYTES, sink, Err(SendFault::Write(stopped)), front)?;
+    assert_eq!(rt; counts.failures, 1);
+    Ok(())
+}
+
+/// Each front of these bytes can be the last that goes out.
+fn expect_fronts<R: Abort + AllocGlobal>(rt: &R, whole: &[u8]) -> Result<(), Fail> {
+    for good in 0..whole.len() {
+        let (front, _) = whole.split_at(good);
+        expect_front(rt, front)?;
+    }
     Ok(())
 }
 
 #[test]
 fn a_writer_that_fails_after_each_byte(rt: HostRuntime) -> Result<(), Fail> {
-    let whole = heartbeat_by_bytes(rt.alloc())?;
-    let events = events_of(rt.alloc(), HEARTBEAT)?;
-    for good in 0..143 {
-        let mut sink = MemorySink::stopping_after(rt.alloc(), 64, good, MemoryStop::Fails);
-        let sent = write_stream(rt.alloc(), &mut sink, events.as_slice(), Limit::USUAL, 1);
-        let stopped = WriteFault {
-            sent: good as u64,
-            why: WriteWhy::Device,
-        };
-        assert_eq!(rt; sent, Err(SendFault::Write(stopped)));
-        assert_eq!(rt; Some(sink.bytes()), whole.as_slice().get(..good));
-        assert_eq!(rt; sink.counts().failures, 1);
-    }
-    Ok(())
+    expect_fronts(&rt, HEARTBEAT_BY_BYTES)
+}
+
+/// A writer that takes no byte.
+fn takes_none(alloc: Global) -> MemorySink {
+    MemorySink::stopping_after(alloc, 64, 0, MemoryStop::TakesNone)
 }
 
 #[test]
@@ -69,14 +186,13 @@ fn a_writer_that_takes_none(rt: HostRuntime) -> Result<(), Fail> {
         sent: 0,
         why: WriteWhy::Zero,
     });
-    let events = events_of(rt.alloc(), HEARTBEAT)?;
-    let mut chunked = MemorySink::stopping_after(rt.alloc(), 64, 0, MemoryStop::TakesNone);
-    let sent = write_stream(rt.alloc(), &mut chunked, events.as_slice(), Limit::USUAL, 1);
-    assert_eq!(rt; sent, Err(stopped));
-    let mut plain = MemorySink::stopping_after(rt.alloc(), 64, 0, MemoryStop::TakesNone);
-    let sent = write_plain(rt.alloc(), &mut plain, events.as_slice(), Limit::USUAL);
-    assert_eq!(rt; sent, Err(stopped));
-    assert_eq!(rt; plain.bytes(), b"".as_slice());
+    let plain = Sending {
+        records: HEARTBEAT,
+        form: Form::Plain,
+        limit: Limit::USUAL,
+    };
+    let _ = expect_sent(&rt, &plain, takes_none(rt.alloc()), Err(stopped), b"")?;
+    let _ = expect_sent(&rt, &BYTES, takes_none(rt.alloc()), Err(stopped), b"")?;
     expect_line(&rt, &stopped, "write failed after 0");
     Ok(())
 }
@@ -85,135 +201,118 @@ fn a_writer_that_takes_none(rt: HostRuntime) -> Result<(), Fail> {
 #[test]
 fn an_event_that_no_record_can_hold(rt: HostRuntime) -> Result<(), Fail> {
     let limit = Limit::new(98).ok_or("a limit")?;
-    let events = events_of(rt.alloc(), SUBSCRIBED)?;
-    let mut sink = MemorySink::new(rt.alloc(), 64);
     let fault = SendFault::Encode {
         index: 0,
         why: EncodeWhy::TooLarge,
     };
-    assert_eq!(rt;
-        write_plain(rt.alloc(), &mut sink, events.as_slice(), limit),
-        Err(fault)
-    );
-    assert_eq!(rt;
-        write_stream(rt.alloc(), &mut sink, events.as_slice(), limit, 4096),
-        Err(fault)
-    );
-    assert_eq!(rt; sink.bytes(), b"".as_slice());
-    assert_eq!(rt; sink.counts().calls, 0);
+    for form in [Form::Plain, Form::LongChunks] {
+        let sending = Sending {
+            records: SUBSCRIBED,
+            form,
+            limit,
+        };
+        expect_refused(&rt, &sending, fault)?;
+    }
     expect_line(&rt, &fault, "encode failed event 1 TooLarge");
     Ok(())
 }
 
-/// An OFFERS whose one resource has a `disk` of objects inside each other: it is read in the form of the bare array, and nests one
-/// deeper than a text may as it is written.
-fn deep_event(alloc: Global) -> Result<Event, Fail> {
-    let mut text = Vec::new(alloc);
-    text.extend_from_slice(
-        br#"{"type":"OFFERS","offers":[{"id":{"value":"O1"},"framework_id":{"value":"F1"},"agent_id":{"value":"A1"},"hostname":"h","resources":[{"name":"disk","type":"SET","set":{},"disk":"#,
-    )?;
-    for _ in 1..NESTING_LIMIT - 5 {
-        text.extend_from_slice(br#"{"a":"#)?;
-    }
-    text.extend_from_slice(b"{}")?;
-    for _ in 1..NESTING_LIMIT - 5 {
-        text.extend_from_slice(b"}")?;
-    }
-    text.extend_from_slice(b"}]}]}")?;
-    match Event::read_record(alloc, text.as_slice()) {
-        Ok(event) => Ok(event),
-        Err(_) => Err("an event")?,
-    }
+/// The text of an OFFERS whose one resource has a `disk` of objects inside each other: it is read in the form of the bare array, and
+/// nests one deeper than a text may as it is written.
+fn deep_text(alloc: Global) -> Result<String, Fail> {
+    let open = r#"{"a":"#.repeat(alloc, NESTING_LIMIT - 6)?;
+    let close = "}".repeat(alloc, NESTING_LIMIT - 6)?;
+    Ok(format!(in alloc;
+        r#"{{"type":"OFFERS","offers":[{{"id":{{"value":"O1"}},"framework_id":{{"value":"F1"}},"agent_id":{{"value":"A1"}},"hostname":"h","resources":[{{"name":"disk","type":"SET","set":{{}},"disk":{open}{{}}{close}}}]}}]}}"#
+    )?)
+}
+
+/// The records of a heartbeat and of that event.
+fn deep_records(alloc: Global) -> Result<String, Fail> {
+    let text = deep_text(alloc)?;
+    let size = text.len();
+    let text = text.as_str();
+    Ok(format!(in alloc; "20\n{{\"type\":\"HEARTBEAT\"}}{size}\n{text}")?)
 }
 
 // It is too large for the limit too, which is told of events that aren't too deep.
 #[test]
 fn an_event_that_nests_too_deep(rt: HostRuntime) -> Result<(), Fail> {
-    let mut events = events_of(rt.alloc(), HEARTBEAT)?;
-    events.push(deep_event(rt.alloc())?)?;
     let limit = Limit::new(98).ok_or("a limit")?;
-    let mut sink = MemorySink::new(rt.alloc(), 64);
+    let records = deep_records(rt.alloc())?;
+    let sending = Sending {
+        records: records.as_bytes(),
+        form: Form::Plain,
+        limit,
+    };
     let fault = SendFault::Encode {
         index: 1,
         why: EncodeWhy::TooDeep,
     };
-    assert_eq!(rt;
-        write_plain(rt.alloc(), &mut sink, events.as_slice(), limit),
-        Err(fault)
-    );
-    assert_eq!(rt; sink.counts().calls, 0);
-    Ok(())
+    expect_refused(&rt, &sending, fault)
 }
 
-// HEARTBEAT, SUBSCRIBED and HEARTBEAT again.
-fn three_events(alloc: Global) -> Result<Vec<Event>, Fail> {
-    let mut bytes = Vec::new(alloc);
-    bytes.extend_from_slice(HEARTBEAT)?;
-    bytes.extend_from_slice(SUBSCRIBED)?;
-    bytes.extend_from_slice(HEARTBEAT)?;
-    events_of(alloc, bytes.as_slice())
+/// The three events, of which the second has the canonical text.
+const THREE_WRITTEN: &[u8] =
+    b"20\n{\"type\":\"HEARTBEAT\"}100\n{\"type\":\"SUBSCRIBED\",\"subscribed\":{\"framework_id\":{\"value\":\"F1\"},\"heartbeat_interval_seconds\":15.0}}20\n{\"type\":\"HEARTBEAT\"}";
+
+/// The same in one chunk.
+const THREE_IN_A_CHUNK: &[u8] =
+    b"96\r\n20\n{\"type\":\"HEARTBEAT\"}100\n{\"type\":\"SUBSCRIBED\",\"subscribed\":{\"framework_id\":{\"value\":\"F1\"},\"heartbeat_interval_seconds\":15.0}}20\n{\"type\":\"HEARTBEAT\"}\r\n0\r\n\r\n";
+
+/// The three events go out so.
+fn expect_three<R: Abort + AllocGlobal>(rt: &R, form: Form, bytes: &[u8]) -> Result<(), Fail> {
+    let sending = Sending {
+        records: THREE,
+        form,
+        limit: Limit::USUAL,
+    };
+    let sink = MemorySink::new(rt.alloc(), 7);
+    let _ = expect_sent(rt, &sending, sink, Ok(()), bytes)?;
+    Ok(())
 }
 
 #[test]
 fn several_events(rt: HostRuntime) -> Result<(), Fail> {
-    let events = three_events(rt.alloc())?;
-    let mut plain = MemorySink::new(rt.alloc(), 7);
-    assert_eq!(rt;
-        write_plain(rt.alloc(), &mut plain, events.as_slice(), Limit::USUAL),
-        Ok(())
-    );
-    assert_eq!(rt;
-        plain.bytes(),
-        b"20\n{\"type\":\"HEARTBEAT\"}100\n{\"type\":\"SUBSCRIBED\",\"subscribed\":{\"framework_id\":{\"value\":\"F1\"},\"heartbeat_interval_seconds\":15.0}}20\n{\"type\":\"HEARTBEAT\"}".as_slice()
-    );
-    let mut chunked = MemorySink::new(rt.alloc(), 7);
-    let sent = write_stream(
-        rt.alloc(),
-        &mut chunked,
-        events.as_slice(),
-        Limit::USUAL,
-        4096,
-    );
-    assert_eq!(rt; sent, Ok(()));
-    assert!(rt; chunked.bytes().starts_with(b"96\r\n20\n{"));
-    assert!(rt; chunked.bytes().ends_with(b"HEARTBEAT\"}\r\n0\r\n\r\n"));
-    Ok(())
+    expect_three(&rt, Form::Plain, THREE_WRITTEN)?;
+    expect_three(&rt, Form::LongChunks, THREE_IN_A_CHUNK)
 }
 
 // The second of three events is the first that 99 bytes can't hold.
 #[test]
 fn the_first_bad_event_is_told(rt: HostRuntime) -> Result<(), Fail> {
-    let events = three_events(rt.alloc())?;
     let limit = Limit::new(99).ok_or("a limit")?;
-    let mut sink = MemorySink::new(rt.alloc(), 7);
+    let sending = Sending {
+        records: THREE,
+        form: Form::ByteChunks,
+        limit,
+    };
     let fault = SendFault::Encode {
         index: 1,
         why: EncodeWhy::TooLarge,
     };
-    assert_eq!(rt;
-        write_stream(rt.alloc(), &mut sink, events.as_slice(), limit, 1),
-        Err(fault)
-    );
-    assert_eq!(rt; sink.counts().calls, 0);
+    expect_refused(&rt, &sending, fault)?;
     expect_line(&rt, &fault, "encode failed event 2 TooLarge");
     Ok(())
 }
 
+/// Of no events these bytes go out. Answers how often the writer was called.
+fn expect_none<R: Abort + AllocGlobal>(rt: &R, form: Form, bytes: &[u8]) -> Result<u64, Fail> {
+    let sending = Sending {
+        records: b"",
+        form,
+        limit: Limit::USUAL,
+    };
+    let sink = MemorySink::new(rt.alloc(), 64);
+    let counts = expect_sent(rt, &sending, sink, Ok(()), bytes)?;
+    Ok(counts.calls)
+}
+
 #[test]
-fn no_events(rt: HostRuntime) {
-    let mut plain = MemorySink::new(rt.alloc(), 64);
-    assert_eq!(rt;
-        write_plain(rt.alloc(), &mut plain, &[], Limit::USUAL),
-        Ok(())
-    );
-    assert_eq!(rt; plain.bytes(), b"".as_slice());
-    assert_eq!(rt; plain.counts().calls, 0);
-    let mut chunked = MemorySink::new(rt.alloc(), 64);
-    assert_eq!(rt;
-        write_stream(rt.alloc(), &mut chunked, &[], Limit::USUAL, 1),
-        Ok(())
-    );
-    assert_eq!(rt; chunked.bytes(), b"0\r\n\r\n".as_slice());
+fn no_events(rt: HostRuntime) -> Result<(), Fail> {
+    assert_eq!(rt; expect_none(&rt, Form::Plain, b"")?, 0);
+    let _ = expect_none(&rt, Form::ByteChunks, b"0\r\n\r\n")?;
+    Ok(())
 }
 
 #[test]
