@@ -2,8 +2,9 @@
 use arrayvec::ArrayString;
 use mes_fixed::automaton::{NumberState, may_end, next_state};
 use mes_fixed::{Fixed, Micros, NumFault, Thousandths, UNITS_LIMIT, is_number, read_i32, read_u64};
-use std::alloc::{AllocError, Global};
+use std::alloc::{AllocError, AllocGlobal, Global};
 use std::fmt::Display;
+use std::process::Abort;
 use std::test::Fail;
 
 /// The number, or `L`, `S`, `R` for a text that is too long, has no number's shape, or is out of range.
@@ -19,42 +20,66 @@ where
     }
 }
 
+/// Whether that is the word of the answer.
+fn is_word<T: Display>(
+    alloc: Global,
+    answer: Result<T, NumFault>,
+    word: &str,
+) -> Result<bool, AllocError>
+where
+    T: Drop,
+{
+    Ok(word_of(alloc, answer)?.as_str() == word)
+}
+
 /// The units of an answer.
 fn units_of<const P: u32>(answer: Result<Fixed<P>, NumFault>) -> Result<u64, NumFault> {
     answer.map(|number| number.units())
 }
 
+/// Texts, and the thousandths that they are, a half rounded up.
+const THOUSANDTHS: [(&str, &str); 10] = [
+    ("1.0005", "1001"),
+    ("1.0004999", "1000"),
+    ("5e-4", "1"),
+    ("4.9e-4", "0"),
+    ("-0.0", "0"),
+    ("0e999", "0"),
+    ("1000000000000000.0004", "1000000000000000000"),
+    ("1000000000000000.0005", "R"),
+    ("1e999", "R"),
+    ("-1", "R"),
+];
+
 #[test]
-fn reads_thousandths(rt: HostRuntime) {
-    let rows = [
-        ("1.0005", Ok(1001)),
-        ("1.0004999", Ok(1000)),
-        ("5e-4", Ok(1)),
-        ("4.9e-4", Ok(0)),
-        ("-0.0", Ok(0)),
-        ("0e999", Ok(0)),
-        ("1000000000000000.0004", Ok(1_000_000_000_000_000_000)),
-        ("1000000000000000.0005", Err(NumFault::Range)),
-        ("1e999", Err(NumFault::Range)),
-        ("-1", Err(NumFault::Range)),
-    ];
-    for (text, units) in rows {
-        assert_eq!(rt;
-            units_of(Thousandths::read(text.as_bytes())),
-            units,
-            "at {text}"
-        );
+fn reads_thousandths(rt: HostRuntime) -> Result<(), Fail> {
+    for &(text, word) in &THOUSANDTHS {
+        let answer = units_of(Thousandths::read(text.as_bytes()));
+        assert!(rt; is_word(rt.alloc(), answer, word)?, "at {text}");
     }
+    Ok(())
+}
+
+/// Whether the number of these units is written so over what stands in the text, and displayed so.
+fn is_written(
+    alloc: Global,
+    units: u64,
+    text: &mut ArrayString<24>,
+    written: &str,
+) -> Result<bool, Fail> {
+    let number = Thousandths::of_units(units).ok_or("in range")?;
+    number.write(text);
+    Ok(text.as_str() == written && format!(in alloc; "{number}")?.as_str() == written)
 }
 
 #[test]
 fn writes_without_needless_zeros(rt: HostRuntime) -> Result<(), Fail> {
     let mut text = ArrayString::new();
     for &(units, written) in &[(1001, "1.001"), (1000, "1.0"), (1, "0.001"), (0, "0.0")] {
-        let number = Thousandths::of_units(units).ok_or("in range")?;
-        number.write(&mut text);
-        assert_eq!(rt; text.as_str(), written);
-        assert_eq!(rt; format!(in rt.alloc(); "{number}")?.as_str(), written);
+        assert!(rt;
+            is_written(rt.alloc(), units, &mut text, written)?,
+            "{written}"
+        );
     }
     let largest = Micros::of_units(UNITS_LIMIT).ok_or("in range")?;
     largest.write(&mut text);
@@ -66,11 +91,11 @@ fn writes_without_needless_zeros(rt: HostRuntime) -> Result<(), Fail> {
 fn adds_and_subtracts_within_the_limits(rt: HostRuntime) -> Result<(), Fail> {
     let one = Thousandths::of_units(1).ok_or("in range")?;
     let largest = Thousandths::of_units(UNITS_LIMIT).ok_or("in range")?;
+    let sums = [one.checked_add(one), largest.checked_add(one)];
+    assert_eq!(rt; sums, [Thousandths::of_units(2), None]);
+    let rests = [one.checked_sub(one), one.checked_sub(largest)];
+    assert_eq!(rt; rests, [Some(Thousandths::default()), None]);
     assert_eq!(rt; Thousandths::of_units(UNITS_LIMIT + 1), None);
-    assert_eq!(rt; one.checked_add(one), Thousandths::of_units(2));
-    assert_eq!(rt; largest.checked_add(one), None);
-    assert_eq!(rt; one.checked_sub(one), Some(Thousandths::default()));
-    assert_eq!(rt; one.checked_sub(largest), None);
     assert!(rt; one < largest);
     Ok(())
 }
@@ -93,36 +118,34 @@ fn knows_the_shape_of_a_number(rt: HostRuntime) {
     assert!(rt; may_end(NumberState::AfterZero));
 }
 
+/// What the text is as each of the four numbers that are read of a text is just what the words say.
+fn expect_words<R: Abort + AllocGlobal>(rt: &R, text: &str, words: [&str; 4]) -> Result<(), Fail> {
+    let alloc = rt.alloc();
+    let bytes = text.as_bytes();
+    let same = [
+        is_word(alloc, units_of(Thousandths::read(bytes)), words[0])?,
+        is_word(alloc, units_of(Micros::read(bytes)), words[1])?,
+        is_word(alloc, read_u64(bytes), words[2])?,
+        is_word(alloc, read_i32(bytes), words[3])?,
+    ];
+    assert_eq!(rt;
+        same,
+        [true; 4],
+        "thousandths, micros, u64 and i32 of {text}"
+    );
+    Ok(())
+}
+
 #[test]
 fn agrees_with_exact_rationals(rt: HostRuntime) -> Result<(), Fail> {
     for line in ROWS.lines() {
         let mut words = line.split(' ');
-        let text = words.next().ok_or("a text")?.as_bytes();
+        let text = words.next().ok_or("a text")?;
         let thousandths = words.next().ok_or("thousandths")?;
         let micros = words.next().ok_or("micros")?;
         let whole = words.next().ok_or("u64")?;
         let signed = words.next().ok_or("i32")?;
-        let alloc = rt.alloc();
-        assert_eq!(rt;
-            word_of(alloc, units_of(Thousandths::read(text)))?.as_str(),
-            thousandths,
-            "thousandths at {line}"
-        );
-        assert_eq!(rt;
-            word_of(alloc, units_of(Micros::read(text)))?.as_str(),
-            micros,
-            "micros at {line}"
-        );
-        assert_eq!(rt;
-            word_of(alloc, read_u64(text))?.as_str(),
-            whole,
-            "u64 at {line}"
-        );
-        assert_eq!(rt;
-            word_of(alloc, read_i32(text))?.as_str(),
-            signed,
-            "i32 at {line}"
-        );
+        expect_words(&rt, text, [thousandths, micros, whole, signed])?;
     }
     Ok(())
 }

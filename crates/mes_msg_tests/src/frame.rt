@@ -1,5 +1,7 @@
 //! Worked examples of records, and of devices over memory and of std.
 use mes_frame::*;
+use std::alloc::{AllocError, Global};
+use std::fmt::Debug;
 use std::process::Abort;
 use std::test::Fail;
 
@@ -38,48 +40,59 @@ fn limits_have_a_range(rt: HostRuntime) {
     assert_eq!(rt; Limit::new(1).map_or(0, |limit| limit.get()), 1);
 }
 
-const BAD: RecordOut = RecordOut::Fault(FrameFault::BadSizeLine);
+// What is told of the answer that ends something, if there is one, behind how many bytes had been taken then.
+fn told_end<T: Debug + Copy>(alloc: Global, end: Option<(usize, T)>) -> Result<String, AllocError> {
+    match end {
+        Some((taken, out)) => format!(in alloc; "{taken} {out:?}"),
+        None => String::from_str(alloc, "no end"),
+    }
+}
 
-const LONG: RecordOut = RecordOut::Fault(FrameFault::SizeLineTooLong);
-
-const LARGE: RecordOut = RecordOut::Fault(FrameFault::RecordTooLarge);
-
-const LAST: RecordOut = RecordOut::Byte { last: true };
-
-// A limit, bytes, and the first answer that ends a record or the stream with how many bytes had been taken then.
-const ENDS: [(u32, &[u8], Option<(usize, RecordOut)>); 10] = [
-    (20, b"20\n{\"type\":\"HEARTBEAT\"}", Some((23, LAST))),
-    (19, b"20\n{\"type\":\"HEARTBEAT\"}", Some((3, LARGE))),
+// A limit, bytes, and the first answer that ends a record or the stream behind how many bytes had been taken then.
+const ENDS: [(u32, &[u8], &str); 10] = [
+    (
+        20,
+        b"20\n{\"type\":\"HEARTBEAT\"}",
+        "23 Byte { last: true }",
+    ),
+    (
+        19,
+        b"20\n{\"type\":\"HEARTBEAT\"}",
+        "3 Fault(RecordTooLarge)",
+    ),
     (
         20,
         b"00000000000000000020\n{\"type\":\"HEARTBEAT\"}",
-        Some((41, LAST)),
+        "41 Byte { last: true }",
     ),
     (
         RECORD_LIMIT_USUAL,
         b"000000000000000000020\n",
-        Some((21, LONG)),
+        "21 Fault(SizeLineTooLong)",
     ),
     (
         RECORD_LIMIT_MOST,
         b"18446744073709551636\n",
-        Some((21, LARGE)),
+        "21 Fault(RecordTooLarge)",
     ),
-    (RECORD_LIMIT_USUAL, b"0\n", Some((2, RecordOut::Empty))),
-    (RECORD_LIMIT_USUAL, b"x", Some((1, BAD))),
-    (RECORD_LIMIT_USUAL, b"\n", Some((1, BAD))),
-    (RECORD_LIMIT_USUAL, b"12 \n", Some((3, BAD))),
-    (RECORD_LIMIT_USUAL, b"3\nab", None),
+    (RECORD_LIMIT_USUAL, b"0\n", "2 Empty"),
+    (RECORD_LIMIT_USUAL, b"x", "1 Fault(BadSizeLine)"),
+    (RECORD_LIMIT_USUAL, b"\n", "1 Fault(BadSizeLine)"),
+    (RECORD_LIMIT_USUAL, b"12 \n", "3 Fault(BadSizeLine)"),
+    (RECORD_LIMIT_USUAL, b"3\nab", "no end"),
 ];
 
 #[test]
 fn records_end_and_break_at_their_byte(rt: HostRuntime) -> Result<(), Fail> {
-    for (limit, bytes, end) in ENDS {
+    for &(limit, bytes, end) in &ENDS {
         let limit = Limit::new(limit).ok_or("a limit")?;
-        assert_eq!(rt; first_end(limit, bytes), end, "{bytes:?}");
+        let told = told_end(rt.alloc(), first_end(limit, bytes))?;
+        assert_eq!(rt; told.as_str(), end, "{bytes:?}");
     }
     Ok(())
 }
+
+const BAD: RecordOut = RecordOut::Fault(FrameFault::BadSizeLine);
 
 #[test]
 fn a_fault_is_answered_again(rt: HostRuntime) {

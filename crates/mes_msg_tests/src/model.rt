@@ -9,48 +9,11 @@ mod statuses;
 mod tasks;
 mod values;
 
-use crate::support::{expect_fault, part_fault_of, row_of, text_of};
-use mes_json::read_tape;
-use mes_model::{FieldFault, Part, PartFault, STEPS_MOST, Trail};
+use crate::support::{expect_faults, row_of, text_of, value_of};
+use mes_model::{Part, STEPS_MOST};
 use std::alloc::Global;
 use std::process::Abort;
 use std::test::Fail;
-
-/// What a text is read as, from its tape.
-fn read<T: Part>(alloc: Global, text: &str) -> Result<Result<T, PartFault>, Fail>
-    requires { T.STEPS ≤ STEPS_MOST }
-{
-    let tape = read_tape(alloc, text.as_bytes())?;
-    Ok(T::read_from(alloc, &tape.root(), &Trail::new()))
-}
-
-/// The value of a text that is one.
-fn value_of<T: Part>(alloc: Global, text: &str) -> Result<T, Fail>
-    requires { T.STEPS ≤ STEPS_MOST }
-{
-    match read(alloc, text)? {
-        Ok(value) => Ok(value),
-        Err(_) => Err("a value")?,
-    }
-}
-
-/// The fault of a text that is no value.
-fn fault_of<T: Part>(alloc: Global, text: &str) -> Result<Option<FieldFault>, Fail>
-    requires { T.STEPS ≤ STEPS_MOST }
-{
-    Ok(part_fault_of(read::<T>(alloc, text)?))
-}
-
-/// Each text has its first fault there.
-fn expect_faults<T: Part, R: Abort + AllocGlobal>(rt: &R, faults: &str) -> Result<(), Fail>
-    requires { T.STEPS ≤ STEPS_MOST }
-{
-    for line in faults.lines() {
-        let (text, fault) = row_of(line)?;
-        expect_fault(rt, text, fault_of::<T>(rt.alloc(), text)?, fault)?;
-    }
-    Ok(())
-}
 
 /// The copy of the value of a text.
 fn copy_of<T: Part>(alloc: Global, text: &str) -> Result<T, Fail>

@@ -8,18 +8,59 @@ mod written;
 
 use crate::support::{expect_fault, field_fault_of, row_of};
 use mes_frame::RECORD_LIMIT_MOST;
-use mes_json::read_text;
+use mes_json::{Json, read_text};
 use mes_model::Part;
-use mes_msg::{EncodeFault, Event, Limit};
+use mes_msg::{Call, EncodeFault, Event, Limit, RecordFault};
+use mes_part::PartFault;
 use std::alloc::{AllocGlobal, Global};
 use std::process::Abort;
 use std::test::Fail;
 
+/// An event or a call, by the public calls of its type.
+trait Record: Part {
+    /// What a text is read as.
+    fn of_text(alloc: Global, text: &[u8]) -> Result<Self, RecordFault>;
+
+    /// What a tree is read as.
+    fn of_json(alloc: Global, tree: &Json) -> Result<Self, PartFault>;
+
+    /// The canonical text.
+    fn canonical(&self, alloc: Global, limit: Limit) -> Result<Vec<u8>, EncodeFault>;
+}
+
+impl Record for Event {
+    fn of_text(alloc: Global, text: &[u8]) -> Result<Event, RecordFault> {
+        Event::read_record(alloc, text)
+    }
+
+    fn of_json(alloc: Global, tree: &Json) -> Result<Event, PartFault> {
+        Event::of_tree(alloc, tree)
+    }
+
+    fn canonical(&self, alloc: Global, limit: Limit) -> Result<Vec<u8>, EncodeFault> {
+        self.canon(alloc, limit)
+    }
+}
+
+impl Record for Call {
+    fn of_text(alloc: Global, text: &[u8]) -> Result<Call, RecordFault> {
+        Call::read_record(alloc, text)
+    }
+
+    fn of_json(alloc: Global, tree: &Json) -> Result<Call, PartFault> {
+        Call::of_tree(alloc, tree)
+    }
+
+    fn canonical(&self, alloc: Global, limit: Limit) -> Result<Vec<u8>, EncodeFault> {
+        self.canon(alloc, limit)
+    }
+}
+
 /// Each text has its first fault there.
-fn expect_faults<R: Abort + AllocGlobal>(rt: &R, faults: &str) -> Result<(), Fail> {
+fn expect_faults<T: Record, R: Abort + AllocGlobal>(rt: &R, faults: &str) -> Result<(), Fail> {
     for line in faults.lines() {
         let (text, fault) = row_of(line)?;
-        let answer = Event::read_record(rt.alloc(), text.as_bytes());
+        let answer = T::of_text(rt.alloc(), text.as_bytes());
         expect_fault(rt, text, field_fault_of(answer), fault)?;
     }
     Ok(())
@@ -40,83 +81,83 @@ fn nested(alloc: Global, front: &[u8], objects: usize, behind: &[u8]) -> Result<
     Ok(text)
 }
 
-/// The event of a text that is one.
-fn event_of(alloc: Global, text: &[u8]) -> Result<Event, Fail> {
-    match Event::read_record(alloc, text) {
-        Ok(event) => Ok(event),
-        Err(_) => Err("an event")?,
+/// The record of a text that is one.
+fn record_of<T: Record>(alloc: Global, text: &[u8]) -> Result<T, Fail> {
+    match T::of_text(alloc, text) {
+        Ok(record) => Ok(record),
+        Err(_) => Err("a record")?,
     }
 }
 
-/// The event of the tree of a text.
-fn event_of_tree(alloc: Global, text: &str) -> Result<Event, Fail> {
+/// The record of the tree of a text.
+fn record_of_tree<T: Record>(alloc: Global, text: &str) -> Result<T, Fail> {
     let tree = read_text(alloc, text.as_bytes())?;
-    match Event::of_tree(alloc, &tree) {
-        Ok(event) => Ok(event),
-        Err(_) => Err("an event")?,
+    match T::of_json(alloc, &tree) {
+        Ok(record) => Ok(record),
+        Err(_) => Err("a record")?,
     }
 }
 
-/// The canonical text of an event that has one.
-fn canon(event: &Event, alloc: Global, limit: Limit) -> Result<Vec<u8>, Fail> {
-    match event.canon(alloc, limit) {
+/// The canonical text of a record that has one.
+fn canon<T: Record>(record: &T, alloc: Global, limit: Limit) -> Result<Vec<u8>, Fail> {
+    match record.canonical(alloc, limit) {
         Ok(text) => Ok(text),
         Err(_) => Err("a canonical text")?,
     }
 }
 
-/// Whether the event has more bytes than the limit.
-fn is_too_large(event: &Event, alloc: Global, limit: Limit) -> bool {
-    matches!(event.canon(alloc, limit), Err(EncodeFault::TooLarge))
+/// The canonical text of the record of a text.
+fn rewritten<T: Record>(alloc: Global, text: &[u8]) -> Result<Vec<u8>, Fail> {
+    canon(&record_of::<T>(alloc, text)?, alloc, Limit::MOST)
 }
 
-/// The event has this canonical text, within a limit of just its length, and none within a smaller one.
-fn expect_canon<R: Abort + AllocGlobal>(rt: &R, event: &Event, written: &str) -> Result<(), Fail> {
+/// Why the record of a text has no canonical text within the limit, if it has none.
+fn refused<T: Record>(
+    alloc: Global,
+    text: &[u8],
+    limit: Limit,
+) -> Result<Option<EncodeFault>, Fail> {
+    let record: T = record_of(alloc, text)?;
+    Ok(record.canonical(alloc, limit).err())
+}
+
+/// Whether the record has more bytes than the limit.
+fn is_too_large<T: Record>(record: &T, alloc: Global, limit: Limit) -> bool {
+    matches!(record.canonical(alloc, limit), Err(EncodeFault::TooLarge))
+}
+
+/// The record has this canonical text, within a limit of just its length, and none within a smaller one.
+fn expect_canon<T: Record, R: Abort + AllocGlobal>(
+    rt: &R,
+    record: &T,
+    written: &str,
+) -> Result<(), Fail> {
     let length = written.len().min(RECORD_LIMIT_MOST as usize) as u32;
     let limit = Limit::new(length).ok_or("a limit")?;
     let below = Limit::new(length.saturating_sub(1)).ok_or("a limit")?;
-    let out = canon(event, rt.alloc(), limit)?;
+    let out = canon(record, rt.alloc(), limit)?;
     assert_eq!(rt; out.as_slice(), written.as_bytes());
-    assert!(rt; is_too_large(event, rt.alloc(), below), "{written}");
+    assert!(rt; is_too_large(record, rt.alloc(), below), "{written}");
     Ok(())
 }
 
-/// Each text is an event, whose canonical text and that of its copy is this one; its tree is the same event.
-fn expect_events<R: Abort + AllocGlobal>(rt: &R, events: &str) -> Result<(), Fail> {
-    for line in events.lines() {
+/// The text is a record with this canonical text, and so are its copy and what its tree is read as.
+fn expect_record<T: Record, R: Abort + AllocGlobal>(
+    rt: &R,
+    text: &str,
+    written: &str,
+) -> Result<(), Fail> {
+    let record: T = record_of(rt.alloc(), text.as_bytes())?;
+    expect_canon(rt, &record, written)?;
+    expect_canon(rt, &record.copy(rt.alloc())?, written)?;
+    expect_canon(rt, &record_of_tree::<T>(rt.alloc(), text)?, written)
+}
+
+/// The same of each text and its canonical text.
+fn expect_records<T: Record, R: Abort + AllocGlobal>(rt: &R, rows: &str) -> Result<(), Fail> {
+    for line in rows.lines() {
         let (text, written) = row_of(line)?;
-        expect_record(rt, text, written)?;
-        expect_tree(rt, text, written)?;
+        expect_record::<T, R>(rt, text, written)?;
     }
     Ok(())
-}
-
-/// The text is an event with this canonical text, and so is its copy.
-fn expect_record<R: Abort + AllocGlobal>(rt: &R, text: &str, written: &str) -> Result<(), Fail> {
-    let event = event_of(rt.alloc(), text.as_bytes())?;
-    let answer = expect_both(rt, &event, written);
-    drop(event);
-    answer
-}
-
-/// The event has this canonical text, and so has its copy.
-fn expect_both<R: Abort + AllocGlobal>(rt: &R, event: &Event, written: &str) -> Result<(), Fail> {
-    expect_canon(rt, event, written)?;
-    expect_copy(rt, event, written)
-}
-
-/// The copy of the event has this canonical text.
-fn expect_copy<R: Abort + AllocGlobal>(rt: &R, event: &Event, written: &str) -> Result<(), Fail> {
-    let copy = event.copy(rt.alloc())?;
-    let answer = expect_canon(rt, &copy, written);
-    drop(copy);
-    answer
-}
-
-/// The tree of the text is an event with this canonical text.
-fn expect_tree<R: Abort + AllocGlobal>(rt: &R, text: &str, written: &str) -> Result<(), Fail> {
-    let event = event_of_tree(rt.alloc(), text)?;
-    let answer = expect_canon(rt, &event, written);
-    drop(event);
-    answer
 }

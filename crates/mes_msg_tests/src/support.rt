@@ -4,11 +4,15 @@
 //! A check of a table of literals takes as long as it has rows, and of one text no time. An event or a call that lives on in a
 //! function makes each later step of it dear to check, so the functions that make one are small.
 
+ghost use Rattle.std.specs.Prelude.{◌≤◌};
+
 use arrayvec::ArrayString;
-use mes_json::{Json, Why, write_text};
+use mes_json::{Json, Why, read_tape, read_text, write_text};
 use mes_msg::RecordFault;
-use mes_part::{FieldFault, PATH_TEXT_MOST, PartFault};
-use std::alloc::Global;
+use mes_part::{
+    FieldFault, PATH_TEXT_MOST, Part, PartFault, Path, STEPS_MOST, Trail, written_again,
+};
+use std::alloc::{AllocGlobal, Global};
 use std::process::Abort;
 use std::test::Fail;
 
@@ -77,4 +81,62 @@ pub(crate) fn expect_fault<R: Abort>(
         "{text}"
     );
     Ok(())
+}
+
+/// What a text is read as, from its tape.
+pub(crate) fn read<T: Part>(alloc: Global, text: &str) -> Result<Result<T, PartFault>, Fail>
+    requires { T.STEPS ≤ STEPS_MOST }
+{
+    let tape = read_tape(alloc, text.as_bytes())?;
+    Ok(T::read_from(alloc, &tape.root(), &Trail::new()))
+}
+
+/// The value of a text that is one.
+pub(crate) fn value_of<T: Part>(alloc: Global, text: &str) -> Result<T, Fail>
+    requires { T.STEPS ≤ STEPS_MOST }
+{
+    match read(alloc, text)? {
+        Ok(value) => Ok(value),
+        Err(_) => Err("a value")?,
+    }
+}
+
+/// The fault of a text that is no value.
+pub(crate) fn fault_of<T: Part>(alloc: Global, text: &str) -> Result<Option<FieldFault>, Fail>
+    requires { T.STEPS ≤ STEPS_MOST }
+{
+    Ok(part_fault_of(read::<T>(alloc, text)?))
+}
+
+/// The same, read from its tree.
+fn fault_of_tree<T: Part>(alloc: Global, text: &str) -> Result<Option<FieldFault>, Fail>
+    requires { T.STEPS ≤ STEPS_MOST }
+{
+    let tree = read_text(alloc, text.as_bytes())?;
+    Ok(part_fault_of(T::read(alloc, &tree, &Path::new())))
+}
+
+/// Each text has its first fault there, read from its tape and from its tree.
+pub(crate) fn expect_faults<T: Part, R: Abort + AllocGlobal>(
+    rt: &R,
+    faults: &str,
+) -> Result<(), Fail>
+    requires { T.STEPS ≤ STEPS_MOST }
+{
+    for line in faults.lines() {
+        let (text, fault) = row_of(line)?;
+        expect_fault(rt, text, fault_of::<T>(rt.alloc(), text)?, fault)?;
+        expect_fault(rt, text, fault_of_tree::<T>(rt.alloc(), text)?, fault)?;
+    }
+    Ok(())
+}
+
+/// The value, written and read again.
+pub(crate) fn again<T: Part>(alloc: Global, value: &T) -> Result<T, Fail>
+    requires { T.STEPS ≤ STEPS_MOST }
+{
+    match written_again(alloc, value) {
+        Ok(again) => Ok(again),
+        Err(_) => Err("it is written and read")?,
+    }
 }

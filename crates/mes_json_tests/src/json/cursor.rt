@@ -3,35 +3,51 @@ use mes_json::{Element, Items, Members, ValueKind, read_tape};
 use std::process::Abort;
 use std::test::Fail;
 
-/// What a value shows: whether it is null, its truth, its number, its text, whether it has items, whether it has members.
-type Shown = (
-    bool,
-    Option<bool>,
-    Option<&'static str>,
-    Option<&'static str>,
-    bool,
-    bool,
-);
+/// What a value shows: its kind in a word, and the text of a truth, a number or a text.
+type Shown = (&'static str, &'static str);
 
-fn shows(element: &Element<'_>, shown: &Shown) -> bool {
-    element.is_null() == shown.0
-        && element.as_bool() == shown.1
-        && element.as_number() == shown.2
-        && element.as_text() == shown.3
-        && element.items().is_some() == shown.4
-        && element.members().is_some() == shown.5
-        && element.kind() == kind_shown(shown)
+/// The word of a kind.
+fn word_of(kind: ValueKind) -> &'static str {
+    match kind {
+        ValueKind::Null => "null",
+        ValueKind::Bool => "truth",
+        ValueKind::Number => "number",
+        ValueKind::Text => "text",
+        ValueKind::List => "list",
+        ValueKind::Map => "map",
+    }
 }
 
-fn kind_shown(shown: &Shown) -> ValueKind {
-    match *shown {
-        (true, _, _, _, _, _) => ValueKind::Null,
-        (_, Some(_), _, _, _, _) => ValueKind::Bool,
-        (_, _, Some(_), _, _, _) => ValueKind::Number,
-        (_, _, _, Some(_), _, _) => ValueKind::Text,
-        (_, _, _, _, true, _) => ValueKind::List,
-        _ => ValueKind::Map,
+/// Which of the calls that look at a value give something, one for each kind.
+fn calls(element: &Element<'_>) -> [bool; 6] {
+    [
+        element.is_null(),
+        element.as_bool().is_some(),
+        element.as_number().is_some(),
+        element.as_text().is_some(),
+        element.items().is_some(),
+        element.members().is_some(),
+    ]
+}
+
+/// Which of them does for the kind of this word.
+fn call_of(word: &str) -> [bool; 6] {
+    ["null", "truth", "number", "text", "list", "map"].map(|kind| kind == word)
+}
+
+/// The text that a value gives, if it gives one.
+fn given<'a>(element: &Element<'a>) -> &'a str {
+    match element.as_bool() {
+        Some(true) => "true",
+        Some(false) => "false",
+        None => element.as_number().or(element.as_text()).unwrap_or(""),
     }
+}
+
+/// Whether the value shows just that.
+fn shows(element: &Element<'_>, shown: &Shown) -> bool {
+    let (word, text) = *shown;
+    word_of(element.kind()) == word && calls(element) == call_of(word) && given(element) == text
 }
 
 /// These items are left, and no more.
@@ -55,27 +71,27 @@ fn expect_members<R: Abort>(rt: &R, mut members: Members<'_>, expected: &[(&str,
     assert!(rt; members.next().is_none());
 }
 
-const NULL: Shown = (true, None, None, None, false, false);
+const NULL: Shown = ("null", "");
 
-const FALSE: Shown = (false, Some(false), None, None, false, false);
+const FALSE: Shown = ("truth", "false");
 
-const TRUE: Shown = (false, Some(true), None, None, false, false);
+const TRUE: Shown = ("truth", "true");
 
-const ARRAY: Shown = (false, None, None, None, true, false);
+const ARRAY: Shown = ("list", "");
 
-const OBJECT: Shown = (false, None, None, None, false, true);
+const OBJECT: Shown = ("map", "");
 
-const ONE: Shown = (false, None, Some("1"), None, false, false);
+const ONE: Shown = ("number", "1");
 
-const TWO: Shown = (false, None, Some("2"), None, false, false);
+const TWO: Shown = ("number", "2");
 
-const NUMBER: Shown = (false, None, Some("-1.50E+2"), None, false, false);
+const NUMBER: Shown = ("number", "-1.50E+2");
 
-const DIGIT: Shown = (false, None, None, Some("1"), false, false);
+const DIGIT: Shown = ("text", "1");
 
-const WORD: Shown = (false, None, None, Some("a\u{e9}\""), false, false);
+const WORD: Shown = ("text", "a\u{e9}\"");
 
-const EMPTY: Shown = (false, None, None, Some(""), false, false);
+const EMPTY: Shown = ("text", "");
 
 #[test]
 fn shows_each_kind(rt: HostRuntime) -> Result<(), Fail> {
@@ -132,20 +148,25 @@ fn goes_over_nothing(rt: HostRuntime) -> Result<(), Fail> {
     Ok(())
 }
 
+/// Texts of arrays, and how many items each has, at most four of which are counted.
+const COUNTED: [(&[u8], usize); 4] = [
+    (b"[]", 0),
+    (b"[[]]", 1),
+    (b"[{\"a\": [1, 2]}, [[3], 4], 5]", 3),
+    (b"[1, 2, 3, 4, 5]", 4),
+];
+
+/// How many items are counted up to four and up to none, and whether there is a first one then.
+fn counts(mut items: Items<'_>) -> (usize, usize, bool) {
+    (items.count(4), items.count(0), items.next().is_some())
+}
+
 #[test]
 fn counts_items(rt: HostRuntime) -> Result<(), Fail> {
-    let counted: [(&[u8], usize); 4] = [
-        (b"[]", 0),
-        (b"[[]]", 1),
-        (b"[{\"a\": [1, 2]}, [[3], 4], 5]", 3),
-        (b"[1, 2, 3, 4, 5]", 4),
-    ];
-    for (text, count) in counted {
+    for &(text, count) in &COUNTED {
         let tape = read_tape(rt.alloc(), text)?;
-        let mut items = tape.root().items().expect(&rt, "items");
-        assert_eq!(rt; items.count(4), count);
-        assert_eq!(rt; items.count(0), 0);
-        assert_eq!(rt; items.next().is_some(), count > 0);
+        let items = tape.root().items().expect(&rt, "items");
+        assert_eq!(rt; counts(items), (count, 0, count > 0));
     }
     Ok(())
 }

@@ -47,18 +47,38 @@ fn read_by_runs(alloc: Global, runs: &[&[u8]]) -> Result<Json, ReadFault> {
     lexer.finish()
 }
 
+/// Whether the bytes, pushed one by one, are read so.
+fn is_same_by_bytes(alloc: Global, bytes: &[u8], whole: &Result<Json, ReadFault>) -> bool {
+    same(&read_by_bytes(alloc, bytes), whole)
+}
+
+/// Whether these runs are read so.
+fn is_same_by_runs(alloc: Global, runs: &[&[u8]], whole: &Result<Json, ReadFault>) -> bool {
+    same(&read_by_runs(alloc, runs), whole)
+}
+
+/// Whether the text is read so in each cut into two runs.
+fn is_same_by_cuts(alloc: Global, text: &[u8], whole: &Result<Json, ReadFault>) -> bool {
+    let mut alike = true;
+    for cut in 0..text.len() + 1 {
+        alike = alike && is_same_by_runs(alloc, &[&text[..cut], &text[cut..]], whole);
+    }
+    alike
+}
+
+/// Whether the text is read alike as a whole, by its bytes and in each cut into two runs.
+fn is_read_alike(alloc: Global, text: &[u8]) -> bool {
+    let whole = read_text(alloc, text);
+    is_same_by_bytes(alloc, text, &whole) && is_same_by_cuts(alloc, text, &whole)
+}
+
+/// Each front of the text is read alike, however it comes.
 pub(super) fn expect_same<R: Abort + AllocGlobal>(rt: &R, text: &[u8]) {
     for end in 0..text.len() + 1 {
-        let front = &text[..end];
-        let whole = read_text(rt.alloc(), front);
         assert!(rt;
-            same(&read_by_bytes(rt.alloc(), front), &whole),
-            "{front:?}"
+            is_read_alike(rt.alloc(), &text[..end]),
+            "{end} of {text:?}"
         );
-        for cut in 0..front.len() + 1 {
-            let cut_in_two = read_by_runs(rt.alloc(), &[&front[..cut], &front[cut..]]);
-            assert!(rt; same(&cut_in_two, &whole), "{front:?} cut at {cut}");
-        }
     }
 }
 

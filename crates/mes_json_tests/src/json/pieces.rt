@@ -3,7 +3,6 @@
 use super::lexer::{expect_same, same};
 use mes_json::{Json, Lexer, ReadFault, read_text};
 use std::alloc::Global;
-use std::process::Abort;
 
 const TEXTS: [&[u8]; 12] = [
     b"{\"type\":\"HEARTBEAT\",\"x\":\"\\ud800x\"}",
@@ -53,17 +52,24 @@ fn read_by_any_runs(alloc: Global, text: &[u8], seed: u64) -> Result<Json, ReadF
     lexer.finish()
 }
 
-fn expect_same_by_any_runs<R: Abort + AllocGlobal>(rt: &R, text: &[u8]) {
-    let whole = read_text(rt.alloc(), text);
+/// Whether the text is read so in the runs that this number chooses.
+fn is_same(alloc: Global, text: &[u8], seed: u64, whole: &Result<Json, ReadFault>) -> bool {
+    same(&read_by_any_runs(alloc, text, seed), whole)
+}
+
+/// Whether the text is read as a whole and in a hundred choices of runs alike.
+fn is_same_by_any_runs(alloc: Global, text: &[u8]) -> bool {
+    let whole = read_text(alloc, text);
+    let mut alike = true;
     for seed in 0..100 {
-        let in_runs = read_by_any_runs(rt.alloc(), text, seed);
-        assert!(rt; same(&in_runs, &whole), "{text:?} by {seed}");
+        alike = alike && is_same(alloc, text, seed, &whole);
     }
+    alike
 }
 
 #[test]
 fn reads_messages_in_any_runs(rt: HostRuntime) {
     for &text in &TEXTS {
-        expect_same_by_any_runs(&rt, text);
+        assert!(rt; is_same_by_any_runs(rt.alloc(), text), "{text:?}");
     }
 }

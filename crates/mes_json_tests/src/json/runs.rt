@@ -1,5 +1,6 @@
 //! Strings about as long as the blocks that are looked at together, with each kind of end, and white space between tokens.
 
+use super::values::is_same;
 use mes_json::{Json, ReadFault, Text, TextFault, Why, read_text};
 use std::alloc::Global;
 use std::process::Abort;
@@ -17,12 +18,34 @@ fn joined(alloc: Global, parts: &[&[u8]]) -> Result<Vec<u8>, Fail> {
     Ok(bytes)
 }
 
+/// Whether the bytes are these parts, one behind the other.
+fn are_joined(bytes: &[u8], parts: &[&[u8]]) -> bool {
+    let mut rest = bytes;
+    for part in parts {
+        if !rest.starts_with(part) {
+            return false;
+        }
+        rest = rest.get(part.len()..).unwrap_or(&[]);
+    }
+    rest.is_empty()
+}
+
 /// Whether the bytes spell the string of these characters.
-pub(super) fn spells(alloc: Global, bytes: &[u8], characters: &[u8]) -> bool {
+fn spells(alloc: Global, bytes: &[u8], characters: &[&[u8]]) -> bool {
     match &read_text(alloc, bytes) {
-        Ok(Json::Text(text)) => text.as_str().as_bytes() == characters,
+        Ok(Json::Text(text)) => are_joined(text.as_str().as_bytes(), characters),
         _ => false,
     }
+}
+
+/// Whether the parts spell the string of these characters.
+pub(super) fn are_spelled(
+    alloc: Global,
+    parts: &[&[u8]],
+    characters: &[&[u8]],
+) -> Result<bool, Fail> {
+    let bytes = joined(alloc, parts)?;
+    Ok(spells(alloc, &bytes, characters))
 }
 
 #[test]
@@ -30,8 +53,8 @@ fn reads_strings_of_each_length(rt: HostRuntime) -> Result<(), Fail> {
     for length in 0..101 {
         let plain = &PLAIN[..length];
         for behind in [b"", &[b' '; 64] as &[u8]] {
-            let bytes = joined(rt.alloc(), &[b"\"", plain, b"\"", behind])?;
-            assert!(rt; spells(rt.alloc(), &bytes, plain), "{length}");
+            let parts = [b"\"", plain, b"\"", behind];
+            assert!(rt; are_spelled(rt.alloc(), &parts, &[plain])?, "{length}");
         }
     }
     Ok(())
@@ -52,10 +75,9 @@ fn reads_each_end_of_a_run(rt: HostRuntime) -> Result<(), Fail> {
     for length in 0..49 {
         let plain = &PLAIN[..length];
         for &(written, meant) in &ENDS {
-            let bytes = joined(rt.alloc(), &[b"\"", plain, written, &PLAIN, b"\""])?;
-            let characters = joined(rt.alloc(), &[plain, meant, &PLAIN])?;
+            let parts = [b"\"", plain, written, &PLAIN, b"\""];
             assert!(rt;
-                spells(rt.alloc(), &bytes, &characters),
+                are_spelled(rt.alloc(), &parts, &[plain, meant, &PLAIN])?,
                 "{length} {written:?}"
             );
         }
@@ -63,8 +85,19 @@ fn reads_each_end_of_a_run(rt: HostRuntime) -> Result<(), Fail> {
     Ok(())
 }
 
+/// Whether the parts are an object whose first member has this name and this text.
+fn begins_with(
+    alloc: Global,
+    parts: &[&[u8]],
+    wanted: &[&[u8]],
+    characters: &[&[u8]],
+) -> Result<bool, Fail> {
+    let bytes = joined(alloc, parts)?;
+    Ok(is_member(alloc, &bytes, wanted, characters))
+}
+
 /// Whether the bytes are an object whose first member has this name and this text.
-fn begins_with(alloc: Global, bytes: &[u8], wanted: &[u8], characters: &[u8]) -> bool {
+fn is_member(alloc: Global, bytes: &[u8], wanted: &[&[u8]], characters: &[&[u8]]) -> bool {
     match &read_text(alloc, bytes) {
         Ok(Json::Map(members)) => is_first(members.as_slice(), wanted, characters),
         _ => false,
@@ -72,10 +105,11 @@ fn begins_with(alloc: Global, bytes: &[u8], wanted: &[u8], characters: &[u8]) ->
 }
 
 /// Whether the first of the members has this name and this text.
-fn is_first(members: &[(Text, Json)], wanted: &[u8], characters: &[u8]) -> bool {
+fn is_first(members: &[(Text, Json)], wanted: &[&[u8]], characters: &[&[u8]]) -> bool {
     match members {
         [(name, Json::Text(text)), ..] => {
-            name.as_str().as_bytes() == wanted && text.as_str().as_bytes() == characters
+            are_joined(name.as_str().as_bytes(), wanted)
+                && are_joined(text.as_str().as_bytes(), characters)
         }
         _ => false,
     }
@@ -99,9 +133,8 @@ fn reads_members_of_each_length(rt: HostRuntime) -> Result<(), Fail> {
         for &colon in &COLONS {
             for &behind in &BEHIND {
                 let parts = [b"{\"", plain, b"\"", colon, b"\"", plain, b"\"", behind];
-                let bytes = joined(rt.alloc(), &parts)?;
                 assert!(rt;
-                    begins_with(rt.alloc(), &bytes, plain, plain),
+                    begins_with(rt.alloc(), &parts, &[plain], &[plain])?,
                     "{length} {colon:?} {behind:?}"
                 );
             }
@@ -116,11 +149,8 @@ fn reads_each_end_of_a_run_in_a_member(rt: HostRuntime) -> Result<(), Fail> {
         let plain = &PLAIN[..length];
         for &(written, meant) in &ENDS {
             let parts = [b"{\"", plain, written, b"!\":\"", plain, written, b"\"}"];
-            let bytes = joined(rt.alloc(), &parts)?;
-            let name = joined(rt.alloc(), &[plain, meant, b"!"])?;
-            let characters = joined(rt.alloc(), &[plain, meant])?;
             assert!(rt;
-                begins_with(rt.alloc(), &bytes, &name, &characters),
+                begins_with(rt.alloc(), &parts, &[plain, meant, b"!"], &[plain, meant])?,
                 "{length} {written:?}"
             );
         }
@@ -183,16 +213,17 @@ fn spaced(alloc: Global, blank: &[u8]) -> Result<Vec<u8>, Fail> {
     Ok(bytes)
 }
 
-fn read_spaced(alloc: Global, blank: &[u8]) -> Result<Json, Fail> {
-    let bytes = spaced(alloc, blank)?;
-    Ok(read_text(alloc, &bytes)?)
+/// Whether the tokens are read with the blank around each as they are without one.
+fn is_read_close(alloc: Global, blank: &[u8]) -> Result<bool, Fail> {
+    let wide = spaced(alloc, blank)?;
+    let close = spaced(alloc, b"")?;
+    is_same(alloc, &wide, &close)
 }
 
 #[test]
 fn passes_over_white_space(rt: HostRuntime) -> Result<(), Fail> {
-    let close = read_spaced(rt.alloc(), b"")?;
     for &blank in &BLANKS {
-        assert!(rt; read_spaced(rt.alloc(), blank)?.same(&close), "{blank:?}");
+        assert!(rt; is_read_close(rt.alloc(), blank)?, "{blank:?}");
     }
     Ok(())
 }
@@ -233,5 +264,5 @@ fn keeps_white_space_where_it_counts(rt: HostRuntime) {
     for &(bytes, byte) in &WITHIN {
         expect_fault(&rt, bytes, byte);
     }
-    assert!(rt; spells(rt.alloc(), b" \" \x7f  a \" ", b" \x7f  a "));
+    assert!(rt; spells(rt.alloc(), b" \" \x7f  a \" ", &[b" \x7f  a "]));
 }

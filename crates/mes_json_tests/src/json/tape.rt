@@ -57,17 +57,21 @@ fn tape_of_tree(alloc: Global, text: &[u8]) -> Result<Tape, Fail> {
     Ok(Tape::of_json(alloc, &json)?)
 }
 
-/// Whether the value of the text is written so, from the tape that is read and from that of its tree.
-fn is_read_so(alloc: Global, text: &[u8], wanted: &[u8]) -> Result<bool, Fail> {
-    let tape = read_tape(alloc, text)?;
-    let of_tree = tape_of_tree(alloc, text)?;
-    Ok(is_written(alloc, &tape, wanted)? && is_written(alloc, &of_tree, wanted)?)
+/// Whether the value of the tape, which is dropped, is written so.
+fn is_read_so(alloc: Global, tape: Tape, wanted: &[u8]) -> Result<bool, Fail> {
+    let same = is_written(alloc, &tape, wanted);
+    drop(tape);
+    same
 }
 
 #[test]
 fn holds_the_value(rt: HostRuntime) -> Result<(), Fail> {
     for &(text, wanted) in &WRITTEN {
-        assert!(rt; is_read_so(rt.alloc(), text, wanted)?, "{text:?}");
+        let same = [
+            is_read_so(rt.alloc(), read_tape(rt.alloc(), text)?, wanted)?,
+            is_read_so(rt.alloc(), tape_of_tree(rt.alloc(), text)?, wanted)?,
+        ];
+        assert_eq!(rt; same, [true; 2], "{text:?}");
     }
     Ok(())
 }
@@ -107,16 +111,20 @@ fn reads_on_in_the_memory_of_a_tape(rt: HostRuntime) -> Result<(), Fail> {
     Ok(())
 }
 
-#[test]
-fn gives_long_memory_back(rt: HostRuntime) -> Result<(), Fail> {
-    let mut text = Vec::new(rt.alloc());
+/// The tape of an array that is longer than the memory of a tape that is kept.
+fn long_tape(alloc: Global) -> Result<Tape, Fail> {
+    let mut text = Vec::new(alloc);
     text.push(b'[')?;
     for _ in 0..1_100_000 {
         text.extend_from_slice(b"1,")?;
     }
     text.extend_from_slice(b"1]")?;
-    let tape = read_tape(rt.alloc(), &text)?;
-    let next = lexed(Lexer::reusing(rt.alloc(), tape), b"[2]")?;
-    assert!(rt; is_written(rt.alloc(), &next, b"[2]")?);
+    Ok(read_tape(alloc, &text)?)
+}
+
+#[test]
+fn gives_long_memory_back(rt: HostRuntime) -> Result<(), Fail> {
+    let next = lexed(Lexer::reusing(rt.alloc(), long_tape(rt.alloc())?), b"[2]")?;
+    assert!(rt; is_read_so(rt.alloc(), next, b"[2]")?);
     Ok(())
 }

@@ -1,31 +1,21 @@
 //! JSON texts with the trees that they spell.
 
-use super::runs::spells;
+use super::runs::are_spelled;
 use super::values::written;
 use mes_json::{Json, NESTING_LIMIT, Text, read_text};
 use std::alloc::Global;
+use std::process::Abort;
 use std::test::Fail;
 
-/// What a value is, of arrays and objects how many items or members they have.
-#[derive(Clone, Copy)]
-enum Kind {
-    Null,
-    Bool(bool),
-    Number(&'static str),
-    Text(&'static str),
-    List(usize),
-    Map(usize),
-}
-
-fn is_kind(json: &Json, kind: Kind) -> bool {
-    match (json, kind) {
-        (Json::Null, Kind::Null) => true,
-        (Json::Bool(truth), Kind::Bool(expected)) => *truth == expected,
-        (Json::Num(number), Kind::Number(digits)) => number.as_str() == digits,
-        (Json::Text(text), Kind::Text(characters)) => text.as_str() == characters,
-        (Json::List(items), Kind::List(count)) => items.len() == count,
-        (Json::Map(members), Kind::Map(count)) => members.len() == count,
-        _ => false,
+/// Whether the value is what these words say: its kind, and its truth, its digits, its characters or how many items or members it has.
+fn is_told(json: &Json, kind: &str, what: &str) -> bool {
+    match json {
+        Json::Null => kind == "null",
+        Json::Bool(truth) => kind == "truth" && *truth == (what == "true"),
+        Json::Num(number) => kind == "number" && number.as_str() == what,
+        Json::Text(text) => kind == "text" && text.as_str() == what,
+        Json::List(items) => kind == "list" && what.parse() == Ok(items.len()),
+        Json::Map(members) => kind == "map" && what.parse() == Ok(members.len()),
     }
 }
 
@@ -38,11 +28,13 @@ fn child(json: &Json, at: usize) -> Option<&Json> {
     }
 }
 
-/// The value that the places lead to, each inside the one before.
-fn value_at<'a>(json: &'a Json, places: &[usize]) -> Option<&'a Json> {
+/// The value that the places, between dots, lead to, each inside the one before; `-` is the whole.
+fn value_at<'a>(json: &'a Json, places: &str) -> Option<&'a Json> {
     let mut value = json;
-    for place in places {
-        value = child(value, *place)?;
+    if places != "-" {
+        for place in places.split('.') {
+            value = child(value, place.parse().ok()?)?;
+        }
     }
     Some(value)
 }
@@ -60,69 +52,82 @@ const ORDERED: &[u8] = br#" {"a" : {"b":"c"} , "a":"d", "0":[ ] } "#;
 
 const SPACED: &[u8] = b"\t{ \"a\"\n:\r{ } , \"b\" : \"\" }\n";
 
-// A text, the places that lead to a value, and what the value is.
-const VALUES: [(&[u8], &[usize], Kind); 25] = [
-    (b"null", &[], Kind::Null),
-    (b" true ", &[], Kind::Bool(true)),
-    (b"\tfalse\r\n", &[], Kind::Bool(false)),
-    (br#"{"type":"HEARTBEAT"}"#, &[], Kind::Map(1)),
-    (br#"{"type":"HEARTBEAT"}"#, &[0], Kind::Text("HEARTBEAT")),
-    (LISTED, &[], Kind::List(8)),
-    (LISTED, &[0], Kind::Null),
-    (LISTED, &[1], Kind::Bool(true)),
-    (LISTED, &[2], Kind::Bool(false)),
-    (LISTED, &[3], Kind::Number("1")),
-    (LISTED, &[4], Kind::Text("a")),
-    (LISTED, &[5], Kind::List(0)),
-    (LISTED, &[6], Kind::Map(0)),
-    (LISTED, &[7], Kind::List(2)),
-    (LISTED, &[7, 0, 0], Kind::Number("2")),
-    (LISTED, &[7, 1, 0, 0], Kind::Number("3")),
-    (ORDERED, &[], Kind::Map(3)),
-    (ORDERED, &[0], Kind::Map(1)),
-    (ORDERED, &[0, 0], Kind::Text("c")),
-    (ORDERED, &[1], Kind::Text("d")),
-    (ORDERED, &[2], Kind::List(0)),
-    (SPACED, &[], Kind::Map(2)),
-    (SPACED, &[0], Kind::Map(0)),
-    (SPACED, &[1], Kind::Text("")),
-    (b"\"\"", &[], Kind::Text("")),
-];
+// The places that lead to a value in a text, and what the value is.
+const IN_LISTED: &str = "- => list 8
+0 => null
+1 => truth true
+2 => truth false
+3 => number 1
+4 => text a
+5 => list 0
+6 => map 0
+7 => list 2
+7.0.0 => number 2
+7.1.0.0 => number 3
+";
+
+const IN_ORDERED: &str = "- => map 3
+0 => map 1
+0.0 => text c
+1 => text d
+2 => list 0
+";
+
+const IN_SPACED: &str = "- => map 2
+0 => map 0
+1 => text
+";
 
 /// Whether the places lead to such a value in what the text spells.
-fn is_at(alloc: Global, text: &[u8], places: &[usize], kind: Kind) -> bool {
+fn is_at(alloc: Global, text: &[u8], places: &str, kind: &str, what: &str) -> bool {
     match &read_text(alloc, text) {
-        Ok(json) => value_at(json, places).is_some_and(|value| is_kind(value, kind)),
+        Ok(json) => value_at(json, places).is_some_and(|value| is_told(value, kind, what)),
         Err(_) => false,
     }
 }
 
-#[test]
-fn reads_each_value(rt: HostRuntime) {
-    for (text, places, kind) in VALUES {
-        assert!(rt;
-            is_at(rt.alloc(), text, places, kind),
-            "{text:?} {places:?}"
-        );
+/// Each row has places that lead to such a value in what the text spells.
+fn expect_values<R: Abort + AllocGlobal>(rt: &R, text: &[u8], rows: &str) -> Result<(), Fail> {
+    for row in rows.lines() {
+        let (places, told) = row.split_once(" => ").ok_or("places and a value")?;
+        let (kind, what) = told.split_once(' ').unwrap_or((told, ""));
+        assert!(rt; is_at(rt.alloc(), text, places, kind, what), "{row}");
     }
+    Ok(())
+}
+
+#[test]
+fn reads_each_value(rt: HostRuntime) -> Result<(), Fail> {
+    expect_values(&rt, b"null", "- => null")?;
+    expect_values(&rt, b" true ", "- => truth true")?;
+    expect_values(&rt, b"\tfalse\r\n", "- => truth false")?;
+    expect_values(&rt, b"\"\"", "- => text")?;
+    expect_values(
+        &rt,
+        br#"{"type":"HEARTBEAT"}"#,
+        "- => map 1\n0 => text HEARTBEAT",
+    )?;
+    expect_values(&rt, LISTED, IN_LISTED)?;
+    expect_values(&rt, ORDERED, IN_ORDERED)?;
+    expect_values(&rt, SPACED, IN_SPACED)
 }
 
 // A text, the places that lead to an object, and the name of a member in a place of it.
-const NAMES: [(&[u8], &[usize], usize, &str); 9] = [
-    (br#"{"type":"HEARTBEAT"}"#, &[], 0, "type"),
-    (ORDERED, &[], 0, "a"),
-    (ORDERED, &[0], 0, "b"),
-    (ORDERED, &[], 1, "a"),
-    (ORDERED, &[], 2, "0"),
-    (LISTED, &[7, 1], 0, "b"),
-    (SPACED, &[], 1, "b"),
+const NAMES: [(&[u8], &str, usize, &str); 9] = [
+    (br#"{"type":"HEARTBEAT"}"#, "-", 0, "type"),
+    (ORDERED, "-", 0, "a"),
+    (ORDERED, "0", 0, "b"),
+    (ORDERED, "-", 1, "a"),
+    (ORDERED, "-", 2, "0"),
+    (LISTED, "7.1", 0, "b"),
+    (SPACED, "-", 1, "b"),
     // A name with escapes is the text that they stand for.
-    (br#"{"\u0061\/":"","a/":""}"#, &[], 0, "a/"),
-    (br#"{"\u0061\/":"","a/":""}"#, &[], 1, "a/"),
+    (br#"{"\u0061\/":"","a/":""}"#, "-", 0, "a/"),
+    (br#"{"\u0061\/":"","a/":""}"#, "-", 1, "a/"),
 ];
 
 /// Whether the places lead to an object in what the text spells, with a member of that name in this place.
-fn is_named(alloc: Global, text: &[u8], places: &[usize], at: usize, name: &str) -> bool {
+fn is_named(alloc: Global, text: &[u8], places: &str, at: usize, name: &str) -> bool {
     match &read_text(alloc, text) {
         Ok(json) => value_at(json, places).is_some_and(|object| name_at(object, at) == Some(name)),
         Err(_) => false,
@@ -134,7 +139,7 @@ fn reads_each_name(rt: HostRuntime) {
     for &(text, places, at, name) in &NAMES {
         assert!(rt;
             is_named(rt.alloc(), text, places, at, name),
-            "{text:?} {places:?} {name}"
+            "{places} {name}"
         );
     }
 }
@@ -156,23 +161,17 @@ const NUMBERS: [&str; 13] = [
 ];
 
 // What may stand before and behind a number, and the places that lead to it.
-const AROUND: [(&[u8], &[u8], &[usize]); 4] = [
-    (b"", b"", &[]),
-    (b" [", b" , 7] ", &[0]),
-    (b"[7,", b"]", &[1]),
-    (b"{\"a\":", b"}", &[0]),
+const AROUND: [(&[u8], &[u8], &str); 4] = [
+    (b"", b"", "-"),
+    (b" [", b" , 7] ", "0"),
+    (b"[7,", b"]", "1"),
+    (b"{\"a\":", b"}", "0"),
 ];
 
 /// Whether the number is read as it is written, with this before and behind it.
-fn is_kept(
-    alloc: Global,
-    digits: &'static str,
-    front: &'static [u8],
-    end: &'static [u8],
-    places: &[usize],
-) -> bool {
+fn is_kept(alloc: Global, digits: &str, front: &[u8], end: &[u8], places: &str) -> bool {
     match &[front, digits.as_bytes(), end].concat(alloc) {
-        Ok(text) => is_at(alloc, text, places, Kind::Number(digits)),
+        Ok(text) => is_at(alloc, text, places, "number", digits),
         Err(_) => false,
     }
 }
@@ -209,19 +208,16 @@ const CHARACTERS: &str =
     "\u{20}\u{7f}\u{80}\u{7ff}\u{800}\u{fff}\u{1000}\u{cfff}\u{d000}\u{d7ff}\u{e000}\u{ffff}\u{10000}\u{3ffff}\u{40000}\u{fffff}\u{100000}\u{10ffff}";
 
 /// Whether the string of the characters, none of which needs an escape, is read as them.
-fn is_read(alloc: Global, characters: &'static str) -> Result<bool, Fail> {
+fn is_read(alloc: Global, characters: &str) -> Result<bool, Fail> {
     let text = format!(in alloc; "\"{characters}\"")?;
-    Ok(is_at(alloc, text.as_bytes(), &[], Kind::Text(characters)))
+    Ok(is_at(alloc, text.as_bytes(), "-", "text", characters))
 }
 
 #[test]
 fn reads_characters_and_escapes(rt: HostRuntime) -> Result<(), Fail> {
     assert!(rt; is_read(rt.alloc(), CHARACTERS)?);
     for &(bytes, text) in &ESCAPES {
-        assert!(rt;
-            is_at(rt.alloc(), bytes, &[], Kind::Text(text)),
-            "{bytes:?}"
-        );
+        assert!(rt; is_at(rt.alloc(), bytes, "-", "text", text), "{bytes:?}");
     }
     Ok(())
 }
@@ -240,8 +236,8 @@ fn reads_long_texts(rt: HostRuntime) -> Result<(), Fail> {
     // Longer than any buffer begins, with a character of two bytes and an escape in the middle.
     let expected = times(rt.alloc(), 1000, "plain text, \u{e9}\n".as_bytes())?;
     let written = times(rt.alloc(), 1000, "plain text, \u{e9}\\n".as_bytes())?;
-    let text = [b"\"", written.as_slice(), b"\""].concat(rt.alloc())?;
-    assert!(rt; spells(rt.alloc(), &text, &expected));
+    let parts = [b"\"", written.as_slice(), b"\""];
+    assert!(rt; are_spelled(rt.alloc(), &parts, &[&expected])?);
     Ok(())
 }
 

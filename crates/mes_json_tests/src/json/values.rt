@@ -116,15 +116,22 @@ fn writes_and_measures_each_kind(rt: HostRuntime) -> Result<(), Fail> {
     Ok(())
 }
 
-/// A copy of the value that the bytes spell, which is the same; the value itself is gone.
-fn copied(alloc: Global, bytes: &[u8]) -> Result<Json, Fail> {
-    let json = read_text(alloc, bytes)?;
+/// A copy of the value, which is the same.
+fn copy_of(alloc: Global, json: &Json) -> Result<Json, Fail> {
     let copy = json.copy(alloc)?;
     if json.same(&copy) {
         Ok(copy)
     } else {
         Err("a copy that is the same")?
     }
+}
+
+/// A copy of the value that the bytes spell; the value itself is gone.
+fn copied(alloc: Global, bytes: &[u8]) -> Result<Json, Fail> {
+    let json = read_text(alloc, bytes)?;
+    let copy = copy_of(alloc, &json);
+    drop(json);
+    copy
 }
 
 /// Whether the value that the bytes spell has a copy that nests so deep, and is written so.
@@ -155,13 +162,26 @@ fn tells_values_apart(rt: HostRuntime) -> Result<(), Fail> {
     Ok(())
 }
 
+/// Writes a value and texts behind what is there.
+fn write_behind(json: &Json, out: &mut Vec<u8>) -> Result<(), Fail> {
+    write_text(json, out)?;
+    write_text(&Json::Null, out)?;
+    write_str("a\n\"", out)?;
+    Ok(())
+}
+
+/// Writes the value that the bytes spell, and texts, behind what is there.
+fn write_read(alloc: Global, bytes: &[u8], out: &mut Vec<u8>) -> Result<(), Fail> {
+    let json = read_text(alloc, bytes)?;
+    let answer = write_behind(&json, out);
+    drop(json);
+    answer
+}
+
 #[test]
 fn writes_behind_what_is_there(rt: HostRuntime) -> Result<(), Fail> {
-    let mut out = Vec::new(rt.alloc());
-    out.extend_from_slice(b"x ")?;
-    write_text(&read_text(rt.alloc(), b"[[]]")?, &mut out)?;
-    write_text(&Json::Null, &mut out)?;
-    write_str("a\n\"", &mut out)?;
+    let mut out = Vec::from_slice(rt.alloc(), b"x ")?;
+    write_read(rt.alloc(), b"[[]]", &mut out)?;
     assert!(rt; out.as_slice() == br#"x [[]]null"a\n\"""#.as_slice());
     Ok(())
 }
@@ -251,7 +271,7 @@ fn nested(alloc: Global, depth: usize) -> Result<Vec<u8>, Fail> {
 }
 
 /// Whether the two spell the same.
-fn is_same(alloc: Global, one: &[u8], other: &[u8]) -> Result<bool, Fail> {
+pub(super) fn is_same(alloc: Global, one: &[u8], other: &[u8]) -> Result<bool, Fail> {
     let one = read_text(alloc, one)?;
     let other = read_text(alloc, other)?;
     Ok(one.same(&other))

@@ -26,52 +26,39 @@ fn room_behind(text: &[u8]) -> u64 {
     state.room()
 }
 
-const CLOSED: ChunkOut = ChunkOut::Closed;
-
-const BAD_LINE: ChunkOut = ChunkOut::Fault(FrameFault::BadChunkLine);
-
-const LONG_LINE: ChunkOut = ChunkOut::Fault(FrameFault::ChunkLineTooLong);
-
-const LARGE: ChunkOut = ChunkOut::Fault(FrameFault::ChunkTooLarge);
-
-const BAD_END: ChunkOut = ChunkOut::Fault(FrameFault::BadChunkEnd);
-
-const LONG_TRAILERS: ChunkOut = ChunkOut::Fault(FrameFault::TrailersTooLong);
-
-// Bodies, and the first answer that ends each with how many bytes had been taken then.
-const ENDS: [(&[u8], Option<(usize, ChunkOut)>); 22] = [
-    (b"0\r\n\r\n", Some((5, CLOSED))),
-    (b"000\r\n\r\n", Some((7, CLOSED))),
-    (b"0\r\nA: b\r\n\r\n", Some((11, CLOSED))),
-    (b"1\r\n2\r\n00\r\n\r\n3", Some((12, CLOSED))),
-    (
-        b"A;q=\"x\"\r\n\r\n0\r\n\r\n789\r\n0\r\n\r\n",
-        Some((26, CLOSED)),
-    ),
-    (b"1\r\n2\r\n0\r\n", None),
-    (b"g", Some((1, BAD_LINE))),
-    (b"1\n", Some((2, BAD_LINE))),
-    (b"\r", Some((1, BAD_LINE))),
-    (b";", Some((1, BAD_LINE))),
-    (b"1\rX", Some((3, BAD_LINE))),
-    (b"1;\x7f", Some((3, BAD_LINE))),
-    (b"1;\n", Some((3, BAD_LINE))),
-    (b"10000000000000000", Some((17, LARGE))),
-    (b"fffffffffffffffff", Some((17, LARGE))),
-    (b"0ffffffffffffffff\r\n", None),
-    (b"1\r\n2X", Some((5, BAD_END))),
-    (b"1\r\n2\rX", Some((6, BAD_END))),
-    (b"0\r\n\n", Some((4, BAD_END))),
-    (b"0\r\nA\n", Some((5, BAD_END))),
-    (b"0\r\nA\rX", Some((6, BAD_END))),
-    (b"0\r\n\rX", Some((5, BAD_END))),
+// Bodies, and the first answer that ends each behind how many bytes had been taken then.
+const ENDS: [(&[u8], &str); 22] = [
+    (b"0\r\n\r\n", "5 Closed"),
+    (b"000\r\n\r\n", "7 Closed"),
+    (b"0\r\nA: b\r\n\r\n", "11 Closed"),
+    (b"1\r\n2\r\n00\r\n\r\n3", "12 Closed"),
+    (b"A;q=\"x\"\r\n\r\n0\r\n\r\n789\r\n0\r\n\r\n", "26 Closed"),
+    (b"1\r\n2\r\n0\r\n", "no end"),
+    (b"g", "1 Fault(BadChunkLine)"),
+    (b"1\n", "2 Fault(BadChunkLine)"),
+    (b"\r", "1 Fault(BadChunkLine)"),
+    (b";", "1 Fault(BadChunkLine)"),
+    (b"1\rX", "3 Fault(BadChunkLine)"),
+    (b"1;\x7f", "3 Fault(BadChunkLine)"),
+    (b"1;\n", "3 Fault(BadChunkLine)"),
+    (b"10000000000000000", "17 Fault(ChunkTooLarge)"),
+    (b"fffffffffffffffff", "17 Fault(ChunkTooLarge)"),
+    (b"0ffffffffffffffff\r\n", "no end"),
+    (b"1\r\n2X", "5 Fault(BadChunkEnd)"),
+    (b"1\r\n2\rX", "6 Fault(BadChunkEnd)"),
+    (b"0\r\n\n", "4 Fault(BadChunkEnd)"),
+    (b"0\r\nA\n", "5 Fault(BadChunkEnd)"),
+    (b"0\r\nA\rX", "6 Fault(BadChunkEnd)"),
+    (b"0\r\n\rX", "5 Fault(BadChunkEnd)"),
 ];
 
 #[test]
-fn bodies_end_and_break_at_their_byte(rt: HostRuntime) {
-    for (body, end) in ENDS {
-        assert_eq!(rt; first_end(body), end, "{body:?}");
+fn bodies_end_and_break_at_their_byte(rt: HostRuntime) -> Result<(), AllocError> {
+    for &(body, end) in &ENDS {
+        let told = told_end(rt.alloc(), first_end(body))?;
+        assert_eq!(rt; told.as_str(), end, "{body:?}");
     }
+    Ok(())
 }
 
 // Fronts of bodies, and how many bytes of data come next.
@@ -91,47 +78,42 @@ fn chunks_have_room_for_their_data(rt: HostRuntime) {
 }
 
 // Long bodies in parts, about the limits of lines and trailers; the answer that ends each; and how many bytes of data come next.
-const LONG: [(&[&[u8]], Option<(usize, ChunkOut)>, u64); 9] = [
-    (&[b"1;", &[b'a'; 255]], Some((257, LONG_LINE)), 0),
-    (&[b"1;", &[b'a'; 254], b"\r\n"], None, 1),
-    (&[&[b'0'; 257]], Some((257, LONG_LINE)), 0),
-    (&[&[b'0'; 256], b"\r\n\r\n"], Some((260, CLOSED)), 0),
-    (&[b"0\r\n", &[b'a'; 4097]], Some((4100, LONG_TRAILERS)), 0),
-    (
-        &[b"0\r\n", &[b'a'; 4094], b"\r\n\r\n"],
-        Some((4101, CLOSED)),
-        0,
-    ),
+const LONG: [(&[&[u8]], &str, u64); 9] = [
+    (&[b"1;", &[b'a'; 255]], "257 Fault(ChunkLineTooLong)", 0),
+    (&[b"1;", &[b'a'; 254], b"\r\n"], "no end", 1),
+    (&[&[b'0'; 257]], "257 Fault(ChunkLineTooLong)", 0),
+    (&[&[b'0'; 256], b"\r\n\r\n"], "260 Closed", 0),
+    (&[b"0\r\n", &[b'a'; 4097]], "4100 Fault(TrailersTooLong)", 0),
+    (&[b"0\r\n", &[b'a'; 4094], b"\r\n\r\n"], "4101 Closed", 0),
     (
         &[b"0\r\n", &[b'a'; 2046], b"\r\n", &[b'b'; 2046], b"\r\n\r\n"],
-        Some((4101, CLOSED)),
+        "4101 Closed",
         0,
     ),
     (
         &[b"0\r\n", &[b'a'; 2046], b"\r\n", &[b'b'; 2046], b"\r\nc"],
-        Some((4100, LONG_TRAILERS)),
+        "4100 Fault(TrailersTooLong)",
         0,
     ),
     (
         &[b"0\r\n", &[b'a'; 4095], b"\r\n"],
-        Some((4100, LONG_TRAILERS)),
+        "4100 Fault(TrailersTooLong)",
         0,
     ),
 ];
 
-// The answer that ends the body of these parts, and how many bytes of data come next.
-fn end_and_room(
-    alloc: Global,
-    parts: &[&[u8]],
-) -> Result<(Option<(usize, ChunkOut)>, u64), AllocError> {
+// What is told of the answer that ends the body of these parts, and how many bytes of data come next.
+fn end_and_room(alloc: Global, parts: &[&[u8]]) -> Result<(String, u64), AllocError> {
     let body = parts.concat(alloc)?;
-    Ok((first_end(&body), room_behind(&body)))
+    let room = room_behind(&body);
+    Ok((told_end(alloc, first_end(&body))?, room))
 }
 
 #[test]
 fn lines_and_trailers_have_a_limit(rt: HostRuntime) -> Result<(), AllocError> {
-    for (parts, end, room) in LONG {
-        assert_eq!(rt; end_and_room(rt.alloc(), parts)?, (end, room));
+    for &(parts, end, room) in &LONG {
+        let (told, left) = end_and_room(rt.alloc(), parts)?;
+        assert_eq!(rt; (told.as_str(), left), (end, room));
     }
     Ok(())
 }
@@ -150,13 +132,13 @@ fn an_end_is_answered_again(rt: HostRuntime) {
     let mut broken = ChunkState::new();
     assert_eq!(rt;
         (steps(&mut broken, b"g1\r"), broken.room()),
-        ([BAD_LINE; 3], 0)
+        ([ChunkOut::Fault(FrameFault::BadChunkLine); 3], 0)
     );
     let mut closed = ChunkState::new();
     assert_eq!(rt; steps(&mut closed, b"0\r\n\r"), [ChunkOut::Quiet; 4]);
     assert_eq!(rt;
         (steps(&mut closed, b"\n1\r\nx"), closed.room()),
-        ([CLOSED; 5], 0)
+        ([ChunkOut::Closed; 5], 0)
     );
 }
 
@@ -183,7 +165,10 @@ fn data_of_chunks_passes_in_runs(rt: HostRuntime) {
         ),
         (quiet, quiet)
     );
-    assert_eq!(rt; (run.step(b'\n'), stepped.step(b'\n')), (CLOSED, CLOSED));
+    assert_eq!(rt;
+        [run.step(b'\n'), stepped.step(b'\n')],
+        [ChunkOut::Closed; 2]
+    );
 }
 
 // Adds the bytes of the body that the pieces hold; tells the answer that ends it and how many bytes had been taken then. Runs of
@@ -220,43 +205,30 @@ fn read_pieces(
 }
 
 // Each body with its data and its end.
-const BODIES: [(&[u8], &[u8], Option<(usize, ChunkOut)>); 5] = [
+const BODIES: [(&[u8], &[u8], &str); 5] = [
     (
         b"1\r\n2\r\n1\r\n0\r\n1\r\n\n\r\n0\r\n\r\n",
         b"20\n",
-        Some((23, ChunkOut::Closed)),
+        "23 Closed",
     ),
-    (
-        b"2\r\n5\n\r\n0\r\n\r\n",
-        b"5\n",
-        Some((12, ChunkOut::Closed)),
-    ),
-    (b"5\r\n20\n", b"20\n", None),
-    (b"0\r\n\r\nXYZ", b"", Some((5, ChunkOut::Closed))),
-    (
-        b"3\r\nabcX",
-        b"abc",
-        Some((7, ChunkOut::Fault(FrameFault::BadChunkEnd))),
-    ),
+    (b"2\r\n5\n\r\n0\r\n\r\n", b"5\n", "12 Closed"),
+    (b"5\r\n20\n", b"20\n", "no end"),
+    (b"0\r\n\r\nXYZ", b"", "5 Closed"),
+    (b"3\r\nabcX", b"abc", "7 Fault(BadChunkEnd)"),
 ];
 
 // Whether the pieces hold just these data, and end so.
-fn read_as(
-    alloc: Global,
-    pieces: [&[u8]; 2],
-    data: &[u8],
-    end: Option<(usize, ChunkOut)>,
-) -> Result<bool, AllocError> {
+fn read_as(alloc: Global, pieces: [&[u8]; 2], data: &[u8], end: &str) -> Result<bool, AllocError> {
     let mut body = Vec::new(alloc);
     let ended = read_pieces(&mut body, pieces);
     let held = body.as_slice() == data;
     drop(body);
-    Ok(held && ended? == end)
+    Ok(held && told_end(alloc, ended?)?.as_str() == end)
 }
 
 #[test]
 fn each_cut_into_two_reads_alike(rt: HostRuntime) -> Result<(), AllocError> {
-    for (bytes, data, end) in BODIES {
+    for &(bytes, data, end) in &BODIES {
         for cut in 0..bytes.len() + 1 {
             let (first, second) = bytes.split_at(cut);
             assert!(rt;

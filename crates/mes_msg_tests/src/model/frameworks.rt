@@ -1,6 +1,7 @@
 //! Frameworks, what they are able to deal with, and when they want no offers.
 
-use super::{expect_faults, expect_values};
+use super::expect_values;
+use crate::support::expect_faults;
 use mes_model::{Capability, Filters, FrameworkInfo};
 use std::test::Fail;
 

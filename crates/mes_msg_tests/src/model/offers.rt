@@ -1,6 +1,7 @@
 //! Offers.
 
-use super::{expect_faults, expect_values};
+use super::expect_values;
+use crate::support::expect_faults;
 use mes_model::Offer;
 use std::test::Fail;
 

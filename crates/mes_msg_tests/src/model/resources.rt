@@ -1,6 +1,7 @@
 //! Resources and attributes.
 
-use super::{expect_faults, expect_values};
+use super::expect_values;
+use crate::support::expect_faults;
 use mes_model::{Attribute, Resource};
 use std::test::Fail;
 

@@ -1,7 +1,7 @@
 //! Statuses of tasks, their states, and what they owe.
 
-use super::{expect_faults, expect_values, value_of};
-use crate::support::row_of;
+use super::expect_values;
+use crate::support::{expect_faults, row_of, value_of};
 use mes_model::{OwedKey, Part, TaskState, TaskStatus};
 use std::alloc::{AllocGlobal, Global};
 use std::process::Abort;

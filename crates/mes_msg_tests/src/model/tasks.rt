@@ -1,6 +1,7 @@
 //! What tasks run, tasks to be launched, and tasks that are asked about.
 
-use super::{expect_faults, expect_values};
+use super::expect_values;
+use crate::support::expect_faults;
 use mes_model::{Command, TaskInfo, TaskRef};
 use std::test::Fail;
 

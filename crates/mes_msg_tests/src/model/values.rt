@@ -1,6 +1,7 @@
 //! Identifiers, values of resources and attributes, and reservations.
 
-use super::{expect_faults, expect_values};
+use super::expect_values;
+use crate::support::expect_faults;
 use mes_model::{Allocation, Id, Range, Ranges, Reservation, Scalar, Set, TextValue};
 use std::test::Fail;
 

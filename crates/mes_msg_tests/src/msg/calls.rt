@@ -2,15 +2,13 @@
 
 mod faults;
 
-use super::nested;
-use crate::support::{expect_fault, field_fault_of, row_of, text_fault_of};
-use mes_frame::RECORD_LIMIT_MOST;
-use mes_json::{NESTING_LIMIT, Text, Why, read_tape, read_text};
+use super::{Record, canon, expect_record, expect_records, nested};
+use crate::support::text_fault_of;
+use mes_json::{NESTING_LIMIT, Text, Why, read_tape};
 use mes_model::{Id, TaskInfo};
 use mes_msg::{Accept, Call, EncodeFault, Limit, Operation};
 use mes_part::{List, Part, Trail};
-use std::alloc::{AllocGlobal, Global};
-use std::process::Abort;
+use std::alloc::Global;
 use std::test::Fail;
 
 /// Texts that are what their calls are written as.
@@ -58,103 +56,12 @@ const LOOSE: &str =
 {"type":"RECONCILE","framework_id":{"value":"F1"},"reconcile":{"tasks":null}} => {"type":"RECONCILE","framework_id":{"value":"F1"},"reconcile":{}}
 "#;
 
-/// Each text has its first fault there.
-fn expect_faults<R: Abort + AllocGlobal>(rt: &R, faults: &str) -> Result<(), Fail> {
-    for line in faults.lines() {
-        let (text, fault) = row_of(line)?;
-        let answer = Call::read_record(rt.alloc(), text.as_bytes());
-        expect_fault(rt, text, field_fault_of(answer), fault)?;
-    }
-    Ok(())
-}
-
-/// The canonical text of a call that has one.
-fn canon(call: &Call, alloc: Global, limit: Limit) -> Result<Vec<u8>, Fail> {
-    match call.canon(alloc, limit) {
-        Ok(text) => Ok(text),
-        Err(_) => Err("a canonical text")?,
-    }
-}
-
-/// Whether the call has more bytes than the limit.
-fn is_too_large(call: &Call, alloc: Global, limit: Limit) -> bool {
-    matches!(call.canon(alloc, limit), Err(EncodeFault::TooLarge))
-}
-
-/// The call has this canonical text, within a limit of just its length, and none within a smaller one.
-fn expect_canon<R: Abort + AllocGlobal>(rt: &R, call: &Call, written: &str) -> Result<(), Fail> {
-    let length = written.len().min(RECORD_LIMIT_MOST as usize) as u32;
-    let limit = Limit::new(length).ok_or("a limit")?;
-    let below = Limit::new(length.saturating_sub(1)).ok_or("a limit")?;
-    let out = canon(call, rt.alloc(), limit)?;
-    assert_eq!(rt; out.as_slice(), written.as_bytes());
-    assert!(rt; is_too_large(call, rt.alloc(), below), "{written}");
-    Ok(())
-}
-
-/// The call of a text that is one.
-fn call_of(alloc: Global, text: &str) -> Result<Call, Fail> {
-    match Call::read_record(alloc, text.as_bytes()) {
-        Ok(call) => Ok(call),
-        Err(_) => Err("a call")?,
-    }
-}
-
-/// The call of the tree of a text.
-fn call_of_tree(alloc: Global, text: &str) -> Result<Call, Fail> {
-    let tree = read_text(alloc, text.as_bytes())?;
-    match Call::of_tree(alloc, &tree) {
-        Ok(call) => Ok(call),
-        Err(_) => Err("a call")?,
-    }
-}
-
-/// The copy of the call has this canonical text.
-fn expect_copy<R: Abort + AllocGlobal>(rt: &R, call: &Call, written: &str) -> Result<(), Fail> {
-    let copy = call.copy(rt.alloc())?;
-    let answer = expect_canon(rt, &copy, written);
-    drop(copy);
-    answer
-}
-
-/// The text is a call with this canonical text, and so is its copy.
-fn expect_record<R: Abort + AllocGlobal>(rt: &R, text: &str, written: &str) -> Result<(), Fail> {
-    let call = call_of(rt.alloc(), text)?;
-    let answer = expect_both(rt, &call, written);
-    drop(call);
-    answer
-}
-
-/// The call has this canonical text, and so has its copy.
-fn expect_both<R: Abort + AllocGlobal>(rt: &R, call: &Call, written: &str) -> Result<(), Fail> {
-    expect_canon(rt, call, written)?;
-    expect_copy(rt, call, written)
-}
-
-/// The tree of the text is a call with this canonical text.
-fn expect_tree<R: Abort + AllocGlobal>(rt: &R, text: &str, written: &str) -> Result<(), Fail> {
-    let call = call_of_tree(rt.alloc(), text)?;
-    let answer = expect_canon(rt, &call, written);
-    drop(call);
-    answer
-}
-
-/// The text is a call with this canonical text, read from its bytes and from its tree.
-fn expect_call<R: Abort + AllocGlobal>(rt: &R, text: &str, written: &str) -> Result<(), Fail> {
-    expect_record(rt, text, written)?;
-    expect_tree(rt, text, written)
-}
-
 #[test]
 fn calls_are_written(rt: HostRuntime) -> Result<(), Fail> {
     for text in OWN.lines() {
-        expect_call(&rt, text, text)?;
+        expect_record::<Call, HostRuntime>(&rt, text, text)?;
     }
-    for line in LOOSE.lines() {
-        let (text, written) = row_of(line)?;
-        expect_call(&rt, text, written)?;
-    }
-    Ok(())
+    expect_records::<Call, HostRuntime>(&rt, LOOSE)
 }
 
 #[test]
@@ -173,9 +80,9 @@ const SUPPRESS: &str = r#"{"type":"SUPPRESS","framework_id":{"value":"F1"}}"#;
 #[test]
 fn calls_have_their_bytes_counted(rt: HostRuntime) -> Result<(), Fail> {
     assert_eq!(rt; REVIVE.len(), 47);
-    expect_call(&rt, REVIVE, REVIVE)?;
+    expect_record::<Call, HostRuntime>(&rt, REVIVE, REVIVE)?;
     assert_eq!(rt; SUPPRESS.len(), 49);
-    expect_call(&rt, SUPPRESS, SUPPRESS)
+    expect_record::<Call, HostRuntime>(&rt, SUPPRESS, SUPPRESS)
 }
 
 /// The task of a text that is one.
@@ -198,22 +105,26 @@ fn deep_task(alloc: Global, objects: usize) -> Result<TaskInfo, Fail> {
     task_of(alloc, text.as_slice())
 }
 
+/// A list of one value.
+fn list_of_one<T: Drop>(alloc: Global, value: T) -> Result<List<T>, Fail> {
+    let mut values = Vec::new(alloc);
+    values.push(value)?;
+    Ok(List::new(values))
+}
+
 /// The operation that launches it.
 fn deep_launch(alloc: Global, objects: usize) -> Result<Operation, Fail> {
-    let mut tasks = Vec::new(alloc);
-    tasks.push(deep_task(alloc, objects)?)?;
     Ok(Operation::Launch {
-        task_infos: List::new(tasks),
+        task_infos: list_of_one(alloc, deep_task(alloc, objects)?)?,
     })
 }
 
 /// What accepts by that operation.
 fn deep_accept(alloc: Global, objects: usize) -> Result<Accept, Fail> {
-    let mut operations = Vec::new(alloc);
-    operations.push(deep_launch(alloc, objects)?)?;
+    let operations = list_of_one(alloc, deep_launch(alloc, objects)?)?;
     Ok(Accept {
         offer_ids: List::new(Vec::new(alloc)),
-        operations: List::new(operations),
+        operations,
         filters: None,
     })
 }
@@ -228,47 +139,31 @@ fn deep_call(alloc: Global, objects: usize) -> Result<Call, Fail> {
     })
 }
 
-/// The canonical text of that call.
-fn deep_text(alloc: Global, objects: usize) -> Result<Vec<u8>, Fail> {
-    let call = deep_call(alloc, objects)?;
-    let text = canon(&call, alloc, Limit::MOST);
-    drop(call);
-    text
+/// Whether the canonical text of the record is one of its type again.
+fn is_read_again<T: Record>(alloc: Global, record: T) -> Result<bool, Fail> {
+    let text = canon(&record, alloc, Limit::MOST)?;
+    Ok(T::of_text(alloc, text.as_slice()).is_ok())
 }
 
-/// Whether the call nests deeper than a text may.
-fn nests_too_deep(call: &Call, alloc: Global) -> bool {
-    matches!(call.canon(alloc, Limit::MOST), Err(EncodeFault::TooDeep))
-}
-
-/// Whether that call nests deeper than a text may.
-fn is_too_deep(alloc: Global, objects: usize) -> Result<bool, Fail> {
-    let call = deep_call(alloc, objects)?;
-    let deep = nests_too_deep(&call, alloc);
-    drop(call);
-    Ok(deep)
-}
-
-/// Whether the bytes are a call.
-fn is_call(alloc: Global, bytes: &[u8]) -> bool {
-    Call::read_record(alloc, bytes).is_ok()
-}
-
-/// Whether the text of that call is a call again.
-fn is_read_again(alloc: Global, objects: usize) -> Result<bool, Fail> {
-    let text = deep_text(alloc, objects)?;
-    Ok(is_call(alloc, text.as_slice()))
+/// Whether the record nests deeper than a text may.
+fn is_too_deep<T: Record>(alloc: Global, record: T) -> bool {
+    matches!(
+        record.canonical(alloc, Limit::MOST),
+        Err(EncodeFault::TooDeep)
+    )
 }
 
 // The executor stands inside seven objects and arrays.
 #[test]
 fn calls_nest_to_the_limit(rt: HostRuntime) -> Result<(), Fail> {
-    assert!(rt; is_read_again(rt.alloc(), NESTING_LIMIT - 7)?);
+    let alloc = rt.alloc();
+    assert!(rt; is_read_again(alloc, deep_call(alloc, NESTING_LIMIT - 7)?)?);
     Ok(())
 }
 
 #[test]
 fn deep_calls_are_refused(rt: HostRuntime) -> Result<(), Fail> {
-    assert!(rt; is_too_deep(rt.alloc(), NESTING_LIMIT - 6)?);
+    let alloc = rt.alloc();
+    assert!(rt; is_too_deep(alloc, deep_call(alloc, NESTING_LIMIT - 6)?));
     Ok(())
 }

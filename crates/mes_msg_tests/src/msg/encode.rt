@@ -1,6 +1,6 @@
 //! Events that have no canonical text, and the names of other events.
 
-use super::{canon, event_of, nested};
+use super::{nested, refused, rewritten};
 use mes_json::{NESTING_LIMIT, Text};
 use mes_msg::{EncodeFault, Event, Limit, OtherName};
 use std::alloc::Global;
@@ -19,22 +19,9 @@ fn deep_offers(alloc: Global, objects: usize) -> Result<Vec<u8>, Fail> {
     )
 }
 
-/// The event of that text.
-fn deep_event(alloc: Global, objects: usize) -> Result<Event, Fail> {
-    let text = deep_offers(alloc, objects)?;
-    event_of(alloc, text.as_slice())
-}
-
-/// The canonical text of that event.
-fn deep_canon(alloc: Global, objects: usize) -> Result<Vec<u8>, Fail> {
-    let event = deep_event(alloc, objects)?;
-    canon(&event, alloc, Limit::MOST)
-}
-
 /// Why that event has no canonical text within the limit, if it has none.
-fn refused(alloc: Global, objects: usize, limit: Limit) -> Result<Option<EncodeFault>, Fail> {
-    let event = deep_event(alloc, objects)?;
-    Ok(event.canon(alloc, limit).err())
+fn refused_deep(alloc: Global, objects: usize, limit: Limit) -> Result<Option<EncodeFault>, Fail> {
+    refused::<Event>(alloc, deep_offers(alloc, objects)?.as_slice(), limit)
 }
 
 // In the text, five objects and arrays stand around `disk`, so that it is read; the body that is written is an object, one more.
@@ -42,7 +29,7 @@ fn refused(alloc: Global, objects: usize, limit: Limit) -> Result<Option<EncodeF
 fn deep_events_are_refused(rt: HostRuntime) -> Result<(), Fail> {
     let smallest = Limit::new(1).ok_or("a limit")?;
     for limit in [Limit::MOST, smallest] {
-        let why = refused(rt.alloc(), MOST_OBJECTS + 1, limit)?;
+        let why = refused_deep(rt.alloc(), MOST_OBJECTS + 1, limit)?;
         assert!(rt; matches!(why, Some(EncodeFault::TooDeep)));
     }
     Ok(())
@@ -52,7 +39,7 @@ fn deep_events_are_refused(rt: HostRuntime) -> Result<(), Fail> {
 #[test]
 fn events_nest_to_the_limit(rt: HostRuntime) -> Result<(), Fail> {
     let text = deep_offers(rt.alloc(), MOST_OBJECTS)?;
-    let written = deep_canon(rt.alloc(), MOST_OBJECTS)?;
+    let written = rewritten::<Event>(rt.alloc(), text.as_slice())?;
     assert_eq!(rt; written.len(), text.len() + 11);
     Ok(())
 }
@@ -60,21 +47,16 @@ fn events_nest_to_the_limit(rt: HostRuntime) -> Result<(), Fail> {
 #[test]
 fn deep_events_have_their_bytes_counted(rt: HostRuntime) -> Result<(), Fail> {
     let smallest = Limit::new(1).ok_or("a limit")?;
-    let why = refused(rt.alloc(), MOST_OBJECTS, smallest)?;
+    let why = refused_deep(rt.alloc(), MOST_OBJECTS, smallest)?;
     assert!(rt; matches!(why, Some(EncodeFault::TooLarge)));
     Ok(())
 }
 
-/// What is written of the event of a text.
-fn rewritten(alloc: Global, text: &[u8]) -> Result<Vec<u8>, Fail> {
-    let event = event_of(alloc, text)?;
-    canon(&event, alloc, Limit::MOST)
-}
-
 #[test]
 fn what_is_written_is_read_again(rt: HostRuntime) -> Result<(), Fail> {
-    let written = deep_canon(rt.alloc(), MOST_OBJECTS)?;
-    let again = rewritten(rt.alloc(), written.as_slice())?;
+    let text = deep_offers(rt.alloc(), MOST_OBJECTS)?;
+    let written = rewritten::<Event>(rt.alloc(), text.as_slice())?;
+    let again = rewritten::<Event>(rt.alloc(), written.as_slice())?;
     assert_eq!(rt; again.as_slice(), written.as_slice());
     Ok(())
 }

@@ -169,14 +169,14 @@ const ERROR: &str = r#"{"type":"ERROR"} => error Missing
 
 #[test]
 fn first_faults_are_told(rt: HostRuntime) -> Result<(), Fail> {
-    expect_faults(&rt, TYPES)?;
-    expect_faults(&rt, SUBSCRIBED)?;
-    expect_faults(&rt, OFFERS)?;
-    expect_faults(&rt, RESCIND)?;
-    expect_faults(&rt, UPDATE)?;
-    expect_faults(&rt, MESSAGE)?;
-    expect_faults(&rt, FAILURE)?;
-    expect_faults(&rt, ERROR)
+    expect_faults::<Event, HostRuntime>(&rt, TYPES)?;
+    expect_faults::<Event, HostRuntime>(&rt, SUBSCRIBED)?;
+    expect_faults::<Event, HostRuntime>(&rt, OFFERS)?;
+    expect_faults::<Event, HostRuntime>(&rt, RESCIND)?;
+    expect_faults::<Event, HostRuntime>(&rt, UPDATE)?;
+    expect_faults::<Event, HostRuntime>(&rt, MESSAGE)?;
+    expect_faults::<Event, HostRuntime>(&rt, FAILURE)?;
+    expect_faults::<Event, HostRuntime>(&rt, ERROR)
 }
 
 /// Bytes that are no JSON text, the place and the reason.

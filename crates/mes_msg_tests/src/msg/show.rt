@@ -1,15 +1,18 @@
 //! The lines of events.
 
-use super::event_of;
+use super::record_of;
 use crate::support::row_of;
+use mes_msg::Event;
 use std::alloc::Global;
 use std::process::Abort;
 use std::test::Fail;
 
 // The lines of the event that a record spells, under this number.
 fn lines_of(alloc: Global, number: u64, record: &str) -> Result<Vec<u8>, Fail> {
-    let event = event_of(alloc, record.as_bytes())?;
-    Ok(event.show_lines(alloc, number)?)
+    let event: Event = record_of(alloc, record.as_bytes())?;
+    let lines = event.show_lines(alloc, number);
+    drop(event);
+    Ok(lines?)
 }
 
 // Asserts the lines of the event that a record spells, under this number.

@@ -1,6 +1,7 @@
 //! Events that are read, and the canonical text of each and of its copy.
 
-use super::expect_events;
+use super::expect_records;
+use mes_msg::Event;
 use std::test::Fail;
 
 /// SUBSCRIBED, RESCIND, MESSAGE, UPDATE, FAILURE and ERROR.
@@ -60,7 +61,7 @@ const PARTS: &str =
 
 #[test]
 fn events_are_written(rt: HostRuntime) -> Result<(), Fail> {
-    expect_events(&rt, PLAIN)?;
-    expect_events(&rt, NAMES)?;
-    expect_events(&rt, PARTS)
+    expect_records::<Event, HostRuntime>(&rt, PLAIN)?;
+    expect_records::<Event, HostRuntime>(&rt, NAMES)?;
+    expect_records::<Event, HostRuntime>(&rt, PARTS)
 }

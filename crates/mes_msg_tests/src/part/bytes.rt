@@ -2,9 +2,9 @@
 
 ghost use Rattle.std.specs.Prelude.{◌<◌, ◌≤◌};
 
-use crate::support::{expect_fault, expect_text, part_fault_of, row_of};
+use crate::support::{again, expect_fault, expect_faults, expect_text, part_fault_of, value_of};
 use mes_json::read_tape;
-use mes_part::{Bytes, Part, PartFault, Trail, written_again};
+use mes_part::{Bytes, Part, PartFault, Trail};
 use std::alloc::Global;
 use std::process::Abort;
 use std::test::Fail;
@@ -57,12 +57,6 @@ const LAST: [(&[u8], &[u8]); 3] = [(b"", b""), (b"/w==", b"\xFF"), (b"//8=", b"\
 
 /// The characters beside the letters and between them, and those of the URL-safe alphabet.
 const NO_LETTERS: &[u8; 12] = b" *,-.:@[_`{~";
-
-/// The bytes of a text, read from its tape.
-fn read(alloc: Global, text: &str) -> Result<Result<Bytes, PartFault>, Fail> {
-    let tape = read_tape(alloc, text.as_bytes())?;
-    Ok(Bytes::read_from(alloc, &tape.root(), &Trail::new()))
-}
 
 /// The bytes of a string of these letters and of what stands behind them.
 fn read_letters(
@@ -138,17 +132,9 @@ fn expect_bytes<R: Abort>(
     expect_text(rt, alloc, &bytes.tree(alloc)?, text)
 }
 
-/// The bytes, written and read again.
-fn again(alloc: Global, bytes: &Bytes) -> Result<Bytes, Fail> {
-    match written_again(alloc, bytes) {
-        Ok(again) => Ok(again),
-        Err(_) => Err("they are written and read")?,
-    }
-}
-
 /// The bytes of the text are these, and so are their copy and what is read of them again.
 fn expect_read<R: Abort>(rt: &R, alloc: Global, octets: &[u8], text: &str) -> Result<(), Fail> {
-    let bytes = bytes_of(read(alloc, text)?)?;
+    let bytes: Bytes = value_of(alloc, text)?;
     expect_bytes(rt, alloc, &bytes, octets, text)?;
     expect_bytes(rt, alloc, &bytes.copy(alloc)?, octets, text)?;
     expect_bytes(rt, alloc, &again(alloc, &bytes)?, octets, text)
@@ -166,11 +152,7 @@ fn bytes_are_read_and_written(rt: HostRuntime) -> Result<(), Fail> {
 
 #[test]
 fn other_texts_are_refused(rt: HostRuntime) -> Result<(), Fail> {
-    for line in REFUSED.lines() {
-        let (text, fault) = row_of(line)?;
-        expect_fault(&rt, text, part_fault_of(read(rt.alloc(), text)?), fault)?;
-    }
-    Ok(())
+    expect_faults::<Bytes, HostRuntime>(&rt, REFUSED)
 }
 
 #[test]

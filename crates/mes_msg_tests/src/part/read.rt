@@ -1,10 +1,14 @@
 //! Labels read from JSON texts, by the table of labels: the value, or the path and the reason of the first fault.
 
-use crate::support::{expect_fault, expect_text, part_fault_of, row_of};
+ghost use Rattle.std.specs.Prelude.{◌≤◌, ◌+◌};
+
+use crate::support::{
+    again, expect_fault, expect_faults, expect_text, part_fault_of, row_of, value_of,
+};
 use mes_json::{Json, read_tape, read_text};
 use mes_part::{
-    FieldFault, Label, Labels, List, Part, PartFault, Path, Trail, find_rows, left_out, list_tree,
-    nothing_found, read_either_list, read_list, written_again,
+    FieldFault, Label, Labels, List, Part, PartFault, Path, STEPS_MOST, Trail, find_rows, left_out,
+    list_tree, nothing_found, read_either_list, read_list,
 };
 use std::alloc::Global;
 use std::process::Abort;
@@ -60,63 +64,31 @@ const LEFT_OUT: &str = r#"{"x":{}} => x LeftOut
 /// Objects without it.
 const NOT_THERE: [&str; 3] = ["{}", "{\"x\":null}", "{\"y\":{},\"y\":{}}"];
 
-/// The answer to a member `x` that is left out.
-fn read_left_out(alloc: Global, text: &str) -> Result<Result<(), PartFault>, Fail> {
+/// The fault of a member `x` that is left out, if it has one.
+fn fault_of_left_out(alloc: Global, text: &str) -> Result<Option<FieldFault>, Fail> {
     let tape = read_tape(alloc, text.as_bytes())?;
     let mut found = nothing_found::<1>();
     match find_rows(alloc, &tape.root(), &["x"], &Trail::new(), &mut found) {
-        Ok(()) => Ok(left_out(alloc, &found[0], "x", &Trail::new())),
+        Ok(()) => Ok(part_fault_of(left_out(alloc, &found[0], "x", &Trail::new()))),
         Err(_) => Err("an object")?,
     }
 }
 
-/// The labels of a text, read from its tape.
-fn read(alloc: Global, text: &str) -> Result<Result<Labels, PartFault>, Fail> {
-    let tape = read_tape(alloc, text.as_bytes())?;
-    Ok(Labels::read_from(alloc, &tape.root(), &Trail::new()))
-}
-
-/// The list of labels of a text, in either form.
-fn read_either(alloc: Global, text: &str) -> Result<Result<List<Label>, PartFault>, Fail> {
-    let tape = read_tape(alloc, text.as_bytes())?;
-    Ok(read_either_list(alloc, &tape.root(), "labels", &Trail::new()))
-}
-
-/// The fault of the labels of a text, read from its tree.
-fn fault_of_tree(alloc: Global, text: &str) -> Result<Option<FieldFault>, Fail> {
-    let tree = read_text(alloc, text.as_bytes())?;
-    Ok(part_fault_of(Labels::read(alloc, &tree, &Path::new())))
-}
-
 #[test]
 fn faults_are_told(rt: HostRuntime) -> Result<(), Fail> {
-    for line in FAULTS.lines() {
-        let (text, fault) = row_of(line)?;
-        expect_fault(&rt, text, part_fault_of(read(rt.alloc(), text)?), fault)?;
-        expect_fault(&rt, text, fault_of_tree(rt.alloc(), text)?, fault)?;
-    }
-    Ok(())
+    expect_faults::<Labels, HostRuntime>(&rt, FAULTS)
 }
 
-/// The labels of a text that has some.
-fn labels_of(alloc: Global, text: &str) -> Result<Labels, Fail> {
-    match read(alloc, text)? {
-        Ok(labels) => Ok(labels),
-        Err(_) => Err("they are labels")?,
-    }
-}
-
-/// The tree of the labels of a text, which were written and read again.
-fn tree_again(alloc: Global, text: &str) -> Result<Json, Fail> {
-    let labels = labels_of(alloc, text)?;
-    match &written_again(alloc, &labels) {
-        Ok(again) => Ok(again.tree(alloc)?),
-        Err(_) => Err("they are written and read")?,
-    }
+/// The tree of the value of a text, which was written and read again.
+fn tree_again<T: Part>(alloc: Global, text: &str) -> Result<Json, Fail>
+    requires { T.STEPS ≤ STEPS_MOST }
+{
+    let value: T = value_of(alloc, text)?;
+    Ok(again(alloc, &value)?.tree(alloc)?)
 }
 
 fn expect_labels<R: Abort>(rt: &R, alloc: Global, text: &str, expected: &str) -> Result<(), Fail> {
-    let tree = tree_again(alloc, text)?;
+    let tree = tree_again::<Labels>(alloc, text)?;
     expect_text(rt, alloc, &tree, expected)
 }
 
@@ -129,17 +101,30 @@ fn labels_are_read(rt: HostRuntime) -> Result<(), Fail> {
     Ok(())
 }
 
-/// The tree of the list of labels of a text, in either form.
-fn tree_of_either(alloc: Global, text: &str) -> Result<Json, Fail> {
-    match &read_either(alloc, text)? {
-        Ok(labels) => Ok(list_tree(alloc, labels)?),
-        Err(_) => Err("they are labels")?,
+/// The list of the values of a text, in either form, under `labels` in the one that has a name.
+fn read_either<T: Part>(alloc: Global, text: &str) -> Result<Result<List<T>, PartFault>, Fail>
+    requires { 2 + T.STEPS ≤ STEPS_MOST }
+{
+    let tape = read_tape(alloc, text.as_bytes())?;
+    Ok(read_either_list(alloc, &tape.root(), "labels", &Trail::new()))
+}
+
+/// The list of an answer that is one.
+fn list_of<T: Part>(answer: Result<List<T>, PartFault>) -> Result<List<T>, Fail> {
+    match answer {
+        Ok(list) => Ok(list),
+        Err(_) => Err("it is a list")?,
     }
 }
 
+/// The tree of a list.
+fn tree_of<T: Part>(alloc: Global, list: List<T>) -> Result<Json, Fail> {
+    Ok(list_tree(alloc, &list)?)
+}
+
 fn expect_either<R: Abort>(rt: &R, alloc: Global, text: &str, expected: &str) -> Result<(), Fail> {
-    let tree = tree_of_either(alloc, text)?;
-    expect_text(rt, alloc, &tree, expected)
+    let list = list_of(read_either::<Label>(alloc, text)?)?;
+    expect_text(rt, alloc, &tree_of(alloc, list)?, expected)
 }
 
 #[test]
@@ -150,7 +135,7 @@ fn lists_are_read_in_either_form(rt: HostRuntime) -> Result<(), Fail> {
     }
     for line in EITHER_FAULTS.lines() {
         let (text, fault) = row_of(line)?;
-        let told = part_fault_of(read_either(rt.alloc(), text)?);
+        let told = part_fault_of(read_either::<Label>(rt.alloc(), text)?);
         expect_fault(&rt, text, told, fault)?;
     }
     Ok(())
@@ -168,32 +153,25 @@ null => . WrongKind
 [{"key":"a"},{"key":7}] => [1].key WrongKind
 "#;
 
-/// The list of labels that the tree of a text is.
-fn read_array(alloc: Global, text: &str) -> Result<Result<List<Label>, PartFault>, Fail> {
+/// The list of the values that the tree of a text is.
+fn read_array<T: Part>(alloc: Global, text: &str) -> Result<Result<List<T>, PartFault>, Fail>
+    requires { 1 + T.STEPS ≤ STEPS_MOST }
+{
     let tree = read_text(alloc, text.as_bytes())?;
     Ok(read_list(alloc, &tree, &Path::new()))
 }
 
-/// The list of labels of a text that is an array of them.
-fn list_of(alloc: Global, text: &str) -> Result<List<Label>, Fail> {
-    match read_array(alloc, text)? {
-        Ok(list) => Ok(list),
-        Err(_) => Err("it is a list")?,
-    }
-}
-
-/// The tree of that list, which was made labels, of as many, in between.
-fn tree_of_array<R: Abort>(rt: &R, alloc: Global, text: &str) -> Result<Json, Fail> {
-    let list = list_of(alloc, text)?;
-    let count = list.len();
+/// The list once it was made labels, and how many these were.
+fn through_labels(list: List<Label>) -> (List<Label>, usize) {
     let labels = Labels::new(list);
-    assert_eq!(rt; labels.as_slice().len(), count);
-    Ok(list_tree(alloc, &labels.into_list())?)
+    let count = labels.as_slice().len();
+    (labels.into_list(), count)
 }
 
 fn expect_array<R: Abort>(rt: &R, alloc: Global, text: &str, expected: &str) -> Result<(), Fail> {
-    let tree = tree_of_array(rt, alloc, text)?;
-    expect_text(rt, alloc, &tree, expected)
+    let (list, count) = through_labels(list_of(read_array(alloc, text)?)?);
+    assert_eq!(rt; list.len(), count);
+    expect_text(rt, alloc, &tree_of(alloc, list)?, expected)
 }
 
 #[test]
@@ -204,7 +182,7 @@ fn lists_are_read_from_trees(rt: HostRuntime) -> Result<(), Fail> {
     }
     for line in NO_ARRAYS.lines() {
         let (text, fault) = row_of(line)?;
-        let told = part_fault_of(read_array(rt.alloc(), text)?);
+        let told = part_fault_of(read_array::<Label>(rt.alloc(), text)?);
         expect_fault(&rt, text, told, fault)?;
     }
     Ok(())
@@ -214,11 +192,10 @@ fn lists_are_read_from_trees(rt: HostRuntime) -> Result<(), Fail> {
 fn what_is_left_out_is_refused(rt: HostRuntime) -> Result<(), Fail> {
     for line in LEFT_OUT.lines() {
         let (text, fault) = row_of(line)?;
-        let answer = read_left_out(rt.alloc(), text)?;
-        expect_fault(&rt, text, part_fault_of(answer), fault)?;
+        expect_fault(&rt, text, fault_of_left_out(rt.alloc(), text)?, fault)?;
     }
     for &text in &NOT_THERE {
-        assert!(rt; read_left_out(rt.alloc(), text)?.is_ok(), "{text}");
+        assert!(rt; fault_of_left_out(rt.alloc(), text)?.is_none(), "{text}");
     }
     Ok(())
 }

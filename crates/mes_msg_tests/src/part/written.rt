@@ -47,26 +47,26 @@ fn expect_direct<R: Abort, T: Part>(
 fn expect_written<R: Abort, T: Part>(
     rt: &R,
     alloc: Global,
-    value: &T,
+    value: T,
     expected: &str,
 ) -> Result<(), Fail> {
     expect_text(rt, alloc, &value.tree(alloc)?, expected)?;
-    expect_direct(rt, alloc, value, expected)?;
+    expect_direct(rt, alloc, &value, expected)?;
     expect_text(rt, alloc, &value.copy(alloc)?.tree(alloc)?, expected)
 }
 
 #[test]
 fn leaves_are_written(rt: HostRuntime) -> Result<(), Fail> {
     let alloc = rt.alloc();
-    expect_written(&rt, alloc, &text(alloc, "a\"b")?, "\"a\\\"b\"")?;
-    expect_written(&rt, alloc, &true, "true")?;
-    expect_written(&rt, alloc, &false, "false")?;
-    expect_written(&rt, alloc, &u64::MAX, "18446744073709551615")?;
-    expect_written(&rt, alloc, &0u64, "0")?;
-    expect_written(&rt, alloc, &i32::MIN, "-2147483648")?;
-    expect_written(&rt, alloc, &7i32, "7")?;
-    expect_written(&rt, alloc, &Thousandths::of_units(1500).unwrap(), "1.5")?;
-    expect_written(&rt, alloc, &Micros::of_units(1).unwrap(), "0.000001")
+    expect_written(&rt, alloc, text(alloc, "a\"b")?, "\"a\\\"b\"")?;
+    expect_written(&rt, alloc, true, "true")?;
+    expect_written(&rt, alloc, false, "false")?;
+    expect_written(&rt, alloc, u64::MAX, "18446744073709551615")?;
+    expect_written(&rt, alloc, 0u64, "0")?;
+    expect_written(&rt, alloc, i32::MIN, "-2147483648")?;
+    expect_written(&rt, alloc, 7i32, "7")?;
+    expect_written(&rt, alloc, Thousandths::of_units(1500).unwrap(), "1.5")?;
+    expect_written(&rt, alloc, Micros::of_units(1).unwrap(), "0.000001")
 }
 
 /// Adds a member of this name.
@@ -90,22 +90,32 @@ fn kept(alloc: Global) -> Result<Kept, Fail> {
     }
 }
 
+/// What is kept is written so.
+fn expect_kept<R: Abort>(rt: &R, alloc: Global, kept: Kept, expected: &str) -> Result<(), Fail> {
+    let answer = expect_text(rt, alloc, kept.get(), expected);
+    drop(kept);
+    answer
+}
+
 #[test]
 fn objects_are_kept_whole(rt: HostRuntime) -> Result<(), Fail> {
     let alloc = rt.alloc();
-    let kept = kept(alloc)?;
-    expect_written(&rt, alloc, &kept, "{\"a\":null,\"a\":true}")?;
-    expect_text(&rt, alloc, kept.get(), "{\"a\":null,\"a\":true}")?;
+    expect_written(&rt, alloc, kept(alloc)?, "{\"a\":null,\"a\":true}")?;
+    expect_kept(&rt, alloc, kept(alloc)?, "{\"a\":null,\"a\":true}")?;
     assert!(rt; Kept::new(Json::List(Vec::new(alloc))).is_err());
     Ok(())
 }
 
-/// Keys and values of labels, and what they are written as.
-const LABELS: [(&str, Option<&str>, &str); 3] = [
-    ("rack", None, "{\"key\":\"rack\"}"),
-    ("rack", Some("r1"), "{\"key\":\"rack\",\"value\":\"r1\"}"),
-    ("", Some(""), "{\"key\":\"\",\"value\":\"\"}"),
-];
+/// A label is written so.
+fn expect_label<R: Abort>(
+    rt: &R,
+    alloc: Global,
+    key: &str,
+    value: Option<&str>,
+    expected: &str,
+) -> Result<(), Fail> {
+    expect_written(rt, alloc, label(alloc, key, value)?, expected)
+}
 
 /// Two labels, of which one has a value.
 fn two_labels(alloc: Global) -> Result<Labels, Fail> {
@@ -118,16 +128,22 @@ fn two_labels(alloc: Global) -> Result<Labels, Fail> {
 #[test]
 fn labels_are_written(rt: HostRuntime) -> Result<(), Fail> {
     let alloc = rt.alloc();
-    for (key, value, expected) in LABELS {
-        expect_written(&rt, alloc, &label(alloc, key, value)?, expected)?;
-    }
+    expect_label(&rt, alloc, "rack", None, r#"{"key":"rack"}"#)?;
+    expect_label(
+        &rt,
+        alloc,
+        "rack",
+        Some("r1"),
+        r#"{"key":"rack","value":"r1"}"#,
+    )?;
+    expect_label(&rt, alloc, "", Some(""), r#"{"key":"","value":""}"#)?;
     expect_written(
         &rt,
         alloc,
-        &two_labels(alloc)?,
-        "{\"labels\":[{\"key\":\"a\"},{\"key\":\"b\",\"value\":\"c\"}]}",
+        two_labels(alloc)?,
+        r#"{"labels":[{"key":"a"},{"key":"b","value":"c"}]}"#,
     )?;
-    expect_written(&rt, alloc, &Labels::new(List::new(Vec::new(alloc))), "{}")
+    expect_written(&rt, alloc, Labels::new(List::new(Vec::new(alloc))), "{}")
 }
 
 #[test]

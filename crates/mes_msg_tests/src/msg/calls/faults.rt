@@ -1,6 +1,7 @@
 //! Texts of no call, each with the place and the reason of its first fault.
 
-use super::expect_faults;
+use crate::msg::expect_faults;
+use mes_msg::Call;
 use std::test::Fail;
 
 /// Faults of the member `type`, and of what is no object.
@@ -172,16 +173,16 @@ const MESSAGE: &str = r#"{"type":"MESSAGE","framework_id":{"value":"F1"}} => mes
 
 #[test]
 fn first_faults_are_told(rt: HostRuntime) -> Result<(), Fail> {
-    expect_faults(&rt, TYPES)?;
-    expect_faults(&rt, FRAMEWORKS)?;
-    expect_faults(&rt, SUBSCRIBE)?;
-    expect_faults(&rt, ACCEPT)?;
-    expect_faults(&rt, DECLINE)?;
-    expect_faults(&rt, REVIVE)?;
-    expect_faults(&rt, KILL)?;
-    expect_faults(&rt, ACKNOWLEDGE)?;
-    expect_faults(&rt, RECONCILE)?;
-    expect_faults(&rt, SUPPRESS)?;
-    expect_faults(&rt, SHUTDOWN)?;
-    expect_faults(&rt, MESSAGE)
+    expect_faults::<Call, HostRuntime>(&rt, TYPES)?;
+    expect_faults::<Call, HostRuntime>(&rt, FRAMEWORKS)?;
+    expect_faults::<Call, HostRuntime>(&rt, SUBSCRIBE)?;
+    expect_faults::<Call, HostRuntime>(&rt, ACCEPT)?;
+    expect_faults::<Call, HostRuntime>(&rt, DECLINE)?;
+    expect_faults::<Call, HostRuntime>(&rt, REVIVE)?;
+    expect_faults::<Call, HostRuntime>(&rt, KILL)?;
+    expect_faults::<Call, HostRuntime>(&rt, ACKNOWLEDGE)?;
+    expect_faults::<Call, HostRuntime>(&rt, RECONCILE)?;
+    expect_faults::<Call, HostRuntime>(&rt, SUPPRESS)?;
+    expect_faults::<Call, HostRuntime>(&rt, SHUTDOWN)?;
+    expect_faults::<Call, HostRuntime>(&rt, MESSAGE)
 }
