@@ -9,7 +9,7 @@ use Rattle.mes_frame.specs.declared.write.WriteWhy.TheVariants.{Device, Zero}
 abbrev pub NoneFails : Counts → Counts → Type 0
 NoneFails old new = (new.failures ≡ old.failures) × (new.idle ≡ old.idle)
 
--- one call failed, or took no byte of some: it was the last
+-- just one call failed, or just one took no byte of some; which one it was, counts do not tell
 abbrev pub StopsWrite : WriteWhy → Counts → Counts → Type 0
 StopsWrite Device old new = (new.failures ≡ up old.failures 1) × (new.idle ≡ old.idle)
 StopsWrite Zero old new = (new.failures ≡ old.failures) × (new.idle ≡ up old.idle 1)

@@ -37,7 +37,7 @@ pub record Passes (before after : Option (List ℕ)) (old new : Counts) (w held 
   pub spelt : w ≡ front ++ held
   pub out : WentOut before after old new front sent all
 
--- a front of w went out, not all of it, behind `sent` bytes before it, and the last call did what the fault says
+-- a front of w went out, not all of it, behind `sent` bytes before it, and just one call did what the fault says
 pub record Stops (before after : Option (List ℕ)) (old new : Counts) (w : List ℕ) (sent : ℕ) (fault : WriteFault) : Type 0 where
   pub part : WrotePart before after w sent fault.sent
   pub why : StopsWrite fault.why old new

@@ -22,7 +22,7 @@ pub fn write_chunked<W: Sink>(writer: &mut W, body: &[u8], most: u32) -> Result<
     ensures ok { OnOk result ((w : List ℕ) × IsFrames body.now most w × Appends (W.written writer.old) (W.written writer.new) w) }
     ensures ok_counts { OnOk result (NoneFails (W.counts writer.old) (W.counts writer.new)) }
 
-    // Else the first `sent` bytes of it went out and no more, and the last call did what `why` says. From 2^64 - 1 bytes on
+    // Else the first `sent` bytes of it went out and no more, and just one call did what `why` says. From 2^64 - 1 bytes on
     // `sent` stays there.
     ensures err { IfErr result (λ f. (w : List ℕ) × IsFrames body.now most w
         × WroteFront (W.written writer.old) (W.written writer.new) w f.sent) }

@@ -16,7 +16,7 @@ pub fn write_record<W: Sink>(writer: &mut W, payload: &[u8]) -> Result<(), Write
     ensures ok { OnOk result (Appends (W.written writer.old) (W.written writer.new) (record_bytes payload.now)) }
     ensures ok_counts { OnOk result (NoneFails (W.counts writer.old) (W.counts writer.new)) }
 
-    // Else the first `sent` bytes of it went out and no more, and the last call did what `why` says.
+    // Else the first `sent` bytes of it went out and no more, and just one call did what `why` says.
     ensures err { IfErr result (λ f. WroteFront (W.written writer.old) (W.written writer.new) (record_bytes payload.now) f.sent) }
     ensures err_counts { IfErr result (λ f. StopsWrite f.why (W.counts writer.old) (W.counts writer.new)) }
 

@@ -27,7 +27,7 @@ pub fn write_all<W: Sink>(writer: &mut W, bytes: &[u8]) -> Result<(), WriteFault
     ensures ok { OnOk result (Appends (W.written writer.old) (W.written writer.new) bytes.now) }
     ensures ok_counts { OnOk result (NoneFails (W.counts writer.old) (W.counts writer.new)) }
 
-    // Else the first `sent` went out and no more, and the last call did what `why` says.
+    // Else the first `sent` went out and no more, and just one call did what `why` says.
     ensures err { IfErr result (λ f. (f.sent < length bytes.now)
         × Appends (W.written writer.old) (W.written writer.new) (take f.sent bytes.now)) }
     ensures err_counts { IfErr result (λ f. StopsWrite f.why (W.counts writer.old) (W.counts writer.new)) }

@@ -11,10 +11,10 @@ AllGive old new = (new.failures ≡ old.failures) × (new.idle ≡ old.idle)
 abbrev pub GaveEach : ℕ → Counts → Counts → Type 0
 GaveEach n old new = (new.calls ≡ up old.calls n) × AllGive old new
 
--- one call failed: it was the last
+-- just one call failed
 abbrev pub OneFails : Counts → Counts → Type 0
 OneFails old new = (new.failures ≡ up old.failures 1) × (new.idle ≡ old.idle)
 
--- one call gave the end: it was the last
+-- just one call gave the end
 abbrev pub OneEnds : Counts → Counts → Type 0
 OneEnds old new = (new.failures ≡ old.failures) × (new.idle ≡ up old.idle 1)

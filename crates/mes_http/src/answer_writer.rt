@@ -18,7 +18,7 @@ pub fn write_ok<W: Sink>(writer: &mut W, id: &StreamId) -> Result<(), WriteFault
     ensures ok { OnOk result (Appends (W.written writer.old) (W.written writer.new) (ok_text id.now)) }
     ensures ok_counts { OnOk result (NoneFails (W.counts writer.old) (W.counts writer.new)) }
 
-    // Else its first `sent` bytes went out and no more, and the last call did what `why` says.
+    // Else its first `sent` bytes went out and no more, and just one call did what `why` says.
     ensures err { IfErr result (λ f. (f.sent < length (ok_text id.now))
         × Appends (W.written writer.old) (W.written writer.new) (take f.sent (ok_text id.now))) }
     ensures err_counts { IfErr result (λ f. StopsWrite f.why (W.counts writer.old) (W.counts writer.new)) }
@@ -34,7 +34,7 @@ pub fn write_status<W: Sink>(writer: &mut W, status: StatusCode) -> Result<(), W
     ensures ok { OnOk result (Appends (W.written writer.old) (W.written writer.new) (status_text status)) }
     ensures ok_counts { OnOk result (NoneFails (W.counts writer.old) (W.counts writer.new)) }
 
-    // Else its first `sent` bytes went out and no more, and the last call did what `why` says.
+    // Else its first `sent` bytes went out and no more, and just one call did what `why` says.
     ensures err { IfErr result (λ f. (f.sent < length (status_text status))
         × Appends (W.written writer.old) (W.written writer.new) (take f.sent (status_text status))) }
     ensures err_counts { IfErr result (λ f. StopsWrite f.why (W.counts writer.old) (W.counts writer.new)) }

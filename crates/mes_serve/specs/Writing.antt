@@ -18,7 +18,7 @@ use Rattle.mes_serve.specs.declared.writing.Unsent.TheVariants as unsent
 abbrev pub Wrote : Device → Device → List ℕ → Type 0
 Wrote old new w = WroteAll (λ (d : Device). d.bytes) (λ (d : Device). d.counts) old new w
 
--- exactly the first `sent` bytes of w went out, not all of them, and the last call did what the fault says
+-- exactly the first `sent` bytes of w went out, not all of them, and just one call did what the fault says
 abbrev pub Stopped : Device → Device → List ℕ → WriteFault → Type 0
 Stopped old new w fault = WroteSome (λ (d : Device). d.bytes) (λ (d : Device). d.counts) old new w fault
 

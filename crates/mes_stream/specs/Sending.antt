@@ -60,7 +60,7 @@ pub record WroteAll {W : Type 0} (written : W → Option (List ℕ)) (counts : W
   pub none_fails : NoneFails (counts old) (counts new)
   pub calls : CallsFor (length w) (counts old) (counts new)
 
--- exactly the first `sent` bytes of w went out, not all of them, and the last call did what `why` says
+-- exactly the first `sent` bytes of w went out, not all of them, and just one call did what `why` says
 pub record WroteSome {W : Type 0} (written : W → Option (List ℕ)) (counts : W → Counts) (old new : W) (w : List ℕ) (fault : WriteFault) : Type 0 where
   pub out : WroteFront (written old) (written new) w fault.sent
   pub last : StopsWrite fault.why (counts old) (counts new)
