@@ -1,4 +1,4 @@
-# Completion of the command mesosev for bash. Source this file in ~/.bashrc,
+# Completion of the command mesosev for bash. ./install installs it; or source this file in ~/.bashrc,
 # or copy it as mesosev to ~/.local/share/bash-completion/completions.
 
 # The subcommands.

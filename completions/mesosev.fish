@@ -1,4 +1,4 @@
-# Completion of the command mesosev for fish. Copy this file to ~/.config/fish/completions.
+# Completion of the command mesosev for fish. ./install installs it; or copy it to ~/.config/fish/completions.
 
 # Is the first word behind mesosev one of these?
 function __mesosev_has

@@ -4,7 +4,7 @@
     for event in mesosev.events(open("stream.recordio", "rb")):
         print(event.name, event.value())
 
-The library is the file that the variable MESOSEV_LIBRARY names, else the one that lib/build installed with this module, else the system's.
+The library is the file that the variable MESOSEV_LIBRARY names, else the one installed with this module, else the system's.
 """
 
 import collections
@@ -54,8 +54,9 @@ def _find_library():
 
 def _load():
     here = os.path.dirname(os.path.abspath(__file__))
-    # Beside the folder where this module is installed, or in the sources where lib/build was given no prefix.
-    built = [os.path.join(here, name, "libmesosev.so") for name in ("..", "out/lib")]
+    # In order: beside this module, as in a wheel; beside its folder, as lib/build installs both; in the sources, after
+    # lib/build without a prefix.
+    built = [os.path.join(here, name, "libmesosev.so") for name in (".", "..", "out/lib")]
     path = os.environ.get("MESOSEV_LIBRARY") or next(filter(os.path.exists, built), None) or _find_library()
     if not path:
         raise ImportError("libmesosev is not there: build it by lib/build, or name it in MESOSEV_LIBRARY")

@@ -1,0 +1,87 @@
+"""Finds the toolchain of Rattle, and loads its command `rt` as a module.
+
+What `rt` has is no documented interface. So whoever uses it here says what to do instead, or ends with a message that names
+the toolchain: `unknown_kit`.
+"""
+
+import importlib.machinery
+import importlib.util
+import os
+import shutil
+import sys
+import time
+
+TOP = os.path.dirname(os.path.dirname(os.path.realpath(__file__)))
+DEFAULT = "/opt/rattle/bin/rt"
+# The toolchain with which this commit was proved: the line that README.md ends with.
+PROVED_WITH = "rattle-kit-13f logic dac8208d650f15bf"
+
+
+def command():
+    """Returns the path of the command `rt`, or None if there is no toolchain."""
+    found = shutil.which("rt") or DEFAULT
+    return os.path.realpath(found) if os.access(found, os.X_OK) else None
+
+
+def kit():
+    """Returns the folder of the toolchain, or None."""
+    found = command()
+    return found and os.path.dirname(os.path.dirname(found))
+
+
+def missing():
+    """Returns what to say if there is no toolchain, or None."""
+    if command():
+        return None
+    return f"the toolchain of Rattle is missing: there is no `rt` on the PATH, and no {DEFAULT}"
+
+
+def version():
+    """Returns the line by which the toolchain identifies itself."""
+    try:
+        with open(f"{kit()}/KIT-ID", encoding="utf-8") as file:
+            return file.read().strip()
+    except OSError:
+        return "a toolchain without KIT-ID"
+
+
+def unknown_kit():
+    """Returns what to say of a failure if the toolchain is not the one of this commit, else an empty text."""
+    if version() == PROVED_WITH:
+        return ""
+    return f"this toolchain is {version()}; the commit was proved with {PROVED_WITH}"
+
+
+def module(name, file):
+    """Returns a file of the toolchain as the module of this name."""
+    sys.dont_write_bytecode = True
+    loader = importlib.machinery.SourceFileLoader(name, file)
+    made = importlib.util.module_from_spec(importlib.util.spec_from_loader(name, loader))
+    sys.modules[name] = made
+    loader.exec_module(made)
+    return made
+
+
+def newest_source():
+    """Returns the time of the newest source in nanoseconds, which may be in the future."""
+    newest = 0
+    for crate in os.listdir(f"{TOP}/crates"):
+        for part in ("src", "specs", "proofs"):
+            for at, folders, files in os.walk(f"{TOP}/crates/{crate}/{part}"):
+                newest = max([newest, *(os.stat(it).st_mtime_ns for it in [at, *(os.path.join(at, name) for name in files)])])
+    return newest
+
+
+def time_of_build():
+    """Returns the time that a build gets which begins now: a source that is edited meanwhile is newer."""
+    return max(time.time_ns(), newest_source())
+
+
+def load():
+    """Returns the toolchain's command `rt` as a module; its library is `load().rtlib`."""
+    return module("rt", command())
+
+
+def load_library():
+    """Returns the library of `rt` alone, which knows the crates and their sources."""
+    return module("rtlib", f"{kit()}/bin/rtlib.py")
