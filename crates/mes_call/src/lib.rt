@@ -3,6 +3,7 @@
 //! copied, and written as its canonical text.
 
 mod call;
+pub mod first_fault;
 
 pub use call::Call;
 pub use mes_call_body::{

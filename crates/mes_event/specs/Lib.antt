@@ -5,4 +5,5 @@ pub use Rattle.mes_event_body.specs.declared.bodies.Subscribed
 pub use Rattle.mes_event_body.specs.declared.bodies.Update
 pub mod Canon
 pub mod Events
+pub mod FirstFaults
 pub mod Shown

@@ -3,6 +3,7 @@
 //! copied, written as its canonical text, and shown in lines.
 
 mod event;
+pub mod first_fault;
 mod record;
 mod show;
 mod words;

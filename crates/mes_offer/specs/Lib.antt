@@ -1,3 +1,4 @@
 pub mod Attributes
 pub mod Offers
 pub mod TextValues
+pub mod FirstFaults

@@ -3,6 +3,7 @@
 //! tape, written as a tree and copied.
 
 mod attribute;
+pub mod first_fault;
 mod offer;
 mod text_value;
 

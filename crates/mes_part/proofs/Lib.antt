@@ -19,4 +19,5 @@ pub mod ValueFaults
 pub mod RowFaults
 pub mod ListFaults
 pub mod LabelFaults
+pub mod FirstRows
 pub mod AppendLemmas

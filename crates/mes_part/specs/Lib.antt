@@ -19,6 +19,7 @@ pub mod Kinds
 pub mod Leaves
 pub mod Lists
 pub mod FirstFaults
+pub mod FirstRows
 pub mod Rows
 pub mod RowNames
 pub mod Layouts

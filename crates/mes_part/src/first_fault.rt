@@ -10,12 +10,13 @@ ghost use Rattle.mes_part.specs.Leaves.{texts, booleans, objects, left_out};
 ghost use Rattle.mes_part.specs.Numbers.{whole, signed32, fixed};
 ghost use Rattle.mes_part.specs.Binary.{base64_bytes};
 ghost use Rattle.mes_part.specs.Lists.{list_of};
-ghost use Rattle.mes_part.specs.Labels.{label};
+ghost use Rattle.mes_part.specs.Labels.{label, labels};
 ghost use Rattle.mes_part.specs.EitherLists.{either_list};
 ghost use Rattle.mes_part.specs.Rows.{Table, need, maybe, many, flag, no_rows, ◌⨾◌, mapped, message};
 ghost use Rattle.mes_part.specs.Choices.{Choice, type_name, no_other, others, case, typed};
 ghost use Rattle.mes_part.specs.Fields.{below};
 ghost use Rattle.mes_part.specs.FirstFaults.{no_values, no_values_exact, no_type, AreRead, IsExact, IsAt, IsString, IsBoolean, IsNumber, IsObject, OtherKind, ValueBreaks, RowsBreak, MaybeBreaks, NeedBreaks, JoinedBreak, MessageBreaks, ListBreaks, EitherListBreaks, ChoiceBreaks, TypedBreak, CaseBreaks};
+ghost use Rattle.mes_part.specs.FirstRows.{OfMessage, ListThen, NoRows};
 ghost use Rattle.mes_part.specs.declared.field.FieldFault.{FieldFault};
 ghost use Rattle.mes_part.specs.declared.field.FieldWhy.{FieldWhy};
 ghost use Rattle.mes_part.specs.declared.field.FieldWhy.TheVariants.{BadBase64, NumberRange, LeftOut};
@@ -134,4 +135,9 @@ pub fn label_breaks()
     ensures { (at : List Place) (t : Tree) (f : FieldFault) → Breaks label at t f ↔ (OtherKind (IsObject t) at f
         ⊎ ((ms : Members) × (t ≡ object ms) × (NeedBreaks texts (codes "key") at ms f
         ⊎ (AreRead (need (codes "key") texts) ms × MaybeBreaks texts (codes "value") at ms f)))) }
+{}
+
+/// Of labels, by the rows of their table: they are no object; or `labels` stands twice, or its list has the fault.
+pub fn labels_break()
+    ensures { (at : List Place) (t : Tree) (f : FieldFault) → Breaks labels at t f ↔ OfMessage (ListThen (codes "labels") label NoRows) at t f }
 {}

@@ -1,7 +1,9 @@
 //! A JSON object that is kept whole.
-ghost use Rattle.std.specs.Prelude.{◌≡◌, IfOk, IfErr};
-ghost use Rattle.mes_json.specs.Tree.{Members};
+ghost use Rattle.std.specs.Prelude.{◌≡◌, None, Ok, IfOk, IfErr};
+ghost use Rattle.mes_json.specs.Tree.{Tree, Members};
 ghost use Rattle.mes_json.specs.Tree.Tree.{object};
+ghost use Rattle.mes_json.specs.Cursor.{as_members};
+ghost use Rattle.mes_json.specs.Tokens.{BeginsWith};
 ghost use Rattle.mes_json.specs.View.{view};
 ghost use Rattle.mes_part.specs.Leaves.{objects};
 ghost use Rattle.mes_part.specs.KindLaws.{lawful_objects};
@@ -47,6 +49,21 @@ impl Kept {
         }
     }
 
+    /// The object at a place of a tape, or `None` if the value there is no object. Only an object is copied, so any other value takes no
+    /// memory and is never answered with `NoMemory`.
+    pub fn at_place(alloc: Global, element: &Element<'_>) -> Result<Option<Kept>, NoMemory>
+        ensures ok { (t : Tree) → BeginsWith element.now t → IfOk result (λ found. found ≡ as_members t) }
+        ensures other { (t : Tree) → BeginsWith element.now t → as_members t ≡ None → result ≡ Ok None }
+    {
+        if element.members().is_none() {
+            return Ok(None);
+        }
+        match Kept::new(element.to_json(alloc)?) {
+            Ok(kept) => Ok(Some(kept)),
+            Err(_) => Ok(None),
+        }
+    }
+
     /// The value.
     pub fn get(&self) -> &Json
         ensures { view result.now ≡ object self.now }
@@ -64,15 +81,15 @@ impl Part for Kept {
 
     ghost lawful = { lawful_objects };
 
-    #[tactic(auto, using(crate::proofs::LeafLemmas::members_at_no_object), unfolding(crate::specs::Leaves::objects))]
+    #[tactic(auto, unfolding(crate::specs::Leaves::objects))]
     fn read_from(
         alloc: Global,
         element: &Element<'_>,
         path: &Trail<'_>,
     ) -> Result<Kept, PartFault> {
-        match Kept::new(element.to_json(alloc)?) {
-            Ok(kept) => Ok(kept),
-            Err(_) => Err(refusal_at(alloc, path, FieldWhy::WrongKind)),
+        match Kept::at_place(alloc, element)? {
+            Some(kept) => Ok(kept),
+            None => Err(refusal_at(alloc, path, FieldWhy::WrongKind)),
         }
     }
 

@@ -3,6 +3,7 @@
 //! values, reservations; each is read from a place of a tape, written as a tree and copied.
 
 mod allocation;
+pub mod first_fault;
 mod id;
 mod reservation;
 mod resource;

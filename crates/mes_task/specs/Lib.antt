@@ -3,3 +3,4 @@ pub mod TaskStates
 pub mod TaskStatuses
 pub mod Tasks
 pub mod Times
+pub mod FirstFaults

@@ -3,6 +3,7 @@
 //! written as a tree and copied; the acknowledgement that a status owes.
 
 mod command;
+pub mod first_fault;
 mod owed_key;
 mod task_info;
 mod task_ref;
