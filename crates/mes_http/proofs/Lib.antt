@@ -2,9 +2,13 @@ pub mod BodyLemmas
 pub mod FieldLemmas
 pub mod HeadLemmas
 pub mod LengthLemmas
+pub mod LineLemmas
+pub mod LineSteps
 pub mod Nothing
 pub mod Phrases
 pub mod PushLemmas
+pub mod SpaceLemmas
 pub mod StreamIdLemmas
+pub mod TargetLemmas
 pub mod TrimLemmas
 pub mod UuidText

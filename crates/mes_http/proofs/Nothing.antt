@@ -37,7 +37,7 @@ request-begins = inl
     (print_request some_request, some_request, (record { method = search rules; target = search rules; target_text = search rules; minor = search rules; fields = search rules }, refl))
 
 pub response-pends : PendsResponse []
-response-pends = (response-none, response-begins)
+response-pends = (response-none, response-begins, omega arith)
 
 pub request-pends : PendsRequest []
-request-pends = (request-none, request-begins)
+request-pends = (request-none, request-begins, omega arith)

@@ -1,8 +1,9 @@
 -- The head of a message, as it is taken from a reader (RFC 9112, section 2). What is one, what may become one and what has too many
 -- fields is httparse's own grammar.
-use Rattle.std.specs.Prelude.{◌≡◌, ℕ, ◌≤◌, ◌⊎◌, List, [], ◌∷◌, ◌++◌, length}
-use Rattle.httparse.specs.Grammar.{RequestHead, ReadsRequest, HasNoRequest, MayBecomeRequest, NeverHasRequest, ResponseHead, ReadsResponse, HasNoResponse, MayBecomeResponse, NeverHasResponse}
-use Rattle.httparse.specs.Spans.{RequestExceeds, ResponseExceeds}
+use Rattle.std.specs.Prelude.{◌≡◌, ℕ, ◌-◌, ◌==◌, ◌<◌, ◌≤◌, ◌⊎◌, if◌then◌else◌, List, [], ◌∷◌, ◌++◌, length, count_by}
+use Rattle.httparse.specs.Ascii.{line_feed}
+use Rattle.httparse.specs.Grammar.{RequestHead, ReadsRequest, HasNoRequest, MayBecomeRequest, NeverHasRequest, EndsInTarget, ResponseHead, ReadsResponse, HasNoResponse, MayBecomeResponse, NeverHasResponse}
+use Rattle.httparse.specs.Pieces.{is_newline}
 use Rattle.mes_http.specs.declared.limits.TheConstants.{HEAD_MOST, FIELDS_MOST}
 
 -- what was taken is this head and nothing else, and keeps the limits
@@ -17,26 +18,37 @@ pub record IsResponse (taken : List ℕ) (h : ResponseHead) : Type 0 where
   pub fields : length h.fields ≤ FIELDS_MOST
   pub bytes : length taken ≤ HEAD_MOST
 
--- no head has ended in what was taken, and one may begin so
+-- the bytes from the start line on, without the empty lines before it (RFC 9112, section 2.2)
+abbrev pub from_start_line : List ℕ → List ℕ
+from_start_line [] = []
+from_start_line (b ∷ bytes) = if is_newline b then from_start_line bytes else b ∷ bytes
+
+-- the number of complete lines after the start line: each of them ends in a line feed. Until the head ends, they are field lines
+abbrev pub field_lines : List ℕ → ℕ
+field_lines taken = count_by (λ b. b == line_feed) (from_start_line taken) - 1
+
+-- no head has ended in what was taken, one may begin so, and no more field lines are complete than a head may have
 abbrev pub PendsRequest : List ℕ → Type 0
-PendsRequest taken = HasNoRequest taken × MayBecomeRequest taken
+PendsRequest taken = HasNoRequest taken × MayBecomeRequest taken × (field_lines taken ≤ FIELDS_MOST)
 
 -- the same for a response
 abbrev pub PendsResponse : List ℕ → Type 0
-PendsResponse taken = HasNoResponse taken × MayBecomeResponse taken
+PendsResponse taken = HasNoResponse taken × MayBecomeResponse taken × (field_lines taken ≤ FIELDS_MOST)
 
--- no head begins with what was taken, or one line too many stands in it; one byte before, one might still begin so
+-- no head begins with what was taken, and it doesn't end inside the target of a request, which is judged at its end; or no head has
+-- ended, and one field line too many is complete. One byte before, one might still begin so
 pub record FailsRequest (taken : List ℕ) : Type 0 where
   pub front : List ℕ
   pub byte : ℕ
   pub is : taken ≡ front ++ byte ∷ []
   pub pends : PendsRequest front
-  pub never : NeverHasRequest taken ⊎ RequestExceeds FIELDS_MOST taken
+  pub fails : (NeverHasRequest taken × ¬ (EndsInTarget taken)) ⊎ (HasNoRequest taken × (FIELDS_MOST < field_lines taken))
 
--- the same for a response
+-- no head begins with what was taken; or no head has ended, and one field line too many is complete. One byte before, one might still
+-- begin so
 pub record FailsResponse (taken : List ℕ) : Type 0 where
   pub front : List ℕ
   pub byte : ℕ
   pub is : taken ≡ front ++ byte ∷ []
   pub pends : PendsResponse front
-  pub never : NeverHasResponse taken ⊎ ResponseExceeds FIELDS_MOST taken
+  pub fails : NeverHasResponse taken ⊎ (HasNoResponse taken × (FIELDS_MOST < field_lines taken))

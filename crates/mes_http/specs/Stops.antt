@@ -1,6 +1,7 @@
 -- How the taking of a head ends before there is one.
-use Rattle.std.specs.Prelude.{◌≡◌, ℕ, List, length}
-use Rattle.httparse.specs.Grammar.{RequestHead, ResponseHead}
+use Rattle.std.specs.Prelude.{◌≡◌, ℕ, Bool, not, ◌==◌, ◌<◌, List, ◌∷◌, ◌++◌, length}
+use Rattle.httparse.specs.Ascii.{space}
+use Rattle.httparse.specs.Grammar.{AllPass, is_uri_byte, RequestHead, ResponseHead}
 use Rattle.httparse.specs.Spans.{IsRequestAt, IsResponseAt, IsRequestWithin, IsResponseWithin}
 use Rattle.httparse.specs.declared.spans.HeaderSpan.{HeaderSpan}
 use Rattle.httparse.specs.declared.spans.RequestSpans.{RequestSpans}
@@ -40,6 +41,19 @@ StopsResponse Read taken old new = PendsResponse taken × OneFails old new
 StopsResponse TooLong taken old new = (length taken ≡ HEAD_MOST) × PendsResponse taken × AllGive old new
 StopsResponse Refused taken old new = FailsResponse taken × AllGive old new
 StopsResponse Ended taken old new = PendsResponse taken × OneEnds old new
+
+-- any byte but a space
+abbrev pub is_no_space : ℕ → Bool
+is_no_space b = not (b == space)
+
+-- the first space is followed by at least one byte, and only by bytes of a target
+pub record IsInTarget (taken : List ℕ) : Type 0 where
+  pub front : List ℕ
+  pub target : List ℕ
+  pub is : taken ≡ front ++ space ∷ target
+  pub unspaced : AllPass is_no_space front
+  pub some : 0 < length target
+  pub visible : AllPass is_uri_byte target
 
 -- the spans are those of the head that was taken
 pub record IsRequestTaken (taken : List ℕ) (headers : List HeaderSpan) (r : RequestSpans) : Type 0 where

@@ -7,6 +7,8 @@ ghost use Rattle.mes_http.specs.Stops.{stop_fault, StopsByte, IsRequestTaken, Is
 
 use crate::fault::HeadFault;
 use crate::limits::{FIELDS_MOST, HEAD_MOST};
+use crate::lines::field_lines;
+use crate::target::ends_in_target;
 use arrayvec::ArrayVec;
 use httparse::spans::{HeaderSpan, RequestSpans, ResponseSpans, parse_request, parse_response};
 use httparse::{Error, Status};
@@ -55,7 +57,11 @@ pub(crate) fn take_response<S: Source>(
         taken.push(byte);
         match parse_response(taken.as_slice(), headers) {
             Ok(Status::Complete(head)) => return Ok(head),
-            Ok(Status::Partial) => {}
+            Ok(Status::Partial) => {
+                if byte == b'\n' && field_lines(taken.as_slice()) > FIELDS_MOST {
+                    return Err(HeadStop::Refused);
+                }
+            }
             Err(Error::TooManyHeaders) => return Err(HeadStop::Refused),
             Err(_) => return Err(HeadStop::Refused),
         }
@@ -80,9 +86,17 @@ pub(crate) fn take_request<S: Source>(
         taken.push(byte);
         match parse_request(taken.as_slice(), headers) {
             Ok(Status::Complete(head)) => return Ok(head),
-            Ok(Status::Partial) => {}
+            Ok(Status::Partial) => {
+                if byte == b'\n' && field_lines(taken.as_slice()) > FIELDS_MOST {
+                    return Err(HeadStop::Refused);
+                }
+            }
             Err(Error::TooManyHeaders) => return Err(HeadStop::Refused),
-            Err(_) => return Err(HeadStop::Refused),
+            Err(_) => {
+                if !ends_in_target(taken.as_slice()) {
+                    return Err(HeadStop::Refused);
+                }
+            }
         }
     }
     Err(HeadStop::TooLong)

@@ -12,11 +12,13 @@ mod host;
 mod laws;
 mod length;
 mod limits;
+mod lines;
 mod media_type;
 mod request;
 mod response;
 mod rules;
 mod stream_id;
+mod target;
 
 pub use answer_writer::{write_ok, write_status};
 pub use call_writer::write_call;
