@@ -73,11 +73,10 @@ break_or_not version letter [] = elim (cases_eq version 2) [
 -- ---- faults of messages
 
 -- a refusal that is no bad entry is a fault of the message
-pub message_breaks : (version : ℕ) (r : List ℕ) (f : RecordFault) → IsMessageFault r f → EntryBreaks version r (refusal_of f)
-message_breaks version r (message.Text f) h = h
-message_breaks version r (message.Field f) h = h
-message_breaks version r message.NoMemory (inl h) = inl (inl (h.0, h.1, tt))
-message_breaks version r message.NoMemory (inr h) = inl (inr (h.0, h.1, tt))
+pub message_breaks : (version : ℕ) (r : List ℕ) (f : RecordFault) → f ≢ message.NoMemory → IsMessageFault r f → EntryBreaks version r (refusal_of f)
+message_breaks version r (message.Text f) known h = h
+message_breaks version r (message.Field f) known h = h
+message_breaks version r message.NoMemory known h = absurd (known refl)
 
 -- what a refusal says of the data
 data Why (version : ℕ) (r : List ℕ) (why : RecordRefusal) : Type 0 where
@@ -103,12 +102,12 @@ module _ (events : OneMessage event) (calls : OneMessage call) where
   entry_decided version (letter ∷ text) = elim (cases_eq letter EVENT) [
     | inl is ↦ elim (events.some text) [
       | inl h ↦ inl (Heard h.0, (text, ap (λ (x : ℕ). x ∷ text) is, h.1))
-      | inr h ↦ inr (refusal_of h.0, no_memory_in h.0 h.1, message_breaks version (letter ∷ text) h.0 (inl (text, ap (λ (x : ℕ). x ∷ text) is, h.2)))
+      | inr h ↦ inr (refusal_of h.0, no_memory_in h.0 h.1, message_breaks version (letter ∷ text) h.0 h.1 (inl (text, ap (λ (x : ℕ). x ∷ text) is, h.2)))
     ]
     | inr no_event ↦ elim (cases_eq letter CALL) [
       | inl is ↦ elim (calls.some text) [
         | inl h ↦ inl (Said h.0, (text, ap (λ (x : ℕ). x ∷ text) is, h.1))
-        | inr h ↦ inr (refusal_of h.0, no_memory_in h.0 h.1, message_breaks version (letter ∷ text) h.0 (inr (text, ap (λ (x : ℕ). x ∷ text) is, h.2)))
+        | inr h ↦ inr (refusal_of h.0, no_memory_in h.0 h.1, message_breaks version (letter ∷ text) h.0 h.1 (inr (text, ap (λ (x : ℕ). x ∷ text) is, h.2)))
       ]
       | inr no_call ↦ elim (break_or_not version letter text) [
         | inl is ↦ inl (Broken, is)

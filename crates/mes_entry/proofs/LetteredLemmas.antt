@@ -1,19 +1,26 @@
 -- What lettered data are, over the places where a reader of them stands.
-use Rattle.std.proofs.Common.{◌≡◌, ℕ, ◌^◌, ◌<◌, ◌≤◌, inl, inr, List, [], ◌∷◌, ◌++◌, length, refl, ap, sym, ◌∙◌, subst, arith, Bool, true, false}
-use Rattle.std.specs.Prelude.{◌==◌}
+use Rattle.std.proofs.Common.{◌≡◌, ◌≢◌, ℕ, ◌+◌, ◌^◌, ◌<◌, ◌≤◌, inl, inr, List, [], ◌∷◌, ◌++◌, length, take, Result, Ok, Err, refl, ap, sym, ◌∙◌, subst, arith, add-one, Bool, true, false}
+use Rattle.std.specs.Prelude.{◌==◌, IfErr}
 use Rattle.mes_json.specs.Inner.{inner}
-use Rattle.mes_json.specs.Lexer.{HasLexed, IsBounded, IsOutOfMemory, held}
+use Rattle.mes_json.specs.Lexer.{HasLexed, IsBounded, IsLexFault, IsOutOfMemory, held}
+use Rattle.mes_json.specs.Place.{Begins}
+use Rattle.mes_json.specs.declared.fault.ReadFault.{ReadFault}
+use Rattle.mes_json.specs.declared.fault.ReadFault.TheVariants as read
+use Rattle.mes_json.specs.declared.limits.TheConstants.{NESTING_LIMIT}
+use Rattle.mes_json.specs.declared.memory.NoMemoryAt.{NoMemoryAt}
 use Rattle.mes_json.specs.declared.lexer.Lexer.{Lexer}
 use Rattle.mes_part.specs.Kinds.{Kind}
 use Rattle.mes_msg.specs.Events.{event}
 use Rattle.mes_msg.specs.Calls.{call}
+use Rattle.mes_msg.specs.RecordFaults.{of_read}
 use Rattle.mes_msg.specs.Texts.{IsFaultOf}
 use Rattle.mes_msg.specs.RecordFault.{RecordFault}
 use Rattle.mes_msg.specs.RecordFault.TheVariants as message
+use Rattle.mes_stream.proofs.EventLemmas.{exact_fault}
 use Rattle.mes_stream.specs.Refusals.{refusal_of}
 use Rattle.mes_stream.specs.declared.refusal.RecordRefusal.{RecordRefusal}
 use Rattle.mes_stream.specs.declared.refusal.RecordRefusal.TheVariants as refusal
-use Rattle.mes_entry.specs.Entries.{BehindLetter}
+use Rattle.mes_entry.specs.Entries.{BehindLetter, BeginsMessage}
 use Rattle.mes_entry.specs.Lettered.{HasText, HoldsAt, LetteredBreaks, IsTextRefusal}
 use Rattle.mes_entry.specs.declared.letters.TheConstants.{EVENT, CALL}
 use Rattle.mes_entry.specs.declared.lettered.Place.{Place}
@@ -34,19 +41,54 @@ pub event_refused : (r : List ℕ) (text : List ℕ) (why : RecordRefusal) → r
 event_refused r text (refusal.Text f) is h = inl (text, is, h)
 event_refused r text (refusal.Field f) is h = inl (text, is, h)
 event_refused r text refusal.BadEntry is h = absurd h
-event_refused r text refusal.NoMemory is h = inl (text, is, tt)
+event_refused r text refusal.NoMemory is h = inl (text, is, h)
 
 pub call_refused : (r : List ℕ) (text : List ℕ) (why : RecordRefusal) → r ≡ CALL ∷ text → IsTextRefusal call text why → LetteredBreaks r why
 call_refused r text (refusal.Text f) is h = inr (text, is, h)
 call_refused r text (refusal.Field f) is h = inr (text, is, h)
 call_refused r text refusal.BadEntry is h = absurd h
-call_refused r text refusal.NoMemory is h = inr (text, is, tt)
+call_refused r text refusal.NoMemory is h = inr (text, is, h)
 
 -- why a text is none of a message of the kind, as a refusal
-pub text_refused : {V : Type 0} (k : Kind V) (text : List ℕ) (f : RecordFault) → IsFaultOf k text f → IsTextRefusal k text (refusal_of f)
-text_refused k text (message.Text f) h = h
-text_refused k text (message.Field f) h = h
-text_refused k text message.NoMemory h = tt
+pub text_refused : {V : Type 0} (k : Kind V) (text : List ℕ) (f : RecordFault) → (f ≡ message.NoMemory → Begins NESTING_LIMIT text) → IsFaultOf k text f → IsTextRefusal k text (refusal_of f)
+text_refused k text (message.Text f) begins h = h
+text_refused k text (message.Field f) begins h = h
+text_refused k text message.NoMemory begins h = begins refl
+
+-- the bytes are no text, or an allocation failed
+pub lexed_refused : {V : Type 0} (k : Kind V) (text : List ℕ) (e : ReadFault) → length text < 2 ^ 64 → IsLexFault NESTING_LIMIT text e → (e ≡ read.NoMemory → Begins NESTING_LIMIT text)
+    → IsTextRefusal k text (refusal_of (of_read e))
+lexed_refused k text (read.Text f) short h begins = exact_fault NESTING_LIMIT text f short h
+lexed_refused k text read.NoMemory short h begins = begins refl
+
+-- an allocation failed for a byte of a text: the data before it begin as its message's do
+abbrev pub StopsText : {T : Type 0} → Lexer → List ℕ → Result T NoMemoryAt → Type 0
+StopsText lexer bytes result =
+    (text : List ℕ) → HasLexed lexer text → (IsOutOfMemory lexer → ⊥) → IfErr result (λ refused. Begins NESTING_LIMIT (text ++ take refused.taken bytes))
+
+pub event_before : {T : Type 0} (lexer : Lexer) (r bytes : List ℕ) (result : Result T NoMemoryAt) → StopsText lexer bytes result → BehindLetter EVENT (HasText lexer) r
+    → IfErr result (λ refused. BeginsMessage (r ++ take refused.taken bytes))
+event_before lexer r bytes (Ok done) before h = tt
+event_before lexer r bytes (Err refused) before (text, is, has) =
+    inl (text ++ take refused.taken bytes, ap (λ (x : List ℕ). x ++ take refused.taken bytes) is, before text has.lexed has.memory)
+
+pub call_before : {T : Type 0} (lexer : Lexer) (r bytes : List ℕ) (result : Result T NoMemoryAt) → StopsText lexer bytes result → BehindLetter CALL (HasText lexer) r
+    → IfErr result (λ refused. BeginsMessage (r ++ take refused.taken bytes))
+call_before lexer r bytes (Ok done) before h = tt
+call_before lexer r bytes (Err refused) before (text, is, has) =
+    inr (text ++ take refused.taken bytes, ap (λ (x : List ℕ). x ++ take refused.taken bytes) is, before text has.lexed has.memory)
+
+-- data of which some were taken are not empty
+pub some_held : (p : Place) (lexer : Lexer) (r : List ℕ) → p ≢ place.Start → HoldsAt p lexer r → r ≢ []
+some_held place.Start lexer r other h none = absurd (other refl)
+some_held place.Event lexer r other (text, is, has) none = absurd (cc)
+some_held place.Call lexer r other (text, is, has) none = absurd (cc)
+some_held (place.Alone letter) lexer r other (is, alone, has) none = absurd (cc)
+some_held place.More lexer r other (letter, next, more, is, alone, has) none = absurd (cc)
+
+-- a front of the letter and the text after it
+pub take_letter : (n letter : ℕ) (text : List ℕ) → take (n + 1) (letter ∷ text) ≡ letter ∷ take n text
+take_letter n letter text = rw add-one refl
 
 -- a list that is not empty has an item
 pub some_bytes : (bytes : List ℕ) (empty : Bool) → empty ≡ (length bytes == 0) → empty ≡ false → bytes ≡ [] → ⊥

@@ -1,6 +1,8 @@
 -- An entry of a session log, in the data of a record: `E` and the JSON text of an event, `C` and that of a call, or in version 2 a `B`
 -- alone, for a stream that broke. A log of version 2 begins with a header, a record whose data are `2`; one that doesn't is of version 1.
 use Rattle.std.specs.Prelude.{◌≡◌, ◌≢◌, ℕ, ◌⊎◌, List, [], ◌∷◌}
+use Rattle.mes_json.specs.Place.{Begins}
+use Rattle.mes_json.specs.declared.limits.TheConstants.{NESTING_LIMIT}
 use Rattle.mes_msg.specs.Events.{event, Spells}
 use Rattle.mes_msg.specs.Calls.{call}
 use Rattle.mes_msg.specs.Texts.{IsTextOf, IsFaultOf}
@@ -43,16 +45,16 @@ IsBadEntry version (letter ∷ text) = IsOther letter × (IsBreak version (lette
 abbrev pub IsMessageFault : List ℕ → RecordFault → Type 0
 IsMessageFault r fault = BehindLetter EVENT (λ text. IsFaultOf event text fault) r ⊎ BehindLetter CALL (λ text. IsFaultOf call text fault) r
 
--- the data begin with the letter of an event or of a call
-abbrev pub HasLetter : List ℕ → Type 0
-HasLetter r = BehindLetter EVENT (λ text. Unit {0}) r ⊎ BehindLetter CALL (λ text. Unit {0}) r
+-- the data are the letter of an event or of a call, and then bytes from which some JSON text goes on
+abbrev pub BeginsMessage : List ℕ → Type 0
+BeginsMessage r = BehindLetter EVENT (λ text. Begins NESTING_LIMIT text) r ⊎ BehindLetter CALL (λ text. Begins NESTING_LIMIT text) r
 
--- why the data are no entry's; want of memory is told only of data that begin as an entry's do
+-- Why the data are no entry's. An allocation fails only for data that begin as an event's or a call's do.
 abbrev pub EntryBreaks : ℕ → List ℕ → RecordRefusal → Type 0
 EntryBreaks version r (refusal.Text fault) = IsMessageFault r (message.Text fault)
 EntryBreaks version r (refusal.Field fault) = IsMessageFault r (message.Field fault)
 EntryBreaks version r refusal.BadEntry = IsBadEntry version r
-EntryBreaks version r refusal.NoMemory = HasLetter r ⊎ IsBreak version r
+EntryBreaks version r refusal.NoMemory = BeginsMessage r
 
 -- ---- the first record
 
@@ -66,7 +68,7 @@ abbrev pub FirstBreaks : List ℕ → RecordRefusal → Type 0
 FirstBreaks r (refusal.Text fault) = EntryBreaks 1 r (refusal.Text fault)
 FirstBreaks r (refusal.Field fault) = EntryBreaks 1 r (refusal.Field fault)
 FirstBreaks r refusal.BadEntry = IsBadEntry 1 r × (r ≢ HEADER ∷ [])
-FirstBreaks r refusal.NoMemory = HasLetter r ⊎ (r ≡ HEADER ∷ [])
+FirstBreaks r refusal.NoMemory = BeginsMessage r
 
 -- which version begins so
 abbrev pub version_of : FirstRecord → ℕ

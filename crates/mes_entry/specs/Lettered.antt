@@ -1,15 +1,18 @@
 -- What a reader of lettered data has taken of a record's data, and what it makes of them.
-use Rattle.std.specs.Prelude.{◌≡◌, ℕ, ◌⊎◌, List, [], ◌∷◌}
+use Rattle.std.specs.Prelude.{◌≡◌, ℕ, ◌+◌, ◌⊎◌, List, [], ◌∷◌}
 use Rattle.mes_json.specs.Lexer.{HasLexed, IsOutOfMemory, held}
+use Rattle.mes_json.specs.Place.{Begins}
+use Rattle.mes_json.specs.declared.limits.TheConstants.{NESTING_LIMIT}
 use Rattle.mes_json.specs.declared.lexer.Lexer.{Lexer}
 use Rattle.mes_part.specs.Kinds.{Kind}
 use Rattle.mes_msg.specs.Events.{Spells}
 use Rattle.mes_msg.specs.Calls.{call}
 use Rattle.mes_msg.specs.Texts.{IsTextOf, IsFaultOf}
 use Rattle.mes_msg.specs.RecordFault.TheVariants as message
+use Rattle.mes_stream.specs.Held.{fixed}
 use Rattle.mes_stream.specs.declared.refusal.RecordRefusal.{RecordRefusal}
 use Rattle.mes_stream.specs.declared.refusal.RecordRefusal.TheVariants as refusal
-use Rattle.mes_entry.specs.Entries.{BehindLetter, HasLetter, IsOther, IsMessageFault}
+use Rattle.mes_entry.specs.Entries.{BehindLetter, BeginsMessage, IsOther, IsMessageFault}
 use Rattle.mes_entry.specs.declared.letters.TheConstants.{EVENT, CALL}
 use Rattle.mes_entry.specs.declared.lettered.Lettered.{Lettered}
 use Rattle.mes_entry.specs.declared.lettered.Lettered.TheVariants as lettered
@@ -34,9 +37,9 @@ HoldsAt place.More lexer r = (letter : ℕ) × (next : ℕ) × (more : List ℕ)
 abbrev pub HoldsLettered : LetteredReader → List ℕ → Type 0
 HoldsLettered reader r = HoldsAt reader.place reader.lexer r
 
--- how many bytes of texts and numbers are kept of them
+-- how many bytes of texts and numbers are kept of them: the sum over all fields
 abbrev pub kept_text : LetteredReader → ℕ
-kept_text reader = held reader.lexer
+kept_text reader = let record { alloc = alloc; place = now; lexer = lexer } = reader in fixed alloc + fixed now + held lexer
 
 -- the data are these
 abbrev pub SpellsLettered : List ℕ → Lettered → Type 0
@@ -48,16 +51,16 @@ SpellsLettered r (lettered.Alone letter) = (r ≡ letter ∷ []) × IsOther lett
 abbrev pub IsBadData : List ℕ → Type 0
 IsBadData r = (r ≡ []) ⊎ ((letter : ℕ) × (next : ℕ) × (more : List ℕ) × (r ≡ letter ∷ next ∷ more) × IsOther letter)
 
--- why they are none of these; want of memory is told only of data with the letter of a message
+-- Why they are none of these. An allocation fails only for data that begin as an event's or a call's do.
 abbrev pub LetteredBreaks : List ℕ → RecordRefusal → Type 0
 LetteredBreaks r (refusal.Text fault) = IsMessageFault r (message.Text fault)
 LetteredBreaks r (refusal.Field fault) = IsMessageFault r (message.Field fault)
 LetteredBreaks r refusal.BadEntry = IsBadData r
-LetteredBreaks r refusal.NoMemory = HasLetter r
+LetteredBreaks r refusal.NoMemory = BeginsMessage r
 
--- why a text is none of a message of this kind
+-- Why a text is none of a message of this kind. An allocation fails only for bytes that begin a text.
 abbrev pub IsTextRefusal : {V : Type 0} → Kind V → List ℕ → RecordRefusal → Type 0
 IsTextRefusal k text (refusal.Text fault) = IsFaultOf k text (message.Text fault)
 IsTextRefusal k text (refusal.Field fault) = IsFaultOf k text (message.Field fault)
 IsTextRefusal k text refusal.BadEntry = ⊥
-IsTextRefusal k text refusal.NoMemory = Unit {0}
+IsTextRefusal k text refusal.NoMemory = Begins NESTING_LIMIT text

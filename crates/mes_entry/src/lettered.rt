@@ -1,9 +1,9 @@
 //! Reads data that are a letter and, behind some letters, the JSON text of a message.
 
-ghost use Rattle.std.specs.Prelude.{◌≡◌, ◌≢◌, ℕ, ◌^◌, ◌<◌, ◌≤◌, List, [], ◌∷◌, ◌++◌, length, IsTrue, ◌↔◌, OnOk, IfOk, IfErr};
+ghost use Rattle.std.specs.Prelude.{◌≡◌, ◌≢◌, ℕ, ◌^◌, ◌<◌, ◌≤◌, List, [], ◌∷◌, ◌++◌, length, take, IsTrue, ◌↔◌, OnOk, IfOk, IfErr};
 ghost use Rattle.mes_json.specs.Inner.{inner};
-ghost use Rattle.mes_json.specs.Lexer.{HasLexed};
 ghost use Rattle.mes_msg.specs.Texts.{IsTextOf};
+ghost use Rattle.mes_entry.specs.Entries.{BeginsMessage};
 ghost use Rattle.mes_entry.specs.Lettered.{HasText, HoldsLettered, LetteredBreaks, HoldsAt, IsTextRefusal, SpellsLettered, kept_text};
 ghost use Rattle.mes_json.specs.declared.lexer.Lexer.{Lexer as LexerValue};
 
@@ -66,6 +66,8 @@ impl LetteredReader {
         ensures ok { OnOk result ((r : List ℕ) → HoldsLettered self.old r → HoldsLettered self.new (r ++ bytes.now)) }
         // Memory was refused for the byte behind those that were taken.
         ensures err { IfErr result (λ refused. 0 < length bytes.now → refused.taken < length bytes.now) }
+        // The data before that byte begin as an event's or a call's do.
+        ensures before { (r : List ℕ) → HoldsLettered self.old r → IfErr result (λ refused. BeginsMessage (r ++ take refused.taken bytes.now)) }
     {
         if !self.is_at_start() {
             return self.push_behind(bytes);
@@ -102,6 +104,7 @@ impl LetteredReader {
     fn push_behind(&mut self, bytes: &[u8]) -> Result<(), NoMemoryAt>
         ensures ok { OnOk result ((r : List ℕ) → r ≢ [] → HoldsLettered self.old r → HoldsLettered self.new (r ++ bytes.now)) }
         ensures err { IfErr result (λ refused. 0 < length bytes.now → refused.taken < length bytes.now) }
+        ensures before { (r : List ℕ) → r ≢ [] → HoldsLettered self.old r → IfErr result (λ refused. BeginsMessage (r ++ take refused.taken bytes.now)) }
     {
         match self.place {
             Place::Event => self.lexer.push_run(bytes),
@@ -178,8 +181,8 @@ fn place_behind(letter: u8) -> Place
 // Reads the text that the lexer has taken to a message, and makes the lexer ready for the next text.
 fn end_text<T: Part>(alloc: Global, lexer: &mut Lexer) -> Result<T, RecordRefusal>
     requires { T.STEPS ≤ STEPS_MOST }
-    ensures ok { (text : List ℕ) → HasLexed lexer.old text → length text < 2 ^ 64 → IfOk result (IsTextOf T.kind text) }
-    ensures err { (text : List ℕ) → HasLexed lexer.old text → length text < 2 ^ 64 → IfErr result (IsTextRefusal T.kind text) }
+    ensures ok { (text : List ℕ) → HasText lexer.old text → length text < 2 ^ 64 → IfOk result (IsTextOf T.kind text) }
+    ensures err { (text : List ℕ) → HasText lexer.old text → length text < 2 ^ 64 → IfErr result (IsTextRefusal T.kind text) }
     ensures next { OnOk result (HasText lexer.new []) }
 {
     let tape = lexer.take()?;

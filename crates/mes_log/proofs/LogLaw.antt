@@ -1,16 +1,16 @@
 -- Any bytes are read as a log in exactly one way: by the first record, which has not ended, or by the records behind it.
-use Rattle.std.proofs.Common.{◌≡◌, ◌≢◌, ℕ, ◌+◌, ◌⊎◌, inl, inr, List, [], ◌∷◌, ◌++◌, length, refl, ap, ap₂, sym, ◌∙◌, subst, append_assoc, append-nil, arith}
+use Rattle.std.proofs.Common.{◌≡◌, ℕ, ◌+◌, ◌⊎◌, inl, inr, List, [], ◌∷◌, ◌++◌, refl, ap, ap₂, sym, ◌∙◌, subst, append_assoc, append-nil, arith}
 use Rattle.std.proofs.lemmas.List.{append_cancel_left}
 use Rattle.mes_frame.specs.Record.{IsRecord}
 use Rattle.mes_frame.specs.RecordReading.{RecordReading, ReadsRecord, Whole}
 use Rattle.mes_msg.specs.declared.entry.Entry.{Entry}
-use Rattle.mes_stream.specs.PlainReading.{IsExact, IsDecided, PlainReading, Goes, Stops, ReadsPlain}
+use Rattle.mes_stream.specs.PlainReading.{PlainReading, Goes, Stops, ReadsPlain}
 use Rattle.mes_stream.specs.Stream.{Records, Behind, BodyLive, BodyShows, number_after}
 use Rattle.mes_stream.specs.declared.fault.Fault.{Fault}
 use Rattle.mes_stream.specs.declared.fault.Fault.TheVariants.{Frame, EndsInsideChunks, EndsInsideRecord, Text, Field, NoMemory, Read, ReadsSpent, BadEntry}
 use Rattle.mes_stream.specs.declared.refusal.RecordRefusal.{RecordRefusal}
 use Rattle.mes_entry.specs.Entries.{SpellsFirst, FirstBreaks, SpellsEntry, EntryBreaks, version_of, entries_in}
-use Rattle.mes_log.specs.Logs.{BehindFirst, IsLog, LogGoes, ReadsLog}
+use Rattle.mes_log.specs.Logs.{IsLog, LogGoes, ReadsLog}
 use Rattle.mes_entry.specs.declared.first_reader.FirstRecord.{FirstRecord}
 use Rattle.mes_entry.specs.declared.first_reader.FirstRecord.TheVariants as kind
 

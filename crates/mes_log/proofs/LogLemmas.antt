@@ -1,15 +1,16 @@
 -- The reading of a log, piece by piece: its first record, and the records behind it.
 use Rattle.std.proofs.Common.{◌≡◌, ℕ, ◌+◌, ◌-◌, ◌<◌, ◌≤◌, List, [], ◌∷◌, ◌++◌, length, take, drop, sym, ◌∙◌, ap, append_assoc, append-nil, arith, refl, length-append, length-take-le, take-append-drop, Option, Some, None, Result, Ok, Err, inl, inr, subst}
 use Rattle.std.proofs.lemmas.List.{take_more}
-use Rattle.std.specs.Prelude.{OnOk, IfOk, IfErr, slice_index}
+use Rattle.std.specs.Prelude.{OnOk, IfErr, slice_index}
 use Rattle.mes_frame.specs.Record.{IsRecord}
 use Rattle.mes_frame.specs.declared.counts.Counts.{Counts}
 use Rattle.mes_msg.specs.declared.entry.Entry.{Entry}
 use Rattle.mes_msg.specs.declared.entry.Entry.TheVariants.{Heard, Said, Broken}
-use Rattle.mes_stream.specs.Framings.{GoesIn, GoesBefore, EndsRecordIn, StopsWithin}
+use Rattle.mes_stream.specs.Framings.{GoesBefore, EndsRecordIn}
 use Rattle.mes_stream.specs.Reading.{Ahead, nothing_ahead, ByteEndsBehind, EndMeans, BreaksOff, ReadingStandsBehind, ReadingTakesBehind, ReadingTakesRecord, MeansBehind, told_as}
 use Rattle.mes_stream.specs.Reads.{EndsReads}
-use Rattle.mes_stream.specs.Stream.{saturated, Records, InRecordData}
+use Rattle.mes_stream.specs.RecordValues.{IsRefused}
+use Rattle.mes_stream.specs.Stream.{saturated, Records, RunsOut}
 use Rattle.mes_stream.specs.declared.fault.Fault.{Fault}
 use Rattle.mes_stream.specs.declared.fault.Fault.TheVariants.{NoMemory, Read, ReadsSpent}
 use Rattle.mes_stream.specs.declared.fault.Report.{Report}
@@ -22,15 +23,16 @@ use Rattle.mes_stream.specs.declared.reads.ReadsEnd.{ReadsEnd}
 use Rattle.mes_stream.specs.declared.reads.ReadsEnd.TheVariants.{Stopped, AtEnd, Failed, Spent}
 use Rattle.mes_stream.specs.declared.stream_reader.Framing.{Framing}
 use Rattle.mes_stream.specs.declared.stream_reader.Framing.TheVariants.{Plain}
-use Rattle.mes_entry.specs.Entries.{SpellsFirst, FirstBreaks, SpellsEntry, EntryBreaks, version_of, entries_in}
+use Rattle.mes_json.proofs.LexerLemmas.{text_begins}
+use Rattle.mes_stream.proofs.BodyLemmas.{ends_runs_out}
+use Rattle.mes_entry.specs.Entries.{BeginsMessage, SpellsFirst, FirstBreaks, SpellsEntry, EntryBreaks, entries_in}
 use Rattle.mes_log.specs.Logs.{BehindFirst, LogByteEnds, LogEndMeans, LogBreaksOff, EndsLog}
 use Rattle.mes_entry.specs.EntryData.{HoldsFirst, HoldsEntry}
-use Rattle.mes_log.specs.LogStages.{StageStands, RestStands, StageTakes, StageBegins, StageMeans, LogMeans, LogStands, LogGathers, LogGathersLast, log_answer, log_told, stage_told}
+use Rattle.mes_log.specs.LogStages.{StageStands, RestStands, StageTakes, StageBegins, StageMeans, LogMeans, LogStands, LogGathers, LogGathersLast, log_answer, log_told}
 use Rattle.mes_entry.specs.declared.entry_reader.EntryReader.{EntryReader}
 use Rattle.mes_entry.specs.declared.first_reader.FirstReader.{FirstReader}
 use Rattle.mes_entry.specs.declared.first_reader.FirstRecord.{FirstRecord}
 use Rattle.mes_entry.specs.declared.first_reader.FirstRecord.TheVariants as kind
-use Rattle.mes_entry.specs.declared.letters.TheConstants.{EVENT, CALL}
 use Rattle.mes_log.specs.declared.log_reading.LogReading.{LogReading}
 use Rattle.mes_log.specs.declared.log_reading.LogStop.{LogStop}
 use Rattle.mes_log.specs.declared.log_reading.LogStop.TheVariants as log_stop
@@ -44,54 +46,17 @@ pub one_record : (limit : ℕ) (b : List ℕ) (value : FirstRecord) → Records 
 one_record limit b value (front, rest, content, framed, says, is, none) =
     (content, subst (λ (y : List ℕ). IsRecord y content limit) (sym (is ∙ ap (λ (y : List ℕ). front ++ y) none ∙ append-nil front)) framed, says)
 
--- the data of an entry have a last byte
-last_of : (a : ℕ) (r : List ℕ) → (front : List ℕ) × (last : ℕ) × (a ∷ r ≡ front ++ last ∷ [])
-last_of a [] = ([], a, refl)
-last_of a (b ∷ r) = let h = last_of b r in (a ∷ h.0, h.1, ap (λ (x : List ℕ). a ∷ x) h.2)
+-- the data of an entry of version 1 begin as a message's do
+begins_message : (r : List ℕ) (entry : Entry) → SpellsEntry 1 r entry → BeginsMessage r
+begins_message r (Heard heard) (text, is, (t, spelt, reads)) = inl (text, is, text_begins text t spelt)
+begins_message r (Said said) (text, is, (t, spelt, reads)) = inr (text, is, text_begins text t spelt)
+begins_message r Broken is = let one : 1 ≡ 2 = is.0 in absurd (omega (arith, one))
 
-some_data : (r : List ℕ) (entry : Entry) → SpellsEntry 1 r entry → (front : List ℕ) × (last : ℕ) × (r ≡ front ++ last ∷ [])
-some_data r (Heard heard) (text, is, says) = let h = last_of EVENT text in (h.0, h.1, is ∙ h.2)
-some_data r (Said said) (text, is, says) = let h = last_of CALL text in (h.0, h.1, is ∙ h.2)
-some_data r Broken is = let one : 1 ≡ 2 = is.0 in absurd (omega (arith, one))
-
-same_front : (x y : List ℕ) (c d : ℕ) → x ++ c ∷ [] ≡ y ++ d ∷ [] → x ≡ y
-same_front [] [] c d same = refl
-same_front [] (b ∷ y) c d same = let len = ap length same in let sum = length-append y (d ∷ []) in absurd (omega (arith, len, sum))
-same_front (a ∷ x) [] c d same = let len = ap length same in let sum = length-append x (c ∷ []) in absurd (omega (arith, len, sum))
-same_front (a ∷ x) (b ∷ y) c d same =
-    let head : a ≡ b = cc in
-    let tail : x ++ c ∷ [] ≡ y ++ d ∷ [] = cc in
-    let front : x ≡ y = same_front x y c d tail in
-    cc
-
--- before the last byte of an entry's record there is a byte of data to come
-in_data : (limit : ℕ) (b : List ℕ) (c : ℕ) (entry : Entry) → EndsRecordIn Plain SpellsFirst limit b [] c (kind.Entry entry) → InRecordData SpellsFirst limit b []
-in_data limit b c entry ends =
-    let r = ends.is.0 in
-    let framed = ends.is.1 in
-    let d = some_data r entry ends.is.2 in
-    let spelt = framed.spelt ∙ ap (λ (y : List ℕ). framed.size ++ 10 ∷ y) d.2 ∙ sym (append_assoc framed.size (10 ∷ d.0) (d.1 ∷ [])) in
-    let count = ap length d.2 ∙ length-append d.0 (d.1 ∷ []) in
-    let value = framed.value in
-    let within = framed.within in
-    record {
-      whole = ends.whole;
-      x = ends.x;
-      spelt = ends.spelt;
-      records = ends.records;
-      is = (
-        d.0,
-        1,
-        record {
-          size = framed.size;
-          is_size = framed.is_size;
-          spelt = same_front ends.x (framed.size ++ 10 ∷ d.0) c d.1 spelt;
-          value = value ∙ count;
-          within = omega (arith, value, within);
-          some = omega arith;
-        },
-      );
-    }
+-- a first record has ended with an entry, for which an allocation may fail
+runs_out : (limit : ℕ) (b : List ℕ) (c : ℕ) (entry : Entry) → EndsRecordIn Plain SpellsFirst limit b [] c (kind.Entry entry) → RunsOut SpellsFirst FirstBreaks limit b [] c
+runs_out limit b c entry ends =
+    ends_runs_out SpellsFirst FirstBreaks limit b [] c
+    (record { whole = ends.whole; x = ends.x; spelt = ends.spelt; records = ends.records; is = (ends.is.0, ends.is.1, (ends.is.2.0, begins_message ends.is.0 entry ends.is.2.1)) })
 
 -- memory was refused for the entry of a first record, which has ended
 pub first_refused : (limit : ℕ) (w piece : List ℕ) (before : List Entry) (entry : Entry) (used count : ℕ) → before ≡ [] → 0 < used → used ≤ length piece → length piece ≤ READ_MOST
@@ -114,7 +79,7 @@ first_refused limit w piece before entry used count none some within small count
               ∙ sym (append_assoc w (take (used - 1) piece) (slice_index piece (used - 1) ∷ drop used piece));
           used = omega (arith, some, shorter, length-append w (take (used - 1) piece));
           live = live (used - 1) (omega (arith, some));
-          stops = inr (refl, in_data limit (w ++ take (used - 1) piece) (slice_index piece (used - 1)) entry ends);
+          stops = inr (refl, runs_out limit (w ++ take (used - 1) piece) (slice_index piece (used - 1)) entry ends);
         };
         last = omega (arith, some, small, length-append w piece);
       },
@@ -131,7 +96,7 @@ AtVersion v d limit w entries =
 abbrev pub TakesEntries : {T : Type 0} (v : ℕ) → Reading (EntryReader v) → Reading (EntryReader v) → List ℕ → List Entry → List Entry → Result T ReadingStop → Type 0
 TakesEntries v d new piece old now result =
     (ahead : Ahead) (framing : Framing) (limit : ℕ) (w : List ℕ) (before : List Entry) → ReadingStandsBehind HoldsEntry (SpellsEntry v) ahead d framing limit w before
-    → ReadingTakesBehind HoldsEntry (SpellsEntry v) (EntryBreaks v) ahead new framing limit w before piece old now result
+    → ReadingTakesBehind HoldsEntry (SpellsEntry v) (IsRefused (SpellsEntry v) (EntryBreaks v)) ahead new framing limit w before piece old now result
 
 pub takes_more : {T : Type 0} (v : ℕ) (d new : Reading (EntryReader v)) (limit : ℕ) (w piece : List ℕ) (before old now : List Entry) (done : T) → TakesEntries v d new piece old now (Ok done)
     → AtVersion v d limit w before → (more : List Entry) × (now ≡ old ++ more) × AtVersion v new limit (w ++ piece) (before ++ more)
@@ -169,7 +134,7 @@ takes_last T v d new limit w piece before old now stop takes b =
         framed = b.framed;
         says = b.says;
         all = ap (λ (y : List Entry). y ++ t.0) b.all ∙ append_assoc (entries_in b.first) b.more t.0;
-        is = subst (λ (u : ℕ). ByteEndsBehind Plain (SpellsEntry u) (EntryBreaks u) (record { records = 1; bytes = length b.head }) limit (b.rest ++ piece) (b.more ++ t.0) (told_as new stop)) (sym b.is.0) t.2;
+        is = subst (λ (u : ℕ). ByteEndsBehind Plain (SpellsEntry u) (IsRefused (SpellsEntry u) (EntryBreaks u)) (record { records = 1; bytes = length b.head }) limit (b.rest ++ piece) (b.more ++ t.0) (told_as new stop)) (sym b.is.0) t.2;
       }),
     )
 

@@ -6,6 +6,7 @@ use Rattle.mes_frame.specs.declared.counts.Counts.{Counts}
 use Rattle.mes_msg.specs.declared.entry.Entry.{Entry}
 use Rattle.mes_stream.specs.PlainReading.{PlainReading, Goes, Stops}
 use Rattle.mes_stream.specs.Reading.{Ahead, nothing_ahead, ByteEndsBehind, EndMeans, BreaksOff, EndsReadingAs}
+use Rattle.mes_stream.specs.RecordValues.{IsRefused}
 use Rattle.mes_stream.specs.Stream.{Records, BodyLive, BodyShows}
 use Rattle.mes_stream.specs.declared.fault.Fault.{Fault}
 use Rattle.mes_stream.specs.declared.fault.Report.{Report}
@@ -57,9 +58,12 @@ ReadsLog limit w (Stops front byte entries fault) = (rest : List ℕ) × (w ≡ 
 
 -- ---- how reading ends
 
--- what a byte among the last 512 of w did: it stops the reading
+-- What a byte among the last 512 of w did: it stops the reading. An allocation fails only for data that begin as an event's or a call's
+-- do, or, after the first record, because the list of entries could not grow.
 abbrev pub LogByteEnds : ℕ → List ℕ → List Entry → Result Report Stop → Type 0
-LogByteEnds limit w entries outcome = OfLog (λ E spells breaks ahead b values. ByteEndsBehind Plain spells breaks ahead limit b values outcome) limit w entries
+LogByteEnds limit w entries outcome =
+    (ByteEndsBehind Plain SpellsFirst FirstBreaks nothing_ahead limit w [] outcome × (entries ≡ []))
+    ⊎ BehindFirst limit w entries (λ version ahead rest more. ByteEndsBehind Plain (SpellsEntry version) (IsRefused (SpellsEntry version) (EntryBreaks version)) ahead limit rest more outcome)
 
 -- what the end of the input means behind w: the log is whole, or it ends inside a record
 abbrev pub LogEndMeans : ℕ → List ℕ → List Entry → Result Report Stop → Type 0

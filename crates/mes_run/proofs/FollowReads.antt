@@ -10,8 +10,9 @@ use Rattle.mes_msg.specs.Events.{Spells}
 use Rattle.mes_msg.specs.Event.{Event}
 use Rattle.mes_stream.specs.EventData.{HoldsData}
 use Rattle.mes_stream.specs.Lines.{fault_text}
-use Rattle.mes_stream.specs.Reading.{ReadingStands, ReadingTakes, ByteEnds, EndsReading, Means, told_as}
+use Rattle.mes_stream.specs.Reading.{Ahead, nothing_ahead, ReadingStands, ReadingStandsBehind, ReadingTakes, ReadingTakesBehind, ByteEnds, EndsReading, Means, told_as}
 use Rattle.mes_stream.specs.Reads.{EndsReads}
+use Rattle.mes_stream.specs.RecordValues.{IsRefused}
 use Rattle.mes_stream.specs.Refusals.{IsEventRefusal}
 use Rattle.mes_stream.specs.Stream.{saturated}
 use Rattle.mes_stream.specs.declared.event_reader.EventReader.{EventReader}
@@ -25,7 +26,9 @@ use Rattle.mes_stream.specs.declared.reading.ReadingStop.TheVariants as reading_
 use Rattle.mes_stream.specs.declared.reads.ReadsEnd.{ReadsEnd}
 use Rattle.mes_stream.specs.declared.reads.ReadsEnd.TheVariants.{Stopped, AtEnd, Failed, Spent}
 use Rattle.mes_stream.specs.declared.stream_reader.Framing.{Framing}
+use Rattle.mes_stream.proofs.EventLemmas.{refused_of}
 use Rattle.mes_stream.proofs.StreamLemmas.{goes_of}
+use Rattle.mes_stream.proofs.Wider.{takes_wider}
 use Rattle.mes_run.specs.Following.{Brings, IsFresh, GoesFrom, HasShown, PrintsEvents, StopsFrom, ended_of}
 use Rattle.mes_run.specs.Printing.{IsCutOff, Prints, ended_behind, outcome_line, outcome_status}
 use Rattle.mes_run.specs.Showing.{lines_from, printed_from, Spelt, Follows}
@@ -45,6 +48,14 @@ use Rattle.mes_run.specs.declared.following.Unshown.TheVariants as why
 use Rattle.mes_run.specs.declared.line_buffer.LineBuffer.{LineBuffer}
 use Rattle.mes_run.proofs.FewEvents.{goes_few, ends_few}
 use Rattle.mes_run.proofs.ShowLemmas.{goes_counted, goes_then_stops, prints_behind, lines_both}
+
+-- a piece was taken: a list of events that could not grow is no more than `IsEventRefusal` says
+pub events_taken : (d new : Reading EventReader) (piece : List ℕ) (old now : List Event) (fed : Result (Unit {0}) ReadingStop)
+    → ((ahead : Ahead) (framing : Framing) (limit : ℕ) (v : List ℕ) (values : List Event) → ReadingStandsBehind HoldsData Spells ahead d framing limit v values
+    → ReadingTakesBehind HoldsData Spells (IsRefused Spells IsEventRefusal) ahead new framing limit v values piece old now fed)
+    → (framing : Framing) (limit : ℕ) (v : List ℕ) (values : List Event) → ReadingStands HoldsData Spells d framing limit v values → ReadingTakes HoldsData Spells IsEventRefusal new framing limit v values piece old now fed
+events_taken d new piece old now fed takes framing limit v values stands =
+    takes_wider Spells (IsRefused Spells IsEventRefusal) IsEventRefusal refused_of HoldsData nothing_ahead new framing limit v values piece old now fed (takes nothing_ahead framing limit v values stands)
 
 -- however a piece was taken, a front of the bytes has the events
 spelt_of : (framing : Framing) (limit : ℕ) (f : Reading EventReader) (w piece : List ℕ) (values old now : List Event) (fed : Result (Unit {0}) ReadingStop) → old ≡ []

@@ -1,20 +1,71 @@
 -- What a reader of a body stands for, over the fronts of a run.
-use Rattle.std.proofs.Common.{◌≡◌, ℕ, ◌+◌, ◌-◌, ◌^◌, ◌<◌, ◌≤◌, List, [], ◌∷◌, ◌++◌, length, take, drop, get_or, sym, ◌∙◌, ap, append_assoc, append-nil, arith, refl, subst, inl, inr, length-append, length-take-le, take-append-drop, take-add}
+use Rattle.std.proofs.Common.{◌≡◌, ◌≢◌, ℕ, ◌+◌, ◌-◌, ◌^◌, ◌<◌, ◌≤◌, List, [], ◌∷◌, ◌++◌, length, take, drop, get_or, sym, ◌∙◌, ap, append_assoc, append-nil, arith, refl, subst, inl, inr, length-append, length-take-le, take-append-drop, take-add}
 use Rattle.std.specs.Prelude.{slice_index, Result, Ok, Err, OnOk}
 use Rattle.std.proofs.lemmas.List.{take_more}
+use Rattle.std.proofs.lemmas.Grind.{common_steps}
 use Rattle.mes_frame.proofs.Records.{begun_of, data_goes_on}
 use Rattle.mes_frame.specs.Record.{IsRecord, Begun, DataBegun}
 use Rattle.mes_frame.specs.RecordState.{RecordStands, limit_of}
-use Rattle.mes_stream.specs.Stream.{saturated, Records, Behind, BodyLive, number_after, EndsRecord, InRecordData, BodyStops}
+use Rattle.mes_stream.specs.Stream.{saturated, Records, Behind, BodyLive, number_after, EndsRecord, HasValue, InRecordData, RunsOut, BodyStops}
 use Rattle.mes_stream.specs.Framings.{GoesIn, ByteStopsIn, SaysIn, StopsWithin}
 use Rattle.mes_stream.specs.declared.stream_reader.Framing.{Framing}
 use Rattle.mes_stream.specs.declared.stream_reader.Framing.TheVariants.{Plain}
-use Rattle.mes_stream.specs.RecordValues.{IsRefused, AddsValue}
+use Rattle.mes_stream.specs.RecordValues.{AddsValue}
 use Rattle.mes_stream.specs.Taking.{BodyStands, Ends, EndsInto, record_answer, fault_of_record}
 use Rattle.mes_stream.specs.declared.refusal.RecordRefusal.{RecordRefusal}
 use Rattle.mes_stream.specs.declared.refusal.RecordRefusal.TheVariants as refusal
 use Rattle.mes_stream.specs.declared.fault.Fault.{Fault}
 use Rattle.mes_stream.specs.declared.body.Body.{Body}
+use Rattle.mes_stream.proofs.PlainLaw.{same_last}
+
+-- a front of a front
+pub take_take : (m n : ℕ) (xs : List ℕ) → m ≤ n → take m (take n xs) ≡ take m xs
+take_take m n xs le = grind (arith, common_steps)
+
+-- ---- the last byte of a record's data
+
+last_of : (a : ℕ) (r : List ℕ) → (front : List ℕ) × (last : ℕ) × (a ∷ r ≡ front ++ last ∷ [])
+last_of a [] = ([], a, refl)
+last_of a (b ∷ r) = let h = last_of b r in (a ∷ h.0, h.1, ap (λ (x : List ℕ). a ∷ x) h.2)
+
+last_split : (r : List ℕ) → r ≢ [] → (front : List ℕ) × (last : ℕ) × (r ≡ front ++ last ∷ [])
+last_split [] some = absurd (some refl)
+last_split (a ∷ r) some = last_of a r
+
+-- before the last byte of a record that is not empty one byte of data is to come
+last_begun : (limit : ℕ) (x r : List ℕ) (c : ℕ) → IsRecord (x ++ c ∷ []) r limit → r ≢ [] → (front : List ℕ) × DataBegun x front 1 limit × (r ≡ front ++ c ∷ [])
+last_begun limit x r c is some =
+    let d = last_split r some in
+    let spelt : x ++ c ∷ [] ≡ (is.size ++ 10 ∷ d.0) ++ d.1 ∷ [] = is.spelt ∙ ap (λ (y : List ℕ). is.size ++ 10 ∷ y) d.2 ∙ sym (append_assoc is.size (10 ∷ d.0) (d.1 ∷ [])) in
+    let ends = same_last x (is.size ++ 10 ∷ d.0) c d.1 spelt in
+    let count = ap length d.2 ∙ length-append d.0 (d.1 ∷ []) in
+    let value = is.value in
+    let within = is.within in (
+      d.0,
+      record { size = is.size; is_size = is.is_size; spelt = ends.0; value = value ∙ count; within = omega (arith, value, within); some = omega arith },
+      d.2 ∙ ap (λ (y : ℕ). d.0 ++ y ∷ []) (sym ends.1),
+    )
+
+-- an allocation failed for the data of a record that ends with the byte c
+pub ends_runs_out : {E : Type 0} (spells : List ℕ → E → Type 0) (breaks : List ℕ → RecordRefusal → Type 0) (limit : ℕ) (b : List ℕ) (values : List E) (c : ℕ)
+    → EndsRecord spells limit b values c (λ r. (r ≢ []) × breaks r refusal.NoMemory) → RunsOut spells breaks limit b values c
+ends_runs_out spells breaks limit b values c h =
+    let last = last_begun limit h.x h.is.0 c h.is.1 h.is.2.0 in
+    record {
+      whole = h.whole;
+      x = h.x;
+      spelt = h.spelt;
+      records = h.records;
+      is = (last.0, 1, last.1, inr (refl, subst (λ (y : List ℕ). breaks y refusal.NoMemory) last.2 h.is.2.1));
+    }
+
+-- a run of data that is not empty
+some_run : (r run : List ℕ) (count : ℕ) → 0 < count → count ≤ length run → r ++ take count run ≢ []
+some_run r run count some within none =
+    let len = ap length none in
+    let sum = length-append r (take count run) in
+    let size = length-take-le count run within in
+    absurd (omega (arith, some, len, sum, size))
 
 -- a count that has stopped stays
 pub saturated_more : (n : ℕ) → saturated (saturated n + 1) ≡ saturated (n + 1)
@@ -104,10 +155,11 @@ module _ {R E : Type 0} (holds : R → List ℕ → Type 0) (spells : List ℕ �
   data_live d b run values n left s inside within begun =
       behind_on d b (take n run) values s (λ x. (r : List ℕ) × Begun x r (limit_of d.records)) (s.r ++ take n run, inr (left - n, data_on d b run values n left s inside within begun))
 
-  pub data_next : (d : Body R) (b run : List ℕ) (values : List E) (n left : ℕ) (s : BodyStands holds spells ahead d b values) → n < left → n ≤ length run
-      → DataBegun s.x s.r left (limit_of d.records) → InRecordData spells (limit_of d.records) (b ++ take n run) values
-  data_next d b run values n left s inside within begun =
-      behind_on d b (take n run) values s (λ x. (r : List ℕ) × (left : ℕ) × DataBegun x r left (limit_of d.records)) (s.r ++ take n run, left - n, data_on d b run values n left s inside within begun)
+  pub data_next : (d : Body R) (b run : List ℕ) (values : List E) (n left : ℕ) (s : BodyStands holds spells ahead d b values) (Is : List ℕ → ℕ → Type 0) → n < left → n ≤ length run
+      → DataBegun s.x s.r left (limit_of d.records) → Is (s.r ++ take n run) (left - n) → InRecordData spells (limit_of d.records) (b ++ take n run) values Is
+  data_next d b run values n left s Is inside within begun is =
+      behind_on d b (take n run) values s (λ x. (r : List ℕ) × (left : ℕ) × DataBegun x r left (limit_of d.records) × Is r left)
+      (s.r ++ take n run, left - n, data_on d b run values n left s inside within begun, is)
 
   -- the record ends with the last of so many bytes of a run
   pub ends_with : (d : Body R) (b run r : List ℕ) (values : List E) (count : ℕ) (s : BodyStands holds spells ahead d b values) (Is : List ℕ → Type 0) → 0 < count → count ≤ length run
@@ -120,18 +172,22 @@ module _ {R E : Type 0} (holds : R → List ℕ → Type 0) (spells : List ℕ �
       (r, subst (λ (y : List ℕ). IsRecord y r (limit_of d.records)) (ap (λ (y : List ℕ). s.x ++ y) whole ∙ sym (append_assoc s.x (take (count - 1) run) (get_or run (count - 1) 0 ∷ []))) is, h)
 
   module _ (breaks : List ℕ → RecordRefusal → Type 0) where
-    -- the record that ended so has no value, or its value wanted memory
+    -- the record that ended so has no value, or an allocation for it failed
     pub refused_with : (d : Body R) (b run r : List ℕ) (values : List E) (count : ℕ) (why : RecordRefusal) (s : BodyStands holds spells ahead d b values) → 0 < count → count ≤ length run
-        → IsRecord (s.x ++ take count run) r (limit_of d.records) → IsRefused breaks r why → (why ≡ refusal.NoMemory → InRecordData spells (limit_of d.records) (b ++ take (count - 1) run) values)
+        → r ≢ [] → IsRecord (s.x ++ take count run) r (limit_of d.records) → breaks r why
         → BodyStops spells breaks ahead (limit_of d.records) (b ++ take (count - 1) run) values (slice_index run (count - 1)) (fault_of_record d.done why)
-    refused_with d b run r values count (refusal.Text f) s some within is (inl h) memory =
+    refused_with d b run r values count (refusal.Text f) s some within filled is h =
         inl (ends_with d b run r values count s (λ r. breaks r (refusal.Text (record { byte = f.byte; why = f.why }))) some within is h, number_of d b values s)
-    refused_with d b run r values count (refusal.Field f) s some within is (inl h) memory =
+    refused_with d b run r values count (refusal.Field f) s some within filled is h =
         inl (ends_with d b run r values count s (λ r. breaks r (refusal.Field (record { path = f.path; why = f.why }))) some within is h, number_of d b values s)
-    refused_with d b run r values count refusal.BadEntry s some within is (inl h) memory =
+    refused_with d b run r values count refusal.BadEntry s some within filled is h =
         inl (ends_with d b run r values count s (λ r. breaks r refusal.BadEntry) some within is h, number_of d b values s)
-    refused_with d b run r values count refusal.NoMemory s some within is (inl h) memory = inr (refl, memory refl)
-    refused_with d b run r values count why s some within is (inr none) memory = rw none (inr (refl, memory none))
+    refused_with d b run r values count refusal.NoMemory s some within filled is h =
+        inr (
+          refl,
+          ends_runs_out spells breaks (limit_of d.records) (b ++ take (count - 1) run) values (slice_index run (count - 1))
+              (ends_with d b run r values count s (λ r. (r ≢ []) × breaks r refusal.NoMemory) some within is (filled, h)),
+        )
 
     -- the record has ended with a run of data
     pub ends_as : (d mid new : Body R) (b run : List ℕ) (values : List E) (count left : ℕ) (answer : Result E RecordRefusal) (s : BodyStands holds spells ahead d b values) → 0 < count → count ≤ length run → count ≤ left
@@ -140,18 +196,17 @@ module _ {R E : Type 0} (holds : R → List ℕ → Type 0) (spells : List ℕ �
         → Ends holds spells breaks mid new (s.r ++ take count run) answer → SaysIn Plain (BodyStands holds spells ahead new) spells breaks ahead (limit_of new.records) b values run count (record_answer new.done answer)
     ends_as d mid new b run values count left (Ok value) s some within inside begun done limit is state (says, ready, more) = (
       stands_value d new b (take count run) (s.r ++ take count run) values value s (more ∙ ap (λ (n : ℕ). saturated (n + 1)) done) limit ready is state says,
-      rw limit (ends_with d b run (s.r ++ take count run) values count s (λ r. spells r value) some within is says),
+      rw limit (ends_with d b run (s.r ++ take count run) values count s (HasValue spells value) some within is (some_run s.r run count some within, says)),
     )
     ends_as d mid new b run values count left (Err why) s some within inside begun done limit is state (h, more) =
-        rw (more, done, limit) (refused_with d b run (s.r ++ take count run) values count why s some within is h
-        (λ none. data_next d b run values (count - 1) left s (omega (arith, some, inside)) (omega (arith, within)) begun))
+        rw (more, done, limit) (refused_with d b run (s.r ++ take count run) values count why s some within (some_run s.r run count some within) is h)
 
   -- the data of a record that is whole
   pub whole_fits : (d : Body R) (b x r : List ℕ) (values : List E) → BodyStands holds spells ahead d b values → IsRecord x r (limit_of d.records) → length r < 2 ^ 64
   whole_fits d b x r values s is = let within = is.within in let small = s.limit in omega arith
 
 -- a run of bytes and the byte behind it
-run_split : (rest : List ℕ) (m : ℕ) → m < length rest → rest ≡ take m rest ++ get_or rest m 0 ∷ drop (m + 1) rest
+pub run_split : (rest : List ℕ) (m : ℕ) → m < length rest → rest ≡ take m rest ++ get_or rest m 0 ∷ drop (m + 1) rest
 run_split rest m lt =
     sym (take-append-drop (m + 1) rest) ∙ rw (take_more rest m 0 lt) (append_assoc (take m rest) (get_or rest m 0 ∷ []) (drop (m + 1) rest))
 
@@ -182,9 +237,10 @@ module _ {E : Type 0} (framing : Framing) (spells : List ℕ → E → Type 0) (
 
 -- the value of a record that has ended was added to a list, or why not
 pub ends_into : {R E T : Type 0} (holds : R → List ℕ → Type 0) (spells : List ℕ → E → Type 0) (breaks : List ℕ → RecordRefusal → Type 0) (old new : Body R) (r : List ℕ) (before after : List E) (result : Result T RecordRefusal)
-    → AddsValue spells breaks r before after result → OnOk result (holds new.reader []) → new.done ≡ saturated (old.done + 1) → EndsInto holds spells breaks old new r before after result
+    → AddsValue spells breaks (holds new.reader []) r before after result → OnOk result (holds new.reader []) → new.done ≡ saturated (old.done + 1) → EndsInto holds spells breaks old new r before after result
 ends_into holds spells breaks old new r before after (Ok done) (value, says, is) ready more = (value, (says, ready, more), is)
-ends_into holds spells breaks old new r before after (Err why) (h, same) ready more = ((h, more), same)
+ends_into holds spells breaks old new r before after (Err why) (inl h, same) ready more = (inl (h, more), same)
+ends_into holds spells breaks old new r before after (Err why) (inr (none, has, next), same) ready more = (inr (none, (has.0, (has.1, next, more))), same)
 
 -- behind the bytes of a piece up to `at` more of it was taken
 pub piece_on : (b piece : List ℕ) (at used : ℕ) → (b ++ take at piece) ++ take used (drop at piece) ≡ b ++ take (at + used) piece

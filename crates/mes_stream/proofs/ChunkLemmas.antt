@@ -8,7 +8,7 @@ use Rattle.mes_frame.proofs.ChunkParts.{open_of, fronts_of}
 use Rattle.mes_frame.specs.ChunkFront.{IsOpen}
 use Rattle.mes_frame.specs.ChunkState.{ChunkStands, room_of}
 use Rattle.mes_stream.specs.declared.refusal.RecordRefusal.{RecordRefusal}
-use Rattle.mes_stream.specs.Stream.{BodyLive, EndsRecord, BodyShows, BodyStops}
+use Rattle.mes_stream.specs.Stream.{BodyLive, EndsRecord, HasValue, BodyShows, BodyStops}
 use Rattle.mes_stream.specs.Chunked.{Live, AtData, ChunkedShows, ChunkedStops}
 use Rattle.mes_frame.specs.RecordState.{limit_of}
 use Rattle.mes_stream.specs.Framings.{GoesIn, EndsIn, EndsRecordIn, ByteStopsIn, SaysIn, GoesBefore}
@@ -99,7 +99,7 @@ module _ {R E : Type 0} (holds : R → List ℕ → Type 0) (spells : List ℕ �
         record { content = s.content ++ take used run; chunks = chunks; body = taken }
     run_says d new w run values used count (out.Event value) s len room some within chunks taken = (
       record { content = s.content ++ take used run; chunks = chunks; body = taken.0 },
-      run_at d w run values used count (λ body vs. EndsRecord spells (limit_of new.body.records) body vs (slice_index run (used - 1)) (λ r. spells r value)) s len room some within taken.1,
+      run_at d w run values used count (λ body vs. EndsRecord spells (limit_of new.body.records) body vs (slice_index run (used - 1)) (HasValue spells value)) s len room some within taken.1,
     )
     run_says d new w run values used count out.End s len room some within chunks taken = absurd taken
     run_says d new w run values used count (out.Fault fault) s len room some within chunks taken =

@@ -1,5 +1,18 @@
 -- The faults of events, as refusals of their records.
-use Rattle.std.proofs.Common.{◌≡◌, ◌≢◌, ℕ, List, ◌⊎◌, inl, inr, refl, ap, sym, ◌∙◌}
+use Rattle.std.proofs.Common.{◌≡◌, ◌≢◌, ℕ, ◌^◌, ◌<◌, List, length, ◌⊎◌, inl, inr, Option, Some, None, refl, ap, ap₂, sym, ◌∙◌, subst, arith}
+use Rattle.mes_json.specs.Lexer.{IsCountedFault, IsLexFault}
+use Rattle.mes_json.specs.Machine.{State, start, run}
+use Rattle.mes_json.specs.Place.{Begins, IsFault}
+use Rattle.mes_json.specs.declared.fault.ReadFault.{ReadFault}
+use Rattle.mes_json.specs.declared.fault.ReadFault.TheVariants as read
+use Rattle.mes_json.specs.declared.fault.TextFault.{TextFault}
+use Rattle.mes_json.specs.declared.fault.Why.{Why}
+use Rattle.mes_json.specs.declared.limits.TheConstants.{NESTING_LIMIT}
+use Rattle.mes_json.proofs.LexerLemmas.{text_begins}
+use Rattle.mes_json.proofs.PlaceLemmas.{place_within}
+use Rattle.mes_json.proofs.ViableLemmas.{begins_from_run, none_begins}
+use Rattle.mes_msg.specs.RecordFaults.{of_read}
+use Rattle.mes_stream.specs.RecordValues.{IsRefused}
 use Rattle.mes_msg.specs.Events.{Spells, IsRecordFault}
 use Rattle.mes_msg.specs.Event.{Event}
 use Rattle.mes_msg.specs.RecordFault.{RecordFault}
@@ -9,10 +22,46 @@ use Rattle.mes_stream.specs.Refusals.{refusal_of, IsEventRefusal}
 use Rattle.mes_stream.specs.declared.refusal.RecordRefusal.{RecordRefusal}
 use Rattle.mes_stream.specs.declared.refusal.RecordRefusal.TheVariants as refusal
 
-pub refuses : (r : List ℕ) (f : RecordFault) → IsRecordFault r f → IsEventRefusal r (refusal_of f)
-refuses r (message.Text f) h = h
-refuses r (message.Field f) h = h
-refuses r message.NoMemory h = h
+-- ---- texts
+
+-- some text goes on from the bytes, or none does
+begins_or_not : (p : List ℕ) → Begins NESTING_LIMIT p ⊎ (Begins NESTING_LIMIT p → ⊥)
+begins_or_not p = by (run NESTING_LIMIT start p) refl where
+  by : (o : Option State) → run NESTING_LIMIT start p ≡ o → Begins NESTING_LIMIT p ⊎ (Begins NESTING_LIMIT p → ⊥)
+  by (Some s) is = inl (begins_from_run NESTING_LIMIT s p is)
+  by None is = inr (none_begins NESTING_LIMIT p is)
+
+pub begins_known : (p : List ℕ) → ((Begins NESTING_LIMIT p → ⊥) → ⊥) → Begins NESTING_LIMIT p
+begins_known p known = elim (begins_or_not p) [
+  | inl begins ↦ begins
+  | inr not ↦ absurd (known not)
+]
+
+-- of fewer than 2^64 bytes the place of the fault is exact
+pub exact_fault : (d : ℕ) (b : List ℕ) (f : TextFault) → length b < 2 ^ 64 → IsCountedFault d b f → IsFault d b f
+exact_fault d b f short h =
+    let most = place_within d b h.exact.byte h.exact.why h.is_fault.reason in
+    let rounds = h.rounds.byte in
+    let byte : h.exact.byte ≡ f.byte = omega (arith, most, short, rounds) in
+    let same : h.exact ≡ f = ap₂ (λ (n : ℕ) (y : Why). let x : TextFault = record { byte = n; why = y } in x) byte (sym h.rounds.why) in
+    subst (λ (x : TextFault). IsFault d b x) same h.is_fault
+
+-- ---- events
+
+pub refuses : (r : List ℕ) (f : RecordFault) → (f ≡ message.NoMemory → Begins NESTING_LIMIT r) → IsRecordFault r f → IsEventRefusal r (refusal_of f)
+refuses r (message.Text f) begins h = h
+refuses r (message.Field f) begins h = h
+refuses r message.NoMemory begins h = begins refl
+
+-- the data are no text, or an allocation failed
+pub text_refused : (r : List ℕ) (e : ReadFault) → length r < 2 ^ 64 → IsLexFault NESTING_LIMIT r e → (e ≡ read.NoMemory → Begins NESTING_LIMIT r) → IsEventRefusal r (refusal_of (of_read e))
+text_refused r (read.Text f) short h begins = exact_fault NESTING_LIMIT r f short h
+text_refused r read.NoMemory short h begins = begins refl
+
+-- data with an event begin a text, so that the list could not grow is no more than `IsEventRefusal` says
+pub refused_of : (r : List ℕ) (why : RecordRefusal) → IsRefused Spells IsEventRefusal r why → IsEventRefusal r why
+refused_of r why (inl h) = h
+refused_of r why (inr (none, (value, (t, text, reads)))) = subst (λ (f : RecordRefusal). IsEventRefusal r f) (sym none) (text_begins r t text)
 
 -- the refusal of an event is a fault of its message
 refused : (r : List ℕ) (why : RecordRefusal) → why ≢ refusal.NoMemory → IsEventRefusal r why → (f : RecordFault) × (f ≢ message.NoMemory) × IsRecordFault r f × (why ≡ refusal_of f)
@@ -24,7 +73,7 @@ refused r refusal.NoMemory known h = absurd (known refl)
 pub some_reason : ((r : List ℕ) → ((value : Event) × Spells r value) ⊎ ((why : RecordFault) × (why ≢ message.NoMemory) × IsRecordFault r why)) → IsDecided Spells IsEventRefusal
 some_reason decided r = elim (decided r) [
   | inl h ↦ inl h
-  | inr h ↦ inr (refusal_of h.0, known h.0 h.1, refuses r h.0 h.2)
+  | inr h ↦ inr (refusal_of h.0, known h.0 h.1, refuses r h.0 (λ none. absurd (h.1 none)) h.2)
 ] where
   known : (f : RecordFault) → f ≢ message.NoMemory → refusal_of f ≢ refusal.NoMemory
   known (message.Text f) not none = absurd (cc)

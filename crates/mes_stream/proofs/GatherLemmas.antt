@@ -1,7 +1,7 @@
 -- The data of short chunks, put together.
-use Rattle.std.proofs.Common.{◌≡◌, ℕ, ◌+◌, ◌-◌, ◌<◌, ◌≤◌, List, [], ◌∷◌, ◌++◌, length, take, drop, get_or, refl, sym, ◌∙◌, ap, subst, append-nil, append_assoc, arith, inl, inr, length-append, length-drop}
+use Rattle.std.proofs.Common.{◌≡◌, ℕ, ◌+◌, ◌-◌, ◌<◌, ◌≤◌, List, [], ◌∷◌, ◌++◌, length, take, drop, get_or, refl, sym, ◌∙◌, ap, subst, append-nil, append_assoc, arith, inl, inr, length-append, length-drop, length-take-le}
 use Rattle.std.specs.Prelude.{slice_index, Bool, true, false, Result, Ok, Err, OnOk}
-use Rattle.std.proofs.lemmas.List.{take_more, get_or_push, get_or_append_left}
+use Rattle.std.proofs.lemmas.List.{take_more, take-append-le, get_or_push, get_or_append_left}
 use Rattle.std.proofs.lemmas.Bool.{cases_lt}
 use Rattle.mes_frame.proofs.ChunkParts.{open_of}
 use Rattle.mes_frame.proofs.Records.{begun_room}
@@ -12,12 +12,13 @@ use Rattle.mes_frame.specs.declared.chunk.ChunkState.{ChunkState}
 use Rattle.mes_frame.specs.declared.record.RecordState.{RecordState}
 use Rattle.mes_stream.specs.Chunked.{ChunkedStops}
 use Rattle.mes_stream.specs.Decoding.{ChunkedStands, IsDataAt, Gathers, LiveBefore}
-use Rattle.mes_stream.specs.Stream.{BodyLive, InRecordData}
+use Rattle.mes_stream.specs.Stream.{BodyLive, InRecordData, MayFail}
 use Rattle.mes_stream.specs.Taking.{BodyStands}
 use Rattle.mes_stream.specs.declared.body.Body.{Body}
 use Rattle.mes_stream.specs.declared.chunked.ChunkedBody.{ChunkedBody}
 use Rattle.mes_stream.specs.declared.fault.Fault.TheVariants.{NoMemory}
 use Rattle.mes_stream.specs.declared.refusal.RecordRefusal.{RecordRefusal}
+use Rattle.mes_stream.specs.declared.refusal.RecordRefusal.TheVariants as refusal
 use Rattle.mes_stream.proofs.BodyLemmas.{live_of, stands_on, data_live, data_next, piece_on}
 use Rattle.mes_stream.proofs.ChunkLemmas.{take_whole}
 
@@ -75,17 +76,18 @@ gathers_byte old new w body piece run places used before inside same stands =
           elim (cases_lt k (length run)) [
             | inl early ↦
                 let place : get_or places k 0 ≡ get_or (places ++ used ∷ []) k 0 = sym (get_or_append_left places (used ∷ []) 0 k (omega (arith, early, same))) in
-                subst (λ (at : ℕ). IsDataAt w body piece k at) place (before.each k early)
+                let front : take k run ≡ take k (run ++ b ∷ []) = sym (take-append-le k run (b ∷ []) (omega (arith, early))) in
+                subst (λ (p : List ℕ). IsDataAt w body piece p (get_or (places ++ used ∷ []) k 0)) front (subst (λ (at : ℕ). IsDataAt w body piece (take k run) at) place (before.each k early))
             | inr late ↦
                 let last : length run ≡ k = omega (arith, within, late, len) in
                 let place : used ≡ get_or (places ++ used ∷ []) k 0 = sym (get_or_push places used 0 k (omega (arith, last, same))) in
-                let at : IsDataAt w body piece k used = record {
-                  run = run;
-                  many = last;
+                let all : run ≡ take k (run ++ b ∷ []) =
+                sym (take_whole run (length run) refl) ∙ sym (take-append-le (length run) run (b ∷ []) (omega arith)) ∙ ap (λ (n : ℕ). take n (run ++ b ∷ [])) last in
+                let at : IsDataAt w body piece run used = record {
                   front = open_of old (w ++ take used piece) (body ++ run) before.stands;
                   next = open_of new ((w ++ take used piece) ++ b ∷ []) ((body ++ run) ++ b ∷ []) stands;
                 } in
-                subst (λ (p : ℕ). IsDataAt w body piece k p) place at
+                subst (λ (y : List ℕ). IsDataAt w body piece y (get_or (places ++ used ∷ []) k 0)) all (subst (λ (p : ℕ). IsDataAt w body piece run p) place at)
           ];
     }
 
@@ -179,10 +181,13 @@ module _ {R E : Type 0} (holds : R → List ℕ → Type 0) (spells : List ℕ �
       subst (λ (y : List ℕ). BodyLive spells (limit_of d.records) (b ++ y) values) (take_whole p (length p) refl)
       (data_live holds spells ahead d b p values (length p) (room_of d.records) s inside (omega arith) (begun_room d.records s.x s.r s.state (omega (arith, inside))))
 
-  pub room_next : (d : Body R) (b p : List ℕ) (values : List E) → BodyStands holds spells ahead d b values → length p < room_of d.records → InRecordData spells (limit_of d.records) (b ++ p) values
-  room_next d b p values s inside =
-      subst (λ (y : List ℕ). InRecordData spells (limit_of d.records) (b ++ y) values) (take_whole p (length p) refl)
-      (data_next holds spells ahead d b p values (length p) (room_of d.records) s inside (omega arith) (begun_room d.records s.x s.r s.state (omega (arith, inside))))
+  pub room_next : (d : Body R) (b p : List ℕ) (values : List E) (s : BodyStands holds spells ahead d b values) (Is : List ℕ → ℕ → Type 0) → length p < room_of d.records → Is (s.r ++ p) (room_of d.records - length p)
+      → InRecordData spells (limit_of d.records) (b ++ p) values Is
+  room_next d b p values s Is inside is =
+      let whole = take_whole p (length p) refl in
+      subst (λ (y : List ℕ). InRecordData spells (limit_of d.records) (b ++ y) values Is) whole
+      (data_next holds spells ahead d b p values (length p) (room_of d.records) s Is inside (omega arith) (begun_room d.records s.x s.r s.state (omega (arith, inside)))
+      (subst (λ (y : List ℕ). Is (s.r ++ y) (room_of d.records - length p)) (sym whole) is))
 
   none_live : (d : Body R) (b p : List ℕ) (values : List E) → BodyStands holds spells ahead d b values → length p ≤ 0 → BodyLive spells (limit_of d.records) (b ++ p) values
   none_live d b [] values s none = rw (append-nil b) (live_of holds spells ahead d b values s)
@@ -209,8 +214,9 @@ module _ {R E : Type 0} (holds : R → List ℕ → Type 0) (spells : List ℕ �
 
   -- memory was refused at a byte of the data
   pub gathered_stops : (d : ChunkedBody R) (breaks : List ℕ → RecordRefusal → Type 0) (new : ChunkState) (w rest run places : List ℕ) (values : List E) (used k at : ℕ) (s : ChunkedStands holds spells ahead d w values)
-      → Gathers new w s.content rest used run places → k < length run → length run < room_of d.body.records → slice_index places k ≡ at
+      → Gathers new w s.content rest used run places → k < length run → length run < room_of d.body.records → slice_index places k ≡ at → breaks (s.body.r ++ take k run) refusal.NoMemory
       → ChunkedStops spells breaks ahead (limit_of d.body.records) (w ++ take at rest) values (slice_index rest at) NoMemory
-  gathered_stops d breaks new w rest run places values used k at s gathered inside few same =
-      let byte : IsDataAt w s.content rest k at = subst (λ (p : ℕ). IsDataAt w s.content rest k p) same (gathered.each k inside) in
-      inr (refl, (s.content ++ byte.run, byte.front, byte.next, room_next d.body s.content byte.run values s.body (omega (arith, byte.many, inside, few))))
+  gathered_stops d breaks new w rest run places values used k at s gathered inside few same starved =
+      let byte : IsDataAt w s.content rest (take k run) at = subst (λ (p : ℕ). IsDataAt w s.content rest (take k run) p) same (gathered.each k inside) in
+      let size = length-take-le k run (omega (arith, inside)) in
+      inr (refl, (s.content ++ take k run, byte.front, byte.next, room_next d.body s.content (take k run) values s.body (MayFail breaks (slice_index rest at)) (omega (arith, size, inside, few)) (inl starved)))

@@ -1,12 +1,14 @@
 mod AnswerLaw
-mod BodyLemmas
+pub mod BodyLemmas
 mod ChunkLemmas
 mod DecoderLemmas
 mod EntryLemmas
-mod EventLemmas
+pub mod EventLemmas
 mod FramingLemmas
 mod GatherLemmas
 mod Grows
+mod OutcomeLaw
+mod PieceLaw
 mod PlainLaw
 pub mod ReadLemmas
 pub mod ReadingLemmas
@@ -16,3 +18,4 @@ mod SomeReading
 mod StreamLaw
 pub mod StreamLemmas
 mod TellsLemmas
+pub mod Wider

@@ -6,8 +6,9 @@ use Rattle.mes_frame.specs.declared.counts.Counts.{Counts}
 use Rattle.mes_stream.specs.Framings.{GoesIn, EndsIn, WholeIn, EndsRecordIn, ByteStopsIn, StopsWithin}
 use Rattle.mes_stream.specs.Reads.{EndsReads}
 use Rattle.mes_stream.specs.Reading.{Ahead, nothing_ahead, EndsAt, ByteEndsBehind, EndsReading, ReadingStands, ReadingStandsBehind, ReadingTakesBehind, Means, Gathers, GathersLast, told_as}
-use Rattle.mes_stream.specs.Stream.{saturated, Records, EndsRecord}
-use Rattle.mes_stream.specs.StreamReaders.{KeepsNoneAfterStop, body_of}
+use Rattle.mes_stream.specs.Stream.{saturated, Records, EndsRecord, HasValue}
+use Rattle.mes_stream.specs.Held.{held_by_reading}
+use Rattle.mes_stream.specs.StreamReaders.{KeepsNoneAfterStop}
 use Rattle.mes_stream.specs.declared.fault.Fault.{Fault}
 use Rattle.mes_stream.specs.declared.fault.Report.{Report}
 use Rattle.mes_stream.specs.declared.fault.Stop.{Stop}
@@ -46,10 +47,10 @@ stops_at framing spells breaks ahead limit w piece values fault used some within
     subst (λ (n : ℕ). StopsWithin framing spells breaks ahead.records limit (w ++ piece) values fault n) count (stops_in framing spells breaks ahead.records limit w piece values fault 0 used (omega arith) some within (rw append-nil live) (rw append-nil stops))
 
 -- behind the last byte of a record the records so far are whole
-record_whole : {E : Type 0} (spells : List ℕ → E → Type 0) (limit : ℕ) (b : List ℕ) (values : List E) (c : ℕ) (value : E) → EndsRecord spells limit b values c (λ r. spells r value)
+record_whole : {E : Type 0} (spells : List ℕ → E → Type 0) (limit : ℕ) (b : List ℕ) (values : List E) (c : ℕ) (value : E) → EndsRecord spells limit b values c (HasValue spells value)
     → Records spells limit (b ++ c ∷ []) (values ++ value ∷ [])
 record_whole spells limit b values c value ends =
-    rw (ends.spelt, append_assoc) (records_more {R = Unit {0}} (λ d r. Unit {0}) spells 0 limit ends.whole (ends.x ++ c ∷ []) ends.is.0 values value ends.records ends.is.1 ends.is.2)
+    rw (ends.spelt, append_assoc) (records_more {R = Unit {0}} (λ d r. Unit {0}) spells 0 limit ends.whole (ends.x ++ c ∷ []) ends.is.0 values value ends.records ends.is.1 ends.is.2.1)
 
 whole_more : {E : Type 0} (framing : Framing) (spells : List ℕ → E → Type 0) (limit : ℕ) (u : List ℕ) (values : List E) (c : ℕ) (value : E) → EndsRecordIn framing spells limit u values c value
     → WholeIn framing spells limit (u ++ c ∷ []) (values ++ value ∷ [])
@@ -90,7 +91,7 @@ module _ {R E : Type 0} (holds : R → List ℕ → Type 0) (spells : List ℕ �
   gathers_more first d new start old now w piece (Err stop) h fed = tt
 
   pub gathers_last : {T : Type 0} (kept : R → ℕ) (first d new : Reading R) (start old now : List E) (w piece : List ℕ) (result : Result T ReadingStop) → Gathers holds spells first start d old w → TakesAll d new piece old now result
-      → KeepsNoneAfterStop (kept (body_of new.stream).reader) result → IfErr result (λ stop. GathersLast holds spells breaks kept first start new now w piece stop)
+      → KeepsNoneAfterStop (held_by_reading kept new) result → IfErr result (λ stop. GathersLast holds spells breaks kept first start new now w piece stop)
   gathers_last kept first d new start old now w piece (Ok done) h fed none = tt
   gathers_last kept first d new start old now w piece (Err stop) h fed none = (
     λ ahead framing limit v before stands.

@@ -1,22 +1,33 @@
--- What the reading of a chunked stream of events answers, where a device gives the stream.
-use Rattle.std.specs.Prelude.{◌≡◌, ◌≢◌, ℕ, List, Option, Some, Result, Ok, Err}
+-- The outcome of reading a stream of events from a device.
+use Rattle.std.specs.Prelude.{◌≡◌, ◌≢◌, ℕ, List, ◌++◌, Option, None, Some, Result, Ok, Err}
 use Rattle.std.specs.Io.KnownBytes.{Consumes}
 use Rattle.mes_frame.specs.declared.counts.Counts.{Counts}
 use Rattle.mes_msg.specs.Event.{Event}
-use Rattle.mes_stream.specs.Reading.{EndsStream}
+use Rattle.mes_msg.specs.Events.{Spells}
+use Rattle.mes_stream.specs.Reading.{EndsReading}
+use Rattle.mes_stream.specs.Refusals.{IsEventRefusal}
 use Rattle.mes_stream.specs.declared.fault.Fault.TheVariants.{NoMemory, Read, ReadsSpent}
 use Rattle.mes_stream.specs.declared.fault.Report.{Report}
 use Rattle.mes_stream.specs.declared.fault.Stop.{Stop}
+use Rattle.mes_stream.specs.declared.stream_reader.Framing.{Framing}
+use Rattle.mes_stream.specs.declared.stream_reader.Framing.TheVariants.{Plain, Chunked}
 
--- a device that has the bytes w was read as a chunked stream, in so many reads at most, and that came to the events and the outcome
-pub record AnswersStream (limit : ℕ) (w : List ℕ) (events : List Event) (outcome : Result Report Stop) : Type 0 where
+-- a device with the bytes w was read as a stream of that framing, in at most `reads` reads, with these events and this outcome
+pub record AnswersIn (framing : Framing) (limit : ℕ) (w : List ℕ) (events : List Event) (outcome : Result Report Stop) : Type 0 where
   pub reads : ℕ
   pub old : Counts
   pub new : Counts
   pub left : Option (List ℕ)
   pub taken : List ℕ
   pub consumes : Consumes (Some w) left taken
-  pub ends : EndsStream limit reads old new left taken events outcome
+  pub ends : EndsReading framing Spells IsEventRefusal limit reads old new left taken events outcome
+
+-- by `read_stream`, and by `read_plain`
+abbrev pub AnswersStream : ℕ → List ℕ → List Event → Result Report Stop → Type 0
+AnswersStream limit w events outcome = AnswersIn Chunked limit w events outcome
+
+abbrev pub AnswersPlain : ℕ → List ℕ → List Event → Result Report Stop → Type 0
+AnswersPlain limit w events outcome = AnswersIn Plain limit w events outcome
 
 -- the bytes decided the outcome: no call of the device failed, as many reads were made as were needed, and memory was there
 abbrev pub IsDecidedByBytes : Result Report Stop → Type 0
@@ -29,3 +40,15 @@ EndsAlike (Ok report) (Ok other) = Unit {0}
 EndsAlike (Ok report) (Err stop) = ⊥
 EndsAlike (Err stop) (Ok report) = ⊥
 EndsAlike (Err stop) (Err other) = stop.fault ≡ other.fault
+
+-- the bytes after the end of the stream: those in the report, and those that the device has left
+abbrev pub bytes_after : Report → Option (List ℕ) → List ℕ
+bytes_after report None = report.rest.items
+bytes_after report (Some left) = report.rest.items ++ left
+
+-- the same outcome: an end after the same number of bytes, with the same bytes after it; or the same fault after the same number of bytes
+abbrev pub IsSameOutcome : Option (List ℕ) → Option (List ℕ) → Result Report Stop → Result Report Stop → Type 0
+IsSameOutcome left more (Ok report) (Ok other) = (report.used ≡ other.used) × (bytes_after report left ≡ bytes_after other more)
+IsSameOutcome left more (Ok report) (Err stop) = ⊥
+IsSameOutcome left more (Err stop) (Ok report) = ⊥
+IsSameOutcome left more (Err stop) (Err other) = stop ≡ other

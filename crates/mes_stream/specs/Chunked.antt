@@ -4,7 +4,7 @@ use Rattle.mes_frame.specs.Chunk.{IsChunked}
 use Rattle.mes_frame.specs.ChunkFront.{IsOpen}
 use Rattle.mes_frame.specs.ChunkFaults.{ChunkShows}
 use Rattle.mes_stream.specs.declared.refusal.RecordRefusal.{RecordRefusal}
-use Rattle.mes_stream.specs.Stream.{Records, BodyLive, EndsInside, EndsRecord, BodyShows, InRecordData}
+use Rattle.mes_stream.specs.Stream.{Records, BodyLive, EndsInside, EndsRecord, HasValue, BodyShows, RunsOut}
 use Rattle.mes_stream.specs.declared.fault.Fault.{Fault}
 use Rattle.mes_stream.specs.declared.fault.Fault.TheVariants.{Frame, EndsInsideChunks, EndsInsideRecord, Text, Field, NoMemory, Read, ReadsSpent, BadEntry}
 
@@ -22,7 +22,7 @@ AtData Is w values c = (body : List ℕ) × IsOpen w body × IsOpen (w ++ c ∷ 
 
 -- the byte c behind w ends a record whose data spell the value
 abbrev pub EndsWith : {E : Type 0} → (List ℕ → E → Type 0) → ℕ → List ℕ → List E → ℕ → E → Type 0
-EndsWith spells limit w values c value = AtData (λ body vs. EndsRecord spells limit body vs c (λ r. spells r value)) w values c
+EndsWith spells limit w values c value = AtData (λ body vs. EndsRecord spells limit body vs c (HasValue spells value)) w values c
 
 -- The byte c behind w, which is live with the values, shows the fault: no chunked body has it there (F1 to F5); it is a byte
 -- of the body and shows it there (F7 to F9, F11, F12, and F16 where `breaks` knows bad entries); or it ends the body inside a
@@ -44,7 +44,7 @@ ChunkedShows spells breaks ahead limit w values c ReadsSpent = ⊥
 ChunkedShows spells breaks ahead limit w values c (BadEntry at_record) =
     AtData (λ body vs. BodyShows spells breaks ahead limit body vs c (BadEntry at_record)) w values c
 
--- a fault that the byte c shows, or want of memory at a byte of a record's data: that says only what stood before
+-- the byte c shows the fault, or an allocation failed at it, for data of which `breaks` allows that
 abbrev pub ChunkedStops : {E : Type 0} → (List ℕ → E → Type 0) → (List ℕ → RecordRefusal → Type 0) → ℕ → ℕ → List ℕ → List E → ℕ → Fault → Type 0
 ChunkedStops spells breaks ahead limit w values c fault =
-    ChunkedShows spells breaks ahead limit w values c fault ⊎ ((fault ≡ NoMemory) × AtData (λ body vs. InRecordData spells limit body vs) w values c)
+    ChunkedShows spells breaks ahead limit w values c fault ⊎ ((fault ≡ NoMemory) × AtData (λ body vs. RunsOut spells breaks limit body vs c) w values c)

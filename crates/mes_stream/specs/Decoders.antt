@@ -3,7 +3,7 @@ use Rattle.std.specs.Prelude.{◌≡◌, ℕ, ◌≤◌, List, Option, None, Som
 use Rattle.mes_frame.specs.ChunkFront.{IsOpen}
 use Rattle.mes_frame.specs.Record.{Begun}
 use Rattle.mes_stream.specs.Stream.{Behind}
-use Rattle.mes_stream.specs.StreamReaders.{StreamStands, body_of}
+use Rattle.mes_stream.specs.StreamReaders.{StreamStands}
 use Rattle.mes_stream.specs.declared.stream_reader.Framing.{Framing}
 use Rattle.mes_stream.specs.declared.stream_reader.Framing.TheVariants.{Plain, Chunked}
 use Rattle.mes_stream.specs.declared.fault.Fault.{Fault}
@@ -49,14 +49,6 @@ EndsBy end out.More = end ≡ None
 EndsBy end (out.Event value) = end ≡ None
 EndsBy end out.End = end ≡ Some Closed
 EndsBy end (out.Fault fault) = end ≡ Some (Failed fault)
-
-abbrev pub kept_at : {R : Type 0} → (R → ℕ) → State R → ℕ
-kept_at kept (state.Going stream) = kept (body_of stream).reader
-kept_at kept (state.Ended end) = 0
-
--- how many bytes are kept of the record that has begun: none after the end or a fault
-abbrev pub kept_by : {R : Type 0} → (R → ℕ) → RecordDecoder R → ℕ
-kept_by kept d = kept_at kept d.state
 
 -- n is at most what may be kept of the data, so far, of the record that has begun
 abbrev pub HoldsInBody : {E : Type 0} → (List ℕ → E → Type 0) → (List ℕ → ℕ) → ℕ → List ℕ → List E → ℕ → Type 0

@@ -1,5 +1,5 @@
 -- What a reader of a chunked stream stands for, and what a decoder answers to a piece of the stream.
-use Rattle.std.specs.Prelude.{◌≡◌, ℕ, ◌<◌, ◌≤◌, List, [], ◌∷◌, ◌++◌, length, take, slice_index}
+use Rattle.std.specs.Prelude.{ℕ, ◌<◌, ◌≤◌, List, [], ◌∷◌, ◌++◌, length, take, slice_index}
 use Rattle.mes_frame.specs.ChunkFront.{IsOpen}
 use Rattle.mes_frame.specs.ChunkState.{ChunkStands}
 use Rattle.mes_frame.specs.declared.chunk.ChunkState.{ChunkState}
@@ -16,10 +16,8 @@ pub record ChunkedStands {R E : Type 0} (holds : R → List ℕ → Type 0) (spe
   pub chunks : ChunkStands d.chunks w content
   pub body : BodyStands holds spells ahead d.body content values
 
--- the byte at that place of a piece behind w is one of the data of a chunked body, behind so many of them that stand in the piece
-pub record IsDataAt (w body piece : List ℕ) (before at : ℕ) : Type 0 where
-  pub run : List ℕ
-  pub many : length run ≡ before
+-- the byte of the piece at that place is one of the data of a chunked body, and run are the data of the piece before it
+pub record IsDataAt (w body piece run : List ℕ) (at : ℕ) : Type 0 where
   pub front : IsOpen (w ++ take at piece) (body ++ run)
   pub next : IsOpen ((w ++ take at piece) ++ slice_index piece at ∷ []) ((body ++ run) ++ slice_index piece at ∷ [])
 
@@ -28,7 +26,7 @@ pub record IsDataAt (w body piece : List ℕ) (before at : ℕ) : Type 0 where
 pub record Gathers (new : ChunkState) (w body piece : List ℕ) (used : ℕ) (run places : List ℕ) : Type 0 where
   pub stands : ChunkStands new (w ++ take used piece) (body ++ run)
   pub fronts : (n : ℕ) → n ≤ used → (d : List ℕ) × (length d ≤ length run) × IsOpen (w ++ take n piece) (body ++ d)
-  pub each : (k : ℕ) → k < length run → IsDataAt w body piece k (slice_index places k)
+  pub each : (k : ℕ) → k < length run → IsDataAt w body piece (take k run) (slice_index places k)
 
 -- what a call says of the bytes that it used, in a chunked stream
 abbrev pub Says : {E : Type 0} → (List ℕ → List E → Type 0) → (List ℕ → E → Type 0) → (List ℕ → RecordRefusal → Type 0) → ℕ → List ℕ → List E → List ℕ → ℕ → Out E → Type 0

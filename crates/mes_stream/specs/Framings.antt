@@ -2,7 +2,7 @@
 use Rattle.std.specs.Prelude.{◌≡◌, ℕ, ◌+◌, ◌-◌, ◌<◌, List, [], ◌∷◌, ◌++◌, length, take, slice_index, Result, Ok, Err}
 use Rattle.mes_frame.specs.ChunkFront.{IsOpen}
 use Rattle.mes_stream.specs.declared.refusal.RecordRefusal.{RecordRefusal}
-use Rattle.mes_stream.specs.Stream.{Records, BodyLive, EndsInside, EndsRecord, BodyStops}
+use Rattle.mes_stream.specs.Stream.{Records, BodyLive, EndsInside, EndsRecord, HasValue, BodyStops}
 use Rattle.mes_stream.specs.Chunked.{IsStream, Live, EndsWith, ChunkedStops}
 use Rattle.mes_stream.specs.declared.fault.Fault.{Fault}
 use Rattle.mes_stream.specs.declared.fault.Fault.TheVariants.{EndsInsideChunks, EndsInsideRecord}
@@ -28,7 +28,7 @@ EndsIn Chunked spells limit w values = IsStream spells limit w values
 
 -- the byte c behind w ends a record whose data spell the value
 abbrev pub EndsRecordIn : {E : Type 0} → Framing → (List ℕ → E → Type 0) → ℕ → List ℕ → List E → ℕ → E → Type 0
-EndsRecordIn Plain spells limit w values c value = EndsRecord spells limit w values c (λ r. spells r value)
+EndsRecordIn Plain spells limit w values c value = EndsRecord spells limit w values c (HasValue spells value)
 EndsRecordIn Chunked spells limit w values c value = EndsWith spells limit w values c value
 
 -- the byte c behind w shows the fault, or memory was refused at it

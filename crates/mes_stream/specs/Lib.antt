@@ -4,7 +4,9 @@ pub mod Decoders
 pub mod Decoding
 pub mod EventData
 pub mod Framings
+pub mod Held
 pub mod Lines
+pub mod Pieces
 pub mod PlainReading
 pub mod Reading
 pub mod Reads

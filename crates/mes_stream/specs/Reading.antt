@@ -9,7 +9,8 @@ use Rattle.mes_stream.specs.declared.refusal.RecordRefusal.{RecordRefusal}
 use Rattle.mes_stream.specs.Reads.{ReadsMade, SomeReadsMade}
 use Rattle.mes_stream.specs.Stream.{saturated}
 use Rattle.mes_stream.specs.Framings.{GoesIn, GoesBefore, EndsIn, EndsRecordIn, WholeIn, InputEnds, StopsWithin}
-use Rattle.mes_stream.specs.StreamReaders.{StreamStands, body_of}
+use Rattle.mes_stream.specs.Held.{held_by_reading}
+use Rattle.mes_stream.specs.StreamReaders.{StreamStands}
 use Rattle.mes_stream.specs.declared.fault.Fault.{Fault}
 use Rattle.mes_stream.specs.declared.fault.Fault.TheVariants.{Read, ReadsSpent}
 use Rattle.mes_stream.specs.declared.fault.Report.{Report}
@@ -157,4 +158,4 @@ abbrev pub GathersLast : {R E : Type 0} → (R → List ℕ → Type 0) → (Lis
 GathersLast {E = E} holds spells breaks kept first start now to w piece stop =
     ((ahead : Ahead) (framing : Framing) (limit : ℕ) (v : List ℕ) (before : List E) → ReadingStandsBehind holds spells ahead first framing limit v before
     → (more : List E) × (to ≡ start ++ more) × ByteEndsBehind framing spells breaks ahead limit (v ++ (w ++ piece)) (before ++ more) (told_as now stop))
-    × (kept (body_of now.stream).reader ≡ 0)
+    × (held_by_reading kept now ≡ 0)

@@ -3,11 +3,13 @@ use Rattle.std.specs.Prelude.{◌≡◌, ℕ, ◌⊎◌, List, [], ◌∷◌, �
 use Rattle.mes_stream.specs.declared.refusal.RecordRefusal.{RecordRefusal}
 use Rattle.mes_stream.specs.declared.refusal.RecordRefusal.TheVariants.{NoMemory}
 
--- the data of the record have no value and this is why, or memory was refused for it
-abbrev pub IsRefused : (List ℕ → RecordRefusal → Type 0) → List ℕ → RecordRefusal → Type 0
-IsRefused breaks r why = breaks r why ⊎ (why ≡ NoMemory)
+-- why no value of the data was added to a list: the data have none, or they have one and the list could not grow
+abbrev pub IsRefused : {E : Type 0} → (List ℕ → E → Type 0) → (List ℕ → RecordRefusal → Type 0) → List ℕ → RecordRefusal → Type 0
+IsRefused {E = E} spells breaks r why = breaks r why ⊎ ((why ≡ NoMemory) × ((value : E) × spells r value))
 
--- the value of the data r was added to the list, or the list is as it was, and why
-abbrev pub AddsValue : {E T : Type 0} → (List ℕ → E → Type 0) → (List ℕ → RecordRefusal → Type 0) → List ℕ → List E → List E → Result T RecordRefusal → Type 0
-AddsValue {E = E} spells breaks r old new (Ok done) = (value : E) × spells r value × (new ≡ old ++ value ∷ [])
-AddsValue spells breaks r old new (Err why) = IsRefused breaks r why × (new ≡ old)
+-- The value of the data r was added to the list, or the list is unchanged, and why. If the list could not grow, the reader is ready for
+-- the next record.
+abbrev pub AddsValue : {E T : Type 0} → (List ℕ → E → Type 0) → (List ℕ → RecordRefusal → Type 0) → Type 0 → List ℕ → List E → List E → Result T RecordRefusal → Type 0
+AddsValue {E = E} spells breaks IsReady r old new (Ok done) = (value : E) × spells r value × (new ≡ old ++ value ∷ [])
+AddsValue {E = E} spells breaks IsReady r old new (Err why) =
+    (breaks r why ⊎ ((why ≡ NoMemory) × ((value : E) × spells r value) × IsReady)) × (new ≡ old)

@@ -1,5 +1,7 @@
 -- Why the data of a record have no value, and the fault of the stream that shows it.
 use Rattle.std.specs.Prelude.{ℕ, List}
+use Rattle.mes_json.specs.Place.{Begins}
+use Rattle.mes_json.specs.declared.limits.TheConstants.{NESTING_LIMIT}
 use Rattle.mes_msg.specs.Events.{IsRecordFault}
 use Rattle.mes_msg.specs.RecordFault.{RecordFault}
 use Rattle.mes_msg.specs.RecordFault.TheVariants as message
@@ -14,12 +16,12 @@ refusal_of (message.Text f) = refusal.Text f
 refusal_of (message.Field f) = refusal.Field f
 refusal_of message.NoMemory = refusal.NoMemory
 
--- why the data are no event's: of no event are they a bad entry
+-- Why the data have no event: they are never a bad entry, and an allocation fails only for data that begin a JSON text.
 abbrev pub IsEventRefusal : List ℕ → RecordRefusal → Type 0
 IsEventRefusal r (refusal.Text f) = IsRecordFault r (message.Text f)
 IsEventRefusal r (refusal.Field f) = IsRecordFault r (message.Field f)
 IsEventRefusal r refusal.BadEntry = ⊥
-IsEventRefusal r refusal.NoMemory = IsRecordFault r message.NoMemory
+IsEventRefusal r refusal.NoMemory = Begins NESTING_LIMIT r
 
 -- the fault of a stream whose record of that number has no value
 abbrev pub fault_at_record : ℕ → RecordRefusal → Fault

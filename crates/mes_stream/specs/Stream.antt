@@ -42,6 +42,10 @@ number_after ahead values = saturated (ahead + length values + 1)
 abbrev pub EndsRecord : {E : Type 0} → (List ℕ → E → Type 0) → ℕ → List ℕ → List E → ℕ → (List ℕ → Type 0) → Type 0
 EndsRecord spells limit b values c Is = Behind spells limit (λ x. (r : List ℕ) × IsRecord (x ++ c ∷ []) r limit × Is r) b values
 
+-- the data are those of the value, and not empty
+abbrev pub HasValue : {E : Type 0} → (List ℕ → E → Type 0) → E → List ℕ → Type 0
+HasValue spells value r = (r ≢ []) × spells r value
+
 -- behind the bytes b, which are live, the byte c shows the fault: no size line has it there, or it ends a record that
 -- spells no value
 abbrev pub BodyShows : {E : Type 0} → (List ℕ → E → Type 0) → (List ℕ → RecordRefusal → Type 0) → ℕ → ℕ → List ℕ → List E → ℕ → Fault → Type 0
@@ -58,11 +62,18 @@ BodyShows spells breaks ahead limit b values c ReadsSpent = ⊥
 BodyShows spells breaks ahead limit b values c (BadEntry at_record) =
     EndsRecord spells limit b values c (λ r. breaks r refusal.BadEntry) × (at_record ≡ number_after ahead values)
 
--- the next byte behind the bytes b is a byte of a record's data
-abbrev pub InRecordData : {E : Type 0} → (List ℕ → E → Type 0) → ℕ → List ℕ → List E → Type 0
-InRecordData spells limit b values = Behind spells limit (λ x. (r : List ℕ) × (left : ℕ) × DataBegun x r left limit) b values
+-- the next byte after b is a byte of a record's data, and Is holds of the data before it and of how many are still to come
+abbrev pub InRecordData : {E : Type 0} → (List ℕ → E → Type 0) → ℕ → List ℕ → List E → (List ℕ → ℕ → Type 0) → Type 0
+InRecordData spells limit b values Is = Behind spells limit (λ x. (r : List ℕ) × (left : ℕ) × DataBegun x r left limit × Is r left) b values
 
--- a fault that the byte c shows, or want of memory at a byte of data: that says only what stood before
+-- an allocation may fail at the byte c, the next one of a record's data: for the data r before it; or, if c is the last one, for all of them
+abbrev pub MayFail : (List ℕ → RecordRefusal → Type 0) → ℕ → List ℕ → ℕ → Type 0
+MayFail breaks c r left = breaks r refusal.NoMemory ⊎ ((left ≡ 1) × breaks (r ++ c ∷ []) refusal.NoMemory)
+
+abbrev pub RunsOut : {E : Type 0} → (List ℕ → E → Type 0) → (List ℕ → RecordRefusal → Type 0) → ℕ → List ℕ → List E → ℕ → Type 0
+RunsOut spells breaks limit b values c = InRecordData spells limit b values (MayFail breaks c)
+
+-- the byte c shows the fault, or an allocation failed at it, for data of which `breaks` allows that
 abbrev pub BodyStops : {E : Type 0} → (List ℕ → E → Type 0) → (List ℕ → RecordRefusal → Type 0) → ℕ → ℕ → List ℕ → List E → ℕ → Fault → Type 0
 BodyStops spells breaks ahead limit b values c fault =
-    BodyShows spells breaks ahead limit b values c fault ⊎ ((fault ≡ NoMemory) × InRecordData spells limit b values)
+    BodyShows spells breaks ahead limit b values c fault ⊎ ((fault ≡ NoMemory) × RunsOut spells breaks limit b values c)

@@ -1,10 +1,10 @@
 -- What a reader of a body of records holds, and what it makes of a run of the body's bytes.
-use Rattle.std.specs.Prelude.{◌≡◌, ℕ, ◌+◌, ◌^◌, ◌<◌, ◌≤◌, List, [], ◌∷◌, ◌++◌, length, take, slice_index, Result, Ok, Err}
+use Rattle.std.specs.Prelude.{◌≡◌, ℕ, ◌+◌, ◌^◌, ◌<◌, ◌≤◌, ◌⊎◌, List, [], ◌∷◌, ◌++◌, length, take, slice_index, Result, Ok, Err}
 use Rattle.mes_frame.specs.Record.{IsRecord, Begun, DataBegun, SizeShows}
 use Rattle.mes_frame.specs.RecordState.{RecordStands, RecordPasses, limit_of}
 use Rattle.mes_frame.specs.declared.record.RecordState.{RecordState}
 use Rattle.mes_stream.specs.declared.refusal.RecordRefusal.{RecordRefusal}
-use Rattle.mes_stream.specs.RecordValues.{IsRefused}
+use Rattle.mes_stream.specs.declared.refusal.RecordRefusal.TheVariants as refusal
 use Rattle.mes_stream.specs.Stream.{saturated, Records}
 use Rattle.mes_stream.specs.declared.fault.Fault.{Fault}
 use Rattle.mes_stream.specs.Refusals.{fault_at_record}
@@ -53,12 +53,13 @@ fault_of_record done why = fault_at_record (saturated (done + 1)) why
 -- the value of the record whose data r has ended, or why there is none; one more record has ended
 abbrev pub Ends : {R E : Type 0} → (R → List ℕ → Type 0) → (List ℕ → E → Type 0) → (List ℕ → RecordRefusal → Type 0) → Body R → Body R → List ℕ → Result E RecordRefusal → Type 0
 Ends holds spells breaks old new r (Ok value) = spells r value × holds new.reader [] × (new.done ≡ saturated (old.done + 1))
-Ends holds spells breaks old new r (Err why) = IsRefused breaks r why × (new.done ≡ saturated (old.done + 1))
+Ends holds spells breaks old new r (Err why) = breaks r why × (new.done ≡ saturated (old.done + 1))
 
--- the same, where the value was added to a list
+-- Like `Ends`, where the value was added to a list. If the list could not grow, the record has a value all the same.
 abbrev pub EndsInto : {R E T : Type 0} → (R → List ℕ → Type 0) → (List ℕ → E → Type 0) → (List ℕ → RecordRefusal → Type 0) → Body R → Body R → List ℕ → List E → List E → Result T RecordRefusal → Type 0
 EndsInto {E = E} holds spells breaks old new r before after (Ok done) = (value : E) × Ends holds spells breaks old new r (Ok value) × (after ≡ before ++ value ∷ [])
-EndsInto holds spells breaks old new r before after (Err why) = Ends holds spells breaks old new r (Err why) × (after ≡ before)
+EndsInto {E = E} holds spells breaks old new r before after (Err why) =
+    (Ends {E = E} holds spells breaks old new r (Err why) ⊎ ((why ≡ refusal.NoMemory) × ((value : E) × Ends holds spells breaks old new r (Ok value)))) × (after ≡ before)
 
 -- what the end of the record of that number is for who reads it
 abbrev pub record_answer : {E : Type 0} → ℕ → Result E RecordRefusal → Out E

@@ -6,6 +6,7 @@ ghost use Rattle.mes_frame.specs.RecordState.{RecordStands, limit_of, room_of};
 ghost use Rattle.mes_stream.specs.Stream.{Records, EndsInside, saturated};
 ghost use Rattle.mes_stream.specs.Decoders.{HoldsInBody};
 ghost use Rattle.mes_stream.specs.Framings.{GoesBefore};
+ghost use Rattle.mes_stream.specs.Held.{held_by_body};
 ghost use Rattle.mes_stream.specs.Refusals.{fault_at_record};
 ghost use Rattle.mes_stream.specs.Taking.{BodyStands, Fronts, IsWithin, Tells, Ends, EndsInto};
 ghost use Rattle.mes_stream.specs.declared.stream_reader.Framing.TheVariants as framing;
@@ -123,6 +124,7 @@ impl<R: RecordReader> Body<R> {
             → BodyStands R.holds R.spells ahead self.new (b ++ run.now) values) }
         // Memory was refused for the byte behind those that were taken.
         ensures err { IfErr result (λ refused. 0 < length run.now → refused.taken < length run.now) }
+        ensures before { (r : List ℕ) → R.holds self.old.reader r → IfErr result (λ refused. R.breaks (r ++ take refused.taken run.now) RecordRefusal.NoMemory) }
         ensures limit { limit_of self.new.records ≡ limit_of self.old.records }
     {
         let _ended = self.records.pass(run.len());
@@ -155,7 +157,7 @@ impl<R: RecordReader> Body<R> {
 
     /// How many bytes of the record that has begun are kept.
     pub fn held(&self) -> u64
-        ensures count { result ≡ R.kept self.now.reader }
+        ensures count { result ≡ held_by_body R.kept self.now }
         ensures most { (ahead : ℕ) (b : List ℕ) (values : List R.Value) → BodyStands R.holds R.spells ahead self.now b values
             → HoldsInBody R.spells R.room (limit_of self.now.records) b values result }
     {
@@ -164,7 +166,7 @@ impl<R: RecordReader> Body<R> {
 
     /// Keeps nothing any more.
     pub(crate) fn let_go(&mut self)
-        ensures { R.kept self.new.reader ≡ 0 }
+        ensures { held_by_body R.kept self.new ≡ 0 }
     {
         self.reader.let_go();
     }

@@ -3,7 +3,8 @@
 ghost use Rattle.std.specs.Prelude.{◌≡◌, ◌≢◌, ℕ, ◌+◌, ◌<◌, ◌≤◌, List, [], ◌++◌, length, None, Some, IfSome};
 ghost use Rattle.mes_stream.specs.Chunked.{Live};
 ghost use Rattle.mes_stream.specs.Decoding.{Says, LiveBefore};
-ghost use Rattle.mes_stream.specs.Decoders.{DecoderStands, end_of, answer_of, finish_of, EndsBy, HoldsOf, kept_by};
+ghost use Rattle.mes_stream.specs.Decoders.{DecoderStands, end_of, answer_of, finish_of, EndsBy, HoldsOf};
+ghost use Rattle.mes_stream.specs.Held.{held_by_decoder};
 ghost use Rattle.mes_stream.specs.EventData.{HoldsData};
 ghost use Rattle.mes_msg.specs.Events.{Spells};
 
@@ -143,7 +144,7 @@ impl<R: RecordReader> RecordDecoder<R> {
         ensures held { (limit : ℕ) (w : List ℕ) (values : List R.Value) → DecoderStands R.holds R.spells self.now limit w values
             → HoldsOf R.spells R.room limit w values result }
         // It is what the reader of records keeps; after the end or a fault that `next` told nothing is.
-        ensures count { result ≡ kept_by R.kept self.now }
+        ensures count { result ≡ held_by_decoder R.kept self.now }
     {
         match &self.state {
             State::Going(stream) => stream.held(),

@@ -1,13 +1,19 @@
 //! Laws of the definitions that the contracts cite: functions that do nothing, each with the law as its contract.
 
-ghost use Rattle.std.specs.Prelude.{◌≡◌, ℕ, List, Result};
+ghost use Rattle.std.specs.Prelude.{◌≡◌, ℕ, List, [], Result};
 ghost use Rattle.mes_msg.specs.Events.{Spells};
 ghost use Rattle.mes_stream.specs.Refusals.{IsEventRefusal};
 ghost use Rattle.mes_msg.specs.Event.{Event as EventValue};
 ghost use Rattle.mes_frame.specs.Chunk.{IsChunked};
 ghost use Rattle.mes_frame.specs.ChunkFront.{IsOpen};
-ghost use Rattle.mes_stream.specs.Answers.{AnswersStream, IsDecidedByBytes, EndsAlike};
+ghost use Rattle.mes_stream.specs.Answers.{AnswersStream, AnswersPlain, IsDecidedByBytes, IsSameOutcome, EndsAlike};
 ghost use Rattle.mes_stream.specs.Chunked.{IsStream, Live};
+ghost use Rattle.mes_stream.specs.Decoders.{DecoderStands};
+ghost use Rattle.mes_stream.specs.EventData.{HoldsData};
+ghost use Rattle.mes_stream.specs.Pieces.{Decoded, Decodes, HadMemory, joined};
+ghost use Rattle.mes_stream.specs.declared.decoder.RecordDecoder.{RecordDecoder as DecoderValue};
+ghost use Rattle.mes_stream.specs.declared.event_reader.EventReader.{EventReader as ReaderValue};
+ghost use Rattle.mes_stream.specs.declared.taken.Out.{Out as Answer};
 ghost use Rattle.mes_stream.specs.declared.fault.Report.{Report};
 ghost use Rattle.mes_stream.specs.declared.fault.Stop.{Stop};
 ghost use Rattle.mes_stream.specs.PlainReading.{IsDecided, IsExact, PlainReading, ReadsPlain};
@@ -79,5 +85,34 @@ pub fn one_answer()
     ensures front { (limit : ℕ) (w v body : List ℕ) (events others : List EventValue) (outcome other : Result Report Stop) → IsOpen w body → IsOpen v body
         → AnswersStream limit w events outcome → AnswersStream limit v others other → IsDecidedByBytes outcome → IsDecidedByBytes other → (events ≡ others) × EndsAlike outcome other }
 {
+    one_event_reading();
+}
+
+/// The bytes alone decide what a decoder returns, and not how they are cut: for two lists of pieces with the same concatenation, which may
+/// hold any bytes, it returns the same events, comes to the same end or fault, and uses the same number of bytes, if no allocation fails.
+pub fn one_decoding()
+    ensures { (limit : ℕ) (first second : DecoderValue ReaderValue) (pieces others : List (List ℕ)) (calls more : List (ℕ × Answer EventValue)) (outcome other : Decoded)
+        → DecoderStands HoldsData Spells first limit [] [] → DecoderStands HoldsData Spells second limit [] [] → joined pieces ≡ joined others
+        → Decodes first pieces calls outcome → Decodes second others more other → HadMemory outcome → HadMemory other → outcome ≡ other }
+{
+    one_event_reading();
+}
+
+/// The bytes of a device alone decide what `read_stream` returns, and not how many each read gives: the same events, and the same end or
+/// fault after the same number of bytes, with the same bytes after the end. The bytes may be any, if no call and no allocation fails and
+/// there are enough reads.
+pub fn one_stream_outcome()
+    ensures { (limit : ℕ) (w : List ℕ) (events others : List EventValue) (outcome other : Result Report Stop) (a : AnswersStream limit w events outcome) (b : AnswersStream limit w others other)
+        → IsDecidedByBytes outcome → IsDecidedByBytes other → (events ≡ others) × IsSameOutcome a.left b.left outcome other }
+{
+    one_event_reading();
+}
+
+/// Like [`one_stream_outcome`], of `read_plain`.
+pub fn one_plain_outcome()
+    ensures { (limit : ℕ) (w : List ℕ) (events others : List EventValue) (outcome other : Result Report Stop) (a : AnswersPlain limit w events outcome) (b : AnswersPlain limit w others other)
+        → IsDecidedByBytes outcome → IsDecidedByBytes other → (events ≡ others) × IsSameOutcome a.left b.left outcome other }
+{
+    one_message::<Event>();
     one_event_reading();
 }

@@ -29,8 +29,8 @@ pub use encode::{encode_each, encode_events, event_refs};
 pub use event_reader::EventReader;
 pub use fault::{Fault, Report, Stop};
 pub use laws::{
-    one_answer, one_chunking, one_event_reading, one_plain_reading, one_stream_reading,
-    stream_limits,
+    one_answer, one_chunking, one_decoding, one_event_reading, one_plain_outcome,
+    one_plain_reading, one_stream_outcome, one_stream_reading, stream_limits,
 };
 pub use limits::{COUNT_LINE_MOST, FAULT_LINE_MOST, READ_MOST, REST_MOST};
 pub use line::{count_line, fault_line, push_number, push_word};

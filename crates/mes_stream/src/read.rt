@@ -4,6 +4,7 @@ ghost use Rattle.std.specs.Prelude.{◌≡◌, ◌≢◌, ℕ, List, [], ◌++�
 ghost use Rattle.std.specs.Io.KnownBytes.{Consumes};
 ghost use Rattle.mes_stream.specs.Reading.{EndsReading, EndsPlain, EndsStream};
 ghost use Rattle.mes_msg.specs.Events.{Spells};
+ghost use Rattle.mes_stream.specs.RecordValues.{IsRefused};
 ghost use Rattle.mes_stream.specs.Refusals.{IsEventRefusal};
 ghost use Rattle.mes_msg.specs.Event.{Event as EventValue};
 
@@ -89,7 +90,7 @@ fn read_records<R: RecordReader, S: Source>(
     ensures { (w : List ℕ) × (more : List R.Value)
         × Consumes (S.left reader.old) (S.left reader.new) w
         × (values.new.items ≡ values.old.items ++ more)
-        × EndsReading framing R.spells R.breaks limit max_reads (S.counts reader.old) (S.counts reader.new) (S.left reader.new) w more result }
+        × EndsReading framing R.spells (IsRefused R.spells R.breaks) limit max_reads (S.counts reader.old) (S.counts reader.new) (S.left reader.new) w more result }
 {
     let mut reading = Reading::new(framing, records, limit);
     let end = read_device(reader, max_reads, &mut reading, values);

@@ -2,9 +2,11 @@
 
 ghost use Rattle.std.specs.Prelude.{◌≡◌, ◌+◌, ◌<◌, ◌≤◌, ℕ, List, [], length};
 ghost use Rattle.mes_stream.specs.Decoders.{HoldsIn};
+ghost use Rattle.mes_stream.specs.Held.{held_by_reading};
 ghost use Rattle.mes_stream.specs.Reading.{Ahead, ReadingStands, ReadingStandsBehind, ReadingTakesBehind, ReadingTakesRecord, EndsWithin, MeansBehind, Gathers, GathersLast};
+ghost use Rattle.mes_stream.specs.RecordValues.{IsRefused};
 ghost use Rattle.mes_stream.specs.Stream.{saturated};
-ghost use Rattle.mes_stream.specs.StreamReaders.{KeepsNoneAfterStop, body_of};
+ghost use Rattle.mes_stream.specs.StreamReaders.{KeepsNoneAfterStop};
 ghost use Rattle.mes_stream.specs.declared.stream_reader.Framing.{Framing as FramingValue};
 
 use crate::fault::{Fault, Report, Stop};
@@ -80,7 +82,7 @@ impl<R: RecordReader> Reading<R> {
 
     /// How many bytes of the record that has begun are kept: none where the reading has stopped.
     pub fn held(&self) -> u64
-        ensures count { result ≡ R.kept (body_of self.now.stream).reader }
+        ensures count { result ≡ held_by_reading R.kept self.now }
         ensures most { (ahead : Ahead) (framing : FramingValue) (limit : ℕ) (w : List ℕ) (values : List R.Value) → ReadingStandsBehind R.holds R.spells ahead self.now framing limit w values
             → HoldsIn framing R.spells R.room limit w values result }
     {
@@ -95,7 +97,7 @@ impl<R: RecordReader> Reading<R> {
             → ReadingTakesRecord R.holds R.spells R.breaks ahead self.new framing limit w values piece.now result }
         ensures within { EndsWithin (length piece.now) result }
         // Where the reading has stopped nothing is kept.
-        ensures kept { KeepsNoneAfterStop (R.kept (body_of self.new.stream).reader) result }
+        ensures kept { KeepsNoneAfterStop (held_by_reading R.kept self.new) result }
     {
         let SmallStep { used, out } = self.stream.step(piece);
         self.used = self.used.saturating_add(used as u64);
@@ -115,9 +117,9 @@ impl<R: RecordReader> Reading<R> {
     pub fn feed(&mut self, piece: &[u8], values: &mut Vec<R::Value>) -> Result<(), ReadingStop>
         requires { length piece.now ≤ READ_MOST }
         ensures takes { (ahead : Ahead) (framing : FramingValue) (limit : ℕ) (w : List ℕ) (before : List R.Value) → ReadingStandsBehind R.holds R.spells ahead self.old framing limit w before
-            → ReadingTakesBehind R.holds R.spells R.breaks ahead self.new framing limit w before piece.now values.old.items values.new.items result }
+            → ReadingTakesBehind R.holds R.spells (IsRefused R.spells R.breaks) ahead self.new framing limit w before piece.now values.old.items values.new.items result }
         // Where the reading has stopped nothing is kept.
-        ensures kept { KeepsNoneAfterStop (R.kept (body_of self.new.stream).reader) result }
+        ensures kept { KeepsNoneAfterStop (held_by_reading R.kept self.new) result }
     {
         match self.stream.feed(piece, values) {
             Ok(None) => {
@@ -140,7 +142,7 @@ impl<R: RecordReader> Reading<R> {
     pub fn outcome(&mut self, end: ReadsEnd<ReadingStop>) -> Result<Report, Stop>
         ensures means { (ahead : Ahead) → MeansBehind R.holds R.spells ahead self.old end result }
         ensures used { self.new.used ≡ self.old.used }
-        ensures kept { R.kept (body_of self.new.stream).reader ≡ 0 }
+        ensures kept { held_by_reading R.kept self.new ≡ 0 }
     {
         let outcome = self.told(end);
         self.stream.let_go();
@@ -190,7 +192,7 @@ impl<R: RecordReader> Consumer<Vec<R::Value>> for Reading<R> {
 
     ghost goes = { λ first start now to w. Gathers R.holds R.spells first start.items now to.items w };
 
-    ghost stops = { λ first start now to w piece stop. GathersLast R.holds R.spells R.breaks R.kept first start.items now to.items w piece stop };
+    ghost stops = { λ first start now to w piece stop. GathersLast R.holds R.spells (IsRefused R.spells R.breaks) R.kept first start.items now to.items w piece stop };
 
     fn take(&mut self, piece: &[u8], values: &mut Vec<R::Value>) -> Result<(), ReadingStop> {
         self.feed(piece, values)

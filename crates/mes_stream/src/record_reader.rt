@@ -1,6 +1,6 @@
 //! What reads the data of records.
 
-ghost use Rattle.std.specs.Prelude.{◌≡◌, ◌≢◌, ℕ, ◌^◌, ◌<◌, ◌≤◌, List, [], ◌++◌, length, OnOk, IfOk, IfErr};
+ghost use Rattle.std.specs.Prelude.{◌≡◌, ◌≢◌, ℕ, ◌^◌, ◌<◌, ◌≤◌, List, [], ◌++◌, length, take, OnOk, IfOk, IfErr};
 ghost use Rattle.mes_stream.specs.RecordValues.{AddsValue};
 ghost use Rattle.mes_stream.specs.declared.refusal.RecordRefusal.{RecordRefusal as Refusal};
 
@@ -18,7 +18,7 @@ pub trait RecordReader: Drop {
     /// The data are those of the value.
     ghost spells: { List ℕ → Self.Value → Type 0 };
 
-    /// The data are those of no value, and why.
+    /// The data have no value, and why. `NoMemory` says that these are data for which the reader may run out of memory.
     ghost breaks: { List ℕ → Refusal → Type 0 };
 
     /// How many bytes of the data are kept.
@@ -31,7 +31,9 @@ pub trait RecordReader: Drop {
     fn push_run(&mut self, bytes: &[u8]) -> Result<(), NoMemoryAt>
         ensures ok { OnOk result ((r : List ℕ) → holds self.old r → holds self.new (r ++ bytes.now)) }
         // Memory was refused for the byte behind those that were taken.
-        ensures err { IfErr result (λ refused. 0 < length bytes.now → refused.taken < length bytes.now) };
+        ensures err { IfErr result (λ refused. 0 < length bytes.now → refused.taken < length bytes.now) }
+        // The data before that byte are ones that may run out of memory.
+        ensures before { (r : List ℕ) → holds self.old r → IfErr result (λ refused. breaks (r ++ take refused.taken bytes.now) RecordRefusal.NoMemory) };
 
     /// Reads the value of the record whose data has ended.
     fn finish(&mut self) -> Result<Self::Value, RecordRefusal>
@@ -42,7 +44,7 @@ pub trait RecordReader: Drop {
 
     /// The same, where the value is added to a list, so that it isn't moved from call to call: it may be large.
     fn finish_into(&mut self, values: &mut Vec<Self::Value>) -> Result<(), RecordRefusal>
-        ensures adds { (r : List ℕ) → holds self.old r → length r < 2 ^ 64 → AddsValue spells breaks r values.old.items values.new.items result }
+        ensures adds { (r : List ℕ) → holds self.old r → length r < 2 ^ 64 → AddsValue spells breaks (holds self.new []) r values.old.items values.new.items result }
         ensures next { OnOk result (holds self.new []) };
 
     /// Why a record without data has no value. Takes no memory.

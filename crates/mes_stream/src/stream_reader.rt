@@ -3,6 +3,8 @@
 ghost use Rattle.std.specs.Prelude.{◌≡◌, ◌≢◌, ℕ, ◌^◌, ◌<◌, ◌≤◌, List, [], length};
 ghost use Rattle.mes_stream.specs.Decoders.{HoldsIn};
 ghost use Rattle.mes_stream.specs.Framings.{InputEnds, SaysIn, GoesBefore};
+ghost use Rattle.mes_stream.specs.Held.{held_by_stream};
+ghost use Rattle.mes_stream.specs.RecordValues.{IsRefused};
 ghost use Rattle.mes_stream.specs.Refusals.{fault_at_record};
 ghost use Rattle.mes_stream.specs.Stream.{saturated};
 ghost use Rattle.mes_stream.specs.StreamReaders.{StreamStands, StreamFeeds, UsesWithin, KeepsNoneAfterFeed, KeepsNoneAfterAnswer, body_of, with_body, out_of};
@@ -68,7 +70,7 @@ impl<R: RecordReader> StreamReader<R> {
         ensures some { result.out ≢ Out.More → 0 < result.used }
         ensures used { result.used ≤ length piece.now }
         // After the end or a fault nothing is kept.
-        ensures kept { KeepsNoneAfterAnswer (R.kept (body_of self.new).reader) result.out }
+        ensures kept { KeepsNoneAfterAnswer (held_by_stream R.kept self.new) result.out }
     {
         let SmallStep { used, out } = self.step(piece);
         let out = out.into_out();
@@ -84,7 +86,7 @@ impl<R: RecordReader> StreamReader<R> {
         ensures more { out_of result.out ≡ Out.More → result.used ≡ length piece.now }
         ensures some { out_of result.out ≢ Out.More → 0 < result.used }
         ensures used { result.used ≤ length piece.now }
-        ensures kept { KeepsNoneAfterAnswer (R.kept (body_of self.new).reader) (out_of result.out) }
+        ensures kept { KeepsNoneAfterAnswer (held_by_stream R.kept self.new) (out_of result.out) }
     {
         let step = self.step_on(piece);
         match &step.out {
@@ -125,9 +127,9 @@ impl<R: RecordReader> StreamReader<R> {
         values: &mut Vec<R::Value>,
     ) -> Result<Option<usize>, FaultAt>
         ensures feeds { (ahead : ℕ) (framing : FramingValue) (limit : ℕ) (w : List ℕ) (before : List R.Value) → StreamStands R.holds R.spells ahead self.old framing limit w before
-            → StreamFeeds R.holds R.spells R.breaks ahead self.new framing limit w before piece.now values.old.items values.new.items result }
+            → StreamFeeds R.holds R.spells (IsRefused R.spells R.breaks) ahead self.new framing limit w before piece.now values.old.items values.new.items result }
         ensures within { UsesWithin (length piece.now) result }
-        ensures kept { KeepsNoneAfterFeed (R.kept (body_of self.new).reader) result }
+        ensures kept { KeepsNoneAfterFeed (held_by_stream R.kept self.new) result }
     {
         let fed = self.feed_on(piece, values);
         match &fed {
@@ -144,7 +146,7 @@ impl<R: RecordReader> StreamReader<R> {
         values: &mut Vec<R::Value>,
     ) -> Result<Option<usize>, FaultAt>
         ensures feeds { (ahead : ℕ) (framing : FramingValue) (limit : ℕ) (w : List ℕ) (before : List R.Value) → StreamStands R.holds R.spells ahead self.old framing limit w before
-            → StreamFeeds R.holds R.spells R.breaks ahead self.new framing limit w before piece.now values.old.items values.new.items result }
+            → StreamFeeds R.holds R.spells (IsRefused R.spells R.breaks) ahead self.new framing limit w before piece.now values.old.items values.new.items result }
         ensures within { UsesWithin (length piece.now) result }
     {
         let mut at = 0;
@@ -188,7 +190,7 @@ impl<R: RecordReader> StreamReader<R> {
 
     /// How many bytes of the record that has begun are kept: none behind the end or a fault that `feed` or `next` told.
     pub fn held(&self) -> u64
-        ensures count { result ≡ R.kept (body_of self.now).reader }
+        ensures count { result ≡ held_by_stream R.kept self.now }
         ensures most { (ahead : ℕ) (framing : FramingValue) (limit : ℕ) (w : List ℕ) (values : List R.Value) → StreamStands R.holds R.spells ahead self.now framing limit w values
             → HoldsIn framing R.spells R.room limit w values result }
     {
@@ -276,7 +278,7 @@ impl<R: RecordReader> StreamReader<R> {
 
     /// Keeps nothing any more.
     pub(crate) fn let_go(&mut self)
-        ensures { R.kept (body_of self.new).reader ≡ 0 }
+        ensures { held_by_stream R.kept self.new ≡ 0 }
     {
         match self {
             StreamReader::Plain(body) => body.let_go(),

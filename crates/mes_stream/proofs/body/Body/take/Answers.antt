@@ -1,11 +1,14 @@
-use Rattle.std.proofs.Common.{◌+◌, ◌-◌, ◌++◌, take, ap, arith, refl, inr, subst, length-take-le, ◌∙◌}
+use Rattle.std.proofs.Common.{◌≡◌, ℕ, ◌+◌, ◌-◌, List, ◌++◌, take, ap, arith, refl, inl, inr, subst, length-take-le, ◌∙◌}
+use Rattle.std.specs.Prelude.{slice_index}
 use Rattle.mes_frame.specs.RecordState.{limit_of}
 use Rattle.mes_frame.specs.declared.record.RecordState.{RecordState}
 use Rattle.mes_stream.specs.Framings.{SaysIn}
+use Rattle.mes_stream.specs.Stream.{MayFail}
 use Rattle.mes_stream.specs.Taking.{BodyStands, record_answer}
 use Rattle.mes_stream.specs.declared.body.Body.{Body}
+use Rattle.mes_stream.specs.declared.refusal.RecordRefusal.TheVariants as refusal
 use Rattle.mes_stream.specs.declared.stream_reader.Framing.TheVariants.{Plain}
-use Rattle.mes_stream.proofs.BodyLemmas.{data_live, data_next, size_live, stands_on, ends_as, whole_fits}
+use Rattle.mes_stream.proofs.BodyLemmas.{take_take, data_live, data_next, size_live, stands_on, ends_as, whole_fits}
 use Rattle.mes_stream.proofs.body.Body.take.Goals as goal
 use Rattle.mes_stream.proofs.body.Body.take.Goals.{then-last, else-last}
 
@@ -23,10 +26,15 @@ pub returns-in-Err-clause-tells : goal.returns-in-Err-clause-tells
 returns-in-Err-clause-tells g c = λ ahead b values s.
     let h = c.in-Data.ensures.fronts s.x s.r s.state in
     let within = c.in-Data.ensures.within in
-    let inside = c.in-Err.ensures.err (omega (arith, within, length-take-le c.in-Data.count c.args.run.now within.1)) in
+    let size = length-take-le c.in-Data.count c.args.run.now within.1 in
+    let inside = c.in-Err.ensures.err (omega (arith, within, size)) in
     let limit = c.in-Data.ensures.limit in
-    let next = data_next g.R.RecordReader.holds g.R.RecordReader.spells ahead c.args.self.now b c.args.run.now values (c.in-Err.refused.taken + 1 - 1) h.0.0 s
-    (omega (arith, inside, h.0.2, length-take-le c.in-Data.count c.args.run.now within.1)) (omega (arith, inside, within, length-take-le c.in-Data.count c.args.run.now within.1)) (rw limit at h.0.1) in
+    let place : c.in-Err.refused.taken ≡ c.in-Err.refused.taken + 1 - 1 = omega arith in
+    let same : take c.in-Err.refused.taken (take c.in-Data.count c.args.run.now) ≡ take (c.in-Err.refused.taken + 1 - 1) c.args.run.now =
+    take_take c.in-Err.refused.taken c.in-Data.count c.args.run.now (omega (arith, inside, size)) ∙ ap (λ (n : ℕ). take n c.args.run.now) place in
+    let starved = subst (λ (y : List ℕ). g.R.RecordReader.breaks (s.r ++ y) refusal.NoMemory) same (c.in-Err.ensures.before s.r s.kept) in
+    let next = data_next g.R.RecordReader.holds g.R.RecordReader.spells ahead c.args.self.now b c.args.run.now values (c.in-Err.refused.taken + 1 - 1) h.0.0 s (MayFail g.R.RecordReader.breaks (slice_index c.args.run.now (c.in-Err.refused.taken + 1 - 1)))
+    (omega (arith, inside, h.0.2, size)) (omega (arith, inside, within, size)) (rw limit at h.0.1) (inl starved) in
     rw (c.no_memory.ensures.fault, c.no_memory.ensures.used) (inr (refl, rw limit next))
 
 pub returns-in-Err-clause-before : goal.returns-in-Err-clause-before

@@ -1,4 +1,5 @@
-use Rattle.std.proofs.Common.{◌≡◌, ℕ, List, ◌+◌, ◌-◌, ◌<◌, ◌++◌, length, ap, slice_index, arith}
+use Rattle.std.proofs.Common.{◌≡◌, ℕ, List, ◌+◌, ◌-◌, ◌<◌, ◌++◌, length, take, ap, subst, slice_index, arith}
+use Rattle.mes_stream.specs.declared.refusal.RecordRefusal.TheVariants as refusal
 use Rattle.mes_stream.proofs.GatherLemmas.{gathered_live, gathered_stops}
 use Rattle.mes_stream.proofs.chunked.ChunkedBody.take_short.Goals as goal
 
@@ -31,10 +32,11 @@ returns-in-Err-clause-tells g c = λ ahead w values s.
     let length_is = ap (λ (l : List ℕ). length l) value in
     let some : 0 < length made.bytes.items = grind (arith, c.if-is_empty.ensures, c.is_empty.ensures, c.if-is_empty.false) in
     let inside : k < length made.bytes.items = omega (arith, length_is, some, c.in-Err.ensures.err (omega (arith, length_is, some))) in
+    let starved = subst (λ (l : List ℕ). g.R.RecordReader.breaks (s.body.r ++ take k l) refusal.NoMemory) value (c.in-Err.ensures.before s.body.r s.body.kept) in
     let back : slice_index made.places.items k ≡ slice_index c.as_slice-in-Err.result.now k + 1 - 1 = omega (arith, ap (λ (l : List ℕ). slice_index l k) c.as_slice-in-Err.ensures.value) in
     rw (c.no_memory.ensures.fault, c.no_memory.ensures.used, c.pass.ensures.limit)
     (gathered_stops g.R.RecordReader.holds g.R.RecordReader.spells ahead c.args.self.now g.R.RecordReader.breaks c.gather-gathered.new.chunks w c.args.rest.now made.bytes.items made.places.items values made.used k _ s
-    (c.gather-gathered.ensures.gathers w s.content s.chunks) inside (omega (arith, c.gather-gathered.ensures.few some, c.room-most.ensures)) back)
+    (c.gather-gathered.ensures.gathers w s.content s.chunks) inside (omega (arith, c.gather-gathered.ensures.few some, c.room-most.ensures)) back starved)
 
 pub returns-in-Err-clause-before : goal.returns-in-Err-clause-before
 returns-in-Err-clause-before g c = λ ahead w values s n early.

@@ -1,10 +1,14 @@
-use Rattle.std.proofs.Common.{◌≡◌, ℕ, List, [], ◌∷◌, ◌-◌, ◌<◌, ◌++◌, length, take, ◌∙◌, ap, sym, subst, append-nil, append_assoc, arith, length-drop, take_all, Ok, Err}
+use Rattle.std.proofs.Common.{◌≡◌, ℕ, List, [], ◌∷◌, ◌-◌, ◌<◌, ◌++◌, length, take, drop, inl, ◌∙◌, ap, sym, subst, append-nil, append_assoc, arith, length-drop, take_all, Ok}
+use Rattle.std.specs.Prelude.{slice_index}
 use Rattle.std.proofs.lemmas.List.{take_rest}
 use Rattle.mes_stream.specs.Framings.{EndsIn}
-use Rattle.mes_stream.specs.StreamReaders.{StreamStands, body_of}
+use Rattle.mes_stream.specs.RecordValues.{IsRefused}
+use Rattle.mes_stream.specs.StreamReaders.{StreamStands, body_of, with_body}
+use Rattle.mes_stream.specs.declared.body.Body.{Body}
 use Rattle.mes_stream.specs.declared.taken.SoFar.TheVariants as so_far
 use Rattle.mes_stream.proofs.BodyLemmas.{stops_in, piece_on, value_on}
 use Rattle.mes_stream.proofs.StreamLemmas.{same_body}
+use Rattle.mes_stream.proofs.Wider.{refused_into, stops_wider}
 use Rattle.mes_stream.proofs.stream_reader.StreamReader.feed_on.Goals as goal
 
 pub loop-at-init : goal.loop-at-init
@@ -32,14 +36,16 @@ returns-in-Err-clause-feeds g c = λ ahead framing limit w values s.
     let told = rw rest at (c.skim-taken.ensures.tells ahead framing limit (w ++ take c.loop-at.at c.args.piece.now) (values ++ before.0) before.2) in
     let ended = rw c.in-RecordEnded.is at told in
     let into = rw c.in-Err.is at (c.end_record_into.ensures.ends ended.0 ended.1 ended.2) in
-    let refused = ended.3 (body_of c.end_record_into.new.self) (Err c.in-Err.why) c.end_record_into.ensures.records into.0 in
+    let Stands : Body g.row.R.Denot → List ℕ → List g.row.R-Value.Denot → Type 0 = λ body. StreamStands g.R.RecordReader.holds g.R.RecordReader.spells ahead (with_body c.skim-taken.new.self body) framing limit in
+    let refused = refused_into g.R.RecordReader.holds g.R.RecordReader.spells g.R.RecordReader.breaks framing ahead limit Stands (w ++ take c.loop-at.at c.args.piece.now) (values ++ before.0) (drop c.loop-at.at c.args.piece.now) c.skim-taken.result.used
+    (body_of c.skim-taken.new.self) (body_of c.end_record_into.new.self) ended.0 _ _ c.in-Err.why c.end_record_into.ensures.records ended.3 into in
     let is : c.skim-taken.result.so_far ≡ so_far.RecordEnded = c.in-RecordEnded.is in
     let some : 0 < c.skim-taken.result.used = c.skim-taken.ensures.some (λ more. absurd (cc)) in
     let lives = c.skim-taken.ensures.before ahead framing limit (w ++ take c.loop-at.at c.args.piece.now) (values ++ before.0) before.2 (c.skim-taken.result.used - 1) (omega (arith, some)) in (
       before.0,
       into.1 ∙ before.1,
       omega (arith, some),
-      rw c.refused.ensures (stops_in framing g.R.RecordReader.spells g.R.RecordReader.breaks ahead limit w c.args.piece.now (values ++ before.0) _ c.loop-at.at c.skim-taken.result.used c.loop-at.invariant.0 some
+      rw c.refused.ensures (stops_in framing g.R.RecordReader.spells (IsRefused g.R.RecordReader.spells g.R.RecordReader.breaks) ahead limit w c.args.piece.now (values ++ before.0) _ c.loop-at.at c.skim-taken.result.used c.loop-at.invariant.0 some
           (omega (arith, c.skim-taken.ensures.used, ap length rest)) (rw rest at lives) refused),
     )
 
@@ -84,8 +90,10 @@ returns-in-Fault-clause-feeds g c = λ ahead framing limit w values s.
       before.0,
       before.1,
       omega (arith, some),
-      rw c.in-Fault.fault-is (stops_in framing g.R.RecordReader.spells g.R.RecordReader.breaks ahead limit w c.args.piece.now (values ++ before.0) _ c.loop-at.at c.skim-taken.result.used c.loop-at.invariant.0 some
-          (omega (arith, c.skim-taken.ensures.used, ap length rest)) (rw rest at lives) (rw c.in-Fault.is at told)),
+      rw c.in-Fault.fault-is (stops_in framing g.R.RecordReader.spells (IsRefused g.R.RecordReader.spells g.R.RecordReader.breaks) ahead limit w c.args.piece.now (values ++ before.0) _ c.loop-at.at c.skim-taken.result.used c.loop-at.invariant.0 some
+          (omega (arith, c.skim-taken.ensures.used, ap length rest)) (rw rest at lives)
+          (stops_wider g.R.RecordReader.spells g.R.RecordReader.breaks (IsRefused g.R.RecordReader.spells g.R.RecordReader.breaks) (λ r why h. inl h) framing ahead limit ((w ++ take c.loop-at.at c.args.piece.now) ++ take (c.skim-taken.result.used - 1) (drop c.loop-at.at c.args.piece.now)) (values ++ before.0)
+          (slice_index (drop c.loop-at.at c.args.piece.now) (c.skim-taken.result.used - 1)) _ (rw c.in-Fault.is at told))),
     )
 
 pub returns-clause-feeds : goal.returns-clause-feeds

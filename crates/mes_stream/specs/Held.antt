@@ -1,0 +1,37 @@
+-- How many bytes of records a reader holds: the sum over all its fields. Each definition takes its type apart and names every field, so a
+-- field that is added needs a term here.
+use Rattle.std.specs.Prelude.{ℕ, ◌+◌}
+use Rattle.mes_stream.specs.declared.body.Body.{Body}
+use Rattle.mes_stream.specs.declared.chunked.ChunkedBody.{ChunkedBody}
+use Rattle.mes_stream.specs.declared.decoder.RecordDecoder.{RecordDecoder}
+use Rattle.mes_stream.specs.declared.decoder.State.{State}
+use Rattle.mes_stream.specs.declared.decoder.State.TheVariants as state
+use Rattle.mes_stream.specs.declared.reading.Reading.{Reading}
+use Rattle.mes_stream.specs.declared.stream_reader.StreamReader.{StreamReader}
+use Rattle.mes_stream.specs.declared.stream_reader.StreamReader.TheVariants as reader
+
+-- a field of fixed size, which holds no byte of a record: a number, a state of the framing, an allocator, how a stream ended, the bytes
+-- after the end
+abbrev pub fixed : {A : Type 0} → A → ℕ
+fixed field = 0
+
+-- by what the reader of records holds
+abbrev pub held_by_body : {R : Type 0} → (R → ℕ) → Body R → ℕ
+held_by_body kept d = let record { records = records; reader = inner; done = done } = d in fixed records + kept inner + fixed done
+
+abbrev pub held_by_chunked : {R : Type 0} → (R → ℕ) → ChunkedBody R → ℕ
+held_by_chunked kept d = let record { chunks = chunks; body = body } = d in fixed chunks + held_by_body kept body
+
+abbrev pub held_by_stream : {R : Type 0} → (R → ℕ) → StreamReader R → ℕ
+held_by_stream kept (reader.Plain body) = held_by_body kept body
+held_by_stream kept (reader.Chunked chunked) = held_by_chunked kept chunked
+
+abbrev pub held_by_state : {R : Type 0} → (R → ℕ) → State R → ℕ
+held_by_state kept (state.Going stream) = held_by_stream kept stream
+held_by_state kept (state.Ended end) = fixed end
+
+abbrev pub held_by_decoder : {R : Type 0} → (R → ℕ) → RecordDecoder R → ℕ
+held_by_decoder kept d = let record { state = now } = d in held_by_state kept now
+
+abbrev pub held_by_reading : {R : Type 0} → (R → ℕ) → Reading R → ℕ
+held_by_reading kept d = let record { stream = stream; used = used; rest = rest } = d in held_by_stream kept stream + fixed used + fixed rest
