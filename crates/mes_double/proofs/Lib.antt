@@ -12,6 +12,7 @@ pub mod Keyed
 pub mod ListLemmas
 pub mod MakeLemmas
 pub mod OneLemmas
+pub mod PromiseLemmas
 pub mod RanLemmas
 pub mod ReachLemmas
 pub mod RepeatLemmas

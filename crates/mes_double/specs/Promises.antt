@@ -100,3 +100,15 @@ HandAgrees c = (stream : List ℕ) → c.world.master.stream ≡ Some stream
 -- Where a stream is current, nothing waits and all has arrived, the hand is what is outstanding.
 abbrev pub AllAgrees : Course → Type 0
 AllAgrees c = (stream : List ℕ) → c.world.master.stream ≡ Some stream → c.world.waiting ≡ [] → not_arrived c ≡ [] → c.world.session.hand ≡ c.world.master.outstanding
+
+-- ---- all of them
+
+-- the laws of every world, whatever is lost, delayed or repeated on the way
+pub record KeepsPromises (c : Course) : Type 0 where
+  pub acked : AckedWereHeard c
+  pub launched : LaunchedOnce c
+  pub taken : TakenOnce c
+  pub fits : WhatRanFits c
+  pub again : AgainMovesNothing c
+  pub agrees : HandAgrees c
+  pub same : AllAgrees c

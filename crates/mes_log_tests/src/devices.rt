@@ -1,7 +1,10 @@
 //! Logs that come in pieces, that break off and that fail.
 
-use crate::support::{BREAK, BROKEN, HEADER_TWICE, Log, READS, VERSION_1, VERSION_2, told};
-use mes_frame::{FromStd, MemorySource};
+use crate::support::{
+    BREAK, BROKEN, HEADER_TWICE, Log, READS, VERSION_1, VERSION_2, in_words, told,
+};
+use mes_frame::{FromStd, Limit, MemorySource};
+use mes_log::read_log;
 use std::alloc::Global;
 use std::io::Read;
 use std::process::Abort;
@@ -76,4 +79,40 @@ fn expect_cuts<A: Abort>(rt: &A, alloc: Global, log: &Log, words: &str) -> Resul
 fn every_cut_into_two_reads(rt: HostRuntime) -> Result<(), Fail> {
     expect_cuts(&rt, rt.alloc(), &VERSION_1, "EC ok 121")?;
     expect_cuts(&rt, rt.alloc(), &VERSION_2, "EBC ok 127")
+}
+
+/// A log of version 2 of exactly 512 bytes, the most that one read returns: the header and 169 breaks. The size line of the last break
+/// has two leading zeros.
+fn log_of_one_read(alloc: Global) -> Result<Vec<u8>, Fail> {
+    let mut log = Vec::new(alloc);
+    log.extend_from_slice(b"1\n2")?;
+    for _ in 0..168 {
+        log.extend_from_slice(b"1\nB")?;
+    }
+    log.extend_from_slice(b"001\nB")?;
+    Ok(log)
+}
+
+/// Reads that log from a source that returns up to 512 bytes per read. Expects its entries, this outcome, and `max_reads` reads.
+fn expect_whole_reads<A: Abort>(
+    rt: &A,
+    alloc: Global,
+    max_reads: u64,
+    words: &str,
+) -> Result<(), Fail> {
+    let log = log_of_one_read(alloc)?;
+    let mut source = MemorySource::new(log.as_slice(), 512);
+    let mut entries = Vec::new(alloc);
+    let outcome = read_log(alloc, &mut source, Limit::USUAL, max_reads, &mut entries);
+    assert_eq!(rt; in_words(alloc, &[], &outcome)?.as_str(), words);
+    assert_eq!(rt; entries.len(), 169);
+    assert_eq!(rt; source.counts().calls, max_reads);
+    Ok(())
+}
+
+/// One read takes all 512 bytes, and a second one finds the end. No clause says that a read asks for 512 bytes.
+#[test]
+fn reads_take_what_there_is(rt: HostRuntime) -> Result<(), Fail> {
+    expect_whole_reads(&rt, rt.alloc(), 2, " ok 512")?;
+    expect_whole_reads(&rt, rt.alloc(), 1, " fault F15 ReadsSpent after 512")
 }

@@ -151,3 +151,22 @@ fn every_failing_write(rt: HostRuntime) -> Result<(), Fail> {
     }
     Ok(())
 }
+
+/// How many bytes a writer takes per call, and how many calls the log of 127 bytes needs then.
+const CALLS: &[(usize, u64)] = &[(512, 1), (127, 1), (126, 2), (64, 2), (1, 127)];
+
+/// Each call hands the writer all that is left. No clause says so: it bounds the calls by the bytes of the log.
+#[test]
+fn writes_are_as_few_as_the_writer_allows(rt: HostRuntime) -> Result<(), Fail> {
+    let entries = entries_of(rt.alloc(), BROKEN)?;
+    for (most, calls) in CALLS {
+        let mut sink = MemorySink::new(rt.alloc(), *most);
+        assert_eq!(rt;
+            write_log(rt.alloc(), &mut sink, entries.as_slice(), Limit::USUAL),
+            Ok(())
+        );
+        assert_eq!(rt; sink.bytes(), BROKEN);
+        assert_eq!(rt; sink.counts().calls, *calls);
+    }
+    Ok(())
+}

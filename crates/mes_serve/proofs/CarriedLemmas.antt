@@ -29,7 +29,7 @@ subscribed_stream m (uuid ∷ uuids) e = refl
 not_both : (n : ℕ) → n ≡ 202 → n ≡ 200 → ⊥
 not_both n carried ok = omega arith
 
-not_carried : (m : MasterState) (call : Call) (b : Bool) → (if b then carried_out m call else plain 400 m).status ≡ 200 → ⊥
+pub not_carried : (m : MasterState) (call : Call) (b : Bool) → (if b then carried_out m call else plain 400 m).status ≡ 200 → ⊥
 not_carried m call true e = not_both (carried_out m call).status (carried_status m call) e
 not_carried m call false e = omega arith
 

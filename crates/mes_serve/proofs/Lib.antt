@@ -1,3 +1,4 @@
 mod CarriedLemmas
 mod OpeningLemmas
+mod StreamLemmas
 mod WritingLemmas

@@ -1,6 +1,7 @@
 pub use Rattle.mes_master.specs.Masters
 pub use Rattle.mes_master.specs.Runs
 pub mod Opening
+pub mod OneStream
 pub mod Asking
 pub mod Replying
 pub mod Writing

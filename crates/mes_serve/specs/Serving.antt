@@ -7,6 +7,7 @@ use Rattle.mes_frame.specs.declared.write.WriteFault.{WriteFault}
 use Rattle.mes_master.specs.Masters.{MasterState}
 use Rattle.mes_serve.specs.Asking.{IsAsked}
 use Rattle.mes_serve.specs.Lines.{Tells, is_answered, served_lines}
+use Rattle.mes_serve.specs.OneStream.{IsStreamReply}
 use Rattle.mes_serve.specs.Replying.{Replies}
 use Rattle.mes_serve.specs.Writing.{Writes}
 use Rattle.mes_serve.specs.declared.asked.Asked.{Asked}
@@ -24,6 +25,8 @@ pub record ServesOne (before : MasterState) (given : List Event) (most : ℕ) (i
   -- it was answered, which left the master so
   pub reply : Reply
   pub replies : Replies before given asked reply later
+  -- a stream has SUBSCRIBED and then some of the given events, in their order, each at most once
+  pub one : IsStreamReply before given reply
   pub sent : Result (Unit {0}) Unsent
   pub writes : Writes most reply writer written sent
   -- and that was printed

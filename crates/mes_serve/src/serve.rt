@@ -18,7 +18,8 @@ use std::alloc::Global;
 /// A request that names another target is answered 404, one of another method 405, one whose reader fails or ends in its body nothing,
 /// any other that is refused, or whose body is no call, 400; else the master's answer to its call counts. Where that is 200, the stream
 /// is written in chunks of `most` bytes: SUBSCRIBED, and then these events, OFFERS, RESCIND and UPDATE through the master;
-/// one that it refuses and a SUBSCRIBED are skipped. All are encoded before the first byte is written. The events of any other answer
+/// one that it refuses and a SUBSCRIBED are skipped. So each event goes out at most once, in order, and no RESCIND is repeated
+/// (`serve_laws`). All are encoded before the first byte is written. The events of any other answer
 /// are dropped, since its stream has closed. Refused memory before its first byte, nothing is answered. Errors: the line was not
 /// printed, or not whole.
 pub fn serve_one<R: Source, W: Sink, O: Sink>(

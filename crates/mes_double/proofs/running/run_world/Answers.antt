@@ -1,4 +1,5 @@
-use Rattle.mes_double.proofs.RunningLemmas.{so-far-begun, so-far-next, so-far-whole}
+use Rattle.mes_double.proofs.PromiseLemmas.{so-far-kept}
+use Rattle.mes_double.proofs.RunningLemmas.{so-far-begun, so-far-next}
 use Rattle.mes_double.proofs.WantLemmas.{anyway, so-far-wants}
 use Rattle.mes_double.proofs.running.run_world.Goals as goal
 
@@ -11,7 +12,7 @@ loop-next-preserved c =
     c.loop-next-test.true c.next-item.is c.in_ok-make.ensures.ok
 
 pub returns-clause-ok : goal.returns-clause-ok
-returns-clause-ok c = so-far-whole c.args.framework c.args.ids.items c.args.moves.now c.loop-next.next-index c.loop-next.world c.loop-next.invariant c.loop-next-test.false
+returns-clause-ok c = so-far-kept c.args.framework c.args.ids.items c.args.moves.now c.loop-next.next-index c.loop-next.world c.loop-next.invariant c.loop-next-test.false
 
 pub returns-in_err-make-clause-memory : goal.returns-in_err-make-clause-memory
 returns-in_err-make-clause-memory c =
