@@ -1,11 +1,11 @@
-/* What stands between a C program and the proved functions of crates/mes_c: it refuses null pointers, and ends texts by a NUL. */
+/* What stands between a C program and the proved functions of crates/mesosev_c: it refuses null pointers, and ends texts by a NUL. */
 #include "mesosev.h"
 
 #include <string.h>
 
 #define PUBLIC __attribute__((visibility("default")))
 
-/* What the proved functions take and give (crates/mes_c/src/exports.rt, rows.rt, handle.rt). */
+/* What the proved functions take and give (crates/mesosev_c/src/exports.rt, rows.rt, handle.rt). */
 struct counts {
     uint64_t events;
     uint64_t used;

@@ -8,11 +8,11 @@ use Rattle.std.proofs.lemmas.List.Sorted.{IsPermutation-refl, IsPermutation-cons
 use Rattle.std.proofs.lemmas.Slice.Eq.{bytes_eq-Decides}
 use Rattle.mes_model.specs.Id.{Id}
 use Rattle.mes_model.specs.Offer.{Offer}
-use Rattle.mes_hand.specs.Keeping.{put}
-use Rattle.mes_hand.specs.Held.{name_of, offer_in, names, with_offers}
-use Rattle.mes_hand.specs.Refusals.{stands_in, stands_twice, offers_named}
-use Rattle.mes_master.specs.Masters.{is_there}
-use Rattle.mes_master.proofs.AgainLemmas.{same_text}
+use Rattle.mes_session_state.specs.Keeping.{put}
+use Rattle.mes_session_state.specs.Held.{name_of, offer_in, names, with_offers}
+use Rattle.mes_session_state.specs.Refusals.{is_among, is_duplicated, offers_named}
+use Rattle.mes_double_master.specs.Masters.{is_there}
+use Rattle.mes_double_master.proofs.AgainLemmas.{same_text}
 use Rattle.mes_double.proofs.ListLemmas.{apart}
 use Rattle.mes_double.proofs.CountLemmas.{count, count-first, count-later, count-found, same-in}
 
@@ -177,7 +177,7 @@ module _ (out hand : List Offer) (all : AllSame out hand) where
 -- ---- where all that are named are there, those taken away are these, in another order
 
 -- one more is named, and one more is taken
-one-more : (d : Id) (ds : List Id) (x : Offer) (out : List Offer) → ((n : List ℕ) → count n out ≤ 1) → offer_in out d.value ≡ Some x → stands_in d ds ≡ false
+one-more : (d : Id) (ds : List Id) (x : Offer) (out : List Offer) → ((n : List ℕ) → count n out ≤ 1) → offer_in out d.value ≡ Some x → is_among d ds ≡ false
     → IsPermutation (x ∷ filter (names ds) out) (filter (names (d ∷ ds)) out)
 one-more d ds x [] once e none = absurd (cc)
 one-more d ds x (y ∷ ys) once e none =
@@ -198,10 +198,10 @@ one-more d ds x (y ∷ ys) once e none =
     far : bytes_eq d.value (name_of y) ≡ true → names ds y ≡ false
     far f = go ds none
       where
-        go : (es : List Id) → stands_in d es ≡ false → names es y ≡ false
+        go : (es : List Id) → is_among d es ≡ false → names es y ≡ false
         go [] n = refl
         go (e ∷ es) n =
-            let p : (bytes_eq d.value e.value ≡ false) × (stands_in d es ≡ false) = or_parts _ _ n in
+            let p : (bytes_eq d.value e.value ≡ false) × (is_among d es ≡ false) = or_parts _ _ n in
             let q : bytes_eq e.value (name_of y) ≡ false = turn (bytes_eq e.value (name_of y)) refl p.0 in
             (λ i. q i || go es p.1 i)
           where
@@ -231,16 +231,16 @@ none-named : (out : List Offer) → filter (names []) out ≡ []
 none-named [] = refl
 none-named (o ∷ out) = none-named out
 
-pub taken-are : (ids : List Id) (xs out : List Offer) → ((n : List ℕ) → count n out ≤ 1) → AreOf ids xs → AllSame out xs → list_all (is_there out) ids ≡ true → stands_twice ids ≡ false
+pub taken-are : (ids : List Id) (xs out : List Offer) → ((n : List ℕ) → count n out ≤ 1) → AreOf ids xs → AllSame out xs → list_all (is_there out) ids ≡ true → is_duplicated ids ≡ false
     → IsPermutation xs (filter (names ids) out)
 taken-are [] [] out once are same there apart_ids = subst (IsPermutation []) (sym (none-named out)) (IsPermutation-refl [])
 taken-are [] (x ∷ xs) out once are same there apart_ids = absurd are
 taken-are (d ∷ ds) [] out once are same there apart_ids = absurd are
 taken-are (d ∷ ds) (x ∷ xs) out once are same there apart_ids =
     let parts : (is_there out d ≡ true) × (list_all (is_there out) ds ≡ true) = and_parts _ _ there in
-    let distinct : (stands_in d ds ≡ false) × (stands_twice ds ≡ false) = or_parts _ _ apart_ids in
-    let stands : 1 ≤ count (name_of x) out = subst (λ (n : List ℕ). 1 ≤ count n out) (sym are.0) (count-found d.value out (λ none. absurd (let f : is_some (offer_in out d.value) ≡ false = ap is_some none in let g : is_there out d ≡ true = parts.0 in cc))) in
-    let found : offer_in out d.value ≡ Some x = subst (λ (n : List ℕ). offer_in out n ≡ Some x) are.0 (same.0 stands) in
+    let distinct : (is_among d ds ≡ false) × (is_duplicated ds ≡ false) = or_parts _ _ apart_ids in
+    let represents : 1 ≤ count (name_of x) out = subst (λ (n : List ℕ). 1 ≤ count n out) (sym are.0) (count-found d.value out (λ none. absurd (let f : is_some (offer_in out d.value) ≡ false = ap is_some none in let g : is_there out d ≡ true = parts.0 in cc))) in
+    let found : offer_in out d.value ≡ Some x = subst (λ (n : List ℕ). offer_in out n ≡ Some x) are.0 (same.0 represents) in
     IsPermutation-trans (x ∷ xs) (x ∷ filter (names ds) out) (filter (names (d ∷ ds)) out)
     (IsPermutation-cons x xs (filter (names ds) out) (taken-are ds xs out once are.1 same.1 parts.1 distinct.1))
     (one-more d ds x out once found distinct.0)

@@ -14,13 +14,13 @@ use Rattle.mes_model.specs.OwedKey.{OwedKey}
 use Rattle.mes_model.specs.TaskInfo.{TaskInfo}
 use Rattle.mes_msg.specs.Call.{Call}
 use Rattle.mes_msg.specs.Call.TheVariants as of
-use Rattle.mes_fit.specs.Keys.{key_of}
-use Rattle.mes_fit.specs.Fits.{Piece, point, item, in_range, in_ranges, in_items, piece_in, amount, offered, asked, others, is_free, Breaks, BreaksAt}
-use Rattle.mes_hand.specs.declared.refusal.Refusal.{Refusal}
-use Rattle.mes_hand.specs.declared.refusal.Refusal.TheVariants.{NotSubscribed, NamedTwice, NoSuchOffer, TwoAgents, WrongAgent, Exceeds, NotOwed}
-use Rattle.mes_hand.specs.Held.{Held, offer_in, is_owed}
-use Rattle.mes_hand.specs.Refusals.{IsStrange, IsAnother, IsForeign, asked_by, IsFaulty, as_told, Answers, stands_twice, ids_of, offers_named, has_two_agents, is_elsewhere}
-use Rattle.mes_hand.proofs.FirstLemmas.{first-1, first-2, first-3, first-4, first-5, first-6, first-7, none-of}
+use Rattle.mes_session_fit.specs.Keys.{key_of}
+use Rattle.mes_session_fit.specs.Fits.{Piece, point, item, in_range, in_ranges, in_items, piece_in, amount, offered, asked, others, is_free, Breaks, BreaksAt}
+use Rattle.mes_session_state.specs.declared.refusal.Refusal.{Refusal}
+use Rattle.mes_session_state.specs.declared.refusal.Refusal.TheVariants.{NotSubscribed, NamedTwice, NoSuchOffer, TwoAgents, WrongAgent, Exceeds, NotOwed}
+use Rattle.mes_session_state.specs.Held.{Held, offer_in, is_owed}
+use Rattle.mes_session_state.specs.Refusals.{IsOtherFramework, IsOtherSubscription, IsForeign, asked_by, IsFaulty, as_reported, Answers, is_duplicated, ids_of, offers_named, has_two_agents, is_elsewhere}
+use Rattle.mes_session_state.proofs.FirstLemmas.{first-1, first-2, first-3, first-4, first-5, first-6, first-7, none-of}
 use Rattle.mes_double.proofs.SearchLemmas.{is-true, is-false, is-none, is-less, both, Search, found, nowhere, search, some, search-list}
 
 -- ---- pieces of a value that are not free
@@ -173,24 +173,24 @@ differs (Some known) framework = by (same-id known framework)
     by (yes e) = no (λ (f : Some known ≢ Some framework). f (ap (λ (d : Id). Some d) e))
     by (no f) = yes (λ (e : Some known ≡ Some framework). let same : known ≡ framework = cc in f same)
 
-strange : (held : Held) (framework : Id) → Dec (IsStrange held framework)
+strange : (held : Held) (framework : Id) → Dec (IsOtherFramework held framework)
 strange held framework = both (is-false held.connected) (differs held.framework framework)
 
-another : (held : Held) (framework : Option Id) → Dec (IsAnother held framework)
+another : (held : Held) (framework : Option Id) → Dec (IsOtherSubscription held framework)
 another held framework = by held.framework framework refl refl
   where
-    apart : (known named : Id) → held.framework ≡ Some known → framework ≡ Some named → Dec (named ≡ known) → Dec (IsAnother held framework)
+    apart : (known named : Id) → held.framework ≡ Some known → framework ≡ Some named → Dec (named ≡ known) → Dec (IsOtherSubscription held framework)
     apart known named e f (no g) = yes (known, named, e, f, g)
-    apart known named e f (yes g) = no (λ (h : IsAnother held framework).
+    apart known named e f (yes g) = no (λ (h : IsOtherSubscription held framework).
         let k : Some h.0 ≡ Some known = sym h.2 ∙ e in
         let n : Some h.1 ≡ Some named = sym h.3 ∙ f in
         let same : h.0 ≡ known = cc in
         let as_named : h.1 ≡ named = cc in
         h.4 (as_named ∙ g ∙ sym same))
 
-    by : (o p : Option Id) → held.framework ≡ o → framework ≡ p → Dec (IsAnother held framework)
-    by None p e f = no (λ (h : IsAnother held framework). let k : Some h.0 ≡ None = sym h.2 ∙ e in absurd (cc))
-    by (Some known) None e f = no (λ (h : IsAnother held framework). let n : Some h.1 ≡ None = sym h.3 ∙ f in absurd (cc))
+    by : (o p : Option Id) → held.framework ≡ o → framework ≡ p → Dec (IsOtherSubscription held framework)
+    by None p e f = no (λ (h : IsOtherSubscription held framework). let k : Some h.0 ≡ None = sym h.2 ∙ e in absurd (cc))
+    by (Some known) None e f = no (λ (h : IsOtherSubscription held framework). let n : Some h.1 ≡ None = sym h.3 ∙ f in absurd (cc))
     by (Some known) (Some named) e f = apart known named e f (same-id named known)
 
 foreign : (held : Held) (call : Call) → Dec (IsForeign held call)
@@ -237,11 +237,11 @@ module _ (held : Held) (call : Call) where
     seventh s6 (no s7) = (None, none-of F s1 s2 s3 s4 s5 s6 s7 (λ f. f))
 
     sixth : Breach accepted (asked_by call).tasks → Answer
-    sixth (breach i j f before) = (Some (as_told (Exceeds i j)), (Exceeds i j, refl, first-6 F s1 s2 s3 s4 s5 i j f before))
+    sixth (breach i j f before) = (Some (as_reported (Exceeds i j)), (Exceeds i j, refl, first-6 F s1 s2 s3 s4 s5 i j f before))
     sixth (unbroken none) = seventh none (not-owed held.owed (asked_by call).acknowledged)
 
   fifth : (F NotSubscribed → ⊥) → (F NamedTwice → ⊥) → ((k : ℕ) → F (NoSuchOffer k) → ⊥) → (F TwoAgents → ⊥) → Search (λ k. F (WrongAgent k)) → Answer
-  fifth s1 s2 s3 s4 (found i f before) = (Some (as_told (WrongAgent i)), (WrongAgent i, refl, first-5 F s1 s2 s3 s4 i f before))
+  fifth s1 s2 s3 s4 (found i f before) = (Some (as_reported (WrongAgent i)), (WrongAgent i, refl, first-5 F s1 s2 s3 s4 i f before))
   fifth s1 s2 s3 s4 (nowhere none) = sixth s1 s2 s3 s4 none (first-breach accepted (asked_by call).tasks)
 
   fourth : (F NotSubscribed → ⊥) → (F NamedTwice → ⊥) → ((k : ℕ) → F (NoSuchOffer k) → ⊥) → Dec (F TwoAgents) → Answer
@@ -258,7 +258,7 @@ module _ (held : Held) (call : Call) where
 
   first : Dec (F NotSubscribed) → Answer
   first (yes f) = (Some NotSubscribed, (NotSubscribed, refl, first-1 F f))
-  first (no s1) = second s1 (both (is-true (stands_twice (asked_by call).named)) (is-true (stands_twice (ids_of (asked_by call).tasks))))
+  first (no s1) = second s1 (both (is-true (is_duplicated (asked_by call).named)) (is-true (is_duplicated (ids_of (asked_by call).tasks))))
 
   pub some-answer : Answer
   some-answer = first (foreign held call)

@@ -5,11 +5,11 @@ use Rattle.std.specs.Str.{bytes_eq}
 use Rattle.std.proofs.lemmas.Slice.Eq.{bytes_eq-Decides}
 use Rattle.mes_model.specs.Id.{Id}
 use Rattle.mes_model.specs.Offer.{Offer}
-use Rattle.mes_hand.specs.Keeping.{put}
-use Rattle.mes_hand.specs.Held.{name_of, offer_in, names, with_offers, without_offers}
-use Rattle.mes_master.specs.Sending.{offer_ids, comes_again}
-use Rattle.mes_master.proofs.AgainLemmas.{same_text}
-use Rattle.mes_master.proofs.RunLemmas.{times, times-append, Once, offered-once}
+use Rattle.mes_session_state.specs.Keeping.{put}
+use Rattle.mes_session_state.specs.Held.{name_of, offer_in, names, with_offers, without_offers}
+use Rattle.mes_double_master.specs.Sending.{offer_ids, is_duplicate}
+use Rattle.mes_double_master.proofs.AgainLemmas.{same_text}
+use Rattle.mes_double_master.proofs.RunLemmas.{times, times-append, Once, offered-once}
 
 abbrev pub count : List ℕ → List Offer → ℕ
 count x os = times x (offer_ids os)
@@ -56,7 +56,7 @@ count-found x (o ∷ os) some = by (bytes_eq x (name_of o)) refl some (count-fou
     by false e some rest = count-later x o os (rest (λ none. some (rw e none)))
 
 -- new identifiers are none of those that were offered
-pub new-apart : (offered : List Id) (news : List Offer) → Once offered → comes_again offered (offer_ids news) ≡ false → (x : List ℕ) → times x offered + count x news ≤ 1
+pub new-apart : (offered : List Id) (news : List Offer) → Once offered → is_duplicate offered (offer_ids news) ≡ false → (x : List ℕ) → times x offered + count x news ≤ 1
 new-apart offered news once none x = omega (arith, offered-once offered (offer_ids news) none once x, times-append x offered (offer_ids news))
 
 -- an offer of a name that is named is named too

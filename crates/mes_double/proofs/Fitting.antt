@@ -14,19 +14,19 @@ use Rattle.mes_msg.specs.Call.{Call}
 use Rattle.mes_msg.specs.Call.TheVariants as of
 use Rattle.mes_msg.specs.Accept.{Accept}
 use Rattle.mes_msg.specs.declared.entry.Entry.TheVariants.{Heard, Said}
-use Rattle.mes_fit.specs.Fits.{Fits}
-use Rattle.mes_fit.specs.Launched.{launched, launched_by}
-use Rattle.mes_fit.proofs.FitsLemmas.{fits-none}
-use Rattle.mes_hand.specs.declared.refusal.Refusal.TheVariants.{NamedTwice, Exceeds}
-use Rattle.mes_hand.specs.Held.{Held, name_of, names, with_offers, without_offer}
-use Rattle.mes_hand.specs.Calls.{named_by, accepted_by, tasks_of}
-use Rattle.mes_hand.specs.Refusals.{Answers, stands_twice, offers_named}
+use Rattle.mes_session_fit.specs.Fits.{Fits}
+use Rattle.mes_session_fit.specs.Launched.{launched, launched_by}
+use Rattle.mes_session_fit.proofs.FitsLemmas.{fits-none}
+use Rattle.mes_session_state.specs.declared.refusal.Refusal.TheVariants.{NamedTwice, Exceeds}
+use Rattle.mes_session_state.specs.Held.{Held, name_of, names, with_offers, without_offer}
+use Rattle.mes_session_state.specs.Calls.{named_by, accepted_by, tasks_of}
+use Rattle.mes_session_state.specs.Refusals.{Answers, is_duplicated, offers_named}
 use Rattle.mes_session.specs.History.{offers_of, takes_offer}
-use Rattle.mes_master.specs.Masters.{MasterState, MasterAnswer, plain, subscribed, accepted, reconciled_event, update_event, asked_for, is_there, all_there, carried_out, handled}
-use Rattle.mes_master.specs.Sending.{offer_ids, comes_again, made}
-use Rattle.mes_master.proofs.AgainLemmas.{IsOpen, carried}
-use Rattle.mes_master.proofs.FitLemmas.{fits-nothing, fits-ran}
-use Rattle.mes_master.proofs.RunLemmas.{times}
+use Rattle.mes_double_master.specs.Masters.{MasterState, MasterAnswer, plain, subscribed, accepted, reconciled_event, update_event, asked_for, is_there, all_there, carried_out, handled}
+use Rattle.mes_double_master.specs.Sending.{offer_ids, is_duplicate, made}
+use Rattle.mes_double_master.proofs.AgainLemmas.{IsOpen, carried}
+use Rattle.mes_double_master.proofs.FitLemmas.{fits-nothing, fits-ran}
+use Rattle.mes_double_master.proofs.RunLemmas.{times}
 use Rattle.mes_double.specs.declared.moves.Move.{Move}
 use Rattle.mes_double.specs.declared.sent.Sent.{Sent}
 use Rattle.mes_double.specs.Courses.{Arrival, Course, begun, Leads, IsCourse}
@@ -40,14 +40,14 @@ use Rattle.mes_double.proofs.Joined.{Joined}
 use Rattle.mes_double.proofs.JoinedRuns.{joined-turn, joined-begun}
 use Rattle.mes_double.proofs.RanLemmas.{Counted, counted-turn, counted-begun}
 use Rattle.mes_double.proofs.TurnLemmas.{Turn, turn, to_sent, to_heard, to_wished, arrival_of, to_answered}
-use Rattle.mes_double.proofs.TurnLemmas.Turn.{skips, offers, rescinds, tells, tells_owing, resends, hears, wishes, refuses, opens, carries, resubscribes}
+use Rattle.mes_double.proofs.TurnLemmas.Turn.{skips, offers, rescinds, reports, tells_owing, resends, hears, wishes, refuses, opens, carries, resubscribes}
 
 -- the offers that a call accepted when it was said: its tasks fit them, and where they are outstanding they are the same
 pub record Given (out : List Offer) (p : Sent) : Type 0 where
   pub list : List Offer
   pub are : AreOf (accepted_by p.call) list
   pub same : AllSame out list
-  pub distinct : stands_twice (accepted_by p.call) ≡ false
+  pub distinct : is_duplicated (accepted_by p.call) ≡ false
   pub fits : Fits list (tasks_of p.call)
 
 pub record Fitted (c : Course) : Type 0 where
@@ -122,13 +122,13 @@ accepted-at call i d e = elim (accepts-all call) [
   | inr f ↦ absurd (let g : None ≡ Some d = ap (λ (l : List Id). slice_get l i) (sym f) ∙ e in cc)
 ]
 
-accepted-once : (s : Held) (call : Call) → Answers s call None → stands_twice (accepted_by call) ≡ false
+accepted-once : (s : Held) (call : Call) → Answers s call None → is_duplicated (accepted_by call) ≡ false
 accepted-once s call said = elim (accepts-all call) [
-  | inl f ↦ ap stands_twice f ∙ by (stands_twice (named_by call)) refl
-  | inr f ↦ ap stands_twice f
+  | inl f ↦ ap is_duplicated f ∙ by (is_duplicated (named_by call)) refl
+  | inr f ↦ ap is_duplicated f
 ]
   where
-    by : (b : Bool) → stands_twice (named_by call) ≡ b → stands_twice (named_by call) ≡ false
+    by : (b : Bool) → is_duplicated (named_by call) ≡ b → is_duplicated (named_by call) ≡ false
     by false e = e
     by true e = absurd (said NamedTwice (inl e))
 
@@ -151,7 +151,7 @@ are-named (d ∷ ds) (y ∷ ys) x a h = by (bytes_eq (name_of x) (name_of y)) re
 module _ (c : Course) (j : Joined c) (k : Counted c) (t : Fitted c) where
   -- ---- offers are made
 
-  module _ (list : List Offer) (none : comes_again c.world.master.offered (offer_ids list) ≡ false) where
+  module _ (list : List Offer) (none : is_duplicate c.world.master.offered (offer_ids list) ≡ false) where
     -- what was offered before is another
     more : (xs : List Offer) → ((x : Offer) → 1 ≤ count (name_of x) xs → 1 ≤ times (name_of x) c.world.master.offered) → AllSame c.world.master.outstanding xs
         → AllSame (with_offers c.world.master.outstanding list) xs
@@ -315,7 +315,7 @@ fitted-turn : (c d : Course) → Turn c d → Joined c → Counted c → Fitted 
 fitted-turn c d (skips e) j k t = subst Fitted (sym e) (record { hand = t.hand; waiting = t.waiting; given = t.given; fits = t.fits })
 fitted-turn c d (offers list none e) j k t = subst Fitted (sym e) (offers-fit c j k t list none)
 fitted-turn c d (rescinds id e) j k t = subst Fitted (sym e) (rescind-fit c t id)
-fitted-turn c d (tells status none e) j k t = subst Fitted (sym e) (told-fit c t _ status refl)
+fitted-turn c d (reports status none e) j k t = subst Fitted (sym e) (told-fit c t _ status refl)
 fitted-turn c d (tells_owing status key some e) j k t = subst Fitted (sym e) (told-fit c t _ status refl)
 fitted-turn c d (resends index x there e) j k t = subst Fitted (sym e) (told-fit c t _ x.1 refl)
 fitted-turn c d (hears x events w e) j k t = subst Fitted (sym e) (hear-fit c j k t x events w)

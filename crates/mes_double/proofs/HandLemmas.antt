@@ -7,10 +7,10 @@ use Rattle.mes_model.specs.Offer.{Offer}
 use Rattle.mes_model.specs.TaskStatus.{TaskStatus}
 use Rattle.mes_msg.specs.Event.{Event}
 use Rattle.mes_msg.specs.declared.entry.Entry.TheVariants.{Heard}
-use Rattle.mes_hand.specs.Keeping.{put}
-use Rattle.mes_hand.specs.Held.{Held, name_of, with_offers}
+use Rattle.mes_session_state.specs.Keeping.{put}
+use Rattle.mes_session_state.specs.Held.{Held, name_of, with_offers}
 use Rattle.mes_session.specs.History.{after, offers_of, takes_offer}
-use Rattle.mes_master.specs.Masters.{reconciled_event}
+use Rattle.mes_double_master.specs.Masters.{reconciled_event}
 use Rattle.mes_double.proofs.CountLemmas.{count, count-append, count-first, count-later}
 use Rattle.mes_double.proofs.ListLemmas.{filter-all, filter-turn}
 
@@ -62,6 +62,6 @@ module _ (q : Offer → Bool) (alike : (a b : Offer) → name_of a ≡ name_of b
       (λ o h. stay o (omega (arith, h, count-append (name_of o) (offers_of (Heard e)) (brought events))))
 
 -- statuses that are told leave the hand as it is
-pub hears-told : (s : Held) (statuses : List TaskStatus) → (hears s (map reconciled_event statuses)).hand ≡ s.hand
-hears-told s [] = refl
-hears-told s (status ∷ statuses) = hears-told (after s (Heard (reconciled_event status))) statuses ∙ filter-all s.hand
+pub hears-reported : (s : Held) (statuses : List TaskStatus) → (hears s (map reconciled_event statuses)).hand ≡ s.hand
+hears-reported s [] = refl
+hears-reported s (status ∷ statuses) = hears-reported (after s (Heard (reconciled_event status))) statuses ∙ filter-all s.hand

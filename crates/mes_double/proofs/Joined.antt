@@ -8,11 +8,11 @@ use Rattle.mes_model.specs.Offer.{Offer}
 use Rattle.mes_model.specs.TaskStatus.{TaskStatus}
 use Rattle.mes_msg.specs.Event.{Event}
 use Rattle.mes_msg.specs.declared.entry.Entry.TheVariants.{Heard}
-use Rattle.mes_hand.specs.Held.{name_of, names}
-use Rattle.mes_hand.specs.Calls.{framework_of, named_by}
+use Rattle.mes_session_state.specs.Held.{name_of, names}
+use Rattle.mes_session_state.specs.Calls.{framework_of, named_by}
 use Rattle.mes_session.specs.History.{offers_of, subscribed_by}
-use Rattle.mes_master.specs.Masters.{agrees, reconciled_event}
-use Rattle.mes_master.proofs.RunLemmas.{times, Once}
+use Rattle.mes_double_master.specs.Masters.{agrees, reconciled_event}
+use Rattle.mes_double_master.proofs.RunLemmas.{times, Once}
 use Rattle.mes_double.specs.declared.sent.Sent.{Sent}
 use Rattle.mes_double.specs.Courses.{Arrival, Course}
 use Rattle.mes_double.specs.Promises.{has_arrived, not_arrived, is_under_way, HandAgrees}
@@ -34,16 +34,16 @@ pub own-append : (framework : Id) (front events : List Event) → Own framework 
 own-append framework [] events f g = g
 own-append framework (e ∷ front) events f g = (f.0, own-append framework front events f.1 g)
 
-pub own-told : (framework : Id) (statuses : List TaskStatus) → Own framework (map reconciled_event statuses)
-own-told framework [] = tt
-own-told framework (status ∷ statuses) = (λ other e. absurd (cc), own-told framework statuses)
+pub own-reported : (framework : Id) (statuses : List TaskStatus) → Own framework (map reconciled_event statuses)
+own-reported framework [] = tt
+own-reported framework (status ∷ statuses) = (λ other e. absurd (cc), own-reported framework statuses)
 
 pub brought-append : (x : List ℕ) (front events : List Event) → count x (brought (front ++ events)) ≡ count x (brought front) + count x (brought events)
 brought-append x front events = ap (count x) (flat_map-append (λ (e : Event). offers_of (Heard e)) front events) ∙ count-append x (brought front) (brought events)
 
-pub brought-told : (x : List ℕ) (statuses : List TaskStatus) → count x (brought (map reconciled_event statuses)) ≡ 0
-brought-told x [] = refl
-brought-told x (status ∷ statuses) = brought-told x statuses
+pub brought-reported : (x : List ℕ) (statuses : List TaskStatus) → count x (brought (map reconciled_event statuses)) ≡ 0
+brought-reported x [] = refl
+brought-reported x (status ∷ statuses) = brought-reported x statuses
 
 pub record Joined (c : Course) : Type 0 where
   -- each offer was made once

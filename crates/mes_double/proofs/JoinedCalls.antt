@@ -12,25 +12,25 @@ use Rattle.mes_msg.specs.Event.{Event}
 use Rattle.mes_msg.specs.Call.{Call}
 use Rattle.mes_msg.specs.Call.TheVariants as of
 use Rattle.mes_msg.specs.declared.entry.Entry.TheVariants.{Heard, Said}
-use Rattle.mes_fit.specs.Launched.{launched, launched_by}
-use Rattle.mes_hand.specs.Held.{Held, name_of, names, without_offers}
-use Rattle.mes_hand.specs.Calls.{framework_of, named_by}
-use Rattle.mes_hand.specs.Refusals.{Answers}
+use Rattle.mes_session_fit.specs.Launched.{launched, launched_by}
+use Rattle.mes_session_state.specs.Held.{Held, name_of, names, without_offers}
+use Rattle.mes_session_state.specs.Calls.{framework_of, named_by}
+use Rattle.mes_session_state.specs.Refusals.{Answers}
 use Rattle.mes_session.specs.History.{after}
-use Rattle.mes_master.specs.Masters.{MasterAnswer, plain, subscribed, subscribed_event, accepted, declined, acknowledged, key_in, reconciled, reconciled_event, asked_for, torn_down, agrees, carried_out, is_subscribe}
-use Rattle.mes_master.proofs.AgainLemmas.{same_text, IsOpen, carried}
+use Rattle.mes_double_master.specs.Masters.{MasterAnswer, plain, subscribed, subscribed_event, accepted, declined, acknowledged, key_in, reconciled, reconciled_event, asked_for, torn_down, agrees, carried_out, is_subscribe}
+use Rattle.mes_double_master.proofs.AgainLemmas.{same_text, IsOpen, carried}
 use Rattle.mes_double.specs.declared.sent.Sent.{Sent}
 use Rattle.mes_double.specs.Worlds.{is_done, answer_to}
 use Rattle.mes_double.specs.Courses.{Arrival, Course}
 use Rattle.mes_double.specs.Promises.{has_arrived, is_under_way}
 use Rattle.mes_double.proofs.ListLemmas.{filter-all, filter-none, filter-two, fold-more, apart, or-swap, or-none, front-or-last, one-there}
 use Rattle.mes_double.proofs.CountLemmas.{count, count-filter, count-without, names-alike, same-in}
-use Rattle.mes_double.proofs.HandLemmas.{brought, hears, hears-filter, hears-told}
+use Rattle.mes_double.proofs.HandLemmas.{brought, hears, hears-filter, hears-reported}
 use Rattle.mes_double.proofs.WayLemmas.{arrived-other, any_way, way-sent, way-arrives}
 use Rattle.mes_double.proofs.ReachLemmas.{out-status}
 use Rattle.mes_double.proofs.TurnLemmas.{to_wished, arrival_of, to_refused, to_answered, to_resubscribed}
 use Rattle.mes_double.proofs.WishLemmas.{named-in_hand, of-known}
-use Rattle.mes_double.proofs.Joined.{IsLive, Own, own-append, own-told, brought-append, brought-told, Joined}
+use Rattle.mes_double.proofs.Joined.{IsLive, Own, own-append, own-reported, brought-append, brought-reported, Joined}
 
 -- ---- a call is said and sent
 
@@ -298,10 +298,10 @@ carry-joined c j index p there = by p.call p.stream there
     by (of.Reconcile f body) stream at =
         settle c j index _ at (arrival_of index (record { call = of.Reconcile f body; stream = stream }) (reconciled c.world.master body.tasks)) refl c.world.master.outstanding c.world.master.launched c.world.master.acked
         (c.world.waiting ++ map reconciled_event (asked_for c.world.master.latest body.tasks)) c.world.skipped (sym (filter-all c.world.master.outstanding))
-        (λ x. omega (arith, brought-append x c.world.waiting (map reconciled_event (asked_for c.world.master.latest body.tasks)), brought-told x (asked_for c.world.master.latest body.tasks)))
-        (own-append c.world.master.framework c.world.waiting _ j.own (own-told c.world.master.framework (asked_for c.world.master.latest body.tasks)))
+        (λ x. omega (arith, brought-append x c.world.waiting (map reconciled_event (asked_for c.world.master.latest body.tasks)), brought-reported x (asked_for c.world.master.latest body.tasks)))
+        (own-append c.world.master.framework c.world.waiting _ j.own (own-reported c.world.master.framework (asked_for c.world.master.latest body.tasks)))
         (ap (λ (t : Held). t.hand) (fold-more (λ (s : Held) (e : Event). after s (Heard e)) c.world.session c.world.waiting (map reconciled_event (asked_for c.world.master.latest body.tasks)))
-        ∙ hears-told (hears c.world.session c.world.waiting) (asked_for c.world.master.latest body.tasks))
+        ∙ hears-reported (hears c.world.session c.world.waiting) (asked_for c.world.master.latest body.tasks))
     by (of.Teardown f) stream at = torn c j index _ at
     by (of.Subscribe f body) stream at = idle c j index _ at (plain 202 c.world.master) c.world.master.acked refl
     by (of.Revive f) stream at = idle c j index _ at (plain 202 c.world.master) c.world.master.acked refl

@@ -5,15 +5,15 @@ use Rattle.std.specs.Str.{bytes_eq}
 use Rattle.mes_model.specs.Id.{Id}
 use Rattle.mes_model.specs.Offer.{Offer}
 use Rattle.mes_msg.specs.Event.{Event}
-use Rattle.mes_hand.specs.Held.{names}
-use Rattle.mes_hand.specs.Calls.{named_by}
+use Rattle.mes_session_state.specs.Held.{names}
+use Rattle.mes_session_state.specs.Calls.{named_by}
 use Rattle.mes_double.specs.declared.moves.Move.{Move}
 use Rattle.mes_double.specs.declared.sent.Sent.{Sent}
 use Rattle.mes_double.specs.Courses.{Course, begun, Leads, IsCourse}
 use Rattle.mes_double.specs.Promises.{HandAgrees, AllAgrees, is_under_way, caught_up}
 use Rattle.mes_double.proofs.ListLemmas.{filter-all, filter-same}
 use Rattle.mes_double.proofs.TurnLemmas.{Turn, turn}
-use Rattle.mes_double.proofs.TurnLemmas.Turn.{skips, offers, rescinds, tells, tells_owing, resends, hears, wishes, refuses, opens, carries, resubscribes}
+use Rattle.mes_double.proofs.TurnLemmas.Turn.{skips, offers, rescinds, reports, tells_owing, resends, hears, wishes, refuses, opens, carries, resubscribes}
 use Rattle.mes_double.proofs.Joined.{Joined}
 use Rattle.mes_double.proofs.JoinedSending.{skip-joined, offers-joined, rescind-joined, update-joined, hear-joined}
 use Rattle.mes_double.proofs.JoinedCalls.{wish-joined, refuse-joined, open-joined, carry-joined, resubscribe-joined}
@@ -22,7 +22,7 @@ pub joined-turn : (c d : Course) → Turn c d → Joined c → Joined d
 joined-turn c d (skips e) j = subst Joined (sym e) (skip-joined c j)
 joined-turn c d (offers list none e) j = subst Joined (sym e) (offers-joined c j list none)
 joined-turn c d (rescinds id e) j = subst Joined (sym e) (rescind-joined c j id)
-joined-turn c d (tells status none e) j = subst Joined (sym e) (update-joined c j _ _ status)
+joined-turn c d (reports status none e) j = subst Joined (sym e) (update-joined c j _ _ status)
 joined-turn c d (tells_owing status key some e) j = subst Joined (sym e) (update-joined c j _ _ status)
 joined-turn c d (resends index x there e) j = subst Joined (sym e) (update-joined c j _ _ x.1)
 joined-turn c d (hears x events w e) j = subst Joined (sym e) (hear-joined c j x events w)

@@ -10,12 +10,12 @@ use Rattle.mes_model.specs.TaskStatus.{TaskStatus}
 use Rattle.mes_msg.specs.Event.{Event}
 use Rattle.mes_msg.specs.Event.TheVariants as event
 use Rattle.mes_msg.specs.declared.entry.Entry.TheVariants.{Heard}
-use Rattle.mes_hand.specs.Held.{Held, name_of, names, with_offers, without_offer}
-use Rattle.mes_hand.specs.Calls.{named_by}
+use Rattle.mes_session_state.specs.Held.{Held, name_of, names, with_offers, without_offer}
+use Rattle.mes_session_state.specs.Calls.{named_by}
 use Rattle.mes_session.specs.History.{after, offers_of, subscribed_by, takes_offer}
-use Rattle.mes_master.specs.Masters.{update_event}
-use Rattle.mes_master.specs.Sending.{offer_ids, comes_again, made}
-use Rattle.mes_master.proofs.RunLemmas.{times, times-append, offered-once}
+use Rattle.mes_double_master.specs.Masters.{update_event}
+use Rattle.mes_double_master.specs.Sending.{offer_ids, is_duplicate, made}
+use Rattle.mes_double_master.proofs.RunLemmas.{times, times-append, offered-once}
 use Rattle.mes_double.specs.declared.sent.Sent.{Sent}
 use Rattle.mes_double.specs.Worlds.{skip}
 use Rattle.mes_double.specs.Courses.{Course}
@@ -37,7 +37,7 @@ module _ (c : Course) (j : Joined c) where
 
   -- ---- OFFERS
 
-  module _ (list : List Offer) (none : comes_again c.world.master.offered (offer_ids list) ≡ false) where
+  module _ (list : List Offer) (none : is_duplicate c.world.master.offered (offer_ids list) ≡ false) where
     -- no call that was sent names one of them
     not-named : (o : Offer) → 1 ≤ count (name_of o) list → (i : ℕ) (p : Sent) → slice_get c.world.sent i ≡ Some p → names (named_by p.call) o ≡ false
     not-named o h i p there = by (names (named_by p.call) o) refl

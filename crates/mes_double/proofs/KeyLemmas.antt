@@ -10,10 +10,10 @@ use Rattle.mes_model.specs.TaskStatus.{TaskStatus}
 use Rattle.mes_model.specs.Owed.{key_by}
 use Rattle.mes_msg.specs.Event.{Event}
 use Rattle.mes_msg.specs.declared.entry.Entry.TheVariants.{Heard}
-use Rattle.mes_hand.specs.Held.{same_key, is_owed, with_key}
+use Rattle.mes_session_state.specs.Held.{same_key, is_owed, with_key}
 use Rattle.mes_session.specs.History.{owed_by}
 use Rattle.mes_session.proofs.HistoryLemmas.{key-exact, key-self}
-use Rattle.mes_master.specs.Masters.{is_owing, reconciled_event}
+use Rattle.mes_double_master.specs.Masters.{is_unacknowledged, reconciled_event}
 use Rattle.mes_double.proofs.ListLemmas.{or-none}
 
 -- ---- keys that are owed
@@ -90,20 +90,20 @@ owed-there (l ∷ ks) x e = by (same_key x l) refl e (owed-there ks x)
 abbrev pub tells_key : OwedKey → List Event → Bool
 tells_key k events = list_any (λ (e : Event). is_owed k (owed_by (Heard e))) events
 
-pub tells-append : (k : OwedKey) (front events : List Event) → tells_key k (front ++ events) ≡ (tells_key k front || tells_key k events)
-tells-append k front events = list_any-append (λ (e : Event). is_owed k (owed_by (Heard e))) front events
+pub reports-append : (k : OwedKey) (front events : List Event) → tells_key k (front ++ events) ≡ (tells_key k front || tells_key k events)
+reports-append k front events = list_any-append (λ (e : Event). is_owed k (owed_by (Heard e))) front events
 
-pub tells-more : (k : OwedKey) (front : List Event) (e : Event) → tells_key k (front ++ e ∷ []) ≡ true → (tells_key k front ≡ true) ⊎ (is_owed k (owed_by (Heard e)) ≡ true)
-tells-more k front e t = elim (or_cases (tells_key k front) (tells_key k (e ∷ [])) (sym (tells-append k front (e ∷ [])) ∙ t)) [
+pub reports-more : (k : OwedKey) (front : List Event) (e : Event) → tells_key k (front ++ e ∷ []) ≡ true → (tells_key k front ≡ true) ⊎ (is_owed k (owed_by (Heard e)) ≡ true)
+reports-more k front e t = elim (or_cases (tells_key k front) (tells_key k (e ∷ [])) (sym (reports-append k front (e ∷ [])) ∙ t)) [
   | inl f ↦ inl f
   | inr f ↦ inr (sym (or-none (is_owed k (owed_by (Heard e)))) ∙ f)
 ]
 
-pub tells-still : (k : OwedKey) (front events : List Event) → tells_key k front ≡ true → tells_key k (front ++ events) ≡ true
-tells-still k front events t = tells-append k front events ∙ or_left (tells_key k front) (tells_key k events) t
+pub reports-still : (k : OwedKey) (front events : List Event) → tells_key k front ≡ true → tells_key k (front ++ events) ≡ true
+reports-still k front events t = reports-append k front events ∙ or_left (tells_key k front) (tells_key k events) t
 
-pub tells-last : (k : OwedKey) (front : List Event) (e : Event) → is_owed k (owed_by (Heard e)) ≡ true → tells_key k (front ++ e ∷ []) ≡ true
-tells-last k front e t = tells-append k front (e ∷ []) ∙ or_right (tells_key k front) (tells_key k (e ∷ [])) (or_left (is_owed k (owed_by (Heard e))) false t)
+pub reports-last : (k : OwedKey) (front : List Event) (e : Event) → is_owed k (owed_by (Heard e)) ≡ true → tells_key k (front ++ e ∷ []) ≡ true
+reports-last k front e t = reports-append k front (e ∷ []) ∙ or_right (tells_key k front) (tells_key k (e ∷ [])) (or_left (is_owed k (owed_by (Heard e))) false t)
 
 -- a status that is told again to who asks for it tells no key
 no-key : (task : Id) (agent : Option Id) → key_by task agent None ≡ None
@@ -117,23 +117,23 @@ told-none k (status ∷ statuses) =
 
 -- ---- keys that the master knows
 
-pub owing-more : (owing : List (OwedKey × TaskStatus)) (key : OwedKey) (status : TaskStatus) (k : OwedKey) → is_owing owing k ≡ true → is_owing (owing ++ (key, status) ∷ []) k ≡ true
+pub owing-more : (owing : List (OwedKey × TaskStatus)) (key : OwedKey) (status : TaskStatus) (k : OwedKey) → is_unacknowledged owing k ≡ true → is_unacknowledged (owing ++ (key, status) ∷ []) k ≡ true
 owing-more [] key status k e = absurd (cc)
 owing-more (x ∷ owing) key status k e = by (same_key k x.0) refl e (owing-more owing key status k)
   where
-    by : (b : Bool) → same_key k x.0 ≡ b → is_owing (x ∷ owing) k ≡ true → (is_owing owing k ≡ true → is_owing (owing ++ (key, status) ∷ []) k ≡ true) → is_owing (x ∷ owing ++ (key, status) ∷ []) k ≡ true
+    by : (b : Bool) → same_key k x.0 ≡ b → is_unacknowledged (x ∷ owing) k ≡ true → (is_unacknowledged owing k ≡ true → is_unacknowledged (owing ++ (key, status) ∷ []) k ≡ true) → is_unacknowledged (x ∷ owing ++ (key, status) ∷ []) k ≡ true
     by true f e rest = rw f refl
-    by false f e rest = rw f (rest (let g : is_owing owing k ≡ true = rw f at e in g))
+    by false f e rest = rw f (rest (let g : is_unacknowledged owing k ≡ true = rw f at e in g))
 
-pub owing-last : (owing : List (OwedKey × TaskStatus)) (key : OwedKey) (status : TaskStatus) (k : OwedKey) → same_key k key ≡ true → is_owing (owing ++ (key, status) ∷ []) k ≡ true
+pub owing-last : (owing : List (OwedKey × TaskStatus)) (key : OwedKey) (status : TaskStatus) (k : OwedKey) → same_key k key ≡ true → is_unacknowledged (owing ++ (key, status) ∷ []) k ≡ true
 owing-last [] key status k e = rw e refl
 owing-last (x ∷ owing) key status k e = by (same_key k x.0) refl (owing-last owing key status k e)
   where
-    by : (b : Bool) → same_key k x.0 ≡ b → is_owing (owing ++ (key, status) ∷ []) k ≡ true → is_owing (x ∷ owing ++ (key, status) ∷ []) k ≡ true
+    by : (b : Bool) → same_key k x.0 ≡ b → is_unacknowledged (owing ++ (key, status) ∷ []) k ≡ true → is_unacknowledged (x ∷ owing ++ (key, status) ∷ []) k ≡ true
     by true f rest = rw f refl
     by false f rest = rw f rest
 
-pub owing-there : (owing : List (OwedKey × TaskStatus)) (i : ℕ) (x : OwedKey × TaskStatus) (k : OwedKey) → slice_get owing i ≡ Some x → same_key k x.0 ≡ true → is_owing owing k ≡ true
+pub owing-there : (owing : List (OwedKey × TaskStatus)) (i : ℕ) (x : OwedKey × TaskStatus) (k : OwedKey) → slice_get owing i ≡ Some x → same_key k x.0 ≡ true → is_unacknowledged owing k ≡ true
 owing-there [] i x k there e = absurd (cc)
 owing-there (y ∷ owing) zero x k there e =
     let same : y ≡ x = (let f : Some y ≡ Some x = there in cc) in
@@ -141,7 +141,7 @@ owing-there (y ∷ owing) zero x k there e =
     rw f refl
 owing-there (y ∷ owing) (suc i) x k there e = by (same_key k y.0) refl (owing-there owing i x k there e)
   where
-    by : (b : Bool) → same_key k y.0 ≡ b → is_owing owing k ≡ true → is_owing (y ∷ owing) k ≡ true
+    by : (b : Bool) → same_key k y.0 ≡ b → is_unacknowledged owing k ≡ true → is_unacknowledged (y ∷ owing) k ≡ true
     by true f rest = rw f refl
     by false f rest = rw f rest
 

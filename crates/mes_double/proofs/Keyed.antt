@@ -10,22 +10,22 @@ use Rattle.mes_msg.specs.Event.{Event}
 use Rattle.mes_msg.specs.Call.{Call}
 use Rattle.mes_msg.specs.Call.TheVariants as of
 use Rattle.mes_msg.specs.declared.entry.Entry.TheVariants.{Heard, Said, Broken}
-use Rattle.mes_hand.specs.Held.{same_key, is_owed, with_key}
-use Rattle.mes_hand.specs.Calls.{acknowledged_by}
-use Rattle.mes_hand.specs.Refusals.{Answers}
+use Rattle.mes_session_state.specs.Held.{same_key, is_owed, with_key}
+use Rattle.mes_session_state.specs.Calls.{acknowledged_by}
+use Rattle.mes_session_state.specs.Refusals.{Answers}
 use Rattle.mes_session.specs.History.{owed_by, acknowledges}
 use Rattle.mes_session.proofs.HistoryLemmas.{key-exact}
-use Rattle.mes_master.specs.Masters.{MasterState, MasterAnswer, plain, subscribed, update_event, asked_for, is_owing, acknowledged, key_in, carried_out}
+use Rattle.mes_double_master.specs.Masters.{MasterState, MasterAnswer, plain, subscribed, update_event, asked_for, is_unacknowledged, acknowledged, key_in, carried_out}
 use Rattle.mes_double.specs.declared.moves.Move.{Move}
 use Rattle.mes_double.specs.declared.sent.Sent.{Sent}
 use Rattle.mes_double.specs.Worlds.{is_done}
 use Rattle.mes_double.specs.Courses.{Arrival, Course, begun, Leads, IsCourse}
 use Rattle.mes_double.specs.Promises.{AckedWereHeard}
 use Rattle.mes_double.proofs.ListLemmas.{apart, or-none, get-front, front-or-last}
-use Rattle.mes_double.proofs.KeyLemmas.{owed-fewer, owed-put, owed-fold, owed-still, owed-last, tells_key, tells-append, tells-more, tells-still, tells-last, told-none, owing-more, owing-last, owing-there, get-filter}
+use Rattle.mes_double.proofs.KeyLemmas.{owed-fewer, owed-put, owed-fold, owed-still, owed-last, tells_key, reports-append, reports-more, reports-still, reports-last, told-none, owing-more, owing-last, owing-there, get-filter}
 use Rattle.mes_double.proofs.WishLemmas.{owed-key}
 use Rattle.mes_double.proofs.TurnLemmas.{Turn, turn, to_wished, to_heard, arrival_of, to_answered}
-use Rattle.mes_double.proofs.TurnLemmas.Turn.{skips, offers, rescinds, tells, tells_owing, resends, hears, wishes, refuses, opens, carries, resubscribes}
+use Rattle.mes_double.proofs.TurnLemmas.Turn.{skips, offers, rescinds, reports, tells_owing, resends, hears, wishes, refuses, opens, carries, resubscribes}
 
 pub record Keyed (c : Course) : Type 0 where
   -- what counts as acknowledged was heard
@@ -33,17 +33,17 @@ pub record Keyed (c : Course) : Type 0 where
   pub owed : (k : OwedKey) → is_owed k c.world.session.owed ≡ true → tells_key k c.heard ≡ true
   pub sent : (i : ℕ) (p : Sent) (k : OwedKey) → slice_get c.world.sent i ≡ Some p → acknowledged_by p.call ≡ Some k → tells_key k c.heard ≡ true
   -- what was heard or waits is known to the master
-  pub heard : (k : OwedKey) → tells_key k c.heard ≡ true → is_owing c.world.master.owing k ≡ true
-  pub waits : (k : OwedKey) → tells_key k c.world.waiting ≡ true → is_owing c.world.master.owing k ≡ true
+  pub heard : (k : OwedKey) → tells_key k c.heard ≡ true → is_unacknowledged c.world.master.owing k ≡ true
+  pub waits : (k : OwedKey) → tells_key k c.world.waiting ≡ true → is_unacknowledged c.world.master.owing k ≡ true
   pub owing : (i : ℕ) (x : OwedKey × TaskStatus) → slice_get c.world.master.owing i ≡ Some x → owed_key_of x.1 ≡ Some x.0
   -- each arrival is that of the call that was sent at its place, and an ACKNOWLEDGE that was answered 202 counts
   pub place : (i : ℕ) (a : Arrival) → slice_get c.arrivals i ≡ Some a → slice_get c.world.sent a.index ≡ Some a.sent
   pub done : (i : ℕ) (a : Arrival) (k : OwedKey) → slice_get c.arrivals i ≡ Some a → a.status ≡ 202 → acknowledged_by a.sent.call ≡ Some k → is_owed k c.world.master.acked ≡ true
 
 -- the keys of an event that waits behind the others
-behind : (c : Course) → Keyed c → (e : Event) (owing : List (OwedKey × TaskStatus)) → ((k : OwedKey) → is_owing c.world.master.owing k ≡ true → is_owing owing k ≡ true)
-    → ((k : OwedKey) → is_owed k (owed_by (Heard e)) ≡ true → is_owing owing k ≡ true) → (k : OwedKey) → tells_key k (c.world.waiting ++ e ∷ []) ≡ true → is_owing owing k ≡ true
-behind c j e owing more known k t = elim (tells-more k c.world.waiting e t) [
+following : (c : Course) → Keyed c → (e : Event) (owing : List (OwedKey × TaskStatus)) → ((k : OwedKey) → is_unacknowledged c.world.master.owing k ≡ true → is_unacknowledged owing k ≡ true)
+    → ((k : OwedKey) → is_owed k (owed_by (Heard e)) ≡ true → is_unacknowledged owing k ≡ true) → (k : OwedKey) → tells_key k (c.world.waiting ++ e ∷ []) ≡ true → is_unacknowledged owing k ≡ true
+following c j e owing more known k t = elim (reports-more k c.world.waiting e t) [
   | inl f ↦ more k (j.waits k f)
   | inr f ↦ known k f
 ]
@@ -74,16 +74,16 @@ module _ (c : Course) (j : Keyed c) where
 
   hear-keyed : (e : Event) (events : List Event) → c.world.waiting ≡ e ∷ events → Keyed (to_heard c e events)
   hear-keyed e events w =
-      let waits_all : (k : OwedKey) → tells_key k (e ∷ events) ≡ true → is_owing c.world.master.owing k ≡ true =
+      let waits_all : (k : OwedKey) → tells_key k (e ∷ events) ≡ true → is_unacknowledged c.world.master.owing k ≡ true =
       λ k t. j.waits k (ap (tells_key k) w ∙ t) in
       record {
-        acked = λ k t. tells-still k c.heard (e ∷ []) (j.acked k t);
+        acked = λ k t. reports-still k c.heard (e ∷ []) (j.acked k t);
         owed = λ k t. elim (owed-fold k (filter (λ (l : OwedKey). not (acknowledges l (Heard e))) c.world.session.owed) (owed_by (Heard e)) t) [
-          | inl f ↦ tells-still k c.heard (e ∷ []) (j.owed k (owed-fewer (λ (l : OwedKey). not (acknowledges l (Heard e))) k c.world.session.owed f))
-          | inr f ↦ tells-last k c.heard e f
+          | inl f ↦ reports-still k c.heard (e ∷ []) (j.owed k (owed-fewer (λ (l : OwedKey). not (acknowledges l (Heard e))) k c.world.session.owed f))
+          | inr f ↦ reports-last k c.heard e f
         ];
-        sent = λ i p k there t. tells-still k c.heard (e ∷ []) (j.sent i p k there t);
-        heard = λ k t. elim (tells-more k c.heard e t) [
+        sent = λ i p k there t. reports-still k c.heard (e ∷ []) (j.sent i p k there t);
+        heard = λ k t. elim (reports-more k c.heard e t) [
           | inl f ↦ j.heard k f
           | inr f ↦ waits_all k (or_left (is_owed k (owed_by (Heard e))) (tells_key k events) f)
         ];
@@ -117,9 +117,9 @@ module _ (c : Course) (j : Keyed c) where
       acked = λ k e. j.acked k (ap (is_owed k) (sym acked) ∙ e);
       owed = j.owed;
       sent = j.sent;
-      heard = λ k e. ap (λ (l : List (OwedKey × TaskStatus)). is_owing l k) owing ∙ j.heard k e;
-      waits = λ k e. elim (or_cases (tells_key k c.world.waiting) (tells_key k a.events) (sym (tells-append k c.world.waiting a.events) ∙ e)) [
-        | inl f ↦ ap (λ (l : List (OwedKey × TaskStatus)). is_owing l k) owing ∙ j.waits k f
+      heard = λ k e. ap (λ (l : List (OwedKey × TaskStatus)). is_unacknowledged l k) owing ∙ j.heard k e;
+      waits = λ k e. elim (or_cases (tells_key k c.world.waiting) (tells_key k a.events) (sym (reports-append k c.world.waiting a.events) ∙ e)) [
+        | inl f ↦ ap (λ (l : List (OwedKey × TaskStatus)). is_unacknowledged l k) owing ∙ j.waits k f
         | inr f ↦ apart _ f (none k)
       ];
       owing = λ i x e. j.owing i x (ap (λ (l : List (OwedKey × TaskStatus)). slice_get l i) (sym owing) ∙ e);
@@ -145,7 +145,7 @@ module _ (c : Course) (j : Keyed c) where
     acknowledge-keyed : (key : OwedKey) → acknowledged_by p.call ≡ Some key → Keyed (to_answered c index p (plain 202 (acknowledged c.world.master key)))
     acknowledge-keyed key names_key =
         let heard_key : tells_key key c.heard ≡ true = j.sent index p key there names_key in
-        let known : is_owing c.world.master.owing key ≡ true = j.heard key heard_key in
+        let known : is_unacknowledged c.world.master.owing key ≡ true = j.heard key heard_key in
         let acked_are : (acknowledged c.world.master key).acked ≡ with_key c.world.master.acked key = ap (λ (b : Bool). if b then with_key c.world.master.acked key else c.world.master.acked) known in
         record {
           acked = λ k e. elim (owed-put k c.world.master.acked key (ap (is_owed k) (sym acked_are) ∙ e)) [
@@ -155,7 +155,7 @@ module _ (c : Course) (j : Keyed c) where
           owed = j.owed;
           sent = j.sent;
           heard = j.heard;
-          waits = λ k e. elim (or_cases (tells_key k c.world.waiting) false (sym (tells-append k c.world.waiting []) ∙ e)) [
+          waits = λ k e. elim (or_cases (tells_key k c.world.waiting) false (sym (reports-append k c.world.waiting []) ∙ e)) [
             | inl f ↦ j.waits k f
             | inr f ↦ absurd (cc)
           ];
@@ -187,14 +187,14 @@ carry-keyed c j index p there = by p.call p.stream there
 -- an event that tells no key waits, or one whose keys the master knows
 module _ (c : Course) (j : Keyed c) where
   send-keyed : (offered : List Id) (m : MasterState) (e : Event) → m.owing ≡ c.world.master.owing → m.acked ≡ c.world.master.acked
-      → ((k : OwedKey) → is_owed k (owed_by (Heard e)) ≡ true → is_owing c.world.master.owing k ≡ true)
+      → ((k : OwedKey) → is_owed k (owed_by (Heard e)) ≡ true → is_unacknowledged c.world.master.owing k ≡ true)
       → Keyed (record c { world = record c.world { master = m; waiting = c.world.waiting ++ e ∷ [] } })
   send-keyed offered m e owing acked known = record {
     acked = λ k t. j.acked k (ap (is_owed k) (sym acked) ∙ t);
     owed = j.owed;
     sent = j.sent;
-    heard = λ k t. ap (λ (l : List (OwedKey × TaskStatus)). is_owing l k) owing ∙ j.heard k t;
-    waits = λ k t. ap (λ (l : List (OwedKey × TaskStatus)). is_owing l k) owing ∙ behind c j e c.world.master.owing (λ l f. f) known k t;
+    heard = λ k t. ap (λ (l : List (OwedKey × TaskStatus)). is_unacknowledged l k) owing ∙ j.heard k t;
+    waits = λ k t. ap (λ (l : List (OwedKey × TaskStatus)). is_unacknowledged l k) owing ∙ following c j e c.world.master.owing (λ l f. f) known k t;
     owing = λ i x t. j.owing i x (ap (λ (l : List (OwedKey × TaskStatus)). slice_get l i) (sym owing) ∙ t);
     place = j.place;
     done = λ i a k there status names_key. ap (is_owed k) acked ∙ j.done i a k there status names_key;
@@ -203,15 +203,15 @@ module _ (c : Course) (j : Keyed c) where
   owing-keyed : (m : MasterState) (status : TaskStatus) (key : OwedKey) → owed_key_of status ≡ Some key → m.owing ≡ c.world.master.owing ++ (key, status) ∷ [] → m.acked ≡ c.world.master.acked
       → Keyed (record c { world = record c.world { master = m; waiting = c.world.waiting ++ update_event status ∷ [] } })
   owing-keyed m status key some owing acked =
-      let more : (k : OwedKey) → is_owing c.world.master.owing k ≡ true → is_owing m.owing k ≡ true =
-      λ k e. ap (λ (l : List (OwedKey × TaskStatus)). is_owing l k) owing ∙ owing-more c.world.master.owing key status k e in
+      let more : (k : OwedKey) → is_unacknowledged c.world.master.owing k ≡ true → is_unacknowledged m.owing k ≡ true =
+      λ k e. ap (λ (l : List (OwedKey × TaskStatus)). is_unacknowledged l k) owing ∙ owing-more c.world.master.owing key status k e in
       record {
         acked = λ k t. j.acked k (ap (is_owed k) (sym acked) ∙ t);
         owed = j.owed;
         sent = j.sent;
         heard = λ k t. more k (j.heard k t);
-        waits = behind c j (update_event status) m.owing more
-            (λ k t. ap (λ (l : List (OwedKey × TaskStatus)). is_owing l k) owing
+        waits = following c j (update_event status) m.owing more
+            (λ k t. ap (λ (l : List (OwedKey × TaskStatus)). is_unacknowledged l k) owing
             ∙ owing-last c.world.master.owing key status k (sym (or-none (same_key k key)) ∙ told-key status (Some key) some k t));
         owing = λ i x t. elim (front-or-last c.world.master.owing (key, status) i x (ap (λ (l : List (OwedKey × TaskStatus)). slice_get l i) (sym owing) ∙ t)) [
           | inl f ↦ j.owing i x f
@@ -226,7 +226,7 @@ keyed-turn c d (skips e) j =
     subst Keyed (sym e) (record { acked = j.acked; owed = j.owed; sent = j.sent; heard = j.heard; waits = j.waits; owing = j.owing; place = j.place; done = j.done })
 keyed-turn c d (offers list none e) j = subst Keyed (sym e) (send-keyed c j [] _ _ refl refl (λ k t. absurd (cc)))
 keyed-turn c d (rescinds id e) j = subst Keyed (sym e) (send-keyed c j [] _ _ refl refl (λ k t. absurd (cc)))
-keyed-turn c d (tells status none e) j = subst Keyed (sym e) (send-keyed c j [] _ _ refl refl (λ k t. absurd (let f : false ≡ true = told-key status None none k t in cc)))
+keyed-turn c d (reports status none e) j = subst Keyed (sym e) (send-keyed c j [] _ _ refl refl (λ k t. absurd (let f : false ≡ true = told-key status None none k t in cc)))
 keyed-turn c d (tells_owing status key some e) j = subst Keyed (sym e) (owing-keyed c j _ status key some refl refl)
 keyed-turn c d (resends index x there e) j =
     subst Keyed (sym e)

@@ -5,16 +5,16 @@ use Rattle.mes_model.specs.declared.framework_info.FrameworkInfo.{FrameworkInfo}
 use Rattle.mes_msg.specs.Event.{Event}
 use Rattle.mes_msg.specs.Call.{Call}
 use Rattle.mes_msg.specs.declared.entry.Entry.TheVariants.{Heard, Said}
-use Rattle.mes_hand.specs.declared.refusal.Refusal.{Refusal}
-use Rattle.mes_hand.specs.Held.{Held}
-use Rattle.mes_hand.specs.Refusals.{Answers}
+use Rattle.mes_session_state.specs.declared.refusal.Refusal.{Refusal}
+use Rattle.mes_session_state.specs.Held.{Held}
+use Rattle.mes_session_state.specs.Refusals.{Answers}
 use Rattle.mes_session.specs.History.{after}
 use Rattle.mes_session.specs.Made.{subscribe_call}
 use Rattle.mes_session.specs.Making.{Applied}
-use Rattle.mes_master.specs.declared.refusal.MasterRefusal.{MasterRefusal}
-use Rattle.mes_master.specs.declared.refusal.MasterRefusal.TheVariants.{NoMemory}
-use Rattle.mes_master.specs.Masters.{MasterState, MasterAnswer, IsAnswer, handled}
-use Rattle.mes_master.specs.Sending.{Sends}
+use Rattle.mes_double_master.specs.declared.refusal.MasterRefusal.{MasterRefusal}
+use Rattle.mes_double_master.specs.declared.refusal.MasterRefusal.TheVariants.{NoMemory}
+use Rattle.mes_double_master.specs.Masters.{MasterState, MasterAnswer, IsAnswer, handled}
+use Rattle.mes_double_master.specs.Sending.{Sends}
 use Rattle.mes_double.specs.declared.sent.Sent.{Sent}
 use Rattle.mes_double.specs.Worlds.{WorldState, skip, sending, hearing, Wishes, is_done, answer_to, answering, arriving, resubscribing, subscribe_answer, world_info, taking, reopening}
 use Rattle.mes_double.proofs.ListLemmas.{apart, filter-all}
@@ -31,9 +31,9 @@ module _ {T E : Type 0} where
 
   pub sent-err : (result : Result T E) (w v : WorldState) (sends : Sends) (m : MasterState) (why : MasterRefusal) → m ≡ w.master → (why ≡ NoMemory) ⊎ (sends ≡ Err why)
       → (why ≡ NoMemory → IsErr result) → OnOk result (v ≡ skip (record w { master = m })) → OnOk result (v ≡ sending w sends)
-  sent-err (Ok t) w v sends m why same (inl none) told h = absurd (let f : false ≡ true = told none in cc)
-  sent-err (Ok t) w v sends m why same (inr is) told h = h ∙ ap (λ (n : MasterState). skip (record w { master = n })) same ∙ ap (sending w) (sym is)
-  sent-err (Err x) w v sends m why same reason told h = tt
+  sent-err (Ok t) w v sends m why same (inl none) reported h = absurd (let f : false ≡ true = reported none in cc)
+  sent-err (Ok t) w v sends m why same (inr is) reported h = h ∙ ap (λ (n : MasterState). skip (record w { master = n })) same ∙ ap (sending w) (sym is)
+  sent-err (Err x) w v sends m why same reason reported h = tt
 
   -- the same where the master is as it was
   pub resent-ok : (result : Result T E) (w u v : WorldState) (sends : WorldState → Sends) → w ≡ u → (e : Event) → sends u ≡ Ok (e, u.master)
@@ -44,9 +44,9 @@ module _ {T E : Type 0} where
 
   pub resent-err : (result : Result T E) (w u v : WorldState) (sends : WorldState → Sends) → w ≡ u → (why : MasterRefusal) → (why ≡ NoMemory) ⊎ (sends u ≡ Err why)
       → (why ≡ NoMemory → IsErr result) → OnOk result (v ≡ skip w) → OnOk result (v ≡ sending w (sends w))
-  resent-err (Ok t) w u v sends same why (inl none) told h = absurd (let f : false ≡ true = told none in cc)
-  resent-err (Ok t) w u v sends same why (inr is) told h = h ∙ ap (sending w) (sym is ∙ ap sends (sym same))
-  resent-err (Err x) w u v sends same why reason told h = tt
+  resent-err (Ok t) w u v sends same why (inl none) reported h = absurd (let f : false ≡ true = reported none in cc)
+  resent-err (Ok t) w u v sends same why (inr is) reported h = h ∙ ap (sending w) (sym is ∙ ap sends (sym same))
+  resent-err (Err x) w u v sends same why reason reported h = tt
 
 -- ---- what is heard
 

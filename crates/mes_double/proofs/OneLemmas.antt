@@ -2,9 +2,9 @@
 use Rattle.std.proofs.Common.{◌≡◌, ℕ, ◌++◌, List, [], ◌∷◌, Option, Some, None, refl, sym, ap, subst, ◌∙◌}
 use Rattle.mes_model.specs.Id.{Id}
 use Rattle.mes_msg.specs.Call.{Call}
-use Rattle.mes_hand.specs.declared.refusal.Refusal.{Refusal}
-use Rattle.mes_hand.specs.Held.{Held}
-use Rattle.mes_hand.specs.Refusals.{as_told, IsRefused, Answers}
+use Rattle.mes_session_state.specs.declared.refusal.Refusal.{Refusal}
+use Rattle.mes_session_state.specs.Held.{Held}
+use Rattle.mes_session_state.specs.Refusals.{as_reported, IsRefused, Answers}
 use Rattle.mes_double.specs.declared.moves.Move.{Move}
 use Rattle.mes_double.specs.declared.moves.Move.TheVariants as moves
 use Rattle.mes_double.specs.Worlds.{WorldState, wishing, Wishes, Happens}
@@ -17,7 +17,7 @@ module _ (once : (held : Held) (call : Call) (fault other : Refusal) → IsRefus
   one-answer held call None (Some y) f g = absurd (f g.0 g.2.is)
   one-answer held call (Some x) None f g = absurd (g f.0 f.2.is)
   one-answer held call (Some x) (Some y) f g =
-      ap (λ (r : Refusal). Some r) (f.1 ∙ ap as_told (once held call f.0 g.0 f.2 g.2) ∙ sym g.1)
+      ap (λ (r : Refusal). Some r) (f.1 ∙ ap as_reported (once held call f.0 g.0 f.2 g.2) ∙ sym g.1)
 
   one-wish : (w u v : WorldState) (call : Call) (s : Option (List ℕ)) → Wishes w call s u → Wishes w call s v → u ≡ v
   one-wish w u v call None f g = f ∙ sym g

@@ -6,18 +6,18 @@ use Rattle.std.proofs.lemmas.List.{append-nil}
 use Rattle.mes_model.specs.Id.{Id}
 use Rattle.mes_model.specs.Offer.{Offer}
 use Rattle.mes_model.specs.TaskInfo.{TaskInfo}
-use Rattle.mes_hand.specs.Held.{name_of}
-use Rattle.mes_hand.specs.Refusals.{ids_of}
-use Rattle.mes_master.specs.Masters.{MasterState, MasterAnswer, plain, subscribed, carried_out}
-use Rattle.mes_master.specs.Sending.{offer_ids}
-use Rattle.mes_master.proofs.AgainLemmas.{carried}
-use Rattle.mes_master.proofs.RunLemmas.{times, times-append, Once, distinct, offered-once, Fine, fine}
+use Rattle.mes_session_state.specs.Held.{name_of}
+use Rattle.mes_session_state.specs.Refusals.{ids_of}
+use Rattle.mes_double_master.specs.Masters.{MasterState, MasterAnswer, plain, subscribed, carried_out}
+use Rattle.mes_double_master.specs.Sending.{offer_ids}
+use Rattle.mes_double_master.proofs.AgainLemmas.{carried}
+use Rattle.mes_double_master.proofs.RunLemmas.{times, times-append, Once, distinct, offered-once, Fine, fine}
 use Rattle.mes_double.specs.declared.moves.Move.{Move}
 use Rattle.mes_double.specs.Courses.{Arrival, Course, begun, Leads, IsCourse}
 use Rattle.mes_double.specs.Promises.{all_ran, all_took, LaunchedOnce, TakenOnce}
 use Rattle.mes_double.proofs.CountLemmas.{count, count-append, count-filter, count-with}
 use Rattle.mes_double.proofs.TurnLemmas.{Turn, turn, arrival_of}
-use Rattle.mes_double.proofs.TurnLemmas.Turn.{skips, offers, rescinds, tells, tells_owing, resends, hears, wishes, refuses, opens, carries, resubscribes}
+use Rattle.mes_double.proofs.TurnLemmas.Turn.{skips, offers, rescinds, reports, tells_owing, resends, hears, wishes, refuses, opens, carries, resubscribes}
 
 pub record Counted (c : Course) : Type 0 where
   pub once : Once c.world.master.offered
@@ -88,7 +88,7 @@ counted-turn c d (rescinds id e) k =
       ran = k.ran;
       launched = k.launched;
     })
-counted-turn c d (tells status none e) k = subst Counted (sym e) (record { once = k.once; took = k.took; ran = k.ran; launched = k.launched })
+counted-turn c d (reports status none e) k = subst Counted (sym e) (record { once = k.once; took = k.took; ran = k.ran; launched = k.launched })
 counted-turn c d (tells_owing status key some e) k = subst Counted (sym e) (record { once = k.once; took = k.took; ran = k.ran; launched = k.launched })
 counted-turn c d (resends index x there e) k = subst Counted (sym e) (record { once = k.once; took = k.took; ran = k.ran; launched = k.launched })
 counted-turn c d (hears x events w e) k = subst Counted (sym e) (record { once = k.once; took = k.took; ran = k.ran; launched = k.launched })

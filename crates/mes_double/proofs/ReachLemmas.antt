@@ -3,9 +3,9 @@ use Rattle.std.proofs.Common.{◌≡◌, ℕ, Bool, true, false, ◌||◌, not, 
 use Rattle.std.proofs.lemmas.Bool.{or_parts}
 use Rattle.mes_msg.specs.Call.{Call}
 use Rattle.mes_msg.specs.Call.TheVariants as of
-use Rattle.mes_hand.specs.Calls.{framework_of}
-use Rattle.mes_master.specs.Masters.{MasterState, plain, subscribed, agrees, carried_out, is_named, in_stream, is_subscribe, answered, handled}
-use Rattle.mes_master.proofs.AgainLemmas.{IsOpen, carried}
+use Rattle.mes_session_state.specs.Calls.{framework_of}
+use Rattle.mes_double_master.specs.Masters.{MasterState, plain, subscribed, agrees, carried_out, is_named, in_stream, is_subscribe, answered, handled}
+use Rattle.mes_double_master.proofs.AgainLemmas.{IsOpen, carried}
 use Rattle.mes_double.specs.Worlds.{is_done}
 
 -- a call that is carried out is answered 202

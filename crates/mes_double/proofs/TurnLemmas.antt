@@ -10,16 +10,16 @@ use Rattle.mes_msg.specs.Event.{Event}
 use Rattle.mes_msg.specs.Event.TheVariants as event
 use Rattle.mes_msg.specs.Call.{Call}
 use Rattle.mes_msg.specs.declared.entry.Entry.TheVariants.{Heard, Said, Broken}
-use Rattle.mes_hand.specs.declared.refusal.Refusal.{Refusal}
-use Rattle.mes_hand.specs.Held.{without_offer}
-use Rattle.mes_hand.specs.Refusals.{Answers}
+use Rattle.mes_session_state.specs.declared.refusal.Refusal.{Refusal}
+use Rattle.mes_session_state.specs.Held.{without_offer}
+use Rattle.mes_session_state.specs.Refusals.{Answers}
 use Rattle.mes_session.specs.History.{after}
 use Rattle.mes_session.specs.Made.{subscribe_call}
-use Rattle.mes_master.specs.declared.refusal.MasterRefusal.{MasterRefusal}
-use Rattle.mes_master.specs.declared.refusal.MasterRefusal.TheVariants.{NoStream, OfferTwice, NoSuchOffer, UpdateTwice, NoSuchUpdate}
-use Rattle.mes_master.specs.Masters.{MasterState, MasterAnswer, plain, subscribed, update_event, is_there, is_owing, carried_out, is_subscribe}
-use Rattle.mes_master.specs.Sending.{Sends, on_stream, offer_ids, comes_again, made, offers_sent, rescind_sent, told, told_owing, updated, update_sent, waiting, resent, resend_sent}
-use Rattle.mes_master.proofs.AgainLemmas.{IsOpen}
+use Rattle.mes_double_master.specs.declared.refusal.MasterRefusal.{MasterRefusal}
+use Rattle.mes_double_master.specs.declared.refusal.MasterRefusal.TheVariants.{NoStream, OfferTwice, NoSuchOffer, UpdateTwice, NoSuchUpdate}
+use Rattle.mes_double_master.specs.Masters.{MasterState, MasterAnswer, plain, subscribed, update_event, is_there, is_unacknowledged, carried_out, is_subscribe}
+use Rattle.mes_double_master.specs.Sending.{Sends, on_stream, offer_ids, is_duplicate, made, offers_sent, rescind_sent, reported, reported_unacknowledged, updated, update_sent, waiting, resent, resend_sent}
+use Rattle.mes_double_master.proofs.AgainLemmas.{IsOpen}
 use Rattle.mes_double.specs.declared.moves.Move.{Move}
 use Rattle.mes_double.specs.declared.moves.Move.TheVariants as moves
 use Rattle.mes_double.specs.declared.sent.Sent.{Sent}
@@ -58,10 +58,10 @@ to_resubscribed c a = to_world c (record c.world { master = a.master; session = 
 
 pub data Turn (c d : Course) : Type 0 where
   skips : d ≡ to_world c (skip c.world) → Turn c d
-  offers : (list : List Offer) → comes_again c.world.master.offered (offer_ids list) ≡ false → d ≡ to_sent c (made c.world.master list).1 (event.Offers list) → Turn c d
+  offers : (list : List Offer) → is_duplicate c.world.master.offered (offer_ids list) ≡ false → d ≡ to_sent c (made c.world.master list).1 (event.Offers list) → Turn c d
   rescinds : (id : Id) → d ≡ to_sent c (record c.world.master { outstanding = without_offer id.value c.world.master.outstanding }) (event.Rescind (record { offer_id = id })) → Turn c d
-  tells : (status : TaskStatus) → owed_key_of status ≡ None → d ≡ to_sent c (told c.world.master status) (update_event status) → Turn c d
-  tells_owing : (status : TaskStatus) (key : OwedKey) → owed_key_of status ≡ Some key → d ≡ to_sent c (told_owing c.world.master key status) (update_event status) → Turn c d
+  reports : (status : TaskStatus) → owed_key_of status ≡ None → d ≡ to_sent c (reported c.world.master status) (update_event status) → Turn c d
+  tells_owing : (status : TaskStatus) (key : OwedKey) → owed_key_of status ≡ Some key → d ≡ to_sent c (reported_unacknowledged c.world.master key status) (update_event status) → Turn c d
   resends : (index : ℕ) (e : OwedKey × TaskStatus) → slice_get (waiting c.world.master.owing c.world.master.acked) index ≡ Some e → d ≡ to_sent c c.world.master (update_event e.1) → Turn c d
   hears : (e : Event) (events : List Event) → c.world.waiting ≡ e ∷ events → d ≡ to_heard c e events → Turn c d
   wishes : (call : Call) (stream : List ℕ) → c.world.master.stream ≡ Some stream → Answers c.world.session call None → d ≡ to_wished c call stream → Turn c d
@@ -95,13 +95,13 @@ module _ (c d : Course) where
         by false f = refused-turn (on_stream c.world.master inner) NoStream e (ap (λ (b : Bool). if b then inner else Err NoStream) f)
 
     offers-turn : (list : List Offer) → d.world ≡ sending c.world (offers_sent c.world.master list) → Turn c d
-    offers-turn list e = on-stream _ e (λ f. by f (comes_again c.world.master.offered (offer_ids list)) refl)
+    offers-turn list e = on-stream _ e (λ f. by f (is_duplicate c.world.master.offered (offer_ids list)) refl)
       where
         inner : Sends
-        inner = if comes_again c.world.master.offered (offer_ids list) then Err OfferTwice else Ok (made c.world.master list)
+        inner = if is_duplicate c.world.master.offered (offer_ids list) then Err OfferTwice else Ok (made c.world.master list)
 
-        by : d.world ≡ sending c.world (if comes_again c.world.master.offered (offer_ids list) then Err OfferTwice else Ok (made c.world.master list))
-            → (b : Bool) → comes_again c.world.master.offered (offer_ids list) ≡ b → Turn c d
+        by : d.world ≡ sending c.world (if is_duplicate c.world.master.offered (offer_ids list) then Err OfferTwice else Ok (made c.world.master list))
+            → (b : Bool) → is_duplicate c.world.master.offered (offer_ids list) ≡ b → Turn c d
         by f true g = refused-turn _ OfferTwice f (ap (λ (b : Bool). if b then Err OfferTwice else Ok (made c.world.master list)) g)
         by f false g = offers list g (sent-turn _ _ _ f (ap (λ (b : Bool). if b then Err OfferTwice else Ok (made c.world.master list)) g))
 
@@ -127,15 +127,15 @@ module _ (c d : Course) where
     update-turn : (status : TaskStatus) → d.world ≡ sending c.world (update_sent c.world.master status) → Turn c d
     update-turn status e = on-stream _ e (λ f. by f (owed_key_of status) refl)
       where
-        owing : (key : OwedKey) → d.world ≡ sending c.world (updated c.world.master status (Some key)) → owed_key_of status ≡ Some key → (b : Bool) → is_owing c.world.master.owing key ≡ b → Turn c d
-        owing key f k true g = refused-turn _ UpdateTwice f (ap (λ (b : Bool). if b then Err UpdateTwice else Ok (update_event status, told_owing c.world.master key status)) g)
+        owing : (key : OwedKey) → d.world ≡ sending c.world (updated c.world.master status (Some key)) → owed_key_of status ≡ Some key → (b : Bool) → is_unacknowledged c.world.master.owing key ≡ b → Turn c d
+        owing key f k true g = refused-turn _ UpdateTwice f (ap (λ (b : Bool). if b then Err UpdateTwice else Ok (update_event status, reported_unacknowledged c.world.master key status)) g)
         owing key f k false g =
             tells_owing status key k
-            (sent-turn _ _ _ f (ap (λ (b : Bool). if b then Err UpdateTwice else Ok (update_event status, told_owing c.world.master key status)) g))
+            (sent-turn _ _ _ f (ap (λ (b : Bool). if b then Err UpdateTwice else Ok (update_event status, reported_unacknowledged c.world.master key status)) g))
 
         by : d.world ≡ sending c.world (updated c.world.master status (owed_key_of status)) → (o : Option OwedKey) → owed_key_of status ≡ o → Turn c d
-        by f None k = tells status k (sent-turn _ _ _ f (ap (updated c.world.master status) k))
-        by f (Some key) k = owing key (f ∙ ap (λ (o : Option OwedKey). sending c.world (updated c.world.master status o)) k) k (is_owing c.world.master.owing key) refl
+        by f None k = reports status k (sent-turn _ _ _ f (ap (updated c.world.master status) k))
+        by f (Some key) k = owing key (f ∙ ap (λ (o : Option OwedKey). sending c.world (updated c.world.master status o)) k) k (is_unacknowledged c.world.master.owing key) refl
 
     resend-turn : (index : ℕ) → d.world ≡ sending c.world (resend_sent c.world.master index) → Turn c d
     resend-turn index e = on-stream _ e (λ f. by f (slice_get (waiting c.world.master.owing c.world.master.acked) index) refl)

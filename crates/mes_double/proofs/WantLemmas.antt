@@ -7,18 +7,18 @@ use Rattle.mes_model.specs.TaskStatus.{TaskStatus}
 use Rattle.mes_model.specs.Owed.{owed_key_of}
 use Rattle.mes_msg.specs.Event.{Event}
 use Rattle.mes_msg.specs.Call.{Call}
-use Rattle.mes_hand.specs.Refusals.{Answers}
+use Rattle.mes_session_state.specs.Refusals.{Answers}
 use Rattle.mes_session.specs.History.{NeedsMemory}
-use Rattle.mes_master.specs.declared.refusal.MasterRefusal.{MasterRefusal}
-use Rattle.mes_master.specs.declared.refusal.MasterRefusal.TheVariants.{NoMemory, NoStream}
-use Rattle.mes_master.specs.Masters.{MasterState}
-use Rattle.mes_master.specs.Memory.{MayWantMemory}
-use Rattle.mes_master.specs.Sending.{Sends, updated, update_sent}
+use Rattle.mes_double_master.specs.declared.refusal.MasterRefusal.{MasterRefusal}
+use Rattle.mes_double_master.specs.declared.refusal.MasterRefusal.TheVariants.{NoMemory, NoStream}
+use Rattle.mes_double_master.specs.Masters.{MasterState}
+use Rattle.mes_double_master.specs.Memory.{MayWantMemory}
+use Rattle.mes_double_master.specs.Sending.{Sends, updated, update_sent}
 use Rattle.mes_double.specs.declared.moves.Move.{Move}
 use Rattle.mes_double.specs.declared.sent.Sent.{Sent}
 use Rattle.mes_double.specs.Worlds.{WorldState, is_done, answer_to}
 use Rattle.mes_double.specs.Memory.{HearingWants, WishingWants, ArrivingWants, MayWant, WantsMemory}
-use Rattle.mes_double.proofs.RunningLemmas.{SoFar}
+use Rattle.mes_double.proofs.RunningLemmas.{DecodeStatus}
 
 module _ {T E : Type 0} where
   -- what is so anyway is so of an error
@@ -40,32 +40,32 @@ module _ {T E : Type 0} where
 
   -- memory was wanted of what the master would send
   pub refused-wants : {P : Type 0} (result : Result T E) (why : MasterRefusal) → OnErr result (why ≡ NoMemory) → (why ≡ NoMemory → P) → OnErr result P
-  refused-wants result why told wants = on_err_weaker result wants told
+  refused-wants result why reported wants = on_err_weaker result wants reported
 
   pub heard-wants : (result : Result T E) (waiting rest : List Event) (e : Event) → waiting ≡ e ∷ rest → OnErr result (NeedsMemory e) → OnErr result (HearingWants waiting)
-  heard-wants result waiting rest e is told = on_err_weaker result (subst (λ (l : List Event). HearingWants l) (sym is)) told
+  heard-wants result waiting rest e is reported = on_err_weaker result (subst (λ (l : List Event). HearingWants l) (sym is)) reported
 
   pub wished-wants : (result : Result T E) (w : WorldState) (call : Call) (current : Option (List ℕ)) (stream : List ℕ) → current ≡ Some stream → OnErr result (Answers w.session call None)
       → OnErr result (WishingWants w call current)
-  wished-wants result w call current stream is told = on_err_weaker result (subst (λ (o : Option (List ℕ)). WishingWants w call o) (sym is)) told
+  wished-wants result w call current stream is reported = on_err_weaker result (subst (λ (o : Option (List ℕ)). WishingWants w call o) (sym is)) reported
 
   pub arrived-wants : (result : Result T E) (w v : WorldState) (index : ℕ) (p : Sent) (status : ℕ) → w ≡ v → slice_get w.sent index ≡ Some p → status ≡ (answer_to w p).status
       → OnErr result (is_done status ≡ true) → OnErr result (ArrivingWants v (slice_get v.sent index))
-  arrived-wants result w v index p status same is status-is told =
+  arrived-wants result w v index p status same is status-is reported =
       subst (λ (u : WorldState). OnErr result (ArrivingWants u (slice_get u.sent index))) same
-      (on_err_weaker result (λ (f : is_done status ≡ true). subst (λ (o : Option Sent). ArrivingWants w o) (sym is) (sym (ap is_done status-is) ∙ f)) told)
+      (on_err_weaker result (λ (f : is_done status ≡ true). subst (λ (o : Option Sent). ArrivingWants w o) (sym is) (sym (ap is_done status-is) ∙ f)) reported)
 
 -- memory was wanted of an answer, so the call is carried out
 pub handled-wants : (w v : WorldState) (index : ℕ) (p : Sent) → w ≡ v → slice_get w.sent index ≡ Some p → MayWantMemory w.master p.call (Some p.stream) → ArrivingWants v (slice_get v.sent index)
-handled-wants w v index p same is told =
-    subst (λ (u : WorldState). ArrivingWants u (slice_get u.sent index)) same (subst (λ (o : Option Sent). ArrivingWants w o) (sym is) (by told))
+handled-wants w v index p same is reported =
+    subst (λ (u : WorldState). ArrivingWants u (slice_get u.sent index)) same (subst (λ (o : Option Sent). ArrivingWants w o) (sym is) (by reported))
   where
     by : MayWantMemory w.master p.call (Some p.stream) → is_done (answer_to w p).status ≡ true
     by (inl f) = ap is_done f
     by (inr f) = ap is_done f.0
 
 -- the moves so far lead to a world in which the next one may want memory
-pub so-far-wants : (framework : Id) (ids : List (List ℕ)) (list : List Move) (index : ℕ) (world : WorldState) → SoFar framework ids (take index list) index world
+pub so-far-wants : (framework : Id) (ids : List (List ℕ)) (list : List Move) (index : ℕ) (world : WorldState) → DecodeStatus framework ids (take index list) index world
     → (move : Move) → index < length list → move ≡ get_or list index move → MayWant world move → WantsMemory framework ids list
 so-far-wants framework ids list index world s move within is wants = record {
   index = index;

@@ -56,11 +56,11 @@ module _ (test : Sent → Bool) where
 
   module _ (arrivals : List Arrival) (a : Arrival) where
     -- what was sent behind the one that arrives is not touched
-    way-behind : (at : ℕ) (ps : List Sent) → a.index < at → any_way (arrivals ++ a ∷ []) at ps ≡ any_way arrivals at ps
-    way-behind at [] less = refl
-    way-behind at (p ∷ ps) less =
+    way-following : (at : ℕ) (ps : List Sent) → a.index < at → any_way (arrivals ++ a ∷ []) at ps ≡ any_way arrivals at ps
+    way-following at [] less = refl
+    way-following at (p ∷ ps) less =
         way-cons (arrivals ++ a ∷ []) at p ps
-        ∙ (λ i. (not (arrived-other arrivals a at (λ e. omega arith) i) && test p) || way-behind (suc at) ps (omega arith) i)
+        ∙ (λ i. (not (arrived-other arrivals a at (λ e. omega arith) i) && test p) || way-following (suc at) ps (omega arith) i)
         ∙ sym (way-cons arrivals at p ps)
 
     -- one arrives, for the first time or again
@@ -70,7 +70,7 @@ module _ (test : Sent → Bool) where
     way-arrives at (q ∷ ps) zero p there is =
         let here : a.index ≡ at = omega (arith, is) in
         let same : q ≡ p = (let e : Some q ≡ Some p = there in cc) in
-        let rest : any_way (arrivals ++ a ∷ []) (suc at) ps ≡ any_way arrivals (suc at) ps = way-behind (suc at) ps (omega (arith, here)) in
+        let rest : any_way (arrivals ++ a ∷ []) (suc at) ps ≡ any_way arrivals (suc at) ps = way-following (suc at) ps (omega (arith, here)) in
         (λ i. way-cons (arrivals ++ a ∷ []) at q ps i || (not (has_arrived arrivals (here i)) && test (sym same i)))
         ∙ (λ i. ((not (arrived-here arrivals a at here i) && test q) || rest i) || (not (has_arrived arrivals at) && test q))
         ∙ or-swap (any_way arrivals (suc at) ps) (not (has_arrived arrivals at) && test q)

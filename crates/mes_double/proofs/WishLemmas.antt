@@ -7,11 +7,11 @@ use Rattle.mes_model.specs.Offer.{Offer}
 use Rattle.mes_model.specs.OwedKey.{OwedKey}
 use Rattle.mes_msg.specs.Call.{Call}
 use Rattle.mes_msg.specs.Call.TheVariants as of
-use Rattle.mes_hand.specs.declared.refusal.Refusal.TheVariants.{NotSubscribed, NoSuchOffer, NotOwed}
-use Rattle.mes_hand.specs.Held.{Held, name_of, offer_in, names, is_owed}
-use Rattle.mes_hand.specs.Calls.{framework_of, named_by, acknowledged_by}
-use Rattle.mes_hand.specs.Refusals.{Answers, IsStrange}
-use Rattle.mes_master.specs.Masters.{same_id, agrees}
+use Rattle.mes_session_state.specs.declared.refusal.Refusal.TheVariants.{NotSubscribed, NoSuchOffer, NotOwed}
+use Rattle.mes_session_state.specs.Held.{Held, name_of, offer_in, names, is_owed}
+use Rattle.mes_session_state.specs.Calls.{framework_of, named_by, acknowledged_by}
+use Rattle.mes_session_state.specs.Refusals.{Answers, IsOtherFramework}
+use Rattle.mes_double_master.specs.Masters.{same_id, agrees}
 use Rattle.mes_double.proofs.CountLemmas.{count, count-found}
 
 -- where an identifier stands that names an offer
@@ -48,7 +48,7 @@ module _ (s : Held) (call : Call) (said : Answers s call None) where
       by false f = absurd (said NotOwed (k, e, f))
 
 -- a framework that is not strange is the one that is known
-not-strange : (s : Held) (framework : Id) → (IsStrange s framework → ⊥) → s.framework ≡ Some framework
+not-strange : (s : Held) (framework : Id) → (IsOtherFramework s framework → ⊥) → s.framework ≡ Some framework
 not-strange s framework fine = by s.framework refl
   where
     apart : (known : Id) → s.framework ≡ Some known → (b : Bool) → bytes_eq known.value framework.value ≡ b → s.framework ≡ Some framework
@@ -75,8 +75,8 @@ of-known s call o said e framework one = by call said e
     own other f = (bytes_eq-Decides framework.value other.value).1 (ap (λ (d : Id). d.value) (sym (one other f)))
 
     by : (call : Call) → Answers s call None → names (named_by call) o ≡ true → agrees framework (framework_of call) ≡ true
-    by (of.Accept other body) said e = own other (not-strange s other (λ (f : IsStrange s other). said NotSubscribed f))
-    by (of.Decline other body) said e = own other (not-strange s other (λ (f : IsStrange s other). said NotSubscribed f))
+    by (of.Accept other body) said e = own other (not-strange s other (λ (f : IsOtherFramework s other). said NotSubscribed f))
+    by (of.Decline other body) said e = own other (not-strange s other (λ (f : IsOtherFramework s other). said NotSubscribed f))
     by (of.Subscribe other body) said e = absurd (cc)
     by (of.Revive other) said e = absurd (cc)
     by (of.Kill other body) said e = absurd (cc)

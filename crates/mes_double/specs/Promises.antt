@@ -9,13 +9,13 @@ use Rattle.mes_msg.specs.Event.{Event}
 use Rattle.mes_msg.specs.Call.{Call}
 use Rattle.mes_msg.specs.Call.TheVariants as of
 use Rattle.mes_msg.specs.declared.entry.Entry.TheVariants.{Heard}
-use Rattle.mes_fit.specs.Fits.{Fits}
-use Rattle.mes_hand.specs.Held.{Held, names, is_owed}
-use Rattle.mes_hand.specs.Calls.{named_by}
-use Rattle.mes_hand.specs.Refusals.{stands_twice, ids_of}
+use Rattle.mes_session_fit.specs.Fits.{Fits}
+use Rattle.mes_session_state.specs.Held.{Held, names, is_owed}
+use Rattle.mes_session_state.specs.Calls.{named_by}
+use Rattle.mes_session_state.specs.Refusals.{is_duplicated, ids_of}
 use Rattle.mes_session.specs.History.{after, owed_by}
-use Rattle.mes_master.specs.Masters.{MasterState}
-use Rattle.mes_master.specs.Sending.{offer_ids}
+use Rattle.mes_double_master.specs.Masters.{MasterState}
+use Rattle.mes_double_master.specs.Sending.{offer_ids}
 use Rattle.mes_double.specs.declared.moves.Move.TheVariants as moves
 use Rattle.mes_double.specs.declared.sent.Sent.{Sent}
 use Rattle.mes_double.specs.Worlds.{WorldState}
@@ -39,11 +39,11 @@ all_took arrivals = flat_map (λ (a : Arrival). a.took) arrivals
 -- what was launched is what arrivals launched, and no task was launched twice
 pub record LaunchedOnce (c : Course) : Type 0 where
   pub launched : c.world.master.launched ≡ ids_of (all_ran c.arrivals)
-  pub once : stands_twice c.world.master.launched ≡ false
+  pub once : is_duplicated c.world.master.launched ≡ false
 
 -- no offer was taken away twice
 abbrev pub TakenOnce : Course → Type 0
-TakenOnce c = stands_twice (offer_ids (all_took c.arrivals)) ≡ false
+TakenOnce c = is_duplicated (offer_ids (all_took c.arrivals)) ≡ false
 
 -- what an arrival launched fits the offers that it took away
 abbrev pub WhatRanFits : Course → Type 0

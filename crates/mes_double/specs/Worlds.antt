@@ -5,14 +5,14 @@ use Rattle.mes_model.specs.declared.framework_info.FrameworkInfo.{FrameworkInfo}
 use Rattle.mes_msg.specs.Event.{Event}
 use Rattle.mes_msg.specs.Call.{Call}
 use Rattle.mes_msg.specs.declared.entry.Entry.TheVariants.{Heard, Said, Broken}
-use Rattle.mes_hand.specs.declared.refusal.Refusal.{Refusal}
-use Rattle.mes_hand.specs.Held.{Held}
-use Rattle.mes_hand.specs.Refusals.{Answers}
+use Rattle.mes_session_state.specs.declared.refusal.Refusal.{Refusal}
+use Rattle.mes_session_state.specs.Held.{Held}
+use Rattle.mes_session_state.specs.Refusals.{Answers}
 use Rattle.mes_session.specs.History.{at_first, after}
 use Rattle.mes_session.specs.Made.{subscribe_call}
-use Rattle.mes_master.specs.Masters.{MasterState, MasterAnswer, handled}
-use Rattle.mes_master.specs.Sending.{Sends, offers_sent, rescind_sent, update_sent, resend_sent}
-use Rattle.mes_master.specs.Runs.{new_master}
+use Rattle.mes_double_master.specs.Masters.{MasterState, MasterAnswer, handled}
+use Rattle.mes_double_master.specs.Sending.{Sends, offers_sent, rescind_sent, update_sent, resend_sent}
+use Rattle.mes_double_master.specs.Runs.{new_master}
 use Rattle.mes_double.specs.declared.moves.Move.{Move}
 use Rattle.mes_double.specs.declared.moves.Move.TheVariants as moves
 use Rattle.mes_double.specs.declared.sent.Sent.{Sent}

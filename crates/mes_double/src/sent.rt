@@ -1,6 +1,6 @@
 //! Calls on the way.
 
-use mes_http::StreamId;
+use mes_double_http::StreamId;
 use mes_msg::Call;
 
 /// A call that a session said, and the id of the stream that was current then.

@@ -5,7 +5,7 @@ ghost use Rattle.mes_double.specs.Worlds.{new_world};
 mod making;
 
 use crate::sent::Sent;
-use mes_master::Master;
+use mes_double_master::Master;
 use mes_model::Id;
 use mes_msg::Event;
 use mes_session::Session;
@@ -26,7 +26,7 @@ pub struct World {
 
 impl Model for World {
     ghost use Rattle.std.specs.Coded.{codes};
-    ghost use Rattle.mes_part.specs.MembersCode.{members_code};
+    ghost use Rattle.mes_model_schema.specs.MembersCode.{members_code};
     ghost use Rattle.mes_double.specs.Worlds.{WorldState};
 
     ghost Value = { WorldState };

@@ -11,7 +11,7 @@ use Rattle.std.proofs.lemmas.Nat.{div-add-mod', div-mul-add, mod-mul-add, mod_be
 use Rattle.std.proofs.lemmas.Int.Digits.{digits_value-lt}
 use Rattle.std.proofs.lemmas.Fmt.{decimal_is_IsNumeral, decimal-digits_value}
 use Rattle.std.proofs.Math.Nat.{one-le-pow, mul-le-mul_left, mul-le-mul_right}
-use Rattle.mes_fixed.specs.declared.limits.TheConstants.{UNITS_LIMIT}
+use Rattle.mes_fixed.specs.declared.limits.TheConstants.{MAX_UNITS}
 use Rattle.mes_fixed.specs.Number.{IsInt}
 use Rattle.mes_fixed.specs.Text.{fraction_text, text_of}
 use Rattle.mes_fixed.specs.FixedText.{WritesUnits}
@@ -96,7 +96,7 @@ joined whole ds places most =
     ∙ spread (digits_value 10 whole) (10 ^ length ds) (digits_value 10 ds) (10 ^ (places - length ds))
     ∙ ap (λ (x : ℕ). digits_value 10 whole * x + digits_value 10 ds * 10 ^ (places - length ds)) power
 
-pub text_writes : (places units : ℕ) → 1 ≤ places → places ≤ 6 → units ≤ UNITS_LIMIT → WritesUnits places units (text_of places units)
+pub text_writes : (places units : ℕ) → 1 ≤ places → places ≤ 6 → units ≤ MAX_UNITS → WritesUnits places units (text_of places units)
 text_writes places units low high le = record {
   whole = decimal q;
   fraction = ds;
@@ -240,12 +240,12 @@ int_only (d ∷ ds) (inl h) small = decimal-digits_value (numerals_by_value (All
 int_only (d ∷ ds) (inr h) small =
     decimal-digits_value (numerals_by_value (AllDigits 10) tells_digits) (d ∷ ds) (digit_is_value d (omega (arith, h.0)) h.1, h.2) (omega arith) (λ e. absurd (omega (arith, h.0, e))) small
 
-pub writes_only : (places units : ℕ) (text : List ℕ) → units ≤ UNITS_LIMIT → WritesUnits places units text → text ≡ text_of places units
+pub writes_only : (places units : ℕ) (text : List ℕ) → units ≤ MAX_UNITS → WritesUnits places units text → text ≡ text_of places units
 writes_only places units text le w =
     w.is
     ∙ ap (λ (x : List ℕ). x ++ 46 ∷ w.fraction) (sym (int_only w.whole w.is_int small))
     ∙ ap (λ (q : ℕ). decimal q ++ 46 ∷ w.fraction) (sym front)
-    ∙ ap (λ (x : List ℕ). decimal (units / 10 ^ places) ++ 46 ∷ x) (fraction_only places (units % 10 ^ places) w.fraction w.is_numeral w.most w.last (sym behind)) where
+    ∙ ap (λ (x : List ℕ). decimal (units / 10 ^ places) ++ 46 ∷ x) (fraction_only places (units % 10 ^ places) w.fraction w.is_numeral w.most w.last (sym following)) where
       q : ℕ
       q = digits_value 10 w.whole
 
@@ -261,8 +261,8 @@ writes_only places units text le w =
       front : units / 10 ^ places ≡ q
       front = ap (λ (n : ℕ). n / 10 ^ places) (sym units_are) ∙ div-mul-add q (10 ^ places) rest below
 
-      behind : units % 10 ^ places ≡ rest
-      behind = ap (λ (n : ℕ). n % 10 ^ places) (sym units_are) ∙ mod-mul-add q (10 ^ places) rest below
+      following : units % 10 ^ places ≡ rest
+      following = ap (λ (n : ℕ). n % 10 ^ places) (sym units_are) ∙ mod-mul-add q (10 ^ places) rest below
 
       small : digits_value 10 w.whole < 2 ^ 64
       small =

@@ -40,21 +40,21 @@ abbrev HasSign : List ℕ → Type 0
 HasSign text = (lowers : Bool) × IsSign lowers text
 
 -- what may follow a part
-abbrev Behind : NumberState → List ℕ → Type 0
-Behind AtStart text = IsNumber text
-Behind AfterMinus text = Then IsInt IsTail text
-Behind AfterZero text = IsTail text
-Behind InWhole text = Then (AllDigits 10) IsTail text
-Behind AfterPoint text = Then (IsNumeral 10) IsEnd text
-Behind InFraction text = Then (AllDigits 10) IsEnd text
-Behind AfterExponent text = Then HasSign (IsNumeral 10) text
-Behind AfterSign text = IsNumeral 10 text
-Behind InExponent text = AllDigits 10 text
+abbrev Following : NumberState → List ℕ → Type 0
+Following AtStart text = IsNumber text
+Following AfterMinus text = Then IsInt IsTail text
+Following AfterZero text = IsTail text
+Following InWhole text = Then (AllDigits 10) IsTail text
+Following AfterPoint text = Then (IsNumeral 10) IsEnd text
+Following InFraction text = Then (AllDigits 10) IsEnd text
+Following AfterExponent text = Then HasSign (IsNumeral 10) text
+Following AfterSign text = IsNumeral 10 text
+Following InExponent text = AllDigits 10 text
 
 -- what may follow the part that a letter leads to
 abbrev BehindNext : Option NumberState → List ℕ → Type 0
 BehindNext None text = ⊥
-BehindNext (Some next) text = Behind next text
+BehindNext (Some next) text = Following next text
 
 no_end : IsEnd []
 no_end = (false, [], (refl, refl))
@@ -65,7 +65,7 @@ no_tail = record { front = []; back = []; is = refl; first = ([], refl); second 
 no_digits : {Q : List ℕ → Type 0} → Q [] → Then (AllDigits 10) Q []
 no_digits q = record { front = []; back = []; is = refl; first = tt; second = q }
 
-behind_final : (part : NumberState) → is_final part ≡ true → Behind part []
+behind_final : (part : NumberState) → is_final part ≡ true → Following part []
 behind_final AfterZero h = no_tail
 behind_final InWhole h = no_digits no_tail
 behind_final InFraction h = no_digits no_end
@@ -124,7 +124,7 @@ no_sign : (c : ℕ) (text : List ℕ) → digit_value c < 10 → AllDigits 10 te
 no_sign c text d h = record { front = []; back = c ∷ text; is = refl; first = (false, inl refl); second = (omega arith, (d, h)) }
 
 -- what may follow the next part, with the letter before it, may follow this one
-behind_letter : (part : NumberState) (l : Letter) (c : ℕ) (text : List ℕ) → LetterIs l c → BehindNext (number_next part l) text → Behind part (c ∷ text)
+behind_letter : (part : NumberState) (l : Letter) (c : ℕ) (text : List ℕ) → LetterIs l c → BehindNext (number_next part l) text → Following part (c ∷ text)
 behind_letter AtStart nought c text e h = signed_number false [] (c ∷ text) refl (zero_first c text e h)
 behind_letter AtStart digit c text e h = signed_number false [] (c ∷ text) refl (other_first c text e h)
 behind_letter AtStart dash c text e h = dash_first c text e h
@@ -159,7 +159,7 @@ behind_letter InExponent nought c text e h = (digit_of_nought c e, h)
 behind_letter InExponent digit c text e h = (digit_is_value c (omega arith) (omega arith), h)
 behind_letter InExponent _ c text e h = absurd h
 
-ends_behind : (part : NumberState) (text : List ℕ) → Ends part text → Behind part text
+ends_behind : (part : NumberState) (text : List ℕ) → Ends part text → Following part text
 ends_behind part [] h = behind_final part h
 ends_behind part (c ∷ text) h =
     let next : BehindNext (number_next part (letter_of c)) text = rw h.1 (ends_behind h.0 text h.2) in

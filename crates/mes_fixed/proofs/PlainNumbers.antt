@@ -6,7 +6,7 @@ use Rattle.std.proofs.Math.Seq.{take-suc, drop-cons}
 use Rattle.std.proofs.lemmas.Bool.Decides.{nat_tests}
 use Rattle.std.proofs.lemmas.List.{append-nil, take_all}
 use Rattle.std.proofs.lemmas.Str.{digit_value_digit}
-use Rattle.mes_fixed.specs.declared.limits.TheConstants.{TEXT_LIMIT, UNITS_LIMIT}
+use Rattle.mes_fixed.specs.declared.limits.TheConstants.{MAX_NUMBER_TEXT, MAX_UNITS}
 use Rattle.mes_fixed.specs.Number.{IsInt, IsFrac}
 use Rattle.mes_fixed.specs.Gathering.{made}
 use Rattle.mes_fixed.specs.Value.{HalfUp, Nearest, Whole, Reads, GivesUnits, GivesWhole}
@@ -40,7 +40,7 @@ frac_is [] n = absurd (omega (arith, n.0))
 frac_is (d ∷ ds) n = (refl, n.1)
 
 -- digits on both sides of a point give so many units
-pub plain_gives : (places units : ℕ) (whole ds : List ℕ) → places ≤ 6 → IsInt whole → IsNumeral 10 ds → length ds ≤ places → length whole + suc (length ds) ≤ TEXT_LIMIT → units ≡ digits_value 10 (whole ++ ds) * 10 ^ (places - length ds) → units ≤ UNITS_LIMIT → Reads (GivesUnits places) (whole ++ (46 ∷ ds)) units
+pub plain_gives : (places units : ℕ) (whole ds : List ℕ) → places ≤ 6 → IsInt whole → IsNumeral 10 ds → length ds ≤ places → length whole + suc (length ds) ≤ MAX_NUMBER_TEXT → units ≡ digits_value 10 (whole ++ ds) * 10 ^ (places - length ds) → units ≤ MAX_UNITS → Reads (GivesUnits places) (whole ++ (46 ∷ ds)) units
 plain_gives places units whole ds high int numeral short room is le =
     let len : length (whole ++ (46 ∷ ds)) ≡ length whole + suc (length ds) = length-append whole (46 ∷ ds) in
     let units_is : units ≡ digits_value 10 (whole ++ ds) * 10 ^ ((0 + places) - (length ds + 0)) = is ∙ ap (λ (i : ℕ). digits_value 10 (whole ++ ds) * 10 ^ i) (omega arith) in
@@ -68,7 +68,7 @@ plain_gives places units whole ds high int numeral short room is le =
     }
 
 -- digits alone give their number
-pub digits_give : (v : ℕ) (whole : List ℕ) → IsInt whole → length whole ≤ TEXT_LIMIT → v ≡ digits_value 10 whole → v < 2 ^ 64 → Reads GivesWhole whole v
+pub digits_give : (v : ℕ) (whole : List ℕ) → IsInt whole → length whole ≤ MAX_NUMBER_TEXT → v ≡ digits_value 10 whole → v < 2 ^ 64 → Reads GivesWhole whole v
 digits_give v whole int room is fits =
     let same : digits_value 10 (whole ++ []) ≡ v = ap (digits_value 10) (append-nil whole) ∙ sym is in
     let W : ℤ → Type 0 = λ z. Whole (digits_value 10 (whole ++ [])) z v in
@@ -93,18 +93,18 @@ digits_give v whole int room is fits =
     }
 
 -- a text with a point at a place, and the digits on both sides of it
-pub units_plain : (places at v w units : ℕ) (text whole rest : List ℕ) → places ≤ 6 → length text ≤ TEXT_LIMIT → at < length text → get_or text at 0 ≡ 46
+pub units_plain : (places at v w units : ℕ) (text whole rest : List ℕ) → places ≤ 6 → length text ≤ MAX_NUMBER_TEXT → at < length text → get_or text at 0 ≡ 46
     → whole ≡ take at text → rest ≡ drop at text → IsInt whole → v ≡ digits_value_after 10 0 whole
     → false ≡ (length (take (length rest - 1) (drop 1 rest)) == 0) → length (take (length rest - 1) (drop 1 rest)) ≤ places
     → AllDigits 10 (take (length rest - 1) (drop 1 rest)) → w ≡ digits_value_after 10 v (take (length rest - 1) (drop 1 rest))
-    → units ≡ w * 10 ^ (places - length (take (length rest - 1) (drop 1 rest))) → units ≤ UNITS_LIMIT → Reads (GivesUnits places) text units
+    → units ≡ w * 10 ^ (places - length (take (length rest - 1) (drop 1 rest))) → units ≤ MAX_UNITS → Reads (GivesUnits places) text units
 units_plain places at v w units text whole rest high short inside point front back int first some few all second is le =
     let ds = take (length rest - 1) (drop 1 rest) in
     let cut : rest ≡ 46 ∷ drop (suc at) text = back ∙ drop-cons text at 0 inside ∙ ap (λ (c : ℕ). c ∷ drop (suc at) text) point in
-    let behind : drop 1 rest ≡ drop (suc at) text = ap (drop 1) cut in
+    let following : drop 1 rest ≡ drop (suc at) text = ap (drop 1) cut in
     let whole_rest : ds ≡ drop 1 rest = take_all (length rest - 1) (drop 1 rest) (omega (arith, length-drop 1 rest)) in
     let joined : whole ++ (46 ∷ ds) ≡ text =
-    ap (λ (x : List ℕ). whole ++ (46 ∷ x)) (whole_rest ∙ behind) ∙ ap (λ (x : List ℕ). whole ++ x) (sym cut ∙ back) ∙ ap (λ (x : List ℕ). x ++ drop at text) front ∙ take-append-drop at text in
+    ap (λ (x : List ℕ). whole ++ (46 ∷ x)) (whole_rest ∙ following) ∙ ap (λ (x : List ℕ). whole ++ x) (sym cut ∙ back) ∙ ap (λ (x : List ℕ). x ++ drop at text) front ∙ take-append-drop at text in
     let long : length text ≡ length whole + suc (length ds) = sym (ap (length {A = ℕ}) joined) ∙ length-append whole (46 ∷ ds) in
     let value : w ≡ digits_value 10 (whole ++ ds) = second ∙ ap (λ (x : ℕ). digits_value_after 10 x ds) first ∙ sym (after_append 0 whole ds) in
     subst (λ (x : List ℕ). Reads (GivesUnits places) x units) joined

@@ -7,7 +7,7 @@ use Rattle.std.proofs.lemmas.Int.{ints}
 use Rattle.std.specs.Str.Parse.{AllDigits, digits_value}
 use Rattle.std.proofs.lemmas.Int.Digits.{digits_value-lt}
 use Rattle.std.proofs.Math.Nat.{mul-le-mul_right, one-le-pow, pow-le-pow_right}
-use Rattle.mes_fixed.specs.declared.limits.TheConstants.{UNITS_LIMIT}
+use Rattle.mes_fixed.specs.declared.limits.TheConstants.{MAX_UNITS}
 use Rattle.mes_fixed.specs.declared.fault.NumFault.{NumFault}
 use Rattle.mes_fixed.specs.declared.fault.NumFault.TheVariants.{TooLong, Shape, Range}
 use Rattle.mes_fixed.specs.declared.decimal.Decimal.{Decimal}
@@ -47,7 +47,7 @@ few_digits text n places h short le =
     let below = digits_value-lt 10 (n.whole ++ n.fraction) (number_digits text n h) in
     let len64 : length (n.whole ++ n.fraction) ≤ 64 = omega arith in
     let power : 10 ^ length (n.whole ++ n.fraction) ≤ 10 ^ 64 = pow-le-pow_right {n = 10} (lit< tt) len64 in
-    record { few = omega (arith, below, power); behind = omega (arith, len, length-append n.whole n.fraction); short = le }
+    record { few = omega (arith, below, power); following = omega (arith, len, length-append n.whole n.fraction); short = le }
 
 -- ---- the kept parts give what the numeral gives
 
@@ -123,8 +123,8 @@ units_only places text r ok err k h = one_answer (GivesUnits places) (LacksUnits
 
 -- ---- the answers of `Fixed::read`
 
-stands : (text : List ℕ) (d : Decimal) (places : ℕ) → (h : Reads IsDecimal text d) → places ≤ 6 → Stand h.numeral d places
-stands text d places h le = record { few = few_digits text h.numeral places h.spells h.short le; kept = h.gives }
+represents : (text : List ℕ) (d : Decimal) (places : ℕ) → (h : Reads IsDecimal text d) → places ≤ 6 → Stand h.numeral d places
+represents text d places h le = record { few = few_digits text h.numeral places h.spells h.short le; kept = h.gives }
 
 pub decimal_digits : (text : List ℕ) (d : Decimal) → Reads IsDecimal text d → AllDigits 10 d.digits.items
 decimal_digits text d h = subst (AllDigits 10) (sym h.gives.digits) (number_digits text h.numeral h.spells)
@@ -144,15 +144,15 @@ unsigned text d h b t = zero_from (mantissa h.numeral) (λ z. b (h.gives.negativ
     zero_from : (v : ℕ) → ((v ≢ 0) → ⊥) → v ≡ 0
     zero_from v not = elim (cases_le v 0) [ inl le ↦ omega arith | inr lt ↦ absurd (not (λ e. omega arith)) ]
 
-pub units_given : (places : ℕ) (text : List ℕ) (d : Decimal) (u : ℕ) → Reads IsDecimal text d → places ≤ 6 → ((d.negative ≡ true) × (value d ≢ 0) → ⊥) → HalfUp (multiplied d places) (divisor d places) u → u ≤ UNITS_LIMIT → Reads (GivesUnits places) text u
+pub units_given : (places : ℕ) (text : List ℕ) (d : Decimal) (u : ℕ) → Reads IsDecimal text d → places ≤ 6 → ((d.negative ≡ true) × (value d ≢ 0) → ⊥) → HalfUp (multiplied d places) (divisor d places) u → u ≤ MAX_UNITS → Reads (GivesUnits places) text u
 units_given places text d u h le b half fits = record {
   short = h.short;
   numeral = h.numeral;
   spells = h.spells;
-  gives = record { unsigned = unsigned text d h b; rounds = (rounds_iff h.numeral d places u (stands text d places h le) (omega (arith, fits))).1 half; fits = fits };
+  gives = record { unsigned = unsigned text d h b; rounds = (rounds_iff h.numeral d places u (represents text d places h le) (omega (arith, fits))).1 half; fits = fits };
 }
 
-pub units_above : (places : ℕ) (text : List ℕ) (d : Decimal) (u : ℕ) → Reads IsDecimal text d → places ≤ 6 → HalfUp (multiplied d places) (divisor d places) u → UNITS_LIMIT < u → Refuses (LacksUnits places) text Range
+pub units_above : (places : ℕ) (text : List ℕ) (d : Decimal) (u : ℕ) → Reads IsDecimal text d → places ≤ 6 → HalfUp (multiplied d places) (divisor d places) u → MAX_UNITS < u → Refuses (LacksUnits places) text Range
 units_above places text d u h le half over =
     let n = h.numeral in
     let x = digits_value 10 n.power in
@@ -161,9 +161,9 @@ units_above places text d u h le half over =
     let some = half_up_some (mantissa n * 10 ^ (raise n.lowers x places - lower n.lowers x f)) (10 ^ (lower n.lowers x f - raise n.lowers x places)) w in
     let N : ℤ → Type 0 = λ z. Nearest (mantissa n) z some.0 in
     let rounds : Rounds (mantissa n) (exponent n) places some.0 = subst N (sym (shift_is n.lowers x f places)) ((nearest_iff (mantissa n) (raise n.lowers x places) (lower n.lowers x f) some.0).1 some.1) in
-    let above : UNITS_LIMIT < some.0 = elim (cases_le some.0 UNITS_LIMIT) [
+    let above : MAX_UNITS < some.0 = elim (cases_le some.0 MAX_UNITS) [
       | inl small ↦
-          let kept = (rounds_iff n d places some.0 (stands text d places h le) (omega (arith, small))).0 rounds in
+          let kept = (rounds_iff n d places some.0 (represents text d places h le) (omega (arith, small))).0 rounds in
           let same = half_up_once (multiplied d places) (divisor d places) some.0 u kept half in
           absurd (omega (arith, same, small, over))
       | inr large ↦ large
@@ -206,13 +206,13 @@ whole_given text d v h b whole fits = record {
   short = h.short;
   numeral = h.numeral;
   spells = h.spells;
-  gives = record { unsigned = unsigned text d h b; whole = (wholes_iff h.numeral d v (stands text d 0 h (lit≤ tt)) (omega (arith, fits))).1 whole; fits = fits };
+  gives = record { unsigned = unsigned text d h b; whole = (wholes_iff h.numeral d v (represents text d 0 h (lit≤ tt)) (omega (arith, fits))).1 whole; fits = fits };
 }
 
 none_whole : (text : List ℕ) (d : Decimal) → (h : Reads IsDecimal text d) → ((v : ℕ) → multiplied d 0 ≡ v * divisor d 0 → 2 ^ 64 ≤ v) → (v : ℕ) → Whole (mantissa h.numeral) (exponent h.numeral) v → 2 ^ 64 ≤ v
 none_whole text d h none v whole = elim (cases_le (2 ^ 64) v) [
   | inl le ↦ le
-  | inr lt ↦ none v ((wholes_iff h.numeral d v (stands text d 0 h (lit≤ tt)) (omega (arith, lt))).0 whole)
+  | inr lt ↦ none v ((wholes_iff h.numeral d v (represents text d 0 h (lit≤ tt)) (omega (arith, lt))).0 whole)
 ]
 
 pub whole_lacks : (text : List ℕ) (d : Decimal) → Reads IsDecimal text d → ((v : ℕ) → multiplied d 0 ≡ v * divisor d 0 → 2 ^ 64 ≤ v) → Refuses LacksWhole text Range
@@ -238,7 +238,7 @@ signed_given text d v z h whole fits is range = record {
   spells = h.spells;
   gives = record {
     size = v;
-    whole = (wholes_iff h.numeral d v (stands text d 0 h (lit≤ tt)) (omega (arith, fits))).1 whole;
+    whole = (wholes_iff h.numeral d v (represents text d 0 h (lit≤ tt)) (omega (arith, fits))).1 whole;
     is = is ∙ ap (λ (b : Bool). signed b v) h.gives.negative;
     fits = subst (FitsSigned w32) (sym is) range;
   };
@@ -258,7 +258,7 @@ signed_outside text d v h whole fits outside = (
     h.numeral,
     h.spells,
     λ size is range.
-        let here = (wholes_iff h.numeral d v (stands text d 0 h (lit≤ tt)) (omega (arith, fits))).1 whole in
+        let here = (wholes_iff h.numeral d v (represents text d 0 h (lit≤ tt)) (omega (arith, fits))).1 whole in
         let same = whole_once (mantissa h.numeral) (exponent h.numeral) size v is here in
         let P : ℕ → Type 0 = λ k. FitsSigned w32 (signed h.numeral.negative k) in
         let B : Bool → Type 0 = λ b. FitsSigned w32 (signed b v) in

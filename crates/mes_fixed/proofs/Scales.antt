@@ -143,17 +143,17 @@ half_small m len k h lt =
 -- what the digits of a text of at most 64 bytes are, with f of them behind the point
 pub record AreFew (m f places : ℕ) : Type 0 where
   pub few : m < 10 ^ 64
-  pub behind : f ≤ 64
+  pub following : f ≤ 64
   pub short : places ≤ 6
 
 half_far : (lowers : Bool) (m f places x y n : ℕ) → AreFew m f places → 100 ≤ x → 100 ≤ y → n < FAR → HalfUp (m * 10 ^ (raise lowers x places - lower lowers x f)) (10 ^ (lower lowers x f - raise lowers x places)) n → HalfUp (m * 10 ^ (raise lowers y places - lower lowers y f)) (10 ^ (lower lowers y f - raise lowers y places)) n
 half_far false m f places x y n few hx hy lt h =
     let P : ℕ → Type 0 = λ w. HalfUp (m * 10 ^ ((x + places) - (f + 0))) w n in
-    let e : n ≡ m * 10 ^ ((x + places) - (f + 0)) = half_up_one _ n (subst P (power_none ((f + 0) - (x + places)) (omega (arith, few.behind))) h) in
-    let zero : m ≡ 0 = zero_from_far m ((x + places) - (f + 0)) n e (omega (arith, few.behind)) lt in
+    let e : n ≡ m * 10 ^ ((x + places) - (f + 0)) = half_up_one _ n (subst P (power_none ((f + 0) - (x + places)) (omega (arith, few.following))) h) in
+    let zero : m ≡ 0 = zero_from_far m ((x + places) - (f + 0)) n e (omega (arith, few.following)) lt in
     let Q : ℕ → Type 0 = λ w. HalfUp (m * 10 ^ ((y + places) - (f + 0))) w n in
     let g : Q 1 = one_half_up _ n (e ∙ zero_times m ((x + places) - (f + 0)) zero ∙ sym (zero_times m ((y + places) - (f + 0)) zero)) in
-    subst Q (sym (power_none ((f + 0) - (y + places)) (omega (arith, few.behind)))) g
+    subst Q (sym (power_none ((f + 0) - (y + places)) (omega (arith, few.following)))) g
 half_far true m f places x y n few hx hy lt h =
     let P : ℕ → Type 0 = λ x'. HalfUp x' (10 ^ ((f + x) - (0 + places))) n in
     let Q : ℕ → Type 0 = λ x'. HalfUp x' (10 ^ ((f + y) - (0 + places))) n in
@@ -163,9 +163,9 @@ half_far true m f places x y n few hx hy lt h =
 
 whole_far : (lowers : Bool) (m f x y v : ℕ) → AreFew m f 0 → 100 ≤ x → 100 ≤ y → v < FAR → m * 10 ^ (raise lowers x 0 - lower lowers x f) ≡ v * 10 ^ (lower lowers x f - raise lowers x 0) → m * 10 ^ (raise lowers y 0 - lower lowers y f) ≡ v * 10 ^ (lower lowers y f - raise lowers y 0)
 whole_far false m f x y v few hx hy lt h =
-    let e : v ≡ m * 10 ^ ((x + 0) - (f + 0)) = sym (h ∙ times_none v ((f + 0) - (x + 0)) (omega (arith, few.behind))) in
-    let zero : m ≡ 0 = zero_from_far m ((x + 0) - (f + 0)) v e (omega (arith, few.behind)) lt in
-    zero_times m ((y + 0) - (f + 0)) zero ∙ sym (zero_times m ((x + 0) - (f + 0)) zero) ∙ sym e ∙ sym (times_none v ((f + 0) - (y + 0)) (omega (arith, few.behind)))
+    let e : v ≡ m * 10 ^ ((x + 0) - (f + 0)) = sym (h ∙ times_none v ((f + 0) - (x + 0)) (omega (arith, few.following))) in
+    let zero : m ≡ 0 = zero_from_far m ((x + 0) - (f + 0)) v e (omega (arith, few.following)) lt in
+    zero_times m ((y + 0) - (f + 0)) zero ∙ sym (zero_times m ((x + 0) - (f + 0)) zero) ∙ sym e ∙ sym (times_none v ((f + 0) - (y + 0)) (omega (arith, few.following)))
 whole_far true m f x y v few hx hy lt h =
     let e : m ≡ v * 10 ^ ((f + x) - 0) = sym (times_none m (0 - (f + x)) (omega arith)) ∙ h in
     let small = half_small m 64 ((f + x) - 0) few.few (omega arith) in

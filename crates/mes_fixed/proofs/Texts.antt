@@ -11,7 +11,7 @@ use Rattle.std.proofs.lemmas.Str.Parse.{digit_from_value}
 use Rattle.std.proofs.lemmas.Nat.{div-add-mod', mod_below, pow-add, div_below}
 use Rattle.std.proofs.lemmas.Fmt.{decimal_is_IsNumeral, decimal_digit, first_decimal, length-decimal-le}
 use Rattle.std.proofs.Math.Nat.{pow-succ', one-le-pow, pow-le-pow_right}
-use Rattle.mes_fixed.specs.declared.limits.TheConstants.{UNITS_LIMIT}
+use Rattle.mes_fixed.specs.declared.limits.TheConstants.{MAX_UNITS}
 use Rattle.mes_fixed.specs.Number.{IsInt, IsFrac}
 use Rattle.mes_fixed.specs.Gathering.{made}
 use Rattle.mes_fixed.specs.Value.{HalfUp, Nearest, Reads, GivesUnits}
@@ -121,24 +121,24 @@ decimal_int q h = elim (eqb_tells q 0) [
     by_first [] n f = absurd (omega (arith, n.0))
     by_first (d ∷ ds) n f = let r = digit_from_value d n.1.0 in inr (omega (arith, f), r.1, n.1.1)
 
-whole_below : (places units : ℕ) → places ≤ 6 → units ≤ UNITS_LIMIT → units / 10 ^ places < 10 ^ (19 - places)
+whole_below : (places units : ℕ) → places ≤ 6 → units ≤ MAX_UNITS → units / 10 ^ places < 10 ^ (19 - places)
 whole_below places units high le =
     let all : 19 ≡ (19 - places) + places = omega arith in
     let power : 10 ^ 19 ≡ 10 ^ (19 - places) * 10 ^ places = ap (λ (i : ℕ). 10 ^ i) all ∙ pow-add 10 (19 - places) places in
     div_below units (10 ^ places) (10 ^ (19 - places)) (one-le-pow places 10 (lit< tt)) (omega (arith, power, le))
 
-pub whole_fits : (places units : ℕ) → 1 ≤ places → places ≤ 6 → units ≤ UNITS_LIMIT → units / 10 ^ places < 2 ^ 64
+pub whole_fits : (places units : ℕ) → 1 ≤ places → places ≤ 6 → units ≤ MAX_UNITS → units / 10 ^ places < 2 ^ 64
 whole_fits places units low high le =
     let at : 19 - places ≤ 18 = omega arith in
     let power : 10 ^ (19 - places) ≤ 10 ^ 18 = pow-le-pow_right {n = 10} (lit< tt) at in
     omega (arith, whole_below places units high le, power)
 
-pub text_short : (places units : ℕ) → 1 ≤ places → places ≤ 6 → units ≤ UNITS_LIMIT → length (decimal (units / 10 ^ places)) + 1 + places ≤ 24
+pub text_short : (places units : ℕ) → 1 ≤ places → places ≤ 6 → units ≤ MAX_UNITS → length (decimal (units / 10 ^ places)) + 1 + places ≤ 24
 text_short places units low high le =
     let len = length-decimal-le (19 - places) (units / 10 ^ places) (omega arith) (whole_below places units high le) (whole_fits places units low high le) in
     omega (arith, len)
 
-back_of : (places q r units : ℕ) (ds : List ℕ) → places ≤ 6 → q < 2 ^ 64 → length (decimal q) + 1 + places ≤ 24 → Fraction places r ds → units ≡ q * 10 ^ places + r → units ≤ UNITS_LIMIT → Reads (GivesUnits places) (decimal q ++ (46 ∷ ds)) units
+back_of : (places q r units : ℕ) (ds : List ℕ) → places ≤ 6 → q < 2 ^ 64 → length (decimal q) + 1 + places ≤ 24 → Fraction places r ds → units ≡ q * 10 ^ places + r → units ≤ MAX_UNITS → Reads (GivesUnits places) (decimal q ++ (46 ∷ ds)) units
 back_of places q r units ds high small room f is le =
     let short = f.short in
     let joined : digits_value 10 (decimal q ++ ds) ≡ q * 10 ^ length ds + digits_value 10 ds = value_append (decimal q) ds ∙ ap (λ (x : ℕ). x * 10 ^ length ds + digits_value 10 ds) (decimal_is_IsNumeral q small).1 in
@@ -151,7 +151,7 @@ back_of places q r units ds high small room f is le =
     ∙ ap (λ (x : ℕ). x * 10 ^ (places - length ds)) (sym joined) in
     plain_gives places units (decimal q) ds high (decimal_int q small) f.numeral short (omega (arith, room, short)) units_is le
 
-pub text_back : (places units : ℕ) → 1 ≤ places → places ≤ 6 → units ≤ UNITS_LIMIT → Reads (GivesUnits places) (text_of places units) units
+pub text_back : (places units : ℕ) → 1 ≤ places → places ≤ 6 → units ≤ MAX_UNITS → Reads (GivesUnits places) (text_of places units) units
 text_back places units low high le =
     back_of places (units / 10 ^ places) (units % 10 ^ places) units (fraction_text places (units % 10 ^ places)) high
     (whole_fits places units low high le)
@@ -178,14 +178,14 @@ text_is places units scale cleared front whole pointed all s c f w p a =
     ∙ ap (λ (x : List ℕ). x ++ fraction_text places (units % 10 ^ places)) (p ∙ ap (λ (x : List ℕ). x ++ 46 ∷ []) begun)
     ∙ append_assoc (decimal (units / 10 ^ places)) (46 ∷ []) (fraction_text places (units % 10 ^ places))
 
-pub text_room : (places units scale : ℕ) (cleared front whole pointed : List ℕ) → 1 ≤ places → places ≤ 6 → units ≤ UNITS_LIMIT → scale ≡ 10 ^ places → cleared ≡ [] → front ≡ cleared ++ whole → whole ≡ decimal (units / scale) → pointed ≡ front ++ 46 ∷ [] → length pointed + places ≤ 24
+pub text_room : (places units scale : ℕ) (cleared front whole pointed : List ℕ) → 1 ≤ places → places ≤ 6 → units ≤ MAX_UNITS → scale ≡ 10 ^ places → cleared ≡ [] → front ≡ cleared ++ whole → whole ≡ decimal (units / scale) → pointed ≡ front ++ 46 ∷ [] → length pointed + places ≤ 24
 text_room places units scale cleared front whole pointed low high le s c f w p =
     let begun : front ≡ decimal (units / 10 ^ places) = f ∙ ap (λ (x : List ℕ). x ++ whole) c ∙ w ∙ ap (λ (k : ℕ). decimal (units / k)) s in
     let len : length pointed ≡ length front + 1 = ap (length {A = ℕ}) p ∙ length-append front (46 ∷ []) in
     let same : length front ≡ length (decimal (units / 10 ^ places)) = ap (length {A = ℕ}) begun in
     omega (arith, len, same, text_short places units low high le)
 
-pub written_back : (places units value : ℕ) (text : List ℕ) → 1 ≤ places → places ≤ 6 → units ≤ UNITS_LIMIT → units ≡ value → text ≡ text_of places units → Reads (GivesUnits places) text value
+pub written_back : (places units value : ℕ) (text : List ℕ) → 1 ≤ places → places ≤ 6 → units ≤ MAX_UNITS → units ≡ value → text ≡ text_of places units → Reads (GivesUnits places) text value
 written_back places units value text low high le e t =
     let R : List ℕ → Type 0 = λ x. Reads (GivesUnits places) x value in
     let V : ℕ → Type 0 = λ v. Reads (GivesUnits places) (text_of places units) v in

@@ -2,7 +2,7 @@
 -- of the digits, the number times 10^places is `multiplied` / `divisor`.
 use Rattle.std.specs.Prelude.{◌≡◌, ℕ, ◌+◌, ◌-◌, ◌*◌, ◌^◌, ◌<◌, ◌≤◌, min, Bool, ◌++◌, length, if◌then◌else◌}
 use Rattle.std.specs.Str.Parse.{digits_value}
-use Rattle.mes_fixed.specs.declared.limits.TheConstants.{EXPONENT_CAP}
+use Rattle.mes_fixed.specs.declared.limits.TheConstants.{MAX_EXPONENT}
 use Rattle.mes_fixed.specs.declared.decimal.Decimal.{Decimal}
 use Rattle.mes_fixed.specs.declared.decimal.Scaled.{Scaled}
 use Rattle.mes_fixed.specs.Number.{Numeral}
@@ -15,13 +15,13 @@ raise lowers exponent places = (if lowers then 0 else exponent) + places
 abbrev pub lower : Bool → ℕ → ℕ → ℕ
 lower lowers exponent fraction_digits = fraction_digits + (if lowers then exponent else 0)
 
--- the parts that the code keeps of a numeral; a larger exponent than EXPONENT_CAP says the same
+-- the parts that the code keeps of a numeral; a larger exponent than MAX_EXPONENT says the same
 pub record IsDecimal (n : Numeral) (d : Decimal) : Type 0 where
   pub negative : d.negative ≡ n.negative
   pub digits : d.digits.items ≡ n.whole ++ n.fraction
   pub fraction_digits : d.fraction_digits ≡ length n.fraction
   pub lowers : d.lowers ≡ n.lowers
-  pub exponent : d.exponent ≡ min EXPONENT_CAP (digits_value 10 n.power)
+  pub exponent : d.exponent ≡ min MAX_EXPONENT (digits_value 10 n.power)
 
 abbrev pub value : Decimal → ℕ
 value d = digits_value 10 d.digits.items

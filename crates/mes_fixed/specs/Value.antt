@@ -2,7 +2,7 @@
 use Rattle.std.specs.Prelude.{◌≡◌, ℕ, suc, ◌+◌, ◌*◌, ◌^◌, ◌<◌, ◌≤◌, ◌≢◌, ◌⊎◌, Bool, true, List, ◌++◌, length, ℤ, pos, negsuc, ◌+ℤ◌, ◌-ℤ◌, neg_ℤ, if◌then◌else◌, FitsSigned}
 use Rattle.std.specs.Str.Parse.{digits_value}
 use Rattle.std.specs.Int.{w32}
-use Rattle.mes_fixed.specs.declared.limits.TheConstants.{TEXT_LIMIT, UNITS_LIMIT}
+use Rattle.mes_fixed.specs.declared.limits.TheConstants.{MAX_NUMBER_TEXT, MAX_UNITS}
 use Rattle.mes_fixed.specs.declared.fault.NumFault.{NumFault}
 use Rattle.mes_fixed.specs.declared.fault.NumFault.TheVariants.{TooLong, Shape, Range}
 use Rattle.mes_fixed.specs.Number.{Numeral, Spells, IsNumber}
@@ -40,11 +40,11 @@ Whole m (pos k) v = v ≡ m * 10 ^ k
 Whole m (negsuc k) v = m ≡ v * 10 ^ suc k
 
 -- The number is `units` units of 10^-places, rounded: no minus sign stands before a digit other than
--- zero, and they are at most UNITS_LIMIT.
+-- zero, and they are at most MAX_UNITS.
 pub record GivesUnits (places : ℕ) (n : Numeral) (units : ℕ) : Type 0 where
   pub unsigned : n.negative ≡ true → mantissa n ≡ 0
   pub rounds : Rounds (mantissa n) (exponent n) places units
-  pub fits : units ≤ UNITS_LIMIT
+  pub fits : units ≤ MAX_UNITS
 
 -- The number is the whole number v of 64 bits: no minus sign stands before a digit other than zero.
 pub record GivesWhole (n : Numeral) (v : ℕ) : Type 0 where
@@ -63,11 +63,11 @@ pub record GivesSigned (n : Numeral) (z : ℤ) : Type 0 where
 abbrev pub IsBelowZero : Numeral → Type 0
 IsBelowZero n = (n.negative ≡ true) × (mantissa n ≢ 0)
 
--- the number has no such units: it is below zero, or rounds to more than UNITS_LIMIT
+-- the number has no such units: it is below zero, or rounds to more than MAX_UNITS
 abbrev pub LacksUnits : ℕ → Numeral → Type 0
 LacksUnits places n =
     IsBelowZero n
-    ⊎ ((units : ℕ) × Rounds (mantissa n) (exponent n) places units × (UNITS_LIMIT < units))
+    ⊎ ((units : ℕ) × Rounds (mantissa n) (exponent n) places units × (MAX_UNITS < units))
 
 -- the number is no whole number of 64 bits: it is below zero, isn't whole or is 2^64 or more
 abbrev pub LacksWhole : Numeral → Type 0
@@ -78,15 +78,15 @@ abbrev pub LacksSigned : Numeral → Type 0
 LacksSigned n =
     (size : ℕ) → Whole (mantissa n) (exponent n) size → ¬ (FitsSigned w32 (signed n.negative size))
 
--- a text of at most TEXT_LIMIT bytes is a number that gives x
+-- a text of at most MAX_NUMBER_TEXT bytes is a number that gives x
 pub record Reads {X : Type 0} (Gives : Numeral → X → Type 0) (text : List ℕ) (x : X) : Type 0 where
-  pub short : length text ≤ TEXT_LIMIT
+  pub short : length text ≤ MAX_NUMBER_TEXT
   pub numeral : Numeral
   pub spells : Spells text numeral
   pub gives : Gives numeral x
 
 -- why a text is refused: it is too long, it is no number, or the number lacks a value of the type
 abbrev pub Refuses : (Numeral → Type 0) → List ℕ → NumFault → Type 0
-Refuses Lacks text TooLong = TEXT_LIMIT < length text
-Refuses Lacks text Shape = (length text ≤ TEXT_LIMIT) × ¬ (IsNumber text)
-Refuses Lacks text Range = (length text ≤ TEXT_LIMIT) × ((n : Numeral) × Spells text n × Lacks n)
+Refuses Lacks text TooLong = MAX_NUMBER_TEXT < length text
+Refuses Lacks text Shape = (length text ≤ MAX_NUMBER_TEXT) × ¬ (IsNumber text)
+Refuses Lacks text Range = (length text ≤ MAX_NUMBER_TEXT) × ((n : Numeral) × Spells text n × Lacks n)

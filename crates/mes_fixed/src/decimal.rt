@@ -1,12 +1,12 @@
 //! A number's text taken apart into its digits, and its digits scaled to a whole number.
 ghost use Rattle.std.specs.Prelude.{◌≡◌, ℕ, ◌+◌, ◌*◌, ◌^◌, ◌<◌, ◌≤◌, ◌≢◌, ◌↔◌, true, length, IsTrue, IfSome, IfNone, IfOk, IfErr};
 ghost use Rattle.std.specs.Str.Parse.{AllDigits};
-ghost use Rattle.mes_fixed.specs.declared.limits.TheConstants.{TEXT_LIMIT, EXPONENT_CAP};
+ghost use Rattle.mes_fixed.specs.declared.limits.TheConstants.{MAX_NUMBER_TEXT, MAX_EXPONENT};
 
 use crate::automaton::{NumberState, may_end, next_state};
 use crate::digits::{Cut, are_zeros, cut_of, value_of, with_zeros};
 use crate::fault::NumFault;
-use crate::limits::{EXPONENT_CAP, TEXT_LIMIT};
+use crate::limits::{MAX_EXPONENT, MAX_NUMBER_TEXT};
 use arrayvec::ArrayVec;
 
 /// The parts of a number's text.
@@ -15,16 +15,16 @@ pub struct Decimal {
     /// Whether a minus sign stands first.
     pub negative: bool,
     /// The digits before and behind the point, joined.
-    pub digits: ArrayVec<u8, { TEXT_LIMIT }>,
+    pub digits: ArrayVec<u8, { MAX_NUMBER_TEXT }>,
     /// How many of them stand behind the point.
     pub fraction_digits: usize,
     /// Whether the exponent has a minus sign.
     pub lowers: bool,
-    /// The size of the exponent, at most `EXPONENT_CAP`.
+    /// The size of the exponent, at most `MAX_EXPONENT`.
     pub exponent: usize,
-    ghost room: { length digits.items ≤ TEXT_LIMIT },
+    ghost room: { length digits.items ≤ MAX_NUMBER_TEXT },
     ghost within: { fraction_digits ≤ length digits.items },
-    ghost capped: { exponent ≤ EXPONENT_CAP },
+    ghost capped: { exponent ≤ MAX_EXPONENT },
 }
 
 /// A whole number, and what was cut off below it.
@@ -52,13 +52,13 @@ impl Decimal {
         }
     }
 
-    /// Takes a text of at most `TEXT_LIMIT` bytes apart.
+    /// Takes a text of at most `MAX_NUMBER_TEXT` bytes apart.
     #[inline(always)]
     pub fn read(text: &[u8]) -> Result<Self, NumFault>
         ensures ok { IfOk result (Reads IsDecimal text.now) }
         ensures err { IfErr result (Refuses (λ _. ⊥) text.now) }
     {
-        if text.len() > TEXT_LIMIT {
+        if text.len() > MAX_NUMBER_TEXT {
             return Err(NumFault::TooLong);
         }
         let mut decimal = Self::new();
@@ -80,7 +80,7 @@ impl Decimal {
     /// Takes one more byte, which led to `state`.
     #[inline(always)]
     fn gather(&mut self, state: NumberState, byte: u8)
-        requires room { length self.old.digits.items < TEXT_LIMIT }
+        requires room { length self.old.digits.items < MAX_NUMBER_TEXT }
         requires digit { IsExponentDigit state byte }
         ensures gathers { (n : Numeral) → IsDecimal n self.old → IsBeforePoint state n
             → IsDecimal (gathered state byte n) self.new }
@@ -96,7 +96,7 @@ impl Decimal {
             NumberState::AfterSign => self.lowers = byte == b'-',
             NumberState::InExponent => {
                 let exponent = self.exponent * 10 + usize::from(byte - b'0');
-                self.exponent = exponent.min(EXPONENT_CAP);
+                self.exponent = exponent.min(MAX_EXPONENT);
             }
             NumberState::AtStart | NumberState::AfterPoint | NumberState::AfterExponent => {}
         }

@@ -7,7 +7,7 @@ use std::fmt;
 /// Why a text is refused as a number of some type. The first that holds is the one that comes.
 #[derive(Clone, Copy, Debug, PartialEq, Eq)]
 pub enum NumFault {
-    /// It has more than `TEXT_LIMIT` bytes.
+    /// It has more than `MAX_NUMBER_TEXT` bytes.
     TooLong,
     /// It is no JSON number (RFC 8259 section 6).
     Shape,

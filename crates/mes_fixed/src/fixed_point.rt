@@ -6,14 +6,14 @@ ghost use Rattle.mes_fixed.specs.Value.{GivesUnits, LacksUnits, Reads, Refuses};
 
 use crate::decimal::Decimal;
 use crate::fault::NumFault;
-use crate::limits::UNITS_LIMIT;
+use crate::limits::MAX_UNITS;
 use crate::plain::plain_units;
 use arrayvec::ArrayString;
 use itoa::Buffer;
 use std::fmt;
 use std::marker::Model;
 
-/// A count of units of 10^-`P`, at most `UNITS_LIMIT`. `P` is from 1 to 6. It is ordered by its
+/// A count of units of 10^-`P`, at most `MAX_UNITS`. `P` is from 1 to 6. It is ordered by its
 /// units, and printed as it is written.
 #[derive(Clone, Copy, Debug, PartialEq, Eq, PartialOrd, Ord)]
 pub struct Fixed<const P: u32> {
@@ -22,13 +22,13 @@ pub struct Fixed<const P: u32> {
 
 impl<const P: u32> Model for Fixed<P> {
     ghost use Rattle.std.specs.Prelude.{ℕ, ◌≤◌};
-    ghost use Rattle.mes_fixed.specs.declared.limits.TheConstants.{UNITS_LIMIT};
+    ghost use Rattle.mes_fixed.specs.declared.limits.TheConstants.{MAX_UNITS};
 
     ghost Value = { ℕ };
 
     ghost view = { λ f. f.units };
 
-    ghost invariant = { λ f. (f.units ≤ UNITS_LIMIT) × (1 ≤ P) × (P ≤ 6) };
+    ghost invariant = { λ f. (f.units ≤ MAX_UNITS) × (1 ≤ P) × (P ≤ 6) };
 
     ghost inverse = { λ n. record { units = n } };
 }
@@ -40,12 +40,12 @@ pub type Thousandths = Fixed<3>;
 pub type Micros = Fixed<6>;
 
 impl<const P: u32> Fixed<P> {
-    /// This many units, or `None` above `UNITS_LIMIT`.
+    /// This many units, or `None` above `MAX_UNITS`.
     pub fn of_units(units: u64) -> Option<Self>
         requires places { (1 ≤ P) × (P ≤ 6) }
-        ensures { SomeIff result (units ≤ UNITS_LIMIT) units }
+        ensures { SomeIff result (units ≤ MAX_UNITS) units }
     {
-        if units <= UNITS_LIMIT {
+        if units <= MAX_UNITS {
             Some(Fixed { units })
         } else {
             None
@@ -55,14 +55,14 @@ impl<const P: u32> Fixed<P> {
     /// The count of units.
     pub fn units(&self) -> u64
         ensures value { result ≡ self.now }
-        ensures bound { result ≤ UNITS_LIMIT }
+        ensures bound { result ≤ MAX_UNITS }
     {
         self.units
     }
 
-    /// The sum, or `None` above `UNITS_LIMIT`.
+    /// The sum, or `None` above `MAX_UNITS`.
     pub fn checked_add(self, other: Self) -> Option<Self>
-        ensures { SomeIff result (self.entry + other.entry ≤ UNITS_LIMIT) (self.entry + other.entry) }
+        ensures { SomeIff result (self.entry + other.entry ≤ MAX_UNITS) (self.entry + other.entry) }
     {
         Self::of_units(self.units + other.units)
     }
@@ -82,7 +82,7 @@ impl<const P: u32> Fixed<P> {
         // `Ok`: the text gives these units, and where it gives some, they are the answer.
         ensures ok { IfOk result (Reads (GivesUnits P) text.now) }
         ensures only { (units : ℕ) → Reads (GivesUnits P) text.now units → result ≡ Ok units }
-        // `TooLong`: more than TEXT_LIMIT bytes; else `Shape`: no number; else `Range`.
+        // `TooLong`: more than MAX_NUMBER_TEXT bytes; else `Shape`: no number; else `Range`.
         ensures fault { IfErr result (Refuses (LacksUnits P) text.now) }
     {
         if let Some(units) = plain_units(text, P as usize) {

@@ -7,14 +7,14 @@ mod decimal;
 mod digits;
 mod fault;
 mod fixed_point;
-mod laws;
 mod limits;
 mod plain;
+mod theorems;
 mod whole;
 
 pub use automaton::is_number;
 pub use fault::NumFault;
 pub use fixed_point::{Fixed, Micros, Thousandths};
-pub use laws::{automaton_reads_numbers, fixed_text, number_limits};
-pub use limits::{TEXT_LIMIT, UNITS_LIMIT};
+pub use limits::{MAX_NUMBER_TEXT, MAX_UNITS};
+pub use theorems::{automaton_reads_numbers, fixed_text, number_limits};
 pub use whole::{read_i32, read_u64};

@@ -2,21 +2,21 @@
 //! Their value is taken as the digits are read. What is written otherwise is left to `Decimal`, which tells every fault.
 ghost use Rattle.std.specs.Prelude.{◌≡◌, ◌≤◌, ◌<◌, ◌^◌, length, slice_index, IsTrue, IfSome};
 ghost use Rattle.std.specs.Str.Parse.{AllDigits, digits_value_after};
-ghost use Rattle.mes_fixed.specs.declared.limits.TheConstants.{TEXT_LIMIT, UNITS_LIMIT};
+ghost use Rattle.mes_fixed.specs.declared.limits.TheConstants.{MAX_NUMBER_TEXT, MAX_UNITS};
 ghost use Rattle.mes_fixed.specs.Number.{IsInt};
 ghost use Rattle.mes_fixed.specs.Value.{GivesUnits, GivesWhole, Reads};
 
 use crate::digits::with_zeros;
-use crate::limits::TEXT_LIMIT;
+use crate::limits::MAX_NUMBER_TEXT;
 
 /// The units of 10^-`places` that a text of digits on both sides of a point writes, of which at most `places` stand behind it; `None` for
 /// any other text, and from 2^64 on.
 #[inline(always)]
 pub fn plain_units(text: &[u8], places: usize) -> Option<u64>
     requires { places ≤ 6 }
-    ensures { IfSome result (λ units. units ≤ UNITS_LIMIT → Reads (GivesUnits places) text.now units) }
+    ensures { IfSome result (λ units. units ≤ MAX_UNITS → Reads (GivesUnits places) text.now units) }
 {
-    if text.len() > TEXT_LIMIT {
+    if text.len() > MAX_NUMBER_TEXT {
         return None;
     }
     let point = point_in(text)?;
@@ -34,7 +34,7 @@ pub fn plain_units(text: &[u8], places: usize) -> Option<u64>
 pub fn plain_whole(text: &[u8]) -> Option<u64>
     ensures { IfSome result (λ value. Reads GivesWhole text.now value) }
 {
-    if text.len() > TEXT_LIMIT || !may_be_int(text) {
+    if text.len() > MAX_NUMBER_TEXT || !may_be_int(text) {
         return None;
     }
     with_digits(0, text)

@@ -12,7 +12,7 @@ pub fn read_u64(text: &[u8]) -> Result<u64, NumFault>
     // `Ok`: the text gives this number, and where it gives one, that is the answer.
     ensures ok { IfOk result (Reads GivesWhole text.now) }
     ensures only { (value : ℕ) → Reads GivesWhole text.now value → result ≡ Ok value }
-    // `TooLong`: more than TEXT_LIMIT bytes; else `Shape`: no number; else `Range`.
+    // `TooLong`: more than MAX_NUMBER_TEXT bytes; else `Shape`: no number; else `Range`.
     ensures fault { IfErr result (Refuses LacksWhole text.now) }
 {
     if let Some(value) = plain_whole(text) {
@@ -30,7 +30,7 @@ pub fn read_i32(text: &[u8]) -> Result<i32, NumFault>
     // `Ok`: the text gives this number, and where it gives one, that is the answer.
     ensures ok { IfOk result (Reads GivesSigned text.now) }
     ensures only { (value : ℤ) → Reads GivesSigned text.now value → result ≡ Ok value }
-    // `TooLong`: more than TEXT_LIMIT bytes; else `Shape`: no number; else `Range`.
+    // `TooLong`: more than MAX_NUMBER_TEXT bytes; else `Shape`: no number; else `Range`.
     ensures fault { IfErr result (Refuses LacksSigned text.now) }
 {
     let decimal = Decimal::read(text)?;

@@ -3,10 +3,10 @@ use Rattle.std.proofs.Common.{◌≡◌, ℕ, ◌+◌, ◌-◌, ◌*◌, ◌^◌
 use Rattle.std.proofs.lemmas.Bool.Decides.{nat_tests}
 use Rattle.std.specs.Char.{digit_value}
 use Rattle.mes_frame.specs.Chunk.{BeginsExtension, IsExtensionByte, IsPlain}
-use Rattle.mes_frame.specs.declared.limits.TheConstants.{CHUNK_LINE_LIMIT, TRAILERS_LIMIT}
+use Rattle.mes_frame.specs.declared.limits.TheConstants.{MAX_CHUNK_LINE, MAX_TRAILERS}
 use Rattle.mes_frame.specs.declared.fault.FrameFault.TheVariants.{BadChunkLine, ChunkLineTooLong, ChunkTooLarge, BadChunkEnd, TrailersTooLong}
-use Rattle.mes_frame.specs.declared.chunk.Place.{Place}
-use Rattle.mes_frame.specs.declared.chunk.Place.TheVariants.{Size, Extension, LineEnd, Data, DataEnd, Trailer, TrailerEnd, End, Closed}
+use Rattle.mes_frame.specs.declared.chunk.Phase.{Phase}
+use Rattle.mes_frame.specs.declared.chunk.Phase.TheVariants.{Size, Extension, LineEnd, Data, DataEnd, Trailer, TrailerEnd, End, Closed}
 use Rattle.mes_frame.specs.declared.chunk.ChunkOut.{ChunkOut}
 use Rattle.mes_frame.specs.declared.chunk.ChunkOut.TheVariants as out
 use Rattle.mes_frame.proofs.ChunkRun.{start, quiet, fail, after, begins_extension, is_extension_byte}
@@ -31,11 +31,11 @@ pub begins_no_digit : (b : ℕ) → BeginsExtension b → 16 ≤ digit_value b
 begins_no_digit b h = grind (arith, nat_tests)
 
 -- the bytes of a chunk's size
-pub at_digit : (count size b : ℕ) → digit_value b < 16 → count < CHUNK_LINE_LIMIT → size * 16 + digit_value b < 2 ^ 64 → after (Size count size) b ≡ quiet (Size (count + 1) (size * 16 + digit_value b))
+pub at_digit : (count size b : ℕ) → digit_value b < 16 → count < MAX_CHUNK_LINE → size * 16 + digit_value b < 2 ^ 64 → after (Size count size) b ≡ quiet (Size (count + 1) (size * 16 + digit_value b))
 unfolding after
 at_digit count size b digit room fits = let cr : b ≡ 13 → digit_value b ≡ 36 = λ e. ap digit_value e in grind (arith, nat_tests)
 
-pub at_large : (count size b : ℕ) → digit_value b < 16 → count < CHUNK_LINE_LIMIT → 2 ^ 64 ≤ size * 16 + digit_value b → after (Size count size) b ≡ fail ChunkTooLarge
+pub at_large : (count size b : ℕ) → digit_value b < 16 → count < MAX_CHUNK_LINE → 2 ^ 64 ≤ size * 16 + digit_value b → after (Size count size) b ≡ fail ChunkTooLarge
 unfolding after
 at_large count size b digit room over = let cr : b ≡ 13 → digit_value b ≡ 36 = λ e. ap digit_value e in grind (arith, nat_tests)
 
@@ -43,7 +43,7 @@ pub at_size_end : (count size : ℕ) → 0 < count → after (Size count size) 1
 unfolding after
 at_size_end count size some = grind (arith, nat_tests)
 
-pub at_extension : (count size b : ℕ) → 0 < count → count < CHUNK_LINE_LIMIT → BeginsExtension b → after (Size count size) b ≡ quiet (Extension (count + 1) size)
+pub at_extension : (count size b : ℕ) → 0 < count → count < MAX_CHUNK_LINE → BeginsExtension b → after (Size count size) b ≡ quiet (Extension (count + 1) size)
 unfolding after
 at_extension count size b some room begins =
     let is = begins_is b begins in
@@ -51,7 +51,7 @@ at_extension count size b some room begins =
     let cr : b ≡ 13 → BeginsExtension 13 = λ e. subst BeginsExtension e begins in
     grind (arith, nat_tests)
 
-pub at_long_size : (count size b : ℕ) → CHUNK_LINE_LIMIT ≤ count → b ≢ 13 → after (Size count size) b ≡ fail ChunkLineTooLong
+pub at_long_size : (count size b : ℕ) → MAX_CHUNK_LINE ≤ count → b ≢ 13 → after (Size count size) b ≡ fail ChunkLineTooLong
 unfolding after
 at_long_size count size b full other = grind (arith, nat_tests)
 
@@ -59,12 +59,12 @@ pub at_bad_first : (size b : ℕ) → 16 ≤ digit_value b → after (Size 0 siz
 unfolding after
 at_bad_first size b other = grind (arith, nat_tests)
 
-pub at_bad_size : (count size b : ℕ) → count < CHUNK_LINE_LIMIT → 16 ≤ digit_value b → (BeginsExtension b → ⊥) → b ≢ 13 → after (Size count size) b ≡ fail BadChunkLine
+pub at_bad_size : (count size b : ℕ) → count < MAX_CHUNK_LINE → 16 ≤ digit_value b → (BeginsExtension b → ⊥) → b ≢ 13 → after (Size count size) b ≡ fail BadChunkLine
 unfolding after
 at_bad_size count size b room no_digit bare no_end = let is = begins_not b bare in grind (arith, nat_tests)
 
 -- the rest of its line
-pub at_rest : (count size b : ℕ) → count < CHUNK_LINE_LIMIT → IsExtensionByte b → after (Extension count size) b ≡ quiet (Extension (count + 1) size)
+pub at_rest : (count size b : ℕ) → count < MAX_CHUNK_LINE → IsExtensionByte b → after (Extension count size) b ≡ quiet (Extension (count + 1) size)
 unfolding after
 at_rest count size b room byte =
     let is = byte_is b byte in
@@ -75,11 +75,11 @@ pub at_rest_end : (count size : ℕ) → after (Extension count size) 13 ≡ qui
 unfolding after
 at_rest_end count size = refl
 
-pub at_long_rest : (count size b : ℕ) → CHUNK_LINE_LIMIT ≤ count → b ≢ 13 → after (Extension count size) b ≡ fail ChunkLineTooLong
+pub at_long_rest : (count size b : ℕ) → MAX_CHUNK_LINE ≤ count → b ≢ 13 → after (Extension count size) b ≡ fail ChunkLineTooLong
 unfolding after
 at_long_rest count size b full other = grind (arith, nat_tests)
 
-pub at_bad_rest : (count size b : ℕ) → count < CHUNK_LINE_LIMIT → (IsExtensionByte b → ⊥) → b ≢ 13 → after (Extension count size) b ≡ fail BadChunkLine
+pub at_bad_rest : (count size b : ℕ) → count < MAX_CHUNK_LINE → (IsExtensionByte b → ⊥) → b ≢ 13 → after (Extension count size) b ≡ fail BadChunkLine
 unfolding after
 at_bad_rest count size b room bare no_end = let is = byte_not b bare in grind (arith, nat_tests)
 
@@ -97,7 +97,7 @@ unfolding after
 at_bad_line size b other = grind (arith, nat_tests)
 
 -- its data
-pub at_data : (left b : ℕ) → 0 < left → ◌≡◌ {A = Place × ChunkOut} (after (Data left) b) (Data (left - 1), out.Byte)
+pub at_data : (left b : ℕ) → 0 < left → ◌≡◌ {A = Phase × ChunkOut} (after (Data left) b) (Data (left - 1), out.Byte)
 unfolding after
 at_data left b some = grind (arith, nat_tests)
 
@@ -118,11 +118,11 @@ unfolding after
 at_bad_chunk b other = grind (arith, nat_tests)
 
 -- the trailer lines
-pub at_trailer : (used b : ℕ) (begun : Bool) → used < TRAILERS_LIMIT → IsPlain b → after (Trailer used begun) b ≡ quiet (Trailer (used + 1) true)
+pub at_trailer : (used b : ℕ) (begun : Bool) → used < MAX_TRAILERS → IsPlain b → after (Trailer used begun) b ≡ quiet (Trailer (used + 1) true)
 unfolding after
 at_trailer used b begun room plain = grind (arith, nat_tests)
 
-pub at_trailer_end : (used : ℕ) → used < TRAILERS_LIMIT → after (Trailer used true) 13 ≡ quiet (TrailerEnd (used + 1))
+pub at_trailer_end : (used : ℕ) → used < MAX_TRAILERS → after (Trailer used true) 13 ≡ quiet (TrailerEnd (used + 1))
 unfolding after
 at_trailer_end used room = grind (arith, nat_tests)
 
@@ -134,32 +134,32 @@ pub at_bare_first : (used : ℕ) → after (Trailer used false) 10 ≡ fail BadC
 unfolding after
 at_bare_first used = refl
 
-pub at_bare : (used : ℕ) → used < TRAILERS_LIMIT → after (Trailer used true) 10 ≡ fail BadChunkEnd
+pub at_bare : (used : ℕ) → used < MAX_TRAILERS → after (Trailer used true) 10 ≡ fail BadChunkEnd
 unfolding after
 at_bare used room = grind (arith, nat_tests)
 
-pub at_long_first : (used b : ℕ) → TRAILERS_LIMIT ≤ used → IsPlain b → after (Trailer used false) b ≡ fail TrailersTooLong
+pub at_long_first : (used b : ℕ) → MAX_TRAILERS ≤ used → IsPlain b → after (Trailer used false) b ≡ fail TrailersTooLong
 unfolding after
 at_long_first used b full plain = grind (arith, nat_tests)
 
-pub at_long : (used b : ℕ) → TRAILERS_LIMIT ≤ used → after (Trailer used true) b ≡ fail TrailersTooLong
+pub at_long : (used b : ℕ) → MAX_TRAILERS ≤ used → after (Trailer used true) b ≡ fail TrailersTooLong
 unfolding after
 at_long used b full = grind (arith, nat_tests)
 
-pub at_line_of : (used : ℕ) → used < TRAILERS_LIMIT → after (TrailerEnd used) 10 ≡ quiet (Trailer (used + 1) false)
+pub at_line_of : (used : ℕ) → used < MAX_TRAILERS → after (TrailerEnd used) 10 ≡ quiet (Trailer (used + 1) false)
 unfolding after
 at_line_of used room = grind (arith, nat_tests)
 
-pub at_long_end : (used b : ℕ) → TRAILERS_LIMIT ≤ used → after (TrailerEnd used) b ≡ fail TrailersTooLong
+pub at_long_end : (used b : ℕ) → MAX_TRAILERS ≤ used → after (TrailerEnd used) b ≡ fail TrailersTooLong
 unfolding after
 at_long_end used b full = grind (arith, nat_tests)
 
-pub at_bad_end : (used b : ℕ) → used < TRAILERS_LIMIT → b ≢ 10 → after (TrailerEnd used) b ≡ fail BadChunkEnd
+pub at_bad_end : (used b : ℕ) → used < MAX_TRAILERS → b ≢ 10 → after (TrailerEnd used) b ≡ fail BadChunkEnd
 unfolding after
 at_bad_end used b room other = grind (arith, nat_tests)
 
 -- the end
-pub at_end : ◌≡◌ {A = Place × ChunkOut} (after End 10) (Closed, out.Closed)
+pub at_end : ◌≡◌ {A = Phase × ChunkOut} (after End 10) (Closed, out.Closed)
 unfolding after
 at_end = refl
 

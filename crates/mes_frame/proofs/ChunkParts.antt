@@ -5,44 +5,44 @@ use Rattle.std.proofs.lemmas.List.{append-nil, flat_map_more}
 use Rattle.std.specs.List.{AllByRecursion}
 use Rattle.mes_frame.specs.Chunk.{Line, line_bytes, Chunk, IsChunk, chunk_bytes, chunks_bytes, data_of, ending, IsChunked}
 use Rattle.mes_frame.specs.ChunkFront.{InData, IsPart, After, IsOpen}
-use Rattle.mes_frame.specs.ChunkState.{room_at, room_of, PlaceStands, ChunkStands, GoesOn, PlaceSteps, ChunkSteps}
-use Rattle.mes_frame.specs.declared.chunk.Place.{Place}
-use Rattle.mes_frame.specs.declared.chunk.Place.TheVariants.{Size, Extension, LineEnd, Data, DataEnd, Trailer, TrailerEnd, End, Closed, Failed}
+use Rattle.mes_frame.specs.ChunkState.{remaining_at, remaining_of, PhaseRepresents, ChunkRepresents, GoesOn, PhaseSteps, ChunkSteps}
+use Rattle.mes_frame.specs.declared.chunk.Phase.{Phase}
+use Rattle.mes_frame.specs.declared.chunk.Phase.TheVariants.{Size, Extension, LineEnd, Data, DataEnd, Trailer, TrailerEnd, End, Closed, Failed}
 use Rattle.mes_frame.specs.declared.chunk.ChunkOut as out
 use Rattle.mes_frame.specs.declared.chunk.ChunkState.{ChunkState}
 use Rattle.mes_frame.proofs.Chunks.{all_push, all_append}
 
 -- the same chunks, and other bytes behind them
-pub behind : {P Q : List ℕ → List ℕ → Type 0} (w body p q : List ℕ) (at : After P w body) → Q (at.part ++ p) (at.stands ++ q) → After Q (w ++ p) (body ++ q)
-behind w body p q at is = record {
+pub following : {P Q : List ℕ → List ℕ → Type 0} (w body p q : List ℕ) (at : After P w body) → Q (at.part ++ p) (at.represents ++ q) → After Q (w ++ p) (body ++ q)
+following w body p q at is = record {
   chunks = at.chunks;
   each = at.each;
   part = at.part ++ p;
-  stands = at.stands ++ q;
+  represents = at.represents ++ q;
   is = is;
   spelt = ap (λ (y : List ℕ). y ++ p) at.spelt ∙ append_assoc (chunks_bytes at.chunks) at.part p;
-  content = ap (λ (y : List ℕ). y ++ q) at.content ∙ append_assoc (data_of at.chunks) at.stands q;
+  content = ap (λ (y : List ℕ). y ++ q) at.content ∙ append_assoc (data_of at.chunks) at.represents q;
 }
 
 -- another word on the same part
-pub within : {P Q : List ℕ → List ℕ → Type 0} (w body : List ℕ) (at : After P w body) → Q at.part at.stands → After Q w body
+pub within : {P Q : List ℕ → List ℕ → Type 0} (w body : List ℕ) (at : After P w body) → Q at.part at.represents → After Q w body
 within w body at is = record {
   chunks = at.chunks;
   each = at.each;
   part = at.part;
-  stands = at.stands;
+  represents = at.represents;
   is = is;
   spelt = at.spelt;
   content = at.content;
 }
 
 -- a chunk ends with the byte b
-ends_chunk : (old new : Place) (w body : List ℕ) (b : ℕ) (at : After (PlaceStands old) w body) → (c : Chunk) → IsChunk c → at.part ++ b ∷ [] ≡ chunk_bytes c → at.stands ≡ c.bytes → PlaceStands new [] [] → After (PlaceStands new) (w ++ b ∷ []) body
+ends_chunk : (old new : Phase) (w body : List ℕ) (b : ℕ) (at : After (PhaseRepresents old) w body) → (c : Chunk) → IsChunk c → at.part ++ b ∷ [] ≡ chunk_bytes c → at.represents ≡ c.bytes → PhaseRepresents new [] [] → After (PhaseRepresents new) (w ++ b ∷ []) body
 ends_chunk old new w body b at c chunk spelt content start = record {
   chunks = at.chunks ++ c ∷ [];
   each = all_push IsChunk at.chunks c at.each chunk;
   part = [];
-  stands = [];
+  represents = [];
   is = start;
   spelt = ap (λ (y : List ℕ). y ++ b ∷ []) at.spelt ∙ (append_assoc (chunks_bytes at.chunks) at.part (b ∷ [])
       ∙ (ap (λ (y : List ℕ). chunks_bytes at.chunks ++ y) spelt ∙ (flat_map_more chunk_bytes [] at.chunks c
@@ -51,12 +51,12 @@ ends_chunk old new w body b at c chunk spelt content start = record {
       ∙ sym (append-nil (data_of (at.chunks ++ c ∷ [])))));
 }
 
-goes_on : (old new : Place) (w body : List ℕ) (b : ℕ) (at : After (PlaceStands old) w body) → GoesOn new (at.part ++ b ∷ []) at.stands → After (PlaceStands new) (w ++ b ∷ []) body
+goes_on : (old new : Phase) (w body : List ℕ) (b : ℕ) (at : After (PhaseRepresents old) w body) → GoesOn new (at.part ++ b ∷ []) at.represents → After (PhaseRepresents new) (w ++ b ∷ []) body
 goes_on old new w body b at (inl is) = record {
   chunks = at.chunks;
   each = at.each;
   part = at.part ++ b ∷ [];
-  stands = at.stands;
+  represents = at.represents;
   is = is;
   spelt = ap (λ (y : List ℕ). y ++ b ∷ []) at.spelt ∙ append_assoc (chunks_bytes at.chunks) at.part (b ∷ []);
   content = at.content;
@@ -77,36 +77,36 @@ prepend cs x d each whole =
       content = ap (λ (y : List ℕ). data_of cs ++ y) whole.content ∙ sym (flat_map-append (λ (x : Chunk). x.bytes) cs whole.chunks);
     }
 
-whole_of : (old : Place) (w body : List ℕ) (b : ℕ) (at : After (PlaceStands old) w body) → IsChunked (at.part ++ b ∷ []) at.stands → IsChunked (w ++ b ∷ []) body
+whole_of : (old : Phase) (w body : List ℕ) (b : ℕ) (at : After (PhaseRepresents old) w body) → IsChunked (at.part ++ b ∷ []) at.represents → IsChunked (w ++ b ∷ []) body
 whole_of old w body b at whole =
     let spelt : w ++ b ∷ [] ≡ chunks_bytes at.chunks ++ (at.part ++ b ∷ []) =
     ap (λ (y : List ℕ). y ++ b ∷ []) at.spelt ∙ append_assoc (chunks_bytes at.chunks) at.part (b ∷ []) in
-    rw (spelt, at.content) (prepend at.chunks (at.part ++ b ∷ []) at.stands at.each whole)
+    rw (spelt, at.content) (prepend at.chunks (at.part ++ b ∷ []) at.represents at.each whole)
 
 -- what a step says behind the part, it says behind the whole
-pub lift : (old new : Place) (w body : List ℕ) (b : ℕ) (answer : out.ChunkOut) (at : After (PlaceStands old) w body) → PlaceSteps new at.part at.stands b answer → ChunkSteps (record { place = new }) w body b answer
-unfolding ChunkStands
+pub lift : (old new : Phase) (w body : List ℕ) (b : ℕ) (answer : out.ChunkOut) (at : After (PhaseRepresents old) w body) → PhaseSteps new at.part at.represents b answer → ChunkSteps (record { phase = new }) w body b answer
+unfolding ChunkRepresents
 lift old new w body b out.TheVariants.Quiet at steps = goes_on old new w body b at steps
-lift old new w body b out.TheVariants.Byte at steps = behind w body (b ∷ []) (b ∷ []) at steps
+lift old new w body b out.TheVariants.Byte at steps = following w body (b ∷ []) (b ∷ []) at steps
 lift old new w body b out.TheVariants.Closed at steps = (whole_of old w body b at steps.0, steps.2)
 lift old new w body b (out.TheVariants.Fault fault) at steps = (within w body at steps.0, steps.1)
 
-part_of : (p : Place) (x d : List ℕ) → PlaceStands p x d → IsPart x d
-part_of (Size count size) x d stands = inl stands.0
+part_of : (p : Phase) (x d : List ℕ) → PhaseRepresents p x d → IsPart x d
+part_of (Size count size) x d represents = inl represents.0
 part_of (Extension count size) x d (l, is, count-is, size-is) = inr (inl (l, is))
 part_of (LineEnd size) x d (l, is, size-is) = inr (inr (inl (l, is)))
 part_of (Data left) x d (l, is) = inr (inr (inr (inl (l, left, is))))
-part_of DataEnd x d stands = inr (inr (inr (inr (inl stands))))
+part_of DataEnd x d represents = inr (inr (inr (inr (inl represents))))
 part_of (Trailer used begun) x d (l, ts, t, is, used-is, begun-is) = inr (inr (inr (inr (inr (inl (l, ts, t, is))))))
 part_of (TrailerEnd used) x d (l, ts, t, is, used-is) = inr (inr (inr (inr (inr (inr (inl (l, ts, t, is)))))))
-part_of End x d stands = inr (inr (inr (inr (inr (inr (inr stands))))))
-part_of Closed x d stands = absurd stands
-part_of (Failed fault) x d stands = absurd stands
+part_of End x d represents = inr (inr (inr (inr (inr (inr (inr represents))))))
+part_of Closed x d represents = absurd represents
+part_of (Failed fault) x d represents = absurd represents
 
 -- what a state stands for is open
-pub open_of : (s : ChunkState) (w body : List ℕ) → ChunkStands s w body → IsOpen w body
-unfolding ChunkStands
-open_of s w body stands = within w body stands (part_of s.place stands.part stands.stands stands.is)
+pub open_of : (s : ChunkState) (w body : List ℕ) → ChunkRepresents s w body → IsOpen w body
+unfolding ChunkRepresents
+open_of s w body represents = within w body represents (part_of s.phase represents.part represents.represents represents.is)
 
 nothing_more : (P : List ℕ → List ℕ → Type 0) (x d p : List ℕ) → length p ≤ 0 → P x d → P (x ++ p) (d ++ p)
 nothing_more P x d [] none is = rw (append-nil x, append-nil d) is
@@ -123,26 +123,26 @@ data_run l left x d p old fits =
       some = old.some;
     }
 
-run_at : (place : Place) (x d p : List ℕ) → PlaceStands place x d → length p ≤ room_at place → IsPart (x ++ p) (d ++ p)
+run_at : (phase : Phase) (x d p : List ℕ) → PhaseRepresents phase x d → length p ≤ remaining_at phase → IsPart (x ++ p) (d ++ p)
 run_at (Data left) x d p (l, is) fits = inr (inr (inr (inl (l, left - length p, data_run l left x d p is fits))))
-run_at (Size count size) x d p stands fits = nothing_more IsPart x d p fits (part_of (Size count size) x d stands)
-run_at (Extension count size) x d p stands fits = nothing_more IsPart x d p fits (part_of (Extension count size) x d stands)
-run_at (LineEnd size) x d p stands fits = nothing_more IsPart x d p fits (part_of (LineEnd size) x d stands)
-run_at DataEnd x d p stands fits = nothing_more IsPart x d p fits (part_of DataEnd x d stands)
-run_at (Trailer used begun) x d p stands fits = nothing_more IsPart x d p fits (part_of (Trailer used begun) x d stands)
-run_at (TrailerEnd used) x d p stands fits = nothing_more IsPart x d p fits (part_of (TrailerEnd used) x d stands)
-run_at End x d p stands fits = nothing_more IsPart x d p fits (part_of End x d stands)
-run_at Closed x d p stands fits = absurd stands
-run_at (Failed fault) x d p stands fits = absurd stands
+run_at (Size count size) x d p represents fits = nothing_more IsPart x d p fits (part_of (Size count size) x d represents)
+run_at (Extension count size) x d p represents fits = nothing_more IsPart x d p fits (part_of (Extension count size) x d represents)
+run_at (LineEnd size) x d p represents fits = nothing_more IsPart x d p fits (part_of (LineEnd size) x d represents)
+run_at DataEnd x d p represents fits = nothing_more IsPart x d p fits (part_of DataEnd x d represents)
+run_at (Trailer used begun) x d p represents fits = nothing_more IsPart x d p fits (part_of (Trailer used begun) x d represents)
+run_at (TrailerEnd used) x d p represents fits = nothing_more IsPart x d p fits (part_of (TrailerEnd used) x d represents)
+run_at End x d p represents fits = nothing_more IsPart x d p fits (part_of End x d represents)
+run_at Closed x d p represents fits = absurd represents
+run_at (Failed fault) x d p represents fits = absurd represents
 
 -- each front of a run of data is open
-pub fronts_of : (s : ChunkState) (w body p : List ℕ) (k count : ℕ) → count ≤ room_of s → length p ≡ count → k ≤ count → ChunkStands s w body → IsOpen (w ++ take k p) (body ++ take k p)
-unfolding ChunkStands
-fronts_of s w body p k count room len front stands =
+pub fronts_of : (s : ChunkState) (w body p : List ℕ) (k count : ℕ) → count ≤ remaining_of s → length p ≡ count → k ≤ count → ChunkRepresents s w body → IsOpen (w ++ take k p) (body ++ take k p)
+unfolding ChunkRepresents
+fronts_of s w body p k count room len front represents =
     let short : length (take k p) ≡ k = grind (arith, common_steps) in
-    behind w body (take k p) (take k p) stands (run_at s.place stands.part stands.stands (take k p) stands.is (omega arith))
+    following w body (take k p) (take k p) represents (run_at s.phase represents.part represents.represents (take k p) represents.is (omega arith))
 
-no_room : (place : Place) → ((left : ℕ) → place ≡ Data left → ⊥) → room_at place ≡ 0
+no_room : (phase : Phase) → ((left : ℕ) → phase ≡ Data left → ⊥) → remaining_at phase ≡ 0
 no_room (Data left) other = absurd (other left refl)
 no_room (Size count size) other = refl
 no_room (Extension count size) other = refl
@@ -155,8 +155,8 @@ no_room Closed other = refl
 no_room (Failed fault) other = refl
 
 -- outside the data there is no room, and so no run
-pub no_room_of : (s : ChunkState) → ((left : ℕ) → s.place ≡ Data left → ⊥) → room_of s ≡ 0
-no_room_of s other = no_room s.place other
+pub no_room_of : (s : ChunkState) → ((left : ℕ) → s.phase ≡ Data left → ⊥) → remaining_of s ≡ 0
+no_room_of s other = no_room s.phase other
 
-pub empty_run : (s : ChunkState) (w body p : List ℕ) → length p ≤ 0 → ChunkStands s w body → ChunkStands s (w ++ p) (body ++ p)
-empty_run s w body p none stands = nothing_more (ChunkStands s) w body p none stands
+pub empty_run : (s : ChunkState) (w body p : List ℕ) → length p ≤ 0 → ChunkRepresents s w body → ChunkRepresents s (w ++ p) (body ++ p)
+empty_run s w body p none represents = nothing_more (ChunkRepresents s) w body p none represents

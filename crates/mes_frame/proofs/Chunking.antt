@@ -95,10 +95,10 @@ ends most body rest a b old new held sent so none = record {
 frames_spelt : (ps qs : List (List ℕ)) (p s : List ℕ) → (flat_map piece_bytes ps ++ piece_bytes p) ++ (flat_map piece_bytes qs ++ s) ≡ flat_map piece_bytes (ps ++ p ∷ qs) ++ s
 frames_spelt ps qs p s =
     let chunks = flat_map piece_bytes ps in
-    let behind = flat_map piece_bytes qs in
-    let parts : flat_map piece_bytes (ps ++ p ∷ qs) ++ s ≡ chunks ++ (piece_bytes p ++ (behind ++ s)) =
-    ap (λ (x : List ℕ). x ++ s) (flat_map-append piece_bytes ps (p ∷ qs)) ∙ append_assoc chunks (piece_bytes p ++ behind) s ∙ ap (λ (x : List ℕ). chunks ++ x) (append_assoc (piece_bytes p) behind s) in
-    append_assoc chunks (piece_bytes p) (behind ++ s) ∙ sym parts
+    let following = flat_map piece_bytes qs in
+    let parts : flat_map piece_bytes (ps ++ p ∷ qs) ++ s ≡ chunks ++ (piece_bytes p ++ (following ++ s)) =
+    ap (λ (x : List ℕ). x ++ s) (flat_map-append piece_bytes ps (p ∷ qs)) ∙ append_assoc chunks (piece_bytes p ++ following) s ∙ ap (λ (x : List ℕ). chunks ++ x) (append_assoc (piece_bytes p) following s) in
+    append_assoc chunks (piece_bytes p) (following ++ s) ∙ sym parts
 
 -- where there is a next chunk
 frames_more : (most : ℕ) (body rest p more : List ℕ) (a b : Option (List ℕ)) (old new : Counts) (held : List ℕ) (sent : ℕ) → 0 < most → Splits most rest p more → (so : Chunking most body rest a b old new held sent) → Framed most body (flat_map piece_bytes so.pieces ++ piece_bytes p)
@@ -134,8 +134,8 @@ ended_calls most body a b old new (Err f) so = (so.w, so.is, so.end.calls)
 pub chunk_stops : (most : ℕ) (body rest p more : List ℕ) (a b c : Option (List ℕ)) (old mid new : Counts) (held : List ℕ) (sent : ℕ) (f : WriteFault) → 0 < most → Splits most rest p more → Chunking most body rest a b old mid held sent → Stops b c mid new (held ++ piece_bytes p) sent f → Ended most body a c old new (Err f)
 chunk_stops most body rest p more a b c old mid new held sent f some split so stop =
     let framed = frames_more most body rest p more a b old mid held sent some split so in
-    let behind = stops_then _ _ _ _ _ _ _ _ _ _ _ (passes_with _ _ _ _ _ _ (piece_bytes p) _ _ so.out) stop in
-    record { w = (flat_map piece_bytes so.pieces ++ piece_bytes p) ++ framed.rest; is = framed.is; end = stops_long _ _ _ _ _ framed.rest _ _ behind }
+    let following = stops_then _ _ _ _ _ _ _ _ _ _ _ (passes_with _ _ _ _ _ _ (piece_bytes p) _ _ so.out) stop in
+    record { w = (flat_map piece_bytes so.pieces ++ piece_bytes p) ++ framed.rest; is = framed.is; end = stops_long _ _ _ _ _ framed.rest _ _ following }
 
 -- at the last chunk
 pub last_stops : (most : ℕ) (body rest : List ℕ) (a b c : Option (List ℕ)) (old mid new : Counts) (held : List ℕ) (sent : ℕ) (f : WriteFault) → rest ≡ [] → Chunking most body rest a b old mid held sent → Stops b c mid new (held ++ 48 ∷ 13 ∷ 10 ∷ 13 ∷ 10 ∷ []) sent f → Ended most body a c old new (Err f)

@@ -7,9 +7,9 @@ use Rattle.std.specs.List.{AllByRecursion}
 use Rattle.mes_frame.specs.Chunk.{Line, BeginsExtension, IsExtensionByte, IsExtension, line_bytes, IsLine, IsPlain, IsTrailer, trailer_bytes, trailers_bytes, ending, IsEnding, Chunk, IsChunk, chunk_bytes, IsChunked}
 use Rattle.mes_frame.specs.ChunkFront.{InSize, InExtension, AfterLine, InData, AfterData, InTrailer, AfterTrailer, AfterEnding}
 use Rattle.mes_frame.specs.ChunkFaults.{ShowsBadLine, ShowsLargeChunk}
-use Rattle.mes_frame.specs.ChunkState.{PlaceStands, GoesOn}
-use Rattle.mes_frame.specs.declared.chunk.Place.TheVariants.{Size, Extension, LineEnd, Data, DataEnd, Trailer, TrailerEnd, End}
-use Rattle.mes_frame.specs.declared.limits.TheConstants.{CHUNK_LINE_LIMIT, TRAILERS_LIMIT}
+use Rattle.mes_frame.specs.ChunkState.{PhaseRepresents, GoesOn}
+use Rattle.mes_frame.specs.declared.chunk.Phase.TheVariants.{Size, Extension, LineEnd, Data, DataEnd, Trailer, TrailerEnd, End}
+use Rattle.mes_frame.specs.declared.limits.TheConstants.{MAX_CHUNK_LINE, MAX_TRAILERS}
 
 -- one element more
 pub all_push : {X : Type 0} (P : X → Type 0) (xs : List X) (x : X) → AllByRecursion P xs → P x → AllByRecursion P (xs ++ x ∷ [])
@@ -21,27 +21,27 @@ all_append P [] ys first second = second
 all_append P (x ∷ xs) ys first second = (first.0, all_append P xs ys first.1 second)
 
 -- a digit more
-pub digit_kept : (count size digit b : ℕ) (x d : List ℕ) → PlaceStands (Size count size) x d → count < CHUNK_LINE_LIMIT → digit_value b ≡ digit → digit < 16 → size * 16 + digit < 2 ^ 64 → PlaceStands (Size (count + 1) (size * 16 + digit)) (x ++ b ∷ []) d
-digit_kept count size digit b x d stands room is small fits =
+pub digit_kept : (count size digit b : ℕ) (x d : List ℕ) → PhaseRepresents (Size count size) x d → count < MAX_CHUNK_LINE → digit_value b ≡ digit → digit < 16 → size * 16 + digit < 2 ^ 64 → PhaseRepresents (Size (count + 1) (size * 16 + digit)) (x ++ b ∷ []) d
+digit_kept count size digit b x d represents room is small fits =
     let len = length-append x (b ∷ []) in
     let sum = digits_value_push 16 x b in
     let kept : InSize (x ++ b ∷ []) d = record {
-      hex = digits_push 16 x b stands.0.hex (omega arith);
+      hex = digits_push 16 x b represents.0.hex (omega arith);
       fits = omega arith;
       short = omega arith;
-      empty = stands.0.empty;
+      empty = represents.0.empty;
     } in
     (kept, omega arith, omega arith)
 
 -- a digit too many for 64 bits
-pub digit_too_large : (count size digit b : ℕ) (x d : List ℕ) → PlaceStands (Size count size) x d → count < CHUNK_LINE_LIMIT → digit_value b ≡ digit → digit < 16 → 2 ^ 64 ≤ size * 16 + digit → ShowsLargeChunk x d b
-digit_too_large count size digit b x d stands room is small large =
+pub digit_too_large : (count size digit b : ℕ) (x d : List ℕ) → PhaseRepresents (Size count size) x d → count < MAX_CHUNK_LINE → digit_value b ≡ digit → digit < 16 → 2 ^ 64 ≤ size * 16 + digit → ShowsLargeChunk x d b
+digit_too_large count size digit b x d represents room is small large =
     let sum = digits_value_push 16 x b in
-    (stands.0, omega arith, omega arith, omega arith)
+    (represents.0, omega arith, omega arith, omega arith)
 
 -- a byte that goes on with no line
-pub size_shows : (count size b : ℕ) (x d : List ℕ) → PlaceStands (Size count size) x d → count < CHUNK_LINE_LIMIT → 16 ≤ digit_value b → (0 < count → BeginsExtension b → ⊥) → (0 < count → b ≡ 13 → ⊥) → ShowsBadLine x d b
-size_shows count size b x d stands room other begins cr = inl (stands.0, omega arith, (other, λ some. (begins (omega arith), cr (omega arith))))
+pub size_shows : (count size b : ℕ) (x d : List ℕ) → PhaseRepresents (Size count size) x d → count < MAX_CHUNK_LINE → 16 ≤ digit_value b → (0 < count → BeginsExtension b → ⊥) → (0 < count → b ≡ 13 → ⊥) → ShowsBadLine x d b
+size_shows count size b x d represents room other begins cr = inl (represents.0, omega arith, (other, λ some. (begins (omega arith), cr (omega arith))))
 
 -- digits are a line
 size_line : (x d : List ℕ) → InSize x d → 0 < length x → IsLine (record { size = x; extension = [] })
@@ -54,37 +54,37 @@ size_line x d in_size some = record {
 }
 
 -- the CR behind the digits
-pub size_ends : (count size : ℕ) (x d : List ℕ) → PlaceStands (Size count size) x d → 0 < count → PlaceStands (LineEnd size) (x ++ 13 ∷ []) d
-size_ends count size x d stands some =
+pub size_ends : (count size : ℕ) (x d : List ℕ) → PhaseRepresents (Size count size) x d → 0 < count → PhaseRepresents (LineEnd size) (x ++ 13 ∷ []) d
+size_ends count size x d represents some =
     let l : Line = record { size = x; extension = [] } in
     let after : AfterLine l (x ++ 13 ∷ []) d = record {
-      line = size_line x d stands.0 (omega arith);
+      line = size_line x d represents.0 (omega arith);
       spelt = ap (λ (y : List ℕ). y ++ 13 ∷ []) (sym (append-nil x));
-      empty = stands.0.empty;
+      empty = represents.0.empty;
     } in
-    (l, after, stands.2)
+    (l, after, represents.2)
 
 -- an extension's first byte
-pub extension_begins : (count size b : ℕ) (x d : List ℕ) → PlaceStands (Size count size) x d → 0 < count → count < CHUNK_LINE_LIMIT → BeginsExtension b → PlaceStands (Extension (count + 1) size) (x ++ b ∷ []) d
-extension_begins count size b x d stands some room begins =
+pub extension_begins : (count size b : ℕ) (x d : List ℕ) → PhaseRepresents (Size count size) x d → 0 < count → count < MAX_CHUNK_LINE → BeginsExtension b → PhaseRepresents (Extension (count + 1) size) (x ++ b ∷ []) d
+extension_begins count size b x d represents some room begins =
     let len = length-append x (b ∷ []) in
     let l : Line = record { size = x; extension = b ∷ [] } in
     let line : IsLine l = record {
       some = omega arith;
-      hex = stands.0.hex;
-      fits = stands.0.fits;
+      hex = represents.0.hex;
+      fits = represents.0.fits;
       extension = (begins, tt);
       short = omega arith;
     } in
-    let within : InExtension l (x ++ b ∷ []) d = record { line = line; some = omega arith; spelt = refl; empty = stands.0.empty } in
-    (l, within, omega arith, stands.2)
+    let within : InExtension l (x ++ b ∷ []) d = record { line = line; some = omega arith; spelt = refl; empty = represents.0.empty } in
+    (l, within, omega arith, represents.2)
 
 extension_push : (e : List ℕ) (b : ℕ) → IsExtension e → 0 < length e → IsExtensionByte b → IsExtension (e ++ b ∷ [])
 extension_push [] b extension some is = absurd (omega arith)
 extension_push (a ∷ e) b extension some is = (extension.0, all_push IsExtensionByte e b extension.1 is)
 
 -- more of an extension
-pub extension_kept : (count size b : ℕ) (x d : List ℕ) → PlaceStands (Extension count size) x d → count < CHUNK_LINE_LIMIT → IsExtensionByte b → PlaceStands (Extension (count + 1) size) (x ++ b ∷ []) d
+pub extension_kept : (count size b : ℕ) (x d : List ℕ) → PhaseRepresents (Extension count size) x d → count < MAX_CHUNK_LINE → IsExtensionByte b → PhaseRepresents (Extension (count + 1) size) (x ++ b ∷ []) d
 extension_kept count size b x d (l, old, count-is, size-is) room is =
     let len = length-append x (b ∷ []) in
     let more = length-append l.extension (b ∷ []) in
@@ -107,7 +107,7 @@ extension_kept count size b x d (l, old, count-is, size-is) room is =
     (longer, within, omega arith, size-is)
 
 -- the CR behind an extension
-pub extension_ends : (count size : ℕ) (x d : List ℕ) → PlaceStands (Extension count size) x d → PlaceStands (LineEnd size) (x ++ 13 ∷ []) d
+pub extension_ends : (count size : ℕ) (x d : List ℕ) → PhaseRepresents (Extension count size) x d → PhaseRepresents (LineEnd size) (x ++ 13 ∷ []) d
 extension_ends count size x d (l, old, count-is, size-is) =
     let after : AfterLine l (x ++ 13 ∷ []) d = record {
       line = old.line;
@@ -117,7 +117,7 @@ extension_ends count size x d (l, old, count-is, size-is) =
     (l, after, size-is)
 
 -- the LF of the line of a chunk with data
-pub data_begins : (size : ℕ) (x d : List ℕ) → PlaceStands (LineEnd size) x d → 0 < size → PlaceStands (Data size) (x ++ 10 ∷ []) d
+pub data_begins : (size : ℕ) (x d : List ℕ) → PhaseRepresents (LineEnd size) x d → 0 < size → PhaseRepresents (Data size) (x ++ 10 ∷ []) d
 data_begins size x d (l, old, size-is) some =
     let none = ap length old.empty in
     let begun : InData l size (x ++ 10 ∷ []) d = record {
@@ -129,7 +129,7 @@ data_begins size x d (l, old, size-is) some =
     (l, begun)
 
 -- a byte of data
-pub data_kept : (left b : ℕ) (x d : List ℕ) → PlaceStands (Data left) x d → 0 < left → PlaceStands (Data (left - 1)) (x ++ b ∷ []) (d ++ b ∷ [])
+pub data_kept : (left b : ℕ) (x d : List ℕ) → PhaseRepresents (Data left) x d → 0 < left → PhaseRepresents (Data (left - 1)) (x ++ b ∷ []) (d ++ b ∷ [])
 data_kept left b x d (l, old) some =
     let len = length-append d (b ∷ []) in
     let size = old.size in
@@ -142,7 +142,7 @@ data_kept left b x d (l, old) some =
     (l, more)
 
 -- the CR behind the data
-pub data_ends : (x d : List ℕ) → PlaceStands (Data 0) x d → PlaceStands DataEnd (x ++ 13 ∷ []) d
+pub data_ends : (x d : List ℕ) → PhaseRepresents (Data 0) x d → PhaseRepresents DataEnd (x ++ 13 ∷ []) d
 data_ends x d (l, old) =
     let size = old.size in
     let some = old.some in
@@ -154,13 +154,13 @@ data_ends x d (l, old) =
     (l, after)
 
 -- before a chunk's first byte
-pub size_begins : PlaceStands (Size 0 0) [] []
+pub size_begins : PhaseRepresents (Size 0 0) [] []
 size_begins =
     let none : InSize [] [] = record { hex = tt; fits = omega arith; short = omega arith; empty = refl } in
     (none, refl, refl)
 
 -- the LF behind the data
-pub chunk_ends : (x d : List ℕ) → PlaceStands DataEnd x d → GoesOn (Size 0 0) (x ++ 10 ∷ []) d
+pub chunk_ends : (x d : List ℕ) → PhaseRepresents DataEnd x d → GoesOn (Size 0 0) (x ++ 10 ∷ []) d
 chunk_ends x d (l, old) =
     let c : Chunk = record { line = l; bytes = d } in
     let spelt : x ++ 10 ∷ [] ≡ chunk_bytes c = ap (λ (y : List ℕ). y ++ 10 ∷ []) old.spelt
@@ -169,7 +169,7 @@ chunk_ends x d (l, old) =
     inr (c, old.chunk, spelt, refl, size_begins)
 
 -- the LF of the last chunk's line
-pub trailers_begin : (x d : List ℕ) → PlaceStands (LineEnd 0) x d → PlaceStands (Trailer 0 false) (x ++ 10 ∷ []) d
+pub trailers_begin : (x d : List ℕ) → PhaseRepresents (LineEnd 0) x d → PhaseRepresents (Trailer 0 false) (x ++ 10 ∷ []) d
 trailers_begin x d (l, old, size-is) =
     let ends : IsEnding l [] = record { line = old.line; zero_size = sym size-is; each = tt; short = omega arith } in
     let begun : InTrailer l [] [] (x ++ 10 ∷ []) d = record {
@@ -182,7 +182,7 @@ trailers_begin x d (l, old, size-is) =
     (l, [], [], begun, refl, refl)
 
 -- a byte of a trailer line
-pub trailer_kept : (used b : ℕ) (begun : Bool) (x d : List ℕ) → PlaceStands (Trailer used begun) x d → used < TRAILERS_LIMIT → IsPlain b → PlaceStands (Trailer (used + 1) true) (x ++ b ∷ []) d
+pub trailer_kept : (used b : ℕ) (begun : Bool) (x d : List ℕ) → PhaseRepresents (Trailer used begun) x d → used < MAX_TRAILERS → IsPlain b → PhaseRepresents (Trailer (used + 1) true) (x ++ b ∷ []) d
 trailer_kept used b begun x d (l, ts, t, old, used-is, begun-is) room plain =
     let len = length-append t (b ∷ []) in
     let within : InTrailer l ts (t ++ b ∷ []) (x ++ b ∷ []) d = record {
@@ -195,7 +195,7 @@ trailer_kept used b begun x d (l, ts, t, old, used-is, begun-is) room plain =
     (l, ts, t ++ b ∷ [], within, omega arith, omega arith)
 
 -- the CR of a trailer line
-pub trailer_returns : (used : ℕ) (x d : List ℕ) → PlaceStands (Trailer used true) x d → used < TRAILERS_LIMIT → PlaceStands (TrailerEnd (used + 1)) (x ++ 13 ∷ []) d
+pub trailer_returns : (used : ℕ) (x d : List ℕ) → PhaseRepresents (Trailer used true) x d → used < MAX_TRAILERS → PhaseRepresents (TrailerEnd (used + 1)) (x ++ 13 ∷ []) d
 trailer_returns used x d (l, ts, t, old, used-is, begun-is) room =
     let after : AfterTrailer l ts t (x ++ 13 ∷ []) d = record {
       ends = old.ends;
@@ -212,7 +212,7 @@ ending_push l ts t =
     ∙ ap (λ (y : List ℕ). line_bytes l ++ y) (flat_map_more trailer_bytes (13 ∷ 10 ∷ []) ts t)
 
 -- the LF of a trailer line
-pub trailer_ends : (used : ℕ) (x d : List ℕ) → PlaceStands (TrailerEnd used) x d → used < TRAILERS_LIMIT → PlaceStands (Trailer (used + 1) false) (x ++ 10 ∷ []) d
+pub trailer_ends : (used : ℕ) (x d : List ℕ) → PhaseRepresents (TrailerEnd used) x d → used < MAX_TRAILERS → PhaseRepresents (Trailer (used + 1) false) (x ++ 10 ∷ []) d
 trailer_ends used x d (l, ts, t, old, used-is) room =
     let len = length-append t (13 ∷ 10 ∷ []) in
     let sum = length-append (trailers_bytes ts) (trailer_bytes t) in
@@ -235,7 +235,7 @@ trailer_ends used x d (l, ts, t, old, used-is) room =
     (l, ts ++ t ∷ [], [], within, omega arith, refl)
 
 -- the CR of the empty line
-pub ending_returns : (used : ℕ) (x d : List ℕ) → PlaceStands (Trailer used false) x d → PlaceStands End (x ++ 13 ∷ []) d
+pub ending_returns : (used : ℕ) (x d : List ℕ) → PhaseRepresents (Trailer used false) x d → PhaseRepresents End (x ++ 13 ∷ []) d
 ending_returns used x d (l, ts, t, old, used-is, none) =
     let after : AfterEnding l ts (x ++ 13 ∷ []) d = record {
       ends = old.ends;

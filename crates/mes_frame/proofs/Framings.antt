@@ -27,8 +27,8 @@ one_cut most body (p ∷ ps) (q ∷ qs) cut other =
     cc
 
 -- it is framed in one way
-pub one_framing : (body w v : List ℕ) (most : ℕ) → IsFrames body most w → IsFrames body most v → w ≡ v
-one_framing body w v most framed other =
+pub framing_is_unique : (body w v : List ℕ) (most : ℕ) → IsFrames body most w → IsFrames body most v → w ≡ v
+framing_is_unique body w v most framed other =
     let same = one_cut most body framed.pieces other.pieces framed.cut other.cut in
     framed.spelt ∙ ap (λ (ps : List (List ℕ)). flat_map piece_bytes ps ++ (48 ∷ 13 ∷ 10 ∷ 13 ∷ 10 ∷ [])) same ∙ sym other.spelt
 

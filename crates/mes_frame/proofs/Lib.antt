@@ -8,7 +8,7 @@ pub mod ChunkFraming
 pub mod ChunkRun
 pub mod ChunkBytes
 pub mod ChunkGoes
-pub mod ChunkPlaces
+pub mod ChunkPhases
 pub mod ChunkBreaks
 pub mod OneChunkReading
 pub mod ChunkAnswers

@@ -5,37 +5,37 @@ use Rattle.mes_frame.specs.Chunk.{trailers_bytes, ending, chunks_bytes, data_of,
 use Rattle.mes_frame.specs.ChunkFront.{After, IsOpen}
 use Rattle.mes_frame.specs.ChunkFaults.{ChunkShows}
 use Rattle.mes_frame.specs.ChunkReading.{ChunkReading, Begins, Whole, Broken, ReadsChunks}
-use Rattle.mes_frame.specs.ChunkState.{ChunkStands}
+use Rattle.mes_frame.specs.ChunkState.{ChunkRepresents}
 use Rattle.mes_frame.specs.declared.fault.FrameFault.{FrameFault}
-use Rattle.mes_frame.specs.declared.chunk.Place.{Place}
-use Rattle.mes_frame.specs.declared.chunk.Place.TheVariants.{End}
+use Rattle.mes_frame.specs.declared.chunk.Phase.{Phase}
+use Rattle.mes_frame.specs.declared.chunk.Phase.TheVariants.{End}
 use Rattle.mes_frame.specs.declared.chunk.ChunkState.{ChunkState}
 use Rattle.mes_frame.specs.declared.chunk.ChunkOut.TheVariants as out
-use Rattle.mes_frame.proofs.ChunkRun.{start, Outcome, Stands, Ended, run, Goes, stays, by_quiet, and_then, goes_as, quiet_behind, run_stands, run_ends, run_breaks}
+use Rattle.mes_frame.proofs.ChunkRun.{start, Outcome, Represents, Ended, run, Goes, stays, by_quiet, and_then, goes_as, quiet_behind, run_stands, run_ends, run_breaks}
 use Rattle.mes_frame.proofs.ChunkBytes.{at_empty, at_end}
 use Rattle.mes_frame.proofs.ChunkGoes.{goes_chunks, goes_ending}
-use Rattle.mes_frame.proofs.ChunkPlaces.{place_reaches, at_place}
+use Rattle.mes_frame.proofs.ChunkPhases.{place_reaches, at_place}
 use Rattle.mes_frame.proofs.ChunkBreaks.{breaks}
 
 -- whole chunks and then a part run to where the part runs
-goes_after : (P : List ℕ → List ℕ → Type 0) (p : Place) (w body : List ℕ) (at : After P w body) → Goes start at.part p at.stands → Goes start w p body
+goes_after : (P : List ℕ → List ℕ → Type 0) (p : Phase) (w body : List ℕ) (at : After P w body) → Goes start at.part p at.represents → Goes start w p body
 goes_after P p w body at goes =
-    goes_as _ _ w (chunks_bytes at.chunks ++ at.part) body (data_of at.chunks ++ at.stands) at.spelt at.content
-    (and_then _ _ _ (chunks_bytes at.chunks) at.part (data_of at.chunks) at.stands (goes_chunks at.chunks at.each) goes)
+    goes_as _ _ w (chunks_bytes at.chunks ++ at.part) body (data_of at.chunks ++ at.represents) at.spelt at.content
+    (and_then _ _ _ (chunks_bytes at.chunks) at.part (data_of at.chunks) at.represents (goes_chunks at.chunks at.each) goes)
 
-pub state_run : (s : ChunkState) (w body : List ℕ) → ChunkStands s w body → run w start [] ≡ Stands s.place body
-unfolding ChunkStands
-state_run s w body at = run_stands _ w body (goes_after _ _ w body at (place_reaches s.place at.part at.stands at.is))
+pub state_run : (s : ChunkState) (w body : List ℕ) → ChunkRepresents s w body → run w start [] ≡ Represents s.phase body
+unfolding ChunkRepresents
+state_run s w body at = run_stands _ w body (goes_after _ _ w body at (place_reaches s.phase at.part at.represents at.is))
 
-pub open_run : (w body : List ℕ) → IsOpen w body → (p : Place) × (run w start [] ≡ Stands p body)
+pub open_run : (w body : List ℕ) → IsOpen w body → (p : Phase) × (run w start [] ≡ Represents p body)
 open_run w body at =
-    let placed = at_place at.part at.stands at.is in
-    (placed.place, run_stands _ w body (goes_after _ _ w body at (place_reaches placed.place at.part at.stands placed.stands)))
+    let placed = at_place at.part at.represents at.is in
+    (placed.phase, run_stands _ w body (goes_after _ _ w body at (place_reaches placed.phase at.part at.represents placed.represents)))
 
 pub broken_run : (w over body : List ℕ) (b : ℕ) (f : FrameFault) → ChunkShows w body b f → run (w ++ b ∷ over) start [] ≡ Ended (out.Fault f) body over
 broken_run w over body b f at =
-    let broken = breaks at.part at.stands b f at.is in
-    run_breaks _ w body over b f (goes_after _ _ w body at (place_reaches broken.place at.part at.stands broken.stands)) broken.step
+    let broken = breaks at.part at.represents b f at.is in
+    run_breaks _ w body over b f (goes_after _ _ w body at (place_reaches broken.phase at.part at.represents broken.represents)) broken.step
 
 pub whole_run : (w over body : List ℕ) → IsChunked w body → run (w ++ over) start [] ≡ Ended out.Closed body over
 whole_run w over body whole =
@@ -52,7 +52,7 @@ whole_run w over body whole =
 
 -- what the outcome of a run over w says of w
 reading_of : List ℕ → Outcome → ChunkReading
-reading_of w (Stands place body) = Begins body
+reading_of w (Represents phase body) = Begins body
 reading_of w (Ended out.Quiet body over) = Begins body
 reading_of w (Ended out.Byte body over) = Begins body
 reading_of w (Ended out.Closed body over) = Whole (take (length w - length over) w) body
@@ -93,9 +93,9 @@ pub one_reading : (w : List ℕ) (reading other : ChunkReading) → ReadsChunks 
 one_reading w reading other reads too = reads_so w reading reads ∙ sym (reads_so w other too)
 
 -- two states that stand for the same bytes are one
-pub one_state : (s t : ChunkState) (w body other : List ℕ) → ChunkStands s w body → ChunkStands t w other → (s ≡ t) × (body ≡ other)
+pub one_state : (s t : ChunkState) (w body other : List ℕ) → ChunkRepresents s w body → ChunkRepresents t w other → (s ≡ t) × (body ≡ other)
 one_state s t w body other first second =
-    let same : Stands s.place body ≡ Stands t.place other = sym (state_run s w body first) ∙ state_run t w other second in
-    let places : s.place ≡ t.place = cc in
-    let state : Place → ChunkState = λ p. record { place = p } in
+    let same : Represents s.phase body ≡ Represents t.phase other = sym (state_run s w body first) ∙ state_run t w other second in
+    let places : s.phase ≡ t.phase = cc in
+    let state : Phase → ChunkState = λ p. record { phase = p } in
     (ap state places, cc)

@@ -152,8 +152,8 @@ pub one_reading : (limit : ℕ) (w : List ℕ) (reading other : RecordReading) �
 one_reading limit w reading other reads too = same_found limit w reading other (found limit w reading reads) (found limit w other too)
 
 -- bytes begin with one record at most, under any two limits
-pub one_record : (f r s g q t : List ℕ) (l m : ℕ) → IsRecord f r l → IsRecord g q m → f ++ s ≡ g ++ t → (f ≡ g) × (r ≡ q) × (s ≡ t)
-one_record f r s g q t l m first second same =
+pub record_is_unique : (f r s g q t : List ℕ) (l m : ℕ) → IsRecord f r l → IsRecord g q m → f ++ s ≡ g ++ t → (f ≡ g) × (r ≡ q) × (s ≡ t)
+record_is_unique f r s g q t l m first second same =
     let short = first.within in
     let less = second.within in
     let wide : IsRecord f r (max l m) = record { size = first.size; is_size = first.is_size; spelt = first.spelt; value = first.value; within = omega arith } in

@@ -4,9 +4,9 @@ use Rattle.std.proofs.lemmas.List.{append-nil}
 use Rattle.std.specs.Str.Parse.{digits_value}
 use Rattle.mes_frame.specs.Record.{DataBegun, Begun}
 use Rattle.mes_frame.specs.RecordReading.{Begins}
-use Rattle.mes_frame.specs.RecordState.{SizeKept, PlaceStands, RecordStands, limit_of}
-use Rattle.mes_frame.specs.declared.record.Place.{Place}
-use Rattle.mes_frame.specs.declared.record.Place.TheVariants.{Size, Data, Failed}
+use Rattle.mes_frame.specs.RecordState.{SizeKept, PhaseRepresents, RecordStands, limit_of}
+use Rattle.mes_frame.specs.declared.record.Phase.{Phase}
+use Rattle.mes_frame.specs.declared.record.Phase.TheVariants.{Size, Data, Failed}
 use Rattle.mes_frame.specs.declared.record.RecordState.{RecordState}
 use Rattle.mes_frame.proofs.OneReading.{one_split, one_reading}
 use Rattle.mes_frame.proofs.Records.{begun_of}
@@ -28,7 +28,7 @@ not_both x r q digits value left limit kept begun =
     let clash : [] ≡ 10 ∷ q = one.1 in
     cc
 
-one_place : (p q : Place) (limit : ℕ) (x r s : List ℕ) → r ≡ s → PlaceStands p limit x r → PlaceStands q limit x s → p ≡ q
+one_place : (p q : Phase) (limit : ℕ) (x r s : List ℕ) → r ≡ s → PhaseRepresents p limit x r → PhaseRepresents q limit x s → p ≡ q
 one_place (Size digits value) (Size more worth) limit x r s same first second =
     let a = first.count ∙ sym second.count in
     let b = first.capped ∙ sym second.capped in
@@ -46,6 +46,6 @@ one_state s t x r q first second same =
     let reads : Begins r ≡ Begins q = one_reading s.limit x (Begins r) (Begins q) (begun_of s x r first)
     (subst (λ (l : ℕ). Begun x q l) (sym same) (begun_of t x q second)) in
     let datas : r ≡ q = cc in
-    let place = one_place s.place t.place s.limit x r q datas first (subst (λ (l : ℕ). PlaceStands t.place l x q) (sym same) second) in
-    let state : ℕ → Place → RecordState = λ l p. record { limit = l; place = p } in
-    (ap₂ state same place, datas)
+    let phase = one_place s.phase t.phase s.limit x r q datas first (subst (λ (l : ℕ). PhaseRepresents t.phase l x q) (sym same) second) in
+    let state : ℕ → Phase → RecordState = λ l p. record { limit = l; phase = p } in
+    (ap₂ state same phase, datas)

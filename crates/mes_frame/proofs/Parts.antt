@@ -10,8 +10,8 @@ use Rattle.mes_frame.specs.Write.{NoneFails, StopsWrite, CallsFor}
 use Rattle.mes_frame.specs.Written.{WroteFront, WrotePart, WentOut, Passes, Stops}
 use Rattle.mes_frame.specs.declared.counts.Counts.{Counts}
 use Rattle.mes_frame.specs.declared.write.WriteFault.{WriteFault}
-use Rattle.mes_frame.specs.declared.write.WriteWhy.{WriteWhy}
-use Rattle.mes_frame.specs.declared.write.WriteWhy.TheVariants.{Device, Zero}
+use Rattle.mes_frame.specs.declared.write.WriteFaultKind.{WriteFaultKind}
+use Rattle.mes_frame.specs.declared.write.WriteFaultKind.TheVariants.{Device, Zero}
 
 pub calls_more : (n k : ℕ) (old mid new : Counts) → CallsFor n old mid → CallsFor k mid new → CallsFor (n + k) old new
 calls_more n k old mid new first second = (omega arith, omega arith)
@@ -20,7 +20,7 @@ calls_more n k old mid new first second = (omega arith, omega arith)
 pub calls_short : (n k : ℕ) (old new : Counts) → 0 < n → CallsFor n old new → CallsFor (n + k) old new
 calls_short n k old new some calls = (omega arith, omega arith)
 
-pub none_then_stops : (why : WriteWhy) (old mid new : Counts) → NoneFails old mid → StopsWrite why mid new → StopsWrite why old new
+pub none_then_stops : (why : WriteFaultKind) (old mid new : Counts) → NoneFails old mid → StopsWrite why mid new → StopsWrite why old new
 none_then_stops Device old mid new good stops = (omega arith, omega arith)
 none_then_stops Zero old mid new good stops = (omega arith, omega arith)
 

@@ -5,9 +5,9 @@ use Rattle.std.proofs.lemmas.Grind.{common_steps}
 use Rattle.std.proofs.lemmas.Int.Digits.{digits_push, digits_value_push}
 use Rattle.std.specs.Char.{digit_value}
 use Rattle.mes_frame.specs.Record.{DataBegun, Begun}
-use Rattle.mes_frame.specs.RecordState.{SizeKept, PlaceStands, RecordStands, limit_of, fault_at, fault_of, room_at, room_of}
-use Rattle.mes_frame.specs.declared.record.Place.{Place}
-use Rattle.mes_frame.specs.declared.record.Place.TheVariants.{Size, Data, Failed}
+use Rattle.mes_frame.specs.RecordState.{SizeKept, PhaseRepresents, RecordStands, limit_of, fault_at, fault_of, remaining_at, remaining_of}
+use Rattle.mes_frame.specs.declared.record.Phase.{Phase}
+use Rattle.mes_frame.specs.declared.record.Phase.TheVariants.{Size, Data, Failed}
 use Rattle.mes_frame.specs.declared.record.RecordState.{RecordState}
 
 -- the bytes '0' to '9' are the decimal digits
@@ -49,51 +49,51 @@ data_some x r left limit begun empty =
     omega arith
 
 -- within the data something has begun
-pub begun_in_data : (s : RecordState) (x r : List ℕ) (left : ℕ) → s.place ≡ Data left → RecordStands s x r → x ≡ [] → ⊥
+pub begun_in_data : (s : RecordState) (x r : List ℕ) (left : ℕ) → s.phase ≡ Data left → RecordStands s x r → x ≡ [] → ⊥
 unfolding RecordStands
-begun_in_data s x r left at stands = data_some x r left s.limit (rw at at stands)
+begun_in_data s x r left at represents = data_some x r left s.limit (rw at at represents)
 
 data_front : (x r p : List ℕ) (k left limit : ℕ) → DataBegun x r left limit → length p ≤ left → k < length p → Begun (x ++ take k p) (r ++ take k p) limit
 data_front x r p k left limit begun within front =
     let len : length (take k p) ≡ k = grind (arith, common_steps) in
     inr (left - length (take k p), data_goes_on x r (take k p) left limit begun (omega arith))
 
-front_at : (place : Place) (limit : ℕ) (x r p : List ℕ) (k : ℕ) → PlaceStands place limit x r → length p ≤ room_at place → k < length p → Begun (x ++ take k p) (r ++ take k p) limit
-front_at (Size digits value) limit x r p k stands within front = absurd (omega arith)
-front_at (Data left) limit x r p k stands within front = data_front x r p k left limit stands within front
-front_at (Failed fault) limit x r p k stands within front = absurd stands
+front_at : (phase : Phase) (limit : ℕ) (x r p : List ℕ) (k : ℕ) → PhaseRepresents phase limit x r → length p ≤ remaining_at phase → k < length p → Begun (x ++ take k p) (r ++ take k p) limit
+front_at (Size digits value) limit x r p k represents within front = absurd (omega arith)
+front_at (Data left) limit x r p k represents within front = data_front x r p k left limit represents within front
+front_at (Failed fault) limit x r p k represents within front = absurd represents
 
 -- each front of a run of data has begun
-pub front_of : (s : RecordState) (x r p : List ℕ) (k count : ℕ) → count ≤ room_of s → length p ≡ count → k < count → RecordStands s x r → Begun (x ++ take k p) (r ++ take k p) (limit_of s)
+pub front_of : (s : RecordState) (x r p : List ℕ) (k count : ℕ) → count ≤ remaining_of s → length p ≡ count → k < count → RecordStands s x r → Begun (x ++ take k p) (r ++ take k p) (limit_of s)
 unfolding RecordStands
-front_of s x r p k count within len front stands = front_at s.place s.limit x r p k stands (omega arith) (omega arith)
+front_of s x r p k count within len front represents = front_at s.phase s.limit x r p k represents (omega arith) (omega arith)
 
-begun_at : (p : Place) (limit : ℕ) (x r : List ℕ) → PlaceStands p limit x r → Begun x r limit
-begun_at (Size digits value) limit x r stands = inl (stands.begun, stands.empty)
-begun_at (Data left) limit x r stands = inr (left, stands)
-begun_at (Failed fault) limit x r stands = absurd stands
+begun_at : (p : Phase) (limit : ℕ) (x r : List ℕ) → PhaseRepresents p limit x r → Begun x r limit
+begun_at (Size digits value) limit x r represents = inl (represents.begun, represents.empty)
+begun_at (Data left) limit x r represents = inr (left, represents)
+begun_at (Failed fault) limit x r represents = absurd represents
 
 -- what a state stands for has begun
 pub begun_of : (s : RecordState) (x r : List ℕ) → RecordStands s x r → Begun x r (limit_of s)
 unfolding RecordStands
-begun_of s x r stands = begun_at s.place s.limit x r stands
+begun_of s x r represents = begun_at s.phase s.limit x r represents
 
-room_begun : (p : Place) (limit : ℕ) (x r : List ℕ) → PlaceStands p limit x r → 0 < room_at p → DataBegun x r (room_at p) limit
-room_begun (Size digits value) limit x r stands some = absurd (omega arith)
-room_begun (Data left) limit x r stands some = stands
-room_begun (Failed fault) limit x r stands some = absurd stands
+room_begun : (p : Phase) (limit : ℕ) (x r : List ℕ) → PhaseRepresents p limit x r → 0 < remaining_at p → DataBegun x r (remaining_at p) limit
+room_begun (Size digits value) limit x r represents some = absurd (omega arith)
+room_begun (Data left) limit x r represents some = represents
+room_begun (Failed fault) limit x r represents some = absurd represents
 
 -- where there is room for data, so many bytes of them are to come
-pub begun_room : (s : RecordState) (x r : List ℕ) → RecordStands s x r → 0 < room_of s → DataBegun x r (room_of s) (limit_of s)
+pub begun_room : (s : RecordState) (x r : List ℕ) → RecordStands s x r → 0 < remaining_of s → DataBegun x r (remaining_of s) (limit_of s)
 unfolding RecordStands
-begun_room s x r stands some = room_begun s.place s.limit x r stands some
+begun_room s x r represents some = room_begun s.phase s.limit x r represents some
 
-no_fault_at : (p : Place) (limit : ℕ) (x r : List ℕ) → PlaceStands p limit x r → fault_at p ≡ None
-no_fault_at (Size digits value) limit x r stands = refl
-no_fault_at (Data left) limit x r stands = refl
-no_fault_at (Failed fault) limit x r stands = absurd stands
+no_fault_at : (p : Phase) (limit : ℕ) (x r : List ℕ) → PhaseRepresents p limit x r → fault_at p ≡ None
+no_fault_at (Size digits value) limit x r represents = refl
+no_fault_at (Data left) limit x r represents = refl
+no_fault_at (Failed fault) limit x r represents = absurd represents
 
 -- a state that stands for some bytes has shown no fault
 pub no_fault_of : (s : RecordState) (x r : List ℕ) → RecordStands s x r → fault_of s ≡ None
 unfolding RecordStands
-no_fault_of s x r stands = no_fault_at s.place s.limit x r stands
+no_fault_of s x r represents = no_fault_at s.phase s.limit x r represents

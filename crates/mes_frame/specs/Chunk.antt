@@ -7,7 +7,7 @@
 use Rattle.std.specs.Prelude.{◌≡◌, ◌≢◌, ℕ, ◌+◌, ◌^◌, ◌<◌, ◌≤◌, ◌⊎◌, List, [], ◌∷◌, ◌++◌, length}
 use Rattle.std.specs.List.{AllByRecursion, flat_map}
 use Rattle.std.specs.Str.Parse.{AllDigits, digits_value}
-use Rattle.mes_frame.specs.declared.limits.TheConstants.{CHUNK_LINE_LIMIT, TRAILERS_LIMIT}
+use Rattle.mes_frame.specs.declared.limits.TheConstants.{MAX_CHUNK_LINE, MAX_TRAILERS}
 
 -- a chunk-size, and what stands behind it before the CRLF
 pub record Line : Type 0 where
@@ -37,7 +37,7 @@ pub record IsLine (l : Line) : Type 0 where
   pub hex : AllDigits 16 l.size
   pub fits : size_of l < 2 ^ 64
   pub extension : IsExtension l.extension
-  pub short : length l.size + length l.extension ≤ CHUNK_LINE_LIMIT
+  pub short : length l.size + length l.extension ≤ MAX_CHUNK_LINE
 
 -- a chunk with data
 pub record Chunk : Type 0 where
@@ -75,7 +75,7 @@ pub record IsEnding (l : Line) (ts : List (List ℕ)) : Type 0 where
   pub line : IsLine l
   pub zero_size : size_of l ≡ 0
   pub each : AllByRecursion IsTrailer ts
-  pub short : length (trailers_bytes ts) ≤ TRAILERS_LIMIT
+  pub short : length (trailers_bytes ts) ≤ MAX_TRAILERS
 
 abbrev pub chunks_bytes : List Chunk → List ℕ
 chunks_bytes cs = flat_map chunk_bytes cs

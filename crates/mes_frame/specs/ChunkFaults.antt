@@ -5,7 +5,7 @@ use Rattle.std.specs.Char.{digit_value}
 use Rattle.std.specs.Str.Parse.{digits_value}
 use Rattle.mes_frame.specs.Chunk.{Line, BeginsExtension, IsExtensionByte, IsPlain, trailers_bytes}
 use Rattle.mes_frame.specs.ChunkFront.{InSize, InExtension, AfterLine, InData, AfterData, InTrailer, AfterTrailer, AfterEnding, After}
-use Rattle.mes_frame.specs.declared.limits.TheConstants.{CHUNK_LINE_LIMIT, TRAILERS_LIMIT}
+use Rattle.mes_frame.specs.declared.limits.TheConstants.{MAX_CHUNK_LINE, MAX_TRAILERS}
 use Rattle.mes_frame.specs.declared.fault.FrameFault.{FrameFault}
 use Rattle.mes_frame.specs.declared.fault.FrameFault.TheVariants.{BadChunkLine, ChunkLineTooLong, ChunkTooLarge, BadChunkEnd, TrailersTooLong, BadSizeLine, SizeLineTooLong, RecordTooLarge}
 
@@ -16,20 +16,20 @@ EndsNoSize x b = (16 ≤ digit_value b) × (0 < length x → (BeginsExtension b 
 -- F1: the first byte that no chunk line has there, a LF without CR among them
 abbrev pub ShowsBadLine : List ℕ → List ℕ → ℕ → Type 0
 ShowsBadLine x d b =
-    (InSize x d × (length x < CHUNK_LINE_LIMIT) × EndsNoSize x b)
-    ⊎ ((l : Line) × InExtension l x d × (length x < CHUNK_LINE_LIMIT) × (IsExtensionByte b → ⊥) × (b ≢ 13))
+    (InSize x d × (length x < MAX_CHUNK_LINE) × EndsNoSize x b)
+    ⊎ ((l : Line) × InExtension l x d × (length x < MAX_CHUNK_LINE) × (IsExtensionByte b → ⊥) × (b ≢ 13))
     ⊎ ((l : Line) × AfterLine l x d × (b ≢ 10))
 
 -- F2: a line's byte past its limit, where neither it nor one before it is a CR
 abbrev pub ShowsLongLine : List ℕ → List ℕ → ℕ → Type 0
 ShowsLongLine x d b =
-    (InSize x d × (length x ≡ CHUNK_LINE_LIMIT) × (b ≢ 13))
-    ⊎ ((l : Line) × InExtension l x d × (length x ≡ CHUNK_LINE_LIMIT) × (b ≢ 13))
+    (InSize x d × (length x ≡ MAX_CHUNK_LINE) × (b ≢ 13))
+    ⊎ ((l : Line) × InExtension l x d × (length x ≡ MAX_CHUNK_LINE) × (b ≢ 13))
 
 -- F3: the digit that makes the size pass 2^64 - 1
 abbrev pub ShowsLargeChunk : List ℕ → List ℕ → ℕ → Type 0
 ShowsLargeChunk x d b =
-    InSize x d × (length x < CHUNK_LINE_LIMIT) × (digit_value b < 16) × (2 ^ 64 ≤ digits_value 16 (x ++ b ∷ []))
+    InSize x d × (length x < MAX_CHUNK_LINE) × (digit_value b < 16) × (2 ^ 64 ≤ digits_value 16 (x ++ b ∷ []))
 
 -- F4: a byte other than CR, LF behind a chunk's data; behind the last chunk a LF without CR, or a CR without LF
 abbrev pub ShowsBadEnd : List ℕ → List ℕ → ℕ → Type 0
@@ -37,18 +37,18 @@ ShowsBadEnd x d b =
     ((l : Line) × InData l 0 x d × (b ≢ 13))
     ⊎ ((l : Line) × AfterData l x d × (b ≢ 10))
     ⊎ ((l : Line) × (ts : List (List ℕ)) × (t : List ℕ) × InTrailer l ts t x d × (b ≡ 10)
-    × ((t ≡ []) ⊎ (length (trailers_bytes ts) + length t < TRAILERS_LIMIT)))
+    × ((t ≡ []) ⊎ (length (trailers_bytes ts) + length t < MAX_TRAILERS)))
     ⊎ ((l : Line) × (ts : List (List ℕ)) × (t : List ℕ) × AfterTrailer l ts t x d × (b ≢ 10)
-    × (length (trailers_bytes ts) + length t + 1 < TRAILERS_LIMIT))
+    × (length (trailers_bytes ts) + length t + 1 < MAX_TRAILERS))
     ⊎ ((l : Line) × (ts : List (List ℕ)) × AfterEnding l ts x d × (b ≢ 10))
 
 -- F5: the byte past the limit of trailer lines with their CRLFs. A CR or a LF that begins a line belongs to none.
 abbrev pub ShowsLongTrailers : List ℕ → List ℕ → ℕ → Type 0
 ShowsLongTrailers x d b =
     ((l : Line) × (ts : List (List ℕ)) × (t : List ℕ) × InTrailer l ts t x d
-    × (length (trailers_bytes ts) + length t ≡ TRAILERS_LIMIT) × (t ≡ [] → IsPlain b))
+    × (length (trailers_bytes ts) + length t ≡ MAX_TRAILERS) × (t ≡ [] → IsPlain b))
     ⊎ ((l : Line) × (ts : List (List ℕ)) × (t : List ℕ) × AfterTrailer l ts t x d
-    × (length (trailers_bytes ts) + length t + 1 ≡ TRAILERS_LIMIT))
+    × (length (trailers_bytes ts) + length t + 1 ≡ MAX_TRAILERS))
 
 -- behind the part x with the data d the byte b shows the fault
 abbrev pub PartShows : List ℕ → List ℕ → ℕ → FrameFault → Type 0

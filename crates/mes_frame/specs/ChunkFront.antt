@@ -3,14 +3,14 @@ use Rattle.std.specs.Prelude.{◌≡◌, ℕ, ◌+◌, ◌^◌, ◌<◌, ◌≤�
 use Rattle.std.specs.List.{AllByRecursion}
 use Rattle.std.specs.Str.Parse.{AllDigits, digits_value}
 use Rattle.mes_frame.specs.Chunk.{Line, IsLine, line_bytes, size_of, Chunk, IsChunk, IsPlain, IsTrailer, trailers_bytes, ending, IsEnding, chunks_bytes, data_of}
-use Rattle.mes_frame.specs.declared.limits.TheConstants.{CHUNK_LINE_LIMIT, TRAILERS_LIMIT}
+use Rattle.mes_frame.specs.declared.limits.TheConstants.{MAX_CHUNK_LINE, MAX_TRAILERS}
 
 -- In each part x is what stands of it, and d its data so far.
 -- digits of a chunk-size, also none yet
 pub record InSize (x d : List ℕ) : Type 0 where
   pub hex : AllDigits 16 x
   pub fits : digits_value 16 x < 2 ^ 64
-  pub short : length x ≤ CHUNK_LINE_LIMIT
+  pub short : length x ≤ MAX_CHUNK_LINE
   pub empty : d ≡ []
 
 -- a line behind its size
@@ -42,7 +42,7 @@ pub record AfterData (l : Line) (x d : List ℕ) : Type 0 where
 pub record InTrailer (l : Line) (ts : List (List ℕ)) (t x d : List ℕ) : Type 0 where
   pub ends : IsEnding l ts
   pub plain : AllByRecursion IsPlain t
-  pub short : length (trailers_bytes ts) + length t ≤ TRAILERS_LIMIT
+  pub short : length (trailers_bytes ts) + length t ≤ MAX_TRAILERS
   pub spelt : x ≡ ending l ts ++ t
   pub empty : d ≡ []
 
@@ -50,7 +50,7 @@ pub record InTrailer (l : Line) (ts : List (List ℕ)) (t x d : List ℕ) : Type
 pub record AfterTrailer (l : Line) (ts : List (List ℕ)) (t x d : List ℕ) : Type 0 where
   pub ends : IsEnding l ts
   pub is_trailer : IsTrailer t
-  pub short : length (trailers_bytes ts) + length t < TRAILERS_LIMIT
+  pub short : length (trailers_bytes ts) + length t < MAX_TRAILERS
   pub spelt : x ≡ ending l ts ++ (t ++ 13 ∷ [])
   pub empty : d ≡ []
 
@@ -76,10 +76,10 @@ pub record After (P : List ℕ → List ℕ → Type 0) (w body : List ℕ) : Ty
   pub chunks : List Chunk
   pub each : AllByRecursion IsChunk chunks
   pub part : List ℕ
-  pub stands : List ℕ
-  pub is : P part stands
+  pub represents : List ℕ
+  pub is : P part represents
   pub spelt : w ≡ chunks_bytes chunks ++ part
-  pub content : body ≡ data_of chunks ++ stands
+  pub content : body ≡ data_of chunks ++ represents
 
 -- w has begun a chunked body and not ended it
 abbrev pub IsOpen : List ℕ → List ℕ → Type 0

@@ -7,12 +7,12 @@ use Rattle.std.specs.Char.{digit_value}
 use Rattle.std.specs.Str.Parse.{AllDigits, digits_value}
 use Rattle.mes_frame.specs.declared.fault.FrameFault.{FrameFault}
 use Rattle.mes_frame.specs.declared.fault.FrameFault.TheVariants.{BadChunkLine, ChunkLineTooLong, ChunkTooLarge, BadChunkEnd, TrailersTooLong, BadSizeLine, SizeLineTooLong, RecordTooLarge}
-use Rattle.mes_frame.specs.declared.limits.TheConstants.{SIZE_DIGITS}
+use Rattle.mes_frame.specs.declared.limits.TheConstants.{MAX_SIZE_DIGITS}
 
 -- 0 to 20 digits: a front of a record-size
 pub record SizeBegun (x : List ℕ) : Type 0 where
   pub digits : AllDigits 10 x
-  pub few : length x ≤ SIZE_DIGITS
+  pub few : length x ≤ MAX_SIZE_DIGITS
 
 -- record-size = 1*20DIGIT
 pub record IsSize (x : List ℕ) : Type 0 where
@@ -45,7 +45,7 @@ abbrev pub SizeShows : List ℕ → ℕ → ℕ → FrameFault → Type 0
 -- F7: a byte that is no digit, save a LF after a digit
 SizeShows x b limit BadSizeLine = SizeBegun x × (10 ≤ digit_value b) × (b ≡ 10 → x ≡ [])
 -- F8: a 21st digit
-SizeShows x b limit SizeLineTooLong = SizeBegun x × (length x ≡ SIZE_DIGITS) × (digit_value b < 10)
+SizeShows x b limit SizeLineTooLong = SizeBegun x × (length x ≡ MAX_SIZE_DIGITS) × (digit_value b < 10)
 -- F9: the LF of a size line whose value is above the limit
 SizeShows x b limit RecordTooLarge = IsSize x × (b ≡ 10) × (limit < digits_value 10 x)
 -- F1 to F5 are faults of chunked bodies

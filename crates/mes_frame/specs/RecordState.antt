@@ -3,8 +3,8 @@ use Rattle.std.specs.Prelude.{◌≡◌, ℕ, ◌-◌, ◌^◌, ◌<◌, min, Bo
 use Rattle.std.specs.Str.Parse.{digits_value}
 use Rattle.mes_frame.specs.Record.{SizeBegun, DataBegun, IsRecord, SizeShows}
 use Rattle.mes_frame.specs.declared.fault.FrameFault.{FrameFault}
-use Rattle.mes_frame.specs.declared.record.Place.{Place}
-use Rattle.mes_frame.specs.declared.record.Place.TheVariants.{Size, Data, Failed}
+use Rattle.mes_frame.specs.declared.record.Phase.{Phase}
+use Rattle.mes_frame.specs.declared.record.Phase.TheVariants.{Size, Data, Failed}
 use Rattle.mes_frame.specs.declared.record.RecordOut.{RecordOut}
 use Rattle.mes_frame.specs.declared.record.RecordOut.TheVariants.{Quiet, Empty, Byte, Fault}
 use Rattle.mes_frame.specs.declared.record.RecordState.{RecordState}
@@ -14,24 +14,24 @@ abbrev pub limit_of : RecordState → ℕ
 limit_of s = s.limit
 
 -- the fault, at a place that is behind one
-abbrev pub fault_at : Place → Option FrameFault
+abbrev pub fault_at : Phase → Option FrameFault
 fault_at (Size digits value) = None
 fault_at (Data left) = None
 fault_at (Failed fault) = Some fault
 
 -- the fault that the state answers from now on
 abbrev pub fault_of : RecordState → Option FrameFault
-fault_of s = fault_at s.place
+fault_of s = fault_at s.phase
 
 -- the bytes of data that are expected next
-abbrev pub room_at : Place → ℕ
-room_at (Size digits value) = 0
-room_at (Data left) = left
-room_at (Failed fault) = 0
+abbrev pub remaining_at : Phase → ℕ
+remaining_at (Size digits value) = 0
+remaining_at (Data left) = left
+remaining_at (Failed fault) = 0
 
 -- how many of the next bytes are data of the record
-abbrev pub room_of : RecordState → ℕ
-room_of s = room_at s.place
+abbrev pub remaining_of : RecordState → ℕ
+remaining_of s = remaining_at s.phase
 
 -- what is kept of the digits x: their number, and their value up to 2^32 - 1
 pub record SizeKept (digits value : ℕ) (x r : List ℕ) : Type 0 where
@@ -41,18 +41,18 @@ pub record SizeKept (digits value : ℕ) (x r : List ℕ) : Type 0 where
   pub empty : r ≡ []
 
 -- what the place says of the front x of a record with the data r
-abbrev pub PlaceStands : Place → ℕ → List ℕ → List ℕ → Type 0
-PlaceStands (Size digits value) limit x r = SizeKept digits value x r
-PlaceStands (Data left) limit x r = DataBegun x r left limit
-PlaceStands (Failed fault) limit x r = ⊥
+abbrev pub PhaseRepresents : Phase → ℕ → List ℕ → List ℕ → Type 0
+PhaseRepresents (Size digits value) limit x r = SizeKept digits value x r
+PhaseRepresents (Data left) limit x r = DataBegun x r left limit
+PhaseRepresents (Failed fault) limit x r = ⊥
 
 -- since the last record's end the state has taken x, the front of a record, with the data r
 unfoldable pub RecordStands : RecordState → List ℕ → List ℕ → Type 0
-RecordStands s x r = PlaceStands s.place s.limit x r
+RecordStands s x r = PhaseRepresents s.phase s.limit x r
 
 -- the state at a place, with a limit
-abbrev pub state_at : ℕ → Place → RecordState
-state_at limit place = record { limit = limit; place = place }
+abbrev pub state_at : ℕ → Phase → RecordState
+state_at limit phase = record { limit = limit; phase = phase }
 
 -- what an answer to the byte b says of a state that stood for x with the data r, and of the new state
 abbrev pub RecordSteps : RecordState → List ℕ → List ℕ → ℕ → RecordOut → Type 0

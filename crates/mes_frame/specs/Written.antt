@@ -7,15 +7,15 @@ use Rattle.mes_frame.specs.declared.counts.Counts.{Counts}
 use Rattle.mes_frame.specs.declared.write.WriteFault.{WriteFault}
 
 -- a number of bytes as it is told: it stays at 2^64 - 1 once it is there
-abbrev pub told : ℕ → ℕ
-told n = min n (2 ^ 64 - 1)
+abbrev pub reported : ℕ → ℕ
+reported n = min n (2 ^ 64 - 1)
 
 -- exactly the first n bytes of w went out, not all of them, and n is told as `sent`
 pub record WroteFront (old new : Option (List ℕ)) (w : List ℕ) (sent : ℕ) : Type 0 where
   pub n : ℕ
   pub short : n < length w
   pub out : Appends old new (take n w)
-  pub sent_is : sent ≡ told n
+  pub sent_is : sent ≡ reported n
 
 -- the same of the part w, behind `before` bytes that went out before it
 pub record WrotePart (old new : Option (List ℕ)) (w : List ℕ) (before sent : ℕ) : Type 0 where

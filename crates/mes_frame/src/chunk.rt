@@ -1,13 +1,13 @@
 //! The reader of chunked bodies: a machine that is given one byte after the other.
-#![tactic(auto, unfolding(crate::specs::ChunkState::ChunkStands))]
+#![tactic(auto, unfolding(crate::specs::ChunkState::ChunkRepresents))]
 
 ghost use Rattle.std.specs.Prelude.{◌≡◌, ℕ, ◌+◌, ◌<◌, ◌≤◌, List, [], ◌++◌, length, take, IfSome};
 ghost use Rattle.std.specs.Char.{digit_value};
 ghost use Rattle.mes_frame.specs.ChunkFront.{IsOpen};
-ghost use Rattle.mes_frame.specs.ChunkState.{PlaceStands, PlaceSteps, ChunkStands, ChunkSteps, PassesFraming, OutWith, end_at, end_of, room_at, room_of, state_at};
+ghost use Rattle.mes_frame.specs.ChunkState.{PhaseRepresents, PhaseSteps, ChunkRepresents, ChunkSteps, PassesFraming, OutWith, end_at, end_of, remaining_at, remaining_of, state_at};
 
 use crate::fault::FrameFault;
-use crate::limits::{CHUNK_LINE_LIMIT, PLAIN_LINE_MOST, TRAILERS_LIMIT};
+use crate::limits::{MAX_CHUNK_LINE, MAX_PLAIN_LINE, MAX_TRAILERS};
 
 /// What a byte was to the reader of chunked bodies.
 #[derive(Clone, Copy, Debug, PartialEq, Eq)]
@@ -24,7 +24,7 @@ pub enum ChunkOut {
 
 // What is expected next.
 #[derive(Clone, Copy, Debug)]
-enum Place {
+enum Phase {
     // A chunk's size, of which so many digits stand, with their value.
     Size { count: u16, size: u64 },
     // More of its line, of which so many bytes stand.
@@ -45,36 +45,36 @@ enum Place {
     Failed(FrameFault),
 }
 
-const START: Place = Place::Size { count: 0, size: 0 };
+const START: Phase = Phase::Size { count: 0, size: 0 };
 
 /// Where the reader of chunked bodies stands.
 #[derive(Clone, Copy, Debug)]
 pub struct ChunkState {
-    place: Place,
+    phase: Phase,
 }
 
 impl ChunkState {
     /// The reader before the first byte.
     pub fn new() -> ChunkState
-        ensures { ChunkStands result [] [] }
+        ensures { ChunkRepresents result [] [] }
     {
-        ChunkState { place: START }
+        ChunkState { phase: START }
     }
 
     /// Takes one more byte and answers what it was. A fault is answered at the first byte that shows it.
     pub fn step(&mut self, byte: u8) -> ChunkOut
         // What each answer means, and when each fault comes, behind w with the data `body`.
-        ensures steps { (w body : List ℕ) → ChunkStands self.old w body
+        ensures steps { (w body : List ℕ) → ChunkRepresents self.old w body
             → ChunkSteps self.new w body byte result }
 
         // A byte is data exactly where there is room for it.
-        ensures data { OutWith (room_of self.old) result }
+        ensures data { OutWith (remaining_of self.old) result }
 
         // After the body's end or a fault each later step answers the same again.
         ensures again { IfSome (end_of self.old) (λ out. (result ≡ out) × (self.new ≡ self.old)) }
     {
-        let (place, out) = self.place.after(byte);
-        self.place = place;
+        let (phase, out) = self.phase.after(byte);
+        self.phase = phase;
         out
     }
 
@@ -83,71 +83,71 @@ impl ChunkState {
     #[inline(always)]
     pub fn next_chunk(&mut self, piece: &[u8]) -> usize
         // Behind w with the data `body`. Each front of them is open.
-        ensures passes { (w body : List ℕ) → ChunkStands self.old w body → PassesFraming self.new w body piece.now result }
+        ensures passes { (w body : List ℕ) → ChunkRepresents self.old w body → PassesFraming self.new w body piece.now result }
         // The next byte is one of data.
-        ensures ahead { 0 < result → 0 < room_of self.new }
+        ensures ahead { 0 < result → 0 < remaining_of self.new }
         ensures none { result ≡ 0 → self.new ≡ self.old }
         ensures within { result ≤ length piece.now }
     {
-        let Some(start) = self.place.line_start(piece) else {
+        let Some(start) = self.phase.line_start(piece) else {
             return 0;
         };
         let Some(line) = plain_line(piece, start) else {
             return 0;
         };
-        self.place = Place::Data { left: line.size };
+        self.phase = Phase::Data { left: line.size };
         line.end
     }
 
     /// How many of the next bytes are data of the body: 0 in the framing, after the end and after a fault.
     pub fn room(&self) -> u64
-        ensures { result ≡ room_of self.now }
+        ensures { result ≡ remaining_of self.now }
     {
-        match self.place {
-            Place::Data { left } => left,
+        match self.phase {
+            Phase::Data { left } => left,
             _ => 0,
         }
     }
 
     /// Takes the next `count` bytes at once, all of them data. They do what as many steps do.
     pub fn pass(&mut self, count: u64)
-        requires room { count ≤ room_of self.old }
+        requires room { count ≤ remaining_of self.old }
         // Behind w with the data `body`, for a run p of so many bytes.
-        ensures passes { (w body p : List ℕ) → length p ≡ count → ChunkStands self.old w body
-            → ChunkStands self.new (w ++ p) (body ++ p) }
+        ensures passes { (w body p : List ℕ) → length p ≡ count → ChunkRepresents self.old w body
+            → ChunkRepresents self.new (w ++ p) (body ++ p) }
 
         // Each front of the run is open.
         ensures fronts { (w body p : List ℕ) (k : ℕ) → length p ≡ count → k ≤ count
-            → ChunkStands self.old w body → IsOpen (w ++ take k p) (body ++ take k p) }
-        ensures room { room_of self.new + count ≡ room_of self.old }
+            → ChunkRepresents self.old w body → IsOpen (w ++ take k p) (body ++ take k p) }
+        ensures room { remaining_of self.new + count ≡ remaining_of self.old }
 
         // The end of the body, or a fault, is kept.
         ensures end { end_of self.new ≡ end_of self.old }
     {
-        if let Place::Data { left } = self.place {
-            self.place = Place::Data { left: left - count };
+        if let Phase::Data { left } = self.phase {
+            self.phase = Phase::Data { left: left - count };
         }
     }
 }
 
 impl Default for ChunkState {
-    ghost is_default = { λ s. ChunkStands s [] [] };
+    ghost is_default = { λ s. ChunkRepresents s [] [] };
 
     fn default() -> ChunkState {
         ChunkState::new()
     }
 }
 
-impl Place {
+impl Phase {
     // Where a chunk's line begins in a piece, at its front or behind the end of the chunk before.
     #[inline(always)]
     fn line_start(self, piece: &[u8]) -> Option<usize>
-        ensures passes { IfSome result (λ start. (w body : List ℕ) → ChunkStands (state_at self) w body → PassesFraming (state_at (Place.Size 0 0)) w body piece.now start) }
+        ensures passes { IfSome result (λ start. (w body : List ℕ) → ChunkRepresents (state_at self) w body → PassesFraming (state_at (Phase.Size 0 0)) w body piece.now start) }
         ensures within { IfSome result (λ start. start ≤ length piece.now) }
     {
         match self {
-            Place::Size { count: 0, size: 0 } => Some(0),
-            Place::Data { left: 0 } => {
+            Phase::Size { count: 0, size: 0 } => Some(0),
+            Phase::Data { left: 0 } => {
                 if piece.len() >= 2 && piece[0] == b'\r' && piece[1] == b'\n' {
                     Some(2)
                 } else {
@@ -159,22 +159,22 @@ impl Place {
     }
 
     // Where the reader stands after one more byte, and what the byte was.
-    fn after(self, byte: u8) -> (Place, ChunkOut)
-        ensures steps { (x d : List ℕ) → PlaceStands self x d → PlaceSteps result.0 x d byte result.1 }
-        ensures data { OutWith (room_at self) result.1 }
+    fn after(self, byte: u8) -> (Phase, ChunkOut)
+        ensures steps { (x d : List ℕ) → PhaseRepresents self x d → PhaseSteps result.0 x d byte result.1 }
+        ensures data { OutWith (remaining_at self) result.1 }
         ensures again { IfSome (end_at self) (λ out. (result.0 ≡ self) × (result.1 ≡ out)) }
     {
         match self {
-            Place::Size { count, size } => after_size(count, size, byte),
-            Place::Extension { count, size } => after_extension(count, size, byte),
-            Place::LineEnd { size } => after_line(size, byte),
-            Place::Data { left } => after_data(left, byte),
-            Place::DataEnd => after_data_cr(byte),
-            Place::Trailer { used, begun } => after_trailer(used, begun, byte),
-            Place::TrailerEnd { used } => after_trailer_cr(used, byte),
-            Place::End => after_end_cr(byte),
-            Place::Closed => (Place::Closed, ChunkOut::Closed),
-            Place::Failed(fault) => fail(fault),
+            Phase::Size { count, size } => after_size(count, size, byte),
+            Phase::Extension { count, size } => after_extension(count, size, byte),
+            Phase::LineEnd { size } => after_line(size, byte),
+            Phase::Data { left } => after_data(left, byte),
+            Phase::DataEnd => after_data_cr(byte),
+            Phase::Trailer { used, begun } => after_trailer(used, begun, byte),
+            Phase::TrailerEnd { used } => after_trailer_cr(used, byte),
+            Phase::End => after_end_cr(byte),
+            Phase::Closed => (Phase::Closed, ChunkOut::Closed),
+            Phase::Failed(fault) => fail(fault),
         }
     }
 }
@@ -190,11 +190,11 @@ struct PlainLine {
 #[inline(always)]
 fn plain_line(piece: &[u8], start: usize) -> Option<PlainLine>
     requires { start ≤ length piece.now }
-    ensures passes { IfSome result (λ line. (w body : List ℕ) → PassesFraming (state_at (Place.Size 0 0)) w body piece.now start → PassesFraming (state_at (Place.Data line.size)) w body piece.now line.end) }
+    ensures passes { IfSome result (λ line. (w body : List ℕ) → PassesFraming (state_at (Phase.Size 0 0)) w body piece.now start → PassesFraming (state_at (Phase.Data line.size)) w body piece.now line.end) }
     ensures some { IfSome result (λ line. 0 < line.size) }
     ensures within { IfSome result (λ line. (0 < line.end) × (line.end ≤ length piece.now)) }
 {
-    let most = piece.len().min(PLAIN_LINE_MOST);
+    let most = piece.len().min(MAX_PLAIN_LINE);
     let mut at = start;
     let mut size = 0;
     while at < most {
@@ -225,14 +225,14 @@ fn digit_of(byte: u8) -> Option<u8>
 }
 
 // In a chunk's size.
-fn after_size(count: u16, size: u64, byte: u8) -> (Place, ChunkOut)
-    ensures steps { (x d : List ℕ) → PlaceStands (Place.Size count size) x d → PlaceSteps result.0 x d byte result.1 }
+fn after_size(count: u16, size: u64, byte: u8) -> (Phase, ChunkOut)
+    ensures steps { (x d : List ℕ) → PhaseRepresents (Phase.Size count size) x d → PhaseSteps result.0 x d byte result.1 }
     ensures data { OutWith 0 result.1 }
 {
     if byte == b'\r' && count > 0 {
-        return (Place::LineEnd { size }, ChunkOut::Quiet);
+        return (Phase::LineEnd { size }, ChunkOut::Quiet);
     }
-    if count >= CHUNK_LINE_LIMIT {
+    if count >= MAX_CHUNK_LINE {
         return fail(FrameFault::ChunkLineTooLong);
     }
     match byte {
@@ -240,7 +240,7 @@ fn after_size(count: u16, size: u64, byte: u8) -> (Place, ChunkOut)
         b'A'..=b'F' => after_digit(count, size, byte, byte - b'A' + 10),
         b'a'..=b'f' => after_digit(count, size, byte, byte - b'a' + 10),
         b';' | b' ' | b'\t' if count > 0 => (
-            Place::Extension {
+            Phase::Extension {
                 count: count + 1,
                 size,
             },
@@ -251,36 +251,36 @@ fn after_size(count: u16, size: u64, byte: u8) -> (Place, ChunkOut)
 }
 
 // At a digit of a chunk's size, with its value, where its line may have one more byte.
-fn after_digit(count: u16, size: u64, byte: u8, digit: u8) -> (Place, ChunkOut)
+fn after_digit(count: u16, size: u64, byte: u8, digit: u8) -> (Phase, ChunkOut)
     requires digit { (digit_value byte ≡ digit) × (digit < 16) }
-    requires room { count < CHUNK_LINE_LIMIT }
-    ensures steps { (x d : List ℕ) → PlaceStands (Place.Size count size) x d → PlaceSteps result.0 x d byte result.1 }
+    requires room { count < MAX_CHUNK_LINE }
+    ensures steps { (x d : List ℕ) → PhaseRepresents (Phase.Size count size) x d → PhaseSteps result.0 x d byte result.1 }
     ensures data { OutWith 0 result.1 }
 {
     if size > u64::MAX >> 4 {
         return fail(FrameFault::ChunkTooLarge);
     }
-    let place = Place::Size {
+    let phase = Phase::Size {
         count: count + 1,
         size: size * 16 + u64::from(digit),
     };
-    (place, ChunkOut::Quiet)
+    (phase, ChunkOut::Quiet)
 }
 
 // In the rest of a chunk's line.
-fn after_extension(count: u16, size: u64, byte: u8) -> (Place, ChunkOut)
-    ensures steps { (x d : List ℕ) → PlaceStands (Place.Extension count size) x d → PlaceSteps result.0 x d byte result.1 }
+fn after_extension(count: u16, size: u64, byte: u8) -> (Phase, ChunkOut)
+    ensures steps { (x d : List ℕ) → PhaseRepresents (Phase.Extension count size) x d → PhaseSteps result.0 x d byte result.1 }
     ensures data { OutWith 0 result.1 }
 {
     if byte == b'\r' {
-        return (Place::LineEnd { size }, ChunkOut::Quiet);
+        return (Phase::LineEnd { size }, ChunkOut::Quiet);
     }
-    if count >= CHUNK_LINE_LIMIT {
+    if count >= MAX_CHUNK_LINE {
         return fail(FrameFault::ChunkLineTooLong);
     }
     match byte {
         b'\t' | 0x20..=0x7E | 0x80..=0xFF => (
-            Place::Extension {
+            Phase::Extension {
                 count: count + 1,
                 size,
             },
@@ -291,8 +291,8 @@ fn after_extension(count: u16, size: u64, byte: u8) -> (Place, ChunkOut)
 }
 
 // Behind the CR of a chunk's line.
-fn after_line(size: u64, byte: u8) -> (Place, ChunkOut)
-    ensures steps { (x d : List ℕ) → PlaceStands (Place.LineEnd size) x d → PlaceSteps result.0 x d byte result.1 }
+fn after_line(size: u64, byte: u8) -> (Phase, ChunkOut)
+    ensures steps { (x d : List ℕ) → PhaseRepresents (Phase.LineEnd size) x d → PhaseSteps result.0 x d byte result.1 }
     ensures data { OutWith 0 result.1 }
 {
     if byte != b'\n' {
@@ -300,33 +300,33 @@ fn after_line(size: u64, byte: u8) -> (Place, ChunkOut)
     }
     if size == 0 {
         return (
-            Place::Trailer {
+            Phase::Trailer {
                 used: 0,
                 begun: false,
             },
             ChunkOut::Quiet,
         );
     }
-    (Place::Data { left: size }, ChunkOut::Quiet)
+    (Phase::Data { left: size }, ChunkOut::Quiet)
 }
 
 // In a chunk's data, whatever the byte is, and at the CR behind it.
-fn after_data(left: u64, byte: u8) -> (Place, ChunkOut)
-    ensures steps { (x d : List ℕ) → PlaceStands (Place.Data left) x d → PlaceSteps result.0 x d byte result.1 }
+fn after_data(left: u64, byte: u8) -> (Phase, ChunkOut)
+    ensures steps { (x d : List ℕ) → PhaseRepresents (Phase.Data left) x d → PhaseSteps result.0 x d byte result.1 }
     ensures data { OutWith left result.1 }
 {
     if left > 0 {
-        return (Place::Data { left: left - 1 }, ChunkOut::Byte);
+        return (Phase::Data { left: left - 1 }, ChunkOut::Byte);
     }
     if byte != b'\r' {
         return fail(FrameFault::BadChunkEnd);
     }
-    (Place::DataEnd, ChunkOut::Quiet)
+    (Phase::DataEnd, ChunkOut::Quiet)
 }
 
 // Behind the CR of a chunk's data.
-fn after_data_cr(byte: u8) -> (Place, ChunkOut)
-    ensures steps { (x d : List ℕ) → PlaceStands Place.DataEnd x d → PlaceSteps result.0 x d byte result.1 }
+fn after_data_cr(byte: u8) -> (Phase, ChunkOut)
+    ensures steps { (x d : List ℕ) → PhaseRepresents Phase.DataEnd x d → PhaseSteps result.0 x d byte result.1 }
     ensures data { OutWith 0 result.1 }
 {
     if byte != b'\n' {
@@ -336,18 +336,18 @@ fn after_data_cr(byte: u8) -> (Place, ChunkOut)
 }
 
 // In the trailer lines.
-fn after_trailer(used: u16, begun: bool, byte: u8) -> (Place, ChunkOut)
-    ensures steps { (x d : List ℕ) → PlaceStands (Place.Trailer used begun) x d → PlaceSteps result.0 x d byte result.1 }
+fn after_trailer(used: u16, begun: bool, byte: u8) -> (Phase, ChunkOut)
+    ensures steps { (x d : List ℕ) → PhaseRepresents (Phase.Trailer used begun) x d → PhaseSteps result.0 x d byte result.1 }
     ensures data { OutWith 0 result.1 }
 {
     match byte {
-        b'\r' if !begun => (Place::End, ChunkOut::Quiet),
+        b'\r' if !begun => (Phase::End, ChunkOut::Quiet),
         b'\n' if !begun => fail(FrameFault::BadChunkEnd),
-        _ if used >= TRAILERS_LIMIT => fail(FrameFault::TrailersTooLong),
-        b'\r' => (Place::TrailerEnd { used: used + 1 }, ChunkOut::Quiet),
+        _ if used >= MAX_TRAILERS => fail(FrameFault::TrailersTooLong),
+        b'\r' => (Phase::TrailerEnd { used: used + 1 }, ChunkOut::Quiet),
         b'\n' => fail(FrameFault::BadChunkEnd),
         _ => (
-            Place::Trailer {
+            Phase::Trailer {
                 used: used + 1,
                 begun: true,
             },
@@ -357,18 +357,18 @@ fn after_trailer(used: u16, begun: bool, byte: u8) -> (Place, ChunkOut)
 }
 
 // Behind the CR of a trailer line.
-fn after_trailer_cr(used: u16, byte: u8) -> (Place, ChunkOut)
-    ensures steps { (x d : List ℕ) → PlaceStands (Place.TrailerEnd used) x d → PlaceSteps result.0 x d byte result.1 }
+fn after_trailer_cr(used: u16, byte: u8) -> (Phase, ChunkOut)
+    ensures steps { (x d : List ℕ) → PhaseRepresents (Phase.TrailerEnd used) x d → PhaseSteps result.0 x d byte result.1 }
     ensures data { OutWith 0 result.1 }
 {
-    if used >= TRAILERS_LIMIT {
+    if used >= MAX_TRAILERS {
         return fail(FrameFault::TrailersTooLong);
     }
     if byte != b'\n' {
         return fail(FrameFault::BadChunkEnd);
     }
     (
-        Place::Trailer {
+        Phase::Trailer {
             used: used + 1,
             begun: false,
         },
@@ -377,20 +377,20 @@ fn after_trailer_cr(used: u16, byte: u8) -> (Place, ChunkOut)
 }
 
 // Behind the CR of the empty line.
-fn after_end_cr(byte: u8) -> (Place, ChunkOut)
-    ensures steps { (x d : List ℕ) → PlaceStands Place.End x d → PlaceSteps result.0 x d byte result.1 }
+fn after_end_cr(byte: u8) -> (Phase, ChunkOut)
+    ensures steps { (x d : List ℕ) → PhaseRepresents Phase.End x d → PhaseSteps result.0 x d byte result.1 }
     ensures data { OutWith 0 result.1 }
 {
     if byte != b'\n' {
         return fail(FrameFault::BadChunkEnd);
     }
-    (Place::Closed, ChunkOut::Closed)
+    (Phase::Closed, ChunkOut::Closed)
 }
 
 // At a byte that shows a fault, and at each byte after it.
-fn fail(fault: FrameFault) -> (Place, ChunkOut)
-    ensures place { result.0 ≡ Place.Failed fault }
+fn fail(fault: FrameFault) -> (Phase, ChunkOut)
+    ensures phase { result.0 ≡ Phase.Failed fault }
     ensures answer { result.1 ≡ ChunkOut.Fault fault }
 {
-    (Place::Failed(fault), ChunkOut::Fault(fault))
+    (Phase::Failed(fault), ChunkOut::Fault(fault))
 }

@@ -3,7 +3,7 @@ ghost use Rattle.std.specs.Prelude.{◌≡◌, [], ◌++◌, OnOk, IfErr};
 ghost use Rattle.mes_frame.specs.Written.{WentOut, Passes, Stops};
 
 use crate::device::Sink;
-use crate::limits::CHUNK_BUFFER;
+use crate::limits::CHUNK_BUFFER_SIZE;
 use crate::part_writer::write_part;
 use crate::write::WriteFault;
 use arrayvec::ArrayVec;
@@ -11,7 +11,7 @@ use arrayvec::ArrayVec;
 /// Bytes that are still to go out, and how many went out before them.
 #[derive(Drop)]
 pub(crate) struct ChunkBuffer {
-    held: ArrayVec<u8, { CHUNK_BUFFER }>,
+    held: ArrayVec<u8, { CHUNK_BUFFER_SIZE }>,
     sent: u64,
 }
 

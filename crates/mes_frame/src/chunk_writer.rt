@@ -7,17 +7,17 @@ ghost use Rattle.mes_frame.specs.Written.{WroteFront, Passes, Stops};
 
 use crate::chunk_buffer::ChunkBuffer;
 use crate::device::Sink;
-use crate::limits::{CHUNK_LEAST, CHUNK_MOST};
-use crate::size_line::{CHUNK_LINE_LENGTH, chunk_line};
+use crate::limits::{MAX_CHUNK, MIN_CHUNK};
+use crate::size_line::{MAX_CHUNK_LINE_WRITTEN, chunk_line};
 use crate::write::WriteFault;
 
 /// Writes a chunked body with this data: chunks of `most` bytes, the last one with what is left, each size in lower-case
 /// hexadecimal digits without leading zeros, and then the last chunk, `0`, without trailer lines. What goes out is gathered in a
-/// buffer of `CHUNK_BUFFER` bytes, which is written when it is full; a chunk's data of more bytes than that are written as they
+/// buffer of `CHUNK_BUFFER_SIZE` bytes, which is written when it is full; a chunk's data of more bytes than that are written as they
 /// stand. It takes no memory.
 pub fn write_chunked<W: Sink>(writer: &mut W, body: &[u8], most: u32) -> Result<(), WriteFault>
-    requires least { CHUNK_LEAST ≤ most }
-    requires greatest { most ≤ CHUNK_MOST }
+    requires least { MIN_CHUNK ≤ most }
+    requires greatest { most ≤ MAX_CHUNK }
     // Ok: the whole chunked body went out, and no call failed or took none.
     ensures ok { OnOk result ((w : List ℕ) × IsFrames body.now most w × Appends (W.written writer.old) (W.written writer.new) w) }
     ensures ok_counts { OnOk result (NoneFails (W.counts writer.old) (W.counts writer.new)) }
@@ -53,7 +53,7 @@ fn write_piece<W: Sink>(
     ensures err { IfErr result (λ f. Stops (W.written writer.old) (W.written writer.new) (W.counts writer.old) (W.counts writer.new)
         (buffer.old.held.items ++ piece_bytes piece.now) buffer.old.sent f) }
 {
-    let mut digits = [0; CHUNK_LINE_LENGTH];
+    let mut digits = [0; MAX_CHUNK_LINE_WRITTEN];
     let line = chunk_line(piece.len() as u64, &mut digits);
     buffer.hold(writer, line)?;
     buffer.hold(writer, piece)?;

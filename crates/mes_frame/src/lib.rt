@@ -7,7 +7,6 @@ mod chunk_writer;
 mod counts;
 mod device;
 mod fault;
-mod laws;
 mod limit;
 mod limits;
 mod memory_sink;
@@ -17,6 +16,7 @@ mod record;
 mod record_writer;
 mod size_line;
 mod std_device;
+mod theorems;
 mod write;
 
 pub use crate::chunk::{ChunkOut, ChunkState};
@@ -24,18 +24,18 @@ pub use crate::chunk_writer::write_chunked;
 pub use crate::counts::Counts;
 pub use crate::device::{Sink, Source};
 pub use crate::fault::FrameFault;
-pub use crate::laws::{
-    frame_limits, one_chunk_reading, one_chunk_state, one_framing, one_record, one_record_reading,
-    one_record_state, written_is_read,
-};
 pub use crate::limit::Limit;
 pub use crate::limits::{
-    CHUNK_BUFFER, CHUNK_LEAST, CHUNK_LINE_LIMIT, CHUNK_MOST, RECORD_LIMIT_LEAST, RECORD_LIMIT_MOST,
-    RECORD_LIMIT_USUAL, SIZE_DIGITS, TRAILERS_LIMIT,
+    CHUNK_BUFFER_SIZE, DEFAULT_RECORD_LIMIT, MAX_CHUNK, MAX_CHUNK_LINE, MAX_RECORD_LIMIT,
+    MAX_SIZE_DIGITS, MAX_TRAILERS, MIN_CHUNK, MIN_RECORD_LIMIT,
 };
 pub use crate::memory_sink::{MemorySink, MemoryStop};
 pub use crate::memory_source::MemorySource;
 pub use crate::record::{RecordOut, RecordState};
 pub use crate::record_writer::write_record;
 pub use crate::std_device::FromStd;
-pub use crate::write::{WriteFault, WriteWhy, write_all};
+pub use crate::theorems::{
+    chunk_reading_is_unique, chunk_state_is_unique, frame_limits, framing_is_unique,
+    record_is_unique, record_reading_is_unique, record_state_is_unique, written_is_read,
+};
+pub use crate::write::{WriteFault, WriteFaultKind, write_all};

@@ -2,10 +2,10 @@
 ghost use Rattle.std.specs.Prelude.{◌≡◌, ◌≤◌};
 ghost use Rattle.std.specs.Option.{SomeIff};
 
-use crate::limits::{RECORD_LIMIT_LEAST, RECORD_LIMIT_MOST, RECORD_LIMIT_USUAL};
+use crate::limits::{DEFAULT_RECORD_LIMIT, MAX_RECORD_LIMIT, MIN_RECORD_LIMIT};
 use std::marker::Model;
 
-/// The most bytes that the data of one record may have: `RECORD_LIMIT_LEAST` to `RECORD_LIMIT_MOST`.
+/// The most bytes that the data of one record may have: `MIN_RECORD_LIMIT` to `MAX_RECORD_LIMIT`.
 #[derive(Clone, Copy, Debug, PartialEq, Eq)]
 pub struct Limit {
     bytes: u32,
@@ -13,38 +13,38 @@ pub struct Limit {
 
 impl Model for Limit {
     ghost use Rattle.std.specs.Prelude.{ℕ, ◌≤◌};
-    ghost use Rattle.mes_frame.specs.declared.limits.TheConstants.{RECORD_LIMIT_LEAST, RECORD_LIMIT_MOST};
+    ghost use Rattle.mes_frame.specs.declared.limits.TheConstants.{MIN_RECORD_LIMIT, MAX_RECORD_LIMIT};
 
     ghost Value = { ℕ };
 
     ghost view = { λ l. l.bytes };
 
-    ghost invariant = { λ l. (RECORD_LIMIT_LEAST ≤ l.bytes) × (l.bytes ≤ RECORD_LIMIT_MOST) };
+    ghost invariant = { λ l. (MIN_RECORD_LIMIT ≤ l.bytes) × (l.bytes ≤ MAX_RECORD_LIMIT) };
 
     ghost inverse = { λ n. record { bytes = n } };
 }
 
 // The two limits that have a name are those numbers.
 const _: () = prove!(
-    Limit::USUAL.bytes == RECORD_LIMIT_USUAL && Limit::MOST.bytes == RECORD_LIMIT_MOST
+    Limit::USUAL.bytes == DEFAULT_RECORD_LIMIT && Limit::LARGEST.bytes == MAX_RECORD_LIMIT
 );
 
 impl Limit {
     /// The limit that serves where nobody chose one.
     pub const USUAL: Limit = Limit {
-        bytes: RECORD_LIMIT_USUAL,
+        bytes: DEFAULT_RECORD_LIMIT,
     };
 
     /// The largest limit.
-    pub const MOST: Limit = Limit {
-        bytes: RECORD_LIMIT_MOST,
+    pub const LARGEST: Limit = Limit {
+        bytes: MAX_RECORD_LIMIT,
     };
 
     /// A limit of so many bytes, if a limit may be that.
     pub fn new(bytes: u32) -> Option<Limit>
-        ensures { SomeIff result ((RECORD_LIMIT_LEAST ≤ bytes) × (bytes ≤ RECORD_LIMIT_MOST)) bytes }
+        ensures { SomeIff result ((MIN_RECORD_LIMIT ≤ bytes) × (bytes ≤ MAX_RECORD_LIMIT)) bytes }
     {
-        if RECORD_LIMIT_LEAST <= bytes && bytes <= RECORD_LIMIT_MOST {
+        if MIN_RECORD_LIMIT <= bytes && bytes <= MAX_RECORD_LIMIT {
             Some(Limit { bytes })
         } else {
             None

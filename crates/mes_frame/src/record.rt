@@ -4,11 +4,11 @@
 ghost use Rattle.std.specs.Prelude.{◌≡◌, ℕ, ◌+◌, ◌<◌, ◌≤◌, ◌↔◌, List, [], ◌++◌, length, take, false, IsTrue, IsSome, IfSome};
 ghost use Rattle.std.specs.Char.{digit_value};
 ghost use Rattle.mes_frame.specs.Record.{Begun, DataBegun, SizeBegun};
-ghost use Rattle.mes_frame.specs.RecordState.{SizeKept, PlaceStands, RecordStands, RecordSteps, RecordPasses, OutWith, state_at, limit_of, fault_at, fault_of, room_at, room_of};
+ghost use Rattle.mes_frame.specs.RecordState.{SizeKept, PhaseRepresents, RecordStands, RecordSteps, RecordPasses, OutWith, state_at, limit_of, fault_at, fault_of, remaining_at, remaining_of};
 
 use crate::fault::FrameFault;
 use crate::limit::Limit;
-use crate::limits::SIZE_DIGITS;
+use crate::limits::MAX_SIZE_DIGITS;
 
 /// What a byte was to the reader of records.
 #[derive(Clone, Copy, Debug, PartialEq, Eq)]
@@ -25,13 +25,13 @@ pub enum RecordOut {
 
 // What is expected next. The value of a size line stays at 2^32 - 1 once it is there, which is above every limit.
 #[derive(Clone, Copy, Debug)]
-enum Place {
+enum Phase {
     Size { digits: u8, value: u32 },
     Data { left: u32 },
     Failed(FrameFault),
 }
 
-const START: Place = Place::Size {
+const START: Phase = Phase::Size {
     digits: 0,
     value: 0,
 };
@@ -40,18 +40,18 @@ const START: Place = Place::Size {
 #[derive(Clone, Copy, Debug)]
 pub struct RecordState {
     limit: Limit,
-    place: Place,
+    phase: Phase,
 }
 
 impl RecordState {
     /// The reader before the first byte.
     pub fn new(limit: Limit) -> RecordState
-        ensures stands { RecordStands result [] [] }
+        ensures represents { RecordStands result [] [] }
         ensures limit { limit_of result ≡ limit }
     {
         RecordState {
             limit,
-            place: START,
+            phase: START,
         }
     }
 
@@ -62,7 +62,7 @@ impl RecordState {
             → RecordSteps self.new x r byte result }
 
         // A byte is data exactly where there is room for it.
-        ensures data { (x r : List ℕ) → RecordStands self.old x r → OutWith (room_of self.old) result }
+        ensures data { (x r : List ℕ) → RecordStands self.old x r → OutWith (remaining_of self.old) result }
 
         // After a fault each later step answers the same again.
         ensures again { IfSome (fault_of self.old)
@@ -71,42 +71,42 @@ impl RecordState {
         // What stays the same.
         ensures limit { limit_of self.new ≡ limit_of self.old }
     {
-        let (place, out) = self.place.after(byte, self.limit);
-        self.place = place;
+        let (phase, out) = self.phase.after(byte, self.limit);
+        self.phase = phase;
         out
     }
 
     /// No record has begun; after a fault that is false.
     pub fn between(&self) -> bool
-        ensures stands { (x r : List ℕ) → RecordStands self.now x r → (IsTrue result ↔ (x ≡ [])) }
+        ensures represents { (x r : List ℕ) → RecordStands self.now x r → (IsTrue result ↔ (x ≡ [])) }
         ensures failed { IsSome (fault_of self.now) → result ≡ false }
     {
-        match self.place {
-            Place::Size { digits, .. } => digits == 0,
-            Place::Data { .. } => false,
-            Place::Failed(_) => false,
+        match self.phase {
+            Phase::Size { digits, .. } => digits == 0,
+            Phase::Data { .. } => false,
+            Phase::Failed(_) => false,
         }
     }
 
     /// How many of the next bytes are data of the record: 0 in a size line and after a fault.
     pub fn room(&self) -> usize
-        ensures value { result ≡ room_of self.now }
+        ensures value { result ≡ remaining_of self.now }
         ensures some { (x r : List ℕ) → RecordStands self.now x r → 0 < result
             → DataBegun x r result (limit_of self.now) }
         ensures none { (x r : List ℕ) → RecordStands self.now x r → result ≡ 0
             → SizeBegun x × (r ≡ []) }
     {
-        match self.place {
-            Place::Data { left } => left as usize,
-            Place::Size { .. } => 0,
-            Place::Failed(_) => 0,
+        match self.phase {
+            Phase::Data { left } => left as usize,
+            Phase::Size { .. } => 0,
+            Phase::Failed(_) => 0,
         }
     }
 
     /// Takes the next `count` bytes at once, all of them data of the record, and answers whether the record
     /// ended with them. They do what as many steps do; none change nothing.
     pub fn pass(&mut self, count: usize) -> bool
-        requires room { count ≤ room_of self.old }
+        requires room { count ≤ remaining_of self.old }
         // What the answer means, behind x with the data r, for a run p of so many bytes.
         ensures passes { (x r p : List ℕ) → length p ≡ count → RecordStands self.old x r
             → RecordPasses self.new x r p result }
@@ -114,7 +114,7 @@ impl RecordState {
         // Each front of the run has begun and not ended.
         ensures fronts { (x r p : List ℕ) (k : ℕ) → length p ≡ count → k < count
             → RecordStands self.old x r → Begun (x ++ take k p) (r ++ take k p) (limit_of self.old) }
-        ensures room { room_of self.new + count ≡ room_of self.old }
+        ensures room { remaining_of self.new + count ≡ remaining_of self.old }
         ensures none { count ≡ 0 → (result ≡ false) × (self.new ≡ self.old) }
 
         // What stays the same.
@@ -123,40 +123,40 @@ impl RecordState {
         if count == 0 {
             return false;
         }
-        let left = match self.place {
-            Place::Data { left } => left,
-            Place::Size { .. } => unreachable!(),
-            Place::Failed(_) => unreachable!(),
+        let left = match self.phase {
+            Phase::Data { left } => left,
+            Phase::Size { .. } => unreachable!(),
+            Phase::Failed(_) => unreachable!(),
         };
         if left as usize == count {
-            self.place = START;
+            self.phase = START;
             return true;
         }
-        self.place = Place::Data {
+        self.phase = Phase::Data {
             left: left - count as u32,
         };
         false
     }
 }
 
-impl Place {
+impl Phase {
     // Where the reader stands after one more byte, and what the byte was.
-    fn after(self, byte: u8, limit: Limit) -> (Place, RecordOut)
-        ensures steps { (x r : List ℕ) → PlaceStands self limit x r
+    fn after(self, byte: u8, limit: Limit) -> (Phase, RecordOut)
+        ensures steps { (x r : List ℕ) → PhaseRepresents self limit x r
             → RecordSteps (state_at limit result.0) x r byte result.1 }
-        ensures data { (x r : List ℕ) → PlaceStands self limit x r → OutWith (room_at self) result.1 }
+        ensures data { (x r : List ℕ) → PhaseRepresents self limit x r → OutWith (remaining_at self) result.1 }
         ensures again { IfSome (fault_at self) (λ f. (result.0 ≡ self) × (result.1 ≡ RecordOut.Fault f)) }
     {
         match self {
-            Place::Size { digits, value } => after_size(digits, value, byte, limit),
-            Place::Data { left } => after_data(left),
-            Place::Failed(fault) => fail(fault),
+            Phase::Size { digits, value } => after_size(digits, value, byte, limit),
+            Phase::Data { left } => after_data(left),
+            Phase::Failed(fault) => fail(fault),
         }
     }
 }
 
 // In a size line.
-fn after_size(digits: u8, value: u32, byte: u8, limit: Limit) -> (Place, RecordOut)
+fn after_size(digits: u8, value: u32, byte: u8, limit: Limit) -> (Phase, RecordOut)
     ensures steps { (x r : List ℕ) → SizeKept digits value x r
         → RecordSteps (state_at limit result.0) x r byte result.1 }
     ensures data { OutWith 0 result.1 }
@@ -169,25 +169,25 @@ fn after_size(digits: u8, value: u32, byte: u8, limit: Limit) -> (Place, RecordO
 }
 
 // At a digit of a size line.
-fn after_digit(digits: u8, value: u32, byte: u8) -> (Place, RecordOut)
+fn after_digit(digits: u8, value: u32, byte: u8) -> (Phase, RecordOut)
     requires { digit_value byte < 10 }
     ensures steps { (x r : List ℕ) (limit : ℕ) → SizeKept digits value x r
         → RecordSteps (state_at limit result.0) x r byte result.1 }
     ensures data { OutWith 0 result.1 }
 {
-    if digits >= SIZE_DIGITS {
+    if digits >= MAX_SIZE_DIGITS {
         return fail(FrameFault::SizeLineTooLong);
     }
     let digit = u32::from(byte - b'0');
-    let place = Place::Size {
+    let phase = Phase::Size {
         digits: digits + 1,
         value: value.saturating_mul(10).saturating_add(digit),
     };
-    (place, RecordOut::Quiet)
+    (phase, RecordOut::Quiet)
 }
 
 // At the LF of a size line.
-fn after_size_line(digits: u8, value: u32, limit: Limit) -> (Place, RecordOut)
+fn after_size_line(digits: u8, value: u32, limit: Limit) -> (Phase, RecordOut)
     ensures steps { (x r : List ℕ) → SizeKept digits value x r
         → RecordSteps (state_at limit result.0) x r 10 result.1 }
     ensures data { OutWith 0 result.1 }
@@ -201,11 +201,11 @@ fn after_size_line(digits: u8, value: u32, limit: Limit) -> (Place, RecordOut)
     if value == 0 {
         return (START, RecordOut::Empty);
     }
-    (Place::Data { left: value }, RecordOut::Quiet)
+    (Phase::Data { left: value }, RecordOut::Quiet)
 }
 
 // At a byte of the data, whatever it is.
-fn after_data(left: u32) -> (Place, RecordOut)
+fn after_data(left: u32) -> (Phase, RecordOut)
     ensures steps { (x r : List ℕ) (limit byte : ℕ) → DataBegun x r left limit
         → RecordSteps (state_at limit result.0) x r byte result.1 }
     ensures data { 0 < left → OutWith left result.1 }
@@ -214,15 +214,15 @@ fn after_data(left: u32) -> (Place, RecordOut)
         return (START, RecordOut::Byte { last: true });
     }
     (
-        Place::Data { left: left - 1 },
+        Phase::Data { left: left - 1 },
         RecordOut::Byte { last: false },
     )
 }
 
 // At a byte that shows a fault, and at each byte after it.
-fn fail(fault: FrameFault) -> (Place, RecordOut)
-    ensures place { result.0 ≡ Place.Failed fault }
+fn fail(fault: FrameFault) -> (Phase, RecordOut)
+    ensures phase { result.0 ≡ Phase.Failed fault }
     ensures answer { result.1 ≡ RecordOut.Fault fault }
 {
-    (Place::Failed(fault), RecordOut::Fault(fault))
+    (Phase::Failed(fault), RecordOut::Fault(fault))
 }

@@ -7,7 +7,7 @@ ghost use Rattle.mes_frame.specs.Written.{WroteFront};
 
 use crate::device::Sink;
 use crate::part_writer::write_part;
-use crate::size_line::{RECORD_LINE_LENGTH, record_line};
+use crate::size_line::{MAX_RECORD_LINE, record_line};
 use crate::write::WriteFault;
 
 /// Writes a record with this data: its size in decimal digits without leading zeros, LF, and the data. It takes no memory.
@@ -23,7 +23,7 @@ pub fn write_record<W: Sink>(writer: &mut W, payload: &[u8]) -> Result<(), Write
     // There are no more calls than bytes, and one at least.
     ensures calls { CallsFor (length (record_bytes payload.now)) (W.counts writer.old) (W.counts writer.new) }
 {
-    let mut buffer = [0; RECORD_LINE_LENGTH];
+    let mut buffer = [0; MAX_RECORD_LINE];
     let line = record_line(payload.len() as u64, &mut buffer);
     let sent = write_part(writer, line, 0)?;
     write_part(writer, payload, sent)?;

@@ -5,13 +5,13 @@ ghost use Rattle.std.specs.Fmt.{digits, digit_glyph};
 use itoa::write_digits;
 
 /// The longest size line of a record: 20 digits and LF.
-pub(crate) const RECORD_LINE_LENGTH: usize = 21;
+pub(crate) const MAX_RECORD_LINE: usize = 21;
 
 /// The longest line of a chunk: 16 digits and CRLF.
-pub(crate) const CHUNK_LINE_LENGTH: usize = 18;
+pub(crate) const MAX_CHUNK_LINE_WRITTEN: usize = 18;
 
 // The size line of a record of so many bytes.
-pub(crate) fn record_line(size: u64, buffer: &mut [u8; RECORD_LINE_LENGTH]) -> &[u8]
+pub(crate) fn record_line(size: u64, buffer: &mut [u8; MAX_RECORD_LINE]) -> &[u8]
     ensures { result.now ≡ decimal size ++ 10 ∷ [] }
 {
     buffer[20] = b'\n';
@@ -20,7 +20,7 @@ pub(crate) fn record_line(size: u64, buffer: &mut [u8; RECORD_LINE_LENGTH]) -> &
 }
 
 // The line of a chunk of so many bytes, in lower case.
-pub(crate) fn chunk_line(size: u64, buffer: &mut [u8; CHUNK_LINE_LENGTH]) -> &[u8]
+pub(crate) fn chunk_line(size: u64, buffer: &mut [u8; MAX_CHUNK_LINE_WRITTEN]) -> &[u8]
     ensures { result.now ≡ digits 16 false size ++ 13 ∷ 10 ∷ [] }
 {
     buffer[16] = b'\r';

@@ -7,7 +7,7 @@ use crate::device::Sink;
 
 /// Why a writer stopped before all bytes were out.
 #[derive(Clone, Copy, Debug, PartialEq, Eq)]
-pub enum WriteWhy {
+pub enum WriteFaultKind {
     /// The device failed; an interruption is a failure too.
     Device,
     /// The device took no byte, though it was given some.
@@ -18,7 +18,7 @@ pub enum WriteWhy {
 #[derive(Clone, Copy, Debug, PartialEq, Eq)]
 pub struct WriteFault {
     pub sent: u64,
-    pub why: WriteWhy,
+    pub why: WriteFaultKind,
 }
 
 /// Writes all of `bytes`, by as many calls as the writer needs.
@@ -38,15 +38,15 @@ pub fn write_all<W: Sink>(writer: &mut W, bytes: &[u8]) -> Result<(), WriteFault
     let mut sent = 0;
     while sent < bytes.len() {
         match writer.put(&bytes[sent..]) {
-            Ok(0) => return Err(stopped(sent, WriteWhy::Zero)),
+            Ok(0) => return Err(stopped(sent, WriteFaultKind::Zero)),
             Ok(count) => sent += count,
-            Err(_) => return Err(stopped(sent, WriteWhy::Device)),
+            Err(_) => return Err(stopped(sent, WriteFaultKind::Device)),
         }
     }
     Ok(())
 }
 
-fn stopped(sent: usize, why: WriteWhy) -> WriteFault
+fn stopped(sent: usize, why: WriteFaultKind) -> WriteFault
     ensures { result ≡ record { sent = sent; why = why } }
 {
     WriteFault {

@@ -13,53 +13,53 @@ use Rattle.mes_json.specs.Machine.Frame.{frame, array_frame}
 use Rattle.mes_json.specs.Refusal.{Refuses}
 use Rattle.mes_json.specs.Tape.{value_due, name_due, ended}
 use Rattle.mes_json.specs.Reader.{state_view, IsFull, opens, innermost, outer, AtValue, AtName, AfterValue, Fits, Puts}
-use Rattle.mes_json.specs.declared.limits.TheConstants.{NESTING_LIMIT}
-use Rattle.mes_json.specs.declared.fault.Why.TheVariants.{Byte}
+use Rattle.mes_json.specs.declared.limits.TheConstants.{MAX_NESTING}
+use Rattle.mes_json.specs.declared.fault.TextFaultKind.TheVariants.{Byte}
 use Rattle.mes_json.specs.declared.nesting.Open.{Open}
 use Rattle.mes_json.specs.declared.nesting.Open.TheVariants.{Object, Array}
-use Rattle.mes_json.specs.declared.at.At as at
-use Rattle.mes_json.specs.declared.stop.Stop.{Stop}
-use Rattle.mes_json.specs.declared.stop.Stop.TheVariants.{NoMemory}
+use Rattle.mes_json.specs.declared.reader_state.ReaderState as at
+use Rattle.mes_json.specs.declared.push_error.PushError.{PushError}
+use Rattle.mes_json.specs.declared.push_error.PushError.TheVariants.{NoMemory}
 use Rattle.mes_json.specs.declared.reader.Reader.{Reader}
 use Rattle.mes_json.specs.declared.tape.Node.TheVariants.{End}
 use Rattle.mes_json.proofs.NestingLemmas.{outer_last, top_of, top_is}
 use Rattle.mes_json.proofs.ReaderLemmas.{tape_of, view_at, form_at, covered_at, Owes, Moves, moved}
 
 -- ---- the last byte
-object_end : (texts b : List ℕ) (n : List Open) (c : ℕ) (s : State) (fs : List Frame) (t : Tree) → s ≡ state fs (m.At.after t) → n ≡ opens fs → top_of fs ≡ Some Object
-    → kind_of c ≡ m.Kind.closing → Moves texts b s s c End at.TheVariants.After (outer n)
+object_end : (texts b : List ℕ) (n : List Open) (c : ℕ) (s : State) (fs : List Frame) (t : Tree) → s ≡ state fs (m.ReaderState.after t) → n ≡ opens fs → top_of fs ≡ Some Object
+    → kind_of c ≡ m.ByteClass.closing → Moves texts b s s c End at.TheVariants.After (outer n)
 object_end texts b n c s [] t is are_open top kind = absurd (cc)
 object_end texts b n c s (frame ms k ∷ fs) t is are_open top kind =
     let closed = ap ended is in
     record {
       takes = inl (fs, with_member ms k t, ap name_due is);
-      gives = ap (λ (x : State). step NESTING_LIMIT x c) is ∙ ap (on_after (frame ms k ∷ fs) t) kind ∙ ap (λ (x : State). Some x) (sym closed);
+      gives = ap (λ (x : State). step MAX_NESTING x c) is ∙ ap (on_after (frame ms k ∷ fs) t) kind ∙ ap (λ (x : State). Some x) (sym closed);
       form = record { frames = fs; tree = object (with_member ms k t); is = closed; are_open = ap outer are_open ∙ outer_last (opens fs) Object };
     }
 object_end texts b n c s (array_frame ts ∷ fs) t is are_open top kind = absurd (cc)
 
-pub object_ends : {A : Type 0} (old new : Reader) (result : Result A Stop) (c : ℕ) → Fits old → old.at ≡ at.TheVariants.After
-    → innermost old.nesting.items ≡ Some Object → kind_of c ≡ m.Kind.closing → OnOk result (Puts old (outer old.nesting.items) End at.TheVariants.After new)
+pub object_ends : {A : Type 0} (old new : Reader) (result : Result A PushError) (c : ℕ) → Fits old → old.at ≡ at.TheVariants.After
+    → innermost old.nesting.items ≡ Some Object → kind_of c ≡ m.ByteClass.closing → OnOk result (Puts old (outer old.nesting.items) End at.TheVariants.After new)
     → IfErr result (λ e. e ≡ NoMemory) → Owes result (state_view old) c new
 object_ends old new result c fits is_at inside kind ok err =
     let h : AfterValue old.nesting.items (tape_of old) = form_at old at.TheVariants.After is_at fits in
     moved old new result c at.TheVariants.After at.TheVariants.After End (outer old.nesting.items) fits is_at (λ l. omega arith) tt
     (object_end _ _ old.nesting.items c _ h.frames h.tree h.is h.are_open (top_is _ h.frames _ h.are_open inside) kind) ok err
 
-array_end : (texts b : List ℕ) (n : List Open) (c : ℕ) (s : State) (fs : List Frame) (t : Tree) → s ≡ state fs (m.At.after t) → n ≡ opens fs → top_of fs ≡ Some Array
-    → kind_of c ≡ m.Kind.closing_array → Moves texts b s s c End at.TheVariants.After (outer n)
+array_end : (texts b : List ℕ) (n : List Open) (c : ℕ) (s : State) (fs : List Frame) (t : Tree) → s ≡ state fs (m.ReaderState.after t) → n ≡ opens fs → top_of fs ≡ Some Array
+    → kind_of c ≡ m.ByteClass.closing_array → Moves texts b s s c End at.TheVariants.After (outer n)
 array_end texts b n c s [] t is are_open top kind = absurd (cc)
 array_end texts b n c s (frame ms k ∷ fs) t is are_open top kind = absurd (cc)
 array_end texts b n c s (array_frame ts ∷ fs) t is are_open top kind =
     let closed = ap ended is in
     record {
       takes = inr (inr (ts, fs, t, is));
-      gives = ap (λ (x : State). step NESTING_LIMIT x c) is ∙ ap (on_after (array_frame ts ∷ fs) t) kind ∙ ap (λ (x : State). Some x) (sym closed);
+      gives = ap (λ (x : State). step MAX_NESTING x c) is ∙ ap (on_after (array_frame ts ∷ fs) t) kind ∙ ap (λ (x : State). Some x) (sym closed);
       form = record { frames = fs; tree = array (with_item ts t); is = closed; are_open = ap outer are_open ∙ outer_last (opens fs) Array };
     }
 
-pub array_ends : {A : Type 0} (old new : Reader) (result : Result A Stop) (c : ℕ) → Fits old → old.at ≡ at.TheVariants.After
-    → innermost old.nesting.items ≡ Some Array → kind_of c ≡ m.Kind.closing_array → OnOk result (Puts old (outer old.nesting.items) End at.TheVariants.After new)
+pub array_ends : {A : Type 0} (old new : Reader) (result : Result A PushError) (c : ℕ) → Fits old → old.at ≡ at.TheVariants.After
+    → innermost old.nesting.items ≡ Some Array → kind_of c ≡ m.ByteClass.closing_array → OnOk result (Puts old (outer old.nesting.items) End at.TheVariants.After new)
     → IfErr result (λ e. e ≡ NoMemory) → Owes result (state_view old) c new
 array_ends old new result c fits is_at inside kind ok err =
     let h : AfterValue old.nesting.items (tape_of old) = form_at old at.TheVariants.After is_at fits in
@@ -71,7 +71,7 @@ is_full : (ms : Members) (k : List ℕ) (t : Tree) → IsFull (with_member ms k 
 is_full no_members k t = tt
 is_full (member j u ms) k t = tt
 
-next_name : (n : List Open) (s : State) (fs : List Frame) (t : Tree) → s ≡ state fs (m.At.after t) → n ≡ opens fs → top_of fs ≡ Some Object → AtName IsFull n (name_due s)
+next_name : (n : List Open) (s : State) (fs : List Frame) (t : Tree) → s ≡ state fs (m.ReaderState.after t) → n ≡ opens fs → top_of fs ≡ Some Object → AtName IsFull n (name_due s)
 next_name n s [] t is are_open top = absurd (cc)
 next_name n s (frame ms k ∷ fs) t is are_open top =
     record { frames = fs; members = with_member ms k t; is = ap name_due is; are_open = are_open; allowed = is_full ms k t }
@@ -82,57 +82,57 @@ name_follows old fits is_at inside =
     let h : AfterValue old.nesting.items (tape_of old) = form_at old at.TheVariants.After is_at fits in
     record { at = next_name old.nesting.items _ h.frames h.tree h.is h.are_open (top_is _ h.frames _ h.are_open inside); tape = fits.tape; start = fits.start; covered = covered_at old at.TheVariants.After is_at fits }
 
-comma_taken : (d c : ℕ) (s : State) (fs : List Frame) (t : Tree) → s ≡ state fs (m.At.after t) → top_of fs ≡ Some Object → kind_of c ≡ m.Kind.comma → step d s c ≡ Some (name_due s)
+comma_taken : (d c : ℕ) (s : State) (fs : List Frame) (t : Tree) → s ≡ state fs (m.ReaderState.after t) → top_of fs ≡ Some Object → kind_of c ≡ m.ByteClass.comma → step d s c ≡ Some (name_due s)
 comma_taken d c s [] t is top kind = absurd (cc)
 comma_taken d c s (frame ms k ∷ fs) t is top kind =
     ap (λ (x : State). step d x c) is ∙ ap (on_after (frame ms k ∷ fs) t) kind ∙ ap (λ (x : State). Some (name_due x)) (sym is)
 comma_taken d c s (array_frame ts ∷ fs) t is top kind = absurd (cc)
 
-pub name_led : (old : Reader) (c : ℕ) → Fits old → old.at ≡ at.TheVariants.After → innermost old.nesting.items ≡ Some Object → kind_of c ≡ m.Kind.comma
-    → step NESTING_LIMIT (state_view old) c ≡ Some (state_view (record old { at = at.TheVariants.Name }))
+pub name_led : (old : Reader) (c : ℕ) → Fits old → old.at ≡ at.TheVariants.After → innermost old.nesting.items ≡ Some Object → kind_of c ≡ m.ByteClass.comma
+    → step MAX_NESTING (state_view old) c ≡ Some (state_view (record old { at = at.TheVariants.Name }))
 name_led old c fits is_at inside kind =
     let h : AfterValue old.nesting.items (tape_of old) = form_at old at.TheVariants.After is_at fits in
-    ap (λ (s : State). step NESTING_LIMIT s c) (view_at old at.TheVariants.After is_at)
-    ∙ comma_taken NESTING_LIMIT c (tape_of old) h.frames h.tree h.is (top_is _ h.frames _ h.are_open inside) kind
+    ap (λ (s : State). step MAX_NESTING s c) (view_at old at.TheVariants.After is_at)
+    ∙ comma_taken MAX_NESTING c (tape_of old) h.frames h.tree h.is (top_is _ h.frames _ h.are_open inside) kind
 
 record NextItem (n : List Open) (s : State) (c : ℕ) : Type 0 where
-  gives : step NESTING_LIMIT s c ≡ Some (value_due s)
+  gives : step MAX_NESTING s c ≡ Some (value_due s)
   form : AtValue n (value_due s)
 
-next_item : (n : List Open) (c : ℕ) (s : State) (fs : List Frame) (t : Tree) → s ≡ state fs (m.At.after t) → n ≡ opens fs → top_of fs ≡ Some Array → kind_of c ≡ m.Kind.comma
+next_item : (n : List Open) (c : ℕ) (s : State) (fs : List Frame) (t : Tree) → s ≡ state fs (m.ReaderState.after t) → n ≡ opens fs → top_of fs ≡ Some Array → kind_of c ≡ m.ByteClass.comma
     → NextItem n s c
 next_item n c s [] t is are_open top kind = absurd (cc)
 next_item n c s (frame ms k ∷ fs) t is are_open top kind = absurd (cc)
 next_item n c s (array_frame ts ∷ fs) t is are_open top kind = record {
-  gives = ap (λ (x : State). step NESTING_LIMIT x c) is ∙ ap (on_after (array_frame ts ∷ fs) t) kind ∙ ap (λ (x : State). Some (value_due x)) (sym is);
+  gives = ap (λ (x : State). step MAX_NESTING x c) is ∙ ap (on_after (array_frame ts ∷ fs) t) kind ∙ ap (λ (x : State). Some (value_due x)) (sym is);
   form = record { frames = array_frame (with_item ts t) ∷ fs; is = ap value_due is; are_open = are_open };
 }
 
-pub item_follows : (old : Reader) (c : ℕ) → Fits old → old.at ≡ at.TheVariants.After → innermost old.nesting.items ≡ Some Array → kind_of c ≡ m.Kind.comma
-    → (step NESTING_LIMIT (state_view old) c ≡ Some (state_view (record old { at = at.TheVariants.Value }))) × Fits (record old { at = at.TheVariants.Value })
+pub item_follows : (old : Reader) (c : ℕ) → Fits old → old.at ≡ at.TheVariants.After → innermost old.nesting.items ≡ Some Array → kind_of c ≡ m.ByteClass.comma
+    → (step MAX_NESTING (state_view old) c ≡ Some (state_view (record old { at = at.TheVariants.Value }))) × Fits (record old { at = at.TheVariants.Value })
 item_follows old c fits is_at inside kind =
     let h : AfterValue old.nesting.items (tape_of old) = form_at old at.TheVariants.After is_at fits in
     let next : NextItem old.nesting.items (tape_of old) c = next_item old.nesting.items c _ h.frames h.tree h.is h.are_open (top_is _ h.frames _ h.are_open inside) kind in
-    (ap (λ (s : State). step NESTING_LIMIT s c) (view_at old at.TheVariants.After is_at) ∙ next.gives, record { at = next.form; tape = fits.tape; start = fits.start; covered = covered_at old at.TheVariants.After is_at fits })
+    (ap (λ (s : State). step MAX_NESTING s c) (view_at old at.TheVariants.After is_at) ∙ next.gives, record { at = next.form; tape = fits.tape; start = fits.start; covered = covered_at old at.TheVariants.After is_at fits })
 
 -- ---- what is refused behind a value
-refused_after : (old : Reader) (c : ℕ) (k : m.Kind) (fits : Fits old) → (is_at : old.at ≡ at.TheVariants.After) → kind_of c ≡ k
-    → ((fs : List Frame) (t : Tree) → old.nesting.items ≡ opens fs → (let none : Option State = None in on_after fs t k ≡ none)) → Refuses NESTING_LIMIT Byte (state_view old) c
+refused_after : (old : Reader) (c : ℕ) (k : m.ByteClass) (fits : Fits old) → (is_at : old.at ≡ at.TheVariants.After) → kind_of c ≡ k
+    → ((fs : List Frame) (t : Tree) → old.nesting.items ≡ opens fs → (let none : Option State = None in on_after fs t k ≡ none)) → Refuses MAX_NESTING Byte (state_view old) c
 refused_after old c k fits is_at kind nowhere =
     let h : AfterValue old.nesting.items (tape_of old) = form_at old at.TheVariants.After is_at fits in
     let stuck : (d : ℕ) → (let none : Option State = None in step d (state_view old) c ≡ none) =
     λ d. ap (λ (s : State). step d s c) (view_at old at.TheVariants.After is_at ∙ h.is) ∙ ap (on_after h.frames h.tree) kind ∙ nowhere h.frames h.tree h.are_open in
-    record { stuck = stuck NESTING_LIMIT; reason = stuck (NESTING_LIMIT + 1) }
+    record { stuck = stuck MAX_NESTING; reason = stuck (MAX_NESTING + 1) }
 
-no_comma : (fs : List Frame) (t : Tree) → top_of fs ≡ None → (let none : Option State = None in on_after fs t m.Kind.comma ≡ none)
+no_comma : (fs : List Frame) (t : Tree) → top_of fs ≡ None → (let none : Option State = None in on_after fs t m.ByteClass.comma ≡ none)
 no_comma [] t top = refl
 no_comma (frame ms k ∷ fs) t top = absurd (cc)
 no_comma (array_frame ts ∷ fs) t top = absurd (cc)
 
-pub nothing_follows : (old : Reader) (c : ℕ) → Fits old → old.at ≡ at.TheVariants.After → (let none : Option Open = None in innermost old.nesting.items ≡ none) → kind_of c ≡ m.Kind.comma
-    → Refuses NESTING_LIMIT Byte (state_view old) c
+pub nothing_follows : (old : Reader) (c : ℕ) → Fits old → old.at ≡ at.TheVariants.After → (let none : Option Open = None in innermost old.nesting.items ≡ none) → kind_of c ≡ m.ByteClass.comma
+    → Refuses MAX_NESTING Byte (state_view old) c
 nothing_follows old c fits is_at inside kind =
-    refused_after old c m.Kind.comma fits is_at kind (λ fs t are_open. no_comma fs t (top_is _ fs _ are_open inside))
+    refused_after old c m.ByteClass.comma fits is_at kind (λ fs t are_open. no_comma fs t (top_is _ fs _ are_open inside))
 
 -- what is open there is no object
 abbrev pub NoObject : Option Open → Type 0
@@ -140,27 +140,27 @@ NoObject None = Unit {0}
 NoObject (Some Object) = ⊥
 NoObject (Some Array) = Unit {0}
 
-no_closing : (fs : List Frame) (t : Tree) → NoObject (top_of fs) → (let none : Option State = None in on_after fs t m.Kind.closing ≡ none)
+no_closing : (fs : List Frame) (t : Tree) → NoObject (top_of fs) → (let none : Option State = None in on_after fs t m.ByteClass.closing ≡ none)
 no_closing [] t top = refl
 no_closing (frame ms k ∷ fs) t top = absurd top
 no_closing (array_frame ts ∷ fs) t top = refl
 
-pub no_object : (old : Reader) (c : ℕ) (o : Option Open) → Fits old → old.at ≡ at.TheVariants.After → innermost old.nesting.items ≡ o → NoObject o → kind_of c ≡ m.Kind.closing
-    → Refuses NESTING_LIMIT Byte (state_view old) c
+pub no_object : (old : Reader) (c : ℕ) (o : Option Open) → Fits old → old.at ≡ at.TheVariants.After → innermost old.nesting.items ≡ o → NoObject o → kind_of c ≡ m.ByteClass.closing
+    → Refuses MAX_NESTING Byte (state_view old) c
 no_object old c o fits is_at inside not kind =
-    refused_after old c m.Kind.closing fits is_at kind (λ fs t are_open. no_closing fs t (subst NoObject (sym (top_is _ fs o are_open inside)) not))
+    refused_after old c m.ByteClass.closing fits is_at kind (λ fs t are_open. no_closing fs t (subst NoObject (sym (top_is _ fs o are_open inside)) not))
 
 abbrev pub NoArray : Option Open → Type 0
 NoArray None = Unit {0}
 NoArray (Some Object) = Unit {0}
 NoArray (Some Array) = ⊥
 
-no_closing_array : (fs : List Frame) (t : Tree) → NoArray (top_of fs) → (let none : Option State = None in on_after fs t m.Kind.closing_array ≡ none)
+no_closing_array : (fs : List Frame) (t : Tree) → NoArray (top_of fs) → (let none : Option State = None in on_after fs t m.ByteClass.closing_array ≡ none)
 no_closing_array [] t top = refl
 no_closing_array (frame ms k ∷ fs) t top = refl
 no_closing_array (array_frame ts ∷ fs) t top = absurd top
 
-pub no_array : (old : Reader) (c : ℕ) (o : Option Open) → Fits old → old.at ≡ at.TheVariants.After → innermost old.nesting.items ≡ o → NoArray o → kind_of c ≡ m.Kind.closing_array
-    → Refuses NESTING_LIMIT Byte (state_view old) c
+pub no_array : (old : Reader) (c : ℕ) (o : Option Open) → Fits old → old.at ≡ at.TheVariants.After → innermost old.nesting.items ≡ o → NoArray o → kind_of c ≡ m.ByteClass.closing_array
+    → Refuses MAX_NESTING Byte (state_view old) c
 no_array old c o fits is_at inside not kind =
-    refused_after old c m.Kind.closing_array fits is_at kind (λ fs t are_open. no_closing_array fs t (subst NoArray (sym (top_is _ fs o are_open inside)) not))
+    refused_after old c m.ByteClass.closing_array fits is_at kind (λ fs t are_open. no_closing_array fs t (subst NoArray (sym (top_is _ fs o are_open inside)) not))

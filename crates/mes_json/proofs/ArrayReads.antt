@@ -11,7 +11,7 @@ use Rattle.mes_json.specs.Grammar.{IsSpaces, IsValue, MoreItems}
 use Rattle.mes_json.specs.Machine.{State, Frame, step, run, finish, ends, kind_of, with_item, on_value, on_first_item}
 use Rattle.mes_json.specs.Machine.State.{state}
 use Rattle.mes_json.specs.Machine.Frame.{array_frame}
-use Rattle.mes_json.specs.Machine.At.{value, first_item, after}
+use Rattle.mes_json.specs.Machine.ReaderState.{value, first_item, after}
 use Rattle.mes_json.proofs.Reach.{Follows, Reaches, Leads, leads, by_byte, then_to, over_spaces}
 use Rattle.mes_json.proofs.TokenReads.{number_starts}
 

@@ -7,11 +7,11 @@ use Rattle.mes_json.specs.Tree.{Tree, Items}
 use Rattle.mes_json.specs.Tree.Tree.{array}
 use Rattle.mes_json.specs.Tree.Items.{no_items, item}
 use Rattle.mes_json.specs.Grammar.{IsSpaces, Spaced, IsValue, AreItems, MoreItems}
-use Rattle.mes_json.specs.Machine.{State, Frame, Kind, with_item, on_first_item}
+use Rattle.mes_json.specs.Machine.{State, Frame, ByteClass, with_item, on_first_item}
 use Rattle.mes_json.specs.Machine.State.{state}
 use Rattle.mes_json.specs.Machine.Frame.{array_frame}
-use Rattle.mes_json.specs.Machine.Kind.{blank, quote, opening, closing, opening_array, closing_array, colon, comma, other, begins}
-use Rattle.mes_json.specs.Machine.At.{value, first_item, after}
+use Rattle.mes_json.specs.Machine.ByteClass.{blank, quote, opening, closing, opening_array, closing_array, colon, comma, other, begins}
+use Rattle.mes_json.specs.Machine.ReaderState.{value, first_item, after}
 use Rattle.mes_json.proofs.Held.{BeforeItem, InArray, HeldStack, Valued, Held}
 use Rattle.mes_json.proofs.SoundLemmas.{some_is, none_some, KindIs, push, array_space, on_value_sound}
 
@@ -61,7 +61,7 @@ empty_closes fs d room b h = (
 )
 
 -- an item's first byte is a value's within the array
-pub on_first_item_sound : (d : ℕ) (fs : List Frame) (k : Kind) (c : ℕ) (next : State) (b : List ℕ) → KindIs k c → Held d (state fs first_item) b
+pub on_first_item_sound : (d : ℕ) (fs : List Frame) (k : ByteClass) (c : ℕ) (next : State) (b : List ℕ) → KindIs k c → Held d (state fs first_item) b
     → on_first_item d fs k ≡ Some next → Held d next (b ++ c ∷ [])
 on_first_item_sound d fs blank c next b is h e = subst (λ (s : State). Held d s (b ++ c ∷ [])) (some_is e) (h.0, array_space (HeldStack d fs) no_items h.0 b c h.1 is)
 on_first_item_sound d fs quote c next b is h e = on_value_sound d (array_frame no_items ∷ fs) quote c next b is h e

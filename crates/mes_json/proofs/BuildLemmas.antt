@@ -12,8 +12,8 @@ use Rattle.mes_json.specs.Tree.{Items, Members}
 use Rattle.mes_json.specs.Tree.Tree.{array, object}
 use Rattle.mes_json.specs.Tree.Items.{item}
 use Rattle.mes_json.specs.Tree.Members.{member}
-use Rattle.mes_json.specs.Machine.{Frame, At, State, with_item, with_member, start}
-use Rattle.mes_json.specs.Machine.At.{value, name, named, after}
+use Rattle.mes_json.specs.Machine.{Frame, ReaderState, State, with_item, with_member, start}
+use Rattle.mes_json.specs.Machine.ReaderState.{value, name, named, after}
 use Rattle.mes_json.specs.Machine.Frame.{frame, array_frame}
 use Rattle.mes_json.specs.Machine.State.{state}
 use Rattle.mes_json.specs.Tape.{apply, spelled, value_due, name_due, valued, in_object, ended}
@@ -22,11 +22,11 @@ use Rattle.mes_json.specs.Build.{frame_view, frames_view, last_of, items_before,
 use Rattle.mes_json.specs.declared.tape.Node.{Node}
 use Rattle.mes_json.specs.declared.value.Json.{Json}
 use Rattle.mes_json.specs.declared.value.Json.TheVariants.{List as list, Map}
-use Rattle.mes_json.specs.declared.build.Outer.{Outer}
-use Rattle.mes_json.specs.declared.build.Outer.TheVariants as outer
-use Rattle.mes_json.specs.declared.build.Inner.{Inner}
-use Rattle.mes_json.specs.declared.build.Inner.TheVariants.{Object, Array}
-use Rattle.mes_json.specs.declared.build.Building.{Building}
+use Rattle.mes_json.specs.declared.tree_builder.Outer.{Outer}
+use Rattle.mes_json.specs.declared.tree_builder.Outer.TheVariants as outer
+use Rattle.mes_json.specs.declared.tree_builder.Inner.{Inner}
+use Rattle.mes_json.specs.declared.tree_builder.Inner.TheVariants.{Object, Array}
+use Rattle.mes_json.specs.declared.tree_builder.TreeBuilder.{TreeBuilder}
 use Rattle.mes_json.proofs.TapeLemmas.{spelled_last}
 use Rattle.mes_json.proofs.ViewLemmas.{view-List, view-Map}
 
@@ -93,25 +93,25 @@ object_ended fs [] = refl
 object_ended fs (x ∷ xs) = ap (λ (is : Members). state fs (after (object is))) (all_members x xs)
 
 -- ---- the building
-pub item_joins : (b : Building) (ts grown : Vec Json Global) (json : Json) → b.inner ≡ Array ts → grown.items ≡ ts.items ++ json ∷ []
+pub item_joins : (b : TreeBuilder) (ts grown : Vec Json Global) (json : Json) → b.inner ≡ Array ts → grown.items ≡ ts.items ++ json ∷ []
     → array_state (frames_view b.outer.items) grown.items ≡ valued (after (view json)) (value_due (building_view b))
 item_joins b ts grown json was is =
     array_last (frames_view b.outer.items) ts.items grown.items json is ∙ ap (valued (after (view json))) (sym (array_due (frames_view b.outer.items) ts.items))
     ∙ ap (λ (i : Inner). valued (after (view json)) (value_due (inner_view (frames_view b.outer.items) i))) (sym was)
 
-pub member_joins : (b : Building) (ms grown : Vec (List ℕ × Json) Global) (k : List ℕ) (due : Option (List ℕ)) (json : Json) → b.inner ≡ Object ms (Some k) → due ≡ None
+pub member_joins : (b : TreeBuilder) (ms grown : Vec (List ℕ × Json) Global) (k : List ℕ) (due : Option (List ℕ)) (json : Json) → b.inner ≡ Object ms (Some k) → due ≡ None
     → grown.items ≡ ms.items ++ (k, json) ∷ [] → member_state (frames_view b.outer.items) grown.items due ≡ valued (after (view json)) (value_due (building_view b))
 member_joins b ms grown k due json was none is =
     ap (member_state (frames_view b.outer.items) grown.items) none ∙ object_last (frames_view b.outer.items) ms.items grown.items k json is
     ∙ ap (λ (i : Inner). valued (after (view json)) (value_due (inner_view (frames_view b.outer.items) i))) (sym was)
 
-pub name_follows : (b : Building) (ms : Vec (List ℕ × Json) Global) (k : List ℕ) → b.inner ≡ Object ms None
+pub name_follows : (b : TreeBuilder) (ms : Vec (List ℕ × Json) Global) (k : List ℕ) → b.inner ≡ Object ms None
     → state (frames_view b.outer.items) (named (members_view ms.items) k) ≡ in_object (λ ms. named ms k) (name_due (building_view b))
 name_follows b ms k was =
     ap (in_object (λ ms. named ms k)) (sym (object_due (frames_view b.outer.items) ms.items))
     ∙ ap (λ (i : Inner). in_object (λ ms. named ms k) (name_due (inner_view (frames_view b.outer.items) i))) (sym was)
 
-pub array_around : (b : Building) (os : List Outer) (ts : Vec Json Global) (opened placed : Inner) (a : At) → b.inner ≡ Array ts → os ≡ b.outer.items ++ outer.Array ts ∷ []
+pub array_around : (b : TreeBuilder) (os : List Outer) (ts : Vec Json Global) (opened placed : Inner) (a : ReaderState) → b.inner ≡ Array ts → os ≡ b.outer.items ++ outer.Array ts ∷ []
     → placed ≡ opened → Opens opened a → inner_view (frames_view os) placed ≡ valued a (value_due (building_view b))
 array_around b os ts opened placed a was is put opens =
     ap (inner_view (frames_view os)) put ∙ opens (frames_view os)
@@ -119,14 +119,14 @@ array_around b os ts opened placed a was is put opens =
     ∙ ap (valued a) (sym (array_due (frames_view b.outer.items) ts.items))
     ∙ ap (λ (i : Inner). valued a (value_due (inner_view (frames_view b.outer.items) i))) (sym was)
 
-pub array_ends : (b : Building) (ts exact : Vec Json Global) → b.inner ≡ Array ts → exact.items ≡ ts.items
+pub array_ends : (b : TreeBuilder) (ts exact : Vec Json Global) → b.inner ≡ Array ts → exact.items ≡ ts.items
     → state (frames_view b.outer.items) (after (view (list exact))) ≡ ended (building_view b)
 array_ends b ts exact was same =
     ap (λ t. state (frames_view b.outer.items) (after t)) (view-List exact)
     ∙ ap (λ (xs : List Json). state (frames_view b.outer.items) (after (array (items_view xs)))) same
     ∙ sym (array_ended (frames_view b.outer.items) ts.items) ∙ ap (λ (i : Inner). ended (inner_view (frames_view b.outer.items) i)) (sym was)
 
-pub object_ends : (b : Building) (ms exact : Vec (List ℕ × Json) Global) → b.inner ≡ Object ms None → exact.items ≡ ms.items
+pub object_ends : (b : TreeBuilder) (ms exact : Vec (List ℕ × Json) Global) → b.inner ≡ Object ms None → exact.items ≡ ms.items
     → state (frames_view b.outer.items) (after (view (Map exact))) ≡ ended (building_view b)
 object_ends b ms exact was same =
     ap (λ t. state (frames_view b.outer.items) (after t)) (view-Map exact)

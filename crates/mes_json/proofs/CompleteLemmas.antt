@@ -10,8 +10,8 @@ use Rattle.mes_json.specs.Grammar.{IsSpaces, IsString, Spaced, IsMember, IsValue
 use Rattle.mes_json.specs.Machine.{State, Frame, start, step, run, ends, with_item, with_member, kind_of, on_value, on_first_item, on_name, on_after}
 use Rattle.mes_json.specs.Machine.State.{state}
 use Rattle.mes_json.specs.Machine.Frame.{frame, array_frame}
-use Rattle.mes_json.specs.Machine.Kind.{blank}
-use Rattle.mes_json.specs.Machine.At.{value, first_item, name, after}
+use Rattle.mes_json.specs.Machine.ByteClass.{blank}
+use Rattle.mes_json.specs.Machine.ReaderState.{value, first_item, name, after}
 use Rattle.mes_json.proofs.Reach.{Follows, Reaches, Leads, leads, by_byte, then_to, reach_then, lead_then, over_spaces, follows_spaces}
 use Rattle.mes_json.proofs.StringReads.{over_string, over_spaced_name}
 use Rattle.mes_json.proofs.TokenReads.{over_null, over_boolean, over_number}

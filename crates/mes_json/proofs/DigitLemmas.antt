@@ -11,9 +11,9 @@ use Rattle.mes_json.specs.Machine as m
 use Rattle.mes_json.specs.Machine.{Frame, State, run, on_digits}
 use Rattle.mes_json.specs.Machine.State.{state}
 use Rattle.mes_json.specs.Machine.Token.{digits}
-use Rattle.mes_json.specs.Reader.{with_read, Fits, Keeps, RunsTo, IsDigit, KeepsOn, AtValue, part_behind}
-use Rattle.mes_json.specs.declared.limits.TheConstants.{NESTING_LIMIT}
-use Rattle.mes_json.specs.declared.at.At as at
+use Rattle.mes_json.specs.Reader.{with_read, Fits, Keeps, RunsTo, IsDigit, KeepsOn, AtValue, part_after}
+use Rattle.mes_json.specs.declared.limits.TheConstants.{MAX_NESTING}
+use Rattle.mes_json.specs.declared.reader_state.ReaderState as at
 use Rattle.mes_json.specs.declared.reader.Reader.{Reader}
 use Rattle.mes_json.proofs.ReaderLemmas.{part}
 use Rattle.mes_json.proofs.TakenLemmas.{runs_over, none_kept}
@@ -33,23 +33,23 @@ leads x c keeps is = by (c == 48) refl
     by false e = ap (number_next x) (is_other c is.0 is.1 e) ∙ keeps.1
 
 over_digits : (d : ℕ) (fs : List Frame) (x : NumberState) (b q : List ℕ) → KeepsOn x → AllByRecursion IsDigit q
-    → run d (state fs (m.At.token (digits x b))) q ≡ Some (state fs (m.At.token (digits x (b ++ q))))
+    → run d (state fs (m.ReaderState.token (digits x b))) q ≡ Some (state fs (m.ReaderState.token (digits x (b ++ q))))
 unfolding run
-over_digits d fs x b [] keeps h = ap (λ (n : List ℕ). Some (state fs (m.At.token (digits x n)))) (sym (append-nil b))
+over_digits d fs x b [] keeps h = ap (λ (n : List ℕ). Some (state fs (m.ReaderState.token (digits x n)))) (sym (append-nil b))
 over_digits d fs x b (c ∷ q) keeps h =
     ap (option_and_then (λ (next : State). run d next q)) (ap (on_digits fs x b c) (leads x c keeps h.0)) ∙ over_digits d fs x (b ++ c ∷ []) q keeps h.1
-    ∙ ap (λ (n : List ℕ). Some (state fs (m.At.token (digits x n)))) (append_assoc b (c ∷ []) q)
+    ∙ ap (λ (n : List ℕ). Some (state fs (m.ReaderState.token (digits x n)))) (append_assoc b (c ∷ []) q)
 
 -- ---- the reader's, over the bytes behind the place, as they are cut out
 pub digits_taken : (old new : Reader) (x : NumberState) (b : List ℕ) (from n : ℕ) → Fits old → old.at ≡ at.TheVariants.Digits x → KeepsOn x → from ≤ length b
     → n ≤ length (take (length b - from) (drop from b)) → AllByRecursion IsDigit (take n (take (length b - from) (drop from b)))
     → Keeps old (take n (take (length b - from) (drop from b))) (at.TheVariants.Digits x) new → RunsTo old b from (from + n) new
-digits_taken old new x b from n fits is_at keeps_on within few all keeps =
+digits_taken old new x b from n fits is_at continues_number within few all keeps =
     let there = at.TheVariants.Digits x in
     let q = take n (take (length b - from) (drop from b)) in
     runs_over old new there b from n fits is_at (λ start end last. refl) within few
-    (λ (s : State) (h : AtValue old.nesting.items s). ap (λ (t : State). run NESTING_LIMIT (with_read there (part old) t) q) h.is
-    ∙ over_digits NESTING_LIMIT h.frames x (part old) q keeps_on all
+    (λ (s : State) (h : AtValue old.nesting.items s). ap (λ (t : State). run MAX_NESTING (with_read there (part old) t) q) h.is
+    ∙ over_digits MAX_NESTING h.frames x (part old) q continues_number all
     ∙ ap (λ (t : State). Some (with_read there (part old ++ q) t)) (sym h.is))
     keeps
 
@@ -57,28 +57,28 @@ digits_taken old new x b from n fits is_at keeps_on within few all keeps =
 pub digit_front_taken : (old new : Reader) (x : NumberState) (b : List ℕ) (from run n : ℕ) → Fits old → old.at ≡ at.TheVariants.Digits x → KeepsOn x → from ≤ length b
     → run ≤ length (take (length b - from) (drop from b)) → AllByRecursion IsDigit (take run (take (length b - from) (drop from b))) → (n ≡ run) ⊎ (n ≡ 0)
     → Keeps old (take n (take (length b - from) (drop from b))) (at.TheVariants.Digits x) new → RunsTo old b from (from + n) new
-digit_front_taken old new x b from run n fits is_at keeps_on within few all (inl whole) keeps =
-    digits_taken old new x b from n fits is_at keeps_on within (omega (arith, whole, few))
+digit_front_taken old new x b from run n fits is_at continues_number within few all (inl whole) keeps =
+    digits_taken old new x b from n fits is_at continues_number within (omega (arith, whole, few))
     (subst (λ (k : ℕ). AllByRecursion IsDigit (take k (take (length b - from) (drop from b)))) (sym whole) all) keeps
-digit_front_taken old new x b from run n fits is_at keeps_on within few all (inr none) keeps =
+digit_front_taken old new x b from run n fits is_at continues_number within few all (inr none) keeps =
     none_kept old new (at.TheVariants.Digits x) b (take (length b - from) (drop from b)) from n none fits is_at within keeps
 
 -- ---- the part of a number behind one more byte
-over_more : (x : NumberState) (q : List ℕ) (c : ℕ) → part_behind x (q ++ c ∷ []) ≡ option_and_then (λ y. number_next y (letter_of c)) (part_behind x q)
+over_more : (x : NumberState) (q : List ℕ) (c : ℕ) → part_after x (q ++ c ∷ []) ≡ option_and_then (λ y. number_next y (letter_of c)) (part_after x q)
 over_more x [] c = by (number_next x (letter_of c))
   where
-    by : (o : Option NumberState) → option_and_then (λ y. part_behind y []) o ≡ o
+    by : (o : Option NumberState) → option_and_then (λ y. part_after y []) o ≡ o
     by None = refl
     by (Some y) = refl
 over_more x (b ∷ q) c = by (number_next x (letter_of b)) (λ y. over_more y q c)
   where
-    by : (o : Option NumberState) → ((y : NumberState) → part_behind y (q ++ c ∷ []) ≡ option_and_then (λ z. number_next z (letter_of c)) (part_behind y q))
-        → option_and_then (λ y. part_behind y (q ++ c ∷ [])) o ≡ option_and_then (λ y. number_next y (letter_of c)) (option_and_then (λ y. part_behind y q) o)
+    by : (o : Option NumberState) → ((y : NumberState) → part_after y (q ++ c ∷ []) ≡ option_and_then (λ z. number_next z (letter_of c)) (part_after y q))
+        → option_and_then (λ y. part_after y (q ++ c ∷ [])) o ≡ option_and_then (λ y. number_next y (letter_of c)) (option_and_then (λ y. part_after y q) o)
     by None h = refl
     by (Some y) h = h y
 
-pub part_more : (x y z : NumberState) (b : List ℕ) (n : ℕ) → n < length b → part_behind x (take n b) ≡ Some y → number_next y (letter_of (get_or b n 0)) ≡ Some z
-    → part_behind x (take (n + 1) b) ≡ Some z
+pub part_more : (x y z : NumberState) (b : List ℕ) (n : ℕ) → n < length b → part_after x (take n b) ≡ Some y → number_next y (letter_of (get_or b n 0)) ≡ Some z
+    → part_after x (take (n + 1) b) ≡ Some z
 part_more x y z b n inside is next =
-    ap (λ (m : ℕ). part_behind x (take m b)) (add-one n) ∙ ap (part_behind x) (take-suc b n 0 inside)
+    ap (λ (m : ℕ). part_after x (take m b)) (add-one n) ∙ ap (part_after x) (take-suc b n 0 inside)
     ∙ over_more x (take n b) (get_or b n 0) ∙ ap (option_and_then (λ y. number_next y (letter_of (get_or b n 0)))) is ∙ next

@@ -23,8 +23,8 @@ MoveIs (on e) part = InEscape e part
 MoveIs (makes c) part = IsChar part c
 MoveIs refused part = Unit {0}
 
-abbrev Behind : List ℕ → ℕ → Move → Type 0
-Behind part c m = MoveIs m (part ++ c ∷ [])
+abbrev Following : List ℕ → ℕ → Move → Type 0
+Following part c m = MoveIs m (part ++ c ∷ [])
 
 -- ---- one more byte, and one more digit
 put : (front part q : List ℕ) (c : ℕ) → part ≡ front ++ q → part ++ c ∷ [] ≡ front ++ (q ++ c ∷ [])
@@ -99,21 +99,21 @@ by_least P l c x y f k = by (nat_le l c) (λ h. f (leb-true l c h))
 
 short_sound : (part : List ℕ) (c : ℕ) → part ≡ 92 ∷ [] → MoveIs (short_of c) (part ++ c ∷ [])
 short_sound part c e =
-    by_equal (Behind part c) c 0x22 _ _ (at 0x22 0x22 quotation_mark)
-    (by_equal (Behind part c) c 0x5C _ _ (at 0x5C 0x5C reverse_solidus)
-    (by_equal (Behind part c) c 0x2F _ _ (at 0x2F 0x2F solidus)
-    (by_equal (Behind part c) c 0x62 _ _ (at 0x62 0x08 backspace)
-    (by_equal (Behind part c) c 0x66 _ _ (at 0x66 0x0C form_feed)
-    (by_equal (Behind part c) c 0x6E _ _ (at 0x6E 0x0A line_feed)
-    (by_equal (Behind part c) c 0x72 _ _ (at 0x72 0x0D carriage_return)
-    (by_equal (Behind part c) c 0x74 _ _ (at 0x74 0x09 tab) tt)))))))
+    by_equal (Following part c) c 0x22 _ _ (at 0x22 0x22 quotation_mark)
+    (by_equal (Following part c) c 0x5C _ _ (at 0x5C 0x5C reverse_solidus)
+    (by_equal (Following part c) c 0x2F _ _ (at 0x2F 0x2F solidus)
+    (by_equal (Following part c) c 0x62 _ _ (at 0x62 0x08 backspace)
+    (by_equal (Following part c) c 0x66 _ _ (at 0x66 0x0C form_feed)
+    (by_equal (Following part c) c 0x6E _ _ (at 0x6E 0x0A line_feed)
+    (by_equal (Following part c) c 0x72 _ _ (at 0x72 0x0D carriage_return)
+    (by_equal (Following part c) c 0x74 _ _ (at 0x74 0x09 tab) tt)))))))
   where
     at : (letter v : ℕ) → IsShort letter v → c ≡ letter → IsChar (part ++ c ∷ []) v
     at letter v h k = short letter h (ap (λ b. b ++ c ∷ []) e ∙ ap (λ x. 92 ∷ x ∷ []) k)
 
 unit_sound : (part : List ℕ) (c v x : ℕ) → Digits3 (92 ∷ 117 ∷ []) part v → (v < 0xDC0) ⊎ (0xE00 ≤ v) → IsHex c x → MoveIs (four_digits (v * 16 + x)) (part ++ c ∷ [])
 unit_sound part c v x h r k =
-    by_range (Behind part c) 0xD800 (v * 16 + x) 0xDBFF _ _
+    by_range (Following part c) 0xD800 (v * 16 + x) 0xDBFF _ _
     (λ l. record { digits = four.digits; is = four.is; hex = four.hex; least = l.0; most = l.1 })
     (λ l. escaped four.digits four.hex (scalar_from (v * 16 + x) (range r l)) four.is)
   where
@@ -136,37 +136,37 @@ pair_sound whole part c first v x u h l m k =
 
 pub escape_sound : (e : Escape) (part : List ℕ) (c : ℕ) → InEscape e part → MoveIs (escape_step e c) (part ++ c ∷ [])
 escape_sound backslash part c h =
-    by_equal (Behind part c) c 117 _ _ (λ k. ap (λ b. b ++ c ∷ []) h ∙ ap (λ x. 92 ∷ x ∷ []) k) (short_sound part c h)
-escape_sound unit0 part c h = by_digit (Behind part c) c _ tt (λ x k. digit_one (92 ∷ 117 ∷ []) part c x h k)
+    by_equal (Following part c) c 117 _ _ (λ k. ap (λ b. b ++ c ∷ []) h ∙ ap (λ x. 92 ∷ x ∷ []) k) (short_sound part c h)
+escape_sound unit0 part c h = by_digit (Following part c) c _ tt (λ x k. digit_one (92 ∷ 117 ∷ []) part c x h k)
 escape_sound (unit1 v) part c h =
-    by_digit (Behind part c) c _ tt
-    (λ x k. by_range (Behind part c) 0xDC (v * 16 + x) 0xDF _ _ (λ _. tt) (λ l. (digit_two (92 ∷ 117 ∷ []) part c v x h k, other (v * 16 + x) l)))
+    by_digit (Following part c) c _ tt
+    (λ x k. by_range (Following part c) 0xDC (v * 16 + x) 0xDF _ _ (λ _. tt) (λ l. (digit_two (92 ∷ 117 ∷ []) part c v x h k, other (v * 16 + x) l)))
   where
     other : (n : ℕ) → (n < 0xDC) ⊎ (0xDF < n) → (n < 0xDC) ⊎ (0xE0 ≤ n)
     other n (inl l) = inl l
     other n (inr l) = inr (omega arith)
-escape_sound (unit2 v) part c h = by_digit (Behind part c) c _ tt (λ x k. (digit_three (92 ∷ 117 ∷ []) part c v x h.0 k, other x k h.1))
+escape_sound (unit2 v) part c h = by_digit (Following part c) c _ tt (λ x k. (digit_three (92 ∷ 117 ∷ []) part c v x h.0 k, other x k h.1))
   where
     other : (x : ℕ) → IsHex c x → (v < 0xDC) ⊎ (0xE0 ≤ v) → (v * 16 + x < 0xDC0) ⊎ (0xE00 ≤ v * 16 + x)
     other x k (inl l) = inl (omega (arith, hex_below c x k))
     other x k (inr l) = inr (omega arith)
-escape_sound (unit3 v) part c h = by_digit (Behind part c) c _ tt (λ x k. unit_sound part c v x h.0 h.1 k)
+escape_sound (unit3 v) part c h = by_digit (Following part c) c _ tt (λ x k. unit_sound part c v x h.0 h.1 k)
 escape_sound (high v) part c h =
-    by_equal (Behind part c) c 92 _ _ (λ k. (part, ap (λ x. part ++ x ∷ []) k, h)) tt
+    by_equal (Following part c) c 92 _ _ (λ k. (part, ap (λ x. part ++ x ∷ []) k, h)) tt
 escape_sound (high_backslash v) part c h =
-    by_equal (Behind part c) c 117 _ _ (λ k. (h.0, put h.0 part (92 ∷ []) c h.1 ∙ ap (λ x. h.0 ++ 92 ∷ x ∷ []) k, h.2)) tt
+    by_equal (Following part c) c 117 _ _ (λ k. (h.0, put h.0 part (92 ∷ []) c h.1 ∙ ap (λ x. h.0 ++ 92 ∷ x ∷ []) k, h.2)) tt
 escape_sound (low0 v) part c h =
-    by_digit (Behind part c) c _ tt
-    (λ x k. by_equal (Behind part c) x 13 _ _ (λ e. (h.0, h.2, digit_one (h.0 ++ 92 ∷ 117 ∷ []) part c 13 h.1 (subst (IsHex c) e k))) tt)
+    by_digit (Following part c) c _ tt
+    (λ x k. by_equal (Following part c) x 13 _ _ (λ e. (h.0, h.2, digit_one (h.0 ++ 92 ∷ 117 ∷ []) part c 13 h.1 (subst (IsHex c) e k))) tt)
 escape_sound (low1 v) part c h =
-    by_digit (Behind part c) c _ tt
-    (λ x k. by_least (Behind part c) 12 x _ _
+    by_digit (Following part c) c _ tt
+    (λ x k. by_least (Following part c) 12 x _ _
     (λ l. (h.0, h.1, digit_two (h.0 ++ 92 ∷ 117 ∷ []) part c 13 x h.2 k, omega arith, omega (arith, hex_below c x k))) tt)
 escape_sound (low2 v w) part c h =
-    by_digit (Behind part c) c _ tt
+    by_digit (Following part c) c _ tt
     (λ x k. (h.0, h.1, digit_three (h.0 ++ 92 ∷ 117 ∷ []) part c w x h.2 k, omega (arith, h.3), omega (arith, h.4, hex_below c x k)))
 escape_sound (low3 v w) part c h =
-    by_digit (Behind part c) c _ tt (λ x k. pair_sound h.0 part c v w x h.1 h.2 h.3 h.4 k)
+    by_digit (Following part c) c _ tt (λ x k. pair_sound h.0 part c v w x h.1 h.2 h.3 h.4 k)
 
 -- ---- what an escape makes is a character
 pub char_scalar : (b : List ℕ) (c : ℕ) → IsChar b c → IsScalar c

@@ -13,8 +13,8 @@ use Rattle.mes_json.specs.Escape.Escape.{backslash, unit0, unit1, unit2, unit3, 
 use Rattle.mes_json.specs.Escape.Move.{on, makes, refused}
 use Rattle.mes_json.specs.Machine.{State, Frame, Purpose, in_escape}
 use Rattle.mes_json.specs.Machine.State.{state}
-use Rattle.mes_json.specs.Machine.At.{quoted}
-use Rattle.mes_json.specs.Machine.Mid.{between, escape}
+use Rattle.mes_json.specs.Machine.ReaderState.{quoted}
+use Rattle.mes_json.specs.Machine.Utf8State.{between, escape}
 use Rattle.mes_json.proofs.Reach.{Reaches, by_byte, then_to}
 use Rattle.mes_json.proofs.HexLemmas.{by_range, hex_below, hex_some, two_on, four_on, four_makes}
 use Rattle.mes_json.proofs.HeldEscape.{InEscape}
@@ -28,18 +28,18 @@ module _ (d : ℕ) (fs : List Frame) (p : Purpose) (w : List ℕ) where
   abbrev within_escape : Escape → State
   within_escape e = state fs (quoted p (escape e) w)
 
-  abbrev behind : ℕ → State
-  behind c = state fs (quoted p between (w ++ encode_utf8 c))
+  abbrev following : ℕ → State
+  following c = state fs (quoted p between (w ++ encode_utf8 c))
 
   -- at one byte, and the others behind it
   over_on : (e next : Escape) (last : State) (c : ℕ) (b : List ℕ) → escape_step e c ≡ on next → Reaches d (within_escape next) b last → Reaches d (within_escape e) (c ∷ b) last
   over_on e next last c b h f = then_to d _ _ _ (c ∷ []) b (by_byte d _ _ c (ap (in_escape fs p w) h)) f
 
-  over_makes : (e : Escape) (c v : ℕ) → escape_step e c ≡ makes v → Reaches d (within_escape e) (c ∷ []) (behind v)
+  over_makes : (e : Escape) (c v : ℕ) → escape_step e c ≡ makes v → Reaches d (within_escape e) (c ∷ []) (following v)
   over_makes e c v h = by_byte d _ _ c (ap (in_escape fs p w) h)
 
   -- ---- complete
-  over_short : (letter c : ℕ) → IsShort letter c → Reaches d (within_escape backslash) (letter ∷ []) (behind c)
+  over_short : (letter c : ℕ) → IsShort letter c → Reaches d (within_escape backslash) (letter ∷ []) (following c)
   over_short _ _ quotation_mark = over_makes backslash 0x22 0x22 refl
   over_short _ _ reverse_solidus = over_makes backslash 0x5C 0x5C refl
   over_short _ _ solidus = over_makes backslash 0x2F 0x2F refl
@@ -57,10 +57,10 @@ module _ (d : ℕ) (fs : List Frame) (p : Purpose) (w : List ℕ) where
       (over_on (unit1 v0) (unit2 (v0 * 16 + v1)) last c1 (c2 ∷ b) (hex_to c1 v1 _ _ h1 (two_on (v0 * 16 + v1) r))
       (over_on (unit2 (v0 * 16 + v1)) (unit3 v) last c2 b (hex_to c2 v2 _ _ h2 (ap (λ n. on (unit3 n)) (sym e))) f))
 
-  over_escaped : (b : List ℕ) (c : ℕ) → IsHex4 b c → IsScalar c → Reaches d (within_escape unit0) b (behind c)
+  over_escaped : (b : List ℕ) (c : ℕ) → IsHex4 b c → IsScalar c → Reaches d (within_escape unit0) b (following c)
   over_escaped b c h is =
-      subst (λ (u : List ℕ). Reaches d (within_escape unit0) u (behind c)) (sym h.is)
-      (over_three h.c0 h.c1 h.c2 h.v0 h.v1 h.v2 v (h.c3 ∷ []) (behind c) h.d0 h.d1 h.d2 (range (scalar_cases c is)) refl
+      subst (λ (u : List ℕ). Reaches d (within_escape unit0) u (following c)) (sym h.is)
+      (over_three h.c0 h.c1 h.c2 h.v0 h.v1 h.v2 v (h.c3 ∷ []) (following c) h.d0 h.d1 h.d2 (range (scalar_cases c is)) refl
       (over_makes (unit3 v) h.c3 c (hex_to h.c3 h.v3 _ _ h.d3 (ap four_digits sum ∙ four_makes c (no_high (scalar_cases c is))))))
     where
       v : ℕ
@@ -92,9 +92,9 @@ module _ (d : ℕ) (fs : List Frame) (p : Purpose) (w : List ℕ) where
       sum = omega (arith, h.value)
 
   -- the second half
-  over_second : (first : ℕ) (b : List ℕ) (c : ℕ) → IsHex4 b c → 0xDC00 ≤ c → c ≤ 0xDFFF → Reaches d (within_escape (low0 first)) b (behind (pair_of first c))
+  over_second : (first : ℕ) (b : List ℕ) (c : ℕ) → IsHex4 b c → 0xDC00 ≤ c → c ≤ 0xDFFF → Reaches d (within_escape (low0 first)) b (following (pair_of first c))
   over_second first b c h least most =
-      subst (λ (u : List ℕ). Reaches d (within_escape (low0 first)) u (behind (pair_of first c))) (sym h.is)
+      subst (λ (u : List ℕ). Reaches d (within_escape (low0 first)) u (following (pair_of first c))) (sym h.is)
       (over_on (low0 first) (low1 first) _ h.c0 (h.c1 ∷ h.c2 ∷ h.c3 ∷ []) (hex_to h.c0 h.v0 _ _ h.d0 (is_d h.v0 d0))
       (over_on (low1 first) (low2 first (13 * 16 + h.v1)) _ h.c1 (h.c2 ∷ h.c3 ∷ []) (hex_to h.c1 h.v1 _ _ h.d1 (is_low h.v1 d1))
       (over_on (low2 first (13 * 16 + h.v1)) (low3 first v) _ h.c2 (h.c3 ∷ []) (hex_to h.c2 h.v2 _ _ h.d2 refl)
@@ -119,7 +119,7 @@ module _ (d : ℕ) (fs : List Frame) (p : Purpose) (w : List ℕ) where
       is_low n l = grind (arith, nat_tests)
 
   over_pair : (a b : List ℕ) (first second : ℕ) → IsHex4 a first → IsHex4 b second → 0xD800 ≤ first → first ≤ 0xDBFF → 0xDC00 ≤ second → second ≤ 0xDFFF
-      → Reaches d (within_escape unit0) (a ++ 92 ∷ 117 ∷ b) (behind (pair_of first second))
+      → Reaches d (within_escape unit0) (a ++ 92 ∷ 117 ∷ b) (following (pair_of first second))
   over_pair a b first second h k l m l' m' =
       over_first a (92 ∷ 117 ∷ b) first _ h l m
       (over_on (high first) (high_backslash first) _ 92 (117 ∷ b) refl
@@ -130,22 +130,22 @@ module _ (d : ℕ) (fs : List Frame) (p : Purpose) (w : List ℕ) where
   over_backslash q last f = then_to d _ _ _ (92 ∷ []) q (by_byte d _ _ 92 refl) f
 
   -- from between two characters, over a character, escaped or not
-  pub over_char : (b : List ℕ) (c : ℕ) → IsChar b c → Reaches d (state fs (quoted p between w)) b (behind c)
+  pub over_char : (b : List ℕ) (c : ℕ) → IsChar b c → Reaches d (state fs (quoted p between w)) b (following c)
   over_char b c (unescaped is l q n e) = over_unescaped d fs p w b c is l q n e
   over_char b c (short letter h e) =
-      subst (λ (u : List ℕ). Reaches d (state fs (quoted p between w)) u (behind c)) (sym e) (over_backslash (letter ∷ []) _ (over_short letter c h))
+      subst (λ (u : List ℕ). Reaches d (state fs (quoted p between w)) u (following c)) (sym e) (over_backslash (letter ∷ []) _ (over_short letter c h))
   over_char b c (escaped digits h is e) =
-      subst (λ (u : List ℕ). Reaches d (state fs (quoted p between w)) u (behind c)) (sym e)
+      subst (λ (u : List ℕ). Reaches d (state fs (quoted p between w)) u (following c)) (sym e)
       (over_backslash (117 ∷ digits) _ (over_on backslash unit0 _ 117 digits refl (over_escaped digits c h is)))
   over_char b c (pair first second upper lower h k l m l' m' is e) =
-      subst (λ (u : List ℕ). Reaches d (state fs (quoted p between w)) u (behind c)) (sym e)
-      (subst (λ (n : ℕ). Reaches d (state fs (quoted p between w)) (92 ∷ 117 ∷ (first ++ 92 ∷ 117 ∷ second)) (behind n)) (sym is)
+      subst (λ (u : List ℕ). Reaches d (state fs (quoted p between w)) u (following c)) (sym e)
+      (subst (λ (n : ℕ). Reaches d (state fs (quoted p between w)) (92 ∷ 117 ∷ (first ++ 92 ∷ 117 ∷ second)) (following n)) (sym is)
       (over_backslash (117 ∷ (first ++ 92 ∷ 117 ∷ second)) _
       (over_on backslash unit0 _ 117 (first ++ 92 ∷ 117 ∷ second) refl (over_pair first second upper lower h k l m l' m'))))
 
   -- ---- each state has an ending
   abbrev Closes : Escape → Type 0
-  Closes e = (q : List ℕ) × (c : ℕ) × Reaches d (within_escape e) q (behind c)
+  Closes e = (q : List ℕ) × (c : ℕ) × Reaches d (within_escape e) q (following c)
 
   abbrev MoveCloses : Move → Type 0
   MoveCloses (on e) = Closes e
@@ -156,7 +156,7 @@ module _ (d : ℕ) (fs : List Frame) (p : Purpose) (w : List ℕ) where
   by_move e c f = by (escape_step e c) refl f
     where
       by : (m : Move) → escape_step e c ≡ m → MoveCloses m → Closes e
-      by (on next) h k = (c ∷ k.0, k.1, over_on e next (behind k.1) c k.0 h k.2)
+      by (on next) h k = (c ∷ k.0, k.1, over_on e next (following k.1) c k.0 h k.2)
       by (makes v) h k = (c ∷ [], v, over_makes e c v h)
       by refused h k = absurd k
 
@@ -202,5 +202,5 @@ module _ (d : ℕ) (fs : List Frame) (p : Purpose) (w : List ℕ) where
   closes_any (low3 v x) = closes_low3 v x
 
   -- from within an escape, to its end
-  pub escape_closes : (e : Escape) (part : List ℕ) → InEscape e part → (q : List ℕ) × (c : ℕ) × Reaches d (within_escape e) q (behind c)
+  pub escape_closes : (e : Escape) (part : List ℕ) → InEscape e part → (q : List ℕ) × (c : ℕ) × Reaches d (within_escape e) q (following c)
   escape_closes e part h = closes_any e

@@ -6,13 +6,13 @@ use Rattle.mes_json.specs.Tree.{Tree, Items, Members}
 use Rattle.mes_json.specs.Tree.Items.{no_items, item}
 use Rattle.mes_json.specs.Tree.Members.{no_members, member}
 use Rattle.mes_json.specs.Grammar.{IsSpaces, IsChar, IsChars, IsString, IsValue, AreItems, AreMembers}
-use Rattle.mes_json.specs.Machine.{State, Frame, Purpose, Mid, Token}
+use Rattle.mes_json.specs.Machine.{State, Frame, Purpose, Utf8State, Token}
 use Rattle.mes_json.specs.Machine.State.{state}
 use Rattle.mes_json.specs.Machine.Frame.{frame, array_frame}
 use Rattle.mes_json.specs.Machine.Purpose.{for_name, for_value}
 use Rattle.mes_json.specs.Machine.Token.{literal, digits}
-use Rattle.mes_json.specs.Machine.At.{value, first_item, name, quoted, named, token, after}
-use Rattle.mes_json.specs.Machine.Mid.{between, within, escape}
+use Rattle.mes_json.specs.Machine.ReaderState.{value, first_item, name, quoted, named, token, after}
+use Rattle.mes_json.specs.Machine.Utf8State.{between, within, escape}
 use Rattle.mes_json.proofs.HeldEscape.{InEscape}
 
 -- ---- strings
@@ -27,19 +27,19 @@ pub record IsPart (n least most : ℕ) (part : List ℕ) : Type 0 where
   pub some : least ≤ most
   pub whole : (q : List ℕ) → Fits n least most q → (c : ℕ) × IsChar (part ++ q) c × (encode_utf8 c ≡ part ++ q)
 
-abbrev pub PartOf : Mid → List ℕ → Type 0
+abbrev pub PartOf : Utf8State → List ℕ → Type 0
 PartOf between part = part ≡ []
 PartOf (within zero least most) part = ⊥
 PartOf (within (suc n) least most) part = IsPart (suc n) least most part
 PartOf (escape e) part = InEscape e part
 
 -- the bytes of the part that stand in the text as they are
-abbrev pub kept : Mid → List ℕ → List ℕ
+abbrev pub kept : Utf8State → List ℕ → List ℕ
 kept between part = part
 kept (within n least most) part = part
 kept (escape e) part = []
 
-pub record InString (m : Mid) (s : List ℕ) (b : List ℕ) : Type 0 where
+pub record InString (m : Utf8State) (s : List ℕ) (b : List ℕ) : Type 0 where
   pub whole : List ℕ
   pub part : List ℕ
   pub words : List ℕ
@@ -48,7 +48,7 @@ pub record InString (m : Mid) (s : List ℕ) (b : List ℕ) : Type 0 where
   pub text : s ≡ words ++ kept m part
   pub part_of : PartOf m part
 
-pub record InQuotes (Outside : List ℕ → Type 0) (m : Mid) (s : List ℕ) (b : List ℕ) : Type 0 where
+pub record InQuotes (Outside : List ℕ → Type 0) (m : Utf8State) (s : List ℕ) (b : List ℕ) : Type 0 where
   pub front : List ℕ
   pub inside : List ℕ
   pub is : b ≡ front ++ 34 ∷ inside

@@ -3,7 +3,7 @@
 --     bytes_paid, nodes_paid    the bounds
 use Rattle.std.proofs.Common.{◌≡◌, ℕ, ◌+◌, ◌≤◌, Bool, List, [], ◌∷◌, length, Some, if◌then◌else◌, ◌==◌, refl, ap, sym, subst, arith, length-append, eqb-true}
 use Rattle.std.proofs.lemmas.Bool.{cond_both}
-use Rattle.mes_json.specs.Inner.{Stand, behind, counts, inner_from, inner}
+use Rattle.mes_json.specs.Inner.{Stand, following, counts, inner_from, inner}
 use Rattle.mes_json.specs.Inner.Stand.{outside}
 use Rattle.mes_json.specs.Machine.{State, start, run}
 use Rattle.mes_json.proofs.MeasureLemmas.{Measure, of_state}
@@ -45,11 +45,11 @@ nodes_pay = record {
 
 inner_spent : (place : Stand) (p : List ℕ) → spent counts place p ≡ inner_from place p
 inner_spent place [] = refl
-inner_spent place (c ∷ p) = ap (λ (n : ℕ). counts place c + n) (inner_spent (behind place c) p)
+inner_spent place (c ∷ p) = ap (λ (n : ℕ). counts place c + n) (inner_spent (following place c) p)
 
 each_spent : (place : Stand) (p : List ℕ) → spent each place p ≡ length p
 each_spent place [] = refl
-each_spent place (c ∷ p) = omega (arith, each_spent (behind place c) p)
+each_spent place (c ∷ p) = omega (arith, each_spent (following place c) p)
 
 pub bytes_paid : (d : ℕ) (s : State) (p : List ℕ) → run d start p ≡ Some s → of_state bytes s ≤ inner p
 bytes_paid d s p e = omega (arith, paid_run bytes counts d s p bytes_pay e, inner_spent outside p)

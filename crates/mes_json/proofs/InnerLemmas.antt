@@ -2,13 +2,13 @@
 --     inner_grows      of more bytes no fewer
 --     inner_within     no more than there are
 use Rattle.std.proofs.Common.{ℕ, ◌≤◌, Bool, true, false, if◌then◌else◌, ◌==◌, List, [], ◌∷◌, ◌++◌, length, arith}
-use Rattle.mes_json.specs.Inner.{Stand, is_of_number, behind, counts, inner_from, inner}
+use Rattle.mes_json.specs.Inner.{Stand, is_of_number, following, counts, inner_from, inner}
 use Rattle.mes_json.specs.Inner.Stand.{outside, inside, escaped}
 
 from_grows : (place : Stand) (p q : List ℕ) → inner_from place p ≤ inner_from place (p ++ q)
 from_grows place [] q = omega arith
 from_grows place (c ∷ p) q =
-    let more : inner_from (behind place c) p ≤ inner_from (behind place c) (p ++ q) = from_grows (behind place c) p q in omega arith
+    let more : inner_from (following place c) p ≤ inner_from (following place c) (p ++ q) = from_grows (following place c) p q in omega arith
 
 pub inner_grows : (p q : List ℕ) → inner p ≤ inner (p ++ q)
 inner_grows p q = from_grows outside p q
@@ -30,7 +30,7 @@ from_within : (place : Stand) (p : List ℕ) → inner_from place p ≤ length p
 from_within place [] = omega arith
 from_within place (c ∷ p) =
     let one = counts_one place c in
-    let rest : inner_from (behind place c) p ≤ length p = from_within (behind place c) p in omega (arith, one, rest)
+    let rest : inner_from (following place c) p ≤ length p = from_within (following place c) p in omega (arith, one, rest)
 
 pub inner_within : (p : List ℕ) → inner p ≤ length p
 inner_within p = from_within outside p

@@ -11,8 +11,8 @@ use Rattle.std.specs.List.{AllByRecursion}
 use Rattle.mes_json.specs.Tokens.{Token}
 use Rattle.mes_json.specs.Tape.{HasSpan}
 use Rattle.mes_json.specs.Cursor.{token_of, tokens_held}
-use Rattle.mes_json.specs.Passing.{behind}
-use Rattle.mes_json.specs.Lengths.{told, untold, telling, HasRest, TellsTruth, TellLengths, IsLeaf, IsWhole, AreBegun}
+use Rattle.mes_json.specs.Passing.{following}
+use Rattle.mes_json.specs.Lengths.{reported, unreported, telling, HasRest, TellsTruth, TellLengths, IsLeaf, IsWhole, AreBegun}
 use Rattle.mes_json.specs.declared.tape.Node.{Node}
 use Rattle.mes_json.specs.declared.tape.Node.TheVariants.{Null, Bool, Number, Text, Name, List as list, Map, End}
 
@@ -29,7 +29,7 @@ some_same h = cc
 
 -- ---- what single nodes tell
 -- a node that is a value of its own
-tells_none : (x : Node) (xs : List Node) → told x ≡ Some 0 → ((texts : List ℕ) → behind 0 (tokens_held texts (x ∷ xs)) ≡ tokens_held texts xs) → TellsTruth x xs
+tells_none : (x : Node) (xs : List Node) → reported x ≡ Some 0 → ((texts : List ℕ) → following 0 (tokens_held texts (x ∷ xs)) ≡ tokens_held texts xs) → TellsTruth x xs
 tells_none x xs is one m also =
     let same : 0 ≡ m = some_same (sym is ∙ also) in
     rw (← same) (record { inside = omega arith; ends = one })
@@ -47,22 +47,22 @@ tells_leaf End xs h = absurd h
 tells_end : (xs : List Node) → TellsTruth End xs
 tells_end xs = tells_none End xs refl (λ texts. refl)
 
-tells_nothing : (x : Node) (xs : List Node) → told x ≡ None → TellsTruth x xs
+tells_nothing : (x : Node) (xs : List Node) → reported x ≡ None → TellsTruth x xs
 tells_nothing x xs none m is = none_some (sym none ∙ is)
 
 -- ---- nodes that are whole
 whole_none : IsWhole []
-whole_none = record { tells = λ ys h. h; passes = λ texts n ts. refl }
+whole_none = record { reports = λ ys h. h; passes = λ texts n ts. refl }
 
 whole_append : (xs ys : List Node) → IsWhole xs → IsWhole ys → IsWhole (xs ++ ys)
 whole_append xs ys a b = record {
-  tells = λ zs h. subst TellLengths (sym (append_assoc xs ys zs)) (a.tells (ys ++ zs) (b.tells zs h));
-  passes = λ texts n ts. ap (λ (us : List Token). behind (suc n) (us ++ ts)) (map-append (token_of texts) xs ys)
-      ∙ ap (behind (suc n)) (append_assoc (tokens_held texts xs) (tokens_held texts ys) ts)
+  reports = λ zs h. subst TellLengths (sym (append_assoc xs ys zs)) (a.reports (ys ++ zs) (b.reports zs h));
+  passes = λ texts n ts. ap (λ (us : List Token). following (suc n) (us ++ ts)) (map-append (token_of texts) xs ys)
+      ∙ ap (following (suc n)) (append_assoc (tokens_held texts xs) (tokens_held texts ys) ts)
       ∙ a.passes texts n (tokens_held texts ys ++ ts) ∙ b.passes texts n ts;
 }
 
-leaf_passed : (x : Node) → IsLeaf x → (texts : List ℕ) (n : ℕ) (ts : List Token) → behind (suc n) (token_of texts x ∷ ts) ≡ behind (suc n) ts
+leaf_passed : (x : Node) → IsLeaf x → (texts : List ℕ) (n : ℕ) (ts : List Token) → following (suc n) (token_of texts x ∷ ts) ≡ following (suc n) ts
 leaf_passed Null h texts n ts = refl
 leaf_passed (Bool b) h texts n ts = refl
 leaf_passed (Number from to) h texts n ts = refl
@@ -73,7 +73,7 @@ leaf_passed (Map m) h texts n ts = absurd h
 leaf_passed End h texts n ts = absurd h
 
 whole_leaf : (x : Node) → IsLeaf x → IsWhole (x ∷ [])
-whole_leaf x h = record { tells = λ ys more. (tells_leaf x ys h, more); passes = leaf_passed x h }
+whole_leaf x h = record { reports = λ ys more. (tells_leaf x ys h, more); passes = leaf_passed x h }
 
 -- an array or an object with what is inside and its end, as tokens
 abbrev closed_tokens : List ℕ → List Node → List Token → List Token
@@ -83,7 +83,7 @@ closed_is : (texts : List ℕ) (inner : List Node) (ts : List Token) → tokens_
 closed_is texts inner ts =
     ap (λ (us : List Token). us ++ ts) (map-append (token_of texts) inner (End ∷ [])) ∙ append_assoc (tokens_held texts inner) (Token.ends ∷ []) ts
 
-closed_over : (texts : List ℕ) (inner : List Node) (n : ℕ) (ts : List Token) → IsWhole inner → behind (suc (suc n)) (closed_tokens texts inner ts) ≡ behind (suc n) ts
+closed_over : (texts : List ℕ) (inner : List Node) (n : ℕ) (ts : List Token) → IsWhole inner → following (suc (suc n)) (closed_tokens texts inner ts) ≡ following (suc n) ts
 closed_over texts inner n ts whole = whole.passes texts (suc n) (Token.ends ∷ ts)
 
 -- the length of an array or an object that ends, where it is told
@@ -97,12 +97,12 @@ behind_first texts (x ∷ inner) ys = behind_first texts inner ys
 one_more : {n m : ℕ} → n ≡ m + 1 → n ≡ suc m
 one_more is = omega (arith, is)
 
-rest_closed : (n : ℕ) (x : Node) (inner ys : List Node) → ((texts : List ℕ) (us : List Token) → behind 0 (token_of texts x ∷ us) ≡ behind 1 us) → IsWhole inner
+rest_closed : (n : ℕ) (x : Node) (inner ys : List Node) → ((texts : List ℕ) (us : List Token) → following 0 (token_of texts x ∷ us) ≡ following 1 us) → IsWhole inner
     → n ≡ length inner + 1 → HasRest n x ((inner ++ End ∷ []) ++ ys)
 rest_closed n x inner ys opens whole is = record {
   inside = omega (arith, is, length-append (inner ++ End ∷ []) ys, length-append inner (End ∷ []));
   ends = λ texts. opens texts (tokens_held texts ((inner ++ End ∷ []) ++ ys))
-      ∙ ap (behind 1) (map-append (token_of texts) (inner ++ End ∷ []) ys ∙ closed_is texts inner (tokens_held texts ys))
+      ∙ ap (following 1) (map-append (token_of texts) (inner ++ End ∷ []) ys ∙ closed_is texts inner (tokens_held texts ys))
       ∙ whole.passes texts 0 (Token.ends ∷ tokens_held texts ys)
       ∙ behind_first texts inner ys ∙ ap (λ (m : ℕ). drop m (tokens_held texts ((inner ++ End ∷ []) ++ ys))) (sym (one_more is));
 }
@@ -120,27 +120,27 @@ tells_object (suc n) inner ys whole known m is =
 -- what stands inside, and the end, as the nodes behind the first one
 inside_tells : (inner ys : List Node) → IsWhole inner → TellLengths ys → TellLengths ((inner ++ End ∷ []) ++ ys)
 inside_tells inner ys whole more =
-    subst TellLengths (sym (append_assoc inner (End ∷ []) ys)) (whole.tells (End ∷ ys) (tells_end ys, more))
+    subst TellLengths (sym (append_assoc inner (End ∷ []) ys)) (whole.reports (End ∷ ys) (tells_end ys, more))
 
-whole_closed : (n : ℕ) (x : Node) (inner : List Node) → told x ≡ None → IsWhole inner → IsClosedBy n inner → IsWhole (telling n x ∷ (inner ++ End ∷ []))
+whole_closed : (n : ℕ) (x : Node) (inner : List Node) → reported x ≡ None → IsWhole inner → IsClosedBy n inner → IsWhole (telling n x ∷ (inner ++ End ∷ []))
 whole_closed n Null inner none whole known = some_none none
 whole_closed n (Bool b) inner none whole known = some_none none
 whole_closed n (Number from to) inner none whole known = some_none none
 whole_closed n (Text from to) inner none whole known = some_none none
 whole_closed n (Name from to) inner none whole known = some_none none
 whole_closed n (list m) inner none whole known = record {
-  tells = λ ys more. (tells_array n inner ys whole known, inside_tells inner ys whole more);
-  passes = λ texts k ts. ap (behind (suc (suc k))) (closed_is texts inner ts) ∙ closed_over texts inner k ts whole;
+  reports = λ ys more. (tells_array n inner ys whole known, inside_tells inner ys whole more);
+  passes = λ texts k ts. ap (following (suc (suc k))) (closed_is texts inner ts) ∙ closed_over texts inner k ts whole;
 }
 whole_closed n (Map m) inner none whole known = record {
-  tells = λ ys more. (tells_object n inner ys whole known, inside_tells inner ys whole more);
-  passes = λ texts k ts. ap (behind (suc (suc k))) (closed_is texts inner ts) ∙ closed_over texts inner k ts whole;
+  reports = λ ys more. (tells_object n inner ys whole known, inside_tells inner ys whole more);
+  passes = λ texts k ts. ap (following (suc (suc k))) (closed_is texts inner ts) ∙ closed_over texts inner k ts whole;
 }
 whole_closed n End inner none whole known = some_none none
 
 -- ---- what is open
 begun_more : (places : List ℕ) (xs ys : List Node) → AreBegun places xs → IsWhole ys → AreBegun places (xs ++ ys)
-begun_more [] xs ys h whole = λ zs more. subst TellLengths (sym (append_assoc xs ys zs)) (h (ys ++ zs) (whole.tells zs more))
+begun_more [] xs ys h whole = λ zs more. subst TellLengths (sym (append_assoc xs ys zs)) (h (ys ++ zs) (whole.reports zs more))
 begun_more (place ∷ places) xs ys h whole = record {
   outer = h.outer;
   first = h.first;
@@ -159,12 +159,12 @@ pub begun_tells : (places : List ℕ) (xs ys : List Node) → AreBegun places xs
 begun_tells [] xs ys h more = h ys more
 begun_tells (place ∷ places) xs ys h more =
     subst TellLengths (sym (append_assoc h.outer (h.first ∷ h.inner) ys) ∙ ap (λ (us : List Node). us ++ ys) (sym h.is))
-    (begun_tells places h.outer (h.first ∷ (h.inner ++ ys)) h.before (tells_nothing h.first (h.inner ++ ys) h.unknown, h.whole.tells ys more))
+    (begun_tells places h.outer (h.first ∷ (h.inner ++ ys)) h.before (tells_nothing h.first (h.inner ++ ys) h.unknown, h.whole.reports ys more))
 
 pub begun_none : (places : List ℕ) (xs : List Node) → AreBegun places xs → AreBegun [] xs
 begun_none places xs h ys more = begun_tells places xs ys h more
 
-pub begun_open : (places : List ℕ) (xs : List Node) (x : Node) → AreBegun places xs → told x ≡ None → AreBegun (length xs ∷ places) (xs ++ x ∷ [])
+pub begun_open : (places : List ℕ) (xs : List Node) (x : Node) → AreBegun places xs → reported x ≡ None → AreBegun (length xs ∷ places) (xs ++ x ∷ [])
 begun_open places xs x h none =
     record { outer = xs; first = x; inner = []; is = refl; begins = refl; unknown = none; whole = whole_none; before = h }
 
@@ -189,7 +189,7 @@ begun_close n place places xs d h known =
     (begun_more places h.outer (telling n h.first ∷ (h.inner ++ End ∷ [])) h.before (whole_closed n h.first h.inner h.unknown h.whole counted))
 
 -- ---- lengths that are told, or not
-untold_same : (n : ℕ) (x : Node) → untold (telling n x) ≡ untold x
+untold_same : (n : ℕ) (x : Node) → unreported (telling n x) ≡ unreported x
 untold_same n Null = refl
 untold_same n (Bool b) = refl
 untold_same n (Number from to) = refl
@@ -200,12 +200,12 @@ untold_same n (Map m) = refl
 untold_same n End = refl
 
 -- an end, and the length of what it closes
-pub untold_close : (n place : ℕ) (xs : List Node) (d : Node) → map untold (set xs place (telling n (get_or xs place d)) ++ End ∷ []) ≡ map untold xs ++ End ∷ []
+pub untold_close : (n place : ℕ) (xs : List Node) (d : Node) → map unreported (set xs place (telling n (get_or xs place d)) ++ End ∷ []) ≡ map unreported xs ++ End ∷ []
 untold_close n place xs d =
-    map-append untold (set xs place (telling n (get_or xs place d))) (End ∷ [])
-    ∙ ap (λ (us : List Node). us ++ End ∷ []) (map-set_same untold xs place (telling n (get_or xs place d)) d (untold_same n (get_or xs place d)))
+    map-append unreported (set xs place (telling n (get_or xs place d))) (End ∷ [])
+    ∙ ap (λ (us : List Node). us ++ End ∷ []) (map-set_same unreported xs place (telling n (get_or xs place d)) d (untold_same n (get_or xs place d)))
 
-untold_token : (texts : List ℕ) (x : Node) → token_of texts (untold x) ≡ token_of texts x
+untold_token : (texts : List ℕ) (x : Node) → token_of texts (unreported x) ≡ token_of texts x
 untold_token texts Null = refl
 untold_token texts (Bool b) = refl
 untold_token texts (Number from to) = refl
@@ -215,12 +215,12 @@ untold_token texts (list m) = refl
 untold_token texts (Map m) = refl
 untold_token texts End = refl
 
-pub untold_tokens : (texts : List ℕ) (xs : List Node) → tokens_held texts (map untold xs) ≡ tokens_held texts xs
+pub untold_tokens : (texts : List ℕ) (xs : List Node) → tokens_held texts (map unreported xs) ≡ tokens_held texts xs
 untold_tokens texts [] = refl
 untold_tokens texts (x ∷ xs) =
-    ap (λ (t : Token). t ∷ tokens_held texts (map untold xs)) (untold_token texts x) ∙ ap (λ (ts : List Token). token_of texts x ∷ ts) (untold_tokens texts xs)
+    ap (λ (t : Token). t ∷ tokens_held texts (map unreported xs)) (untold_token texts x) ∙ ap (λ (ts : List Token). token_of texts x ∷ ts) (untold_tokens texts xs)
 
-untold_span : (texts : List ℕ) (x : Node) → HasSpan texts (untold x) → HasSpan texts x
+untold_span : (texts : List ℕ) (x : Node) → HasSpan texts (unreported x) → HasSpan texts x
 untold_span texts Null h = h
 untold_span texts (Bool b) h = h
 untold_span texts (Number from to) h = h
@@ -230,7 +230,7 @@ untold_span texts (list m) h = h
 untold_span texts (Map m) h = h
 untold_span texts End h = h
 
-pub untold_spans : (texts : List ℕ) (xs : List Node) → AllByRecursion (HasSpan texts) (map untold xs) → AllByRecursion (HasSpan texts) xs
+pub untold_spans : (texts : List ℕ) (xs : List Node) → AllByRecursion (HasSpan texts) (map unreported xs) → AllByRecursion (HasSpan texts) xs
 untold_spans texts [] h = tt
 untold_spans texts (x ∷ xs) h = (untold_span texts x h.0, untold_spans texts xs h.1)
 

@@ -21,14 +21,14 @@ use Rattle.mes_json.specs.Place.{Begins}
 use Rattle.mes_json.specs.Reader.{Fits, Stops, state_view}
 use Rattle.mes_json.specs.Read.{Stuck, StopsIn}
 use Rattle.mes_json.specs.Inner.{inner}
-use Rattle.mes_json.specs.Lexer.{IsCountedFault, IsReading, IsFaulty, StandsFor, HasLexed, text_of, nodes_of, HasNoMemory, IsOutOfMemory, held, nodes_held, IsBounded, HoldsNothing}
-use Rattle.mes_json.specs.declared.limits.TheConstants.{NESTING_LIMIT}
-use Rattle.mes_json.specs.declared.fault.Why.{Why}
-use Rattle.mes_json.specs.declared.fault.Why.TheVariants.{End}
+use Rattle.mes_json.specs.Lexer.{IsCountedFault, IsReading, IsFaulty, Represents, HasLexed, text_of, nodes_of, HasNoMemory, IsOutOfMemory, held, nodes_held, IsBounded, HoldsNothing}
+use Rattle.mes_json.specs.declared.limits.TheConstants.{MAX_NESTING}
+use Rattle.mes_json.specs.declared.fault.TextFaultKind.{TextFaultKind}
+use Rattle.mes_json.specs.declared.fault.TextFaultKind.TheVariants.{End}
 use Rattle.mes_json.specs.declared.fault.TextFault.{TextFault}
 use Rattle.mes_json.specs.declared.fault.ReadFault as fault
-use Rattle.mes_json.specs.declared.stop.Stop.{Stop}
-use Rattle.mes_json.specs.declared.stop.Stop.TheVariants.{Refused}
+use Rattle.mes_json.specs.declared.push_error.PushError.{PushError}
+use Rattle.mes_json.specs.declared.push_error.PushError.TheVariants.{Refused}
 use Rattle.mes_json.specs.declared.reader.Reader.{Reader}
 use Rattle.mes_json.specs.declared.lexer.LexerState.{LexerState}
 use Rattle.mes_json.specs.declared.lexer.LexerState.TheVariants.{Reading, Faulty, OutOfMemory}
@@ -39,15 +39,15 @@ use Rattle.mes_json.proofs.ViableLemmas.{begins_from_run}
 use Rattle.mes_json.proofs.ReadLemmas.{stuck_fault, stuck_no_text, ended_fault}
 
 -- ---- the fields
-pub state_at : (l : Lexer) (n : ℕ) (k : LexerState) (p : List ℕ) → (n, k) ≡ l → HasLexed l p → StandsFor n k p
+pub state_at : (l : Lexer) (n : ℕ) (k : LexerState) (p : List ℕ) → (n, k) ≡ l → HasLexed l p → Represents n k p
 unfolding HasLexed
 state_at l n k p is h = subst (λ (x : Lexer). HasLexed x p) (sym is) h
 
-pub reading_at : (n : ℕ) (k : LexerState) (r : Reader) (p : List ℕ) → k ≡ Reading r → StandsFor n k p → IsReading n r p
-reading_at n k r p at h = subst (λ (x : LexerState). StandsFor n x p) at h
+pub reading_at : (n : ℕ) (k : LexerState) (r : Reader) (p : List ℕ) → k ≡ Reading r → Represents n k p → IsReading n r p
+reading_at n k r p at h = subst (λ (x : LexerState). Represents n x p) at h
 
-pub faulty_at : (n : ℕ) (k : LexerState) (f : TextFault) (p : List ℕ) → k ≡ Faulty f → StandsFor n k p → IsFaulty f p
-faulty_at n k f p at h = subst (λ (x : LexerState). StandsFor n x p) at h
+pub faulty_at : (n : ℕ) (k : LexerState) (f : TextFault) (p : List ℕ) → k ≡ Faulty f → Represents n k p → IsFaulty f p
+faulty_at n k f p at h = subst (λ (x : LexerState). Represents n x p) at h
 
 -- ---- no byte was taken
 pub reads_none : (r : Reader) → Fits r → state_view r ≡ start → IsReading 0 r []
@@ -55,21 +55,21 @@ unfolding run
 reads_none r fits at = record { count = refl; fits = fits; reached = ap (λ (s : State). Some s) (sym at) }
 
 -- ---- the bytes are taken
-pub goes_on : (n next : ℕ) (r now : Reader) (p b : List ℕ) → IsReading n r p → next ≡ min (n + length b) (2 ^ 64 - 1) → run NESTING_LIMIT (state_view r) b ≡ Some (state_view now) → Fits now
+pub goes_on : (n next : ℕ) (r now : Reader) (p b : List ℕ) → IsReading n r p → next ≡ min (n + length b) (2 ^ 64 - 1) → run MAX_NESTING (state_view r) b ≡ Some (state_view now) → Fits now
     → IsReading next now (p ++ b)
 goes_on n next r now p b h count runs fits = record {
   count = omega (arith, h.count, count, length-append p b);
   fits = fits;
-  reached = run_on NESTING_LIMIT start (state_view r) p b h.reached ∙ runs;
+  reached = run_on MAX_NESTING start (state_view r) p b h.reached ∙ runs;
 }
 
 -- ---- one is refused
-behind : (s : State) (p b : List ℕ) (f : TextFault) → run NESTING_LIMIT start p ≡ Some s → Stuck s b f → Stuck start (p ++ b) (record { byte = length p + f.byte; why = f.why })
-behind s p b f reached stuck = record {
+following : (s : State) (p b : List ℕ) (f : TextFault) → run MAX_NESTING start p ≡ Some s → Stuck s b f → Stuck start (p ++ b) (record { byte = length p + f.byte; why = f.why })
+following s p b f reached stuck = record {
   inside = omega (arith, stuck.inside, length-append p b);
   before = stuck.before;
-  reached = ap (run NESTING_LIMIT start) (take-append-add p b f.byte) ∙ run_on NESTING_LIMIT start s p (take f.byte b) reached ∙ stuck.reached;
-  refuses = subst (Refuses NESTING_LIMIT f.why stuck.before) (sym (get_or-append-add p b f.byte 0)) stuck.refuses;
+  reached = ap (run MAX_NESTING start) (take-append-add p b f.byte) ∙ run_on MAX_NESTING start s p (take f.byte b) reached ∙ stuck.reached;
+  refuses = subst (Refuses MAX_NESTING f.why stuck.before) (sym (get_or-append-add p b f.byte 0)) stuck.refuses;
 }
 
 pub stuck_at : (e : fault.ReadFault) (f : TextFault) (s : State) (b : List ℕ) → e ≡ fault.TheVariants.Text f → StopsIn s b e → Stuck s b f
@@ -79,18 +79,18 @@ pub gets_stuck : (n byte : ℕ) (r : Reader) (p b : List ℕ) (f : TextFault) �
     → IsFaulty (record { byte = byte; why = f.why }) (p ++ b)
 gets_stuck n byte r p b f h stuck place = record {
   exact = _;
-  stuck = behind (state_view r) p b f h.reached stuck;
+  stuck = following (state_view r) p b f h.reached stuck;
   rounds = record { byte = omega (arith, h.count, place); why = refl };
 }
 
-pub refused_at : (stop : Stop) (why : Why) (s : State) (c : ℕ) → stop ≡ Refused why → Stops stop s c → Refuses NESTING_LIMIT why s c
-refused_at stop why s c is stops = subst (λ (x : Stop). Stops x s c) is stops
+pub refused_at : (stop : PushError) (why : TextFaultKind) (s : State) (c : ℕ) → stop ≡ Refused why → Stops stop s c → Refuses MAX_NESTING why s c
+refused_at stop why s c is stops = subst (λ (x : PushError). Stops x s c) is stops
 
-at_once : (s : State) (c : ℕ) (why : Why) → Refuses NESTING_LIMIT why s c → Stuck s (c ∷ []) (record { byte = 0; why = why })
+at_once : (s : State) (c : ℕ) (why : TextFaultKind) → Refuses MAX_NESTING why s c → Stuck s (c ∷ []) (record { byte = 0; why = why })
 unfolding run
 at_once s c why refuses = record { inside = omega arith; before = s; reached = refl; refuses = refuses }
 
-pub sticks : (n : ℕ) (r : Reader) (p : List ℕ) (c : ℕ) (why : Why) → IsReading n r p → Refuses NESTING_LIMIT why (state_view r) c
+pub sticks : (n : ℕ) (r : Reader) (p : List ℕ) (c : ℕ) (why : TextFaultKind) → IsReading n r p → Refuses MAX_NESTING why (state_view r) c
     → IsFaulty (record { byte = n; why = why }) (p ++ c ∷ [])
 sticks n r p c why h refuses = gets_stuck n n r p (c ∷ []) _ h (at_once (state_view r) c why refuses) (omega (arith, h.count))
 
@@ -99,34 +99,34 @@ still : (p b : List ℕ) (f : TextFault) → Stuck start p f → Stuck start (p 
 still p b f stuck = record {
   inside = omega (arith, stuck.inside, length-append p b);
   before = stuck.before;
-  reached = ap (run NESTING_LIMIT start) (take-append-le f.byte p b (omega (arith, stuck.inside))) ∙ stuck.reached;
-  refuses = subst (Refuses NESTING_LIMIT f.why stuck.before) (sym (get_or_append_left p b 0 f.byte stuck.inside)) stuck.refuses;
+  reached = ap (run MAX_NESTING start) (take-append-le f.byte p b (omega (arith, stuck.inside))) ∙ stuck.reached;
+  refuses = subst (Refuses MAX_NESTING f.why stuck.before) (sym (get_or_append_left p b 0 f.byte stuck.inside)) stuck.refuses;
 }
 
 stays_stuck : (f : TextFault) (p b : List ℕ) → IsFaulty f p → IsFaulty f (p ++ b)
 stays_stuck f p b h = record { exact = h.exact; stuck = still p b h.exact h.stuck; rounds = h.rounds }
 
-pub stays_faulty : (n : ℕ) (k : LexerState) (f : TextFault) (p b : List ℕ) → k ≡ Faulty f → StandsFor n k p → StandsFor n k (p ++ b)
-stays_faulty n k f p b at h = subst (λ (x : LexerState). StandsFor n x (p ++ b)) (sym at) (stays_stuck f p b (faulty_at n k f p at h))
+pub stays_faulty : (n : ℕ) (k : LexerState) (f : TextFault) (p b : List ℕ) → k ≡ Faulty f → Represents n k p → Represents n k (p ++ b)
+stays_faulty n k f p b at h = subst (λ (x : LexerState). Represents n x (p ++ b)) (sym at) (stays_stuck f p b (faulty_at n k f p at h))
 
 -- ---- at the end
-pub counted_fault : (f : TextFault) (p : List ℕ) → IsFaulty f p → IsCountedFault NESTING_LIMIT p f
+pub counted_fault : (f : TextFault) (p : List ℕ) → IsFaulty f p → IsCountedFault MAX_NESTING p f
 counted_fault f p h = record { exact = h.exact; is_fault = stuck_fault p h.exact h.stuck; rounds = h.rounds }
 
-pub faulty_only : (f : TextFault) (p : List ℕ) → IsFaulty f p → (t : Tree) → IsText NESTING_LIMIT p t → ⊥
+pub faulty_only : (f : TextFault) (p : List ℕ) → IsFaulty f p → (t : Tree) → IsText MAX_NESTING p t → ⊥
 faulty_only f p h = stuck_no_text p h.exact h.stuck
 
 pub counted_end : (n : ℕ) (r : Reader) (p : List ℕ) (found : Option (List Token)) → IsReading n r p → found ≡ option_map tokens (finish (state_view r))
-    → (let none : Option (List Token) = None in found ≡ none) → IsCountedFault NESTING_LIMIT p (record { byte = n; why = End })
+    → (let none : Option (List Token) = None in found ≡ none) → IsCountedFault MAX_NESTING p (record { byte = n; why = End })
 counted_end n r p found h is none = record { exact = _; is_fault = ended_fault p (state_view r) found h.reached is none; rounds = record { byte = h.count; why = refl } }
 
 -- ---- what it owns
-text_kept : (n : ℕ) (k : LexerState) (p : List ℕ) → StandsFor n k p → text_of k ≤ inner p
+text_kept : (n : ℕ) (k : LexerState) (p : List ℕ) → Represents n k p → text_of k ≤ inner p
 text_kept n (Reading r) p h = text_owned r p h.fits h.reached
 text_kept n (Faulty f) p h = omega arith
 text_kept n OutOfMemory p h = omega arith
 
-nodes_kept : (n : ℕ) (k : LexerState) (p : List ℕ) → StandsFor n k p → nodes_of k ≤ length p
+nodes_kept : (n : ℕ) (k : LexerState) (p : List ℕ) → Represents n k p → nodes_of k ≤ length p
 nodes_kept n (Reading r) p h = nodes_owned r p h.fits h.reached
 nodes_kept n (Faulty f) p h = omega arith
 nodes_kept n OutOfMemory p h = omega arith
@@ -136,18 +136,18 @@ unfolding HasLexed held nodes_held
 is_bounded l p h = record { texts = text_kept l.0 l.1 p h; nodes = nodes_kept l.0 l.1 p h }
 
 -- a byte that no text has there leaves no reader
-pub reading_begins : (n : ℕ) (r : Reader) (p : List ℕ) → IsReading n r p → Begins NESTING_LIMIT p
-reading_begins n r p h = begins_from_run NESTING_LIMIT (state_view r) p h.reached
+pub reading_begins : (n : ℕ) (r : Reader) (p : List ℕ) → IsReading n r p → Begins MAX_NESTING p
+reading_begins n r p h = begins_from_run MAX_NESTING (state_view r) p h.reached
 
 -- nor do the bytes that it takes behind them
-pub front_begins : (n : ℕ) (r : Reader) (p b : List ℕ) (s : State) → IsReading n r p → run NESTING_LIMIT (state_view r) b ≡ Some s → Begins NESTING_LIMIT (p ++ b)
-front_begins n r p b s h runs = begins_from_run NESTING_LIMIT s (p ++ b) (run_on NESTING_LIMIT start (state_view r) p b h.reached ∙ runs)
+pub front_begins : (n : ℕ) (r : Reader) (p b : List ℕ) (s : State) → IsReading n r p → run MAX_NESTING (state_view r) b ≡ Some s → Begins MAX_NESTING (p ++ b)
+front_begins n r p b s h runs = begins_from_run MAX_NESTING s (p ++ b) (run_on MAX_NESTING start (state_view r) p b h.reached ∙ runs)
 
 -- a text begins with itself
-pub text_begins : (p : List ℕ) (t : Tree) → IsText NESTING_LIMIT p t → Begins NESTING_LIMIT p
-text_begins p t h = ([], t, subst (λ (b : List ℕ). IsText NESTING_LIMIT b t) (sym (append-nil p)) h)
+pub text_begins : (p : List ℕ) (t : Tree) → IsText MAX_NESTING p t → Begins MAX_NESTING p
+text_begins p t h = ([], t, subst (λ (b : List ℕ). IsText MAX_NESTING b t) (sym (append-nil p)) h)
 
-no_text_kept : (n : ℕ) (k : LexerState) (p : List ℕ) → StandsFor n k p → (Begins NESTING_LIMIT p → ⊥) → (text_of k ≡ 0) × (nodes_of k ≡ 0)
+no_text_kept : (n : ℕ) (k : LexerState) (p : List ℕ) → Represents n k p → (Begins MAX_NESTING p → ⊥) → (text_of k ≡ 0) × (nodes_of k ≡ 0)
 no_text_kept n (Reading r) p h no_text = absurd (no_text (reading_begins n r p h))
 no_text_kept n (Faulty f) p h no_text = (refl, refl)
 no_text_kept n OutOfMemory p h no_text = (refl, refl)
@@ -157,7 +157,7 @@ no_memory_kept (Reading r) h = absurd h
 no_memory_kept (Faulty f) h = absurd h
 no_memory_kept OutOfMemory h = (refl, refl)
 
-pub lets_go_of_faults : (l : Lexer) (p : List ℕ) → HasLexed l p → (Begins NESTING_LIMIT p → ⊥) → HoldsNothing l
+pub lets_go_of_faults : (l : Lexer) (p : List ℕ) → HasLexed l p → (Begins MAX_NESTING p → ⊥) → HoldsNothing l
 unfolding HasLexed held nodes_held
 lets_go_of_faults l p h no_text = let e = no_text_kept l.0 l.1 p h no_text in record { texts = e.0; nodes = e.1 }
 

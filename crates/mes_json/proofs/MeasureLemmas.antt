@@ -9,12 +9,12 @@ use Rattle.mes_json.specs.Tree.Items.{no_items, item}
 use Rattle.mes_json.specs.Tree.Members.{no_members, member}
 use Rattle.mes_json.specs.Escape.{Escape}
 use Rattle.mes_json.specs.Escape.Escape.{backslash, unit0, unit1, unit2, unit3, high, high_backslash, low0, low1, low2, low3}
-use Rattle.mes_json.specs.Machine.{Frame, Mid, Purpose, At, State, with_item, with_member}
+use Rattle.mes_json.specs.Machine.{Frame, Utf8State, Purpose, ReaderState, State, with_item, with_member}
 use Rattle.mes_json.specs.Machine.Frame.{frame, array_frame}
-use Rattle.mes_json.specs.Machine.Mid.{between, within, escape}
+use Rattle.mes_json.specs.Machine.Utf8State.{between, within, escape}
 use Rattle.mes_json.specs.Machine.Purpose.{for_name, for_value}
 use Rattle.mes_json.specs.Machine.Token.{literal, digits}
-use Rattle.mes_json.specs.Machine.At.{value, first_item, name, quoted, named, token, after}
+use Rattle.mes_json.specs.Machine.ReaderState.{value, first_item, name, quoted, named, token, after}
 use Rattle.mes_json.specs.Machine.State.{state}
 
 pub record Measure : Type 0 where
@@ -57,7 +57,7 @@ of_escape (low1 h) = 9
 of_escape (low2 h v) = 10
 of_escape (low3 h v) = 11
 
-abbrev pub of_mid : Mid → ℕ
+abbrev pub of_mid : Utf8State → ℕ
 of_mid between = 0
 of_mid (within n least most) = 0
 of_mid (escape e) = of_escape e
@@ -66,7 +66,7 @@ abbrev pub of_purpose : Measure → Purpose → ℕ
 of_purpose m (for_name ms) = m.mark + of_members m ms
 of_purpose m for_value = 0
 
-abbrev pub of_at : Measure → At → ℕ
+abbrev pub of_at : Measure → ReaderState → ℕ
 of_at m value = 0
 of_at m first_item = m.mark
 of_at m (name ms) = m.mark + of_members m ms

@@ -7,11 +7,11 @@
 use Rattle.std.proofs.Common.{◌≡◌, ℕ, ◌+◌, ◌<◌, ◌⊎◌, inl, inr, List, [], ◌∷◌, ◌++◌, length, get_or, Some, Ok, refl, ap, ◌∙◌, arith}
 use Rattle.mes_json.specs.Machine.{step}
 use Rattle.mes_json.specs.Reader.{state_view, innermost, outer, Fits, Begins, Puts, Stays, RunsTo}
-use Rattle.mes_json.specs.declared.limits.TheConstants.{NESTING_LIMIT}
+use Rattle.mes_json.specs.declared.limits.TheConstants.{MAX_NESTING}
 use Rattle.mes_json.specs.declared.nesting.Open.TheVariants.{Object, Array}
-use Rattle.mes_json.specs.declared.utf8.Mid as mid
-use Rattle.mes_json.specs.declared.at.Purpose as purpose
-use Rattle.mes_json.specs.declared.at.At as at
+use Rattle.mes_json.specs.declared.utf8.Utf8State as mid
+use Rattle.mes_json.specs.declared.reader_state.Purpose as purpose
+use Rattle.mes_json.specs.declared.reader_state.ReaderState as at
 use Rattle.mes_json.specs.declared.reader.Reader.{Reader}
 use Rattle.mes_json.specs.declared.tape.Node as node
 use Rattle.mes_json.proofs.PlainLemmas.{runs_further}
@@ -21,13 +21,13 @@ use Rattle.mes_json.proofs.NestingLemmas.{entered}
 use Rattle.mes_json.proofs.AfterLemmas.{object_ends, array_ends}
 
 pub token_taken : (old new : Reader) (b : List ℕ) (from c : ℕ) → Fits old → from < length b → get_or b from 0 ≡ c
-    → step NESTING_LIMIT (state_view old) c ≡ Some (state_view new) → Fits new → RunsTo old b from (from + 1) new
+    → step MAX_NESTING (state_view old) c ≡ Some (state_view new) → Fits new → RunsTo old b from (from + 1) new
 token_taken old new b from c fits inside byte gives fits_new =
     one_more old old new b from from (nothing_taken old b from fits (omega (arith, inside))) inside
-    (ap (step NESTING_LIMIT (state_view old)) byte ∙ gives) fits_new
+    (ap (step MAX_NESTING (state_view old)) byte ∙ gives) fits_new
 
 pub token_and_more : (old mid new : Reader) (b : List ℕ) (from to c : ℕ) → Fits old → from < length b → get_or b from 0 ≡ c
-    → step NESTING_LIMIT (state_view old) c ≡ Some (state_view mid) → Fits mid → RunsTo mid b (from + 1) to new → RunsTo old b from to new
+    → step MAX_NESTING (state_view old) c ≡ Some (state_view mid) → Fits mid → RunsTo mid b (from + 1) to new → RunsTo old b from to new
 token_and_more old mid new b from to c fits inside byte gives fits_mid more =
     runs_further old mid new b from (from + 1) to (token_taken old mid b from c fits inside byte gives fits_mid) more
 
@@ -41,10 +41,10 @@ any_name_begins old new fits (inr is_at) begins = next_name_begins old new fits 
 
 -- what a token owes that is taken
 pub record Leads (old : Reader) (c : ℕ) (new : Reader) : Type 0 where
-  pub gives : step NESTING_LIMIT (state_view old) c ≡ Some (state_view new)
+  pub gives : step MAX_NESTING (state_view old) c ≡ Some (state_view new)
   pub fits : Fits new
 
-pub object_opens : (old new : Reader) → Fits old → old.at ≡ at.TheVariants.Value → length old.nesting.items < NESTING_LIMIT
+pub object_opens : (old new : Reader) → Fits old → old.at ≡ at.TheVariants.Value → length old.nesting.items < MAX_NESTING
     → Puts old (old.nesting.items ++ Object ∷ []) (node.TheVariants.Map 0) at.TheVariants.FirstName new → Leads old 123 new
 object_opens old new fits is_at room puts =
     let owes = entered {A = ℕ} Object old new (Ok 0) 123 fits is_at refl (room, puts) in

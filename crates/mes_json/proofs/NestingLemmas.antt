@@ -18,14 +18,14 @@ use Rattle.mes_json.specs.Machine.Frame.{frame, array_frame}
 use Rattle.mes_json.specs.Refusal.{Refuses}
 use Rattle.mes_json.specs.Tape.{valued, value_due, name_due, ended, span_length, spanned, HasSpan}
 use Rattle.mes_json.specs.Reader.{state_view, read_from, opens, innermost, outer, AtValue, AtFirstItem, AtFirstName, Fits, Puts, Enters, Stops}
-use Rattle.mes_json.specs.declared.limits.TheConstants.{NESTING_LIMIT}
-use Rattle.mes_json.specs.declared.fault.Why.{Why}
-use Rattle.mes_json.specs.declared.fault.Why.TheVariants.{Depth}
+use Rattle.mes_json.specs.declared.limits.TheConstants.{MAX_NESTING}
+use Rattle.mes_json.specs.declared.fault.TextFaultKind.{TextFaultKind}
+use Rattle.mes_json.specs.declared.fault.TextFaultKind.TheVariants.{Depth}
 use Rattle.mes_json.specs.declared.nesting.Open.{Open}
 use Rattle.mes_json.specs.declared.nesting.Open.TheVariants.{Object, Array}
-use Rattle.mes_json.specs.declared.at.At as at
-use Rattle.mes_json.specs.declared.stop.Stop.{Stop}
-use Rattle.mes_json.specs.declared.stop.Stop.TheVariants.{Refused, NoMemory}
+use Rattle.mes_json.specs.declared.reader_state.ReaderState as at
+use Rattle.mes_json.specs.declared.push_error.PushError.{PushError}
+use Rattle.mes_json.specs.declared.push_error.PushError.TheVariants.{Refused, NoMemory}
 use Rattle.mes_json.specs.declared.reader.Reader.{Reader}
 use Rattle.mes_json.specs.declared.tape.Node.{Node}
 use Rattle.mes_json.specs.declared.tape.Node.TheVariants.{List as list, Map, End}
@@ -64,19 +64,19 @@ pub top_is : (n : List Open) (fs : List Frame) (o : Option Open) → n ≡ opens
 top_is n fs o are_open is = sym (innermost_opens fs) ∙ ap innermost (sym are_open) ∙ is
 
 -- ---- the first byte
-abbrev first_at : Open → m.At
-first_at Object = m.At.name no_members
-first_at Array = m.At.first_item
+abbrev first_at : Open → m.ReaderState
+first_at Object = m.ReaderState.name no_members
+first_at Array = m.ReaderState.first_item
 
-abbrev pub opening_kind : Open → m.Kind
-opening_kind Object = m.Kind.opening
-opening_kind Array = m.Kind.opening_array
+abbrev pub opening_kind : Open → m.ByteClass
+opening_kind Object = m.ByteClass.opening
+opening_kind Array = m.ByteClass.opening_array
 
 abbrev pub first_node : Open → Node
 first_node Object = Map 0
 first_node Array = list 0
 
-abbrev pub first_place : Open → at.At
+abbrev pub first_place : Open → at.ReaderState
 first_place Object = at.TheVariants.FirstName
 first_place Array = at.TheVariants.FirstItem
 
@@ -97,21 +97,21 @@ on_opening o n c s d h kind = ap (λ (t : State). step d t c) h.is ∙ ap (on_va
 count_frames : (n : List Open) (s : State) (h : AtValue n s) → length h.frames ≡ length n
 count_frames n s h = sym (count_opens h.frames) ∙ ap (λ (x : List Open). length x) (sym h.are_open)
 
-opening : (o : Open) (texts b : List ℕ) (n : List Open) (c : ℕ) (s : State) → AtValue n (value_due s) → length n < NESTING_LIMIT → kind_of c ≡ opening_kind o
+opening : (o : Open) (texts b : List ℕ) (n : List Open) (c : ℕ) (s : State) → AtValue n (value_due s) → length n < MAX_NESTING → kind_of c ≡ opening_kind o
     → Moves texts b s (value_due s) c (first_node o) (first_place o) (n ++ o ∷ [])
 opening Object texts b n c s h l kind =
-    let below : length h.frames < NESTING_LIMIT = subst (λ (x : ℕ). x < NESTING_LIMIT) (sym (count_frames n _ h)) l in
+    let below : length h.frames < MAX_NESTING = subst (λ (x : ℕ). x < MAX_NESTING) (sym (count_frames n _ h)) l in
     record {
       takes = (h.frames, h.is);
-      gives = on_opening Object n c _ NESTING_LIMIT h kind ∙ if_below (length h.frames) NESTING_LIMIT _ below ∙ ap (λ (t : State). Some (valued (m.At.name no_members) t)) (sym h.is);
-      form = record { frames = h.frames; is = ap (valued (m.At.name no_members)) h.is; are_open = ap (λ (x : List Open). x ++ Object ∷ []) h.are_open };
+      gives = on_opening Object n c _ MAX_NESTING h kind ∙ if_below (length h.frames) MAX_NESTING _ below ∙ ap (λ (t : State). Some (valued (m.ReaderState.name no_members) t)) (sym h.is);
+      form = record { frames = h.frames; is = ap (valued (m.ReaderState.name no_members)) h.is; are_open = ap (λ (x : List Open). x ++ Object ∷ []) h.are_open };
     }
 opening Array texts b n c s h l kind =
-    let below : length h.frames < NESTING_LIMIT = subst (λ (x : ℕ). x < NESTING_LIMIT) (sym (count_frames n _ h)) l in
+    let below : length h.frames < MAX_NESTING = subst (λ (x : ℕ). x < MAX_NESTING) (sym (count_frames n _ h)) l in
     record {
       takes = (h.frames, h.is);
-      gives = on_opening Array n c _ NESTING_LIMIT h kind ∙ if_below (length h.frames) NESTING_LIMIT _ below ∙ ap (λ (t : State). Some (valued m.At.first_item t)) (sym h.is);
-      form = record { frames = h.frames; is = ap (valued m.At.first_item) h.is; are_open = ap (λ (x : List Open). x ++ Array ∷ []) h.are_open };
+      gives = on_opening Array n c _ MAX_NESTING h kind ∙ if_below (length h.frames) MAX_NESTING _ below ∙ ap (λ (t : State). Some (valued m.ReaderState.first_item t)) (sym h.is);
+      form = record { frames = h.frames; is = ap (valued m.ReaderState.first_item) h.is; are_open = ap (λ (x : List Open). x ++ Array ∷ []) h.are_open };
     }
 
 has_span : (o : Open) (old : Reader) → HasSpan old.text.items (first_node o)
@@ -119,19 +119,19 @@ has_span Object old = tt
 has_span Array old = tt
 
 -- at the limit the byte would be taken with one level more
-too_deep : (o : Open) (old : Reader) (c : ℕ) → Fits old → old.at ≡ at.TheVariants.Value → length old.nesting.items ≡ NESTING_LIMIT → kind_of c ≡ opening_kind o
-    → Refuses NESTING_LIMIT Depth (state_view old) c
+too_deep : (o : Open) (old : Reader) (c : ℕ) → Fits old → old.at ≡ at.TheVariants.Value → length old.nesting.items ≡ MAX_NESTING → kind_of c ≡ opening_kind o
+    → Refuses MAX_NESTING Depth (state_view old) c
 too_deep o old c fits is_at full kind =
     let h : AtValue old.nesting.items (due at.TheVariants.Value old) = form_at old at.TheVariants.Value is_at fits in
     let view = view_at old at.TheVariants.Value is_at in
-    let count : length h.frames ≡ NESTING_LIMIT = count_frames old.nesting.items _ h ∙ full in
+    let count : length h.frames ≡ MAX_NESTING = count_frames old.nesting.items _ h ∙ full in
     record {
-      stuck = ap (λ (t : State). step NESTING_LIMIT t c) view ∙ on_opening o old.nesting.items c _ NESTING_LIMIT h kind
-          ∙ if_above (length h.frames) NESTING_LIMIT _ (omega (arith, count));
+      stuck = ap (λ (t : State). step MAX_NESTING t c) view ∙ on_opening o old.nesting.items c _ MAX_NESTING h kind
+          ∙ if_above (length h.frames) MAX_NESTING _ (omega (arith, count));
       reason = (
         state h.frames (first_at o),
-        ap (λ (t : State). step (NESTING_LIMIT + 1) t c) view ∙ on_opening o old.nesting.items c _ (NESTING_LIMIT + 1) h kind
-            ∙ if_below (length h.frames) (NESTING_LIMIT + 1) _ (omega (arith, count)),
+        ap (λ (t : State). step (MAX_NESTING + 1) t c) view ∙ on_opening o old.nesting.items c _ (MAX_NESTING + 1) h kind
+            ∙ if_below (length h.frames) (MAX_NESTING + 1) _ (omega (arith, count)),
       );
     }
 
@@ -139,19 +139,19 @@ enters_covered : (o : Open) (k n l : ℕ) → n ≤ l → read_from (first_place
 enters_covered Object k n l h = omega arith
 enters_covered Array k n l h = omega arith
 
-pub entered : {A : Type 0} (o : Open) (old new : Reader) (result : Result A Stop) (c : ℕ) → Fits old → old.at ≡ at.TheVariants.Value → kind_of c ≡ opening_kind o
+pub entered : {A : Type 0} (o : Open) (old new : Reader) (result : Result A PushError) (c : ℕ) → Fits old → old.at ≡ at.TheVariants.Value → kind_of c ≡ opening_kind o
     → Enters result old o (first_node o) (first_place o) new → Owes result (state_view old) c new
 entered o old new (Ok u) c fits is_at kind enters =
     moved old new (Ok u) c at.TheVariants.Value (first_place o) (first_node o) (old.nesting.items ++ o ∷ []) fits is_at
     (enters_covered o old.start (length old.text.items) (spanned old.nodes.items)) (has_span o old)
     (opening o _ _ old.nesting.items c _ (form_at old at.TheVariants.Value is_at fits) enters.0 kind) enters.1 tt
 entered o old new (Err (Refused why)) c fits is_at kind enters =
-    (subst (λ (w : Why). Stops (Refused w) (state_view old) c) (sym enters.0) (too_deep o old c fits is_at enters.1 kind), tt)
+    (subst (λ (w : TextFaultKind). Stops (Refused w) (state_view old) c) (sym enters.0) (too_deep o old c fits is_at enters.1 kind), tt)
 entered o old new (Err NoMemory) c fits is_at kind enters = (tt, tt)
 
 -- ---- the last byte
-pub first_item_ends : {A : Type 0} (old new : Reader) (result : Result A Stop) (c : ℕ) → Fits old → old.at ≡ at.TheVariants.FirstItem
-    → kind_of c ≡ m.Kind.closing_array → OnOk result (Puts old (outer old.nesting.items) End at.TheVariants.After new)
+pub first_item_ends : {A : Type 0} (old new : Reader) (result : Result A PushError) (c : ℕ) → Fits old → old.at ≡ at.TheVariants.FirstItem
+    → kind_of c ≡ m.ByteClass.closing_array → OnOk result (Puts old (outer old.nesting.items) End at.TheVariants.After new)
     → IfErr result (λ e. e ≡ NoMemory) → Owes result (state_view old) c new
 first_item_ends old new result c fits is_at kind ok err =
     let h : AtFirstItem old.nesting.items (tape_of old) = form_at old at.TheVariants.FirstItem is_at fits in
@@ -159,13 +159,13 @@ first_item_ends old new result c fits is_at kind ok err =
     moved old new result c at.TheVariants.FirstItem at.TheVariants.After End (outer old.nesting.items) fits is_at (λ l. omega arith) tt
     (record {
       takes = inr (inl (h.frames, h.is));
-      gives = ap (λ (t : State). step NESTING_LIMIT t c) h.is ∙ ap (on_first_item NESTING_LIMIT h.frames) kind ∙ ap (λ (t : State). Some t) (sym closed);
+      gives = ap (λ (t : State). step MAX_NESTING t c) h.is ∙ ap (on_first_item MAX_NESTING h.frames) kind ∙ ap (λ (t : State). Some t) (sym closed);
       form = record { frames = h.frames; tree = array no_items; is = closed; are_open = ap outer h.are_open ∙ outer_last (opens h.frames) Array };
     })
     ok err
 
-pub first_name_ends : {A : Type 0} (old new : Reader) (result : Result A Stop) (c : ℕ) → Fits old → old.at ≡ at.TheVariants.FirstName
-    → kind_of c ≡ m.Kind.closing → OnOk result (Puts old (outer old.nesting.items) End at.TheVariants.After new)
+pub first_name_ends : {A : Type 0} (old new : Reader) (result : Result A PushError) (c : ℕ) → Fits old → old.at ≡ at.TheVariants.FirstName
+    → kind_of c ≡ m.ByteClass.closing → OnOk result (Puts old (outer old.nesting.items) End at.TheVariants.After new)
     → IfErr result (λ e. e ≡ NoMemory) → Owes result (state_view old) c new
 first_name_ends old new result c fits is_at kind ok err =
     let h : AtFirstName old.nesting.items (tape_of old) = form_at old at.TheVariants.FirstName is_at fits in
@@ -173,7 +173,7 @@ first_name_ends old new result c fits is_at kind ok err =
     moved old new result c at.TheVariants.FirstName at.TheVariants.After End (outer old.nesting.items) fits is_at (λ l. omega arith) tt
     (record {
       takes = inl (h.frames, no_members, ap name_due h.is);
-      gives = ap (λ (t : State). step NESTING_LIMIT t c) h.is ∙ ap (on_name h.frames no_members) kind ∙ ap (λ (t : State). Some t) (sym closed);
+      gives = ap (λ (t : State). step MAX_NESTING t c) h.is ∙ ap (on_name h.frames no_members) kind ∙ ap (λ (t : State). Some t) (sym closed);
       form = record { frames = h.frames; tree = object no_members; is = closed; are_open = ap outer h.are_open ∙ outer_last (opens h.frames) Object };
     })
     ok err

@@ -12,7 +12,7 @@ use Rattle.mes_json.specs.Tree.Members.{no_members, member}
 use Rattle.mes_json.specs.Tokens.{Token, tokens, tokens_of_items, tokens_of_members, BeginsItems, BeginsMembers}
 use Rattle.mes_json.specs.Tokens.Token.{ends}
 use Rattle.mes_json.specs.Cursor.{NextItem, NextMember, count_of}
-use Rattle.mes_json.specs.Passing.{behind, is_end, as_name}
+use Rattle.mes_json.specs.Passing.{following, is_end, as_name}
 use Rattle.mes_json.proofs.PassingLemmas.{over_value, behind_within, behind_first}
 
 value_no_end : (t : Tree) (rest : List Token) → is_end (tokens t ++ rest) ≡ false
@@ -28,27 +28,27 @@ no_item xs no_items end begins = begins
 no_item xs (item t ts) end (rest, is) =
     let e : is_end xs ≡ false = ap is_end (is ∙ append_assoc (tokens t) (tokens_of_items ts) (ends ∷ rest)) ∙ value_no_end t (tokens_of_items ts ++ ends ∷ rest) in cc
 
-pub next_item : (xs found new : List Token) (ts : Items) → is_end xs ≡ false → found ≡ xs → new ≡ behind 0 xs → BeginsItems xs ts → NextItem ts (Some found) new
+pub next_item : (xs found new : List Token) (ts : Items) → is_end xs ≡ false → found ≡ xs → new ≡ following 0 xs → BeginsItems xs ts → NextItem ts (Some found) new
 next_item xs found new no_items going here passed (rest, is) = let e : is_end xs ≡ true = ap is_end is in cc
 next_item xs found new (item t ts) going here passed (rest, is) =
     let first = is ∙ append_assoc (tokens t) (tokens_of_items ts) (ends ∷ rest) in
-    ((tokens_of_items ts ++ ends ∷ rest, here ∙ first), (rest, passed ∙ ap (behind 0) first ∙ over_value t 0 (tokens_of_items ts ++ ends ∷ rest)))
+    ((tokens_of_items ts ++ ends ∷ rest, here ∙ first), (rest, passed ∙ ap (following 0) first ∙ over_value t 0 (tokens_of_items ts ++ ends ∷ rest)))
 
-pub next_member : (xs value new : List Token) (ms : Members) (k : List ℕ) → as_name xs ≡ Some k → value ≡ drop 1 xs → new ≡ behind 0 value → BeginsMembers xs ms
+pub next_member : (xs value new : List Token) (ms : Members) (k : List ℕ) → as_name xs ≡ Some k → value ≡ drop 1 xs → new ≡ following 0 value → BeginsMembers xs ms
     → NextMember ms (Some (k, value)) new
 next_member xs value new no_members k named here passed (rest, is) = let e : as_name xs ≡ None = ap as_name is in cc
 next_member xs value new (member m t ms) k named here passed (rest, is) =
     let e : as_name xs ≡ Some m = ap as_name is in
     let first = here ∙ ap (drop 1) is ∙ append_assoc (tokens t) (tokens_of_members ms) (ends ∷ rest) in
-    (cc, (tokens_of_members ms ++ ends ∷ rest, first), (rest, passed ∙ ap (behind 0) first ∙ over_value t 0 (tokens_of_members ms ++ ends ∷ rest)))
+    (cc, (tokens_of_members ms ++ ends ∷ rest, first), (rest, passed ∙ ap (following 0) first ∙ over_value t 0 (tokens_of_members ms ++ ends ∷ rest)))
 
-pub shorter_item : (xs new : List Token) → is_end xs ≡ false → new ≡ behind 0 xs → length new < length xs
+pub shorter_item : (xs new : List Token) → is_end xs ≡ false → new ≡ following 0 xs → length new < length xs
 shorter_item [] new going passed = cc
 shorter_item (x ∷ xs) new going passed = let within = behind_first 0 x xs in omega (arith, within, ap length passed)
 
-pub shorter_member : (xs value new : List Token) (k : List ℕ) → as_name xs ≡ Some k → value ≡ drop 1 xs → new ≡ behind 0 value → length new < length xs
+pub shorter_member : (xs value new : List Token) (k : List ℕ) → as_name xs ≡ Some k → value ≡ drop 1 xs → new ≡ following 0 value → length new < length xs
 shorter_member [] value new k named here passed = cc
-shorter_member (x ∷ xs) value new k named here passed = let within = behind_within 0 xs in omega (arith, within, ap length (passed ∙ ap (behind 0) here))
+shorter_member (x ∷ xs) value new k named here passed = let within = behind_within 0 xs in omega (arith, within, ap length (passed ∙ ap (following 0) here))
 
 -- so many items were passed over, and the others are these
 abbrev pub Counted : List Token → List Token → ℕ → Type 0

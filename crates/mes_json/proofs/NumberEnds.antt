@@ -7,7 +7,7 @@ use Rattle.mes_fixed.specs.Automaton.{letter_of, number_next, is_final}
 use Rattle.mes_fixed.specs.declared.automaton.NumberState.{NumberState}
 use Rattle.mes_json.specs.Reader.{state_view, innermost, outer, with_value, Fits, Reached, Puts}
 use Rattle.mes_json.specs.declared.nesting.Open.TheVariants.{Object, Array}
-use Rattle.mes_json.specs.declared.at.At as at
+use Rattle.mes_json.specs.declared.reader_state.ReaderState as at
 use Rattle.mes_json.specs.declared.reader.Reader.{Reader}
 use Rattle.mes_json.specs.declared.tape.Node.{Node}
 use Rattle.mes_json.specs.declared.tape.Node.TheVariants.{Number, End}
@@ -36,22 +36,22 @@ pub node_is : (old : Reader) (from to : ℕ) → from ≡ old.start → to ≡ l
 node_is old from to begins ends = ap (λ (n : ℕ). Number n to) begins ∙ ap (λ (n : ℕ). Number old.start n) ends
 
 -- the byte leads where it leads behind the value
-behind_value : (old mid new : Reader) (x : NumberState) (c : ℕ) → MayEnd old x c → Puts old old.nesting.items (number_node old) at.TheVariants.After mid
+following_value : (old mid new : Reader) (x : NumberState) (c : ℕ) → MayEnd old x c → Puts old old.nesting.items (number_node old) at.TheVariants.After mid
     → (Fits mid → Leads mid c new) → Leads old c new
-behind_value old mid new x c h puts leads =
+following_value old mid new x c h puts leads =
     let ends = number_ends old mid x h.fits h.reached h.is_at h.final puts in
     let led = leads ends.fits in
     record { gives = number_gives {A = ℕ} old mid (Ok 0) c x (state_view new) ends h.foreign h.final led.gives; fits = led.fits }
 
 -- the same reader in another place
-abbrev in_place : at.At → Reader → Reader
+abbrev in_place : at.ReaderState → Reader → Reader
 in_place a r = record { at = a; nesting = r.nesting; start = r.start; text = r.text; nodes = r.nodes }
 
-is_in_place : (a : at.At) (r : Reader) → r.at ≡ a → r ≡ in_place a r
-is_in_place a r is_at = ap (λ (b : at.At). in_place b r) is_at
+is_in_place : (a : at.ReaderState) (r : Reader) → r.at ≡ a → r ≡ in_place a r
+is_in_place a r is_at = ap (λ (b : at.ReaderState). in_place b r) is_at
 
 -- behind the value, before the comma is taken
-value_put : (old new : Reader) (n : Node) (a : at.At) → Puts old old.nesting.items n a new → Puts old old.nesting.items n at.TheVariants.After (in_place at.TheVariants.After new)
+value_put : (old new : Reader) (n : Node) (a : at.ReaderState) → Puts old old.nesting.items n a new → Puts old old.nesting.items n at.TheVariants.After (in_place at.TheVariants.After new)
 value_put old new n a puts = record { at = refl; nodes = puts.nodes; text = puts.text; nesting_is = puts.nesting_is; start = puts.start }
 
 pub number_before_name : (old new : Reader) (x : NumberState) → MayEnd old x 44 → innermost old.nesting.items ≡ Some Object
@@ -59,7 +59,7 @@ pub number_before_name : (old new : Reader) (x : NumberState) → MayEnd old x 4
 number_before_name old new x h inside puts =
     let mid = in_place at.TheVariants.After new in
     let same = ap innermost puts.nesting_is ∙ inside in
-    behind_value old mid new x 44 h (value_put old new (number_node old) at.TheVariants.Name puts)
+    following_value old mid new x 44 h (value_put old new (number_node old) at.TheVariants.Name puts)
     (λ fits. subst (Leads mid 44) (sym (is_in_place at.TheVariants.Name new puts.at))
     (record { gives = name_led mid 44 fits refl same refl; fits = name_follows mid fits refl same }))
 
@@ -67,7 +67,7 @@ pub number_before_item : (old new : Reader) (x : NumberState) → MayEnd old x 4
     → Puts old old.nesting.items (number_node old) at.TheVariants.Value new → Leads old 44 new
 number_before_item old new x h inside puts =
     let mid = in_place at.TheVariants.After new in
-    behind_value old mid new x 44 h (value_put old new (number_node old) at.TheVariants.Value puts)
+    following_value old mid new x 44 h (value_put old new (number_node old) at.TheVariants.Value puts)
     (λ fits. let follows = item_follows mid 44 fits refl (ap innermost puts.nesting_is ∙ inside) refl in
     subst (Leads mid 44) (sym (is_in_place at.TheVariants.Value new puts.at)) (record { gives = follows.0; fits = follows.1 }))
 
@@ -79,10 +79,10 @@ pub number_ends_object : (old new : Reader) (x : NumberState) → MayEnd old x 1
     → Puts (with_value (number_node old) old) (outer old.nesting.items) End at.TheVariants.After new → Leads old 125 new
 number_ends_object old new x h inside puts =
     let mid = with_value (number_node old) old in
-    behind_value old mid new x 125 h (put_at_once old (number_node old)) (λ fits. object_closes mid new fits refl inside puts)
+    following_value old mid new x 125 h (put_at_once old (number_node old)) (λ fits. object_closes mid new fits refl inside puts)
 
 pub number_ends_array : (old new : Reader) (x : NumberState) → MayEnd old x 93 → innermost old.nesting.items ≡ Some Array
     → Puts (with_value (number_node old) old) (outer old.nesting.items) End at.TheVariants.After new → Leads old 93 new
 number_ends_array old new x h inside puts =
     let mid = with_value (number_node old) old in
-    behind_value old mid new x 93 h (put_at_once old (number_node old)) (λ fits. array_closes mid new fits refl inside puts)
+    following_value old mid new x 93 h (put_at_once old (number_node old)) (λ fits. array_closes mid new fits refl inside puts)

@@ -7,11 +7,11 @@ use Rattle.mes_json.specs.Tree.{Tree, Members}
 use Rattle.mes_json.specs.Tree.Tree.{object}
 use Rattle.mes_json.specs.Tree.Members.{no_members, member}
 use Rattle.mes_json.specs.Grammar.{IsSpaces, IsString, IsMember, IsValue, AreMembers, MoreMembers}
-use Rattle.mes_json.specs.Machine.{State, Frame, Kind, with_member, on_name, close_empty, on_named}
+use Rattle.mes_json.specs.Machine.{State, Frame, ByteClass, with_member, on_name, close_empty, on_named}
 use Rattle.mes_json.specs.Machine.State.{state}
 use Rattle.mes_json.specs.Machine.Frame.{frame}
-use Rattle.mes_json.specs.Machine.Kind.{blank, quote, opening, closing, opening_array, closing_array, colon, comma, other, begins}
-use Rattle.mes_json.specs.Machine.At.{value, name, named, after}
+use Rattle.mes_json.specs.Machine.ByteClass.{blank, quote, opening, closing, opening_array, closing_array, colon, comma, other, begins}
+use Rattle.mes_json.specs.Machine.ReaderState.{value, name, named, after}
 use Rattle.mes_json.proofs.Held.{Before, InObject, HeldStack, Valued, Held}
 use Rattle.mes_json.proofs.SoundLemmas.{some_is, none_some, KindIs, push, object_space, named_space, quote_starts}
 
@@ -67,7 +67,7 @@ close_empty_sound : (d : ℕ) (fs : List Frame) (ms : Members) (next : State) (b
 close_empty_sound d fs no_members next b h e = subst (λ (s : State). Held d s (b ++ 125 ∷ [])) (some_is e) (empty_closes fs d h.0 b h.1)
 close_empty_sound d fs (member k t ms) next b h e = none_some e
 
-pub on_name_sound : (d : ℕ) (fs : List Frame) (ms : Members) (k : Kind) (c : ℕ) (next : State) (b : List ℕ) → KindIs k c → Held d (state fs (name ms)) b
+pub on_name_sound : (d : ℕ) (fs : List Frame) (ms : Members) (k : ByteClass) (c : ℕ) (next : State) (b : List ℕ) → KindIs k c → Held d (state fs (name ms)) b
     → on_name fs ms k ≡ Some next → Held d next (b ++ c ∷ [])
 on_name_sound d fs ms blank c next b is h e = subst (λ (s : State). Held d s (b ++ c ∷ [])) (some_is e) (h.0, object_space (HeldStack d fs) ms h.0 b c h.1 is)
 on_name_sound d fs ms quote c next b is h e =
@@ -85,7 +85,7 @@ on_name_sound d fs ms (begins x) c next b is h e = none_some e
 name_called : (d : ℕ) (fs : List Frame) (ms : Members) (k : List ℕ) (b : List ℕ) → Held d (state fs (named ms k)) b → Held d (state (frame ms k ∷ fs) value) (b ++ 58 ∷ [])
 name_called d fs ms k b h = (h.0, record { front = b; spaces = []; is = refl; name = h.1; are_spaces = tt })
 
-pub on_named_sound : (d : ℕ) (fs : List Frame) (ms : Members) (k : List ℕ) (kind : Kind) (c : ℕ) (next : State) (b : List ℕ) → KindIs kind c → Held d (state fs (named ms k)) b
+pub on_named_sound : (d : ℕ) (fs : List Frame) (ms : Members) (k : List ℕ) (kind : ByteClass) (c : ℕ) (next : State) (b : List ℕ) → KindIs kind c → Held d (state fs (named ms k)) b
     → on_named fs ms k kind ≡ Some next → Held d next (b ++ c ∷ [])
 on_named_sound d fs ms k blank c next b is h e = subst (λ (s : State). Held d s (b ++ c ∷ [])) (some_is e) (h.0, named_space (HeldStack d fs) ms k h.0 b c h.1 is)
 on_named_sound d fs ms k quote c next b is h e = none_some e

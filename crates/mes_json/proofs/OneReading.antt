@@ -8,8 +8,8 @@ use Rattle.mes_json.specs.Place.{IsFault}
 use Rattle.mes_json.specs.Refusal.{Refuses}
 use Rattle.mes_json.specs.Machine.{State, start, step, run, finish}
 use Rattle.mes_json.specs.declared.fault.TextFault.{TextFault}
-use Rattle.mes_json.specs.declared.fault.Why.{Why}
-use Rattle.mes_json.specs.declared.fault.Why.TheVariants.{Depth, Byte}
+use Rattle.mes_json.specs.declared.fault.TextFaultKind.{TextFaultKind}
+use Rattle.mes_json.specs.declared.fault.TextFaultKind.TheVariants.{Depth, Byte}
 use Rattle.mes_json.proofs.RunLemmas.{run_more}
 use Rattle.mes_json.proofs.StepLemmas.{finished}
 use Rattle.mes_json.proofs.PlaceLemmas.{refused, ended}
@@ -26,10 +26,10 @@ at_end d b s e = by (finish s) refl
     by None f = inr (_, ended d b s e f)
 
 -- at a byte that the state has no place for
-why_not : (d : ℕ) (s : State) (c : ℕ) → step d s c ≡ None → (why : Why) × Refuses d why s c
+why_not : (d : ℕ) (s : State) (c : ℕ) → step d s c ≡ None → (why : TextFaultKind) × Refuses d why s c
 why_not d s c stuck = by (step (d + 1) s c) refl
   where
-    by : (o : Option State) → step (d + 1) s c ≡ o → (why : Why) × Refuses d why s c
+    by : (o : Option State) → step (d + 1) s c ≡ o → (why : TextFaultKind) × Refuses d why s c
     by (Some next) e = (Depth, record { stuck = stuck; reason = (next, e) })
     by None e = (Byte, record { stuck = stuck; reason = e })
 

@@ -7,10 +7,10 @@ use Rattle.mes_json.specs.Machine.{State, start, run}
 use Rattle.mes_json.specs.Tape.{span, span_length, spanned, spelled, IsSpan, HasSpan}
 use Rattle.mes_json.specs.Reader.{due_at, with_read, read_from, state_view, IsAt, Fits}
 use Rattle.mes_json.specs.Inner.{inner}
-use Rattle.mes_json.specs.declared.limits.TheConstants.{NESTING_LIMIT}
+use Rattle.mes_json.specs.declared.limits.TheConstants.{MAX_NESTING}
 use Rattle.mes_json.specs.declared.nesting.Open.{Open}
-use Rattle.mes_json.specs.declared.at.Purpose as purpose
-use Rattle.mes_json.specs.declared.at.At as at
+use Rattle.mes_json.specs.declared.reader_state.Purpose as purpose
+use Rattle.mes_json.specs.declared.reader_state.ReaderState as at
 use Rattle.mes_json.specs.declared.reader.Reader.{Reader}
 use Rattle.mes_json.specs.declared.tape.Node.{Node}
 use Rattle.mes_json.specs.declared.tape.Node.TheVariants.{Null, Bool, Number, Text, Name, List as list, Map, End}
@@ -51,7 +51,7 @@ count_of_nodes texts [] = refl
 count_of_nodes texts (x ∷ xs) = omega (arith, one_of_node texts x, count_of_nodes texts xs)
 
 -- ---- what is read of a text
-abbrev of_read : Measure → at.At → List ℕ → ℕ
+abbrev of_read : Measure → at.ReaderState → List ℕ → ℕ
 of_read m at.TheVariants.Value b = 0
 of_read m at.TheVariants.FirstItem b = 0
 of_read m at.TheVariants.FirstName b = 0
@@ -62,7 +62,7 @@ of_read m (at.TheVariants.Quoted purpose mid) b = m.text b
 of_read m (at.TheVariants.Literal w) b = 0
 of_read m (at.TheVariants.Digits part) b = m.text b
 
-view_holds : (m : Measure) (a : at.At) (n : List Open) (b : List ℕ) (s : State) → IsAt a n (due_at a s) → of_state m s + of_read m a b ≤ of_state m (with_read a b (due_at a s))
+view_holds : (m : Measure) (a : at.ReaderState) (n : List Open) (b : List ℕ) (s : State) → IsAt a n (due_at a s) → of_state m s + of_read m a b ≤ of_state m (with_read a b (due_at a s))
 view_holds m at.TheVariants.Value n b s h = omega (arith, value_due_holds m s)
 view_holds m at.TheVariants.FirstItem n b s h = omega arith
 view_holds m at.TheVariants.FirstName n b s h = omega arith
@@ -89,7 +89,7 @@ state_holds m r fits =
     )
 
 -- the buffer has what the spans have, and what is read
-all_read : (a : at.At) (k : ℕ) (b : List ℕ) → k ≤ length b → length b ≤ read_from a k (length b) + of_read bytes a (drop k b)
+all_read : (a : at.ReaderState) (k : ℕ) (b : List ℕ) → k ≤ length b → length b ≤ read_from a k (length b) + of_read bytes a (drop k b)
 all_read at.TheVariants.Value k b h = omega arith
 all_read at.TheVariants.FirstItem k b h = omega arith
 all_read at.TheVariants.FirstName k b h = omega arith
@@ -101,7 +101,7 @@ all_read (at.TheVariants.Literal w) k b h = omega arith
 all_read (at.TheVariants.Digits part) k b h = omega (arith, length-drop k b)
 
 -- ---- both
-pub text_owned : (r : Reader) (p : List ℕ) → Fits r → run NESTING_LIMIT start p ≡ Some (state_view r) → length r.text.items ≤ inner p
+pub text_owned : (r : Reader) (p : List ℕ) → Fits r → run MAX_NESTING start p ≡ Some (state_view r) → length r.text.items ≤ inner p
 text_owned r p fits reached =
     omega (
       arith,
@@ -109,9 +109,9 @@ text_owned r p fits reached =
       fits.covered,
       bytes_of_nodes r.text.items r.nodes.items fits.tape.spans,
       state_holds bytes r fits,
-      bytes_paid NESTING_LIMIT (state_view r) p reached,
+      bytes_paid MAX_NESTING (state_view r) p reached,
     )
 
-pub nodes_owned : (r : Reader) (p : List ℕ) → Fits r → run NESTING_LIMIT start p ≡ Some (state_view r) → length r.nodes.items ≤ length p
+pub nodes_owned : (r : Reader) (p : List ℕ) → Fits r → run MAX_NESTING start p ≡ Some (state_view r) → length r.nodes.items ≤ length p
 nodes_owned r p fits reached =
-    omega (arith, count_of_nodes r.text.items r.nodes.items, state_holds nodes r fits, nodes_paid NESTING_LIMIT (state_view r) p reached)
+    omega (arith, count_of_nodes r.text.items r.nodes.items, state_holds nodes r fits, nodes_paid MAX_NESTING (state_view r) p reached)

@@ -12,15 +12,15 @@ use Rattle.mes_fixed.specs.declared.automaton.NumberState.{NumberState}
 use Rattle.mes_fixed.specs.declared.automaton.NumberState.TheVariants.{AtStart, AfterMinus, AfterZero, InWhole, AfterPoint, InFraction, AfterExponent, AfterSign, InExponent}
 use Rattle.mes_fixed.proofs.Letters.{LetterIs, letter_is}
 use Rattle.mes_json.specs.Tree.Tree.{null, boolean}
-use Rattle.mes_json.specs.Inner.{Stand, is_of_number, behind}
+use Rattle.mes_json.specs.Inner.{Stand, is_of_number, following}
 use Rattle.mes_json.specs.Inner.Stand.{outside, inside, escaped}
 use Rattle.mes_json.specs.Escape.{Escape}
 use Rattle.mes_json.specs.Escape.Escape.{backslash, unit0, unit1, unit2, unit3, high, high_backslash, low0, low1, low2, low3}
-use Rattle.mes_json.specs.Machine.{Kind, Token, Mid, At, State, kind_unless, kind_of}
-use Rattle.mes_json.specs.Machine.Kind.{blank, quote, opening, closing, opening_array, closing_array, colon, comma, other, begins}
+use Rattle.mes_json.specs.Machine.{ByteClass, Token, Utf8State, ReaderState, State, kind_unless, kind_of}
+use Rattle.mes_json.specs.Machine.ByteClass.{blank, quote, opening, closing, opening_array, closing_array, colon, comma, other, begins}
 use Rattle.mes_json.specs.Machine.Token.{literal, digits}
-use Rattle.mes_json.specs.Machine.Mid.{between, within, escape}
-use Rattle.mes_json.specs.Machine.At.{value, first_item, name, quoted, named, token, after}
+use Rattle.mes_json.specs.Machine.Utf8State.{between, within, escape}
+use Rattle.mes_json.specs.Machine.ReaderState.{value, first_item, name, quoted, named, token, after}
 use Rattle.mes_json.specs.Machine.State.{state}
 use Rattle.mes_json.proofs.SoundLemmas.{none_some, choose}
 use Rattle.mes_json.proofs.MeasureLemmas.{Measure, of_tree, of_state}
@@ -39,12 +39,12 @@ stand_in_escape (low1 h) = inside
 stand_in_escape (low2 h v) = inside
 stand_in_escape (low3 h v) = inside
 
-abbrev pub stand_in : Mid → Stand
+abbrev pub stand_in : Utf8State → Stand
 stand_in between = inside
 stand_in (within n least most) = inside
 stand_in (escape e) = stand_in_escape e
 
-abbrev pub stand_at : At → Stand
+abbrev pub stand_at : ReaderState → Stand
 stand_at value = outside
 stand_at first_item = outside
 stand_at (name ms) = outside
@@ -63,12 +63,12 @@ IsSoundToken m (literal e rest t) = (e ≢ 34) × AllByRecursion (λ c. c ≢ 34
 IsSoundToken m (digits part n) = Unit {0}
 
 -- what is due of a character is above ASCII
-abbrev pub IsSoundMid : Mid → Type 0
+abbrev pub IsSoundMid : Utf8State → Type 0
 IsSoundMid between = Unit {0}
 IsSoundMid (within n least most) = 128 ≤ least
 IsSoundMid (escape e) = Unit {0}
 
-abbrev pub IsSoundAt : Measure → At → Type 0
+abbrev pub IsSoundAt : Measure → ReaderState → Type 0
 IsSoundAt m value = Unit {0}
 IsSoundAt m first_item = Unit {0}
 IsSoundAt m (name ms) = Unit {0}
@@ -93,10 +93,10 @@ pub record Pays (m : Measure) (cost : Stand → ℕ → ℕ) : Type 0 where
 
 -- the byte c leads from one state to another one, and its cost covers what the second holds more than the first
 abbrev pub Paid : Measure → (Stand → ℕ → ℕ) → ℕ → State → State → Type 0
-Paid m cost c s next = (stand_of next ≡ behind (stand_of s) c) × (of_state m next ≤ of_state m s + cost (stand_of s) c) × IsSound m next
+Paid m cost c s next = (stand_of next ≡ following (stand_of s) c) × (of_state m next ≤ of_state m s + cost (stand_of s) c) × IsSound m next
 
 -- ---- a byte that begins no string
-pub stays : (c : ℕ) → c ≢ 34 → outside ≡ behind outside c
+pub stays : (c : ℕ) → c ≢ 34 → outside ≡ following outside c
 stays c no_quote = cond_both (c == 34) inside outside (λ x. outside ≡ x) (λ e. absurd (no_quote (eqb-true c 34 e))) (λ _. refl)
 
 letter_counts : (part next : NumberState) (l : Letter) (c : ℕ) → LetterIs l c → number_next part l ≡ Some next → is_of_number c ≡ true
@@ -130,17 +130,17 @@ abbrev pub IsBegun : Measure → Token → ℕ → Type 0
 IsBegun m (literal e rest t) c = IsSoundToken m (literal e rest t)
 IsBegun m (digits part n) c = (is_of_number c ≡ true) × (n ≡ c ∷ [])
 
-abbrev pub Tells : Measure → Kind → ℕ → Type 0
-Tells m blank c = c ≢ 34
-Tells m quote c = c ≡ 34
-Tells m opening c = c ≢ 34
-Tells m closing c = c ≢ 34
-Tells m opening_array c = c ≢ 34
-Tells m closing_array c = c ≢ 34
-Tells m colon c = c ≢ 34
-Tells m comma c = c ≢ 34
-Tells m other c = c ≢ 34
-Tells m (begins x) c = (c ≢ 34) × IsBegun m x c
+abbrev pub Reports : Measure → ByteClass → ℕ → Type 0
+Reports m blank c = c ≢ 34
+Reports m quote c = c ≡ 34
+Reports m opening c = c ≢ 34
+Reports m closing c = c ≢ 34
+Reports m opening_array c = c ≢ 34
+Reports m closing_array c = c ≢ 34
+Reports m colon c = c ≢ 34
+Reports m comma c = c ≢ 34
+Reports m other c = c ≢ 34
+Reports m (begins x) c = (c ≢ 34) × IsBegun m x c
 
 -- no quotation mark stands in a literal
 null_sound : (m : Measure) → IsSoundToken m (literal 0x75 (0x6C ∷ 0x6C ∷ []) null)
@@ -152,10 +152,10 @@ true_sound m = ((λ q. cc), ((λ q. cc), ((λ q. cc), tt)), refl)
 false_sound : (m : Measure) → IsSoundToken m (literal 0x61 (0x6C ∷ 0x73 ∷ 0x65 ∷ []) (boolean false))
 false_sound m = ((λ q. cc), ((λ q. cc), ((λ q. cc), ((λ q. cc), tt))), refl)
 
-kind_unless_tells : (m : Measure) (c : ℕ) (o : Option NumberState) → number_next AtStart (letter_of c) ≡ o → Tells m (kind_unless c o) c
+kind_unless_tells : (m : Measure) (c : ℕ) (o : Option NumberState) → number_next AtStart (letter_of c) ≡ o → Reports m (kind_unless c o) c
 kind_unless_tells m c (Some part) e = let counts = number_counts AtStart part c e in (foreign c counts, (counts, refl))
 kind_unless_tells m c None e =
-    let P = λ (k : Kind). Tells m k c in
+    let P = λ (k : ByteClass). Reports m k c in
     choose P (c == 34) quote _ (λ e. eqb-true c 34 e) (λ e. let n : c ≢ 34 = eqb-false c 34 e in
     choose P (c == 32 || c == 9 || c == 10 || c == 13) blank _ (λ _. n) (λ _.
     choose P (c == 123) opening _ (λ _. n) (λ _.
@@ -168,5 +168,5 @@ kind_unless_tells m c None e =
     choose P (c == 0x74) (begins (literal 0x72 (0x75 ∷ 0x65 ∷ []) (boolean true))) _ (λ _. (n, true_sound m)) (λ _.
     choose P (c == 0x66) (begins (literal 0x61 (0x6C ∷ 0x73 ∷ 0x65 ∷ []) (boolean false))) other (λ _. (n, false_sound m)) (λ _. n)))))))))))
 
-pub kind_tells : (m : Measure) (c : ℕ) → Tells m (kind_of c) c
+pub kind_tells : (m : Measure) (c : ℕ) → Reports m (kind_of c) c
 kind_tells m c = kind_unless_tells m c (number_next AtStart (letter_of c)) refl

@@ -8,17 +8,17 @@ use Rattle.mes_json.specs.Tree.{Tree, Members}
 use Rattle.mes_json.specs.Tree.Tree.{number}
 use Rattle.mes_json.specs.Tree.Items.{no_items}
 use Rattle.mes_json.specs.Tree.Members.{no_members, member}
-use Rattle.mes_json.specs.Inner.{Stand, behind}
+use Rattle.mes_json.specs.Inner.{Stand, following}
 use Rattle.mes_json.specs.Inner.Stand.{outside}
-use Rattle.mes_json.specs.Machine.{Frame, Kind, Token, State, step, run, start, kind_of, on_value, on_first_item, on_name, close_empty, on_named, on_after, close_object, close_array, next_of, due, on_token, on_digits}
+use Rattle.mes_json.specs.Machine.{Frame, ByteClass, Token, State, step, run, start, kind_of, on_value, on_first_item, on_name, close_empty, on_named, on_after, close_object, close_array, next_of, due, on_token, on_digits}
 use Rattle.mes_json.specs.Machine.Frame.{frame, array_frame}
-use Rattle.mes_json.specs.Machine.Kind.{blank, quote, opening, closing, opening_array, closing_array, colon, comma, other, begins}
+use Rattle.mes_json.specs.Machine.ByteClass.{blank, quote, opening, closing, opening_array, closing_array, colon, comma, other, begins}
 use Rattle.mes_json.specs.Machine.Token.{literal, digits}
-use Rattle.mes_json.specs.Machine.At.{value, first_item, name, quoted, named, token, after}
+use Rattle.mes_json.specs.Machine.ReaderState.{value, first_item, name, quoted, named, token, after}
 use Rattle.mes_json.specs.Machine.State.{state}
 use Rattle.mes_json.proofs.SoundLemmas.{some_is, none_some, pick}
 use Rattle.mes_json.proofs.MeasureLemmas.{Measure, of_state, with_item_adds, with_member_adds}
-use Rattle.mes_json.proofs.PaidLemmas.{stand_of, IsSound, IsSoundToken, Pays, Paid, stays, number_counts, foreign, IsBegun, Tells, kind_tells}
+use Rattle.mes_json.proofs.PaidLemmas.{stand_of, IsSound, IsSoundToken, Pays, Paid, stays, number_counts, foreign, IsBegun, Reports, kind_tells}
 use Rattle.mes_json.proofs.PaidStrings.{paid_quoted}
 
 -- the state that is reached
@@ -35,12 +35,12 @@ token_paid m cost fs (digits part b) c pays n begun = (
   tt,
 )
 
-on_value_paid : (m : Measure) (cost : Stand → ℕ → ℕ) (d : ℕ) (fs : List Frame) (k : Kind) (c : ℕ) (next : State) → Pays m cost → Tells m k c → on_value d fs k ≡ Some next
+on_value_paid : (m : Measure) (cost : Stand → ℕ → ℕ) (d : ℕ) (fs : List Frame) (k : ByteClass) (c : ℕ) (next : State) → Pays m cost → Reports m k c → on_value d fs k ≡ Some next
     → Paid m cost c (state fs value) next
 on_value_paid m cost d fs blank c next pays n e = reached m cost c (state fs value) _ next e (stays c n, omega arith, tt)
 on_value_paid m cost d fs quote c next pays n e =
     let paid : m.text [] ≤ cost outside c = subst (λ (x : ℕ). m.text [] ≤ cost outside x) (sym n) pays.none in
-    reached m cost c (state fs value) _ next e (sym (ap (behind outside) n), omega arith, tt)
+    reached m cost c (state fs value) _ next e (sym (ap (following outside) n), omega arith, tt)
 on_value_paid m cost d fs opening c next pays n e =
     elim (pick (nat_lt (length fs) d) _ _ next e) [
       | inl f ↦ reached m cost c (state fs value) _ next f.1 (stays c n, omega (arith, pays.mark c), tt)
@@ -59,12 +59,12 @@ on_value_paid m cost d fs other c next pays n e = none_some e
 on_value_paid m cost d fs (begins x) c next pays n e = reached m cost c (state fs value) _ next e (token_paid m cost fs x c pays n.0 n.1)
 
 -- an array's first item
-item_paid : (m : Measure) (cost : Stand → ℕ → ℕ) (d : ℕ) (fs : List Frame) (k : Kind) (c : ℕ) (next : State) → Pays m cost → Tells m k c
+item_paid : (m : Measure) (cost : Stand → ℕ → ℕ) (d : ℕ) (fs : List Frame) (k : ByteClass) (c : ℕ) (next : State) → Pays m cost → Reports m k c
     → on_value d (array_frame no_items ∷ fs) k ≡ Some next → Paid m cost c (state fs first_item) next
 item_paid m cost d fs k c next pays n e =
     let h = on_value_paid m cost d (array_frame no_items ∷ fs) k c next pays n e in (h.0, omega (arith, h.1), h.2)
 
-on_first_item_paid : (m : Measure) (cost : Stand → ℕ → ℕ) (d : ℕ) (fs : List Frame) (k : Kind) (c : ℕ) (next : State) → Pays m cost → Tells m k c → on_first_item d fs k ≡ Some next
+on_first_item_paid : (m : Measure) (cost : Stand → ℕ → ℕ) (d : ℕ) (fs : List Frame) (k : ByteClass) (c : ℕ) (next : State) → Pays m cost → Reports m k c → on_first_item d fs k ≡ Some next
     → Paid m cost c (state fs first_item) next
 on_first_item_paid m cost d fs blank c next pays n e = reached m cost c (state fs first_item) _ next e (stays c n, omega arith, tt)
 on_first_item_paid m cost d fs quote c next pays n e = item_paid m cost d fs quote c next pays n e
@@ -83,12 +83,12 @@ close_empty_paid : (m : Measure) (cost : Stand → ℕ → ℕ) (fs : List Frame
 close_empty_paid m cost fs no_members c next pays n e = reached m cost c (state fs (name no_members)) _ next e (stays c n, omega (arith, pays.mark c), tt)
 close_empty_paid m cost fs (member k t ms) c next pays n e = none_some e
 
-on_name_paid : (m : Measure) (cost : Stand → ℕ → ℕ) (fs : List Frame) (ms : Members) (k : Kind) (c : ℕ) (next : State) → Pays m cost → Tells m k c → on_name fs ms k ≡ Some next
+on_name_paid : (m : Measure) (cost : Stand → ℕ → ℕ) (fs : List Frame) (ms : Members) (k : ByteClass) (c : ℕ) (next : State) → Pays m cost → Reports m k c → on_name fs ms k ≡ Some next
     → Paid m cost c (state fs (name ms)) next
 on_name_paid m cost fs ms blank c next pays n e = reached m cost c (state fs (name ms)) _ next e (stays c n, omega arith, tt)
 on_name_paid m cost fs ms quote c next pays n e =
     let paid : m.text [] ≤ cost outside c = subst (λ (x : ℕ). m.text [] ≤ cost outside x) (sym n) pays.none in
-    reached m cost c (state fs (name ms)) _ next e (sym (ap (behind outside) n), omega arith, tt)
+    reached m cost c (state fs (name ms)) _ next e (sym (ap (following outside) n), omega arith, tt)
 on_name_paid m cost fs ms opening c next pays n e = none_some e
 on_name_paid m cost fs ms closing c next pays n e = close_empty_paid m cost fs ms c next pays n e
 on_name_paid m cost fs ms opening_array c next pays n e = none_some e
@@ -98,7 +98,7 @@ on_name_paid m cost fs ms comma c next pays n e = none_some e
 on_name_paid m cost fs ms other c next pays n e = none_some e
 on_name_paid m cost fs ms (begins x) c next pays n e = none_some e
 
-on_named_paid : (m : Measure) (cost : Stand → ℕ → ℕ) (fs : List Frame) (ms : Members) (b : List ℕ) (k : Kind) (c : ℕ) (next : State) → Tells m k c → on_named fs ms b k ≡ Some next
+on_named_paid : (m : Measure) (cost : Stand → ℕ → ℕ) (fs : List Frame) (ms : Members) (b : List ℕ) (k : ByteClass) (c : ℕ) (next : State) → Reports m k c → on_named fs ms b k ≡ Some next
     → Paid m cost c (state fs (named ms b)) next
 on_named_paid m cost fs ms b blank c next n e = reached m cost c (state fs (named ms b)) _ next e (stays c n, omega arith, tt)
 on_named_paid m cost fs ms b quote c next n e = none_some e
@@ -130,7 +130,7 @@ next_of_paid m cost [] t c next n e = none_some e
 next_of_paid m cost (frame ms k ∷ fs) t c next n e = reached m cost c (state (frame ms k ∷ fs) (after t)) _ next e (stays c n, omega (arith, with_member_adds m ms k t), tt)
 next_of_paid m cost (array_frame ts ∷ fs) t c next n e = reached m cost c (state (array_frame ts ∷ fs) (after t)) _ next e (stays c n, omega (arith, with_item_adds m ts t), tt)
 
-on_after_paid : (m : Measure) (cost : Stand → ℕ → ℕ) (fs : List Frame) (t : Tree) (k : Kind) (c : ℕ) (next : State) → Pays m cost → Tells m k c → on_after fs t k ≡ Some next
+on_after_paid : (m : Measure) (cost : Stand → ℕ → ℕ) (fs : List Frame) (t : Tree) (k : ByteClass) (c : ℕ) (next : State) → Pays m cost → Reports m k c → on_after fs t k ≡ Some next
     → Paid m cost c (state fs (after t)) next
 on_after_paid m cost fs t blank c next pays n e = reached m cost c (state fs (after t)) _ next e (stays c n, omega arith, tt)
 on_after_paid m cost fs t quote c next pays n e = none_some e
@@ -183,7 +183,7 @@ paid_step m cost d (state fs (after t)) next c pays sound e = on_after_paid m co
 -- what bytes cost
 abbrev pub spent : (Stand → ℕ → ℕ) → Stand → List ℕ → ℕ
 spent cost place [] = 0
-spent cost place (c ∷ b) = cost place c + spent cost (behind place c) b
+spent cost place (c ∷ b) = cost place c + spent cost (following place c) b
 
 paid_on : (m : Measure) (cost : Stand → ℕ → ℕ) (d : ℕ) (s last : State) (b : List ℕ) → Pays m cost → IsSound m s → run d s b ≡ Some last
     → of_state m last ≤ of_state m s + spent cost (stand_of s) b
@@ -194,7 +194,7 @@ paid_on m cost d s last (c ∷ b) pays sound e =
   where
     by : (o : Option State) → option_and_then (λ next. run d next b) o ≡ Some last
         → ((next : State) → step d s c ≡ Some next → run d next b ≡ Some last → Paid m cost c s next × (of_state m last ≤ of_state m next + spent cost (stand_of next) b))
-        → step d s c ≡ o → of_state m last ≤ of_state m s + (cost (stand_of s) c + spent cost (behind (stand_of s) c) b)
+        → step d s c ≡ o → of_state m last ≤ of_state m s + (cost (stand_of s) c + spent cost (following (stand_of s) c) b)
     by None f go is = none_some f
     by (Some next) f go is =
         let h = go next is f in

@@ -4,15 +4,15 @@ use Rattle.std.proofs.Common.{◌≡◌, ◌≢◌, ℕ, zero, suc, ◌+◌, ◌
 use Rattle.std.proofs.lemmas.Bool.{cond_both, eqb-false}
 use Rattle.std.proofs.lemmas.Bool.Decides.{nat_tests}
 use Rattle.std.proofs.lemmas.Str.{length-encode, len_utf8_ascii, len_utf8_bounds}
-use Rattle.mes_json.specs.Inner.{Stand, behind}
+use Rattle.mes_json.specs.Inner.{Stand, following}
 use Rattle.mes_json.specs.Inner.Stand.{outside, inside, escaped}
 use Rattle.mes_json.specs.Escape.{Escape, Move, hex_of, by_hex, short_of, pair_of, escape_step}
 use Rattle.mes_json.specs.Escape.Escape.{backslash, unit0, unit1, unit2, unit3, high, high_backslash, low0, low1, low2, low3}
 use Rattle.mes_json.specs.Escape.Move.{on, makes, refused}
-use Rattle.mes_json.specs.Machine.{Frame, Purpose, Mid, State, lead, after_byte, on_quoted, in_string, in_escape, end_string}
+use Rattle.mes_json.specs.Machine.{Frame, Purpose, Utf8State, State, lead, after_byte, on_quoted, in_string, in_escape, end_string}
 use Rattle.mes_json.specs.Machine.Purpose.{for_name, for_value}
-use Rattle.mes_json.specs.Machine.Mid.{between, within, escape}
-use Rattle.mes_json.specs.Machine.At.{quoted}
+use Rattle.mes_json.specs.Machine.Utf8State.{between, within, escape}
+use Rattle.mes_json.specs.Machine.ReaderState.{quoted}
 use Rattle.mes_json.specs.Machine.State.{state}
 use Rattle.mes_json.proofs.SoundLemmas.{some_is, none_some, pick}
 use Rattle.mes_json.proofs.MeasureLemmas.{Measure, of_frames, of_purpose, of_escape, of_mid}
@@ -21,7 +21,7 @@ use Rattle.mes_json.proofs.PaidLemmas.{stand_in_escape, stand_in, IsSoundMid, Pa
 -- ---- escapes
 -- where the byte c stands, another one stands inside behind it
 abbrev Goes : Stand → ℕ → Type 0
-Goes place c = inside ≡ behind place c
+Goes place c = inside ≡ following place c
 
 -- a byte inside that is no quotation mark and no backslash
 within_string : (c : ℕ) → c ≢ 34 → c ≢ 92 → Goes inside c
@@ -31,8 +31,8 @@ within_string c q b =
 
 -- what an escape's byte leads to: the byte behind it stands where the machine says, and no more is made than is read
 abbrev Leads : Escape → ℕ → Move → Type 0
-Leads e c (on next) = (stand_in_escape next ≡ behind (stand_in_escape e) c) × (of_escape next ≤ of_escape e + 1)
-Leads e c (makes v) = (inside ≡ behind (stand_in_escape e) c) × (length (encode_utf8 v) ≤ of_escape e + 1)
+Leads e c (on next) = (stand_in_escape next ≡ following (stand_in_escape e) c) × (of_escape next ≤ of_escape e + 1)
+Leads e c (makes v) = (inside ≡ following (stand_in_escape e) c) × (length (encode_utf8 v) ≤ of_escape e + 1)
 Leads e c refused = Unit {0}
 
 short : (v : ℕ) → v < 128 → length (encode_utf8 v) ≤ 2
@@ -75,7 +75,7 @@ escape_leads (unit2 v) c = by_digit (unit2 v) c _ (λ x g. (g, omega arith))
 escape_leads (unit3 v) c =
     by_digit (unit3 v) c _ (λ x g. cond_both (nat_le 0xD800 (v * 16 + x) && nat_le (v * 16 + x) 0xDBFF) (on (high (v * 16 + x))) (makes (v * 16 + x)) (λ y. Leads (unit3 v) c y)
     (λ _. (g, omega arith)) (λ _. (g, long (v * 16 + x) _ (omega arith))))
-escape_leads (high h) c = by_byte (high h) c 92 _ (λ is. (sym (ap (behind inside) is), omega arith))
+escape_leads (high h) c = by_byte (high h) c 92 _ (λ is. (sym (ap (following inside) is), omega arith))
 escape_leads (high_backslash h) c = by_byte (high_backslash h) c 117 _ (λ is. (refl, omega arith))
 escape_leads (low0 h) c = by_digit (low0 h) c _ (λ x g. cond_both (x == 13) (on (low1 h)) refused (λ y. Leads (low0 h) c y) (λ _. (g, omega arith)) (λ _. tt))
 escape_leads (low1 h) c = by_digit (low1 h) c _ (λ x g. cond_both (nat_le 12 x) (on (low2 h (13 * 16 + x))) refused (λ y. Leads (low1 h) c y) (λ _. (g, omega arith)) (λ _. tt))
@@ -84,11 +84,11 @@ escape_leads (low3 h v) c = by_digit (low3 h v) c _ (λ x g. (g, long (pair_of h
 
 -- ---- a byte in a string
 -- a character's first byte leads into it, or behind it
-IsIn : Option Mid → Type 0
+IsIn : Option Utf8State → Type 0
 IsIn None = Unit {0}
 IsIn (Some mid) = (stand_in mid ≡ inside) × (of_mid mid ≡ 0) × IsSoundMid mid
 
-either : (t : Bool) (o u : Option Mid) → IsIn o → IsIn u → IsIn (if t then o else u)
+either : (t : Bool) (o u : Option Utf8State) → IsIn o → IsIn u → IsIn (if t then o else u)
 either true o u h k = h
 either false o u h k = k
 
@@ -105,17 +105,17 @@ after_byte_in (suc zero) = (refl, refl, tt)
 after_byte_in (suc (suc n)) = (refl, refl, omega arith)
 
 -- the byte is kept
-byte_paid : (m : Measure) (cost : Stand → ℕ → ℕ) (fs : List Frame) (p : Purpose) (from to : Mid) (s : List ℕ) (c : ℕ) → Pays m cost → stand_in from ≡ inside → of_mid from ≡ 0 → c ≢ 34 → c ≢ 92
+byte_paid : (m : Measure) (cost : Stand → ℕ → ℕ) (fs : List Frame) (p : Purpose) (from to : Utf8State) (s : List ℕ) (c : ℕ) → Pays m cost → stand_in from ≡ inside → of_mid from ≡ 0 → c ≢ 34 → c ≢ 92
     → (stand_in to ≡ inside) × (of_mid to ≡ 0) × IsSoundMid to
     → Paid m cost c (state fs (quoted p from s)) (state fs (quoted p to (s ++ c ∷ [])))
-byte_paid m cost fs p from to s c pays stands none q b is = (
-  is.0 ∙ within_string c q b ∙ ap (λ (x : Stand). behind x c) (sym stands),
-  subst (λ (x : Stand). of_frames m fs + (of_purpose m p + m.text (s ++ c ∷ []) + of_mid to) ≤ of_frames m fs + (of_purpose m p + m.text s + of_mid from) + cost x c) (sym stands)
+byte_paid m cost fs p from to s c pays represents none q b is = (
+  is.0 ∙ within_string c q b ∙ ap (λ (x : Stand). following x c) (sym represents),
+  subst (λ (x : Stand). of_frames m fs + (of_purpose m p + m.text (s ++ c ∷ []) + of_mid to) ≤ of_frames m fs + (of_purpose m p + m.text s + of_mid from) + cost x c) (sym represents)
       (omega (arith, pays.more s (c ∷ []), pays.in_string c q, is.1, none)),
   is.2,
 )
 
-in_string_paid : (m : Measure) (cost : Stand → ℕ → ℕ) (fs : List Frame) (p : Purpose) (s : List ℕ) (c : ℕ) (next : State) (o : Option Mid) → Pays m cost → c ≢ 34 → c ≢ 92 → IsIn o
+in_string_paid : (m : Measure) (cost : Stand → ℕ → ℕ) (fs : List Frame) (p : Purpose) (s : List ℕ) (c : ℕ) (next : State) (o : Option Utf8State) → Pays m cost → c ≢ 34 → c ≢ 92 → IsIn o
     → in_string fs p s c o ≡ Some next → Paid m cost c (state fs (quoted p between s)) next
 unfolding IsIn
 in_string_paid m cost fs p s c next None pays q b is e = none_some e
@@ -124,12 +124,12 @@ in_string_paid m cost fs p s c next (Some mid) pays q b is e =
 
 -- the string ends
 end_paid : (m : Measure) (cost : Stand → ℕ → ℕ) (fs : List Frame) (p : Purpose) (s : List ℕ) (c : ℕ) → c ≡ 34 → Paid m cost c (state fs (quoted p between s)) (end_string fs p s)
-end_paid m cost fs (for_name ms) s c is = (sym (ap (behind inside) is), omega arith, tt)
-end_paid m cost fs for_value s c is = (sym (ap (behind inside) is), omega arith, tt)
+end_paid m cost fs (for_name ms) s c is = (sym (ap (following inside) is), omega arith, tt)
+end_paid m cost fs for_value s c is = (sym (ap (following inside) is), omega arith, tt)
 
 backslash_paid : (m : Measure) (cost : Stand → ℕ → ℕ) (fs : List Frame) (p : Purpose) (s : List ℕ) (c : ℕ) → Pays m cost → c ≢ 34 → c ≡ 92
     → Paid m cost c (state fs (quoted p between s)) (state fs (quoted p (escape backslash) s))
-backslash_paid m cost fs p s c pays q is = (sym (ap (behind inside) is), omega (arith, pays.in_string c q), tt)
+backslash_paid m cost fs p s c pays q is = (sym (ap (following inside) is), omega (arith, pays.in_string c q), tt)
 
 -- ---- a byte of an escape
 escape_costs : (m : Measure) (cost : Stand → ℕ → ℕ) (e : Escape) (c : ℕ) → Pays m cost → (stand_in_escape e ≡ inside → c ≢ 34) → 1 ≤ cost (stand_in_escape e) c
@@ -146,8 +146,8 @@ escape_costs m cost (low2 h v) c pays q = pays.in_string c (q refl)
 escape_costs m cost (low3 h v) c pays q = pays.in_string c (q refl)
 
 -- behind a quotation mark no byte stands inside a string that stood inside it
-no_quote : (c : ℕ) (place next : Stand) → place ≡ inside → (next ≡ outside → ⊥) → next ≡ behind place c → c ≢ 34
-no_quote c place next inside_is other goes is = other (goes ∙ ap (λ (x : Stand). behind x c) inside_is ∙ ap (behind inside) is)
+no_quote : (c : ℕ) (place next : Stand) → place ≡ inside → (next ≡ outside → ⊥) → next ≡ following place c → c ≢ 34
+no_quote c place next inside_is other goes is = other (goes ∙ ap (λ (x : Stand). following x c) inside_is ∙ ap (following inside) is)
 
 in_some_string : (e : Escape) → stand_in_escape e ≡ outside → ⊥
 in_some_string backslash is = cc
@@ -173,7 +173,7 @@ in_escape_paid m cost fs p e s c next (makes v) pays leads is =
 in_escape_paid m cost fs p e s c next refused pays leads is = none_some is
 
 -- ---- all of them
-pub paid_quoted : (m : Measure) (cost : Stand → ℕ → ℕ) (fs : List Frame) (p : Purpose) (mid : Mid) (s : List ℕ) (c : ℕ) (next : State) → Pays m cost → IsSoundMid mid
+pub paid_quoted : (m : Measure) (cost : Stand → ℕ → ℕ) (fs : List Frame) (p : Purpose) (mid : Utf8State) (s : List ℕ) (c : ℕ) (next : State) → Pays m cost → IsSoundMid mid
     → on_quoted fs p mid s c ≡ Some next → Paid m cost c (state fs (quoted p mid s)) next
 paid_quoted m cost fs p between s c next pays sound e =
     elim (pick (c == 34) _ _ next e) [

@@ -13,28 +13,28 @@ use Rattle.mes_json.specs.Tree.Members.{no_members, member}
 use Rattle.mes_json.specs.Tokens.{Token, tokens, tokens_of_items, tokens_of_members}
 use Rattle.mes_json.specs.Tokens.Token.{ends}
 use Rattle.mes_json.specs.Cursor.{token_of, tokens_held}
-use Rattle.mes_json.specs.Passing.{depth_behind, by_depth, behind}
+use Rattle.mes_json.specs.Passing.{depth_after, by_depth, following}
 use Rattle.mes_json.specs.declared.tape.Node.{Node}
 use Rattle.mes_json.specs.declared.tape.Node.TheVariants.{Null, Bool, Number, Text, Name, List as list, Map, End}
 
 mutual
-  pub over_value : (t : Tree) (n : ℕ) (rest : List Token) → behind n (tokens t ++ rest) ≡ by_depth n rest (behind n rest)
+  pub over_value : (t : Tree) (n : ℕ) (rest : List Token) → following n (tokens t ++ rest) ≡ by_depth n rest (following n rest)
   over_value null n rest = refl
   over_value (boolean x) n rest = refl
   over_value (number s) n rest = refl
   over_value (string s) n rest = refl
-  over_value (array ts) n rest = ap (behind (suc n)) (append_assoc (tokens_of_items ts) (ends ∷ []) rest) ∙ over_items ts n (ends ∷ rest)
-  over_value (object ms) n rest = ap (behind (suc n)) (append_assoc (tokens_of_members ms) (ends ∷ []) rest) ∙ over_members ms n (ends ∷ rest)
+  over_value (array ts) n rest = ap (following (suc n)) (append_assoc (tokens_of_items ts) (ends ∷ []) rest) ∙ over_items ts n (ends ∷ rest)
+  over_value (object ms) n rest = ap (following (suc n)) (append_assoc (tokens_of_members ms) (ends ∷ []) rest) ∙ over_members ms n (ends ∷ rest)
 
-  over_items : (ts : Items) (n : ℕ) (rest : List Token) → behind (suc n) (tokens_of_items ts ++ rest) ≡ behind (suc n) rest
+  over_items : (ts : Items) (n : ℕ) (rest : List Token) → following (suc n) (tokens_of_items ts ++ rest) ≡ following (suc n) rest
   over_items no_items n rest = refl
   over_items (item t ts) n rest =
-      ap (behind (suc n)) (append_assoc (tokens t) (tokens_of_items ts) rest) ∙ over_value t (suc n) (tokens_of_items ts ++ rest) ∙ over_items ts n rest
+      ap (following (suc n)) (append_assoc (tokens t) (tokens_of_items ts) rest) ∙ over_value t (suc n) (tokens_of_items ts ++ rest) ∙ over_items ts n rest
 
-  over_members : (ms : Members) (n : ℕ) (rest : List Token) → behind (suc n) (tokens_of_members ms ++ rest) ≡ behind (suc n) rest
+  over_members : (ms : Members) (n : ℕ) (rest : List Token) → following (suc n) (tokens_of_members ms ++ rest) ≡ following (suc n) rest
   over_members no_members n rest = refl
   over_members (member m t ms) n rest =
-      ap (behind (suc n)) (append_assoc (tokens t) (tokens_of_members ms) rest) ∙ over_value t (suc n) (tokens_of_members ms ++ rest) ∙ over_members ms n rest
+      ap (following (suc n)) (append_assoc (tokens t) (tokens_of_members ms) rest) ∙ over_value t (suc n) (tokens_of_members ms ++ rest) ∙ over_members ms n rest
 
 -- the node at i, and those behind it
 pub held_at : (texts : List ℕ) (xs : List Node) (i : ℕ) (x : Node) → i < length xs
@@ -43,14 +43,14 @@ held_at texts xs i x inside =
     drop_more (tokens_held texts xs) i (token_of texts x) (omega (arith, length-map xs (token_of texts)))
     ∙ ap (λ (y : Token). y ∷ drop (i + 1) (tokens_held texts xs)) (get_or-map (token_of texts) xs i x (token_of texts x) inside)
 
-one_more : (texts : List ℕ) (xs : List Node) (i : ℕ) (x : Node) (n now : ℕ) → i < length xs → now ≡ depth_behind n (token_of texts (get_or xs i x))
-    → behind n (drop i (tokens_held texts xs)) ≡ by_depth now (drop (i + 1) (tokens_held texts xs)) (behind now (drop (i + 1) (tokens_held texts xs)))
+one_more : (texts : List ℕ) (xs : List Node) (i : ℕ) (x : Node) (n now : ℕ) → i < length xs → now ≡ depth_after n (token_of texts (get_or xs i x))
+    → following n (drop i (tokens_held texts xs)) ≡ by_depth now (drop (i + 1) (tokens_held texts xs)) (following now (drop (i + 1) (tokens_held texts xs)))
 one_more texts xs i x n now inside is =
-    ap (behind n) (held_at texts xs i x inside)
-    ∙ ap (λ (m : ℕ). by_depth m (drop (i + 1) (tokens_held texts xs)) (behind m (drop (i + 1) (tokens_held texts xs)))) (sym is)
+    ap (following n) (held_at texts xs i x inside)
+    ∙ ap (λ (m : ℕ). by_depth m (drop (i + 1) (tokens_held texts xs)) (following m (drop (i + 1) (tokens_held texts xs)))) (sym is)
 
 -- no more is open than there are nodes
-pub depth_within : (x : Node) (i n now : ℕ) → n ≤ i → now ≡ depth_behind n (token_of [] x) → now ≤ i + 1
+pub depth_within : (x : Node) (i n now : ℕ) → n ≤ i → now ≡ depth_after n (token_of [] x) → now ≤ i + 1
 depth_within Null i n now h is = omega arith
 depth_within (Bool b) i n now h is = omega arith
 depth_within (Number from to) i n now h is = omega arith
@@ -65,22 +65,22 @@ by_some zero xs ys some = absurd (some refl)
 by_some (suc n) xs ys some = refl
 
 -- one more node leaves nothing open
-pub over_last : (texts : List ℕ) (xs : List Node) (i : ℕ) (x : Node) (n now : ℕ) → i < length xs → now ≡ depth_behind n (token_of texts (get_or xs i x)) → now ≡ 0
-    → behind n (drop i (tokens_held texts xs)) ≡ drop (i + 1) (tokens_held texts xs)
+pub over_last : (texts : List ℕ) (xs : List Node) (i : ℕ) (x : Node) (n now : ℕ) → i < length xs → now ≡ depth_after n (token_of texts (get_or xs i x)) → now ≡ 0
+    → following n (drop i (tokens_held texts xs)) ≡ drop (i + 1) (tokens_held texts xs)
 over_last texts xs i x n now inside is none =
-    one_more texts xs i x n now inside is ∙ ap (λ (m : ℕ). by_depth m (drop (i + 1) (tokens_held texts xs)) (behind m (drop (i + 1) (tokens_held texts xs)))) none
+    one_more texts xs i x n now inside is ∙ ap (λ (m : ℕ). by_depth m (drop (i + 1) (tokens_held texts xs)) (following m (drop (i + 1) (tokens_held texts xs)))) none
 
 -- one more node, and something is open
-pub over_one : (texts : List ℕ) (xs : List Node) (i : ℕ) (x : Node) (n now : ℕ) → i < length xs → now ≡ depth_behind n (token_of texts (get_or xs i x)) → now ≢ 0
-    → behind n (drop i (tokens_held texts xs)) ≡ behind now (drop (i + 1) (tokens_held texts xs))
+pub over_one : (texts : List ℕ) (xs : List Node) (i : ℕ) (x : Node) (n now : ℕ) → i < length xs → now ≡ depth_after n (token_of texts (get_or xs i x)) → now ≢ 0
+    → following n (drop i (tokens_held texts xs)) ≡ following now (drop (i + 1) (tokens_held texts xs))
 over_one texts xs i x n now inside is some = one_more texts xs i x n now inside is ∙ by_some now _ _ some
 
 -- no node is left
-pub over_none : (texts : List ℕ) (xs : List Node) (i n : ℕ) → length xs ≤ i → behind n (drop i (tokens_held texts xs)) ≡ drop (length xs) (tokens_held texts xs)
+pub over_none : (texts : List ℕ) (xs : List Node) (i n : ℕ) → length xs ≤ i → following n (drop i (tokens_held texts xs)) ≡ drop (length xs) (tokens_held texts xs)
 over_none texts xs i n is =
     let all : drop i (tokens_held texts xs) ≡ [] = drop_all i (tokens_held texts xs) (omega (arith, length-map xs (token_of texts))) in
     let whole : drop (length xs) (tokens_held texts xs) ≡ [] = drop_all (length xs) (tokens_held texts xs) (omega (arith, length-map xs (token_of texts))) in
-    ap (behind n) all ∙ sym whole
+    ap (following n) all ∙ sym whole
 
 -- the nodes from a place on
 pub held_rest : (texts : List ℕ) (xs : List Node) (i : ℕ) → tokens_held texts (take (length xs - i) (drop i xs)) ≡ drop i (tokens_held texts xs)
@@ -91,11 +91,11 @@ by_depth_within zero xs ys h = omega arith
 by_depth_within (suc n) xs ys h = h
 
 -- no more tokens are left than there were
-pub behind_within : (n : ℕ) (xs : List Token) → length (behind n xs) ≤ length xs
+pub behind_within : (n : ℕ) (xs : List Token) → length (following n xs) ≤ length xs
 behind_within n [] = lit≤ tt
 behind_within n (x ∷ xs) =
-    let within = by_depth_within (depth_behind n x) xs (behind (depth_behind n x) xs) (behind_within (depth_behind n x) xs) in omega (arith, within)
+    let within = by_depth_within (depth_after n x) xs (following (depth_after n x) xs) (behind_within (depth_after n x) xs) in omega (arith, within)
 
 -- and fewer, where there were some
-pub behind_first : (n : ℕ) (x : Token) (xs : List Token) → length (behind n (x ∷ xs)) ≤ length xs
-behind_first n x xs = by_depth_within (depth_behind n x) xs (behind (depth_behind n x) xs) (behind_within (depth_behind n x) xs)
+pub behind_first : (n : ℕ) (x : Token) (xs : List Token) → length (following n (x ∷ xs)) ≤ length xs
+behind_first n x xs = by_depth_within (depth_after n x) xs (following (depth_after n x) xs) (behind_within (depth_after n x) xs)

@@ -9,8 +9,8 @@ use Rattle.mes_json.specs.Machine.{State, start, step, run, finish}
 use Rattle.std.proofs.lemmas.Bool.{cases_lt}
 use Rattle.std.proofs.Common.{inl, inr}
 use Rattle.mes_json.specs.declared.fault.TextFault.{TextFault}
-use Rattle.mes_json.specs.declared.fault.Why.{Why}
-use Rattle.mes_json.specs.declared.fault.Why.TheVariants.{End, Depth, Byte}
+use Rattle.mes_json.specs.declared.fault.TextFaultKind.{TextFaultKind}
+use Rattle.mes_json.specs.declared.fault.TextFaultKind.TheVariants.{End, Depth, Byte}
 use Rattle.mes_json.proofs.RunLemmas.{run_none, run_take}
 use Rattle.mes_json.proofs.SoundLemmas.{none_some}
 use Rattle.mes_json.proofs.CompleteLemmas.{complete_text}
@@ -27,7 +27,7 @@ stuck_after : (d : ℕ) (b : List ℕ) (n m : ℕ) (s : State) → n < length b 
 stuck_after d b n m s l e f k =
     ap (run d start) (sym (further_in b n m k)) ∙ run_none d start (take (n + 1) b) (drop (n + 1) (take m b)) (run_take d start s b n l e ∙ f)
 
-reason : (d : ℕ) (b : List ℕ) (n : ℕ) (s : State) (why : Why) → n < length b → run d start (take n b) ≡ Some s → IsRefusal d why s (get_or b n 0) → IsReason d b n why
+reason : (d : ℕ) (b : List ℕ) (n : ℕ) (s : State) (why : TextFaultKind) → n < length b → run d start (take n b) ≡ Some s → IsRefusal d why s (get_or b n 0) → IsReason d b n why
 reason d b n s End l e h = absurd h
 reason d b n s Depth l e h = (l, begins_from_run (d + 1) h.0 (take (n + 1) b) (run_take (d + 1) start s b n l (run_deeper d start s (take n b) e) ∙ h.1))
 reason d b n s Byte l e h = (l, none_begins (d + 1) (take (n + 1) b) (run_take (d + 1) start s b n l (run_deeper d start s (take n b) e) ∙ h))
@@ -45,7 +45,7 @@ no_text d b n s l e stuck t h =
 pub no_text_ended : (d : ℕ) (b : List ℕ) (s : State) → run d start b ≡ Some s → finish s ≡ None → (t : Tree) → IsText d b t → ⊥
 no_text_ended d b s e f t h = none_some (sym f ∙ finished_only d b s t e h)
 
-pub refused : (d : ℕ) (b : List ℕ) (n : ℕ) (s : State) (why : Why) → n < length b → run d start (take n b) ≡ Some s → Refuses d why s (get_or b n 0) → IsFault d b (record { byte = n; why = why })
+pub refused : (d : ℕ) (b : List ℕ) (n : ℕ) (s : State) (why : TextFaultKind) → n < length b → run d start (take n b) ≡ Some s → Refuses d why s (get_or b n 0) → IsFault d b (record { byte = n; why = why })
 refused d b n s why l e h = record {
   no_text = no_text d b n s l e h.stuck;
   begins = begins_from_run d s (take n b) e;
@@ -70,7 +70,7 @@ empty_fault d = ended d [] start refl refl
 
 -- ---- one reading
 -- the place stands within the bytes
-pub place_within : (d : ℕ) (b : List ℕ) (n : ℕ) (why : Why) → IsReason d b n why → n ≤ length b
+pub place_within : (d : ℕ) (b : List ℕ) (n : ℕ) (why : TextFaultKind) → IsReason d b n why → n ≤ length b
 place_within d b n End reason = omega (arith, reason)
 place_within d b n Depth reason = omega (arith, reason.0)
 place_within d b n Byte reason = omega (arith, reason.0)
@@ -84,7 +84,7 @@ same_place d b f g is other = elim (cases_lt f.byte g.byte) [
   ]
 ]
 
-same_reason : (d : ℕ) (b : List ℕ) (n : ℕ) (why other : Why) → IsReason d b n why → IsReason d b n other → why ≡ other
+same_reason : (d : ℕ) (b : List ℕ) (n : ℕ) (why other : TextFaultKind) → IsReason d b n why → IsReason d b n other → why ≡ other
 same_reason d b n End End is at = refl
 same_reason d b n End Depth is at = absurd (omega (arith, is, at.0))
 same_reason d b n End Byte is at = absurd (omega (arith, is, at.0))

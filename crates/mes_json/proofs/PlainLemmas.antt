@@ -11,33 +11,33 @@ use Rattle.mes_json.specs.Machine.{Frame, State, step, run}
 use Rattle.mes_json.specs.Machine.Frame.{frame}
 use Rattle.mes_json.specs.Machine.State.{state}
 use Rattle.mes_json.specs.Tape.{value_due}
-use Rattle.mes_json.specs.Reader.{with_read, AtColon, AtValue, IsAt, Fits, Reached, Keeps, Puts, RunsTo, StandAlone, string_node, behind_string}
-use Rattle.mes_json.specs.declared.limits.TheConstants.{NESTING_LIMIT}
+use Rattle.mes_json.specs.Reader.{with_read, AtColon, AtValue, IsAt, Fits, Reached, Keeps, Puts, RunsTo, StandAlone, string_node, following_string}
+use Rattle.mes_json.specs.declared.limits.TheConstants.{MAX_NESTING}
 use Rattle.mes_json.specs.declared.nesting.Open.{Open}
-use Rattle.mes_json.specs.declared.utf8.Mid as mid
-use Rattle.mes_json.specs.declared.at.Purpose as purpose
-use Rattle.mes_json.specs.declared.at.At as at
+use Rattle.mes_json.specs.declared.utf8.Utf8State as mid
+use Rattle.mes_json.specs.declared.reader_state.Purpose as purpose
+use Rattle.mes_json.specs.declared.reader_state.ReaderState as at
 use Rattle.mes_json.specs.declared.reader.Reader.{Reader}
 use Rattle.mes_json.proofs.ReaderLemmas.{part, due, view_at, form_at, covered_at}
 use Rattle.mes_json.proofs.TakenLemmas.{rest_is, runs_over, nothing_taken, none_kept, one_more}
 use Rattle.mes_json.proofs.StringLemmas.{string_ends}
 
-abbrev pub inside : purpose.Purpose → at.At
+abbrev pub inside : purpose.Purpose → at.ReaderState
 inside p = at.TheVariants.Quoted p mid.TheVariants.Between
 
 -- bytes of a string between whole characters that add these bytes to it
 abbrev pub Spells : List ℕ → List ℕ → Type 0
 Spells q made = (fs : List Frame) (p : m.Purpose) (b : List ℕ)
-    → run NESTING_LIMIT (state fs (m.At.quoted p m.Mid.between b)) q ≡ Some (state fs (m.At.quoted p m.Mid.between (b ++ made)))
+    → run MAX_NESTING (state fs (m.ReaderState.quoted p m.Utf8State.between b)) q ≡ Some (state fs (m.ReaderState.quoted p m.Utf8State.between (b ++ made)))
 
 pub spelled_run : (p : purpose.Purpose) (n : List Open) (b q made : List ℕ) (s : State) → IsAt (inside p) n s → Spells q made
-    → run NESTING_LIMIT (with_read (inside p) b s) q ≡ Some (with_read (inside p) (b ++ made) s)
+    → run MAX_NESTING (with_read (inside p) b s) q ≡ Some (with_read (inside p) (b ++ made) s)
 spelled_run purpose.TheVariants.Name n b q made s h spells =
-    ap (λ (t : State). run NESTING_LIMIT (with_read (inside purpose.TheVariants.Name) b t) q) h.is
+    ap (λ (t : State). run MAX_NESTING (with_read (inside purpose.TheVariants.Name) b t) q) h.is
     ∙ spells h.frames (m.Purpose.for_name h.members) b
     ∙ ap (λ (t : State). Some (with_read (inside purpose.TheVariants.Name) (b ++ made) t)) (sym h.is)
 spelled_run purpose.TheVariants.Value n b q made s h spells =
-    ap (λ (t : State). run NESTING_LIMIT (with_read (inside purpose.TheVariants.Value) b t) q) h.is
+    ap (λ (t : State). run MAX_NESTING (with_read (inside purpose.TheVariants.Value) b t) q) h.is
     ∙ spells h.frames m.Purpose.for_value b
     ∙ ap (λ (t : State). Some (with_read (inside purpose.TheVariants.Value) (b ++ made) t)) (sym h.is)
 
@@ -69,7 +69,7 @@ few_taken old new p b from n fits is_at few block alone keeps =
     (subst (λ (x : List ℕ). StandAlone (take n x)) (sym same) alone) keeps
 
 -- the quotation mark that ends a string
-pub string_taken : (old new : Reader) (p : purpose.Purpose) (b : List ℕ) (from : ℕ) → Puts old old.nesting.items (string_node p old) (behind_string p) new
+pub string_taken : (old new : Reader) (p : purpose.Purpose) (b : List ℕ) (from : ℕ) → Puts old old.nesting.items (string_node p old) (following_string p) new
     → Fits old → Reached old → old.at ≡ inside p → from < length b → get_or b from 0 ≡ 34 → RunsTo old b from (from + 1) new
 string_taken old new p b from puts fits reached is_at more quote =
     let ends = string_ends {A = ℕ} p old new (Ok 0) (get_or b from 0) fits reached is_at quote puts tt in
@@ -93,6 +93,6 @@ pub colon_taken : (old : Reader) (b : List ℕ) (from : ℕ) → Fits old → ol
 colon_taken old b from fits is_at inside colon =
     let h = form_at old at.TheVariants.Colon is_at fits in
     one_more old old _ b from from (nothing_taken old b from fits (omega (arith, inside))) inside
-    (ap (λ (s : State). step NESTING_LIMIT s (get_or b from 0)) (view_at old at.TheVariants.Colon is_at ∙ h.is)
-    ∙ ap (step NESTING_LIMIT (state h.frames (m.At.named h.members h.name))) colon ∙ ap (λ (s : State). Some (value_due s)) (sym h.is))
+    (ap (λ (s : State). step MAX_NESTING s (get_or b from 0)) (view_at old at.TheVariants.Colon is_at ∙ h.is)
+    ∙ ap (step MAX_NESTING (state h.frames (m.ReaderState.named h.members h.name))) colon ∙ ap (λ (s : State). Some (value_due s)) (sym h.is))
     (record { at = value_form old.nesting.items (due at.TheVariants.Colon old) h; tape = fits.tape; start = fits.start; covered = covered_at old at.TheVariants.Colon is_at fits })

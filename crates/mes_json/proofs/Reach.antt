@@ -4,7 +4,7 @@
 use Rattle.std.proofs.Common.{◌≡◌, ℕ, ◌⊎◌, inl, inr, List, [], ◌∷◌, ◌++◌, Some, option_and_then, refl, ap, ◌∙◌, append_assoc}
 use Rattle.mes_json.specs.Grammar.{IsSpace, IsSpaces}
 use Rattle.mes_json.specs.Machine.{State, kind_of, step, run, finish, ends}
-use Rattle.mes_json.specs.Machine.Kind.{blank}
+use Rattle.mes_json.specs.Machine.ByteClass.{blank}
 
 -- what may stand behind a value: nothing, a blank, a comma or the end of a list or an object
 abbrev pub Follows : List ℕ → Type 0

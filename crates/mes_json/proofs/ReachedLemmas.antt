@@ -19,11 +19,11 @@ use Rattle.mes_json.specs.Tree.Items.{no_items}
 use Rattle.mes_json.specs.Grammar.{IsChars}
 use Rattle.mes_json.specs.Grammar.IsChars.{none, some}
 use Rattle.mes_json.specs.Escape.{Escape, HasBounds}
-use Rattle.mes_json.specs.Machine.{Frame, At, Mid, Purpose, start, run}
+use Rattle.mes_json.specs.Machine.{Frame, ReaderState, Utf8State, Purpose, start, run}
 use Rattle.mes_json.specs.Machine.State.{state}
-use Rattle.mes_json.specs.Machine.At.{value, first_item, name, quoted, named, token, after}
+use Rattle.mes_json.specs.Machine.ReaderState.{value, first_item, name, quoted, named, token, after}
 use Rattle.mes_json.specs.Machine.Token.{digits}
-use Rattle.mes_json.specs.Machine.Mid.{between, escape}
+use Rattle.mes_json.specs.Machine.Utf8State.{between, escape}
 use Rattle.mes_json.specs.Machine.Purpose.{for_name, for_value}
 use Rattle.mes_json.proofs.Held.{PartOf, kept, InArray, InObject, HeldStack, HeldFor, Held}
 use Rattle.mes_json.proofs.EscapeLemmas.{char_scalar, escape_bounds}
@@ -42,7 +42,7 @@ pub readable : (d : ℕ) (p : List ℕ) (fs : List Frame) (purpose : Purpose) (s
 readable d p fs purpose s e = let q = (held_run d (state fs (quoted purpose between s)) p e).1 in chars_utf8 q.inside s (string_read s q.inside q.in_string)
 
 -- within a character it is UTF-8 and then what is kept of the part of that character
-pub readable_front : (d : ℕ) (p : List ℕ) (fs : List Frame) (purpose : Purpose) (m : Mid) (s : List ℕ) → run d start p ≡ Some (state fs (quoted purpose m s))
+pub readable_front : (d : ℕ) (p : List ℕ) (fs : List Frame) (purpose : Purpose) (m : Utf8State) (s : List ℕ) → run d start p ≡ Some (state fs (quoted purpose m s))
     → (front : List ℕ) × (part : List ℕ) × (s ≡ front ++ kept m part) × IsUtf8 front × PartOf m part
 readable_front d p fs purpose m s e =
     let q = (held_run d (state fs (quoted purpose m s)) p e).1 in
@@ -105,7 +105,7 @@ in_quotes : (d : ℕ) (fs : List Frame) (p : Purpose) (room : ℕ) (b : List ℕ
 in_quotes d fs (for_name ms) room b h = let l : length fs < d = in_object d fs ms room b h in omega arith
 in_quotes d fs for_value room b h = on_stack d fs room b h
 
-held_fits : (d : ℕ) (fs : List Frame) (a : At) (b : List ℕ) → Held d (state fs a) b → length fs ≤ d
+held_fits : (d : ℕ) (fs : List Frame) (a : ReaderState) (b : List ℕ) → Held d (state fs a) b → length fs ≤ d
 held_fits d fs value b h = on_stack d fs h.0 b h.1
 held_fits d fs first_item b h = let l : length fs < d = in_array d fs h.0 b h.1 in omega arith
 held_fits d fs (name ms) b h = let l : length fs < d = in_object d fs ms h.0 b h.1 in omega arith
@@ -115,7 +115,7 @@ held_fits d fs (token x) b h = on_stack d fs h.0 h.1.front h.1.outside
 held_fits d fs (after t) b h = on_stack d fs h.0 h.1.front h.1.outside
 
 -- no more objects and arrays wait for a value than the limit allows
-pub frames_fit : (d : ℕ) (p : List ℕ) (fs : List Frame) (a : At) → run d start p ≡ Some (state fs a) → length fs ≤ d
+pub frames_fit : (d : ℕ) (p : List ℕ) (fs : List Frame) (a : ReaderState) → run d start p ≡ Some (state fs a) → length fs ≤ d
 frames_fit d p fs a e = held_fits d fs a p (held_run d (state fs a) p e)
 
 -- where an array's first item is due, one more is open than there are frames
@@ -126,7 +126,7 @@ room_for_item d p fs e = let h = held_run d (state fs first_item) p e in in_arra
 pub room_for_name : (d : ℕ) (p : List ℕ) (fs : List Frame) (ms : Members) → run d start p ≡ Some (state fs (name ms)) → length fs < d
 room_for_name d p fs ms e = let h = held_run d (state fs (name ms)) p e in in_object d fs ms h.0 p h.1
 
-pub room_in_name : (d : ℕ) (p : List ℕ) (fs : List Frame) (ms : Members) (m : Mid) (s : List ℕ) → run d start p ≡ Some (state fs (quoted (for_name ms) m s)) → length fs < d
+pub room_in_name : (d : ℕ) (p : List ℕ) (fs : List Frame) (ms : Members) (m : Utf8State) (s : List ℕ) → run d start p ≡ Some (state fs (quoted (for_name ms) m s)) → length fs < d
 room_in_name d p fs ms m s e = let h = held_run d (state fs (quoted (for_name ms) m s)) p e in in_object d fs ms h.0 h.1.front h.1.outside
 
 pub room_for_value : (d : ℕ) (p : List ℕ) (fs : List Frame) (ms : Members) (k : List ℕ) → run d start p ≡ Some (state fs (named ms k)) → length fs < d

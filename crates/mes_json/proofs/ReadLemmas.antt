@@ -11,46 +11,46 @@ use Rattle.mes_json.specs.Place.{IsFault, IsReadFault}
 use Rattle.mes_json.specs.Reader.{Stops}
 use Rattle.mes_json.specs.Read.{fault_at, Stuck, StopsIn}
 use Rattle.mes_json.specs.Tokens.{Token, tokens}
-use Rattle.mes_json.specs.declared.limits.TheConstants.{NESTING_LIMIT}
+use Rattle.mes_json.specs.declared.limits.TheConstants.{MAX_NESTING}
 use Rattle.mes_json.specs.declared.fault.TextFault.{TextFault}
-use Rattle.mes_json.specs.declared.fault.Why.TheVariants.{End}
+use Rattle.mes_json.specs.declared.fault.TextFaultKind.TheVariants.{End}
 use Rattle.mes_json.specs.declared.fault.ReadFault as fault
-use Rattle.mes_json.specs.declared.stop.Stop.{Stop}
-use Rattle.mes_json.specs.declared.stop.Stop.TheVariants.{Refused, NoMemory}
+use Rattle.mes_json.specs.declared.push_error.PushError.{PushError}
+use Rattle.mes_json.specs.declared.push_error.PushError.TheVariants.{Refused, NoMemory}
 use Rattle.mes_json.proofs.PlaceLemmas.{refused, ended, finished, finished_only, no_text, no_text_ended}
 
-pub stops_at : (s next : State) (b : List ℕ) (n : ℕ) (stop : Stop) (e : fault.ReadFault) → e ≡ fault_at n stop → n < length b → run NESTING_LIMIT s (take n b) ≡ Some next
+pub stops_at : (s next : State) (b : List ℕ) (n : ℕ) (stop : PushError) (e : fault.ReadFault) → e ≡ fault_at n stop → n < length b → run MAX_NESTING s (take n b) ≡ Some next
     → Stops stop next (get_or b n 0) → StopsIn s b e
 stops_at s next b n (Refused why) e is inside reached stops =
     subst (λ (x : fault.ReadFault). StopsIn s b x) (sym is) (record { inside = inside; before = next; reached = reached; refuses = stops })
 stops_at s next b n NoMemory e is inside reached stops = subst (λ (x : fault.ReadFault). StopsIn s b x) (sym is) tt
 
-pub stuck_fault : (b : List ℕ) (f : TextFault) → Stuck start b f → IsFault NESTING_LIMIT b f
-stuck_fault b f stuck = refused NESTING_LIMIT b f.byte stuck.before f.why stuck.inside stuck.reached stuck.refuses
+pub stuck_fault : (b : List ℕ) (f : TextFault) → Stuck start b f → IsFault MAX_NESTING b f
+stuck_fault b f stuck = refused MAX_NESTING b f.byte stuck.before f.why stuck.inside stuck.reached stuck.refuses
 
-pub stuck_no_text : (b : List ℕ) (f : TextFault) → Stuck start b f → (t : Tree) → IsText NESTING_LIMIT b t → ⊥
-stuck_no_text b f stuck t h = no_text NESTING_LIMIT b f.byte stuck.before stuck.inside stuck.reached stuck.refuses.stuck t h
+pub stuck_no_text : (b : List ℕ) (f : TextFault) → Stuck start b f → (t : Tree) → IsText MAX_NESTING b t → ⊥
+stuck_no_text b f stuck t h = no_text MAX_NESTING b f.byte stuck.before stuck.inside stuck.reached stuck.refuses.stuck t h
 
-pub stopped_fault : (b : List ℕ) (e : fault.ReadFault) → StopsIn start b e → IsReadFault NESTING_LIMIT b e
+pub stopped_fault : (b : List ℕ) (e : fault.ReadFault) → StopsIn start b e → IsReadFault MAX_NESTING b e
 stopped_fault b (fault.TheVariants.Text f) stops = stuck_fault b f stops
 stopped_fault b fault.TheVariants.NoMemory stops = tt
 
-pub stopped_only : (b : List ℕ) (e : fault.ReadFault) → StopsIn start b e → (t : Tree) → IsText NESTING_LIMIT b t → e ≡ fault.TheVariants.NoMemory
+pub stopped_only : (b : List ℕ) (e : fault.ReadFault) → StopsIn start b e → (t : Tree) → IsText MAX_NESTING b t → e ≡ fault.TheVariants.NoMemory
 stopped_only b (fault.TheVariants.Text f) stops t h = absurd (stuck_no_text b f stops t h)
 stopped_only b fault.TheVariants.NoMemory stops t h = refl
 
-pub tape_read : (b : List ℕ) (s : State) (found : Option (List Token)) (tape : List Token) → run NESTING_LIMIT start b ≡ Some s → found ≡ option_map tokens (finish s)
-    → found ≡ Some tape → (t : Tree) × IsText NESTING_LIMIT b t × (tape ≡ tokens t)
+pub tape_read : (b : List ℕ) (s : State) (found : Option (List Token)) (tape : List Token) → run MAX_NESTING start b ≡ Some s → found ≡ option_map tokens (finish s)
+    → found ≡ Some tape → (t : Tree) × IsText MAX_NESTING b t × (tape ≡ tokens t)
 tape_read b s found tape reached is some = by (finish s) refl is
   where
-    by : (o : Option Tree) → finish s ≡ o → found ≡ option_map tokens o → (t : Tree) × IsText NESTING_LIMIT b t × (tape ≡ tokens t)
+    by : (o : Option Tree) → finish s ≡ o → found ≡ option_map tokens o → (t : Tree) × IsText MAX_NESTING b t × (tape ≡ tokens t)
     by None finds e = cc
-    by (Some t) finds e = (t, finished NESTING_LIMIT b s t reached finds, cc)
+    by (Some t) finds e = (t, finished MAX_NESTING b s t reached finds, cc)
 
-pub tape_only : (b : List ℕ) (s : State) (found : Option (List Token)) (tape : List Token) → run NESTING_LIMIT start b ≡ Some s → found ≡ option_map tokens (finish s)
-    → found ≡ Some tape → (t : Tree) → IsText NESTING_LIMIT b t → tape ≡ tokens t
+pub tape_only : (b : List ℕ) (s : State) (found : Option (List Token)) (tape : List Token) → run MAX_NESTING start b ≡ Some s → found ≡ option_map tokens (finish s)
+    → found ≡ Some tape → (t : Tree) → IsText MAX_NESTING b t → tape ≡ tokens t
 tape_only b s found tape reached is some t h =
-    let both : Some tape ≡ Some (tokens t) = sym some ∙ is ∙ ap (option_map tokens) (finished_only NESTING_LIMIT b s t reached h) in cc
+    let both : Some tape ≡ Some (tokens t) = sym some ∙ is ∙ ap (option_map tokens) (finished_only MAX_NESTING b s t reached h) in cc
 
 nothing_finished : (s : State) (found : Option (List Token)) → found ≡ option_map tokens (finish s) → (let none : Option (List Token) = None in found ≡ none)
     → (let none : Option Tree = None in finish s ≡ none)
@@ -60,17 +60,17 @@ nothing_finished s found is none = by (finish s) is
     by None e = refl
     by (Some t) e = cc
 
-pub ended_no_text : (b : List ℕ) (s : State) (found : Option (List Token)) → run NESTING_LIMIT start b ≡ Some s → found ≡ option_map tokens (finish s)
-    → (let none : Option (List Token) = None in found ≡ none) → (t : Tree) → IsText NESTING_LIMIT b t → ⊥
-ended_no_text b s found reached is none t h = no_text_ended NESTING_LIMIT b s reached (nothing_finished s found is none) t h
+pub ended_no_text : (b : List ℕ) (s : State) (found : Option (List Token)) → run MAX_NESTING start b ≡ Some s → found ≡ option_map tokens (finish s)
+    → (let none : Option (List Token) = None in found ≡ none) → (t : Tree) → IsText MAX_NESTING b t → ⊥
+ended_no_text b s found reached is none t h = no_text_ended MAX_NESTING b s reached (nothing_finished s found is none) t h
 
-pub ended_fault : (b : List ℕ) (s : State) (found : Option (List Token)) → run NESTING_LIMIT start b ≡ Some s → found ≡ option_map tokens (finish s)
-    → (let none : Option (List Token) = None in found ≡ none) → IsFault NESTING_LIMIT b (record { byte = length b; why = End })
-ended_fault b s found reached is none = ended NESTING_LIMIT b s reached (nothing_finished s found is none)
+pub ended_fault : (b : List ℕ) (s : State) (found : Option (List Token)) → run MAX_NESTING start b ≡ Some s → found ≡ option_map tokens (finish s)
+    → (let none : Option (List Token) = None in found ≡ none) → IsFault MAX_NESTING b (record { byte = length b; why = End })
+ended_fault b s found reached is none = ended MAX_NESTING b s reached (nothing_finished s found is none)
 
 -- a reader that begins is at the start
 pub stopped_at_start : (s : State) (b : List ℕ) (e : fault.ReadFault) → s ≡ start → StopsIn s b e → StopsIn start b e
 stopped_at_start s b e is stops = subst (λ (x : State). StopsIn x b e) is stops
 
-pub ran_from_start : (s : State) (b : List ℕ) (next : State) → s ≡ start → run NESTING_LIMIT s b ≡ Some next → run NESTING_LIMIT start b ≡ Some next
-ran_from_start s b next is runs = subst (λ (x : State). run NESTING_LIMIT x b ≡ Some next) is runs
+pub ran_from_start : (s : State) (b : List ℕ) (next : State) → s ≡ start → run MAX_NESTING s b ≡ Some next → run MAX_NESTING start b ≡ Some next
+ran_from_start s b next is runs = subst (λ (x : State). run MAX_NESTING x b ≡ Some next) is runs

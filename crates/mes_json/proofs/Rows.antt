@@ -6,7 +6,7 @@ use Rattle.mes_json.specs.Tree.Members.{no_members, member}
 use Rattle.mes_json.specs.Machine.{Frame, start, run, ends}
 use Rattle.mes_json.specs.Machine.State.{state}
 use Rattle.mes_json.specs.Machine.Frame.{frame, array_frame}
-use Rattle.mes_json.specs.Machine.At.{value, first_item, name}
+use Rattle.mes_json.specs.Machine.ReaderState.{value, first_item, name}
 
 -- {"type":"HEARTBEAT"}
 heartbeat : ends 1 start (123 ∷ 34 ∷ 116 ∷ 121 ∷ 112 ∷ 101 ∷ 34 ∷ 58 ∷ 34 ∷ 72 ∷ 69 ∷ 65 ∷ 82 ∷ 84 ∷ 66 ∷ 69 ∷ 65 ∷ 84 ∷ 34 ∷ 125 ∷ [])

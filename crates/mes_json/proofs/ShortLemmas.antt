@@ -4,10 +4,10 @@
 use Rattle.std.proofs.Common.{◌≡◌, ℕ, ◌+◌, ◌-◌, ◌<◌, ◌≤◌, ◌⊎◌, inl, inr, List, [], length, take, drop, Some, get_or, refl, ap, sym, ◌∙◌, arith, append-nil}
 use Rattle.mes_json.specs.Machine.{State, step}
 use Rattle.mes_json.specs.Tape.{name_due}
-use Rattle.mes_json.specs.Reader.{with_read, state_view, Fits, Reached, Begins, Puts, RunsTo, StandAlone, string_node, behind_string, within_string}
-use Rattle.mes_json.specs.declared.limits.TheConstants.{NESTING_LIMIT}
-use Rattle.mes_json.specs.declared.at.Purpose as purpose
-use Rattle.mes_json.specs.declared.at.At as at
+use Rattle.mes_json.specs.Reader.{with_read, state_view, Fits, Reached, Begins, Puts, RunsTo, StandAlone, string_node, following_string, within_string}
+use Rattle.mes_json.specs.declared.limits.TheConstants.{MAX_NESTING}
+use Rattle.mes_json.specs.declared.reader_state.Purpose as purpose
+use Rattle.mes_json.specs.declared.reader_state.ReaderState as at
 use Rattle.mes_json.specs.declared.reader.Reader.{Reader}
 use Rattle.mes_json.proofs.ReaderLemmas.{view_at, form_at, begun_view}
 use Rattle.mes_json.proofs.TakenLemmas.{stays_taken}
@@ -22,26 +22,26 @@ begun p r = record r { at = inside p; start = length r.text.items }
 begins : (p : purpose.Purpose) (r : Reader) → Begins r [] (inside p) (begun p r)
 begins p r = record { at = refl; text = sym (append-nil r.text.items); nodes = refl; nesting = refl; start = refl }
 
-text_gives : (r : Reader) → Fits r → r.at ≡ at.TheVariants.Value → step NESTING_LIMIT (state_view r) 34 ≡ Some (state_view (begun purpose.TheVariants.Value r))
+text_gives : (r : Reader) → Fits r → r.at ≡ at.TheVariants.Value → step MAX_NESTING (state_view r) 34 ≡ Some (state_view (begun purpose.TheVariants.Value r))
 text_gives r fits is_at =
     let there = inside purpose.TheVariants.Value in
     let h = form_at r at.TheVariants.Value is_at fits in
-    ap (λ (s : State). step NESTING_LIMIT s 34) (view_at r at.TheVariants.Value is_at ∙ h.is)
+    ap (λ (s : State). step MAX_NESTING s 34) (view_at r at.TheVariants.Value is_at ∙ h.is)
     ∙ ap (λ (s : State). Some (with_read there [] s)) (sym h.is)
     ∙ ap (λ (s : State). Some s) (sym (begun_view r (begun purpose.TheVariants.Value r) [] there fits (begins purpose.TheVariants.Value r)))
 
 name_gives : (r : Reader) → Fits r → (r.at ≡ at.TheVariants.FirstName) ⊎ (r.at ≡ at.TheVariants.Name)
-    → step NESTING_LIMIT (state_view r) 34 ≡ Some (state_view (begun purpose.TheVariants.Name r))
+    → step MAX_NESTING (state_view r) 34 ≡ Some (state_view (begun purpose.TheVariants.Name r))
 name_gives r fits (inl is_at) =
     let there = inside purpose.TheVariants.Name in
     let h = form_at r at.TheVariants.FirstName is_at fits in
-    ap (λ (s : State). step NESTING_LIMIT s 34) (view_at r at.TheVariants.FirstName is_at ∙ h.is)
+    ap (λ (s : State). step MAX_NESTING s 34) (view_at r at.TheVariants.FirstName is_at ∙ h.is)
     ∙ ap (λ (s : State). Some (with_read there [] (name_due s))) (sym h.is)
     ∙ ap (λ (s : State). Some s) (sym (begun_view r (begun purpose.TheVariants.Name r) [] there fits (begins purpose.TheVariants.Name r)))
 name_gives r fits (inr is_at) =
     let there = inside purpose.TheVariants.Name in
     let h = form_at r at.TheVariants.Name is_at fits in
-    ap (λ (s : State). step NESTING_LIMIT s 34) (view_at r at.TheVariants.Name is_at ∙ h.is)
+    ap (λ (s : State). step MAX_NESTING s 34) (view_at r at.TheVariants.Name is_at ∙ h.is)
     ∙ ap (λ (s : State). Some (with_read there [] s)) (sym h.is)
     ∙ ap (λ (s : State). Some s) (sym (begun_view r (begun purpose.TheVariants.Name r) [] there fits (begins purpose.TheVariants.Name r)))
 
@@ -52,7 +52,7 @@ cut b from n = take n (take (length b - (from + 1)) (drop (from + 1) b))
 -- and the last quotation mark
 closed : (p : purpose.Purpose) (old new : Reader) (b : List ℕ) (from n : ℕ) → RunsTo old b from (from + 1) (begun p old) → Reached old
     → n < 16 → from + 1 + 16 ≤ length b → StandAlone (take n (drop (from + 1) b)) → get_or b (from + 1 + n) 0 ≡ 34
-    → Puts (within_string p (cut b from n) old) old.nesting.items (string_node p (within_string p (cut b from n) old)) (behind_string p) new
+    → Puts (within_string p (cut b from n) old) old.nesting.items (string_node p (within_string p (cut b from n) old)) (following_string p) new
     → RunsTo old b from (from + 1 + n + 1) new
 closed p old new b from n mark reached few block alone quote puts =
     let within = within_string p (cut b from n) old in
@@ -87,7 +87,7 @@ name_taken old new b from n fits reached is_at first few block alone quote more 
     (token_taken old (begun p old) b from 34 fits (omega (arith, block)) first (name_gives old fits is_at) (any_name_begins old (begun p old) fits is_at (begins p old)))
     reached few block alone quote
     (record { at = refl; nodes = puts.nodes; text = puts.text; nesting_is = puts.nesting_is; start = puts.start }) in
-    let behind = colon_taken named b place run.fits refl more colon in
+    let following = colon_taken named b place run.fits refl more colon in
     runs_further old named new b from place (place + 1) run
-    (runs_further named valued new b place (place + 1) (place + 1) behind
-    (stays_taken valued new b (place + 1) behind.fits (omega (arith, more)) (record { at = puts.at; text = refl; nodes = refl; nesting = refl; start = refl })))
+    (runs_further named valued new b place (place + 1) (place + 1) following
+    (stays_taken valued new b (place + 1) following.fits (omega (arith, more)) (record { at = puts.at; text = refl; nodes = refl; nesting = refl; start = refl })))

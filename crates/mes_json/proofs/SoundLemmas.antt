@@ -16,13 +16,13 @@ use Rattle.mes_json.specs.Tree.Tree.{null, boolean}
 use Rattle.mes_json.specs.Tree.Members.{no_members}
 use Rattle.mes_json.specs.Grammar.{IsSpace, IsSpaces}
 use Rattle.mes_json.specs.Grammar.IsChars.{none}
-use Rattle.mes_json.specs.Machine.{State, Frame, Kind, Token, on_value, kind_unless, kind_of}
+use Rattle.mes_json.specs.Machine.{State, Frame, ByteClass, Token, on_value, kind_unless, kind_of}
 use Rattle.mes_json.specs.Machine.State.{state}
 use Rattle.mes_json.specs.Machine.Frame.{frame, array_frame}
 use Rattle.mes_json.specs.Machine.Token.{literal}
-use Rattle.mes_json.specs.Machine.Kind.{blank, quote, opening, closing, opening_array, closing_array, colon, comma, other, begins}
-use Rattle.mes_json.specs.Machine.At.{value, first_item, name, token}
-use Rattle.mes_json.specs.Machine.Mid.{between}
+use Rattle.mes_json.specs.Machine.ByteClass.{blank, quote, opening, closing, opening_array, closing_array, colon, comma, other, begins}
+use Rattle.mes_json.specs.Machine.ReaderState.{value, first_item, name, token}
+use Rattle.mes_json.specs.Machine.Utf8State.{between}
 use Rattle.mes_json.proofs.Held.{InQuotes, InObject, InArray, Named, HeldStack, HeldToken, Valued, Held}
 
 -- ---- tests
@@ -37,7 +37,7 @@ pick true o u x e = inl (refl, e)
 pick false o u x e = inr (refl, e)
 
 -- what a kind of byte says of the byte
-abbrev pub KindIs : Kind → ℕ → Type 0
+abbrev pub KindIs : ByteClass → ℕ → Type 0
 KindIs blank c = IsSpace c
 KindIs quote c = c ≡ 34
 KindIs opening c = c ≡ 123
@@ -49,7 +49,7 @@ KindIs comma c = c ≡ 44
 KindIs other c = Unit {0}
 KindIs (begins x) c = HeldToken x (c ∷ [])
 
-pub choose : (P : Kind → Type 0) (t : Bool) (k l : Kind) → (t ≡ true → P k) → (t ≡ false → P l) → P (if t then k else l)
+pub choose : (P : ByteClass → Type 0) (t : Bool) (k l : ByteClass) → (t ≡ true → P k) → (t ≡ false → P l) → P (if t then k else l)
 choose P true k l f g = f refl
 choose P false k l f g = g refl
 
@@ -60,7 +60,7 @@ blank_is c e = grind (arith, nat_tests)
 kind_unless_is : (c : ℕ) (o : Option NumberState) → number_next AtStart (letter_of c) ≡ o → KindIs (kind_unless c o) c
 kind_unless_is c (Some part) e = (refl, λ q h. (part, e, h))
 kind_unless_is c None e =
-    let P = λ (k : Kind). KindIs k c in
+    let P = λ (k : ByteClass). KindIs k c in
     choose P (c == 34) quote _ (λ e. eqb-true c 34 e) (λ _.
     choose P (c == 32 || c == 9 || c == 10 || c == 13) blank _ (λ e. blank_is c e) (λ _.
     choose P (c == 123) opening _ (λ e. eqb-true c 123 e) (λ _.
@@ -159,7 +159,7 @@ array_starts fs d (suc room) b h l = (room, record { outer = b; led = []; spaces
 token_starts : (fs : List Frame) (d room : ℕ) (b : List ℕ) (c : ℕ) (x : Token) → HeldStack d fs room b → HeldToken x (c ∷ []) → Held d (state fs (token x)) (b ++ c ∷ [])
 token_starts fs d room b c x h is = (room, record { front = b; inside = c ∷ []; is = refl; outside = h; held = is })
 
-pub on_value_sound : (d : ℕ) (fs : List Frame) (k : Kind) (c : ℕ) (next : State) (b : List ℕ) → KindIs k c → Held d (state fs value) b → on_value d fs k ≡ Some next
+pub on_value_sound : (d : ℕ) (fs : List Frame) (k : ByteClass) (c : ℕ) (next : State) (b : List ℕ) → KindIs k c → Held d (state fs value) b → on_value d fs k ≡ Some next
     → Held d next (b ++ c ∷ [])
 on_value_sound d fs blank c next b is h e = subst (λ (s : State). Held d s (b ++ c ∷ [])) (some_is e) (h.0, stack_space fs d h.0 b c h.1 is)
 on_value_sound d fs quote c next b is h e =

@@ -97,7 +97,7 @@ pub record PutsText (texts b grown : List ℕ) (xs longer : List Node) (form : F
   pub text : grown ≡ texts ++ b
   pub nodes : longer ≡ xs ++ x ∷ []
   pub begins : from ≡ length texts
-  pub behind : to ≡ length grown
+  pub following : to ≡ length grown
   pub spans : AllByRecursion (HasSpan texts) xs
   pub token : (t : List ℕ) → token_of t x ≡ text_token form (span t from to)
   pub span_is : (t : List ℕ) → IsSpan t from to → IsTextOf form (span t from to) → HasSpan t x
@@ -106,7 +106,7 @@ pub text_held : (texts b grown : List ℕ) (xs longer : List Node) (form : Form)
     → tokens_held texts xs ≡ seen → tokens_held grown longer ≡ seen ++ text_token form b ∷ []
 text_held texts b grown xs longer form from to x seen h held =
     ap (λ (ys : List Node). tokens_held grown ys) h.nodes ∙ held_last grown xs x
-    ∙ ap (λ (y : Token). tokens_held grown xs ++ y ∷ []) (h.token grown ∙ ap (text_token form) (new_span texts b grown from to h.text h.begins h.behind))
+    ∙ ap (λ (y : Token). tokens_held grown xs ++ y ∷ []) (h.token grown ∙ ap (text_token form) (new_span texts b grown from to h.text h.begins h.following))
     ∙ ap (λ (t : List ℕ). tokens_held t xs ++ text_token form b ∷ []) h.text
     ∙ ap (λ (ys : List Token). ys ++ text_token form b ∷ []) (held_grows texts b xs h.spans ∙ held)
 
@@ -115,8 +115,8 @@ pub text_spans : (texts b grown : List ℕ) (xs longer : List Node) (form : Form
 text_spans texts b grown xs longer form from to x h utf8 allowed =
     subst (λ (ys : List Node). AllByRecursion (HasSpan grown) ys) (sym h.nodes)
     (spans_last grown xs x (more_spans texts b grown xs h.text h.spans)
-    (h.span_is grown (is_new_span texts b grown from to h.text h.begins h.behind utf8)
-    (subst (λ (t : List ℕ). IsTextOf form t) (sym (new_span texts b grown from to h.text h.begins h.behind)) allowed)))
+    (h.span_is grown (is_new_span texts b grown from to h.text h.begins h.following utf8)
+    (subst (λ (t : List ℕ). IsTextOf form t) (sym (new_span texts b grown from to h.text h.begins h.following)) allowed)))
 
 -- ---- one more item or member
 tokens_last_item : (xs : List Json) (x : Json) → tokens_of_items (items_view (xs ++ x ∷ [])) ≡ tokens_of_items (items_view xs) ++ tokens (view x)

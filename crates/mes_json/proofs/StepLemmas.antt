@@ -9,7 +9,7 @@ use Rattle.mes_json.specs.Grammar.{IsText}
 use Rattle.mes_json.specs.Machine.{State, start, step, run, finish, finish_number, ends, kind_of}
 use Rattle.mes_json.specs.Machine.State.{state}
 use Rattle.mes_json.specs.Machine.Token.{literal, digits}
-use Rattle.mes_json.specs.Machine.At.{value, first_item, name, quoted, named, token, after}
+use Rattle.mes_json.specs.Machine.ReaderState.{value, first_item, name, quoted, named, token, after}
 use Rattle.mes_json.proofs.Held.{Held}
 use Rattle.mes_json.proofs.SoundLemmas.{some_is, none_some, kind_is, on_value_sound}
 use Rattle.mes_json.proofs.ObjectSteps.{on_name_sound, on_named_sound}

@@ -8,8 +8,8 @@ use Rattle.mes_json.specs.Grammar.{IsChars, IsString, Spaced}
 use Rattle.mes_json.specs.Grammar.IsChars.{none, some}
 use Rattle.mes_json.specs.Machine.{Frame, Purpose, run, end_string, on_name, on_named}
 use Rattle.mes_json.specs.Machine.State.{state}
-use Rattle.mes_json.specs.Machine.At.{value, name, quoted, named, after}
-use Rattle.mes_json.specs.Machine.Mid.{between}
+use Rattle.mes_json.specs.Machine.ReaderState.{value, name, quoted, named, after}
+use Rattle.mes_json.specs.Machine.Utf8State.{between}
 use Rattle.mes_json.specs.Machine.Purpose.{for_name, for_value}
 use Rattle.mes_json.proofs.Reach.{Reaches, by_byte, then_to, over_spaces}
 use Rattle.mes_json.proofs.EscapeLemmas.{over_char}

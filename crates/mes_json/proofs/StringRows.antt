@@ -5,8 +5,8 @@ use Rattle.mes_json.specs.Tree.Tree.{string}
 use Rattle.mes_json.specs.Escape.Escape.{backslash, unit1, high, low1}
 use Rattle.mes_json.specs.Machine.{start, run, ends}
 use Rattle.mes_json.specs.Machine.State.{state}
-use Rattle.mes_json.specs.Machine.At.{quoted}
-use Rattle.mes_json.specs.Machine.Mid.{within, escape}
+use Rattle.mes_json.specs.Machine.ReaderState.{quoted}
+use Rattle.mes_json.specs.Machine.Utf8State.{within, escape}
 use Rattle.mes_json.specs.Machine.Purpose.{for_value}
 
 -- a control byte stops, 7F does not

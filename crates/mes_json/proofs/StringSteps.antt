@@ -9,10 +9,10 @@ use Rattle.mes_json.specs.Grammar.IsChars.{none, some}
 use Rattle.mes_json.specs.Escape.{Escape, Move, escape_step}
 use Rattle.mes_json.specs.Escape.Escape.{backslash}
 use Rattle.mes_json.specs.Escape.Move.{on, makes, refused}
-use Rattle.mes_json.specs.Machine.{State, Frame, Purpose, Mid, end_string, on_quoted, in_string, in_escape, lead, after_byte}
+use Rattle.mes_json.specs.Machine.{State, Frame, Purpose, Utf8State, end_string, on_quoted, in_string, in_escape, lead, after_byte}
 use Rattle.mes_json.specs.Machine.State.{state}
-use Rattle.mes_json.specs.Machine.At.{quoted}
-use Rattle.mes_json.specs.Machine.Mid.{between, within, escape}
+use Rattle.mes_json.specs.Machine.ReaderState.{quoted}
+use Rattle.mes_json.specs.Machine.Utf8State.{between, within, escape}
 use Rattle.mes_json.specs.Machine.Purpose.{for_name, for_value}
 use Rattle.mes_json.proofs.Held.{InString, InQuotes, HeldFor, Held}
 use Rattle.mes_json.proofs.HeldEscape.{InEscape}
@@ -60,22 +60,22 @@ string_ends d fs for_value s b h = let q = h.1 in (
   },
 )
 
-quotes_grow : (Outside : List ℕ → Type 0) (m n : Mid) (s s' b : List ℕ) (c : ℕ) (q : InQuotes Outside m s b) → InString n s' (q.inside ++ c ∷ [])
+quotes_grow : (Outside : List ℕ → Type 0) (m n : Utf8State) (s s' b : List ℕ) (c : ℕ) (q : InQuotes Outside m s b) → InString n s' (q.inside ++ c ∷ [])
     → InQuotes Outside n s' (b ++ c ∷ [])
 quotes_grow Outside m n s s' b c q h = record { front = q.front; inside = q.inside ++ c ∷ []; is = push b q.front (34 ∷ q.inside) c q.is; outside = q.outside; in_string = h }
 
 -- ---- characters that stand as they are
 -- a byte of one leads to no escape
-abbrev IsPlain : Mid → Type 0
+abbrev IsPlain : Utf8State → Type 0
 IsPlain between = Unit {0}
 IsPlain (within n least most) = Unit {0}
 IsPlain (escape e) = ⊥
 
-abbrev ArePlain : Option Mid → Type 0
+abbrev ArePlain : Option Utf8State → Type 0
 ArePlain None = Unit {0}
 ArePlain (Some m) = IsPlain m
 
-either : (t : Bool) (o u : Option Mid) → ArePlain o → ArePlain u → ArePlain (if t then o else u)
+either : (t : Bool) (o u : Option Utf8State) → ArePlain o → ArePlain u → ArePlain (if t then o else u)
 either true o u h k = h
 either false o u h k = k
 
@@ -90,7 +90,7 @@ after_byte_plain (suc zero) = tt
 after_byte_plain (suc (suc n)) = tt
 
 -- a byte behind whole characters and a part of one
-advance : (m : Mid) (s b whole words part : List ℕ) (c : ℕ) → IsPlain m → IsChars whole words → b ≡ whole ++ part → s ≡ words ++ part → IsRead m (part ++ c ∷ [])
+advance : (m : Utf8State) (s b whole words part : List ℕ) (c : ℕ) → IsPlain m → IsChars whole words → b ≡ whole ++ part → s ≡ words ++ part → IsRead m (part ++ c ∷ [])
     → InString m (s ++ c ∷ []) (b ++ c ∷ [])
 advance between s b whole words part c plain h e f r = record {
   whole = whole ++ (part ++ c ∷ []);
@@ -112,14 +112,14 @@ advance (within n least most) s b whole words part c plain h e f r = record {
 }
 advance (escape x) s b whole words part c plain h e f r = absurd plain
 
-first_byte : (m : Mid) (s b : List ℕ) (c : ℕ) → IsPlain m → InString between s b → IsRead m (c ∷ []) → InString m (s ++ c ∷ []) (b ++ c ∷ [])
+first_byte : (m : Utf8State) (s b : List ℕ) (c : ℕ) → IsPlain m → InString between s b → IsRead m (c ∷ []) → InString m (s ++ c ∷ []) (b ++ c ∷ [])
 first_byte m s b c plain h r = advance m s b h.whole h.words h.part c plain h.chars h.is h.text (subst (λ (x : List ℕ). IsRead m (x ++ c ∷ [])) (sym h.part_of) r)
 
 in_string_sound : (d : ℕ) (fs : List Frame) (p : Purpose) (s b : List ℕ) (c : ℕ) (next : State) → Held d (state fs (quoted p between s)) b → 32 ≤ c → c ≢ 34 → c ≢ 92
     → in_string fs p s c (lead c) ≡ Some next → Held d next (b ++ c ∷ [])
 in_string_sound d fs p s b c next h l q n e = by (lead c) refl (lead_plain c) e
   where
-    by : (o : Option Mid) → lead c ≡ o → ArePlain o → in_string fs p s c o ≡ Some next → Held d next (b ++ c ∷ [])
+    by : (o : Option Utf8State) → lead c ≡ o → ArePlain o → in_string fs p s c o ≡ Some next → Held d next (b ++ c ∷ [])
     by None is plain f = none_some f
     by (Some m) is plain f = subst (λ (x : State). Held d x (b ++ c ∷ [])) (some_is f)
         (h.0, quotes_grow (HeldFor d fs p h.0) between m s (s ++ c ∷ []) b c h.1 (first_byte m s h.1.inside c plain h.1.in_string (first_read c m l q n is)))
@@ -160,7 +160,7 @@ in_escape_sound d fs p e s b c next (makes v) h is f = subst (λ (t : State). He
 in_escape_sound d fs p e s b c next refused h is f = none_some f
 
 -- ---- a byte in a string
-pub on_quoted_sound : (d : ℕ) (fs : List Frame) (p : Purpose) (m : Mid) (s b : List ℕ) (c : ℕ) (next : State) → Held d (state fs (quoted p m s)) b
+pub on_quoted_sound : (d : ℕ) (fs : List Frame) (p : Purpose) (m : Utf8State) (s b : List ℕ) (c : ℕ) (next : State) → Held d (state fs (quoted p m s)) b
     → on_quoted fs p m s c ≡ Some next → Held d next (b ++ c ∷ [])
 on_quoted_sound d fs p between s b c next h e =
     elim (pick (c == 34) _ _ next e) [

@@ -12,30 +12,30 @@ use Rattle.std.proofs.lemmas.Grind.{common_steps}
 use Rattle.std.proofs.Math.Seq.{take-add}
 use Rattle.mes_json.specs.Machine.{State, start, step, run}
 use Rattle.mes_json.specs.Reader.{with_read, state_view, IsAt, Fits, Reached, Keeps, Stays, RunsTo}
-use Rattle.mes_json.specs.declared.limits.TheConstants.{NESTING_LIMIT}
+use Rattle.mes_json.specs.declared.limits.TheConstants.{MAX_NESTING}
 use Rattle.mes_json.specs.declared.nesting.Open.{Open}
-use Rattle.mes_json.specs.declared.at.At as at
+use Rattle.mes_json.specs.declared.reader_state.ReaderState as at
 use Rattle.mes_json.specs.declared.reader.Reader.{Reader}
 use Rattle.mes_json.proofs.RunLemmas.{run_on, run_one, run_take}
 use Rattle.mes_json.proofs.ReaderLemmas.{due, part, view_at, form_at, SameText, kept_fits, kept_view}
 
 -- the bytes q leave this place as it is, behind the bytes b of a text, and add these bytes to it
-abbrev pub Adds : at.At → List Open → List ℕ → List ℕ → List ℕ → Type 0
-Adds there n b q made = (s : State) → IsAt there n s → run NESTING_LIMIT (with_read there b s) q ≡ Some (with_read there (b ++ made) s)
+abbrev pub Adds : at.ReaderState → List Open → List ℕ → List ℕ → List ℕ → Type 0
+Adds there n b q made = (s : State) → IsAt there n s → run MAX_NESTING (with_read there b s) q ≡ Some (with_read there (b ++ made) s)
 
 -- the same, where they add themselves
-abbrev pub Leaves : at.At → List Open → List ℕ → List ℕ → Type 0
+abbrev pub Leaves : at.ReaderState → List Open → List ℕ → List ℕ → Type 0
 Leaves there n b q = Adds there n b q q
 
-over : (old new : Reader) (there : at.At) (q made : List ℕ) → Fits old → old.at ≡ there → Adds there old.nesting.items (part old) q made → Keeps old made there new
-    → run NESTING_LIMIT (state_view old) q ≡ Some (state_view new)
+over : (old new : Reader) (there : at.ReaderState) (q made : List ℕ) → Fits old → old.at ≡ there → Adds there old.nesting.items (part old) q made → Keeps old made there new
+    → run MAX_NESTING (state_view old) q ≡ Some (state_view new)
 over old new there q made fits is_at adds keeps =
-    ap (λ (s : State). run NESTING_LIMIT s q) (view_at old there is_at)
+    ap (λ (s : State). run MAX_NESTING s q) (view_at old there is_at)
     ∙ adds (due there old) (form_at old there is_at fits)
     ∙ ap (λ (s : State). Some s) (sym (kept_view old new made there there fits (λ s. refl) keeps))
 
-pub reached_over : (old new : Reader) (q : List ℕ) → Reached old → run NESTING_LIMIT (state_view old) q ≡ Some (state_view new) → Reached new
-reached_over old new q reached runs = (reached.0 ++ q, run_on NESTING_LIMIT start (state_view old) reached.0 q reached.1 ∙ runs)
+pub reached_over : (old new : Reader) (q : List ℕ) → Reached old → run MAX_NESTING (state_view old) q ≡ Some (state_view new) → Reached new
+reached_over old new q reached runs = (reached.0 ++ q, run_on MAX_NESTING start (state_view old) reached.0 q reached.1 ∙ runs)
 
 -- none of them
 pub nothing_taken : (r : Reader) (b : List ℕ) (from : ℕ) → Fits r → from ≤ length b → RunsTo r b from from r
@@ -59,7 +59,7 @@ stays_taken old new b from fits within h =
     }
 
 -- none of some bytes
-pub none_kept : (old new : Reader) (there : at.At) (b q : List ℕ) (from n : ℕ) → n ≡ 0 → Fits old → old.at ≡ there → from ≤ length b → Keeps old (take n q) there new → RunsTo old b from (from + n) new
+pub none_kept : (old new : Reader) (there : at.ReaderState) (b q : List ℕ) (from n : ℕ) → n ≡ 0 → Fits old → old.at ≡ there → from ≤ length b → Keeps old (take n q) there new → RunsTo old b from (from + n) new
 none_kept old new there b q from n none fits is_at within keeps =
     let same : from ≡ from + n = omega (arith, none) in
     subst (λ (to : ℕ). RunsTo old b from to new) same (stays_taken old new b from fits within (record {
@@ -71,16 +71,16 @@ none_kept old new there b q from n none fits is_at within keeps =
     }))
 
 pub one_more : (old mid new : Reader) (b : List ℕ) (from to : ℕ) → RunsTo old b from to mid → to < length b
-    → step NESTING_LIMIT (state_view mid) (get_or b to 0) ≡ Some (state_view new) → Fits new → RunsTo old b from (to + 1) new
+    → step MAX_NESTING (state_view mid) (get_or b to 0) ≡ Some (state_view new) → Fits new → RunsTo old b from (to + 1) new
 one_more old mid new b from to h inside gives fits = record {
   forward = omega (arith, h.forward);
   inside = omega (arith, inside);
   fits = fits;
-  runs = λ s e. run_take NESTING_LIMIT s (state_view mid) b to inside (h.runs s e) ∙ gives;
-  reached = λ r. reached_over mid new (get_or b to 0 ∷ []) (h.reached r) (run_one NESTING_LIMIT (state_view mid) (get_or b to 0) ∙ gives);
+  runs = λ s e. run_take MAX_NESTING s (state_view mid) b to inside (h.runs s e) ∙ gives;
+  reached = λ r. reached_over mid new (get_or b to 0 ∷ []) (h.reached r) (run_one MAX_NESTING (state_view mid) (get_or b to 0) ∙ gives);
 }
 
-pub runs_to : (old new : Reader) (there : at.At) (b made : List ℕ) (from n : ℕ) → Fits old → old.at ≡ there → SameText there there → from + n ≤ length b
+pub runs_to : (old new : Reader) (there : at.ReaderState) (b made : List ℕ) (from n : ℕ) → Fits old → old.at ≡ there → SameText there there → from + n ≤ length b
     → Adds there old.nesting.items (part old) (take n (drop from b)) made → Keeps old made there new → RunsTo old b from (from + n) new
 runs_to old new there b made from n fits is_at same_text within adds keeps =
     let q = take n (drop from b) in
@@ -89,7 +89,7 @@ runs_to old new there b made from n fits is_at same_text within adds keeps =
       forward = omega arith;
       inside = within;
       fits = kept_fits old new made there there fits is_at (λ n s h. h) same_text keeps;
-      runs = λ s e. ap (run NESTING_LIMIT s) (take-add from n b) ∙ run_on NESTING_LIMIT s (state_view old) (take from b) q e ∙ run_is;
+      runs = λ s e. ap (run MAX_NESTING s) (take-add from n b) ∙ run_on MAX_NESTING s (state_view old) (take from b) q e ∙ run_is;
       reached = λ r. reached_over old new q r run_is;
     }
 
@@ -103,7 +103,7 @@ pub within_rest : (b : List ℕ) (from n : ℕ) → from ≤ length b → n ≤ 
 within_rest b from n inside few = rest_length b from n inside (subst (λ (x : List ℕ). n ≤ length x) (rest_is b from inside) few)
 
 -- the same over the bytes behind the place, as they are cut out
-pub runs_over : (old new : Reader) (there : at.At) (b : List ℕ) (from n : ℕ) → Fits old → old.at ≡ there → SameText there there → from ≤ length b
+pub runs_over : (old new : Reader) (there : at.ReaderState) (b : List ℕ) (from n : ℕ) → Fits old → old.at ≡ there → SameText there there → from ≤ length b
     → n ≤ length (take (length b - from) (drop from b)) → Leaves there old.nesting.items (part old) (take n (take (length b - from) (drop from b)))
     → Keeps old (take n (take (length b - from) (drop from b))) there new → RunsTo old b from (from + n) new
 runs_over old new there b from n fits is_at same_text within few leaves keeps =

@@ -7,7 +7,7 @@ use Rattle.std.specs.List.{AllByRecursion}
 use Rattle.std.specs.Str.{IsUtf8}
 use Rattle.mes_fixed.specs.Number.{IsNumber}
 use Rattle.mes_json.specs.Machine.{State, start}
-use Rattle.mes_json.specs.Machine.At.{named, after}
+use Rattle.mes_json.specs.Machine.ReaderState.{named, after}
 use Rattle.mes_json.specs.Tree.Tree.{number, string}
 use Rattle.mes_json.specs.Tape.{span, span_length, spanned, value_due, name_due, valued, in_object, apply, spelled_from, spelled, IsSpan, HasSpan, Takes, ArePlaced, IsTape}
 use Rattle.mes_json.specs.declared.tape.Node.{Node}

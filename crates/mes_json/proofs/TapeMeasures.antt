@@ -4,9 +4,9 @@
 --     due_holds             and so with the comma or the colon behind it taken
 use Rattle.std.proofs.Common.{◌≡◌, ℕ, ◌+◌, inl, inr, List, [], ◌∷◌, refl, ap, arith}
 use Rattle.mes_json.specs.Tree.Members.{no_members}
-use Rattle.mes_json.specs.Machine.{At, State, start}
+use Rattle.mes_json.specs.Machine.{ReaderState, State, start}
 use Rattle.mes_json.specs.Machine.Frame.{frame, array_frame}
-use Rattle.mes_json.specs.Machine.At.{value, first_item, name, quoted, named, token, after}
+use Rattle.mes_json.specs.Machine.ReaderState.{value, first_item, name, quoted, named, token, after}
 use Rattle.mes_json.specs.Machine.State.{state}
 use Rattle.mes_json.specs.Tape.{span, value_due, name_due, valued, in_object, ended, apply, spelled_from, spelled, Takes, TakesValue, TakesName, ArePlaced}
 use Rattle.mes_json.specs.declared.tape.Node.{Node}
@@ -51,7 +51,7 @@ name_due_holds m (state (frame ms k ∷ fs) (after t)) = omega (arith, with_memb
 name_due_holds m (state (array_frame ts ∷ fs) (after t)) = refl
 
 -- ---- one more node
-value_holds : (m : Measure) (s : State) (a : At) → TakesValue s → of_state m (valued a (value_due s)) ≡ of_state m s + of_at m a
+value_holds : (m : Measure) (s : State) (a : ReaderState) → TakesValue s → of_state m (valued a (value_due s)) ≡ of_state m s + of_at m a
 value_holds m s a h =
     let e = ap (λ (t : State). of_state m (valued a t)) h.1 in
     let f = ap (of_state m) h.1 in omega (arith, e, f, value_due_holds m s)

@@ -16,10 +16,10 @@ use Rattle.mes_json.specs.Tree.{Tree}
 use Rattle.mes_json.specs.Tree.Tree.{null, boolean, number}
 use Rattle.mes_json.specs.Grammar.{null_text, boolean_text}
 use Rattle.mes_json.specs.Machine.{Frame, run, finish, finish_number, kind_of, kind_unless, due, on_value, on_after, on_digits, on_token}
-use Rattle.mes_json.specs.Machine.Kind.{begins}
+use Rattle.mes_json.specs.Machine.ByteClass.{begins}
 use Rattle.mes_json.specs.Machine.Token.{literal, digits}
 use Rattle.mes_json.specs.Machine.State.{state}
-use Rattle.mes_json.specs.Machine.At.{value, token, after}
+use Rattle.mes_json.specs.Machine.ReaderState.{value, token, after}
 use Rattle.mes_json.proofs.Reach.{Follows, Reaches, Leads, by_byte, then_to, reach_then}
 
 -- ---- literals

@@ -6,7 +6,7 @@ use Rattle.mes_json.specs.Tree.Members.{no_members}
 use Rattle.mes_json.specs.Machine.{start, run, ends}
 use Rattle.mes_json.specs.Machine.State.{state}
 use Rattle.mes_json.specs.Machine.Frame.{frame}
-use Rattle.mes_json.specs.Machine.At.{token}
+use Rattle.mes_json.specs.Machine.ReaderState.{token}
 use Rattle.mes_json.specs.Machine.Token.{digits}
 
 -- {"a":1 holds a number that may end, or go on

@@ -11,12 +11,12 @@ use Rattle.mes_fixed.proofs.Grammar.{number_ends}
 use Rattle.mes_json.specs.Tree.{Tree}
 use Rattle.mes_json.specs.Tree.Tree.{number}
 use Rattle.mes_json.specs.Grammar.{IsValue}
-use Rattle.mes_json.specs.Machine.{State, Frame, Kind, Token, on_after, close_object, close_array, next_of, due, on_digits, on_token, kind_of}
+use Rattle.mes_json.specs.Machine.{State, Frame, ByteClass, Token, on_after, close_object, close_array, next_of, due, on_digits, on_token, kind_of}
 use Rattle.mes_json.specs.Machine.State.{state}
 use Rattle.mes_json.specs.Machine.Frame.{frame, array_frame}
-use Rattle.mes_json.specs.Machine.Kind.{blank, quote, opening, closing, opening_array, closing_array, colon, comma, other, begins}
+use Rattle.mes_json.specs.Machine.ByteClass.{blank, quote, opening, closing, opening_array, closing_array, colon, comma, other, begins}
 use Rattle.mes_json.specs.Machine.Token.{literal, digits}
-use Rattle.mes_json.specs.Machine.At.{token, after}
+use Rattle.mes_json.specs.Machine.ReaderState.{token, after}
 use Rattle.mes_json.proofs.Held.{HeldStack, HeldToken, Held}
 use Rattle.mes_json.proofs.SoundLemmas.{some_is, none_some, pick, KindIs, kind_is, push, valued_space}
 use Rattle.mes_json.proofs.ObjectSteps.{ready, object_closes, name_is_due}
@@ -38,7 +38,7 @@ next_of_sound d [] t next b h e = none_some e
 next_of_sound d (frame ms k ∷ fs) t next b h e = subst (λ (s : State). Held d s (b ++ 44 ∷ [])) (some_is e) (name_is_due d fs ms k t h.0 b (ready d fs ms k t h.0 b h.1))
 next_of_sound d (array_frame ts ∷ fs) t next b h e = subst (λ (s : State). Held d s (b ++ 44 ∷ [])) (some_is e) (item_is_due d fs ts t h.0 b (array_ready d fs ts t h.0 b h.1))
 
-pub on_after_sound : (d : ℕ) (fs : List Frame) (t : Tree) (k : Kind) (c : ℕ) (next : State) (b : List ℕ) → KindIs k c → Held d (state fs (after t)) b
+pub on_after_sound : (d : ℕ) (fs : List Frame) (t : Tree) (k : ByteClass) (c : ℕ) (next : State) (b : List ℕ) → KindIs k c → Held d (state fs (after t)) b
     → on_after fs t k ≡ Some next → Held d next (b ++ c ∷ [])
 on_after_sound d fs t blank c next b is h e = subst (λ (s : State). Held d s (b ++ c ∷ [])) (some_is e) (h.0, valued_space (HeldStack d fs h.0) t h.0 b c h.1 is)
 on_after_sound d fs t quote c next b is h e = none_some e

@@ -8,9 +8,9 @@ use Rattle.mes_json.specs.Tree.{Tree, Items, Members}
 use Rattle.mes_json.specs.Tree.{Tree as tree}
 use Rattle.mes_json.specs.Tree.Items.{no_items, item}
 use Rattle.mes_json.specs.Tree.Members.{no_members, member}
-use Rattle.mes_json.specs.Machine.{Frame, At, State, with_item, with_member, start}
+use Rattle.mes_json.specs.Machine.{Frame, ReaderState, State, with_item, with_member, start}
 use Rattle.mes_json.specs.Machine.Frame.{frame, array_frame}
-use Rattle.mes_json.specs.Machine.{At as at}
+use Rattle.mes_json.specs.Machine.{ReaderState as at}
 use Rattle.mes_json.specs.Machine.State.{state}
 use Rattle.mes_json.specs.Tape.{value_due, name_due, valued, in_object, ended, apply, spelled_from, spelled, EndsItems, Takes, ArePlaced}
 use Rattle.mes_json.specs.Tokens.{Token, tokens, tokens_of_items, tokens_of_members}
@@ -60,7 +60,7 @@ tokens_of_frames (frame ms k ∷ fs) = tokens_of_frames fs ++ (begin_object ∷ 
 tokens_of_frames (array_frame ts ∷ fs) = tokens_of_frames fs ++ begin_array ∷ tokens_of_items ts
 
 -- of the place; what is read of a string, a literal or a number stands on no tape
-abbrev tokens_at : At → List Token
+abbrev tokens_at : ReaderState → List Token
 tokens_at at.value = []
 tokens_at at.first_item = begin_array ∷ []
 tokens_at (at.name ms) = begin_object ∷ tokens_of_members ms
@@ -122,7 +122,7 @@ held_name_due (state (frame ms k ∷ fs) (at.after t)) = behind_member fs ms k t
 held_name_due (state (array_frame ts ∷ fs) (at.after t)) = refl
 
 -- ---- one more token
-held_valued : (s : State) (fs : List Frame) (a : At) → value_due s ≡ state fs at.value → held (valued a (value_due s)) ≡ held s ++ tokens_at a
+held_valued : (s : State) (fs : List Frame) (a : ReaderState) → value_due s ≡ state fs at.value → held (valued a (value_due s)) ≡ held s ++ tokens_at a
 held_valued s fs a is =
     ap (λ (x : State). held (valued a x)) is
     ∙ ap (λ (x : List Token). x ++ tokens_at a) (sym (append-nil (tokens_of_frames fs)) ∙ ap held (sym is) ∙ held_value_due s)

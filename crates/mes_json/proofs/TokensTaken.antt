@@ -10,7 +10,7 @@ use Rattle.mes_json.specs.Tree.Items.{no_items, item}
 use Rattle.mes_json.specs.Tree.Members.{no_members, member}
 use Rattle.mes_json.specs.Machine.{Frame, State, with_item, with_member, start, finish}
 use Rattle.mes_json.specs.Machine.Frame.{frame, array_frame}
-use Rattle.mes_json.specs.Machine.{At as at}
+use Rattle.mes_json.specs.Machine.{ReaderState as at}
 use Rattle.mes_json.specs.Machine.State.{state}
 use Rattle.mes_json.specs.Tape.{value_due, name_due, valued, in_object, ended, spelled}
 use Rattle.mes_json.specs.Tokens.{Token, tokens, tokens_of_items, tokens_of_members, BeginsWith}

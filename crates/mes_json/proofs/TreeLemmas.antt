@@ -7,13 +7,13 @@ use Rattle.std.proofs.lemmas.List.{map-append, take-append-drop}
 use Rattle.mes_json.specs.Tree.{Tree}
 use Rattle.mes_json.specs.Grammar.{IsText}
 use Rattle.mes_json.specs.Machine.{State, start, finish}
-use Rattle.mes_json.specs.Machine.At.{after}
+use Rattle.mes_json.specs.Machine.ReaderState.{after}
 use Rattle.mes_json.specs.Machine.State.{state}
 use Rattle.mes_json.specs.Tape.{spelled}
 use Rattle.mes_json.specs.Tokens.{Token, tokens, BeginsWith}
 use Rattle.mes_json.specs.Cursor.{token_of, tokens_held}
 use Rattle.mes_json.specs.View.{view}
-use Rattle.mes_json.specs.declared.limits.TheConstants.{NESTING_LIMIT}
+use Rattle.mes_json.specs.declared.limits.TheConstants.{MAX_NESTING}
 use Rattle.mes_json.specs.declared.tape.Node.{Node}
 use Rattle.mes_json.specs.declared.value.Json.{Json}
 use Rattle.mes_json.proofs.TokensHeld.{fold_tokens, spelled_tokens}
@@ -54,6 +54,6 @@ IsTreeOf seen json = (t : Tree) → BeginsWith seen t → view json ≡ t
 pub tree_only : (tape seen : List Token) (json : Json) (t : Tree) → tape ≡ tokens t → seen ≡ tape → IsTreeOf seen json → view json ≡ t
 tree_only tape seen json t is same tree = tree t ([], same ∙ is ∙ sym (append-nil (tokens t)))
 
-pub tree_read : (b : List ℕ) (tape seen : List Token) (json : Json) → (t : Tree) × IsText NESTING_LIMIT b t × (tape ≡ tokens t) → seen ≡ tape → IsTreeOf seen json
-    → IsText NESTING_LIMIT b (view json)
-tree_read b tape seen json (t, text, is) same tree = subst (λ (u : Tree). IsText NESTING_LIMIT b u) (sym (tree_only tape seen json t is same tree)) text
+pub tree_read : (b : List ℕ) (tape seen : List Token) (json : Json) → (t : Tree) × IsText MAX_NESTING b t × (tape ≡ tokens t) → seen ≡ tape → IsTreeOf seen json
+    → IsText MAX_NESTING b (view json)
+tree_read b tape seen json (t, text, is) same tree = subst (λ (u : Tree). IsText MAX_NESTING b u) (sym (tree_only tape seen json t is same tree)) text

@@ -8,10 +8,10 @@ use Rattle.std.proofs.Math.Decide.{ℕ_discrete}
 use Rattle.std.proofs.str.Laws.{one, two, three, four, order}
 use Rattle.mes_json.specs.Grammar.{IsChar}
 use Rattle.mes_json.specs.Grammar.IsChar.{unescaped}
-use Rattle.mes_json.specs.Machine.{Frame, Purpose, Mid, lead, after_byte, on_quoted}
+use Rattle.mes_json.specs.Machine.{Frame, Purpose, Utf8State, lead, after_byte, on_quoted}
 use Rattle.mes_json.specs.Machine.State.{state}
-use Rattle.mes_json.specs.Machine.At.{quoted}
-use Rattle.mes_json.specs.Machine.Mid.{between, within, escape}
+use Rattle.mes_json.specs.Machine.ReaderState.{quoted}
+use Rattle.mes_json.specs.Machine.Utf8State.{between, within, escape}
 use Rattle.mes_json.proofs.Reach.{Reaches, by_byte, then_to}
 use Rattle.mes_json.proofs.Held.{Fits, IsPart, PartOf}
 
@@ -28,7 +28,7 @@ lead_four : (c : ℕ) → 0xF0 < c → c < 0xF4 → lead c ≡ Some (within 3 0x
 lead_four c l h = grind (arith, nat_tests)
 
 -- at a character's first byte
-quoted_lead : (fs : List Frame) (p : Purpose) (s : List ℕ) (c : ℕ) (m : Mid) → 32 ≤ c → c ≢ 34 → c ≢ 92 → lead c ≡ Some m
+quoted_lead : (fs : List Frame) (p : Purpose) (s : List ℕ) (c : ℕ) (m : Utf8State) → 32 ≤ c → c ≢ 34 → c ≢ 92 → lead c ≡ Some m
     → on_quoted fs p between s c ≡ Some (state fs (quoted p m (s ++ c ∷ [])))
 quoted_lead fs p s c m l q b e = grind (arith, nat_tests)
 
@@ -39,7 +39,7 @@ quoted_next fs p s c n least most l h = grind (arith, nat_tests)
 
 -- ---- complete: the bytes of a character lead to the state behind it
 module _ (d : ℕ) (fs : List Frame) (p : Purpose) where
-  ahead : (s : List ℕ) (c : ℕ) (m : Mid) → 32 ≤ c → c ≢ 34 → c ≢ 92 → lead c ≡ Some m
+  ahead : (s : List ℕ) (c : ℕ) (m : Utf8State) → 32 ≤ c → c ≢ 34 → c ≢ 92 → lead c ≡ Some m
       → Reaches d (state fs (quoted p between s)) (c ∷ []) (state fs (quoted p m (s ++ c ∷ [])))
   ahead s c m l q b e = by_byte d _ _ c (quoted_lead fs p s c m l q b e)
 
@@ -64,7 +64,7 @@ module _ (d : ℕ) (fs : List Frame) (p : Purpose) where
       subst (λ (u : List ℕ). Reaches d (state fs (quoted p (within 3 least most) s)) (z ∷ y ∷ x ∷ []) (state fs (quoted p between u))) (append_assoc s (z ∷ []) (y ∷ x ∷ []))
       (then_to d _ _ _ (z ∷ []) (y ∷ x ∷ []) (further s z 3 least most l h) (over_two (s ++ z ∷ []) y x 0x80 0xBF l' h' l'' h''))
 
-  ahead_with : (s : List ℕ) (c : ℕ) (m : Mid) (b : List ℕ) → 128 ≤ c → lead c ≡ Some m
+  ahead_with : (s : List ℕ) (c : ℕ) (m : Utf8State) (b : List ℕ) → 128 ≤ c → lead c ≡ Some m
       → Reaches d (state fs (quoted p m (s ++ c ∷ []))) b (state fs (quoted p between ((s ++ c ∷ []) ++ b)))
       → Reaches d (state fs (quoted p between s)) (c ∷ b) (state fs (quoted p between (s ++ c ∷ b)))
   ahead_with s c m b l e f =
@@ -170,7 +170,7 @@ four_char a z y x l h low high lz hz ly hy lx hx =
 
 -- ---- the parts of a character
 -- a state behind a character's first byte, by the byte
-data Leading (c : ℕ) (m : Mid) : Type 0 where
+data Leading (c : ℕ) (m : Utf8State) : Type 0 where
   whole : c < 0x80 → m ≡ between → Leading c m
   of_two : 0xC2 ≤ c → c < 0xE0 → m ≡ within 1 0x80 0xBF → Leading c m
   of_three : (least most : ℕ) → 0xE0 ≤ c → c < 0xF0 → (c ≡ 0xE0 → 0xA0 ≤ least) → (c ≡ 0xED → most ≤ 0x9F) → 0x80 ≤ least → least ≤ most → most ≤ 0xBF → m ≡ within 2 least most → Leading c m
@@ -189,7 +189,7 @@ pick : {A : Type 0} (t : Bool) (o u : Option A) (x : A) → (if t then o else u)
 pick true o u x e = inl (refl, e)
 pick false o u x e = inr (refl, e)
 
-lead_is : (c : ℕ) (m : Mid) → lead c ≡ Some m → Leading c m
+lead_is : (c : ℕ) (m : Utf8State) → lead c ≡ Some m → Leading c m
 lead_is c m e =
     elim (pick (nat_lt c 0x80) _ _ m e) [
       | inl h ↦ whole (ltb-true c 0x80 h.0) (some_is h.1)
@@ -265,19 +265,19 @@ part_four a least most l h low high from some to = record { some = some; whole =
     by (z ∷ y ∷ x ∷ w ∷ q) f = cons_nil f.2.2.2
 
 -- behind the last byte of a character the bytes are one, behind another byte a part of one
-abbrev pub IsRead : Mid → List ℕ → Type 0
+abbrev pub IsRead : Utf8State → List ℕ → Type 0
 IsRead between b = Char b
 IsRead (within n least most) b = PartOf (within n least most) b
 IsRead (escape e) b = PartOf (escape e) b
 
-pub first_read : (c : ℕ) (m : Mid) → 32 ≤ c → c ≢ 34 → c ≢ 92 → lead c ≡ Some m → IsRead m (c ∷ [])
+pub first_read : (c : ℕ) (m : Utf8State) → 32 ≤ c → c ≢ 34 → c ≢ 92 → lead c ≡ Some m → IsRead m (c ∷ [])
 first_read c m l q b e = by (lead_is c m e)
   where
     by : Leading c m → IsRead m (c ∷ [])
-    by (whole h is) = subst (λ (n : Mid). IsRead n (c ∷ [])) (sym is) (is_char c _ (inl (omega arith)) l q b (one c h))
-    by (of_two k h is) = subst (λ (n : Mid). IsRead n (c ∷ [])) (sym is) (part_two c k h)
-    by (of_three least most k h low high from some to is) = subst (λ (n : Mid). IsRead n (c ∷ [])) (sym is) (part_three c least most k h low high from some to)
-    by (of_four least most k h low high from some to is) = subst (λ (n : Mid). IsRead n (c ∷ [])) (sym is) (part_four c least most k h low high from some to)
+    by (whole h is) = subst (λ (n : Utf8State). IsRead n (c ∷ [])) (sym is) (is_char c _ (inl (omega arith)) l q b (one c h))
+    by (of_two k h is) = subst (λ (n : Utf8State). IsRead n (c ∷ [])) (sym is) (part_two c k h)
+    by (of_three least most k h low high from some to is) = subst (λ (n : Utf8State). IsRead n (c ∷ [])) (sym is) (part_three c least most k h low high from some to)
+    by (of_four least most k h low high from some to is) = subst (λ (n : Utf8State). IsRead n (c ∷ [])) (sym is) (part_four c least most k h low high from some to)
 
 pub next_read : (n least most c : ℕ) (part : List ℕ) → least ≤ c → c ≤ most → PartOf (within n least most) part → IsRead (after_byte n) (part ++ c ∷ [])
 next_read zero least most c part l h is = absurd is

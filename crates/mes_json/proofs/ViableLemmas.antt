@@ -10,13 +10,13 @@ use Rattle.mes_json.specs.Tree.Tree.{string, number, array, object}
 use Rattle.mes_json.specs.Tree.Items.{no_items}
 use Rattle.mes_json.specs.Tree.Members.{no_members}
 use Rattle.mes_json.specs.Place.{Begins}
-use Rattle.mes_json.specs.Machine.{State, Frame, Purpose, Mid, Kind, Token, start, step, run, finish, ends, with_item, with_member, end_string, on_value, on_first_item, kind_of}
+use Rattle.mes_json.specs.Machine.{State, Frame, Purpose, Utf8State, ByteClass, Token, start, step, run, finish, ends, with_item, with_member, end_string, on_value, on_first_item, kind_of}
 use Rattle.mes_json.specs.Machine.State.{state}
 use Rattle.mes_json.specs.Machine.Frame.{frame, array_frame}
-use Rattle.mes_json.specs.Machine.Kind.{blank, quote, opening, closing, opening_array, closing_array, colon, comma, other, begins}
-use Rattle.mes_json.specs.Machine.At.{value, first_item, name, quoted, named, token, after}
+use Rattle.mes_json.specs.Machine.ByteClass.{blank, quote, opening, closing, opening_array, closing_array, colon, comma, other, begins}
+use Rattle.mes_json.specs.Machine.ReaderState.{value, first_item, name, quoted, named, token, after}
 use Rattle.mes_json.specs.Machine.Token.{literal, digits}
-use Rattle.mes_json.specs.Machine.Mid.{between, within, escape}
+use Rattle.mes_json.specs.Machine.Utf8State.{between, within, escape}
 use Rattle.mes_json.specs.Machine.Purpose.{for_name, for_value}
 use Rattle.mes_json.proofs.RunLemmas.{run_on, run_none}
 use Rattle.mes_json.proofs.Reach.{Follows, Reaches, Leads, by_byte}
@@ -93,7 +93,7 @@ part_closes zero d fs p s least most l = closes_by d _ (state fs (quoted p betwe
 part_closes (suc n) d fs p s least most l = closes_by d _ (state fs (quoted p (within (suc n) 0x80 0xBF) (s ++ least ∷ []))) (least ∷ [])
     (by_byte d _ _ least (quoted_next fs p s least (suc (suc n)) least most (omega arith) l)) (part_closes n d fs p (s ++ least ∷ []) 0x80 0xBF (omega arith))
 
-quoted_closes : (d : ℕ) (fs : List Frame) (p : Purpose) (m : Mid) (s part : List ℕ) → PartOf m part → Closes d (state fs (quoted p m s))
+quoted_closes : (d : ℕ) (fs : List Frame) (p : Purpose) (m : Utf8State) (s part : List ℕ) → PartOf m part → Closes d (state fs (quoted p m s))
 quoted_closes d fs p between s part h = string_closes d fs p s
 quoted_closes d fs p (within zero least most) s part h = absurd h
 quoted_closes d fs p (within (suc n) least most) s part h = part_closes n d fs p s least most h.some
@@ -129,7 +129,7 @@ deeper_test d fs s next e =
       | inr f ↦ none_some f.1
     ]
 
-deeper_value : (d : ℕ) (fs : List Frame) (k : Kind) (next : State) → on_value d fs k ≡ Some next → on_value (d + 1) fs k ≡ Some next
+deeper_value : (d : ℕ) (fs : List Frame) (k : ByteClass) (next : State) → on_value d fs k ≡ Some next → on_value (d + 1) fs k ≡ Some next
 deeper_value d fs blank next e = e
 deeper_value d fs quote next e = e
 deeper_value d fs opening next e = deeper_test d fs (state fs (name no_members)) next e
@@ -141,7 +141,7 @@ deeper_value d fs comma next e = none_some e
 deeper_value d fs other next e = none_some e
 deeper_value d fs (begins x) next e = e
 
-deeper_first_item : (d : ℕ) (fs : List Frame) (k : Kind) (next : State) → on_first_item d fs k ≡ Some next → on_first_item (d + 1) fs k ≡ Some next
+deeper_first_item : (d : ℕ) (fs : List Frame) (k : ByteClass) (next : State) → on_first_item d fs k ≡ Some next → on_first_item (d + 1) fs k ≡ Some next
 deeper_first_item d fs blank next e = e
 deeper_first_item d fs quote next e = deeper_value d (array_frame no_items ∷ fs) quote next e
 deeper_first_item d fs opening next e = deeper_value d (array_frame no_items ∷ fs) opening next e

@@ -11,8 +11,8 @@ use Rattle.mes_json.specs.Machine as m
 use Rattle.mes_json.specs.Machine.{Frame, State, run, in_escape}
 use Rattle.mes_json.specs.Machine.State.{state}
 use Rattle.mes_json.specs.Reader.{Fits, Keeps, RunsTo}
-use Rattle.mes_json.specs.declared.limits.TheConstants.{NESTING_LIMIT}
-use Rattle.mes_json.specs.declared.at.Purpose as purpose
+use Rattle.mes_json.specs.declared.limits.TheConstants.{MAX_NESTING}
+use Rattle.mes_json.specs.declared.reader_state.Purpose as purpose
 use Rattle.mes_json.specs.declared.reader.Reader.{Reader}
 use Rattle.mes_json.proofs.SoundLemmas.{some_is, none_some}
 use Rattle.mes_json.proofs.HexLemmas.{two_on, four_makes}
@@ -59,11 +59,11 @@ unit_makes (c0 ∷ c1 ∷ c2 ∷ c3 ∷ c4 ∷ q) v0 v1 v2 v3 front back long h0
 
 -- ---- the machine's run over an escape
 over_made : (fs : List Frame) (p : m.Purpose) (b : List ℕ) (x : e.Move) (q : List ℕ) (made : ℕ) → made_of x q ≡ Some made
-    → option_and_then (λ (s : State). run NESTING_LIMIT s q) (in_escape fs p b x) ≡ Some (state fs (m.At.quoted p m.Mid.between (b ++ encode_utf8 made)))
+    → option_and_then (λ (s : State). run MAX_NESTING s q) (in_escape fs p b x) ≡ Some (state fs (m.ReaderState.quoted p m.Utf8State.between (b ++ encode_utf8 made)))
 unfolding run
 over_made fs p b (e.Move.on x) [] made h = none_some h
 over_made fs p b (e.Move.on x) (c ∷ q) made h = over_made fs p b (escape_step x c) q made h
-over_made fs p b (e.Move.makes v) [] made h = ap (λ (n : ℕ). Some (state fs (m.At.quoted p m.Mid.between (b ++ encode_utf8 n)))) (some_is h)
+over_made fs p b (e.Move.makes v) [] made h = ap (λ (n : ℕ). Some (state fs (m.ReaderState.quoted p m.Utf8State.between (b ++ encode_utf8 n)))) (some_is h)
 over_made fs p b (e.Move.makes v) (c ∷ q) made h = none_some h
 over_made fs p b e.Move.refused q made h = none_some h
 

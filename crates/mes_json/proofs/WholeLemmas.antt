@@ -7,7 +7,7 @@ use Rattle.std.proofs.lemmas.Grind.{common_steps}
 use Rattle.std.specs.List.{AllByRecursion}
 use Rattle.mes_json.specs.Tree.{Tree}
 use Rattle.mes_json.specs.Machine.{Frame, finish}
-use Rattle.mes_json.specs.Machine.At.{after}
+use Rattle.mes_json.specs.Machine.ReaderState.{after}
 use Rattle.mes_json.specs.Machine.State.{state}
 use Rattle.mes_json.specs.Machine.Frame.{frame, array_frame}
 use Rattle.mes_json.specs.Reader.{opens, state_view, AfterValue, Fits, EndsWhole}
@@ -15,7 +15,7 @@ use Rattle.mes_json.specs.Tokens.{Token, tokens}
 use Rattle.mes_json.specs.Cursor.{tokens_held}
 use Rattle.mes_json.specs.Tape.{HasSpan}
 use Rattle.mes_json.specs.declared.nesting.Open.{Open}
-use Rattle.mes_json.specs.declared.at.At as at
+use Rattle.mes_json.specs.declared.reader_state.ReaderState as at
 use Rattle.mes_json.specs.declared.reader.Reader.{Reader}
 use Rattle.mes_json.proofs.ReaderLemmas.{tape_of, view_at, form_at}
 use Rattle.mes_json.proofs.TokensHeld.{tokens_spelled}

@@ -3,17 +3,17 @@ use Rattle.std.specs.Prelude.{◌≡◌, List, [], ◌∷◌, ℕ, map, reverse,
 use Rattle.mes_json.specs.Tree.{Items, Members}
 use Rattle.mes_json.specs.Tree.Items.{no_items, item}
 use Rattle.mes_json.specs.Tree.Members.{no_members, member}
-use Rattle.mes_json.specs.Machine.{Frame, At, State}
+use Rattle.mes_json.specs.Machine.{Frame, ReaderState, State}
 use Rattle.mes_json.specs.Machine.Frame.{frame, array_frame}
-use Rattle.mes_json.specs.Machine.At.{value, first_item, name, named, after}
+use Rattle.mes_json.specs.Machine.ReaderState.{value, first_item, name, named, after}
 use Rattle.mes_json.specs.Machine.State.{state}
 use Rattle.mes_json.specs.View.{view, items_view, members_view}
 use Rattle.mes_json.specs.declared.value.Json.{Json}
-use Rattle.mes_json.specs.declared.build.Outer.{Outer}
-use Rattle.mes_json.specs.declared.build.Outer.TheVariants as outer
-use Rattle.mes_json.specs.declared.build.Inner.{Inner}
-use Rattle.mes_json.specs.declared.build.Inner.TheVariants.{Nothing, Whole, Object, Array}
-use Rattle.mes_json.specs.declared.build.Building.{Building}
+use Rattle.mes_json.specs.declared.tree_builder.Outer.{Outer}
+use Rattle.mes_json.specs.declared.tree_builder.Outer.TheVariants as outer
+use Rattle.mes_json.specs.declared.tree_builder.Inner.{Inner}
+use Rattle.mes_json.specs.declared.tree_builder.Inner.TheVariants.{Nothing, Whole, Object, Array}
+use Rattle.mes_json.specs.declared.tree_builder.TreeBuilder.{TreeBuilder}
 
 abbrev pub frame_view : Outer → Frame
 frame_view (outer.Object ms k) = frame (members_view ms.items) k
@@ -58,9 +58,9 @@ inner_view fs (Whole json) = state [] (after (view json))
 inner_view fs (Object ms due) = member_state fs ms.items due
 inner_view fs (Array ts) = array_state fs ts.items
 
-abbrev pub building_view : Building → State
+abbrev pub building_view : TreeBuilder → State
 building_view b = inner_view (frames_view b.outer.items) b.inner
 
 -- this begins what is open
-abbrev pub Opens : Inner → At → Type 0
+abbrev pub Opens : Inner → ReaderState → Type 0
 Opens i a = (fs : List Frame) → inner_view fs i ≡ state fs a

@@ -2,7 +2,7 @@
 use Rattle.std.specs.Prelude.{◌≡◌, ℕ, zero, suc, ◌≤◌, List, [], ◌∷◌, ◌++◌, length, drop, Option, Some, None}
 use Rattle.mes_json.specs.Tokens.{Token}
 use Rattle.mes_json.specs.Cursor.{tokens_held}
-use Rattle.mes_json.specs.Passing.{behind}
+use Rattle.mes_json.specs.Passing.{following}
 use Rattle.mes_json.specs.declared.tape.Node.{Node}
 use Rattle.mes_json.specs.declared.tape.Node.TheVariants.{Null, Bool, Number, Text, Name, List as list, Map, End}
 
@@ -11,24 +11,24 @@ unless_zero zero = None
 unless_zero (suc n) = Some (suc n)
 
 -- how many nodes behind this one belong to its value, where it tells that
-abbrev pub told : Node → Option ℕ
-told Null = Some 0
-told (Bool x) = Some 0
-told (Number from to) = Some 0
-told (Text from to) = Some 0
-told (Name from to) = Some 0
-told (list n) = unless_zero n
-told (Map n) = unless_zero n
-told End = Some 0
+abbrev pub reported : Node → Option ℕ
+reported Null = Some 0
+reported (Bool x) = Some 0
+reported (Number from to) = Some 0
+reported (Text from to) = Some 0
+reported (Name from to) = Some 0
+reported (list n) = unless_zero n
+reported (Map n) = unless_zero n
+reported End = Some 0
 
 -- before these nodes, the node begins a value that has n of them
 pub record HasRest (n : ℕ) (x : Node) (xs : List Node) : Type 0 where
   pub inside : n ≤ length xs
-  pub ends : (texts : List ℕ) → behind 0 (tokens_held texts (x ∷ xs)) ≡ drop n (tokens_held texts xs)
+  pub ends : (texts : List ℕ) → following 0 (tokens_held texts (x ∷ xs)) ≡ drop n (tokens_held texts xs)
 
 -- what the node tells is so
 abbrev pub TellsTruth : Node → List Node → Type 0
-TellsTruth x xs = (n : ℕ) → told x ≡ Some n → HasRest n x xs
+TellsTruth x xs = (n : ℕ) → reported x ≡ Some n → HasRest n x xs
 
 -- what each node tells is so
 abbrev pub TellLengths : List Node → Type 0
@@ -36,15 +36,15 @@ TellLengths [] = Unit {0}
 TellLengths (x ∷ xs) = TellsTruth x xs × TellLengths xs
 
 -- the node, where it tells no length
-abbrev pub untold : Node → Node
-untold Null = Null
-untold (Bool x) = Bool x
-untold (Number from to) = Number from to
-untold (Text from to) = Text from to
-untold (Name from to) = Name from to
-untold (list n) = list 0
-untold (Map n) = Map 0
-untold End = End
+abbrev pub unreported : Node → Node
+unreported Null = Null
+unreported (Bool x) = Bool x
+unreported (Number from to) = Number from to
+unreported (Text from to) = Text from to
+unreported (Name from to) = Name from to
+unreported (list n) = list 0
+unreported (Map n) = Map 0
+unreported End = End
 
 -- the node, where it tells this length
 abbrev pub telling : ℕ → Node → Node
@@ -70,8 +70,8 @@ IsLeaf End = ⊥
 
 -- what these nodes tell is so whatever stands behind them, and counting what is open passes over them
 pub record IsWhole (xs : List Node) : Type 0 where
-  pub tells : (ys : List Node) → TellLengths ys → TellLengths (xs ++ ys)
-  pub passes : (texts : List ℕ) (n : ℕ) (ts : List Token) → behind (suc n) (tokens_held texts xs ++ ts) ≡ behind (suc n) ts
+  pub reports : (ys : List Node) → TellLengths ys → TellLengths (xs ++ ys)
+  pub passes : (texts : List ℕ) (n : ℕ) (ts : List Token) → following (suc n) (tokens_held texts xs ++ ts) ≡ following (suc n) ts
 
 -- the array or object that begins in this place is open, and tells no length yet; so much is known of the nodes before it
 pub record IsBegun (place : ℕ) (Known : List Node → Type 0) (xs : List Node) : Type 0 where
@@ -80,7 +80,7 @@ pub record IsBegun (place : ℕ) (Known : List Node → Type 0) (xs : List Node)
   pub inner : List Node
   pub is : xs ≡ outer ++ first ∷ inner
   pub begins : place ≡ length outer
-  pub unknown : told first ≡ None
+  pub unknown : reported first ≡ None
   pub whole : IsWhole inner
   pub before : Known outer
 

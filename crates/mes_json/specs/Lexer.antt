@@ -5,7 +5,7 @@ use Rattle.mes_json.specs.Place.{IsFault}
 use Rattle.mes_json.specs.Reader.{Fits, state_view}
 use Rattle.mes_json.specs.Read.{Stuck}
 use Rattle.mes_json.specs.Inner.{inner}
-use Rattle.mes_json.specs.declared.limits.TheConstants.{NESTING_LIMIT}
+use Rattle.mes_json.specs.declared.limits.TheConstants.{MAX_NESTING}
 use Rattle.mes_json.specs.declared.fault.TextFault.{TextFault}
 use Rattle.mes_json.specs.declared.fault.ReadFault as fault
 use Rattle.mes_json.specs.declared.reader.Reader.{Reader}
@@ -37,7 +37,7 @@ IsLexFault d b fault.TheVariants.NoMemory = Unit {0}
 pub record IsReading (n : ℕ) (r : Reader) (p : List ℕ) : Type 0 where
   pub count : n ≡ counted (length p)
   pub fits : Fits r
-  pub reached : run NESTING_LIMIT start p ≡ Some (state_view r)
+  pub reached : run MAX_NESTING start p ≡ Some (state_view r)
 
 -- no state takes the byte behind the fault's place
 pub record IsFaulty (f : TextFault) (p : List ℕ) : Type 0 where
@@ -46,18 +46,18 @@ pub record IsFaulty (f : TextFault) (p : List ℕ) : Type 0 where
   pub rounds : Rounds exact f
 
 -- what the bytes brought a lexer to
-abbrev pub StandsFor : ℕ → LexerState → List ℕ → Type 0
-StandsFor n (Reading r) p = IsReading n r p
-StandsFor n (Faulty f) p = IsFaulty f p
-StandsFor n OutOfMemory p = Unit {0}
+abbrev pub Represents : ℕ → LexerState → List ℕ → Type 0
+Represents n (Reading r) p = IsReading n r p
+Represents n (Faulty f) p = IsFaulty f p
+Represents n OutOfMemory p = Unit {0}
 
 -- these are the bytes that were pushed, in whatever runs they came
 unfoldable pub HasLexed : Lexer → List ℕ → Type 0
-HasLexed l p = StandsFor l.0 l.1 p
+HasLexed l p = Represents l.0 l.1 p
 
 -- some bytes were pushed
 abbrev pub IsPossible : ℕ × LexerState → Type 0
-IsPossible l = (p : List ℕ) × StandsFor l.0 l.1 p
+IsPossible l = (p : List ℕ) × Represents l.0 l.1 p
 
 -- a growth was refused memory
 abbrev pub HasNoMemory : LexerState → Type 0
@@ -70,9 +70,9 @@ unfoldable pub IsOutOfMemory : Lexer → Type 0
 IsOutOfMemory l = HasNoMemory l.1
 
 -- an error comes exactly where a growth was refused memory, this time or before
-abbrev pub Tells : {A E : Type 0} → Result A E → Lexer → Type 0
-Tells (Ok _) l = IsOutOfMemory l → ⊥
-Tells (Err _) l = IsOutOfMemory l
+abbrev pub Reports : {A E : Type 0} → Result A E → Lexer → Type 0
+Reports (Ok _) l = IsOutOfMemory l → ⊥
+Reports (Err _) l = IsOutOfMemory l
 
 -- how many bytes of texts and numbers are kept
 abbrev pub text_of : LexerState → ℕ

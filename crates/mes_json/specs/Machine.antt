@@ -19,12 +19,12 @@ pub data Token : Type 0 where
   digits : NumberState → List ℕ → Token
 
 -- what a byte is outside a string
-pub data Kind : Type 0 where
-  blank quote opening closing opening_array closing_array colon comma other : Kind
-  begins : Token → Kind
+pub data ByteClass : Type 0 where
+  blank quote opening closing opening_array closing_array colon comma other : ByteClass
+  begins : Token → ByteClass
 
 -- the kind of a byte, by where it leads from the start of a number
-abbrev pub kind_unless : ℕ → Option NumberState → Kind
+abbrev pub kind_unless : ℕ → Option NumberState → ByteClass
 kind_unless c (Some part) = begins (digits part (c ∷ []))
 kind_unless c None =
     if c == 34 then quote
@@ -40,15 +40,15 @@ kind_unless c None =
     else if c == 0x66 then begins (literal 0x61 (0x6C ∷ 0x73 ∷ 0x65 ∷ []) (boolean false))
     else other
 
-abbrev pub kind_of : ℕ → Kind
+abbrev pub kind_of : ℕ → ByteClass
 kind_of c = kind_unless c (number_next AtStart (letter_of c))
 
 -- inside a string: between two characters; within one that wants some more bytes, the next from least to most (RFC 3629,
 -- section 4); or within an escape
-pub data Mid : Type 0 where
-  between : Mid
-  within : ℕ → ℕ → ℕ → Mid
-  escape : Escape → Mid
+pub data Utf8State : Type 0 where
+  between : Utf8State
+  within : ℕ → ℕ → ℕ → Utf8State
+  escape : Escape → Utf8State
 
 -- An object or an array that is still open: an object's members so far, and the name whose value is being read; an array's
 -- items so far.
@@ -62,18 +62,18 @@ pub data Purpose : Type 0 where
   for_value : Purpose
 
 -- what is read next
-pub data At : Type 0 where
-  value : At
-  first_item : At
-  name : Members → At
-  quoted : Purpose → Mid → List ℕ → At
-  named : Members → List ℕ → At
-  token : Token → At
-  after : Tree → At
+pub data ReaderState : Type 0 where
+  value : ReaderState
+  first_item : ReaderState
+  name : Members → ReaderState
+  quoted : Purpose → Utf8State → List ℕ → ReaderState
+  named : Members → List ℕ → ReaderState
+  token : Token → ReaderState
+  after : Tree → ReaderState
 
 -- the open objects and arrays, the innermost first, and what is read next
 pub data State : Type 0 where
-  state : List Frame → At → State
+  state : List Frame → ReaderState → State
 
 -- the item stands last
 abbrev pub with_item : Items → Tree → Items
@@ -89,7 +89,7 @@ abbrev pub start : State
 start = state [] value
 
 -- the first byte of a character, as the state behind it (RFC 3629, section 4)
-abbrev pub lead : ℕ → Option Mid
+abbrev pub lead : ℕ → Option Utf8State
 lead c =
     if nat_lt c 0x80 then Some between
     else if nat_lt c 0xC2 then None
@@ -103,13 +103,13 @@ lead c =
     else None
 
 -- behind a byte of a character that wanted so many
-abbrev pub after_byte : ℕ → Mid
+abbrev pub after_byte : ℕ → Utf8State
 after_byte zero = between
 after_byte (suc zero) = between
 after_byte (suc (suc n)) = within (suc n) 0x80 0xBF
 
 -- at a value's first byte
-abbrev pub on_value : ℕ → List Frame → Kind → Option State
+abbrev pub on_value : ℕ → List Frame → ByteClass → Option State
 on_value d fs blank = Some (state fs value)
 on_value d fs quote = Some (state fs (quoted for_value between []))
 on_value d fs opening = if nat_lt (length fs) d then Some (state fs (name no_members)) else None
@@ -122,7 +122,7 @@ on_value d fs other = None
 on_value d fs (begins x) = Some (state fs (token x))
 
 -- at an array's first item, or its end; the open array goes onto the stack at the item
-abbrev pub on_first_item : ℕ → List Frame → Kind → Option State
+abbrev pub on_first_item : ℕ → List Frame → ByteClass → Option State
 on_first_item d fs blank = Some (state fs first_item)
 on_first_item d fs quote = on_value d (array_frame no_items ∷ fs) quote
 on_first_item d fs opening = on_value d (array_frame no_items ∷ fs) opening
@@ -140,7 +140,7 @@ close_empty fs no_members = Some (state fs (after (object no_members)))
 close_empty fs (member k t ms) = None
 
 -- where a member's name is due
-abbrev pub on_name : List Frame → Members → Kind → Option State
+abbrev pub on_name : List Frame → Members → ByteClass → Option State
 on_name fs ms blank = Some (state fs (name ms))
 on_name fs ms quote = Some (state fs (quoted (for_name ms) between []))
 on_name fs ms opening = None
@@ -153,7 +153,7 @@ on_name fs ms other = None
 on_name fs ms (begins x) = None
 
 -- behind a member's name; the open object goes onto the stack at the colon
-abbrev pub on_named : List Frame → Members → List ℕ → Kind → Option State
+abbrev pub on_named : List Frame → Members → List ℕ → ByteClass → Option State
 on_named fs ms k blank = Some (state fs (named ms k))
 on_named fs ms k quote = None
 on_named fs ms k opening = None
@@ -184,7 +184,7 @@ next_of (frame ms k ∷ fs) t = Some (state fs (name (with_member ms k t)))
 next_of (array_frame ts ∷ fs) t = Some (state (array_frame (with_item ts t) ∷ fs) value)
 
 -- behind a value
-abbrev pub on_after : List Frame → Tree → Kind → Option State
+abbrev pub on_after : List Frame → Tree → ByteClass → Option State
 on_after fs t blank = Some (state fs (after t))
 on_after fs t quote = None
 on_after fs t opening = None
@@ -197,7 +197,7 @@ on_after fs t other = None
 on_after fs t (begins x) = None
 
 -- behind a byte of a literal: these are due, or it ends
-abbrev pub due : List ℕ → Tree → At
+abbrev pub due : List ℕ → Tree → ReaderState
 due [] t = after t
 due (e ∷ rest) t = token (literal e rest t)
 
@@ -216,7 +216,7 @@ end_string fs (for_name ms) s = state fs (named ms s)
 end_string fs for_value s = state fs (after (string s))
 
 -- in a string, behind a byte that begins or goes on with a character
-abbrev pub in_string : List Frame → Purpose → List ℕ → ℕ → Option Mid → Option State
+abbrev pub in_string : List Frame → Purpose → List ℕ → ℕ → Option Utf8State → Option State
 in_string fs p s c None = None
 in_string fs p s c (Some m) = Some (state fs (quoted p m (s ++ c ∷ [])))
 
@@ -226,7 +226,7 @@ in_escape fs p s (on e) = Some (state fs (quoted p (escape e) s))
 in_escape fs p s (makes c) = Some (state fs (quoted p between (s ++ encode_utf8 c)))
 in_escape fs p s refused = None
 
-abbrev pub on_quoted : List Frame → Purpose → Mid → List ℕ → ℕ → Option State
+abbrev pub on_quoted : List Frame → Purpose → Utf8State → List ℕ → ℕ → Option State
 on_quoted fs p between s c =
     if c == 34 then Some (end_string fs p s)
     else if c == 92 then Some (state fs (quoted p (escape backslash) s))

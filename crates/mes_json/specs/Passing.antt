@@ -5,15 +5,15 @@ use Rattle.mes_json.specs.Tokens.{Token}
 use Rattle.mes_json.specs.Tokens.Token.{null, boolean, number, string, name, begin_array, begin_object, ends}
 
 -- how many arrays and objects are open behind a token, where so many are before it
-abbrev pub depth_behind : ℕ → Token → ℕ
-depth_behind n null = n
-depth_behind n (boolean x) = n
-depth_behind n (number s) = n
-depth_behind n (string s) = n
-depth_behind n (name s) = n
-depth_behind n begin_array = suc n
-depth_behind n begin_object = suc n
-depth_behind n ends = pred n
+abbrev pub depth_after : ℕ → Token → ℕ
+depth_after n null = n
+depth_after n (boolean x) = n
+depth_after n (number s) = n
+depth_after n (string s) = n
+depth_after n (name s) = n
+depth_after n begin_array = suc n
+depth_after n begin_object = suc n
+depth_after n ends = pred n
 
 -- where nothing is open, the first; else the second
 abbrev pub by_depth : ℕ → List Token → List Token → List Token
@@ -21,9 +21,9 @@ by_depth zero xs ys = xs
 by_depth (suc n) xs ys = ys
 
 -- the tokens behind the first one that leaves nothing open, where so many are open before these
-abbrev pub behind : ℕ → List Token → List Token
-behind n [] = []
-behind n (x ∷ xs) = by_depth (depth_behind n x) xs (behind (depth_behind n x) xs)
+abbrev pub following : ℕ → List Token → List Token
+following n [] = []
+following n (x ∷ xs) = by_depth (depth_after n x) xs (following (depth_after n x) xs)
 
 -- an array or an object ends there, or the tape does
 abbrev pub is_end : List Token → Bool

@@ -2,8 +2,8 @@
 use Rattle.std.specs.Prelude.{◌≡◌, ℕ, ◌+◌, ◌<◌, ◌≤◌, List, ◌++◌, length, take}
 use Rattle.mes_json.specs.Tree.{Tree}
 use Rattle.mes_json.specs.Grammar.{IsText}
-use Rattle.mes_json.specs.declared.fault.Why.{Why}
-use Rattle.mes_json.specs.declared.fault.Why.TheVariants.{End, Depth, Byte}
+use Rattle.mes_json.specs.declared.fault.TextFaultKind.{TextFaultKind}
+use Rattle.mes_json.specs.declared.fault.TextFaultKind.TheVariants.{End, Depth, Byte}
 use Rattle.mes_json.specs.declared.fault.TextFault.{TextFault}
 use Rattle.mes_json.specs.declared.fault.ReadFault.{ReadFault}
 use Rattle.mes_json.specs.declared.fault.ReadFault.TheVariants.{Text, NoMemory}
@@ -13,7 +13,7 @@ abbrev pub Begins : ℕ → List ℕ → Type 0
 Begins d p = (q : List ℕ) × (t : Tree) × IsText d (p ++ q) t
 
 -- after the first n bytes: the bytes end there, or the next one nests too deep, or no text has it there
-abbrev pub IsReason : ℕ → List ℕ → ℕ → Why → Type 0
+abbrev pub IsReason : ℕ → List ℕ → ℕ → TextFaultKind → Type 0
 IsReason d b n End = n ≡ length b
 IsReason d b n Depth = (n < length b) × Begins (d + 1) (take (n + 1) b)
 IsReason d b n Byte = (n < length b) × (Begins (d + 1) (take (n + 1) b) → ⊥)

@@ -2,14 +2,14 @@
 use Rattle.std.specs.Prelude.{◌≡◌, ℕ, ◌<◌, List, length, get_or, take, Some}
 use Rattle.mes_json.specs.Machine.{State, run}
 use Rattle.mes_json.specs.Refusal.{Refuses}
-use Rattle.mes_json.specs.declared.limits.TheConstants.{NESTING_LIMIT}
+use Rattle.mes_json.specs.declared.limits.TheConstants.{MAX_NESTING}
 use Rattle.mes_json.specs.declared.fault.TextFault.{TextFault}
 use Rattle.mes_json.specs.declared.fault.ReadFault as fault
-use Rattle.mes_json.specs.declared.stop.Stop.{Stop}
-use Rattle.mes_json.specs.declared.stop.Stop.TheVariants.{Refused, NoMemory}
+use Rattle.mes_json.specs.declared.push_error.PushError.{PushError}
+use Rattle.mes_json.specs.declared.push_error.PushError.TheVariants.{Refused, NoMemory}
 
 -- the fault of a stop behind so many bytes
-abbrev pub fault_at : ℕ → Stop → fault.ReadFault
+abbrev pub fault_at : ℕ → PushError → fault.ReadFault
 fault_at n (Refused why) = fault.TheVariants.Text (record { byte = n; why = why })
 fault_at n NoMemory = fault.TheVariants.NoMemory
 
@@ -17,8 +17,8 @@ fault_at n NoMemory = fault.TheVariants.NoMemory
 pub record Stuck (s : State) (b : List ℕ) (f : TextFault) : Type 0 where
   pub inside : f.byte < length b
   pub before : State
-  pub reached : run NESTING_LIMIT s (take f.byte b) ≡ Some before
-  pub refuses : Refuses NESTING_LIMIT f.why before (get_or b f.byte 0)
+  pub reached : run MAX_NESTING s (take f.byte b) ≡ Some before
+  pub refuses : Refuses MAX_NESTING f.why before (get_or b f.byte 0)
 
 -- why the bytes behind the state s are not taken all
 abbrev pub StopsIn : State → List ℕ → fault.ReadFault → Type 0

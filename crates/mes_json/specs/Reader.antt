@@ -13,23 +13,23 @@ use Rattle.mes_json.specs.Machine.State.{state}
 use Rattle.mes_json.specs.Refusal.{Refuses}
 use Rattle.mes_json.specs.Tape.{spelled, spanned, value_due, name_due, valued, in_object, IsTape}
 use Rattle.mes_json.specs.EscapeView.{escape_view}
-use Rattle.mes_json.specs.declared.limits.TheConstants.{NESTING_LIMIT}
-use Rattle.mes_json.specs.declared.fault.Why.TheVariants.{Depth}
-use Rattle.mes_json.specs.declared.kind.Kind as kind
-use Rattle.mes_json.specs.declared.utf8.Mid as mid
-use Rattle.mes_json.specs.declared.word.Word as word
-use Rattle.mes_json.specs.declared.word.Said as said
+use Rattle.mes_json.specs.declared.limits.TheConstants.{MAX_NESTING}
+use Rattle.mes_json.specs.declared.fault.TextFaultKind.TheVariants.{Depth}
+use Rattle.mes_json.specs.declared.byte_class.ByteClass as kind
+use Rattle.mes_json.specs.declared.utf8.Utf8State as mid
+use Rattle.mes_json.specs.declared.literal.LiteralState as word
+use Rattle.mes_json.specs.declared.literal.LiteralStep as said
 use Rattle.mes_json.specs.declared.nesting.Open.{Open}
 use Rattle.mes_json.specs.declared.nesting.Open.TheVariants.{Object, Array}
-use Rattle.mes_json.specs.declared.at.Purpose as purpose
-use Rattle.mes_json.specs.declared.at.At as at
-use Rattle.mes_json.specs.declared.stop.Stop.{Stop}
-use Rattle.mes_json.specs.declared.stop.Stop.TheVariants.{Refused, NoMemory}
+use Rattle.mes_json.specs.declared.reader_state.Purpose as purpose
+use Rattle.mes_json.specs.declared.reader_state.ReaderState as at
+use Rattle.mes_json.specs.declared.push_error.PushError.{PushError}
+use Rattle.mes_json.specs.declared.push_error.PushError.TheVariants.{Refused, NoMemory}
 use Rattle.mes_json.specs.declared.reader.Reader.{Reader}
 use Rattle.mes_json.specs.declared.tape.Node as node
 
 -- what is due of a literal
-abbrev pub word_view : word.Word → Token
+abbrev pub word_view : word.LiteralState → Token
 word_view word.TheVariants.N = literal 0x75 (0x6C ∷ 0x6C ∷ []) null
 word_view word.TheVariants.Nu = literal 0x6C (0x6C ∷ []) null
 word_view word.TheVariants.Nul = literal 0x6C [] null
@@ -41,32 +41,32 @@ word_view word.TheVariants.Fa = literal 0x6C (0x73 ∷ 0x65 ∷ []) (boolean fal
 word_view word.TheVariants.Fal = literal 0x73 (0x65 ∷ []) (boolean false)
 word_view word.TheVariants.Fals = literal 0x65 [] (boolean false)
 
-abbrev pub said_view : said.Said → m.At
-said_view (said.TheVariants.More w) = m.At.token (word_view w)
-said_view said.TheVariants.Null = m.At.after null
-said_view (said.TheVariants.Bool x) = m.At.after (boolean x)
+abbrev pub said_view : said.LiteralStep → m.ReaderState
+said_view (said.TheVariants.More w) = m.ReaderState.token (word_view w)
+said_view said.TheVariants.Null = m.ReaderState.after null
+said_view (said.TheVariants.Bool x) = m.ReaderState.after (boolean x)
 
 -- the kind of the byte c
-abbrev pub kind_view : ℕ → kind.Kind → m.Kind
-kind_view c kind.TheVariants.Blank = m.Kind.blank
-kind_view c kind.TheVariants.Quote = m.Kind.quote
-kind_view c kind.TheVariants.Opening = m.Kind.opening
-kind_view c kind.TheVariants.Closing = m.Kind.closing
-kind_view c kind.TheVariants.OpeningArray = m.Kind.opening_array
-kind_view c kind.TheVariants.ClosingArray = m.Kind.closing_array
-kind_view c kind.TheVariants.Colon = m.Kind.colon
-kind_view c kind.TheVariants.Comma = m.Kind.comma
-kind_view c (kind.TheVariants.Word w) = m.Kind.begins (word_view w)
-kind_view c (kind.TheVariants.Digits part) = m.Kind.begins (digits part (c ∷ []))
-kind_view c kind.TheVariants.Other = m.Kind.other
+abbrev pub kind_view : ℕ → kind.ByteClass → m.ByteClass
+kind_view c kind.TheVariants.Blank = m.ByteClass.blank
+kind_view c kind.TheVariants.Quote = m.ByteClass.quote
+kind_view c kind.TheVariants.Opening = m.ByteClass.opening
+kind_view c kind.TheVariants.Closing = m.ByteClass.closing
+kind_view c kind.TheVariants.OpeningArray = m.ByteClass.opening_array
+kind_view c kind.TheVariants.ClosingArray = m.ByteClass.closing_array
+kind_view c kind.TheVariants.Colon = m.ByteClass.colon
+kind_view c kind.TheVariants.Comma = m.ByteClass.comma
+kind_view c (kind.TheVariants.LiteralState w) = m.ByteClass.begins (word_view w)
+kind_view c (kind.TheVariants.Digits part) = m.ByteClass.begins (digits part (c ∷ []))
+kind_view c kind.TheVariants.Other = m.ByteClass.other
 
-abbrev pub mid_view : mid.Mid → m.Mid
-mid_view mid.TheVariants.Between = m.Mid.between
-mid_view (mid.TheVariants.Within more least most) = m.Mid.within more least most
-mid_view (mid.TheVariants.Escape e) = m.Mid.escape (escape_view e)
+abbrev pub mid_view : mid.Utf8State → m.Utf8State
+mid_view mid.TheVariants.Between = m.Utf8State.between
+mid_view (mid.TheVariants.Within more least most) = m.Utf8State.within more least most
+mid_view (mid.TheVariants.Escape e) = m.Utf8State.escape (escape_view e)
 
 -- the state of the tape, with the comma or the colon behind it taken
-abbrev pub due_at : at.At → State → State
+abbrev pub due_at : at.ReaderState → State → State
 due_at at.TheVariants.Value s = value_due s
 due_at at.TheVariants.FirstItem s = s
 due_at at.TheVariants.FirstName s = s
@@ -79,7 +79,7 @@ due_at (at.TheVariants.Literal w) s = value_due s
 due_at (at.TheVariants.Digits part) s = value_due s
 
 -- that state, with what is read of a string, a literal or a number
-abbrev pub with_read : at.At → List ℕ → State → State
+abbrev pub with_read : at.ReaderState → List ℕ → State → State
 with_read at.TheVariants.Value b s = s
 with_read at.TheVariants.FirstItem b s = s
 with_read at.TheVariants.FirstName b s = s
@@ -87,11 +87,11 @@ with_read at.TheVariants.Name b s = s
 with_read at.TheVariants.Colon b s = s
 with_read at.TheVariants.After b s = s
 with_read (at.TheVariants.Quoted purpose.TheVariants.Name mid) b s =
-    in_object (λ ms. m.At.quoted (m.Purpose.for_name ms) (mid_view mid) b) s
+    in_object (λ ms. m.ReaderState.quoted (m.Purpose.for_name ms) (mid_view mid) b) s
 with_read (at.TheVariants.Quoted purpose.TheVariants.Value mid) b s =
-    valued (m.At.quoted m.Purpose.for_value (mid_view mid) b) s
-with_read (at.TheVariants.Literal w) b s = valued (m.At.token (word_view w)) s
-with_read (at.TheVariants.Digits part) b s = valued (m.At.token (digits part b)) s
+    valued (m.ReaderState.quoted m.Purpose.for_value (mid_view mid) b) s
+with_read (at.TheVariants.Literal w) b s = valued (m.ReaderState.token (word_view w)) s
+with_read (at.TheVariants.Digits part) b s = valued (m.ReaderState.token (digits part b)) s
 
 -- the state that the reader stands for
 abbrev pub state_view : Reader → State
@@ -119,26 +119,26 @@ outer xs = take (length xs - 1) xs
 -- a value is read
 pub record AtValue (nesting : List Open) (s : State) : Type 0 where
   pub frames : List Frame
-  pub is : s ≡ state frames m.At.value
+  pub is : s ≡ state frames m.ReaderState.value
   pub are_open : nesting ≡ opens frames
 
 -- an array's first item is read
 pub record AtFirstItem (nesting : List Open) (s : State) : Type 0 where
   pub frames : List Frame
-  pub is : s ≡ state frames m.At.first_item
+  pub is : s ≡ state frames m.ReaderState.first_item
   pub are_open : nesting ≡ opens frames ++ Array ∷ []
 
 -- an object's first name is read
 pub record AtFirstName (nesting : List Open) (s : State) : Type 0 where
   pub frames : List Frame
-  pub is : s ≡ state frames (m.At.name no_members)
+  pub is : s ≡ state frames (m.ReaderState.name no_members)
   pub are_open : nesting ≡ opens frames ++ Object ∷ []
 
 -- a name is read
 pub record AtName (Allowed : Members → Type 0) (nesting : List Open) (s : State) : Type 0 where
   pub frames : List Frame
   pub members : Members
-  pub is : s ≡ state frames (m.At.name members)
+  pub is : s ≡ state frames (m.ReaderState.name members)
   pub are_open : nesting ≡ opens frames ++ Object ∷ []
   pub allowed : Allowed members
 
@@ -147,18 +147,18 @@ pub record AtColon (nesting : List Open) (s : State) : Type 0 where
   pub frames : List Frame
   pub members : Members
   pub name : List ℕ
-  pub is : s ≡ state frames (m.At.named members name)
+  pub is : s ≡ state frames (m.ReaderState.named members name)
   pub are_open : nesting ≡ opens frames ++ Object ∷ []
 
 -- a value is read whole
 pub record AfterValue (nesting : List Open) (s : State) : Type 0 where
   pub frames : List Frame
   pub tree : Tree
-  pub is : s ≡ state frames (m.At.after tree)
+  pub is : s ≡ state frames (m.ReaderState.after tree)
   pub are_open : nesting ≡ opens frames
 
 -- the form of the state at each place
-abbrev pub IsAt : at.At → List Open → State → Type 0
+abbrev pub IsAt : at.ReaderState → List Open → State → Type 0
 IsAt at.TheVariants.Value nesting s = AtValue nesting s
 IsAt at.TheVariants.FirstItem nesting s = AtFirstItem nesting s
 IsAt at.TheVariants.FirstName nesting s = AtFirstName nesting s
@@ -171,7 +171,7 @@ IsAt (at.TheVariants.Literal w) nesting s = AtValue nesting s
 IsAt (at.TheVariants.Digits part) nesting s = AtValue nesting s
 
 -- where the text of the string or the number begins that is read, else where the buffer of texts ends
-abbrev pub read_from : at.At → ℕ → ℕ → ℕ
+abbrev pub read_from : at.ReaderState → ℕ → ℕ → ℕ
 read_from at.TheVariants.Value first end = end
 read_from at.TheVariants.FirstItem first end = end
 read_from at.TheVariants.FirstName first end = end
@@ -191,16 +191,16 @@ pub record Fits (r : Reader) : Type 0 where
 
 -- some bytes lead to the state
 abbrev pub Reached : Reader → Type 0
-Reached r = (p : List ℕ) × (run NESTING_LIMIT start p ≡ Some (state_view r))
+Reached r = (p : List ℕ) × (run MAX_NESTING start p ≡ Some (state_view r))
 
 -- why the byte c is not taken in the state s
-abbrev pub Stops : Stop → State → ℕ → Type 0
-Stops (Refused why) s c = Refuses NESTING_LIMIT why s c
+abbrev pub Stops : PushError → State → ℕ → Type 0
+Stops (Refused why) s c = Refuses MAX_NESTING why s c
 Stops NoMemory s c = Unit {0}
 
 -- the byte c leads from the state s to the next one, or why it is not taken
-abbrev pub Gives : {A : Type 0} → Result A Stop → State → ℕ → State → Type 0
-Gives (Ok _) s c next = step NESTING_LIMIT s c ≡ Some next
+abbrev pub Gives : {A : Type 0} → Result A PushError → State → ℕ → State → Type 0
+Gives (Ok _) s c next = step MAX_NESTING s c ≡ Some next
 Gives (Err stop) s c next = Stops stop s c
 
 -- the bytes up to one place lead to the old state, those up to another one to the new state
@@ -208,7 +208,7 @@ pub record RunsTo (old : Reader) (b : List ℕ) (from to : ℕ) (new : Reader) :
   pub forward : from ≤ to
   pub inside : to ≤ length b
   pub fits : Fits new
-  pub runs : (s : State) → run NESTING_LIMIT s (take from b) ≡ Some (state_view old) → run NESTING_LIMIT s (take to b) ≡ Some (state_view new)
+  pub runs : (s : State) → run MAX_NESTING s (take from b) ≡ Some (state_view old) → run MAX_NESTING s (take to b) ≡ Some (state_view new)
   pub reached : Reached old → Reached new
 
 -- a character that stands for itself in a string and takes no other byte
@@ -216,21 +216,21 @@ abbrev pub IsPlain : ℕ → Type 0
 IsPlain c = (32 ≤ c) × (c < 128) × (c ≢ 34) × (c ≢ 92)
 
 -- bytes of a string behind a whole character that are kept as they are, and where they lead within one
-pub record LeadsTo (q : List ℕ) (to : m.Mid) : Type 0 where
-  pub runs : (fs : List Frame) (p : m.Purpose) (b : List ℕ) → run NESTING_LIMIT (state fs (m.At.quoted p m.Mid.between b)) q ≡ Some (state fs (m.At.quoted p to (b ++ q)))
+pub record LeadsTo (q : List ℕ) (to : m.Utf8State) : Type 0 where
+  pub runs : (fs : List Frame) (p : m.Purpose) (b : List ℕ) → run MAX_NESTING (state fs (m.ReaderState.quoted p m.Utf8State.between b)) q ≡ Some (state fs (m.ReaderState.quoted p to (b ++ q)))
 
 -- whole characters of a string that stand for themselves
 abbrev pub StandAlone : List ℕ → Type 0
-StandAlone q = LeadsTo q m.Mid.between
+StandAlone q = LeadsTo q m.Utf8State.between
 
 -- a digit
 abbrev pub IsDigit : ℕ → Type 0
 IsDigit c = (48 ≤ c) × (c ≤ 57)
 
 -- the part of a number that the bytes lead to from this one, where they all go on with it
-abbrev pub part_behind : NumberState → List ℕ → Option NumberState
-part_behind x [] = Some x
-part_behind x (c ∷ q) = option_and_then (λ next. part_behind next q) (number_next x (letter_of c))
+abbrev pub part_after : NumberState → List ℕ → Option NumberState
+part_after x [] = Some x
+part_after x (c ∷ q) = option_and_then (λ next. part_after next q) (number_next x (letter_of c))
 
 -- white space
 abbrev pub IsBlank : ℕ → Type 0
@@ -241,7 +241,7 @@ abbrev pub KeepsOn : NumberState → Type 0
 KeepsOn x = (number_next x nought ≡ Some x) × (number_next x digit ≡ Some x)
 
 -- one more node, the place behind it, and what is open there
-pub record Puts (old : Reader) (nesting : List Open) (x : node.Node) (place : at.At) (new : Reader) : Type 0 where
+pub record Puts (old : Reader) (nesting : List Open) (x : node.Node) (place : at.ReaderState) (new : Reader) : Type 0 where
   pub at : new.at ≡ place
   pub nodes : new.nodes.items ≡ old.nodes.items ++ x ∷ []
   pub text : new.text.items ≡ old.text.items
@@ -274,7 +274,7 @@ pub record Stays (old new : Reader) : Type 0 where
   pub start : new.start ≡ old.start
 
 -- more bytes of text, and the place behind them
-pub record Keeps (old : Reader) (b : List ℕ) (place : at.At) (new : Reader) : Type 0 where
+pub record Keeps (old : Reader) (b : List ℕ) (place : at.ReaderState) (new : Reader) : Type 0 where
   pub at : new.at ≡ place
   pub text : new.text.items ≡ old.text.items ++ b
   pub nodes : new.nodes.items ≡ old.nodes.items
@@ -282,7 +282,7 @@ pub record Keeps (old : Reader) (b : List ℕ) (place : at.At) (new : Reader) : 
   pub start : new.start ≡ old.start
 
 -- a text begins with these bytes
-pub record Begins (old : Reader) (b : List ℕ) (place : at.At) (new : Reader) : Type 0 where
+pub record Begins (old : Reader) (b : List ℕ) (place : at.ReaderState) (new : Reader) : Type 0 where
   pub at : new.at ≡ place
   pub text : new.text.items ≡ old.text.items ++ b
   pub nodes : new.nodes.items ≡ old.nodes.items
@@ -290,19 +290,19 @@ pub record Begins (old : Reader) (b : List ℕ) (place : at.At) (new : Reader) :
   pub start : new.start ≡ length old.text.items
 
 -- why an object or an array is not entered
-abbrev pub NotEntered : Stop → List Open → Type 0
-NotEntered (Refused why) nesting = (why ≡ Depth) × (length nesting ≡ NESTING_LIMIT)
+abbrev pub NotEntered : PushError → List Open → Type 0
+NotEntered (Refused why) nesting = (why ≡ Depth) × (length nesting ≡ MAX_NESTING)
 NotEntered NoMemory nesting = Unit {0}
 
 -- an object or an array is entered, or why it is not
-abbrev pub Enters : {A : Type 0} → Result A Stop → Reader → Open → node.Node → at.At → Reader → Type 0
-Enters (Ok _) old open_one x place new = (length old.nesting.items < NESTING_LIMIT) × Puts old (old.nesting.items ++ open_one ∷ []) x place new
+abbrev pub Enters : {A : Type 0} → Result A PushError → Reader → Open → node.Node → at.ReaderState → Reader → Type 0
+Enters (Ok _) old open_one x place new = (length old.nesting.items < MAX_NESTING) × Puts old (old.nesting.items ++ open_one ∷ []) x place new
 Enters (Err stop) old open_one x place new = NotEntered stop old.nesting.items
 
 -- whether the value that is found is whole, and the tape then holds just that
 abbrev pub EndsWhole : Bool → Option Tree → Reader → Type 0
 EndsWhole true found r =
-    (t : Tree) × (found ≡ Some t) × (spelled r.text.items r.nodes.items ≡ state [] (m.At.after t)) × IsTape r.text.items r.nodes.items
+    (t : Tree) × (found ≡ Some t) × (spelled r.text.items r.nodes.items ≡ state [] (m.ReaderState.after t)) × IsTape r.text.items r.nodes.items
 EndsWhole false found r = found ≡ None
 
 -- the node of the string that is read
@@ -311,6 +311,6 @@ string_node purpose.TheVariants.Name r = node.TheVariants.Name r.start (length r
 string_node purpose.TheVariants.Value r = node.TheVariants.Text r.start (length r.text.items)
 
 -- the place behind it
-abbrev pub behind_string : purpose.Purpose → at.At
-behind_string purpose.TheVariants.Name = at.TheVariants.Colon
-behind_string purpose.TheVariants.Value = at.TheVariants.After
+abbrev pub following_string : purpose.Purpose → at.ReaderState
+following_string purpose.TheVariants.Name = at.TheVariants.Colon
+following_string purpose.TheVariants.Value = at.TheVariants.After

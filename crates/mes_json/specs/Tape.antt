@@ -8,9 +8,9 @@ use Rattle.mes_json.specs.Tree.{Tree, Items, Members}
 use Rattle.mes_json.specs.Tree.Tree.{null, boolean, number, string, array, object}
 use Rattle.mes_json.specs.Tree.Items.{no_items}
 use Rattle.mes_json.specs.Tree.Members.{no_members}
-use Rattle.mes_json.specs.Machine.{Frame, At, State, with_item, with_member, start}
+use Rattle.mes_json.specs.Machine.{Frame, ReaderState, State, with_item, with_member, start}
 use Rattle.mes_json.specs.Machine.Frame.{frame, array_frame}
-use Rattle.mes_json.specs.Machine.At.{value, first_item, name, quoted, named, token, after}
+use Rattle.mes_json.specs.Machine.ReaderState.{value, first_item, name, quoted, named, token, after}
 use Rattle.mes_json.specs.Machine.State.{state}
 use Rattle.mes_json.specs.declared.tape.Node.{Node}
 use Rattle.mes_json.specs.declared.tape.Node.TheVariants.{Null, Bool, Number, Text, Name, List as list, Map, End}
@@ -52,7 +52,7 @@ name_due (state fs (token x)) = state fs (token x)
 name_due (state fs (after t)) = member_joined fs t
 
 -- where a value is due, this is in its place
-abbrev pub valued : At → State → State
+abbrev pub valued : ReaderState → State → State
 valued a (state fs value) = state fs a
 valued a (state fs first_item) = state fs first_item
 valued a (state fs (name ms)) = state fs (name ms)
@@ -62,7 +62,7 @@ valued a (state fs (token x)) = state fs (token x)
 valued a (state fs (after t)) = state fs (after t)
 
 -- where a name is due, this is in its place
-abbrev pub in_object : (Members → At) → State → State
+abbrev pub in_object : (Members → ReaderState) → State → State
 in_object f (state fs value) = state fs value
 in_object f (state fs first_item) = state fs first_item
 in_object f (state fs (name ms)) = state fs (f ms)
@@ -72,10 +72,10 @@ in_object f (state fs (token x)) = state fs (token x)
 in_object f (state fs (after t)) = state fs (after t)
 
 -- the value is the last one of the innermost object or array, which ends
-abbrev pub ended_behind : List Frame → Tree → State
-ended_behind [] t = state [] (after t)
-ended_behind (frame ms k ∷ fs) t = state fs (after (object (with_member ms k t)))
-ended_behind (array_frame ts ∷ fs) t = state fs (after (array (with_item ts t)))
+abbrev pub ended_after : List Frame → Tree → State
+ended_after [] t = state [] (after t)
+ended_after (frame ms k ∷ fs) t = state fs (after (object (with_member ms k t)))
+ended_after (array_frame ts ∷ fs) t = state fs (after (array (with_item ts t)))
 
 -- the innermost object or array ends
 abbrev pub ended : State → State
@@ -85,7 +85,7 @@ ended (state fs (name ms)) = state fs (after (object ms))
 ended (state fs (quoted p m s)) = state fs (quoted p m s)
 ended (state fs (named ms k)) = state fs (named ms k)
 ended (state fs (token x)) = state fs (token x)
-ended (state fs (after t)) = ended_behind fs t
+ended (state fs (after t)) = ended_after fs t
 
 -- the state behind one more node
 abbrev pub apply : List ℕ → Node → State → State

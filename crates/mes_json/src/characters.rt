@@ -2,7 +2,7 @@
 ghost use Rattle.std.specs.Prelude.{◌↔◌, ◌≤◌, IsTrue, length, take, slice_index};
 ghost use Rattle.mes_json.specs.Reader.{StandAlone};
 
-use crate::plain::plain_run;
+use crate::plain_scan::plain_run;
 
 /// How many bytes the longest character has.
 const LONGEST: usize = 4;

@@ -5,13 +5,13 @@ ghost use Rattle.mes_json.specs.Tree.{Tree, Items as items, Members as members};
 ghost use Rattle.mes_json.specs.Tape.{span, IsSpan, HasSpan};
 ghost use Rattle.mes_json.specs.Tokens.{BeginsWith, BeginsItems, BeginsMembers};
 ghost use Rattle.mes_json.specs.Cursor.{tokens_held, is_null, as_bool, as_number, as_text, as_items, as_members, count_of, FindsItems, FindsMembers, NextItem, NextMember};
-ghost use Rattle.mes_json.specs.Passing.{is_end, as_name, behind};
+ghost use Rattle.mes_json.specs.Passing.{is_end, as_name, following};
 ghost use Rattle.mes_json.specs.Lengths.{TellLengths};
 ghost use Rattle.mes_json.specs.ValueKinds.{kind_of};
 
 mod tree;
 
-use crate::skip::{behind_value, first};
+use crate::skip::{first, following_value};
 use crate::tape::{Node, span_text};
 use crate::value_kind::ValueKind;
 use std::marker::Model;
@@ -163,12 +163,12 @@ impl<'a> Element<'a> {
     }
 
     /// The place behind the value.
-    fn behind(&self) -> Element<'a>
-        ensures { result ≡ behind 0 self.now }
+    fn following(&self) -> Element<'a>
+        ensures { result ≡ following 0 self.now }
     {
         Element {
             texts: self.texts,
-            nodes: behind_value(self.nodes),
+            nodes: following_value(self.nodes),
         }
     }
 
@@ -210,8 +210,8 @@ impl<'a> Items<'a> {
         if self.next.is_end() {
             return None;
         }
-        let behind = self.next.behind();
-        Some(mem::replace(&mut self.next, behind))
+        let following = self.next.following();
+        Some(mem::replace(&mut self.next, following))
     }
 
     /// How many items there are, counted up to `most`. Its cost is that of as many calls of `next`.
@@ -256,7 +256,7 @@ impl<'a> Members<'a> {
     {
         let name = self.next.name()?;
         let value = self.next.inside();
-        self.next = value.behind();
+        self.next = value.following();
         Some((name, value))
     }
 }

@@ -2,13 +2,13 @@
 ghost use Rattle.std.specs.Prelude.{◌≡◌, ◌↔◌, ◌<◌, ◌≤◌, IsTrue, Some, None, length, take, slice_index};
 ghost use Rattle.std.specs.List.{AllByRecursion};
 ghost use Rattle.mes_fixed.specs.Automaton.{letter_of, number_next};
-ghost use Rattle.mes_json.specs.Reader.{IsDigit, KeepsOn, part_behind};
+ghost use Rattle.mes_json.specs.Reader.{IsDigit, KeepsOn, part_after};
 ghost use Rattle.mes_fixed.specs.declared.automaton.NumberState.TheVariants.{AtStart};
 
 use mes_fixed::automaton::{NumberState, next_state};
 
 /// Whether a digit leaves a number in the part that it is in (RFC 8259, section 6).
-pub(crate) fn keeps_on(part: NumberState) -> bool
+pub(crate) fn continues_number(part: NumberState) -> bool
     ensures { IsTrue result ↔ KeepsOn part }
 {
     match part {
@@ -42,12 +42,12 @@ pub(crate) fn digit_run(bytes: &[u8]) -> usize
 /// How many bytes of a number the slice begins with, and the part of it that they lead to.
 pub(crate) fn number_run(bytes: &[u8]) -> (usize, NumberState)
     ensures inside { result.0 ≤ length bytes.now }
-    ensures leads { part_behind AtStart (take result.0 bytes.now) ≡ Some result.1 }
+    ensures leads { part_after AtStart (take result.0 bytes.now) ≡ Some result.1 }
     ensures maximal { result.0 < length bytes.now → number_next result.1 (letter_of (slice_index bytes.now result.0)) ≡ None }
 {
     let mut part = NumberState::AtStart;
     for (place, byte) in bytes.iter().enumerate() {
-        if is_digit(*byte) && keeps_on(part) {
+        if is_digit(*byte) && continues_number(part) {
             continue;
         }
         match next_state(part, *byte) {

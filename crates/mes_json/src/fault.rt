@@ -6,7 +6,7 @@ use crate::memory::{NoMemory, NoMemoryAt};
 
 /// Why no JSON text goes on at a place.
 #[derive(Debug, Clone, Copy, PartialEq, Eq)]
-pub enum Why {
+pub enum TextFaultKind {
     /// The bytes end before the text does.
     End,
     /// The byte opens an array or an object past the nesting limit.
@@ -21,7 +21,7 @@ pub struct TextFault {
     /// How many bytes stand before it: the length of the longest front that some JSON text goes on from.
     pub byte: u64,
     /// Why no text goes on there.
-    pub why: Why,
+    pub why: TextFaultKind,
 }
 
 /// Why a JSON text was not read.

@@ -4,8 +4,8 @@ ghost use Rattle.mes_json.specs.Canonical.{quoted_text, canonical, canonical_ite
 ghost use Rattle.mes_json.specs.View.{view, items_view, members_view};
 ghost use Rattle.mes_json.specs.Writable.{member_text};
 
-use crate::kept::kept_run;
 use crate::text::Text;
+use crate::unescaped::kept_run;
 use crate::value::Json;
 use crate::write_string::escaped_length;
 
@@ -15,7 +15,7 @@ pub fn text_length(json: &Json, most: usize) -> Option<usize>
     ensures some { IfSome result (λ n. (n ≡ length (canonical (view json.now))) × n ≤ most) }
     ensures none { IfNone result (most < length (canonical (view json.now))) }
 {
-    let room = room_behind_value(json, most)?;
+    let room = capacity_after_value(json, most)?;
     Some(most - room)
 }
 
@@ -23,7 +23,7 @@ pub fn text_length(json: &Json, most: usize) -> Option<usize>
 
 #[cycle(length)]
 #[tactic(auto, using(crate::proofs::LengthLemmas::object_length))]
-fn room_behind_value(json: &Json, room: usize) -> Option<usize>
+fn capacity_after_value(json: &Json, room: usize) -> Option<usize>
     ensures some { IfSome result (λ free. free + length (canonical (view json.now)) ≡ room) }
     ensures none { IfNone result (room < length (canonical (view json.now))) }
 {
@@ -32,52 +32,52 @@ fn room_behind_value(json: &Json, room: usize) -> Option<usize>
         Json::Bool(false) => room.checked_sub(b"false".len()),
         Json::Bool(true) => room.checked_sub(b"true".len()),
         Json::Num(number) => room.checked_sub(number.as_str().len()),
-        Json::Text(text) => room_behind_quoted(text, room),
-        Json::List(items) => room_behind_items(items, room.checked_sub(b"[]".len())?),
-        Json::Map(members) => room_behind_members(members, room.checked_sub(b"{}".len())?),
+        Json::Text(text) => capacity_after_quoted(text, room),
+        Json::List(items) => capacity_after_items(items, room.checked_sub(b"[]".len())?),
+        Json::Map(members) => capacity_after_members(members, room.checked_sub(b"{}".len())?),
     }
 }
 
 #[cycle(length)]
-fn room_behind_items(items: &[Json], room: usize) -> Option<usize>
+fn capacity_after_items(items: &[Json], room: usize) -> Option<usize>
     ensures some { IfSome result (λ free. free + length (canonical_items (items_view items.now)) ≡ room) }
     ensures none { IfNone result (room < length (canonical_items (items_view items.now))) }
 {
     let mut free = room;
     if let [first, rest @ ..] = items {
-        free = room_behind_value(first, free)?;
+        free = capacity_after_value(first, free)?;
         for item in rest {
-            free = room_behind_value(item, free.checked_sub(b",".len())?)?;
+            free = capacity_after_value(item, free.checked_sub(b",".len())?)?;
         }
     }
     Some(free)
 }
 
 #[cycle(length)]
-fn room_behind_members(members: &[(Text, Json)], room: usize) -> Option<usize>
+fn capacity_after_members(members: &[(Text, Json)], room: usize) -> Option<usize>
     ensures some { IfSome result (λ free. free + length (canonical_members (members_view members.now)) ≡ room) }
     ensures none { IfNone result (room < length (canonical_members (members_view members.now))) }
 {
     let mut free = room;
     if let [(name, value), rest @ ..] = members {
-        free = room_behind_member(name, value, free)?;
+        free = capacity_after_member(name, value, free)?;
         for (name, value) in rest {
-            free = room_behind_member(name, value, free.checked_sub(b",".len())?)?;
+            free = capacity_after_member(name, value, free.checked_sub(b",".len())?)?;
         }
     }
     Some(free)
 }
 
 #[cycle(length)]
-fn room_behind_member(name: &Text, value: &Json, room: usize) -> Option<usize>
+fn capacity_after_member(name: &Text, value: &Json, room: usize) -> Option<usize>
     ensures some { IfSome result (λ free. free + length (member_text name.now (view value.now)) ≡ room) }
     ensures none { IfNone result (room < length (member_text name.now (view value.now))) }
 {
-    let room = room_behind_quoted(name, room)?;
-    room_behind_value(value, room.checked_sub(b":".len())?)
+    let room = capacity_after_quoted(name, room)?;
+    capacity_after_value(value, room.checked_sub(b":".len())?)
 }
 
-fn room_behind_quoted(text: &Text, room: usize) -> Option<usize>
+fn capacity_after_quoted(text: &Text, room: usize) -> Option<usize>
     ensures some { IfSome result (λ free. free + length (quoted_text text.now) ≡ room) }
     ensures none { IfNone result (room < length (quoted_text text.now)) }
 {

@@ -1,14 +1,14 @@
 //! How long the arrays and the objects on a tape are.
 ghost use Rattle.std.specs.Prelude.{◌≡◌, ◌≢◌};
-ghost use Rattle.mes_json.specs.Lengths.{told, telling};
+ghost use Rattle.mes_json.specs.Lengths.{reported, telling};
 
 use crate::tape::Node;
 
 impl Node {
     /// How many nodes behind this one belong to its value, where it tells that.
     #[inline(always)]
-    pub(crate) fn told(self) -> Option<usize>
-        ensures { result ≡ told self }
+    pub(crate) fn reported(self) -> Option<usize>
+        ensures { result ≡ reported self }
     {
         match self {
             Node::List { length } | Node::Map { length } => {
@@ -24,13 +24,13 @@ impl Node {
 
     /// Has an array or an object tell that it has so many nodes behind this one.
     #[inline(always)]
-    pub(crate) fn tell(&mut self, told: u32)
-        ensures { self.new ≡ telling told self.old }
+    pub(crate) fn tell(&mut self, reported: u32)
+        ensures { self.new ≡ telling reported self.old }
     {
         if let Node::Map { length } = self {
-            *length = told;
+            *length = reported;
         } else if let Node::List { length } = self {
-            *length = told;
+            *length = reported;
         }
     }
 }

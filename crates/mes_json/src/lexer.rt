@@ -8,15 +8,15 @@ ghost use Rattle.mes_json.specs.Reader.{Fits, state_view};
 ghost use Rattle.mes_json.specs.Tokens.{tokens};
 ghost use Rattle.mes_json.specs.Place.{Begins};
 ghost use Rattle.mes_json.specs.View.{view};
-ghost use Rattle.mes_json.specs.Lexer.{HasLexed, HasNoMemory, IsOutOfMemory, IsLexFault, IsPossible, StandsFor, Tells, held};
+ghost use Rattle.mes_json.specs.Lexer.{HasLexed, HasNoMemory, IsOutOfMemory, IsLexFault, IsPossible, Represents, Reports, held};
 ghost use Rattle.mes_json.specs.declared.fault.ReadFault.TheVariants.{NoMemory as no_memory};
 
-use crate::fault::{ReadFault, TextFault, Why};
-use crate::limits::NESTING_LIMIT;
+use crate::fault::{ReadFault, TextFault, TextFaultKind};
+use crate::limits::MAX_NESTING;
 use crate::memory::{NoMemory, NoMemoryAt};
+use crate::push_error::PushError;
+use crate::push_run::RunStop;
 use crate::reader::Reader;
-use crate::run::RunStop;
-use crate::stop::Stop;
 use crate::tape::{Node, Tape};
 use crate::texts::Texts;
 use crate::value::Json;
@@ -56,7 +56,7 @@ impl LexerState {
 
     /// A growth was refused memory.
     #[inline(never)]
-    fn lose(&mut self)
+    fn run_out_of_memory(&mut self)
         ensures { self.new ≡ LexerState.OutOfMemory }
     {
         *self = LexerState::OutOfMemory;
@@ -68,11 +68,11 @@ impl LexerState {
     #[inline(always)]
     fn take(&mut self, alloc: Global, count: u64) -> Result<Tape, ReadFault>
         requires { IsPossible (count, self.old) }
-        ensures read { (p : List ℕ) → StandsFor count self.old p → IfOk result (λ tape. (t : Tree) × IsText NESTING_LIMIT p t × (tape ≡ tokens t)) }
-        ensures only { (p : List ℕ) → StandsFor count self.old p → (t : Tree) → IsText NESTING_LIMIT p t
+        ensures read { (p : List ℕ) → Represents count self.old p → IfOk result (λ tape. (t : Tree) × IsText MAX_NESTING p t × (tape ≡ tokens t)) }
+        ensures only { (p : List ℕ) → Represents count self.old p → (t : Tree) → IsText MAX_NESTING p t
             → MatchResult result (λ tape. tape ≡ tokens t) (λ e. e ≡ ReadFault.NoMemory) }
-        ensures fault { (p : List ℕ) → StandsFor count self.old p → IfErr result (λ e. IsLexFault NESTING_LIMIT p e) }
-        ensures told { (p : List ℕ) → StandsFor count self.old p → (Begins NESTING_LIMIT p → ⊥) → (HasNoMemory self.old → ⊥) → result ≢ Err ReadFault.NoMemory }
+        ensures fault { (p : List ℕ) → Represents count self.old p → IfErr result (λ e. IsLexFault MAX_NESTING p e) }
+        ensures reported { (p : List ℕ) → Represents count self.old p → (Begins MAX_NESTING p → ⊥) → (HasNoMemory self.old → ⊥) → result ≢ Err ReadFault.NoMemory }
         ensures memory { HasNoMemory self.old → result ≡ Err ReadFault.NoMemory }
     {
         match self {
@@ -80,7 +80,7 @@ impl LexerState {
                 Some(tape) => Ok(tape),
                 None => Err(ReadFault::Text(TextFault {
                     byte: count,
-                    why: Why::End,
+                    why: TextFaultKind::End,
                 })),
             },
             LexerState::Faulty(fault) => Err(ReadFault::Text(*fault)),
@@ -93,7 +93,7 @@ impl LexerState {
     fn restart(&mut self, alloc: Global, texts: Texts, nodes: Vec<Node>)
         requires texts { texts.items ≡ [] }
         requires nodes { nodes.items ≡ [] }
-        ensures stands { StandsFor 0 self.new [] }
+        ensures represents { Represents 0 self.new [] }
         ensures memory { HasNoMemory self.new → ⊥ }
     {
         match self {
@@ -127,7 +127,7 @@ impl Lexer {
         Lexer::begin(alloc, Reader::new(alloc))
     }
 
-    /// A lexer of no byte in the memory of a tape that is not wanted any more, as far as `ROOM_KEPT` goes. Takes no memory.
+    /// A lexer of no byte in the memory of a tape that is not wanted any more, as far as `MAX_REUSED_CAPACITY` goes. Takes no memory.
     pub fn reusing(alloc: Global, tape: Tape) -> Lexer
         ensures lexed { HasLexed result [] }
         ensures memory { IsOutOfMemory result → ⊥ }
@@ -154,10 +154,10 @@ impl Lexer {
     #[inline(never)]
     pub fn push(&mut self, byte: u8) -> Result<(), NoMemory>
         ensures lexed { (p : List ℕ) → HasLexed self.old p → HasLexed self.new (p ++ byte ∷ []) }
-        ensures tells { Tells result self.new }
+        ensures reports { Reports result self.new }
         ensures stays { IsOutOfMemory self.old → IsOutOfMemory self.new }
         // Behind a fault nothing wants memory.
-        ensures swallows { (p : List ℕ) → HasLexed self.old p → (Begins NESTING_LIMIT p → ⊥) → (IsOutOfMemory self.old → ⊥) → IsOutOfMemory self.new → ⊥ }
+        ensures swallows { (p : List ℕ) → HasLexed self.old p → (Begins MAX_NESTING p → ⊥) → (IsOutOfMemory self.old → ⊥) → IsOutOfMemory self.new → ⊥ }
     {
         match &mut self.state {
             LexerState::Reading(reader) => match reader.step(byte) {
@@ -165,15 +165,15 @@ impl Lexer {
                     self.count = self.count.saturating_add(1);
                     Ok(())
                 }
-                Err(Stop::Refused(why)) => {
+                Err(PushError::Refused(why)) => {
                     self.state.fail(TextFault {
                         byte: self.count,
                         why,
                     });
                     Ok(())
                 }
-                Err(Stop::NoMemory) => {
-                    self.state.lose();
+                Err(PushError::NoMemory) => {
+                    self.state.run_out_of_memory();
                     Err(NoMemory)
                 }
             },
@@ -186,14 +186,14 @@ impl Lexer {
     #[inline(always)]
     pub fn push_run(&mut self, bytes: &[u8]) -> Result<(), NoMemoryAt>
         ensures lexed { (p : List ℕ) → HasLexed self.old p → HasLexed self.new (p ++ bytes.now) }
-        ensures tells { Tells result self.new }
+        ensures reports { Reports result self.new }
         ensures stays { IsOutOfMemory self.old → IsOutOfMemory self.new }
         // Behind a fault nothing wants memory.
-        ensures swallows { (p : List ℕ) → HasLexed self.old p → (Begins NESTING_LIMIT p → ⊥) → (IsOutOfMemory self.old → ⊥) → IsOutOfMemory self.new → ⊥ }
+        ensures swallows { (p : List ℕ) → HasLexed self.old p → (Begins MAX_NESTING p → ⊥) → (IsOutOfMemory self.old → ⊥) → IsOutOfMemory self.new → ⊥ }
         // Memory was refused for a byte of the run, which `push` could not take; behind a refusal it is so for the first one again.
         ensures taken { IfErr result (λ refused. 0 < length bytes.now → refused.taken < length bytes.now) }
         // Those before it were taken, and some text goes on from them.
-        ensures before { (p : List ℕ) → HasLexed self.old p → (IsOutOfMemory self.old → ⊥) → IfErr result (λ refused. Begins NESTING_LIMIT (p ++ take refused.taken bytes.now)) }
+        ensures before { (p : List ℕ) → HasLexed self.old p → (IsOutOfMemory self.old → ⊥) → IfErr result (λ refused. Begins MAX_NESTING (p ++ take refused.taken bytes.now)) }
         ensures again { IsOutOfMemory self.old → IfErr result (λ refused. refused.taken ≡ 0) }
     {
         match &mut self.state {
@@ -203,14 +203,14 @@ impl Lexer {
                     Ok(())
                 }
                 Err(RunStop { place, stop }) => match stop {
-                    Stop::Refused(why) => {
+                    PushError::Refused(why) => {
                         self.state = LexerState::Faulty(TextFault {
                             byte: self.count.saturating_add(place as u64),
                             why,
                         });
                         Ok(())
                     }
-                    Stop::NoMemory => {
+                    PushError::NoMemory => {
                         self.state = LexerState::OutOfMemory;
                         Err(NoMemoryAt { taken: place })
                     }
@@ -225,7 +225,7 @@ impl Lexer {
     pub fn held(&self) -> u64
         ensures count { result ≡ held self.now }
         // None behind a fault or a want of memory.
-        ensures fault { (p : List ℕ) → HasLexed self.now p → (Begins NESTING_LIMIT p → ⊥) → result ≡ 0 }
+        ensures fault { (p : List ℕ) → HasLexed self.now p → (Begins MAX_NESTING p → ⊥) → result ≡ 0 }
         ensures memory { IsOutOfMemory self.now → result ≡ 0 }
     {
         match &self.state {
@@ -238,15 +238,15 @@ impl Lexer {
     /// The tree that the bytes spell, or their fault.
     pub fn finish(self) -> Result<Json, ReadFault>
         // What `Ok` holds: by the grammar, the bytes spell this value, and no text is refused but for want of memory.
-        ensures read { (p : List ℕ) → HasLexed self p → IfOk result (λ json. IsText NESTING_LIMIT p (view json)) }
-        ensures only { (p : List ℕ) → HasLexed self p → (t : Tree) → IsText NESTING_LIMIT p t
+        ensures read { (p : List ℕ) → HasLexed self p → IfOk result (λ json. IsText MAX_NESTING p (view json)) }
+        ensures only { (p : List ℕ) → HasLexed self p → (t : Tree) → IsText MAX_NESTING p t
             → MatchResult result (λ json. view json ≡ t) (λ e. e ≡ ReadFault.NoMemory) }
 
         // What each refusal means: the place is the length of the longest front that some text goes on from, as far as a u64 counts.
-        ensures fault { (p : List ℕ) → HasLexed self p → IfErr result (λ e. IsLexFault NESTING_LIMIT p e) }
+        ensures fault { (p : List ℕ) → HasLexed self p → IfErr result (λ e. IsLexFault MAX_NESTING p e) }
 
         // A fault is told whatever memory there is; want of memory is answered again.
-        ensures told { (p : List ℕ) → HasLexed self p → (Begins NESTING_LIMIT p → ⊥) → (IsOutOfMemory self → ⊥) → result ≢ Err ReadFault.NoMemory }
+        ensures reported { (p : List ℕ) → HasLexed self p → (Begins MAX_NESTING p → ⊥) → (IsOutOfMemory self → ⊥) → result ≢ Err ReadFault.NoMemory }
         ensures memory { IsOutOfMemory self → result ≡ Err ReadFault.NoMemory }
     {
         let alloc = self.alloc;
@@ -257,13 +257,13 @@ impl Lexer {
     /// The tape of the value that the bytes spell, or their fault.
     pub fn end(mut self) -> Result<Tape, ReadFault>
         // What `Ok` holds: by the grammar, the bytes spell the value of these tokens, and no text is refused but for want of memory.
-        ensures read { (p : List ℕ) → HasLexed self p → IfOk result (λ tape. (t : Tree) × IsText NESTING_LIMIT p t × (tape ≡ tokens t)) }
-        ensures only { (p : List ℕ) → HasLexed self p → (t : Tree) → IsText NESTING_LIMIT p t
+        ensures read { (p : List ℕ) → HasLexed self p → IfOk result (λ tape. (t : Tree) × IsText MAX_NESTING p t × (tape ≡ tokens t)) }
+        ensures only { (p : List ℕ) → HasLexed self p → (t : Tree) → IsText MAX_NESTING p t
             → MatchResult result (λ tape. tape ≡ tokens t) (λ e. e ≡ ReadFault.NoMemory) }
 
         // What each refusal means, as of `finish`.
-        ensures fault { (p : List ℕ) → HasLexed self p → IfErr result (λ e. IsLexFault NESTING_LIMIT p e) }
-        ensures told { (p : List ℕ) → HasLexed self p → (Begins NESTING_LIMIT p → ⊥) → (IsOutOfMemory self → ⊥) → result ≢ Err ReadFault.NoMemory }
+        ensures fault { (p : List ℕ) → HasLexed self p → IfErr result (λ e. IsLexFault MAX_NESTING p e) }
+        ensures reported { (p : List ℕ) → HasLexed self p → (Begins MAX_NESTING p → ⊥) → (IsOutOfMemory self → ⊥) → result ≢ Err ReadFault.NoMemory }
         ensures memory { IsOutOfMemory self → result ≡ Err ReadFault.NoMemory }
     {
         self.take()
@@ -272,11 +272,11 @@ impl Lexer {
     /// The same, and the lexer is one of no byte then, so that nothing is moved but the tape. `reuse` gives it the tape's memory again.
     #[inline(always)]
     pub fn take(&mut self) -> Result<Tape, ReadFault>
-        ensures read { (p : List ℕ) → HasLexed self.old p → IfOk result (λ tape. (t : Tree) × IsText NESTING_LIMIT p t × (tape ≡ tokens t)) }
-        ensures only { (p : List ℕ) → HasLexed self.old p → (t : Tree) → IsText NESTING_LIMIT p t
+        ensures read { (p : List ℕ) → HasLexed self.old p → IfOk result (λ tape. (t : Tree) × IsText MAX_NESTING p t × (tape ≡ tokens t)) }
+        ensures only { (p : List ℕ) → HasLexed self.old p → (t : Tree) → IsText MAX_NESTING p t
             → MatchResult result (λ tape. tape ≡ tokens t) (λ e. e ≡ ReadFault.NoMemory) }
-        ensures fault { (p : List ℕ) → HasLexed self.old p → IfErr result (λ e. IsLexFault NESTING_LIMIT p e) }
-        ensures told { (p : List ℕ) → HasLexed self.old p → (Begins NESTING_LIMIT p → ⊥) → (IsOutOfMemory self.old → ⊥) → result ≢ Err ReadFault.NoMemory }
+        ensures fault { (p : List ℕ) → HasLexed self.old p → IfErr result (λ e. IsLexFault MAX_NESTING p e) }
+        ensures reported { (p : List ℕ) → HasLexed self.old p → (Begins MAX_NESTING p → ⊥) → (IsOutOfMemory self.old → ⊥) → result ≢ Err ReadFault.NoMemory }
         ensures refused { IsOutOfMemory self.old → result ≡ Err ReadFault.NoMemory }
         ensures lexed { HasLexed self.new [] }
         ensures memory { IsOutOfMemory self.new → ⊥ }

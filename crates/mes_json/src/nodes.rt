@@ -3,10 +3,10 @@ ghost use Rattle.std.specs.Prelude.{◌≡◌, ℕ, ◌+◌, ◌-◌, ◌<◌, �
 ghost use Rattle.std.specs.List.{AllByRecursion};
 ghost use Rattle.mes_json.specs.Tape.{HasSpan};
 ghost use Rattle.mes_json.specs.Cursor.{tokens_held};
-ghost use Rattle.mes_json.specs.Lengths.{told, untold, IsLeaf, TellLengths};
+ghost use Rattle.mes_json.specs.Lengths.{reported, unreported, IsLeaf, TellLengths};
 
 use crate::lengths::kept_length;
-use crate::limits::NESTING_LIMIT;
+use crate::limits::MAX_NESTING;
 use crate::memory::NoMemory;
 use crate::tape::Node;
 use arrayvec::ArrayVec;
@@ -21,17 +21,17 @@ pub(crate) struct Nodes {
     nodes: Vec<Node>,
     /// Where the arrays and objects begin that are open, the innermost last. Of more than there is room for, the outer ones are let
     /// go, and tell no length.
-    begins: ArrayVec<usize, NESTING_LIMIT>,
+    begins: ArrayVec<usize, MAX_NESTING>,
 }
 
 impl Model for Nodes {
     ghost use Rattle.std.specs.Prelude.{map, reverse, vec_capacity};
     ghost use Rattle.mes_json.specs.Nodes.{Nodes as nodes_seen};
-    ghost use Rattle.mes_json.specs.Lengths.{untold, AreBegun};
+    ghost use Rattle.mes_json.specs.Lengths.{unreported, AreBegun};
 
     ghost Value = { nodes_seen };
 
-    ghost view = { λ n. record { items = map untold n.nodes.items; room = vec_capacity n.nodes } };
+    ghost view = { λ n. record { items = map unreported n.nodes.items; room = vec_capacity n.nodes } };
 
     ghost invariant = { λ n. AreBegun (reverse n.begins.items) n.nodes.items };
 }
@@ -61,7 +61,7 @@ impl Nodes {
     pub(crate) fn take(&mut self, alloc: Global) -> Vec<Node>
         ensures held { (texts : List ℕ) → tokens_held texts result.items ≡ tokens_held texts self.old.items }
         ensures spans { (texts : List ℕ) → AllByRecursion (HasSpan texts) self.old.items → AllByRecursion (HasSpan texts) result.items }
-        ensures told { TellLengths result.items }
+        ensures reported { TellLengths result.items }
         ensures left { self.new.items ≡ [] }
     {
         self.begins.clear();
@@ -71,7 +71,7 @@ impl Nodes {
     /// Puts a node behind the others. Only the growth is out of line, so a node costs a few instructions wherever one is put.
     #[inline(always)]
     pub(crate) fn put(&mut self, node: Node) -> Result<(), NoMemory>
-        requires { untold node ≡ node }
+        requires { unreported node ≡ node }
         ensures ok { OnOk result (self.new.items ≡ self.old.items ++ node ∷ []) }
         ensures err { OnErr result (self.new.items ≡ self.old.items) }
     {
@@ -85,8 +85,8 @@ impl Nodes {
     /// Puts two nodes behind the others, or none.
     #[inline(always)]
     pub(crate) fn put_both(&mut self, first: Node, second: Node) -> Result<(), NoMemory>
-        requires first { untold first ≡ first }
-        requires second { untold second ≡ second }
+        requires first { unreported first ≡ first }
+        requires second { unreported second ≡ second }
         ensures ok { OnOk result (self.new.items ≡ self.old.items ++ first ∷ second ∷ []) }
         ensures err { OnErr result (self.new.items ≡ self.old.items) }
     {
@@ -129,7 +129,7 @@ impl Nodes {
     #[inline(always)]
     fn put_reserved(&mut self, node: Node)
         requires room { length self.old.items < self.old.room }
-        requires untold { untold node ≡ node }
+        requires unreported { unreported node ≡ node }
         ensures items { self.new.items ≡ self.old.items ++ node ∷ [] }
         ensures room { self.new.room ≡ self.old.room }
     {
@@ -163,7 +163,7 @@ impl Nodes {
     #[inline(always)]
     fn begin(&mut self, node: Node)
         requires room { length self.old.items < self.old.room }
-        requires unknown { told node ≡ None }
+        requires unknown { reported node ≡ None }
         ensures items { self.new.items ≡ self.old.items ++ node ∷ [] }
         ensures room { self.new.room ≡ self.old.room }
     {

@@ -1,27 +1,27 @@
 //! The reader: takes a JSON text a byte at a time and keeps it as a tape.
 ghost use Rattle.std.specs.Prelude.{◌≡◌, ◌+◌, ◌<◌, ◌≤◌, [], ◌∷◌, length, option_map, slice_index, encode_utf8, IfOk, IfErr, OnOk, OnErr};
-ghost use Rattle.mes_json.specs.declared.stop.Stop.TheVariants.{NoMemory as no_memory};
+ghost use Rattle.mes_json.specs.declared.push_error.PushError.TheVariants.{NoMemory as no_memory};
 ghost use Rattle.mes_json.specs.Machine.{start, finish};
 ghost use Rattle.mes_json.specs.Tokens.{tokens};
-ghost use Rattle.mes_json.specs.Lengths.{untold};
-ghost use Rattle.mes_json.specs.Reader.{Fits, Reached, EndsWhole, Gives, RunsTo, Enters, Puts, Keeps, Stays, Begins, innermost, outer, string_node, behind_string, state_view};
+ghost use Rattle.mes_json.specs.Lengths.{unreported};
+ghost use Rattle.mes_json.specs.Reader.{Fits, Reached, EndsWhole, Gives, RunsTo, Enters, Puts, Keeps, Stays, Begins, innermost, outer, string_node, following_string, state_view};
 
-use crate::at::{At, Purpose};
-use crate::blank::blank_run;
+use crate::byte_class::ByteClass;
 use crate::characters::character_run;
-use crate::digits::{digit_run, keeps_on};
+use crate::digits::{continues_number, digit_run};
 use crate::escape::{Escape, Move, whole_escape};
-use crate::fault::Why;
-use crate::kind::Kind;
-use crate::limits::NESTING_LIMIT;
+use crate::fault::TextFaultKind;
+use crate::limits::MAX_NESTING;
+use crate::literal::{LiteralState, LiteralStep};
 use crate::memory::NoMemory;
 use crate::nesting::Open;
 use crate::nodes::Nodes;
-use crate::stop::Stop;
+use crate::push_error::PushError;
+use crate::reader_state::{Purpose, ReaderState};
 use crate::tape::{Node, Tape, text_span};
 use crate::texts::Texts;
-use crate::utf8::Mid;
-use crate::word::{Said, Word};
+use crate::utf8::Utf8State;
+use crate::whitespace::blank_run;
 use arrayvec::ArrayVec;
 use mes_fixed::automaton::{NumberState, may_end, next_state};
 use std::alloc::Global;
@@ -30,9 +30,9 @@ use std::mem;
 /// What was read of a JSON text.
 #[derive(Drop)]
 pub(crate) struct Reader {
-    pub(crate) at: At,
+    pub(crate) at: ReaderState,
     /// What is open, the innermost last.
-    pub(crate) nesting: ArrayVec<Open, NESTING_LIMIT, Global>,
+    pub(crate) nesting: ArrayVec<Open, MAX_NESTING, Global>,
     /// Where the text of the string or the number that is read begins.
     pub(crate) start: usize,
     /// The texts of the strings and the numbers, one behind the other.
@@ -57,7 +57,7 @@ impl Reader {
         ensures start { state_view result ≡ start }
     {
         Reader {
-            at: At::Value,
+            at: ReaderState::Value,
             nesting: ArrayVec::new_in(alloc),
             start: 0,
             text,
@@ -67,22 +67,22 @@ impl Reader {
 
     /// Takes a byte. After an error the reader holds nothing of use.
     #[inline(always)]
-    pub(crate) fn step(&mut self, byte: u8) -> Result<(), Stop>
+    pub(crate) fn step(&mut self, byte: u8) -> Result<(), PushError>
         requires fits { Fits self.old }
         requires reached { Reached self.old }
         ensures gives { Gives result (state_view self.old) byte (state_view self.new) }
         ensures fits { OnOk result (Fits self.new) }
     {
         match self.at {
-            At::Value => self.value(byte),
-            At::FirstItem => self.first_item(byte),
-            At::FirstName => self.first_name(byte),
-            At::Name => self.name(byte),
-            At::Colon => self.colon(byte),
-            At::After => self.after(byte),
-            At::Quoted(purpose, mid) => self.quoted(purpose, mid, byte),
-            At::Literal(word) => self.literal(word, byte),
-            At::Digits(part) => self.digits(part, byte),
+            ReaderState::Value => self.value(byte),
+            ReaderState::FirstItem => self.first_item(byte),
+            ReaderState::FirstName => self.first_name(byte),
+            ReaderState::Name => self.name(byte),
+            ReaderState::Colon => self.colon(byte),
+            ReaderState::After => self.after(byte),
+            ReaderState::Quoted(purpose, mid) => self.quoted(purpose, mid, byte),
+            ReaderState::Literal(word) => self.literal(word, byte),
+            ReaderState::Digits(part) => self.digits(part, byte),
         }
     }
 
@@ -110,17 +110,22 @@ impl Reader {
     {
         let from = place + 1;
         match self.at {
-            At::Quoted(purpose, mid) => match mid {
-                Mid::Between => self.take_string(purpose, bytes, from),
-                Mid::Escape(escape) => self.take_escape(purpose, escape, bytes, from),
-                Mid::Within { .. } => from,
+            ReaderState::Quoted(purpose, mid) => match mid {
+                Utf8State::Between => self.take_string(purpose, bytes, from),
+                Utf8State::Escape(escape) => self.take_escape(purpose, escape, bytes, from),
+                Utf8State::Within { .. } => from,
             },
-            At::Digits(part) if keeps_on(part) => {
+            ReaderState::Digits(part) if continues_number(part) => {
                 let rest = &bytes[from..];
                 from + self.text.append_front(rest, digit_run(rest))
             }
-            At::Digits(_) | At::Literal(_) => from,
-            At::Value | At::FirstItem | At::FirstName | At::Name | At::Colon | At::After => {
+            ReaderState::Digits(_) | ReaderState::Literal(_) => from,
+            ReaderState::Value
+            | ReaderState::FirstItem
+            | ReaderState::FirstName
+            | ReaderState::Name
+            | ReaderState::Colon
+            | ReaderState::After => {
                 if bytes[place] > b' ' {
                     return from;
                 }
@@ -132,7 +137,7 @@ impl Reader {
     /// Takes the characters of a string from this place, the quotation mark behind them, and the colon behind a name.
     #[inline(always)]
     pub(crate) fn take_string(&mut self, purpose: Purpose, bytes: &[u8], from: usize) -> usize
-        requires at { self.old.at ≡ At.Quoted purpose Mid.Between }
+        requires at { self.old.at ≡ ReaderState.Quoted purpose Utf8State.Between }
         requires inside { from ≤ length bytes.now }
         requires fits { Fits self.old }
         requires reached { Reached self.old }
@@ -152,11 +157,11 @@ impl Reader {
     /// Takes the characters of a string from this place that stand for themselves.
     #[inline(always)]
     fn take_characters(&mut self, purpose: Purpose, bytes: &[u8], from: usize) -> usize
-        requires at { self.old.at ≡ At.Quoted purpose Mid.Between }
+        requires at { self.old.at ≡ ReaderState.Quoted purpose Utf8State.Between }
         requires inside { from ≤ length bytes.now }
         requires fits { Fits self.old }
         ensures runs { RunsTo self.old bytes.now from result self.new }
-        ensures at { self.new.at ≡ At.Quoted purpose Mid.Between }
+        ensures at { self.new.at ≡ ReaderState.Quoted purpose Utf8State.Between }
     {
         let rest = &bytes[from..];
         from + self.text.append_front(rest, character_run(rest))
@@ -165,7 +170,7 @@ impl Reader {
     /// Takes the quotation mark at this place, which ends the string, and the colon behind a name.
     #[inline(always)]
     fn take_end(&mut self, purpose: Purpose, bytes: &[u8], from: usize) -> usize
-        requires at { self.old.at ≡ At.Quoted purpose Mid.Between }
+        requires at { self.old.at ≡ ReaderState.Quoted purpose Utf8State.Between }
         requires inside { from < length bytes.now }
         requires quote { slice_index bytes.now from ≡ 34 }
         requires fits { Fits self.old }
@@ -182,7 +187,7 @@ impl Reader {
     /// colon behind a name. Not inlined, since most strings have no escape.
     #[inline(never)]
     fn take_escapes(&mut self, purpose: Purpose, bytes: &[u8], from: usize) -> usize
-        requires at { self.old.at ≡ At.Quoted purpose Mid.Between }
+        requires at { self.old.at ≡ ReaderState.Quoted purpose Utf8State.Between }
         requires inside { from ≤ length bytes.now }
         requires fits { Fits self.old }
         requires reached { Reached self.old }
@@ -195,7 +200,7 @@ impl Reader {
             };
             if let Err(NoMemory) = self.append_character(
                 character,
-                At::Quoted(purpose, Mid::Between),
+                ReaderState::Quoted(purpose, Utf8State::Between),
             ) {
                 return place;
             }
@@ -209,7 +214,7 @@ impl Reader {
 
     /// Takes the rest of an escape from this place, and what follows it in the string. A byte that leads nowhere is left.
     fn take_escape(&mut self, purpose: Purpose, first: Escape, bytes: &[u8], from: usize) -> usize
-        requires at { self.old.at ≡ At.Quoted purpose (Mid.Escape first) }
+        requires at { self.old.at ≡ ReaderState.Quoted purpose (Utf8State.Escape first) }
         requires inside { from ≤ length bytes.now }
         requires fits { Fits self.old }
         requires reached { Reached self.old }
@@ -223,7 +228,7 @@ impl Reader {
                 Move::Makes(character) => {
                     return match self.append_character(
                         character,
-                        At::Quoted(purpose, Mid::Between),
+                        ReaderState::Quoted(purpose, Utf8State::Between),
                     ) {
                         Ok(()) => self.take_string(purpose, bytes, place + 1),
                         Err(NoMemory) => place,
@@ -231,7 +236,7 @@ impl Reader {
                 }
                 Move::Refused => return place,
             }
-            self.at = At::Quoted(purpose, Mid::Escape(escape));
+            self.at = ReaderState::Quoted(purpose, Utf8State::Escape(escape));
             place += 1;
         }
         place
@@ -245,8 +250,8 @@ impl Reader {
         ensures { RunsTo self.old bytes.now from result self.new }
     {
         match self.at {
-            At::Colon if from < bytes.len() && bytes[from] == b':' => {
-                self.at = At::Value;
+            ReaderState::Colon if from < bytes.len() && bytes[from] == b':' => {
+                self.at = ReaderState::Value;
                 from + 1
             }
             _ => from,
@@ -293,7 +298,7 @@ impl Reader {
         ensures fits { Fits self.new }
         ensures start { state_view self.new ≡ start }
     {
-        self.at = At::Value;
+        self.at = ReaderState::Value;
         self.nesting.clear();
         self.start = 0;
         self.text = text;
@@ -307,8 +312,8 @@ impl Reader {
         ensures { IfOk result (λ whole. EndsWhole whole (finish (state_view self.old)) self.new) }
     {
         match self.at {
-            At::After => Ok(self.nesting.is_empty()),
-            At::Digits(part) if may_end(part) => {
+            ReaderState::After => Ok(self.nesting.is_empty()),
+            ReaderState::Digits(part) if may_end(part) => {
                 self.end_number()?;
                 Ok(self.nesting.is_empty())
             }
@@ -320,166 +325,174 @@ impl Reader {
 // One method for each place, on the byte behind it.
 impl Reader {
     #[inline(always)]
-    fn value(&mut self, byte: u8) -> Result<(), Stop>
-        requires at { self.old.at ≡ At.Value }
+    fn value(&mut self, byte: u8) -> Result<(), PushError>
+        requires at { self.old.at ≡ ReaderState.Value }
         requires fits { Fits self.old }
         ensures gives { Gives result (state_view self.old) byte (state_view self.new) }
         ensures fits { OnOk result (Fits self.new) }
     {
-        match Kind::of(byte) {
-            Kind::Blank => Ok(()),
-            Kind::Quote => {
-                self.begin(At::Quoted(Purpose::Value, Mid::Between));
+        match ByteClass::of(byte) {
+            ByteClass::Blank => Ok(()),
+            ByteClass::Quote => {
+                self.begin(ReaderState::Quoted(Purpose::Value, Utf8State::Between));
                 Ok(())
             }
-            Kind::Opening => self.enter(Open::Object, Node::Map { length: 0 }, At::FirstName),
-            Kind::OpeningArray => self.enter(Open::Array, Node::List { length: 0 }, At::FirstItem),
-            Kind::Word(word) => {
-                self.at = At::Literal(word);
+            ByteClass::Opening => self.enter(
+                Open::Object,
+                Node::Map { length: 0 },
+                ReaderState::FirstName,
+            ),
+            ByteClass::OpeningArray => self.enter(
+                Open::Array,
+                Node::List { length: 0 },
+                ReaderState::FirstItem,
+            ),
+            ByteClass::LiteralState(word) => {
+                self.at = ReaderState::Literal(word);
                 Ok(())
             }
-            Kind::Digits(part) => self.begin_number(byte, part),
-            _ => Err(Stop::Refused(Why::Byte)),
+            ByteClass::Digits(part) => self.begin_number(byte, part),
+            _ => Err(PushError::Refused(TextFaultKind::Byte)),
         }
     }
 
     #[inline(always)]
-    fn first_item(&mut self, byte: u8) -> Result<(), Stop>
-        requires at { self.old.at ≡ At.FirstItem }
+    fn first_item(&mut self, byte: u8) -> Result<(), PushError>
+        requires at { self.old.at ≡ ReaderState.FirstItem }
         requires fits { Fits self.old }
         ensures gives { Gives result (state_view self.old) byte (state_view self.new) }
         ensures fits { OnOk result (Fits self.new) }
     {
-        match Kind::of(byte) {
-            Kind::Blank => Ok(()),
-            Kind::ClosingArray => self.leave(),
+        match ByteClass::of(byte) {
+            ByteClass::Blank => Ok(()),
+            ByteClass::ClosingArray => self.leave(),
             _ => {
-                self.at = At::Value;
+                self.at = ReaderState::Value;
                 self.value(byte)
             }
         }
     }
 
     #[inline(always)]
-    fn first_name(&mut self, byte: u8) -> Result<(), Stop>
-        requires at { self.old.at ≡ At.FirstName }
+    fn first_name(&mut self, byte: u8) -> Result<(), PushError>
+        requires at { self.old.at ≡ ReaderState.FirstName }
         requires fits { Fits self.old }
         ensures gives { Gives result (state_view self.old) byte (state_view self.new) }
         ensures fits { OnOk result (Fits self.new) }
     {
-        match Kind::of(byte) {
-            Kind::Blank => Ok(()),
-            Kind::Quote => {
-                self.begin(At::Quoted(Purpose::Name, Mid::Between));
+        match ByteClass::of(byte) {
+            ByteClass::Blank => Ok(()),
+            ByteClass::Quote => {
+                self.begin(ReaderState::Quoted(Purpose::Name, Utf8State::Between));
                 Ok(())
             }
-            Kind::Closing => self.leave(),
-            _ => Err(Stop::Refused(Why::Byte)),
+            ByteClass::Closing => self.leave(),
+            _ => Err(PushError::Refused(TextFaultKind::Byte)),
         }
     }
 
     #[inline(always)]
-    fn name(&mut self, byte: u8) -> Result<(), Stop>
-        requires at { self.old.at ≡ At.Name }
+    fn name(&mut self, byte: u8) -> Result<(), PushError>
+        requires at { self.old.at ≡ ReaderState.Name }
         requires fits { Fits self.old }
         ensures gives { Gives result (state_view self.old) byte (state_view self.new) }
         ensures fits { OnOk result (Fits self.new) }
     {
-        match Kind::of(byte) {
-            Kind::Blank => Ok(()),
-            Kind::Quote => {
-                self.begin(At::Quoted(Purpose::Name, Mid::Between));
+        match ByteClass::of(byte) {
+            ByteClass::Blank => Ok(()),
+            ByteClass::Quote => {
+                self.begin(ReaderState::Quoted(Purpose::Name, Utf8State::Between));
                 Ok(())
             }
-            _ => Err(Stop::Refused(Why::Byte)),
+            _ => Err(PushError::Refused(TextFaultKind::Byte)),
         }
     }
 
     #[inline(always)]
-    fn colon(&mut self, byte: u8) -> Result<(), Stop>
-        requires at { self.old.at ≡ At.Colon }
+    fn colon(&mut self, byte: u8) -> Result<(), PushError>
+        requires at { self.old.at ≡ ReaderState.Colon }
         requires fits { Fits self.old }
         ensures gives { Gives result (state_view self.old) byte (state_view self.new) }
         ensures fits { OnOk result (Fits self.new) }
     {
-        match Kind::of(byte) {
-            Kind::Blank => Ok(()),
-            Kind::Colon => {
-                self.at = At::Value;
+        match ByteClass::of(byte) {
+            ByteClass::Blank => Ok(()),
+            ByteClass::Colon => {
+                self.at = ReaderState::Value;
                 Ok(())
             }
-            _ => Err(Stop::Refused(Why::Byte)),
+            _ => Err(PushError::Refused(TextFaultKind::Byte)),
         }
     }
 
     #[inline(always)]
-    fn after(&mut self, byte: u8) -> Result<(), Stop>
-        requires at { self.old.at ≡ At.After }
+    fn after(&mut self, byte: u8) -> Result<(), PushError>
+        requires at { self.old.at ≡ ReaderState.After }
         requires fits { Fits self.old }
         ensures gives { Gives result (state_view self.old) byte (state_view self.new) }
         ensures fits { OnOk result (Fits self.new) }
     {
-        match Kind::of(byte) {
-            Kind::Blank => Ok(()),
-            Kind::Comma => match self.innermost() {
+        match ByteClass::of(byte) {
+            ByteClass::Blank => Ok(()),
+            ByteClass::Comma => match self.innermost() {
                 Some(Open::Object) => {
-                    self.at = At::Name;
+                    self.at = ReaderState::Name;
                     Ok(())
                 }
                 Some(Open::Array) => {
-                    self.at = At::Value;
+                    self.at = ReaderState::Value;
                     Ok(())
                 }
-                None => Err(Stop::Refused(Why::Byte)),
+                None => Err(PushError::Refused(TextFaultKind::Byte)),
             },
-            Kind::Closing => match self.innermost() {
+            ByteClass::Closing => match self.innermost() {
                 Some(Open::Object) => self.leave(),
-                Some(Open::Array) => Err(Stop::Refused(Why::Byte)),
-                None => Err(Stop::Refused(Why::Byte)),
+                Some(Open::Array) => Err(PushError::Refused(TextFaultKind::Byte)),
+                None => Err(PushError::Refused(TextFaultKind::Byte)),
             },
-            Kind::ClosingArray => match self.innermost() {
+            ByteClass::ClosingArray => match self.innermost() {
                 Some(Open::Array) => self.leave(),
-                Some(Open::Object) => Err(Stop::Refused(Why::Byte)),
-                None => Err(Stop::Refused(Why::Byte)),
+                Some(Open::Object) => Err(PushError::Refused(TextFaultKind::Byte)),
+                None => Err(PushError::Refused(TextFaultKind::Byte)),
             },
-            _ => Err(Stop::Refused(Why::Byte)),
+            _ => Err(PushError::Refused(TextFaultKind::Byte)),
         }
     }
 
     #[inline(always)]
-    fn quoted(&mut self, purpose: Purpose, mid: Mid, byte: u8) -> Result<(), Stop>
-        requires at { self.old.at ≡ At.Quoted purpose mid }
+    fn quoted(&mut self, purpose: Purpose, mid: Utf8State, byte: u8) -> Result<(), PushError>
+        requires at { self.old.at ≡ ReaderState.Quoted purpose mid }
         requires fits { Fits self.old }
         requires reached { Reached self.old }
         ensures gives { Gives result (state_view self.old) byte (state_view self.new) }
         ensures fits { OnOk result (Fits self.new) }
     {
         match mid {
-            Mid::Between => match byte {
+            Utf8State::Between => match byte {
                 b'"' => self.end_string(purpose),
                 b'\\' => {
-                    self.at = At::Quoted(purpose, Mid::Escape(Escape::Backslash));
+                    self.at = ReaderState::Quoted(purpose, Utf8State::Escape(Escape::Backslash));
                     Ok(())
                 }
-                0..=0x1F => Err(Stop::Refused(Why::Byte)),
-                _ => match Mid::lead(byte) {
-                    Some(next) => self.keep(byte, At::Quoted(purpose, next)),
-                    None => Err(Stop::Refused(Why::Byte)),
+                0..=0x1F => Err(PushError::Refused(TextFaultKind::Byte)),
+                _ => match Utf8State::lead(byte) {
+                    Some(next) => self.keep(byte, ReaderState::Quoted(purpose, next)),
+                    None => Err(PushError::Refused(TextFaultKind::Byte)),
                 },
             },
-            Mid::Within { more, least, most } => {
+            Utf8State::Within { more, least, most } => {
                 if byte < least || byte > most {
-                    return Err(Stop::Refused(Why::Byte));
+                    return Err(PushError::Refused(TextFaultKind::Byte));
                 }
-                self.keep(byte, At::Quoted(purpose, Mid::after(more)))
+                self.keep(byte, ReaderState::Quoted(purpose, Utf8State::after(more)))
             }
-            Mid::Escape(escape) => self.escaped(purpose, escape, byte),
+            Utf8State::Escape(escape) => self.escaped(purpose, escape, byte),
         }
     }
 
     #[inline(always)]
-    fn escaped(&mut self, purpose: Purpose, escape: Escape, byte: u8) -> Result<(), Stop>
-        requires at { self.old.at ≡ At.Quoted purpose (Mid.Escape escape) }
+    fn escaped(&mut self, purpose: Purpose, escape: Escape, byte: u8) -> Result<(), PushError>
+        requires at { self.old.at ≡ ReaderState.Quoted purpose (Utf8State.Escape escape) }
         requires fits { Fits self.old }
         requires reached { Reached self.old }
         ensures gives { Gives result (state_view self.old) byte (state_view self.new) }
@@ -487,46 +500,46 @@ impl Reader {
     {
         match escape.step(byte) {
             Move::On(next) => {
-                self.at = At::Quoted(purpose, Mid::Escape(next));
+                self.at = ReaderState::Quoted(purpose, Utf8State::Escape(next));
                 Ok(())
             }
             Move::Makes(character) => {
-                self.keep_character(character, At::Quoted(purpose, Mid::Between))
+                self.keep_character(character, ReaderState::Quoted(purpose, Utf8State::Between))
             }
-            Move::Refused => Err(Stop::Refused(Why::Byte)),
+            Move::Refused => Err(PushError::Refused(TextFaultKind::Byte)),
         }
     }
 
-    fn literal(&mut self, word: Word, byte: u8) -> Result<(), Stop>
-        requires at { self.old.at ≡ At.Literal word }
+    fn literal(&mut self, word: LiteralState, byte: u8) -> Result<(), PushError>
+        requires at { self.old.at ≡ ReaderState.Literal word }
         requires fits { Fits self.old }
         ensures gives { Gives result (state_view self.old) byte (state_view self.new) }
         ensures fits { OnOk result (Fits self.new) }
     {
         match word.next(byte) {
-            Some(Said::More(next)) => {
-                self.at = At::Literal(next);
+            Some(LiteralStep::More(next)) => {
+                self.at = ReaderState::Literal(next);
                 Ok(())
             }
-            Some(Said::Null) => self.put(Node::Null, At::After),
-            Some(Said::Bool(truth)) => self.put(Node::Bool(truth), At::After),
-            None => Err(Stop::Refused(Why::Byte)),
+            Some(LiteralStep::Null) => self.put(Node::Null, ReaderState::After),
+            Some(LiteralStep::Bool(truth)) => self.put(Node::Bool(truth), ReaderState::After),
+            None => Err(PushError::Refused(TextFaultKind::Byte)),
         }
     }
 
     #[inline(always)]
-    fn digits(&mut self, part: NumberState, byte: u8) -> Result<(), Stop>
-        requires at { self.old.at ≡ At.Digits part }
+    fn digits(&mut self, part: NumberState, byte: u8) -> Result<(), PushError>
+        requires at { self.old.at ≡ ReaderState.Digits part }
         requires fits { Fits self.old }
         requires reached { Reached self.old }
         ensures gives { Gives result (state_view self.old) byte (state_view self.new) }
         ensures fits { OnOk result (Fits self.new) }
     {
         match next_state(part, byte) {
-            Some(next) => self.keep(byte, At::Digits(next)),
+            Some(next) => self.keep(byte, ReaderState::Digits(next)),
             None => {
                 if !may_end(part) {
-                    return Err(Stop::Refused(Why::Byte));
+                    return Err(PushError::Refused(TextFaultKind::Byte));
                 }
                 self.end_number()?;
                 self.after(byte)
@@ -547,12 +560,12 @@ impl Reader {
 
     /// An object or an array begins.
     #[inline(always)]
-    fn enter(&mut self, open_one: Open, node: Node, at: At) -> Result<(), Stop>
-        requires { untold node ≡ node }
+    fn enter(&mut self, open_one: Open, node: Node, at: ReaderState) -> Result<(), PushError>
+        requires { unreported node ≡ node }
         ensures { Enters result self.old open_one node at self.new }
     {
         if self.nesting.is_full() {
-            return Err(Stop::Refused(Why::Depth));
+            return Err(PushError::Refused(TextFaultKind::Depth));
         }
         self.nesting.push(open_one);
         self.put(node, at)
@@ -560,12 +573,12 @@ impl Reader {
 
     /// The innermost object or array ends.
     #[inline(always)]
-    fn leave(&mut self) -> Result<(), Stop>
-        ensures ok { OnOk result (Puts self.old (outer self.old.nesting.items) Node.End At.After self.new) }
+    fn leave(&mut self) -> Result<(), PushError>
+        ensures ok { OnOk result (Puts self.old (outer self.old.nesting.items) Node.End ReaderState.After self.new) }
         ensures err { IfErr result (λ e. e ≡ no_memory) }
     {
         self.nesting.pop();
-        self.put(Node::End, At::After)
+        self.put(Node::End, ReaderState::After)
     }
 }
 
@@ -573,7 +586,7 @@ impl Reader {
 impl Reader {
     /// The text of a string or a number begins.
     #[inline(always)]
-    pub(crate) fn begin(&mut self, at: At)
+    pub(crate) fn begin(&mut self, at: ReaderState)
         ensures { Begins self.old [] at self.new }
     {
         self.start = self.text.len();
@@ -582,9 +595,9 @@ impl Reader {
 
     /// The string that is read ends.
     #[inline(always)]
-    fn end_string(&mut self, purpose: Purpose) -> Result<(), Stop>
+    fn end_string(&mut self, purpose: Purpose) -> Result<(), PushError>
         requires { self.old.start ≤ length self.old.text.items }
-        ensures ok { OnOk result (Puts self.old self.old.nesting.items (string_node purpose self.old) (behind_string purpose) self.new) }
+        ensures ok { OnOk result (Puts self.old self.old.nesting.items (string_node purpose self.old) (following_string purpose) self.new) }
         ensures err { IfErr result (λ e. e ≡ no_memory) }
     {
         Ok(self.close_string(purpose)?)
@@ -594,47 +607,47 @@ impl Reader {
     #[inline(always)]
     fn close_string(&mut self, purpose: Purpose) -> Result<(), NoMemory>
         requires { self.old.start ≤ length self.old.text.items }
-        ensures ok { OnOk result (Puts self.old self.old.nesting.items (string_node purpose self.old) (behind_string purpose) self.new) }
+        ensures ok { OnOk result (Puts self.old self.old.nesting.items (string_node purpose self.old) (following_string purpose) self.new) }
         ensures err { OnErr result (Stays self.old self.new) }
     {
         let (from, to) = text_span(self.start, self.text.len())?;
         match purpose {
             Purpose::Name => {
                 self.nodes.put(Node::Name { from, to })?;
-                self.at = At::Colon;
+                self.at = ReaderState::Colon;
             }
             Purpose::Value => {
                 self.nodes.put(Node::Text { from, to })?;
-                self.at = At::After;
+                self.at = ReaderState::After;
             }
         }
         Ok(())
     }
 
     /// A number begins with a byte that leads to this part of it.
-    fn begin_number(&mut self, byte: u8, part: NumberState) -> Result<(), Stop>
-        ensures ok { OnOk result (Begins self.old (byte ∷ []) (At.Digits part) self.new) }
+    fn begin_number(&mut self, byte: u8, part: NumberState) -> Result<(), PushError>
+        ensures ok { OnOk result (Begins self.old (byte ∷ []) (ReaderState.Digits part) self.new) }
         ensures err { IfErr result (λ e. e ≡ no_memory) }
     {
-        self.begin(At::Digits(part));
-        self.keep(byte, At::Digits(part))
+        self.begin(ReaderState::Digits(part));
+        self.keep(byte, ReaderState::Digits(part))
     }
 
     /// The number that is read ends.
     pub(crate) fn end_number(&mut self) -> Result<(), NoMemory>
         requires { self.old.start ≤ length self.old.text.items }
-        ensures ok { OnOk result (Puts self.old self.old.nesting.items (Node.Number self.old.start (length self.old.text.items)) At.After self.new) }
+        ensures ok { OnOk result (Puts self.old self.old.nesting.items (Node.Number self.old.start (length self.old.text.items)) ReaderState.After self.new) }
         ensures err { OnErr result (Stays self.old self.new) }
     {
         let (from, to) = text_span(self.start, self.text.len())?;
         self.nodes.put(Node::Number { from, to })?;
-        self.at = At::After;
+        self.at = ReaderState::After;
         Ok(())
     }
 
     /// A byte of the string or the number that is read.
     #[inline(always)]
-    fn keep(&mut self, byte: u8, at: At) -> Result<(), Stop>
+    fn keep(&mut self, byte: u8, at: ReaderState) -> Result<(), PushError>
         ensures ok { OnOk result (Keeps self.old (byte ∷ []) at self.new) }
         ensures err { IfErr result (λ e. e ≡ no_memory) }
     {
@@ -645,7 +658,7 @@ impl Reader {
 
     /// A character of the string that is read.
     #[inline(always)]
-    fn keep_character(&mut self, character: char, at: At) -> Result<(), Stop>
+    fn keep_character(&mut self, character: char, at: ReaderState) -> Result<(), PushError>
         ensures ok { OnOk result (Keeps self.old (encode_utf8 character) at self.new) }
         ensures err { IfErr result (λ e. e ≡ no_memory) }
     {
@@ -654,7 +667,7 @@ impl Reader {
 
     /// The same, where no byte can be refused.
     #[inline(always)]
-    fn append_character(&mut self, character: char, at: At) -> Result<(), NoMemory>
+    fn append_character(&mut self, character: char, at: ReaderState) -> Result<(), NoMemory>
         ensures ok { OnOk result (Keeps self.old (encode_utf8 character) at self.new) }
         ensures err { OnErr result (Stays self.old self.new) }
     {
@@ -672,8 +685,8 @@ impl Reader {
 
     /// The next node.
     #[inline(always)]
-    fn put(&mut self, node: Node, at: At) -> Result<(), Stop>
-        requires { untold node ≡ node }
+    fn put(&mut self, node: Node, at: ReaderState) -> Result<(), PushError>
+        requires { unreported node ≡ node }
         ensures ok { OnOk result (Puts self.old self.old.nesting.items node at self.new) }
         ensures err { IfErr result (λ e. e ≡ no_memory) }
     {

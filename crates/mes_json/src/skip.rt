@@ -1,7 +1,7 @@
 //! Passing over a value on a tape.
 ghost use Rattle.std.specs.Prelude.{◌≡◌, ◌<◌, ◌≤◌, ℕ, List, length, drop, slice_index_or};
 ghost use Rattle.mes_json.specs.Cursor.{token_of, tokens_held};
-ghost use Rattle.mes_json.specs.Passing.{depth_behind, behind};
+ghost use Rattle.mes_json.specs.Passing.{depth_after, following};
 ghost use Rattle.mes_json.specs.Lengths.{TellLengths};
 ghost use Rattle.mes_json.specs.declared.tape.Node.TheVariants.{End};
 
@@ -15,9 +15,9 @@ pub(crate) fn first(nodes: &[Node]) -> Node
 }
 
 /// The nodes behind the value that the first node begins.
-pub(crate) fn behind_value(nodes: &[Node]) -> &[Node]
+pub(crate) fn following_value(nodes: &[Node]) -> &[Node]
     requires { TellLengths nodes.now }
-    ensures held { (texts : List ℕ) → tokens_held texts result.now ≡ behind 0 (tokens_held texts nodes.now) }
+    ensures held { (texts : List ℕ) → tokens_held texts result.now ≡ following 0 (tokens_held texts nodes.now) }
     ensures rest { (n : ℕ) × (result.now ≡ drop n nodes.now) }
 {
     &nodes[nodes_of_value(nodes)..]
@@ -27,12 +27,12 @@ pub(crate) fn behind_value(nodes: &[Node]) -> &[Node]
 #[inline(always)]
 fn nodes_of_value(nodes: &[Node]) -> usize
     requires { TellLengths nodes.now }
-    ensures behind { (texts : List ℕ) → behind 0 (tokens_held texts nodes.now) ≡ drop result (tokens_held texts nodes.now) }
+    ensures following { (texts : List ℕ) → following 0 (tokens_held texts nodes.now) ≡ drop result (tokens_held texts nodes.now) }
     ensures inside { result ≤ length nodes.now }
 {
     match nodes.first() {
         None => 0,
-        Some(node) => match node.told() {
+        Some(node) => match node.reported() {
             Some(length) => length + 1,
             None => count_nodes(nodes),
         },
@@ -41,12 +41,12 @@ fn nodes_of_value(nodes: &[Node]) -> usize
 
 /// The same, by counting up to the node that leaves nothing open.
 fn count_nodes(nodes: &[Node]) -> usize
-    ensures behind { (texts : List ℕ) → behind 0 (tokens_held texts nodes.now) ≡ drop result (tokens_held texts nodes.now) }
+    ensures following { (texts : List ℕ) → following 0 (tokens_held texts nodes.now) ≡ drop result (tokens_held texts nodes.now) }
     ensures inside { result ≤ length nodes.now }
 {
     let mut depth = 0;
     for (i, node) in nodes.iter().enumerate() {
-        depth = depth_behind(depth, *node);
+        depth = depth_after(depth, *node);
         if depth == 0 {
             return i + 1;
         }
@@ -55,9 +55,9 @@ fn count_nodes(nodes: &[Node]) -> usize
 }
 
 /// How many arrays and objects are open behind the node, where so many are before it.
-fn depth_behind(depth: usize, node: Node) -> usize
+fn depth_after(depth: usize, node: Node) -> usize
     requires { depth < usize.MAX }
-    ensures { (texts : List ℕ) → result ≡ depth_behind depth (token_of texts node) }
+    ensures { (texts : List ℕ) → result ≡ depth_after depth (token_of texts node) }
 {
     match node {
         Node::List { .. } | Node::Map { .. } => depth + 1,

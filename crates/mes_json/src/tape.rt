@@ -8,7 +8,7 @@ ghost use Rattle.mes_json.specs.Lengths.{TellLengths};
 mod spell;
 
 use crate::cursor::Element;
-use crate::limits::{ROOM_KEPT, TEXTS_MOST};
+use crate::limits::{MAX_REUSED_CAPACITY, MAX_TEXTS};
 use crate::memory::NoMemory;
 use crate::texts::Texts;
 use std::alloc::Global;
@@ -71,7 +71,7 @@ impl Tape {
     /// The tape of these nodes.
     pub(crate) fn new(texts: Texts, nodes: Vec<Node>) -> Tape
         requires spans { AllByRecursion (HasSpan texts.items) nodes.items }
-        requires told { TellLengths nodes.items }
+        requires reported { TellLengths nodes.items }
         ensures { result ≡ tokens_held texts.items nodes.items }
     {
         Tape { texts, nodes }
@@ -86,17 +86,20 @@ impl Tape {
 }
 
 impl Tape {
-    /// The memory of the tape, emptied; of each vector that has room for more than `ROOM_KEPT` bytes it is given back. Takes no memory.
+    /// The memory of the tape, emptied; of each vector that has room for more than `MAX_REUSED_CAPACITY` bytes it is given back. Takes no memory.
     #[inline(always)]
     pub(crate) fn into_room(self, alloc: Global) -> (Texts, Vec<Node>)
         ensures texts { result.0.items ≡ [] }
         ensures nodes { result.1.items ≡ [] }
-        ensures texts_room { result.0.room ≤ ROOM_KEPT }
-        ensures nodes_room { vec_capacity result.1 * NODE_SIZE ≤ ROOM_KEPT }
+        ensures texts_room { result.0.room ≤ MAX_REUSED_CAPACITY }
+        ensures nodes_room { vec_capacity result.1 * NODE_SIZE ≤ MAX_REUSED_CAPACITY }
     {
         let Tape { texts, nodes } = self;
-        let most = ROOM_KEPT / NODE_SIZE;
-        (texts.emptied(alloc, ROOM_KEPT), emptied(alloc, nodes, most))
+        let most = MAX_REUSED_CAPACITY / NODE_SIZE;
+        (
+            texts.emptied(alloc, MAX_REUSED_CAPACITY),
+            emptied(alloc, nodes, most),
+        )
     }
 }
 
@@ -114,18 +117,18 @@ fn emptied<T: Drop>(alloc: Global, mut room: Vec<T>, most: usize) -> Vec<T>
     room
 }
 
-/// A place of the buffer of texts, as nodes keep it; want of memory where the buffer has more than `TEXTS_MOST` bytes.
+/// A place of the buffer of texts, as nodes keep it; want of memory where the buffer has more than `MAX_TEXTS` bytes.
 pub(crate) fn text_place(place: usize) -> Result<u32, NoMemory>
     ensures ok { IfOk result (λ kept. kept ≡ place) }
-    ensures err { IfErr result (λ _. TEXTS_MOST < place) }
+    ensures err { IfErr result (λ _. MAX_TEXTS < place) }
 {
-    if place > TEXTS_MOST {
+    if place > MAX_TEXTS {
         return Err(NoMemory);
     }
     Ok(place as u32)
 }
 
-/// Where a text begins and ends, as nodes keep it; want of memory where the buffer has more than `TEXTS_MOST` bytes up to its end.
+/// Where a text begins and ends, as nodes keep it; want of memory where the buffer has more than `MAX_TEXTS` bytes up to its end.
 #[inline(always)]
 pub(crate) fn text_span(from: usize, to: usize) -> Result<(u32, u32), NoMemory>
     requires { from ≤ to }

@@ -1,14 +1,14 @@
 //! A text in well-formed UTF-8.
 ghost use Rattle.std.specs.Prelude.{◌≡◌, ◌<◌, ◌≤◌, length, string_bytes, IfOk, IfErr, bytes_eq};
 
-use crate::limits::SHORT_TEXT_MOST;
+use crate::limits::MAX_INLINE_TEXT;
 use crate::memory::NoMemory;
 use arrayvec::ArrayString;
 use std::alloc::Global;
 use std::hash::{Hash, Hasher};
 use std::marker::Model;
 
-/// A text in well-formed UTF-8 (RFC 3629). One of at most `SHORT_TEXT_MOST` bytes, as most names and roles are, takes no memory
+/// A text in well-formed UTF-8 (RFC 3629). One of at most `MAX_INLINE_TEXT` bytes, as most names and roles are, takes no memory
 /// when it is copied or read; any other owns its memory. A contract sees it as its bytes.
 #[derive(Debug, Drop)]
 pub struct Text {
@@ -19,7 +19,7 @@ pub struct Text {
 #[derive(Debug, Drop)]
 enum Form {
     /// In the value itself.
-    Short(ArrayString<SHORT_TEXT_MOST>),
+    Short(ArrayString<MAX_INLINE_TEXT>),
     /// In memory of its own.
     Long(String),
 }
@@ -46,10 +46,10 @@ impl Text {
         }
     }
 
-    /// A text of these bytes; takes memory only where they are more than `SHORT_TEXT_MOST`.
+    /// A text of these bytes; takes memory only where they are more than `MAX_INLINE_TEXT`.
     pub fn of(alloc: Global, text: &str) -> Result<Text, NoMemory>
         ensures ok { IfOk result (λ same. same ≡ text.now) }
-        ensures err { IfErr result (λ _. SHORT_TEXT_MOST < length text.now) }
+        ensures err { IfErr result (λ _. MAX_INLINE_TEXT < length text.now) }
     {
         let form = match ArrayString::from(text) {
             Ok(short) => Form::Short(short),
@@ -71,7 +71,7 @@ impl Text {
     /// The text as a string; takes memory only where it has none of its own.
     pub fn into_string(self, alloc: Global) -> Result<String, NoMemory>
         ensures ok { IfOk result (λ string. string_bytes string ≡ self) }
-        ensures err { IfErr result (λ _. length self ≤ SHORT_TEXT_MOST) }
+        ensures err { IfErr result (λ _. length self ≤ MAX_INLINE_TEXT) }
     {
         let Text { form } = self;
         match form {
@@ -83,7 +83,7 @@ impl Text {
     /// A text of the same bytes, as of `of`.
     pub fn copy(&self, alloc: Global) -> Result<Text, NoMemory>
         ensures ok { IfOk result (λ text. text ≡ self.now) }
-        ensures err { IfErr result (λ _. SHORT_TEXT_MOST < length self.now) }
+        ensures err { IfErr result (λ _. MAX_INLINE_TEXT < length self.now) }
     {
         Text::of(alloc, self.as_str())
     }

@@ -3,7 +3,7 @@ ghost use Rattle.std.specs.Prelude.{◌≡◌, ◌+◌, ◌⊎◌, ◌≤◌, []
 ghost use Rattle.mes_json.specs.Texts.{IsNone};
 
 use crate::memory::NoMemory;
-use crate::plain::BLOCK;
+use crate::plain_scan::BLOCK;
 use std::alloc::Global;
 use std::marker::Model;
 use std::simd::prelude::*;
@@ -47,7 +47,7 @@ impl Texts {
 
     /// How many bytes the texts have with so many more, for which there is memory.
     #[inline(always)]
-    pub(crate) fn end_behind(&self, count: usize) -> usize
+    pub(crate) fn end_following(&self, count: usize) -> usize
         requires { length self.now.items + count ≤ self.now.room }
         ensures { result ≡ length self.now.items + count }
     {

@@ -7,7 +7,7 @@ use crate::escape::Escape;
 
 /// What of a character is read.
 #[derive(Clone, Copy)]
-pub(crate) enum Mid {
+pub(crate) enum Utf8State {
     /// Nothing: a character may begin.
     Between,
     /// Some of it: `more` bytes are due, the next one from `least` to `most`.
@@ -16,14 +16,14 @@ pub(crate) enum Mid {
     Escape(Escape),
 }
 
-impl Mid {
+impl Utf8State {
     /// Where the first byte of a character leads.
     #[inline(always)]
-    pub(crate) fn lead(byte: u8) -> Option<Mid>
+    pub(crate) fn lead(byte: u8) -> Option<Utf8State>
         ensures { option_map mid_view result ≡ lead byte }
     {
         let (more, least, most) = match byte {
-            0x00..=0x7F => return Some(Mid::Between),
+            0x00..=0x7F => return Some(Utf8State::Between),
             0xC2..=0xDF => (1, 0x80, 0xBF),
             0xE0 => (2, 0xA0, 0xBF),
             0xED => (2, 0x80, 0x9F),
@@ -33,18 +33,18 @@ impl Mid {
             0xF4 => (3, 0x80, 0x8F),
             _ => return None,
         };
-        Some(Mid::Within { more, least, most })
+        Some(Utf8State::Within { more, least, most })
     }
 
     /// Where a byte leads in a character that `more` bytes were due of.
     #[inline(always)]
-    pub(crate) fn after(more: u8) -> Mid
+    pub(crate) fn after(more: u8) -> Utf8State
         ensures { mid_view result ≡ after_byte more }
     {
         if more < 2 {
-            Mid::Between
+            Utf8State::Between
         } else {
-            Mid::Within {
+            Utf8State::Within {
                 more: more - 1,
                 least: 0x80,
                 most: 0xBF,

@@ -4,9 +4,9 @@ ghost use Rattle.std.specs.Str.{IsUtf8};
 ghost use Rattle.mes_json.specs.Canonical.{hex_digit, by_digits, escaped, escaped_text, quoted_text};
 ghost use Rattle.mes_json.specs.Writable.{Extends};
 
-use crate::kept::kept_run;
 use crate::memory::NoMemory;
 use crate::text::Text;
+use crate::unescaped::kept_run;
 
 /// Appends the text as a JSON string: in quotation marks, with what has to be escaped in its shortest form.
 ///

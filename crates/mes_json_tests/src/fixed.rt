@@ -1,7 +1,7 @@
 //! Rows whose values come from outside: from RFC 8259, and from exact rational arithmetic.
 use arrayvec::ArrayString;
 use mes_fixed::automaton::{NumberState, may_end, next_state};
-use mes_fixed::{Fixed, Micros, NumFault, Thousandths, UNITS_LIMIT, is_number, read_i32, read_u64};
+use mes_fixed::{Fixed, MAX_UNITS, Micros, NumFault, Thousandths, is_number, read_i32, read_u64};
 use std::alloc::{AllocError, AllocGlobal, Global};
 use std::fmt::Display;
 use std::process::Abort;
@@ -81,7 +81,7 @@ fn writes_without_needless_zeros(rt: HostRuntime) -> Result<(), Fail> {
             "{written}"
         );
     }
-    let largest = Micros::of_units(UNITS_LIMIT).ok_or("in range")?;
+    let largest = Micros::of_units(MAX_UNITS).ok_or("in range")?;
     largest.write(&mut text);
     assert_eq!(rt; text.as_str(), "1000000000000.0");
     Ok(())
@@ -90,12 +90,12 @@ fn writes_without_needless_zeros(rt: HostRuntime) -> Result<(), Fail> {
 #[test]
 fn adds_and_subtracts_within_the_limits(rt: HostRuntime) -> Result<(), Fail> {
     let one = Thousandths::of_units(1).ok_or("in range")?;
-    let largest = Thousandths::of_units(UNITS_LIMIT).ok_or("in range")?;
+    let largest = Thousandths::of_units(MAX_UNITS).ok_or("in range")?;
     let sums = [one.checked_add(one), largest.checked_add(one)];
     assert_eq!(rt; sums, [Thousandths::of_units(2), None]);
     let rests = [one.checked_sub(one), one.checked_sub(largest)];
     assert_eq!(rt; rests, [Some(Thousandths::default()), None]);
-    assert_eq!(rt; Thousandths::of_units(UNITS_LIMIT + 1), None);
+    assert_eq!(rt; Thousandths::of_units(MAX_UNITS + 1), None);
     assert!(rt; one < largest);
     Ok(())
 }

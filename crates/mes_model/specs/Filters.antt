@@ -1,10 +1,10 @@
 -- When a framework wants no offers.
 use Rattle.std.specs.Prelude.{codes}
 use Rattle.std.proofs.Common.{refl}
-use Rattle.mes_part.specs.Kinds.{Kind, Lawful, Returns}
-use Rattle.mes_part.specs.Numbers.{fixed}
-use Rattle.mes_part.specs.NumberLaws.{lawful_fixed}
-use Rattle.mes_part.specs.Layouts.{Layout, may_have, no_more, ◌⨾⨾◌, laid_out, kind_of, lawful_kind, returns_kind}
+use Rattle.mes_model_schema.specs.Kinds.{Kind, Lawful, Returns}
+use Rattle.mes_model_schema.specs.Numbers.{fixed}
+use Rattle.mes_model_schema.specs.NumberLaws.{lawful_fixed}
+use Rattle.mes_model_schema.specs.Layouts.{Layout, may_have, no_more, ◌⨾⨾◌, laid_out, kind_of, lawful_kind, returns_kind}
 use Rattle.mes_model.specs.declared.filters.Filters.{Filters}
 
 -- refuse_seconds ?, in millionths

@@ -1,13 +1,13 @@
 -- What a framework tells of itself.
 use Rattle.std.specs.Prelude.{codes}
 use Rattle.std.proofs.Common.{refl}
-use Rattle.mes_part.specs.Kinds.{Kind, Lawful, Returns}
-use Rattle.mes_part.specs.Leaves.{texts, booleans}
-use Rattle.mes_part.specs.Numbers.{fixed}
-use Rattle.mes_part.specs.NumberLaws.{lawful_fixed}
-use Rattle.mes_part.specs.Layouts.{Layout, needs, may_have, lists, no_more, ◌⨾⨾◌, laid_out, kind_of, lawful_kind, returns_kind}
-use Rattle.mes_part.specs.KindLaws.{lawful_texts, lawful_booleans}
-use Rattle.mes_resource.specs.Ids.{id, lawful_id}
+use Rattle.mes_model_schema.specs.Kinds.{Kind, Lawful, Returns}
+use Rattle.mes_model_schema.specs.Leaves.{texts, booleans}
+use Rattle.mes_model_schema.specs.Numbers.{fixed}
+use Rattle.mes_model_schema.specs.NumberLaws.{lawful_fixed}
+use Rattle.mes_model_schema.specs.Layouts.{Layout, needs, may_have, lists, no_more, ◌⨾⨾◌, laid_out, kind_of, lawful_kind, returns_kind}
+use Rattle.mes_model_schema.specs.KindLaws.{lawful_texts, lawful_booleans}
+use Rattle.mes_model_resource.specs.Ids.{id, lawful_id}
 use Rattle.mes_model.specs.declared.framework_info.Capability.{Capability}
 use Rattle.mes_model.specs.declared.framework_info.FrameworkInfo.{FrameworkInfo}
 

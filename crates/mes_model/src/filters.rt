@@ -1,10 +1,10 @@
 //! When a framework wants no offers.
 
-use mes_part::fixed::Micros;
-use mes_part::json::{self, Element, NoMemory};
-use mes_part::{
-    MadeOf, Maybe, Part, PartFault, RowList, RowRefs, Rows1, Trail, made, message_text,
-    message_tree, pairs, read_message,
+use mes_model_schema::fixed::Micros;
+use mes_model_schema::json::{self, Element, NoMemory};
+use mes_model_schema::{
+    ConstructFrom, OptionalRow, Part, PartFault, PathBuilder, RowList, RowRefs, Rows1, made,
+    message_text, message_tree, pairs, read_message,
 };
 use std::alloc::Global;
 
@@ -18,9 +18,9 @@ pub struct Filters {
 /// The names of the rows of filters, in the order of the table.
 const FILTERS_NAMES: [&str; 1] = ["refuse_seconds"];
 
-type FiltersRows = Rows1<Maybe<Micros>>;
+type FiltersRows = Rows1<OptionalRow<Micros>>;
 
-impl MadeOf<<FiltersRows as RowList>::Values> for Filters {
+impl ConstructFrom<<FiltersRows as RowList>::Values> for Filters {
     ghost use Rattle.mes_model.specs.Filters.{filters_layout};
 
     ghost to = { filters_layout.to };
@@ -52,7 +52,7 @@ impl Part for Filters {
     fn read_from(
         alloc: Global,
         element: &Element<'_>,
-        path: &Trail<'_>,
+        path: &PathBuilder<'_>,
     ) -> Result<Filters, PartFault> {
         read_message::<FiltersRows, Filters, 1>(alloc, element, &FILTERS_NAMES, path)
     }

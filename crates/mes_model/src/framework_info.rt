@@ -1,12 +1,13 @@
 //! A framework, and what it is able to deal with.
 
-use mes_part::fixed::Micros;
-use mes_part::json::{self, Element, NoMemory, Text};
-use mes_part::{
-    List, MadeOf, Many, Maybe, Must, MustRef, Part, PartFault, RowList, RowRefs, Rows1, Rows9,
-    Trail, made, message_text, message_tree, pairs, read_message,
+use mes_model_resource::Id;
+use mes_model_schema::fixed::Micros;
+use mes_model_schema::json::{self, Element, NoMemory, Text};
+use mes_model_schema::{
+    ConstructFrom, List, OptionalRow, Part, PartFault, PathBuilder, RepeatedRow, RequiredRow,
+    RequiredRowRef, RowList, RowRefs, Rows1, Rows9, made, message_text, message_tree, pairs,
+    read_message,
 };
-use mes_resource::Id;
 use std::alloc::Global;
 
 /// What a framework is able to deal with.
@@ -19,9 +20,9 @@ pub struct Capability {
 /// The names of the rows of a capability, in the order of the table.
 const CAPABILITY_NAMES: [&str; 1] = ["type"];
 
-type CapabilityRows = Rows1<Maybe<Text>>;
+type CapabilityRows = Rows1<OptionalRow<Text>>;
 
-impl MadeOf<<CapabilityRows as RowList>::Values> for Capability {
+impl ConstructFrom<<CapabilityRows as RowList>::Values> for Capability {
     ghost use Rattle.mes_model.specs.Frameworks.{capability_layout};
 
     ghost to = { capability_layout.to };
@@ -53,7 +54,7 @@ impl Part for Capability {
     fn read_from(
         alloc: Global,
         element: &Element<'_>,
-        path: &Trail<'_>,
+        path: &PathBuilder<'_>,
     ) -> Result<Capability, PartFault> {
         read_message::<CapabilityRows, Capability, 1>(alloc, element, &CAPABILITY_NAMES, path)
     }
@@ -111,18 +112,18 @@ const FRAMEWORK_INFO_NAMES: [&str; 9] = [
 ];
 
 type FrameworkInfoRows = Rows9<
-    Must<Text>,
-    Must<Text>,
-    Maybe<Id>,
-    Maybe<Micros>,
-    Maybe<bool>,
-    Many<Text>,
-    Maybe<Text>,
-    Maybe<Text>,
-    Many<Capability>,
+    RequiredRow<Text>,
+    RequiredRow<Text>,
+    OptionalRow<Id>,
+    OptionalRow<Micros>,
+    OptionalRow<bool>,
+    RepeatedRow<Text>,
+    OptionalRow<Text>,
+    OptionalRow<Text>,
+    RepeatedRow<Capability>,
 >;
 
-impl MadeOf<<FrameworkInfoRows as RowList>::Values> for FrameworkInfo {
+impl ConstructFrom<<FrameworkInfoRows as RowList>::Values> for FrameworkInfo {
     ghost use Rattle.mes_model.specs.Frameworks.{framework_info_layout};
 
     ghost to = { framework_info_layout.to };
@@ -146,8 +147,8 @@ impl MadeOf<<FrameworkInfoRows as RowList>::Values> for FrameworkInfo {
 macro_rules! framework_info_rows {
     ($of:ident) => {
         pairs!(
-            MustRef(&$of.user),
-            MustRef(&$of.name),
+            RequiredRowRef(&$of.user),
+            RequiredRowRef(&$of.name),
             &$of.id,
             &$of.failover_timeout,
             &$of.checkpoint,
@@ -174,7 +175,7 @@ impl Part for FrameworkInfo {
     fn read_from(
         alloc: Global,
         element: &Element<'_>,
-        path: &Trail<'_>,
+        path: &PathBuilder<'_>,
     ) -> Result<FrameworkInfo, PartFault> {
         read_message::<FrameworkInfoRows, FrameworkInfo, 9>(
             alloc,

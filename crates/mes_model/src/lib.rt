@@ -7,15 +7,16 @@ mod framework_info;
 
 pub use filters::Filters;
 pub use framework_info::{Capability, FrameworkInfo};
-pub use mes_offer::{Attribute, AttributeValue, Offer, TextValue};
-pub use mes_part::{
-    Boxed, BoxedFault, Bytes, FieldFault, FieldWhy, Kept, Label, Labels, List, NAME_MOST,
-    PATH_TEXT_MOST, Part, PartFault, Path, STEPS_MOST, Step, Trail, copy_list, list_returned,
-    list_tree, most_steps, one_answer, one_list, read_list, read_part, returned, written_again,
-};
-pub use mes_resource::{
+pub use mes_model_offer::{Attribute, AttributeValue, Offer, TextValue};
+pub use mes_model_resource::{
     Allocation, Id, Range, Ranges, Reservation, Resource, ResourceValue, Scalar, Set,
 };
-pub use mes_task::{
+pub use mes_model_schema::{
+    Boxed, BoxedFault, Bytes, FieldFault, FieldFaultKind, Kept, Label, Labels, List, MAX_PATH_NAME,
+    MAX_PATH_STEPS, MAX_PATH_TEXT, Part, PartFault, Path, PathBuilder, Step, copy_list,
+    list_reading_is_unique, list_returned, list_tree, most_steps, one_answer, read_list, read_part,
+    returned, written_again,
+};
+pub use mes_model_task::{
     Command, OwedKey, TaskInfo, TaskRef, TaskState, TaskStatus, TimeInfo, equal_keys,
 };

@@ -1,8 +1,8 @@
 -- How the reason is printed why no record can hold a message.
 use Rattle.std.specs.Prelude.{ℕ, List, codes}
-use Rattle.mes_msg.specs.declared.send_fault.EncodeWhy.{EncodeWhy}
-use Rattle.mes_msg.specs.declared.send_fault.EncodeWhy.TheVariants.{TooDeep, TooLarge}
+use Rattle.mes_msg.specs.declared.send_fault.EncodeFaultKind.{EncodeFaultKind}
+use Rattle.mes_msg.specs.declared.send_fault.EncodeFaultKind.TheVariants.{TooDeep, TooLarge}
 
-abbrev pub encode_why_name : EncodeWhy → List ℕ
-encode_why_name TooDeep = codes "TooDeep"
-encode_why_name TooLarge = codes "TooLarge"
+abbrev pub encode_fault_kind_name : EncodeFaultKind → List ℕ
+encode_fault_kind_name TooDeep = codes "TooDeep"
+encode_fault_kind_name TooLarge = codes "TooLarge"

@@ -1,7 +1,7 @@
 //! An entry of a session's history.
 
-use mes_call::Call;
-use mes_event::Event;
+use mes_msg_call::Call;
+use mes_msg_event::Event;
 
 /// What a session heard or said, in the order in which it did: a session log is a list of these.
 #[derive(Debug, Drop)]

@@ -3,15 +3,15 @@
 //! record or from a tree, copied, and written as its canonical text.
 
 mod entry;
-mod laws;
 mod send_fault;
+mod theorems;
 
 pub use entry::Entry;
-pub use laws::one_message;
-pub use mes_call::{
+pub use mes_frame::Limit;
+pub use mes_msg_call::{
     Accept, Acknowledge, Call, Decline, Kill, Operation, Reconcile, Shutdown, Subscribe,
 };
-pub use mes_event::{ErrorBody, Event, Failure, OtherName, Rescind, Subscribed, Update};
-pub use mes_frame::Limit;
-pub use mes_record::{EncodeFault, Message, RecordFault};
-pub use send_fault::{EncodeWhy, SendFault};
+pub use mes_msg_event::{ErrorBody, Event, Failure, OtherName, Rescind, Subscribed, Update};
+pub use mes_msg_record::{EncodeFault, Message, RecordFault};
+pub use send_fault::{EncodeFaultKind, SendFault};
+pub use theorems::message_reading_is_unique;

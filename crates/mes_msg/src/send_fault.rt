@@ -1,28 +1,28 @@
 //! Why messages were not sent, or not to the end.
 
 ghost use Rattle.std.specs.Prelude.{◌≡◌, ◌≤◌, length};
-ghost use Rattle.mes_msg.specs.EncodeWhys.{encode_why_name};
+ghost use Rattle.mes_msg.specs.EncodeWhys.{encode_fault_kind_name};
 
 use mes_frame::WriteFault;
 
 /// Why no record of the limit can hold a message.
 #[derive(Clone, Copy, Debug, PartialEq, Eq)]
-pub enum EncodeWhy {
+pub enum EncodeFaultKind {
     /// Its canonical text would nest deeper than a JSON text may.
     TooDeep,
     /// It nests no deeper, but its canonical text has more bytes than the limit.
     TooLarge,
 }
 
-impl EncodeWhy {
+impl EncodeFaultKind {
     /// The name, as it is printed.
     pub fn name(self) -> &'static str
-        ensures text { result.now ≡ encode_why_name self }
+        ensures text { result.now ≡ encode_fault_kind_name self }
         ensures bound { length result.now ≤ 8 }
     {
         match self {
-            EncodeWhy::TooDeep => "TooDeep",
-            EncodeWhy::TooLarge => "TooLarge",
+            EncodeFaultKind::TooDeep => "TooDeep",
+            EncodeFaultKind::TooLarge => "TooLarge",
         }
     }
 }
@@ -35,7 +35,7 @@ pub enum SendFault {
         /// The place of the first such message, from 0.
         index: usize,
         /// Why no record can hold it.
-        why: EncodeWhy,
+        why: EncodeFaultKind,
     },
     /// A growth was refused memory. Nothing was written.
     NoMemory,

@@ -29,13 +29,13 @@ fn first_end(limit: Limit, text: &[u8]) -> Option<(usize, RecordOut)> {
 fn limits_have_a_range(rt: HostRuntime) {
     let bytes = [
         0,
-        RECORD_LIMIT_MOST + 1,
-        RECORD_LIMIT_MOST,
-        RECORD_LIMIT_USUAL,
+        MAX_RECORD_LIMIT + 1,
+        MAX_RECORD_LIMIT,
+        DEFAULT_RECORD_LIMIT,
     ];
     assert_eq!(rt;
         bytes.map(Limit::new),
-        [None, None, Some(Limit::MOST), Some(Limit::USUAL)]
+        [None, None, Some(Limit::LARGEST), Some(Limit::USUAL)]
     );
     assert_eq!(rt; Limit::new(1).map_or(0, |limit| limit.get()), 1);
 }
@@ -66,28 +66,28 @@ const ENDS: [(u32, &[u8], &str); 10] = [
         "41 Byte { last: true }",
     ),
     (
-        RECORD_LIMIT_USUAL,
+        DEFAULT_RECORD_LIMIT,
         b"000000000000000000020\n",
         "21 Fault(SizeLineTooLong)",
     ),
     (
-        RECORD_LIMIT_MOST,
+        MAX_RECORD_LIMIT,
         b"18446744073709551636\n",
         "21 Fault(RecordTooLarge)",
     ),
-    (RECORD_LIMIT_USUAL, b"0\n", "2 Empty"),
-    (RECORD_LIMIT_USUAL, b"x", "1 Fault(BadSizeLine)"),
-    (RECORD_LIMIT_USUAL, b"\n", "1 Fault(BadSizeLine)"),
-    (RECORD_LIMIT_USUAL, b"12 \n", "3 Fault(BadSizeLine)"),
-    (RECORD_LIMIT_USUAL, b"3\nab", "no end"),
+    (DEFAULT_RECORD_LIMIT, b"0\n", "2 Empty"),
+    (DEFAULT_RECORD_LIMIT, b"x", "1 Fault(BadSizeLine)"),
+    (DEFAULT_RECORD_LIMIT, b"\n", "1 Fault(BadSizeLine)"),
+    (DEFAULT_RECORD_LIMIT, b"12 \n", "3 Fault(BadSizeLine)"),
+    (DEFAULT_RECORD_LIMIT, b"3\nab", "no end"),
 ];
 
 #[test]
 fn records_end_and_break_at_their_byte(rt: HostRuntime) -> Result<(), Fail> {
     for &(limit, bytes, end) in &ENDS {
         let limit = Limit::new(limit).ok_or("a limit")?;
-        let told = told_end(rt.alloc(), first_end(limit, bytes))?;
-        assert_eq!(rt; told.as_str(), end, "{bytes:?}");
+        let reported = told_end(rt.alloc(), first_end(limit, bytes))?;
+        assert_eq!(rt; reported.as_str(), end, "{bytes:?}");
     }
     Ok(())
 }
@@ -165,7 +165,7 @@ fn expect_stop<R: Abort>(
     sink: &mut MemorySink,
     bytes: &[u8],
     written: &[u8],
-    why: WriteWhy,
+    why: WriteFaultKind,
 ) {
     let sent = written.len() as u64;
     assert_eq!(rt; write_all(sink, bytes), Err(WriteFault { sent, why }));
@@ -176,8 +176,8 @@ fn expect_stop<R: Abort>(
 fn writes_stop_where_the_writer_does(rt: HostRuntime) {
     expect_whole(&rt, &mut MemorySink::new(rt.alloc(), 2), b"hello", 3);
     let cases = [
-        (MemoryStop::Fails, WriteWhy::Device),
-        (MemoryStop::TakesNone, WriteWhy::Zero),
+        (MemoryStop::Fails, WriteFaultKind::Device),
+        (MemoryStop::TakesNone, WriteFaultKind::Zero),
     ];
     for (stop, why) in cases {
         let mut sink = MemorySink::stopping_after(rt.alloc(), 4, 7, stop);

@@ -10,14 +10,14 @@ mod tasks;
 mod values;
 
 use crate::support::{expect_faults, row_of, text_of, value_of};
-use mes_model::{Part, STEPS_MOST};
+use mes_model::{MAX_PATH_STEPS, Part};
 use std::alloc::Global;
 use std::process::Abort;
 use std::test::Fail;
 
 /// The copy of the value of a text.
 fn copy_of<T: Part>(alloc: Global, text: &str) -> Result<T, Fail>
-    requires { T.STEPS ≤ STEPS_MOST }
+    requires { T.STEPS ≤ MAX_PATH_STEPS }
 {
     let value: T = value_of(alloc, text)?;
     Ok(value.copy(alloc)?)
@@ -38,7 +38,7 @@ fn text_without_tree<T: Part>(alloc: Global, value: &T) -> Result<Vec<u8>, Fail>
 
 /// Each text is a value, and its copy is written so.
 fn expect_values<T: Part, R: Abort + AllocGlobal>(rt: &R, values: &str) -> Result<(), Fail>
-    requires { T.STEPS ≤ STEPS_MOST }
+    requires { T.STEPS ≤ MAX_PATH_STEPS }
 {
     for line in values.lines() {
         let (text, written) = row_of(line)?;

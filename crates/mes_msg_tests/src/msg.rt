@@ -7,11 +7,11 @@ mod show;
 mod written;
 
 use crate::support::{expect_fault, field_fault_of, row_of};
-use mes_frame::RECORD_LIMIT_MOST;
+use mes_frame::MAX_RECORD_LIMIT;
 use mes_json::{Json, read_text};
 use mes_model::Part;
+use mes_model_schema::PartFault;
 use mes_msg::{Call, EncodeFault, Event, Limit, RecordFault};
-use mes_part::PartFault;
 use std::alloc::{AllocGlobal, Global};
 use std::process::Abort;
 use std::test::Fail;
@@ -67,7 +67,7 @@ fn expect_faults<T: Record, R: Abort + AllocGlobal>(rt: &R, faults: &str) -> Res
 }
 
 /// A text with so many objects inside each other between its two ends.
-fn nested(alloc: Global, front: &[u8], objects: usize, behind: &[u8]) -> Result<Vec<u8>, Fail> {
+fn nested(alloc: Global, front: &[u8], objects: usize, following: &[u8]) -> Result<Vec<u8>, Fail> {
     let mut text = Vec::new(alloc);
     text.extend_from_slice(front)?;
     for _ in 1..objects {
@@ -77,7 +77,7 @@ fn nested(alloc: Global, front: &[u8], objects: usize, behind: &[u8]) -> Result<
     for _ in 1..objects {
         text.extend_from_slice(b"}")?;
     }
-    text.extend_from_slice(behind)?;
+    text.extend_from_slice(following)?;
     Ok(text)
 }
 
@@ -108,7 +108,7 @@ fn canon<T: Record>(record: &T, alloc: Global, limit: Limit) -> Result<Vec<u8>, 
 
 /// The canonical text of the record of a text.
 fn rewritten<T: Record>(alloc: Global, text: &[u8]) -> Result<Vec<u8>, Fail> {
-    canon(&record_of::<T>(alloc, text)?, alloc, Limit::MOST)
+    canon(&record_of::<T>(alloc, text)?, alloc, Limit::LARGEST)
 }
 
 /// Why the record of a text has no canonical text within the limit, if it has none.
@@ -132,7 +132,7 @@ fn expect_canon<T: Record, R: Abort + AllocGlobal>(
     record: &T,
     written: &str,
 ) -> Result<(), Fail> {
-    let length = written.len().min(RECORD_LIMIT_MOST as usize) as u32;
+    let length = written.len().min(MAX_RECORD_LIMIT as usize) as u32;
     let limit = Limit::new(length).ok_or("a limit")?;
     let below = Limit::new(length.saturating_sub(1)).ok_or("a limit")?;
     let out = canon(record, rt.alloc(), limit)?;

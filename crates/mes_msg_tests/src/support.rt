@@ -7,11 +7,11 @@
 ghost use Rattle.std.specs.Prelude.{◌≤◌};
 
 use arrayvec::ArrayString;
-use mes_json::{Json, Why, read_tape, read_text, write_text};
-use mes_msg::RecordFault;
-use mes_part::{
-    FieldFault, PATH_TEXT_MOST, Part, PartFault, Path, STEPS_MOST, Trail, written_again,
+use mes_json::{Json, TextFaultKind, read_tape, read_text, write_text};
+use mes_model_schema::{
+    FieldFault, MAX_PATH_STEPS, MAX_PATH_TEXT, Part, PartFault, Path, PathBuilder, written_again,
 };
+use mes_msg::RecordFault;
 use std::alloc::{AllocGlobal, Global};
 use std::process::Abort;
 use std::test::Fail;
@@ -57,7 +57,9 @@ pub(crate) fn field_fault_of<T: Drop>(answer: Result<T, RecordFault>) -> Option<
 }
 
 /// The byte and the reason of an answer that tells a fault of the text.
-pub(crate) fn text_fault_of<T: Drop>(answer: Result<T, RecordFault>) -> Option<(u64, Why)> {
+pub(crate) fn text_fault_of<T: Drop>(
+    answer: Result<T, RecordFault>,
+) -> Option<(u64, TextFaultKind)> {
     match answer.err()? {
         RecordFault::Text(fault) => Some((fault.byte, fault.why)),
         RecordFault::Field(_) | RecordFault::NoMemory => None,
@@ -73,7 +75,7 @@ pub(crate) fn expect_fault<R: Abort>(
 ) -> Result<(), Fail> {
     let (path, why) = expected.split_once(' ').ok_or("a path and why")?;
     let fault = fault.ok_or("a fault")?;
-    let mut path_text: ArrayString<PATH_TEXT_MOST> = ArrayString::new();
+    let mut path_text: ArrayString<MAX_PATH_TEXT> = ArrayString::new();
     fault.path.text(&mut path_text);
     assert_eq!(rt;
         (path_text.as_str(), fault.why.name()),
@@ -85,15 +87,15 @@ pub(crate) fn expect_fault<R: Abort>(
 
 /// What a text is read as, from its tape.
 pub(crate) fn read<T: Part>(alloc: Global, text: &str) -> Result<Result<T, PartFault>, Fail>
-    requires { T.STEPS ≤ STEPS_MOST }
+    requires { T.STEPS ≤ MAX_PATH_STEPS }
 {
     let tape = read_tape(alloc, text.as_bytes())?;
-    Ok(T::read_from(alloc, &tape.root(), &Trail::new()))
+    Ok(T::read_from(alloc, &tape.root(), &PathBuilder::new()))
 }
 
 /// The value of a text that is one.
 pub(crate) fn value_of<T: Part>(alloc: Global, text: &str) -> Result<T, Fail>
-    requires { T.STEPS ≤ STEPS_MOST }
+    requires { T.STEPS ≤ MAX_PATH_STEPS }
 {
     match read(alloc, text)? {
         Ok(value) => Ok(value),
@@ -103,14 +105,14 @@ pub(crate) fn value_of<T: Part>(alloc: Global, text: &str) -> Result<T, Fail>
 
 /// The fault of a text that is no value.
 pub(crate) fn fault_of<T: Part>(alloc: Global, text: &str) -> Result<Option<FieldFault>, Fail>
-    requires { T.STEPS ≤ STEPS_MOST }
+    requires { T.STEPS ≤ MAX_PATH_STEPS }
 {
     Ok(part_fault_of(read::<T>(alloc, text)?))
 }
 
 /// The same, read from its tree.
 fn fault_of_tree<T: Part>(alloc: Global, text: &str) -> Result<Option<FieldFault>, Fail>
-    requires { T.STEPS ≤ STEPS_MOST }
+    requires { T.STEPS ≤ MAX_PATH_STEPS }
 {
     let tree = read_text(alloc, text.as_bytes())?;
     Ok(part_fault_of(T::read(alloc, &tree, &Path::new())))
@@ -121,7 +123,7 @@ pub(crate) fn expect_faults<T: Part, R: Abort + AllocGlobal>(
     rt: &R,
     faults: &str,
 ) -> Result<(), Fail>
-    requires { T.STEPS ≤ STEPS_MOST }
+    requires { T.STEPS ≤ MAX_PATH_STEPS }
 {
     for line in faults.lines() {
         let (text, fault) = row_of(line)?;
@@ -133,7 +135,7 @@ pub(crate) fn expect_faults<T: Part, R: Abort + AllocGlobal>(
 
 /// The value, written and read again.
 pub(crate) fn again<T: Part>(alloc: Global, value: &T) -> Result<T, Fail>
-    requires { T.STEPS ≤ STEPS_MOST }
+    requires { T.STEPS ≤ MAX_PATH_STEPS }
 {
     match written_again(alloc, value) {
         Ok(again) => Ok(again),

@@ -13,9 +13,9 @@ use Rattle.mes_model.specs.OwedKey.{OwedKey}
 use Rattle.mes_msg.specs.declared.entry.Entry.{Entry}
 use Rattle.mes_msg.specs.declared.entry.Entry.TheVariants.{Heard, Said, Broken}
 use Rattle.mes_msg.specs.Event.TheVariants as heard
-use Rattle.mes_hand.specs.Held.{Held, name_of, same_key}
+use Rattle.mes_session_state.specs.Held.{Held, name_of, same_key}
 use Rattle.mes_session.specs.Kept.{after_last}
-use Rattle.mes_session.specs.History.{subscribed_by, subscribes, breaks, framework_after, connected_after, offers_of, takes_offer, owed_by, acknowledges, StandsFor, at_first, after}
+use Rattle.mes_session.specs.History.{subscribed_by, subscribes, breaks, framework_after, connected_after, offers_of, takes_offer, owed_by, acknowledges, Represents, at_first, after}
 use Rattle.mes_session.proofs.KeptLemmas.{IsKept-nil, IsKept-push, IsKept-unique}
 
 -- ---- names and keys are one where they look alike
@@ -98,24 +98,24 @@ connected-push h e = ap (list_any subscribes) (after_last-push breaks h e) ∙ g
 
 -- ---- what is held
 
-pub StandsFor-nil : StandsFor [] at_first
-StandsFor-nil = record {
+pub Represents-nil : Represents [] at_first
+Represents-nil = record {
   framework = refl;
   connected = refl;
   hand = IsKept-nil bytes_eq name_of name-exact name-self offers_of takes_offer hand-idle;
   owed = IsKept-nil same_key (λ (k : OwedKey). k) key-exact key-self owed_by acknowledges owed-idle;
 }
 
-pub StandsFor-push : (h : List Entry) (s : Held) (e : Entry) → StandsFor h s → StandsFor (h ++ e ∷ []) (after s e)
-StandsFor-push h s e stands = record {
-  framework = ap (option_or (subscribed_by e)) stands.framework ∙ sym (framework-push h e);
-  connected = ap (λ (c : Bool). if breaks e then false else (if subscribes e then true else c)) stands.connected ∙ sym (connected-push h e);
-  hand = IsKept-push bytes_eq name_of name-exact name-self offers_of takes_offer hand-idle h e s.hand stands.hand;
-  owed = IsKept-push same_key (λ (k : OwedKey). k) key-exact key-self owed_by acknowledges owed-idle h e s.owed stands.owed;
+pub Represents-push : (h : List Entry) (s : Held) (e : Entry) → Represents h s → Represents (h ++ e ∷ []) (after s e)
+Represents-push h s e represents = record {
+  framework = ap (option_or (subscribed_by e)) represents.framework ∙ sym (framework-push h e);
+  connected = ap (λ (c : Bool). if breaks e then false else (if subscribes e then true else c)) represents.connected ∙ sym (connected-push h e);
+  hand = IsKept-push bytes_eq name_of name-exact name-self offers_of takes_offer hand-idle h e s.hand represents.hand;
+  owed = IsKept-push same_key (λ (k : OwedKey). k) key-exact key-self owed_by acknowledges owed-idle h e s.owed represents.owed;
 }
 
-pub StandsFor-unique : (h : List Entry) (s t : Held) → StandsFor h s → StandsFor h t → s ≡ t
-StandsFor-unique h s t a b =
+pub Represents-unique : (h : List Entry) (s t : Held) → Represents h s → Represents h t → s ≡ t
+Represents-unique h s t a b =
     let f : s.framework ≡ t.framework = a.framework ∙ sym b.framework in
     let c : s.connected ≡ t.connected = a.connected ∙ sym b.connected in
     let g : s.hand ≡ t.hand = IsKept-unique bytes_eq name_of name-exact name-self offers_of takes_offer hand-idle h s.hand t.hand a.hand b.hand in
@@ -123,11 +123,11 @@ StandsFor-unique h s t a b =
     λ i. record { framework = f i; connected = c i; hand = g i; owed = o i }
 
 -- one more after another
-fold-stands : (h more : List Entry) (s : Held) → StandsFor h s → StandsFor (h ++ more) (fold after s more)
-fold-stands h [] s stands = subst (λ (es : List Entry). StandsFor es s) (sym (append-nil h)) stands
-fold-stands h (e ∷ more) s stands =
-    subst (λ (es : List Entry). StandsFor es (fold after (after s e) more)) (append_assoc h (e ∷ []) more)
-    (fold-stands (h ++ e ∷ []) more (after s e) (StandsFor-push h s e stands))
+fold-represents : (h more : List Entry) (s : Held) → Represents h s → Represents (h ++ more) (fold after s more)
+fold-represents h [] s represents = subst (λ (es : List Entry). Represents es s) (sym (append-nil h)) represents
+fold-represents h (e ∷ more) s represents =
+    subst (λ (es : List Entry). Represents es (fold after (after s e) more)) (append_assoc h (e ∷ []) more)
+    (fold-represents (h ++ e ∷ []) more (after s e) (Represents-push h s e represents))
 
-pub StandsFor-some : (h : List Entry) → StandsFor h (fold after at_first h)
-StandsFor-some h = fold-stands [] h at_first StandsFor-nil
+pub Represents-some : (h : List Entry) → Represents h (fold after at_first h)
+Represents-some h = fold-represents [] h at_first Represents-nil

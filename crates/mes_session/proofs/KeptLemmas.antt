@@ -8,7 +8,7 @@ use Rattle.std.proofs.lemmas.List.Folds.{find-append}
 use Rattle.std.proofs.lemmas.Grind.{flat_map-append}
 use mathlib.Core.List.{reverse-cons}
 use Rattle.mes_session.specs.Kept.{after_last, brought, since, place_of, IsKept}
-use Rattle.mes_hand.specs.Keeping.{put}
+use Rattle.mes_session_state.specs.Keeping.{put}
 
 -- ---- numbers that rise from one bound to another
 

@@ -10,9 +10,9 @@ use Rattle.std.specs.Str.{bytes_eq}
 use Rattle.mes_model.specs.Offer.{Offer}
 use Rattle.mes_model.specs.OwedKey.{OwedKey}
 use Rattle.mes_msg.specs.declared.entry.Entry.{Entry}
-use Rattle.mes_hand.specs.Held.{Held, name_of, offer_in, same_key, is_owed}
+use Rattle.mes_session_state.specs.Held.{Held, name_of, offer_in, same_key, is_owed}
 use Rattle.mes_session.specs.Kept.{since, value_of, IsLeftBy}
-use Rattle.mes_session.specs.History.{offers_of, takes_offer, owed_by, acknowledges, StandsFor, IsOfferedBy, IsOwedBy}
+use Rattle.mes_session.specs.History.{offers_of, takes_offer, owed_by, acknowledges, Represents, IsOfferedBy, IsOwedBy}
 use Rattle.mes_session.proofs.HistoryLemmas.{name-exact, name-self, key-exact, key-self, hand-idle, owed-idle}
 use Rattle.mes_session.proofs.KeptLemmas.{kept-push}
 
@@ -150,14 +150,14 @@ module _ {E X K : Type 0} (same : K → K → Bool) (key : X → K) (exact : (a 
 
 -- ---- in hand, and owed
 
-pub in-hand : (h : List Entry) (held : Held) (name : List ℕ) → StandsFor h held → is_some (offer_in held.hand name) ≡ true ↔ ((i : ℕ) × IsOfferedBy h name i)
-in-hand h held name stands =
-    subst (λ (o : Option Offer). is_some o ≡ true ↔ ((i : ℕ) × IsOfferedBy h name i)) (sym (stands.hand.found name))
+pub in-hand : (h : List Entry) (held : Held) (name : List ℕ) → Represents h held → is_some (offer_in held.hand name) ≡ true ↔ ((i : ℕ) × IsOfferedBy h name i)
+in-hand h held name represents =
+    subst (λ (o : Option Offer). is_some o ≡ true ↔ ((i : ℕ) × IsOfferedBy h name i)) (sym (represents.hand.found name))
     (value-left bytes_eq name_of name-exact name-self offers_of takes_offer hand-idle h name)
 
-pub in-owed : (h : List Entry) (held : Held) (key : OwedKey) → StandsFor h held → is_owed key held.owed ≡ true ↔ ((i : ℕ) × IsOwedBy h key i)
-in-owed h held key stands =
+pub in-owed : (h : List Entry) (held : Held) (key : OwedKey) → Represents h held → is_owed key held.owed ≡ true ↔ ((i : ℕ) × IsOwedBy h key i)
+in-owed h held key represents =
     let iff : is_some (find (λ k. same_key key k) held.owed) ≡ true ↔ ((i : ℕ) × IsOwedBy h key i) =
-    subst (λ (o : Option OwedKey). is_some o ≡ true ↔ ((i : ℕ) × IsOwedBy h key i)) (sym (stands.owed.found key))
+    subst (λ (o : Option OwedKey). is_some o ≡ true ↔ ((i : ℕ) × IsOwedBy h key i)) (sym (represents.owed.found key))
     (value-left same_key (λ (k : OwedKey). k) key-exact key-self owed_by acknowledges owed-idle h key) in
     (λ e. iff.0 (find-from_any (λ k. same_key key k) held.owed e), λ l. any-from_find (λ k. same_key key k) held.owed (iff.1 l))

@@ -3,12 +3,12 @@ use Rattle.std.proofs.Common.{◌≡◌, ℕ, zero, suc, ◌+◌, ◌<◌, ◌�
 use Rattle.mes_msg.specs.Call.{Call}
 use Rattle.mes_msg.specs.declared.entry.Entry.{Entry}
 use Rattle.mes_msg.specs.declared.entry.Entry.TheVariants.{Heard, Said, Broken}
-use Rattle.mes_hand.specs.declared.refusal.Refusal.{Refusal}
-use Rattle.mes_hand.specs.Held.{Held}
-use Rattle.mes_hand.specs.Refusals.{IsRefused}
-use Rattle.mes_session.specs.History.{StandsFor, after, RefusedAfter, IsLegal, IsStopped, StopsAt}
+use Rattle.mes_session_state.specs.declared.refusal.Refusal.{Refusal}
+use Rattle.mes_session_state.specs.Held.{Held}
+use Rattle.mes_session_state.specs.Refusals.{IsRefused}
+use Rattle.mes_session.specs.History.{Represents, after, RefusedAfter, IsLegal, IsStopped, StopsAt}
 use Rattle.mes_session.specs.Making.{Passes, IsTurnedAway}
-use Rattle.mes_session.proofs.HistoryLemmas.{StandsFor-push, StandsFor-unique}
+use Rattle.mes_session.proofs.HistoryLemmas.{Represents-push, Represents-unique}
 
 module _ {X : Type 0} where
   -- an entry of a list with one more behind is one of the list, or the last
@@ -33,39 +33,39 @@ module _ {X : Type 0} where
   get-is (y ∷ ys) (suc i) x h e = get-is ys i x (omega arith) e
 
 -- what stands so far of a history
-pub record SoFar (h : List Entry) (s : Held) : Type 0 where
+pub record DecodeStatus (h : List Entry) (s : Held) : Type 0 where
   pub legal : IsLegal h
-  pub stands : StandsFor h s
+  pub represents : Represents h s
 
-pub so_far-nil : (s : Held) → StandsFor [] s → SoFar [] s
-so_far-nil s stands = record { legal = λ i call fault e r. absurd (cc); stands = stands }
+pub so_far-nil : (s : Held) → Represents [] s → DecodeStatus [] s
+so_far-nil s represents = record { legal = λ i call fault e r. absurd (cc); represents = represents }
 
-legal-push : (h : List Entry) (s : Held) (e : Entry) → SoFar h s → Passes s e → IsLegal (h ++ e ∷ [])
+legal-push : (h : List Entry) (s : Held) (e : Entry) → DecodeStatus h s → Passes s e → IsLegal (h ++ e ∷ [])
 legal-push h s e far passes i call fault is refused = elim (get-push h e i (Said call) is) [
   | inl p ↦ far.legal i call fault p.0 (subst (λ (g : List Entry). RefusedAfter g call fault) p.1 refused)
   | inr p ↦ (let r : RefusedAfter h call fault = subst (λ (g : List Entry). RefusedAfter g call fault) p.1 refused in
-      let same : r.0 ≡ s = StandsFor-unique h r.0 s r.1 far.stands in
+      let same : r.0 ≡ s = Represents-unique h r.0 s r.1 far.represents in
       let q : Passes s (Said call) = subst (λ (d : Entry). Passes s d) p.0 passes in
       q fault (subst (λ (t : Held). IsRefused t call fault) same r.2).is)
 ]
 
-pub so_far-push : (h : List Entry) (s t : Held) (e : Entry) (i : ℕ) → slice_get h i ≡ Some e → SoFar (take i h) s → Passes s e → t ≡ after s e → SoFar (take (i + 1) h) t
+pub so_far-push : (h : List Entry) (s t : Held) (e : Entry) (i : ℕ) → slice_get h i ≡ Some e → DecodeStatus (take i h) s → Passes s e → t ≡ after s e → DecodeStatus (take (i + 1) h) t
 so_far-push h s t e i is far passes next =
-    subst (λ (g : List Entry). SoFar g t) (sym (take-get h i e is) ∙ ap (λ (n : ℕ). take n h) (sym (add-one i)))
-    (record { legal = legal-push (take i h) s e far passes; stands = subst (λ (u : Held). StandsFor (take i h ++ e ∷ []) u) (sym next) (StandsFor-push (take i h) s e far.stands) })
+    subst (λ (g : List Entry). DecodeStatus g t) (sym (take-get h i e is) ∙ ap (λ (n : ℕ). take n h) (sym (add-one i)))
+    (record { legal = legal-push (take i h) s e far passes; represents = subst (λ (u : Held). Represents (take i h ++ e ∷ []) u) (sym next) (Represents-push (take i h) s e far.represents) })
 
-pub stops : (h : List Entry) (s : Held) (e : Entry) (i : ℕ) (told : Refusal) → slice_get h i ≡ Some e → SoFar (take i h) s → IsTurnedAway s e told → StopsAt h i told
-stops h s e i told is far turned = record { front = far.legal; entry = e; is = is; stopped = go e turned }
+pub stops : (h : List Entry) (s : Held) (e : Entry) (i : ℕ) (reported : Refusal) → slice_get h i ≡ Some e → DecodeStatus (take i h) s → IsTurnedAway s e reported → StopsAt h i reported
+stops h s e i reported is far turned = record { front = far.legal; entry = e; is = is; stopped = go e turned }
   where
-    go : (d : Entry) → IsTurnedAway s d told → IsStopped (take i h) d told
+    go : (d : Entry) → IsTurnedAway s d reported → IsStopped (take i h) d reported
     go (Heard event) t = t
-    go (Said call) t = (t.0, t.1, (s, far.stands, t.2))
+    go (Said call) t = (t.0, t.1, (s, far.represents, t.2))
     go Broken t = t
 
 pub refused-once : ((held : Held) (call : Call) (fault other : Refusal) → IsRefused held call fault → IsRefused held call other → fault ≡ other)
     → (h : List Entry) (call : Call) (fault other : Refusal) → RefusedAfter h call fault → RefusedAfter h call other → fault ≡ other
 refused-once once h call fault other a b =
-    once a.0 call fault other a.2 (subst (λ (s : Held). IsRefused s call other) (StandsFor-unique h b.0 a.0 b.1 a.1) b.2)
+    once a.0 call fault other a.2 (subst (λ (s : Held). IsRefused s call other) (Represents-unique h b.0 a.0 b.1 a.1) b.2)
 
 -- all was taken
 take-past : {X : Type 0} (xs : List X) (n : ℕ) → length xs ≤ n → take n xs ≡ xs
@@ -74,5 +74,5 @@ take-past [] (suc n) h = refl
 take-past (x ∷ xs) zero h = absurd (omega arith)
 take-past {X = X} (x ∷ xs) (suc n) h = ap (λ (ys : List X). x ∷ ys) (take-past xs n (omega arith))
 
-pub legal-whole : (h : List Entry) (s : Held) (n : ℕ) → length h ≤ n → SoFar (take n h) s → IsLegal h
+pub legal-whole : (h : List Entry) (s : Held) (n : ℕ) → length h ≤ n → DecodeStatus (take n h) s → IsLegal h
 legal-whole h s n past far = subst IsLegal (take-past h n past) far.legal

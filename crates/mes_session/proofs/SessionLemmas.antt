@@ -22,15 +22,15 @@ use Rattle.mes_msg.specs.Call.{Call}
 use Rattle.mes_msg.specs.Call.TheVariants as of
 use Rattle.mes_msg.specs.declared.entry.Entry.{Entry}
 use Rattle.mes_msg.specs.declared.entry.Entry.TheVariants.{Heard, Said, Broken}
-use Rattle.mes_hand.specs.declared.refusal.Refusal.{Refusal}
-use Rattle.mes_hand.specs.declared.refusal.Refusal.TheVariants.{NotSubscribed, NamedTwice, NoSuchOffer, TwoAgents, WrongAgent, Exceeds, NotOwed, NoMemory}
-use Rattle.mes_hand.specs.Calls.{named_by, acknowledged_by}
-use Rattle.mes_hand.specs.Held.{Held, with_offers, without_offer, without_offers, with_key, without_key}
-use Rattle.mes_hand.specs.Refusals.{Answers, IsFaulty, IsOwn}
-use Rattle.mes_session.specs.History.{StandsFor, StandsNext, is_key, after}
-use Rattle.mes_making.specs.Made.{subscribe_call}
+use Rattle.mes_session_state.specs.declared.refusal.Refusal.{Refusal}
+use Rattle.mes_session_state.specs.declared.refusal.Refusal.TheVariants.{NotSubscribed, NamedTwice, NoSuchOffer, TwoAgents, WrongAgent, Exceeds, NotOwed, NoMemory}
+use Rattle.mes_session_state.specs.Calls.{named_by, acknowledged_by}
+use Rattle.mes_session_state.specs.Held.{Held, with_offers, without_offer, without_offers, with_key, without_key}
+use Rattle.mes_session_state.specs.Refusals.{Answers, IsFaulty, IsOwn}
+use Rattle.mes_session.specs.History.{Represents, StandsNext, is_key, after}
+use Rattle.mes_session_calls.specs.Made.{subscribe_call}
 use Rattle.mes_session.specs.Making.{Applied, Made, NotMade}
-use Rattle.mes_session.proofs.HistoryLemmas.{StandsFor-push}
+use Rattle.mes_session.proofs.HistoryLemmas.{Represents-push}
 
 -- ---- all stay, or none
 
@@ -181,11 +181,11 @@ idle-next s (of.Message f b) x y z = untouched s
 
 -- ---- what is stood for
 
-pub next-stands : (s t : Held) (e : Entry) → t ≡ after s e → StandsNext e s t
-next-stands s t e same h stands = subst (λ (u : Held). StandsFor (h ++ e ∷ []) u) (sym same) (StandsFor-push h s e stands)
+pub next-represents : (s t : Held) (e : Entry) → t ≡ after s e → StandsNext e s t
+next-represents s t e same h represents = subst (λ (u : Held). Represents (h ++ e ∷ []) u) (sym same) (Represents-push h s e represents)
 
 pub applied : (s t : Held) (call : Call) → Answers s call None → t ≡ after s (Said call) → Applied s call t
-applied s t call accepted next = record { accepted = accepted; next = next; stands = next-stands s t (Said call) next }
+applied s t call accepted next = record { accepted = accepted; next = next; represents = next-represents s t (Said call) next }
 
 pub applied_at : (held s t : Held) (call : Call) (answer : Option Refusal) → held ≡ s → answer ≡ None → Answers held call answer → t ≡ after s (Said call) → Applied s call t
 applied_at held s t call answer same none answers next =
@@ -229,7 +229,7 @@ module _ (make : Id → Call) (held s : Held) (same : held ≡ s) (answer : Opti
       (subst (λ (a : Option Refusal). Answers held (make f) a) e (answers f (subst (λ (u : Held). IsOwn u f) (sym same) own)))
 
   pub turned_down : (refusal : Refusal) → answer ≡ Some refusal → NotMade make s s refusal
-  turned_down refusal e = record { told = λ f own. inl (answers_here (Some refusal) e f own); same = refl }
+  turned_down refusal e = record { reported = λ f own. inl (answers_here (Some refusal) e f own); same = refl }
 
   pub made_ok : (t : Held) (framework : Id) {E : Type 0} (copied : Result Call E) (result : Result Call Refusal) → answer ≡ None → s.framework ≡ Some framework → IfOk copied (λ call. call ≡ make framework)
       → IfOk result (λ made. (copied ≡ Ok made) × (t ≡ after s (Said made))) → IfOk result (λ call. Made make s t call)
@@ -246,4 +246,4 @@ module _ (make : Id → Call) (held s : Held) (same : held ≡ s) (answer : Opti
 
   pub made_err : (t : Held) (result : Result Call Refusal) → answer ≡ None → IfErr result (λ refusal. (refusal ≡ NoMemory) × (t ≡ s)) → IfErr result (λ refusal. NotMade make s t refusal)
   made_err t (Ok call) none h = tt
-  made_err t (Err refusal) none h = record { told = λ f own. inr (h.0, answers_here None none f own); same = h.1 }
+  made_err t (Err refusal) none h = record { reported = λ f own. inr (h.0, answers_here None none f own); same = h.1 }

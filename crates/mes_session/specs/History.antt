@@ -12,12 +12,12 @@ use Rattle.mes_msg.specs.declared.entry.Entry.{Entry}
 use Rattle.mes_msg.specs.declared.entry.Entry.TheVariants.{Heard, Said, Broken}
 use Rattle.mes_msg.specs.Event.{Event}
 use Rattle.mes_msg.specs.Event.TheVariants as heard
-use Rattle.mes_hand.specs.Keeping.{put}
-use Rattle.mes_hand.specs.Held.{Held, name_of, same_key}
-use Rattle.mes_hand.specs.Calls.{named_by, acknowledged_by}
-use Rattle.mes_hand.specs.declared.refusal.Refusal.{Refusal}
-use Rattle.mes_hand.specs.declared.refusal.Refusal.TheVariants.{NoMemory}
-use Rattle.mes_hand.specs.Refusals.{as_told, IsRefused}
+use Rattle.mes_session_state.specs.Keeping.{put}
+use Rattle.mes_session_state.specs.Held.{Held, name_of, same_key}
+use Rattle.mes_session_state.specs.Calls.{named_by, acknowledged_by}
+use Rattle.mes_session_state.specs.declared.refusal.Refusal.{Refusal}
+use Rattle.mes_session_state.specs.declared.refusal.Refusal.TheVariants.{NoMemory}
+use Rattle.mes_session_state.specs.Refusals.{as_reported, IsRefused}
 use Rattle.mes_session.specs.Kept.{after_last, IsKept, IsLeftBy}
 
 -- ---- the stream
@@ -83,7 +83,7 @@ IsOwed h owed = IsKept same_key (λ (key : OwedKey). key) owed_by acknowledges h
 -- ---- what is held
 
 -- this is what a framework with this history holds
-pub record StandsFor (h : List Entry) (s : Held) : Type 0 where
+pub record Represents (h : List Entry) (s : Held) : Type 0 where
   pub framework : s.framework ≡ framework_after h
   pub connected : s.connected ≡ connected_after h
   pub hand : IsHand h s.hand
@@ -104,7 +104,7 @@ after s e = record {
 
 -- it stands for each history that it stood for, and this entry behind it
 abbrev pub StandsNext : Entry → Held → Held → Type 0
-StandsNext e s t = (h : List Entry) → StandsFor h s → StandsFor (h ++ e ∷ []) t
+StandsNext e s t = (h : List Entry) → Represents h s → Represents (h ++ e ∷ []) t
 
 -- an OFFERS at i brings the offer, and no entry behind takes it out
 abbrev pub IsOfferedBy : List Entry → List ℕ → ℕ → Type 0
@@ -118,7 +118,7 @@ IsOwedBy h key i = IsLeftBy same_key (λ (k : OwedKey). k) owed_by acknowledges 
 
 -- a call is refused after a history by what is held then
 abbrev pub RefusedAfter : List Entry → Call → Refusal → Type 0
-RefusedAfter h call fault = (s : Held) × StandsFor h s × IsRefused s call fault
+RefusedAfter h call fault = (s : Held) × Represents h s × IsRefused s call fault
 
 -- no call of it is refused after the entries in front
 abbrev pub IsLegal : List Entry → Type 0
@@ -133,13 +133,13 @@ NeedsMemory _ = ⊥
 
 -- An entry that is not taken after a history: a call that is refused, as it is told; or an event that needs memory, where that is.
 abbrev pub IsStopped : List Entry → Entry → Refusal → Type 0
-IsStopped h (Heard event) told = (told ≡ NoMemory) × NeedsMemory event
-IsStopped h (Said call) told = (fault : Refusal) × (told ≡ as_told fault) × RefusedAfter h call fault
-IsStopped h Broken told = ⊥
+IsStopped h (Heard event) reported = (reported ≡ NoMemory) × NeedsMemory event
+IsStopped h (Said call) reported = (fault : Refusal) × (reported ≡ as_reported fault) × RefusedAfter h call fault
+IsStopped h Broken reported = ⊥
 
 -- the entries in front are legal, and this one is not taken
-pub record StopsAt (h : List Entry) (i : ℕ) (told : Refusal) : Type 0 where
+pub record StopsAt (h : List Entry) (i : ℕ) (reported : Refusal) : Type 0 where
   pub front : IsLegal (take i h)
   pub entry : Entry
   pub is : slice_get h i ≡ Some entry
-  pub stopped : IsStopped (take i h) entry told
+  pub stopped : IsStopped (take i h) entry reported

@@ -1,8 +1,8 @@
-pub use Rattle.mes_hand.specs.Held
-pub use Rattle.mes_hand.specs.declared.refusal.Refusal
-pub use Rattle.mes_making.specs.Made
-pub use Rattle.mes_log.specs.Logs
-pub use Rattle.mes_log.specs.Writing
+pub use Rattle.mes_session_state.specs.Held
+pub use Rattle.mes_session_state.specs.declared.refusal.Refusal
+pub use Rattle.mes_session_calls.specs.Made
+pub use Rattle.mes_session_log.specs.Logs
+pub use Rattle.mes_session_log.specs.Writing
 pub mod Kept
 pub mod History
 pub mod Making

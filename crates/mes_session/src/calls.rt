@@ -3,20 +3,20 @@
 ghost use Rattle.std.specs.Prelude.{◌≡◌, Some, Ok, Err, IfOk, IfErr, OnErr, IsSome, option_copied};
 ghost use Rattle.mes_model.specs.Id.{Id as IdValue};
 ghost use Rattle.mes_msg.specs.declared.entry.Entry.TheVariants.{Said};
-ghost use Rattle.mes_hand.specs.Calls.{accept_call, decline_call, acknowledge_call};
+ghost use Rattle.mes_session_state.specs.Calls.{accept_call, decline_call, acknowledge_call};
 ghost use Rattle.mes_session.specs.History.{after};
-ghost use Rattle.mes_making.specs.Made.{subscribe_call, kill_call, reconcile_call, shutdown_call, message_call};
+ghost use Rattle.mes_session_calls.specs.Made.{subscribe_call, kill_call, reconcile_call, shutdown_call, message_call};
 ghost use Rattle.mes_session.specs.Making.{Applied, Made, NotMade};
 
 use crate::session::Session;
-use mes_hand::Refusal;
 use mes_json::NoMemory;
-use mes_making::{
+use mes_model::{Filters, FrameworkInfo, Id, OwedKey, TaskInfo, TaskRef};
+use mes_msg::Call;
+use mes_session_calls::{
     make_accept, make_acknowledge, make_decline, make_kill, make_message, make_reconcile,
     make_revive, make_shutdown, make_subscribe, make_suppress, make_teardown,
 };
-use mes_model::{Filters, FrameworkInfo, Id, OwedKey, TaskInfo, TaskRef};
-use mes_msg::Call;
+use mes_session_state::Refusal;
 
 impl Session {
     /// The framework subscribes, or does so again: where a framework is known, the call names it, also in what it tells of itself; else

@@ -3,17 +3,17 @@
 //! it may make. It gives on what reads and writes the log of a session, so that one name has all of it.
 
 mod calls;
-mod laws;
 mod line;
 mod replaying;
 mod report;
 mod session;
+mod theorems;
 
-pub use laws::{session_laws, session_limits};
-pub use line::{REFUSAL_LINE_MOST, refusal_line};
-pub use mes_hand::Refusal;
-pub use mes_log::{one_log_reading, read_log, write_log};
+pub use line::{MAX_REFUSAL_LINE, refusal_line};
 pub use mes_model::OwedKey;
 pub use mes_msg::Entry;
+pub use mes_session_log::{log_reading_is_unique, read_log, write_log};
+pub use mes_session_state::Refusal;
 pub use replaying::replay;
 pub use session::Session;
+pub use theorems::{session_laws, session_limits};

@@ -6,14 +6,14 @@ ghost use Rattle.mes_session.specs.Printed.{refusal_title, refusal_place, refusa
 
 use arrayvec::ArrayString;
 use itoa::Buffer;
-use mes_hand::Refusal;
+use mes_session_state::Refusal;
 
 /// The room for a refusal's line, in bytes: for three numbers of 20 digits and the words between.
-pub const REFUSAL_LINE_MOST: usize = 160;
+pub const MAX_REFUSAL_LINE: usize = 160;
 
 /// Writes in place of the text the line of a refusal behind so many entries, the one that was refused not among them; the entries are
 /// numbered from 1, and from 2^64 - 1 on the number stays there.
-pub fn refusal_line(refusal: &Refusal, before: u64, line: &mut ArrayString<REFUSAL_LINE_MOST>)
+pub fn refusal_line(refusal: &Refusal, before: u64, line: &mut ArrayString<MAX_REFUSAL_LINE>)
     ensures { line.new.bytes ≡ refusal_text refusal.now before }
 {
     line.clear();
@@ -41,8 +41,8 @@ fn title(refusal: &Refusal) -> &'static str
 }
 
 /// Appends where in the call it is, if the refusal says so.
-fn push_place(line: &mut ArrayString<REFUSAL_LINE_MOST>, refusal: &Refusal)
-    requires { array_string_len line.old + 56 ≤ REFUSAL_LINE_MOST }
+fn push_place(line: &mut ArrayString<MAX_REFUSAL_LINE>, refusal: &Refusal)
+    requires { array_string_len line.old + 56 ≤ MAX_REFUSAL_LINE }
     ensures { line.new.bytes ≡ line.old.bytes ++ spaced (refusal_place refusal.now) }
 {
     match refusal {
@@ -57,8 +57,8 @@ fn push_place(line: &mut ArrayString<REFUSAL_LINE_MOST>, refusal: &Refusal)
 }
 
 /// Appends a word with its spaces, and the number in decimal.
-fn push_number(line: &mut ArrayString<REFUSAL_LINE_MOST>, word: &str, number: u64)
-    requires { array_string_len line.old + length word.now + 20 ≤ REFUSAL_LINE_MOST }
+fn push_number(line: &mut ArrayString<MAX_REFUSAL_LINE>, word: &str, number: u64)
+    requires { array_string_len line.old + length word.now + 20 ≤ MAX_REFUSAL_LINE }
     ensures text { line.new.bytes ≡ line.old.bytes ++ (word.now ++ decimal number) }
     ensures bound { array_string_len line.new ≤ array_string_len line.old + length word.now + 20 }
 {

@@ -5,9 +5,9 @@ ghost use Rattle.mes_msg.specs.Shown.{or_dash, id_text};
 ghost use Rattle.mes_session.specs.Printed.{report_line, report_text, hand_line, owed_line};
 
 use crate::session::Session;
-use mes_event::{put_id, put_number, put_uuid, put_word};
 use mes_json::NoMemory;
 use mes_model::{Id, Offer, OwedKey};
+use mes_msg_event::{put_id, put_number, put_uuid, put_word};
 
 impl Session {
     /// The lines that are printed of the session behind so many entries, each with its LF: the count of entries; the framework, or `-`;

@@ -1,17 +1,17 @@
 //! What a framework holds of what it has heard and said.
 ghost use Rattle.std.specs.Prelude.{◌≡◌, ◌<◌, None, Some, [], length, slice_get, option_copied, OnOk, OnErr, IfErr};
 ghost use Rattle.mes_msg.specs.declared.entry.Entry.TheVariants.{Heard, Said, Broken};
-ghost use Rattle.mes_hand.specs.Held.{offer_in};
-ghost use Rattle.mes_hand.specs.Refusals.{Answers};
+ghost use Rattle.mes_session_state.specs.Held.{offer_in};
+ghost use Rattle.mes_session_state.specs.Refusals.{Answers};
 ghost use Rattle.mes_model.specs.Owed.{Owes};
-ghost use Rattle.mes_session.specs.History.{StandsFor, StandsNext, at_first, after, NeedsMemory};
+ghost use Rattle.mes_session.specs.History.{Represents, StandsNext, at_first, after, NeedsMemory};
 ghost use Rattle.mes_session.specs.Making.{Applied, Passes, IsTurnedAway};
 
-use mes_hand::{Hand, Owed, Refusal, Standing};
 use mes_json::NoMemory;
 use mes_model::{Id, Offer, OwedKey};
+use mes_model_schema::{List, Part};
 use mes_msg::{Call, Entry, Event, Rescind, Subscribed, Update};
-use mes_part::{List, Part};
+use mes_session_state::{CallCheck, OutstandingOffers, PendingAcknowledgements, Refusal};
 use std::alloc::Global;
 use std::marker::Model;
 
@@ -22,14 +22,14 @@ pub struct Session {
     pub(crate) alloc: Global,
     pub(crate) framework: Option<Id>,
     connected: bool,
-    hand: Hand,
-    owed: Owed,
+    hand: OutstandingOffers,
+    owed: PendingAcknowledgements,
 }
 
 impl Model for Session {
     ghost use Rattle.std.specs.Coded.{codes};
-    ghost use Rattle.mes_part.specs.MembersCode.{members_code};
-    ghost use Rattle.mes_hand.specs.Held.{Held};
+    ghost use Rattle.mes_model_schema.specs.MembersCode.{members_code};
+    ghost use Rattle.mes_session_state.specs.Held.{Held};
 
     ghost Value = { Held };
 
@@ -42,14 +42,14 @@ impl Session {
     /// A session that has heard and said nothing. It takes memory from `alloc` when it hears and says, and none now.
     pub fn new(alloc: Global) -> Session
         ensures is { result ≡ at_first }
-        ensures stands { StandsFor [] result }
+        ensures represents { Represents [] result }
     {
         Session {
             alloc,
             framework: None,
             connected: false,
-            hand: Hand::new(alloc),
-            owed: Owed::new(alloc),
+            hand: OutstandingOffers::new(alloc),
+            owed: PendingAcknowledgements::new(alloc),
         }
     }
 
@@ -110,14 +110,14 @@ impl Session {
     pub fn heard(&mut self, event: &Event) -> Result<(), Refusal>
         // Ok: it is as the event leaves it.
         ensures next { OnOk result (self.new ≡ after self.old (Heard event.now)) }
-        ensures stands { OnOk result (StandsNext (Heard event.now) self.old self.new) }
+        ensures represents { OnOk result (StandsNext (Heard event.now) self.old self.new) }
 
         // Err: want of memory, of an event that needs it.
         ensures err { IfErr result (λ refusal. refusal ≡ Refusal.NoMemory) }
         ensures needs { OnErr result (NeedsMemory event.now) }
         ensures same { OnErr result (self.new ≡ self.old) }
     {
-        self.take_in(event)?;
+        self.apply_event(event)?;
         Ok(())
     }
 
@@ -142,17 +142,17 @@ impl Session {
     /// updates that are owed stay. Takes no memory.
     pub fn broken(&mut self)
         ensures next { self.new ≡ after self.old Broken }
-        ensures stands { StandsNext Broken self.old self.new }
+        ensures represents { StandsNext Broken self.old self.new }
     {
         self.connected = false;
         self.hand.clear();
     }
 
     /// What it holds, for calls to be looked at.
-    pub(crate) fn standing(&self) -> Standing<'_>
+    pub(crate) fn standing(&self) -> CallCheck<'_>
         ensures { result ≡ self.now }
     {
-        Standing::new(
+        CallCheck::new(
             self.framework.as_ref(),
             self.connected,
             &self.hand,
@@ -161,7 +161,7 @@ impl Session {
     }
 
     /// Hears an event.
-    fn take_in(&mut self, event: &Event) -> Result<(), NoMemory>
+    fn apply_event(&mut self, event: &Event) -> Result<(), NoMemory>
         ensures next { OnOk result (self.new ≡ after self.old (Heard event.now)) }
         ensures needs { OnErr result (NeedsMemory event.now) }
         ensures same { OnErr result (self.new ≡ self.old) }
@@ -242,7 +242,7 @@ impl Session {
     }
 
     /// One more entry.
-    pub(crate) fn enter(&mut self, entry: &Entry) -> Result<(), Refusal>
+    pub(crate) fn apply_entry(&mut self, entry: &Entry) -> Result<(), Refusal>
         ensures next { OnOk result (self.new ≡ after self.old entry.now) }
         ensures err { IfErr result (λ refusal. IsTurnedAway self.old entry.now refusal) }
         ensures passes { OnOk result (Passes self.old entry.now) }

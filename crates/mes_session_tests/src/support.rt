@@ -265,8 +265,10 @@ fn held_in_words(alloc: Global, session: &Session) -> Result<String, Fail> {
 
 /// The two sides of a line, and the two of its answer.
 fn sides_of(line: &str) -> Result<(&str, &str, &str), Fail> {
-    let (what, told) = line.split_once(" => ").ok_or("a line has an answer")?;
-    let (answer, held) = told.split_once(" | ").ok_or("an answer has what is held")?;
+    let (what, reported) = line.split_once(" => ").ok_or("a line has an answer")?;
+    let (answer, held) = reported
+        .split_once(" | ")
+        .ok_or("an answer has what is held")?;
     Ok((what, answer, held))
 }
 
@@ -277,8 +279,8 @@ fn expect_line<R: Abort + AllocGlobal>(
     line: &str,
 ) -> Result<(), Fail> {
     let (what, answer, held) = sides_of(line)?;
-    let told = step(rt.alloc(), session, what)?;
-    assert_eq!(rt; told.as_str(), answer, "{what}");
+    let reported = step(rt.alloc(), session, what)?;
+    assert_eq!(rt; reported.as_str(), answer, "{what}");
     let left = held_in_words(rt.alloc(), session)?;
     assert_eq!(rt; left.as_str(), held, "{what}");
     assert!(rt; ends(session), "{what}");
@@ -348,7 +350,7 @@ pub(crate) fn expect_replay<R: Abort + AllocGlobal>(
     history: &str,
     expected: &str,
 ) -> Result<(), Fail> {
-    let told = history_in_words(rt.alloc(), history)?;
-    assert_eq!(rt; told.as_str(), expected, "{history}");
+    let reported = history_in_words(rt.alloc(), history)?;
+    assert_eq!(rt; reported.as_str(), expected, "{history}");
     Ok(())
 }

@@ -6,14 +6,14 @@ use Rattle.std.proofs.lemmas.Grind.{common_steps}
 use Rattle.mes_frame.proofs.Records.{begun_of, data_goes_on}
 use Rattle.mes_frame.specs.Record.{IsRecord, Begun, DataBegun}
 use Rattle.mes_frame.specs.RecordState.{RecordStands, limit_of}
-use Rattle.mes_stream.specs.Stream.{saturated, Records, Behind, BodyLive, number_after, EndsRecord, HasValue, InRecordData, RunsOut, BodyStops}
+use Rattle.mes_stream.specs.Stream.{saturated, Records, Following, BodyLive, number_after, EndsRecord, HasValue, InRecordData, RunsOut, BodyStops}
 use Rattle.mes_stream.specs.Framings.{GoesIn, ByteStopsIn, SaysIn, StopsWithin}
 use Rattle.mes_stream.specs.declared.stream_reader.Framing.{Framing}
 use Rattle.mes_stream.specs.declared.stream_reader.Framing.TheVariants.{Plain}
 use Rattle.mes_stream.specs.RecordValues.{AddsValue}
-use Rattle.mes_stream.specs.Taking.{BodyStands, Ends, EndsInto, record_answer, fault_of_record}
-use Rattle.mes_stream.specs.declared.refusal.RecordRefusal.{RecordRefusal}
-use Rattle.mes_stream.specs.declared.refusal.RecordRefusal.TheVariants as refusal
+use Rattle.mes_stream.specs.Taking.{BodyRepresents, Ends, EndsInto, record_answer, fault_of_record}
+use Rattle.mes_stream.specs.declared.record_error.RecordError.{RecordError}
+use Rattle.mes_stream.specs.declared.record_error.RecordError.TheVariants as refusal
 use Rattle.mes_stream.specs.declared.fault.Fault.{Fault}
 use Rattle.mes_stream.specs.declared.body.Body.{Body}
 use Rattle.mes_stream.proofs.PlainLaw.{same_last}
@@ -47,7 +47,7 @@ last_begun limit x r c is some =
     )
 
 -- an allocation failed for the data of a record that ends with the byte c
-pub ends_runs_out : {E : Type 0} (spells : List ℕ → E → Type 0) (breaks : List ℕ → RecordRefusal → Type 0) (limit : ℕ) (b : List ℕ) (values : List E) (c : ℕ)
+pub ends_runs_out : {E : Type 0} (spells : List ℕ → E → Type 0) (breaks : List ℕ → RecordError → Type 0) (limit : ℕ) (b : List ℕ) (values : List E) (c : ℕ)
     → EndsRecord spells limit b values c (λ r. (r ≢ []) × breaks r refusal.NoMemory) → RunsOut spells breaks limit b values c
 ends_runs_out spells breaks limit b values c h =
     let last = last_begun limit h.x h.is.0 c h.is.1 h.is.2.0 in
@@ -76,20 +76,20 @@ module _ {R E : Type 0} (holds : R → List ℕ → Type 0) (spells : List ℕ �
   pub records_more : (limit : ℕ) (b f r : List ℕ) (values : List E) (value : E) → Records spells limit b values → IsRecord f r limit → spells r value
       → Records spells limit (b ++ f) (values ++ value ∷ [])
   records_more limit b f r [] value none is says = (f, [], r, is, says, (rw none (sym (append-nil f))), refl)
-  records_more limit b f r (e ∷ values) value (front, rest, r0, is_front, before, spelt, behind) is says =
-      (front, rest ++ f, r0, is_front, before, (ap (λ (x : List ℕ). x ++ f) spelt ∙ append_assoc front rest f), records_more limit rest f r values value behind is says)
+  records_more limit b f r (e ∷ values) value (front, rest, r0, is_front, before, spelt, following) is says =
+      (front, rest ++ f, r0, is_front, before, (ap (λ (x : List ℕ). x ++ f) spelt ∙ append_assoc front rest f), records_more limit rest f r values value following is says)
 
   -- what stands is live
-  pub live_of : (d : Body R) (b : List ℕ) (values : List E) → BodyStands holds spells ahead d b values → BodyLive spells (limit_of d.records) b values
+  pub live_of : (d : Body R) (b : List ℕ) (values : List E) → BodyRepresents holds spells ahead d b values → BodyLive spells (limit_of d.records) b values
   live_of d b values s = record { whole = s.whole; x = s.x; spelt = s.spelt; records = s.records; is = (s.r, begun_of d.records s.x s.r s.state) }
 
   -- so many records have ended
-  pub number_of : (d : Body R) (b : List ℕ) (values : List E) → BodyStands holds spells ahead d b values → saturated (d.done + 1) ≡ number_after ahead values
+  pub number_of : (d : Body R) (b : List ℕ) (values : List E) → BodyRepresents holds spells ahead d b values → saturated (d.done + 1) ≡ number_after ahead values
   number_of d b values s = ap (λ (n : ℕ). saturated (n + 1)) s.count ∙ saturated_more (ahead + length values)
 
   -- p more bytes stand behind the records
-  pub behind_on : (d : Body R) (b p : List ℕ) (values : List E) (s : BodyStands holds spells ahead d b values) (Is : List ℕ → Type 0) → Is (s.x ++ p)
-      → Behind spells (limit_of d.records) Is (b ++ p) values
+  pub behind_on : (d : Body R) (b p : List ℕ) (values : List E) (s : BodyRepresents holds spells ahead d b values) (Is : List ℕ → Type 0) → Is (s.x ++ p)
+      → Following spells (limit_of d.records) Is (b ++ p) values
   behind_on d b p values s Is h = record {
     whole = s.whole;
     x = s.x ++ p;
@@ -99,8 +99,8 @@ module _ {R E : Type 0} (holds : R → List ℕ → Type 0) (spells : List ℕ �
   }
 
   -- bytes were taken that end no record
-  pub stands_on : (d new : Body R) (b p r : List ℕ) (values : List E) (s : BodyStands holds spells ahead d b values) → new.done ≡ d.done
-      → limit_of new.records ≡ limit_of d.records → holds new.reader r → RecordStands new.records (s.x ++ p) r → BodyStands holds spells ahead new (b ++ p) values
+  pub stands_on : (d new : Body R) (b p r : List ℕ) (values : List E) (s : BodyRepresents holds spells ahead d b values) → new.done ≡ d.done
+      → limit_of new.records ≡ limit_of d.records → holds new.reader r → RecordStands new.records (s.x ++ p) r → BodyRepresents holds spells ahead new (b ++ p) values
   stands_on d new b p r values s done limit kept state = record {
     whole = s.whole;
     x = s.x ++ p;
@@ -114,9 +114,9 @@ module _ {R E : Type 0} (holds : R → List ℕ → Type 0) (spells : List ℕ �
   }
 
   -- a record has ended with a run of data, and has a value
-  pub stands_value : (d new : Body R) (b p r : List ℕ) (values : List E) (value : E) (s : BodyStands holds spells ahead d b values) → new.done ≡ saturated (d.done + 1)
+  pub stands_value : (d new : Body R) (b p r : List ℕ) (values : List E) (value : E) (s : BodyRepresents holds spells ahead d b values) → new.done ≡ saturated (d.done + 1)
       → limit_of new.records ≡ limit_of d.records → holds new.reader [] → IsRecord (s.x ++ p) r (limit_of d.records)
-      → RecordStands new.records [] [] → spells r value → BodyStands holds spells ahead new (b ++ p) (values ++ value ∷ [])
+      → RecordStands new.records [] [] → spells r value → BodyRepresents holds spells ahead new (b ++ p) (values ++ value ∷ [])
   stands_value d new b p r values value s done limit kept is state says = record {
     whole = s.whole ++ (s.x ++ p);
     x = [];
@@ -130,39 +130,39 @@ module _ {R E : Type 0} (holds : R → List ℕ → Type 0) (spells : List ℕ �
   }
 
   -- before the first byte of a run
-  pub first_live : (d : Body R) (b run : List ℕ) (values : List E) (n : ℕ) → BodyStands holds spells ahead d b values → n < 1
+  pub first_live : (d : Body R) (b run : List ℕ) (values : List E) (n : ℕ) → BodyRepresents holds spells ahead d b values → n < 1
       → BodyLive spells (limit_of d.records) (b ++ take n run) values
   first_live d b run values n s first =
       let none : 0 ≡ n = omega arith in
       subst (λ (m : ℕ). BodyLive spells (limit_of d.records) (b ++ take m run) values) none (rw (append-nil b) (live_of d b values s))
 
   -- within a size line the record goes on
-  pub size_live : (d : Body R) (b run r : List ℕ) (values : List E) (n limit : ℕ) (s : BodyStands holds spells ahead d b values) → limit ≡ limit_of d.records
+  pub size_live : (d : Body R) (b run r : List ℕ) (values : List E) (n limit : ℕ) (s : BodyRepresents holds spells ahead d b values) → limit ≡ limit_of d.records
       → Begun (s.x ++ take n run) r limit → BodyLive spells limit (b ++ take n run) values
   size_live d b run r values n limit s same begun =
       rw same (behind_on d b (take n run) values s (λ x. (r : List ℕ) × Begun x r (limit_of d.records)) (r, rw same at begun))
 
   -- within a run of data the record goes on
-  pub data_on : (d : Body R) (b run : List ℕ) (values : List E) (n left : ℕ) (s : BodyStands holds spells ahead d b values) → n < left → n ≤ length run
+  pub data_on : (d : Body R) (b run : List ℕ) (values : List E) (n left : ℕ) (s : BodyRepresents holds spells ahead d b values) → n < left → n ≤ length run
       → DataBegun s.x s.r left (limit_of d.records) → DataBegun (s.x ++ take n run) (s.r ++ take n run) (left - n) (limit_of d.records)
   data_on d b run values n left s inside within begun =
       let len : length (take n run) ≡ n = length-take-le n run within in
       subst (λ (m : ℕ). DataBegun (s.x ++ take n run) (s.r ++ take n run) (left - m) (limit_of d.records)) len
       (data_goes_on s.x s.r (take n run) left (limit_of d.records) begun (omega arith))
 
-  pub data_live : (d : Body R) (b run : List ℕ) (values : List E) (n left : ℕ) (s : BodyStands holds spells ahead d b values) → n < left → n ≤ length run
+  pub data_live : (d : Body R) (b run : List ℕ) (values : List E) (n left : ℕ) (s : BodyRepresents holds spells ahead d b values) → n < left → n ≤ length run
       → DataBegun s.x s.r left (limit_of d.records) → BodyLive spells (limit_of d.records) (b ++ take n run) values
   data_live d b run values n left s inside within begun =
       behind_on d b (take n run) values s (λ x. (r : List ℕ) × Begun x r (limit_of d.records)) (s.r ++ take n run, inr (left - n, data_on d b run values n left s inside within begun))
 
-  pub data_next : (d : Body R) (b run : List ℕ) (values : List E) (n left : ℕ) (s : BodyStands holds spells ahead d b values) (Is : List ℕ → ℕ → Type 0) → n < left → n ≤ length run
+  pub data_next : (d : Body R) (b run : List ℕ) (values : List E) (n left : ℕ) (s : BodyRepresents holds spells ahead d b values) (Is : List ℕ → ℕ → Type 0) → n < left → n ≤ length run
       → DataBegun s.x s.r left (limit_of d.records) → Is (s.r ++ take n run) (left - n) → InRecordData spells (limit_of d.records) (b ++ take n run) values Is
   data_next d b run values n left s Is inside within begun is =
       behind_on d b (take n run) values s (λ x. (r : List ℕ) × (left : ℕ) × DataBegun x r left (limit_of d.records) × Is r left)
       (s.r ++ take n run, left - n, data_on d b run values n left s inside within begun, is)
 
   -- the record ends with the last of so many bytes of a run
-  pub ends_with : (d : Body R) (b run r : List ℕ) (values : List E) (count : ℕ) (s : BodyStands holds spells ahead d b values) (Is : List ℕ → Type 0) → 0 < count → count ≤ length run
+  pub ends_with : (d : Body R) (b run r : List ℕ) (values : List E) (count : ℕ) (s : BodyRepresents holds spells ahead d b values) (Is : List ℕ → Type 0) → 0 < count → count ≤ length run
       → IsRecord (s.x ++ take count run) r (limit_of d.records) → Is r
       → EndsRecord spells (limit_of d.records) (b ++ take (count - 1) run) values (slice_index run (count - 1)) Is
   ends_with d b run r values count s Is some within is h =
@@ -171,9 +171,9 @@ module _ {R E : Type 0} (holds : R → List ℕ → Type 0) (spells : List ℕ �
       behind_on d b (take (count - 1) run) values s (λ x. (r : List ℕ) × IsRecord (x ++ slice_index run (count - 1) ∷ []) r (limit_of d.records) × Is r)
       (r, subst (λ (y : List ℕ). IsRecord y r (limit_of d.records)) (ap (λ (y : List ℕ). s.x ++ y) whole ∙ sym (append_assoc s.x (take (count - 1) run) (get_or run (count - 1) 0 ∷ []))) is, h)
 
-  module _ (breaks : List ℕ → RecordRefusal → Type 0) where
+  module _ (breaks : List ℕ → RecordError → Type 0) where
     -- the record that ended so has no value, or an allocation for it failed
-    pub refused_with : (d : Body R) (b run r : List ℕ) (values : List E) (count : ℕ) (why : RecordRefusal) (s : BodyStands holds spells ahead d b values) → 0 < count → count ≤ length run
+    pub refused_with : (d : Body R) (b run r : List ℕ) (values : List E) (count : ℕ) (why : RecordError) (s : BodyRepresents holds spells ahead d b values) → 0 < count → count ≤ length run
         → r ≢ [] → IsRecord (s.x ++ take count run) r (limit_of d.records) → breaks r why
         → BodyStops spells breaks ahead (limit_of d.records) (b ++ take (count - 1) run) values (slice_index run (count - 1)) (fault_of_record d.done why)
     refused_with d b run r values count (refusal.Text f) s some within filled is h =
@@ -190,10 +190,10 @@ module _ {R E : Type 0} (holds : R → List ℕ → Type 0) (spells : List ℕ �
         )
 
     -- the record has ended with a run of data
-    pub ends_as : (d mid new : Body R) (b run : List ℕ) (values : List E) (count left : ℕ) (answer : Result E RecordRefusal) (s : BodyStands holds spells ahead d b values) → 0 < count → count ≤ length run → count ≤ left
+    pub ends_as : (d mid new : Body R) (b run : List ℕ) (values : List E) (count left : ℕ) (answer : Result E RecordError) (s : BodyRepresents holds spells ahead d b values) → 0 < count → count ≤ length run → count ≤ left
         → DataBegun s.x s.r left (limit_of d.records) → mid.done ≡ d.done → limit_of new.records ≡ limit_of d.records
         → IsRecord (s.x ++ take count run) (s.r ++ take count run) (limit_of d.records) → RecordStands new.records [] []
-        → Ends holds spells breaks mid new (s.r ++ take count run) answer → SaysIn Plain (BodyStands holds spells ahead new) spells breaks ahead (limit_of new.records) b values run count (record_answer new.done answer)
+        → Ends holds spells breaks mid new (s.r ++ take count run) answer → SaysIn Plain (BodyRepresents holds spells ahead new) spells breaks ahead (limit_of new.records) b values run count (record_answer new.done answer)
     ends_as d mid new b run values count left (Ok value) s some within inside begun done limit is state (says, ready, more) = (
       stands_value d new b (take count run) (s.r ++ take count run) values value s (more ∙ ap (λ (n : ℕ). saturated (n + 1)) done) limit ready is state says,
       rw limit (ends_with d b run (s.r ++ take count run) values count s (HasValue spells value) some within is (some_run s.r run count some within, says)),
@@ -202,7 +202,7 @@ module _ {R E : Type 0} (holds : R → List ℕ → Type 0) (spells : List ℕ �
         rw (more, done, limit) (refused_with d b run (s.r ++ take count run) values count why s some within (some_run s.r run count some within) is h)
 
   -- the data of a record that is whole
-  pub whole_fits : (d : Body R) (b x r : List ℕ) (values : List E) → BodyStands holds spells ahead d b values → IsRecord x r (limit_of d.records) → length r < 2 ^ 64
+  pub whole_fits : (d : Body R) (b x r : List ℕ) (values : List E) → BodyRepresents holds spells ahead d b values → IsRecord x r (limit_of d.records) → length r < 2 ^ 64
   whole_fits d b x r values s is = let within = is.within in let small = s.limit in omega arith
 
 -- a run of bytes and the byte behind it
@@ -210,7 +210,7 @@ pub run_split : (rest : List ℕ) (m : ℕ) → m < length rest → rest ≡ tak
 run_split rest m lt =
     sym (take-append-drop (m + 1) rest) ∙ rw (take_more rest m 0 lt) (append_assoc (take m rest) (get_or rest m 0 ∷ []) (drop (m + 1) rest))
 
-module _ {E : Type 0} (framing : Framing) (spells : List ℕ → E → Type 0) (breaks : List ℕ → RecordRefusal → Type 0) (ahead : ℕ) where
+module _ {E : Type 0} (framing : Framing) (spells : List ℕ → E → Type 0) (breaks : List ℕ → RecordError → Type 0) (ahead : ℕ) where
   -- a byte of what is left of a piece stops the reading
   pub stops_in : (limit : ℕ) (b piece : List ℕ) (values : List E) (fault : Fault) (at used : ℕ) → at ≤ length piece → 0 < used → used ≤ length (drop at piece)
       → GoesIn framing spells limit ((b ++ take at piece) ++ take (used - 1) (drop at piece)) values
@@ -236,7 +236,7 @@ module _ {E : Type 0} (framing : Framing) (spells : List ℕ → E → Type 0) (
   }
 
 -- the value of a record that has ended was added to a list, or why not
-pub ends_into : {R E T : Type 0} (holds : R → List ℕ → Type 0) (spells : List ℕ → E → Type 0) (breaks : List ℕ → RecordRefusal → Type 0) (old new : Body R) (r : List ℕ) (before after : List E) (result : Result T RecordRefusal)
+pub ends_into : {R E T : Type 0} (holds : R → List ℕ → Type 0) (spells : List ℕ → E → Type 0) (breaks : List ℕ → RecordError → Type 0) (old new : Body R) (r : List ℕ) (before after : List E) (result : Result T RecordError)
     → AddsValue spells breaks (holds new.reader []) r before after result → OnOk result (holds new.reader []) → new.done ≡ saturated (old.done + 1) → EndsInto holds spells breaks old new r before after result
 ends_into holds spells breaks old new r before after (Ok done) (value, says, is) ready more = (value, (says, ready, more), is)
 ends_into holds spells breaks old new r before after (Err why) (inl h, same) ready more = (inl (h, more), same)
@@ -247,8 +247,8 @@ pub piece_on : (b piece : List ℕ) (at used : ℕ) → (b ++ take at piece) ++ 
 piece_on b piece at used = append_assoc b (take at piece) (take used (drop at piece)) ∙ ap (λ (p : List ℕ). b ++ p) (sym (take-add at used piece))
 
 -- and a record ended there
-pub value_on : {E : Type 0} (Stands : List ℕ → List E → Type 0) (b piece : List ℕ) (values more : List E) (value : E) (at used : ℕ)
-    → Stands ((b ++ take at piece) ++ take used (drop at piece)) ((values ++ more) ++ value ∷ []) → Stands (b ++ take (at + used) piece) (values ++ (more ++ value ∷ []))
-value_on {E = E} Stands b piece values more value at used s =
-    subst (λ (w : List ℕ). Stands w (values ++ (more ++ value ∷ []))) (piece_on b piece at used)
-    (subst (λ (vs : List E). Stands ((b ++ take at piece) ++ take used (drop at piece)) vs) (append_assoc values more (value ∷ [])) s)
+pub value_on : {E : Type 0} (Represents : List ℕ → List E → Type 0) (b piece : List ℕ) (values more : List E) (value : E) (at used : ℕ)
+    → Represents ((b ++ take at piece) ++ take used (drop at piece)) ((values ++ more) ++ value ∷ []) → Represents (b ++ take (at + used) piece) (values ++ (more ++ value ∷ []))
+value_on {E = E} Represents b piece values more value at used s =
+    subst (λ (w : List ℕ). Represents w (values ++ (more ++ value ∷ []))) (piece_on b piece at used)
+    (subst (λ (vs : List E). Represents ((b ++ take at piece) ++ take used (drop at piece)) vs) (append_assoc values more (value ∷ [])) s)

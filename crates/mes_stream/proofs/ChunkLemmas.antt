@@ -6,21 +6,21 @@ use Rattle.std.proofs.lemmas.Grind.{common_steps}
 use Rattle.std.proofs.lemmas.Bool.{cases_lt}
 use Rattle.mes_frame.proofs.ChunkParts.{open_of, fronts_of}
 use Rattle.mes_frame.specs.ChunkFront.{IsOpen}
-use Rattle.mes_frame.specs.ChunkState.{ChunkStands, room_of}
-use Rattle.mes_stream.specs.declared.refusal.RecordRefusal.{RecordRefusal}
+use Rattle.mes_frame.specs.ChunkState.{ChunkRepresents, remaining_of}
+use Rattle.mes_stream.specs.declared.record_error.RecordError.{RecordError}
 use Rattle.mes_stream.specs.Stream.{BodyLive, EndsRecord, HasValue, BodyShows, BodyStops}
 use Rattle.mes_stream.specs.Chunked.{Live, AtData, ChunkedShows, ChunkedStops}
 use Rattle.mes_frame.specs.RecordState.{limit_of}
 use Rattle.mes_stream.specs.Framings.{GoesIn, EndsIn, EndsRecordIn, ByteStopsIn, SaysIn, GoesBefore}
-use Rattle.mes_stream.specs.Taking.{BodyStands}
-use Rattle.mes_stream.specs.Decoding.{ChunkedStands}
+use Rattle.mes_stream.specs.Taking.{BodyRepresents}
+use Rattle.mes_stream.specs.Decoding.{ChunkedRepresents}
 use Rattle.mes_stream.specs.declared.fault.Fault.{Fault}
 use Rattle.mes_stream.specs.declared.fault.Fault.TheVariants.{Frame, EndsInsideChunks, EndsInsideRecord, Text, Field, NoMemory, Read, ReadsSpent, BadEntry}
 use Rattle.mes_stream.specs.declared.chunked.ChunkedBody.{ChunkedBody}
 use Rattle.mes_stream.specs.declared.stream_reader.Framing.{Framing}
 use Rattle.mes_stream.specs.declared.stream_reader.Framing.TheVariants.{Plain, Chunked}
-use Rattle.mes_stream.specs.declared.taken.Out.{Out}
-use Rattle.mes_stream.specs.declared.taken.Out.TheVariants as out
+use Rattle.mes_stream.specs.declared.progress.Decoded.{Decoded}
+use Rattle.mes_stream.specs.declared.progress.Decoded.TheVariants as out
 use Rattle.mes_stream.proofs.BodyLemmas.{live_of, piece_on}
 
 -- the whole piece
@@ -28,45 +28,45 @@ pub take_whole : (piece : List ℕ) (used : ℕ) → used ≡ length piece → t
 take_whole piece used all = grind (arith, common_steps)
 
 -- a byte of the body shows what it shows of the body
-pub shows_data : {E : Type 0} (spells : List ℕ → E → Type 0) (breaks : List ℕ → RecordRefusal → Type 0) (ahead limit : ℕ) (w body : List ℕ) (values : List E) (c : ℕ) (fault : Fault)
+pub shows_data : {E : Type 0} (spells : List ℕ → E → Type 0) (breaks : List ℕ → RecordError → Type 0) (ahead limit : ℕ) (w body : List ℕ) (values : List E) (c : ℕ) (fault : Fault)
     → IsOpen w body → IsOpen (w ++ c ∷ []) (body ++ c ∷ []) → BodyShows spells breaks ahead limit body values c fault → ChunkedShows spells breaks ahead limit w values c fault
-shows_data spells breaks ahead limit w body values c (Frame f) before behind h = inr (body, before, behind, h)
-shows_data spells breaks ahead limit w body values c (Text at byte why) before behind h = (body, before, behind, h)
-shows_data spells breaks ahead limit w body values c (Field at path why) before behind h = (body, before, behind, h)
-shows_data spells breaks ahead limit w body values c EndsInsideChunks before behind h = absurd h
-shows_data spells breaks ahead limit w body values c EndsInsideRecord before behind h = absurd h
-shows_data spells breaks ahead limit w body values c NoMemory before behind h = absurd h
-shows_data spells breaks ahead limit w body values c Read before behind h = absurd h
-shows_data spells breaks ahead limit w body values c ReadsSpent before behind h = absurd h
-shows_data spells breaks ahead limit w body values c (BadEntry at_record) before behind h = (body, before, behind, h)
+shows_data spells breaks ahead limit w body values c (Frame f) before following h = inr (body, before, following, h)
+shows_data spells breaks ahead limit w body values c (Text at byte why) before following h = (body, before, following, h)
+shows_data spells breaks ahead limit w body values c (Field at path why) before following h = (body, before, following, h)
+shows_data spells breaks ahead limit w body values c EndsInsideChunks before following h = absurd h
+shows_data spells breaks ahead limit w body values c EndsInsideRecord before following h = absurd h
+shows_data spells breaks ahead limit w body values c NoMemory before following h = absurd h
+shows_data spells breaks ahead limit w body values c Read before following h = absurd h
+shows_data spells breaks ahead limit w body values c ReadsSpent before following h = absurd h
+shows_data spells breaks ahead limit w body values c (BadEntry at_record) before following h = (body, before, following, h)
 
-pub stops_data : {E : Type 0} (spells : List ℕ → E → Type 0) (breaks : List ℕ → RecordRefusal → Type 0) (ahead limit : ℕ) (w body : List ℕ) (values : List E) (c : ℕ) (fault : Fault)
+pub stops_data : {E : Type 0} (spells : List ℕ → E → Type 0) (breaks : List ℕ → RecordError → Type 0) (ahead limit : ℕ) (w body : List ℕ) (values : List E) (c : ℕ) (fault : Fault)
     → IsOpen w body → IsOpen (w ++ c ∷ []) (body ++ c ∷ []) → BodyStops spells breaks ahead limit body values c fault → ChunkedStops spells breaks ahead limit w values c fault
-stops_data spells breaks ahead limit w body values c fault before behind stops = elim stops [
-  | inl h ↦ inl (shows_data spells breaks ahead limit w body values c fault before behind h)
-  | inr h ↦ inr (h.0, (body, before, behind, h.1))
+stops_data spells breaks ahead limit w body values c fault before following stops = elim stops [
+  | inl h ↦ inl (shows_data spells breaks ahead limit w body values c fault before following h)
+  | inr h ↦ inr (h.0, (body, before, following, h.1))
 ]
 
 module _ {R E : Type 0} (holds : R → List ℕ → Type 0) (spells : List ℕ → E → Type 0) (ahead : ℕ) where
   -- what stands is live
-  pub chunked_live : (d : ChunkedBody R) (w : List ℕ) (values : List E) → ChunkedStands holds spells ahead d w values → Live spells (limit_of d.body.records) w values
+  pub chunked_live : (d : ChunkedBody R) (w : List ℕ) (values : List E) → ChunkedRepresents holds spells ahead d w values → Live spells (limit_of d.body.records) w values
   chunked_live d w values s = (s.content, open_of d.chunks w s.content s.chunks, live_of holds spells ahead d.body s.content values s.body)
 
   -- before the first byte of a piece
-  pub first_before : (d : ChunkedBody R) (w rest : List ℕ) (values : List E) (n : ℕ) → ChunkedStands holds spells ahead d w values → n < 1
+  pub first_before : (d : ChunkedBody R) (w rest : List ℕ) (values : List E) (n : ℕ) → ChunkedRepresents holds spells ahead d w values → n < 1
       → Live spells (limit_of d.body.records) (w ++ take n rest) values
   first_before d w rest values n s first =
       let none : 0 ≡ n = omega arith in
       subst (λ (m : ℕ). Live spells (limit_of d.body.records) (w ++ take m rest) values) none (rw (append-nil w) (chunked_live d w values s))
 
   -- within a run of data
-  pub run_before : (d : ChunkedBody R) (limit : ℕ) (w run : List ℕ) (values : List E) (n count : ℕ) (s : ChunkedStands holds spells ahead d w values) → length run ≡ count → count ≤ room_of d.chunks → n ≤ count
+  pub run_before : (d : ChunkedBody R) (limit : ℕ) (w run : List ℕ) (values : List E) (n count : ℕ) (s : ChunkedRepresents holds spells ahead d w values) → length run ≡ count → count ≤ remaining_of d.chunks → n ≤ count
       → BodyLive spells limit (s.content ++ take n run) values → Live spells limit (w ++ take n run) values
   run_before d limit w run values n count s len room within live =
       (s.content ++ take n run, fronts_of d.chunks w s.content run n count room len within s.chunks, live)
 
   -- a byte of a run of data is a byte of the body
-  pub run_at : (d : ChunkedBody R) (w run : List ℕ) (values : List E) (used count : ℕ) (Is : List ℕ → List E → Type 0) (s : ChunkedStands holds spells ahead d w values) → length run ≡ count → count ≤ room_of d.chunks
+  pub run_at : (d : ChunkedBody R) (w run : List ℕ) (values : List E) (used count : ℕ) (Is : List ℕ → List E → Type 0) (s : ChunkedRepresents holds spells ahead d w values) → length run ≡ count → count ≤ remaining_of d.chunks
       → 0 < used → used ≤ count → Is (s.content ++ take (used - 1) run) values → AtData Is (w ++ take (used - 1) run) values (slice_index run (used - 1))
   run_at d w run values used count Is s len room some within is =
       let fronts : (n : ℕ) → n ≤ count → IsOpen (w ++ take n run) (s.content ++ take n run) = λ n inside. fronts_of d.chunks w s.content run n count room len inside s.chunks in
@@ -82,9 +82,9 @@ module _ {R E : Type 0} (holds : R → List ℕ → Type 0) (spells : List ℕ �
         is,
       )
 
-  module _ (breaks : List ℕ → RecordRefusal → Type 0) where
+  module _ (breaks : List ℕ → RecordError → Type 0) where
     -- a byte of a run of data stops the reading
-    run_stops : (d : ChunkedBody R) (limit : ℕ) (w run : List ℕ) (values : List E) (used count : ℕ) (fault : Fault) (s : ChunkedStands holds spells ahead d w values) → length run ≡ count → count ≤ room_of d.chunks
+    run_stops : (d : ChunkedBody R) (limit : ℕ) (w run : List ℕ) (values : List E) (used count : ℕ) (fault : Fault) (s : ChunkedRepresents holds spells ahead d w values) → length run ≡ count → count ≤ remaining_of d.chunks
         → 0 < used → used ≤ count → BodyStops spells breaks ahead limit (s.content ++ take (used - 1) run) values (slice_index run (used - 1)) fault
         → ChunkedStops spells breaks ahead limit (w ++ take (used - 1) run) values (slice_index run (used - 1)) fault
     run_stops d limit w run values used count fault s len room some within stops =
@@ -92,9 +92,9 @@ module _ {R E : Type 0} (holds : R → List ℕ → Type 0) (spells : List ℕ �
         stops_data spells breaks ahead limit (w ++ take (used - 1) run) at.0 values (slice_index run (used - 1)) fault at.1 at.2 at.3
 
     -- what a body says of a run of data
-    pub run_says : (d new : ChunkedBody R) (w run : List ℕ) (values : List E) (used count : ℕ) (answer : Out E) (s : ChunkedStands holds spells ahead d w values) → length run ≡ count → count ≤ room_of d.chunks
-        → 0 < used → used ≤ count → ChunkStands new.chunks (w ++ take used run) (s.content ++ take used run)
-        → SaysIn Plain (BodyStands holds spells ahead new.body) spells breaks ahead (limit_of new.body.records) s.content values run used answer → SaysIn Chunked (ChunkedStands holds spells ahead new) spells breaks ahead (limit_of new.body.records) w values run used answer
+    pub run_says : (d new : ChunkedBody R) (w run : List ℕ) (values : List E) (used count : ℕ) (answer : Decoded E) (s : ChunkedRepresents holds spells ahead d w values) → length run ≡ count → count ≤ remaining_of d.chunks
+        → 0 < used → used ≤ count → ChunkRepresents new.chunks (w ++ take used run) (s.content ++ take used run)
+        → SaysIn Plain (BodyRepresents holds spells ahead new.body) spells breaks ahead (limit_of new.body.records) s.content values run used answer → SaysIn Chunked (ChunkedRepresents holds spells ahead new) spells breaks ahead (limit_of new.body.records) w values run used answer
     run_says d new w run values used count out.More s len room some within chunks taken =
         record { content = s.content ++ take used run; chunks = chunks; body = taken }
     run_says d new w run values used count (out.Event value) s len room some within chunks taken = (
@@ -105,13 +105,13 @@ module _ {R E : Type 0} (holds : R → List ℕ → Type 0) (spells : List ℕ �
     run_says d new w run values used count (out.Fault fault) s len room some within chunks taken =
         run_stops d (limit_of new.body.records) w run values used count fault s len room some within taken
 
-module _ {E : Type 0} (framing : Framing) (Stands : List ℕ → List E → Type 0) (spells : List ℕ → E → Type 0) (breaks : List ℕ → RecordRefusal → Type 0) (ahead limit : ℕ) where
+module _ {E : Type 0} (framing : Framing) (Represents : List ℕ → List E → Type 0) (spells : List ℕ → E → Type 0) (breaks : List ℕ → RecordError → Type 0) (ahead limit : ℕ) where
   -- the same bytes seen behind others
-  pub says_as : (w v run rest : List ℕ) (values : List E) (used most : ℕ) (answer : Out E) → w ++ take used run ≡ v ++ take most rest → w ++ take (used - 1) run ≡ v ++ take (most - 1) rest
-      → slice_index run (used - 1) ≡ slice_index rest (most - 1) → SaysIn framing Stands spells breaks ahead limit w values run used answer → SaysIn framing Stands spells breaks ahead limit v values rest most answer
-  says_as w v run rest values used most out.More same front last h = subst (λ (y : List ℕ). Stands y values) same h
+  pub says_as : (w v run rest : List ℕ) (values : List E) (used most : ℕ) (answer : Decoded E) → w ++ take used run ≡ v ++ take most rest → w ++ take (used - 1) run ≡ v ++ take (most - 1) rest
+      → slice_index run (used - 1) ≡ slice_index rest (most - 1) → SaysIn framing Represents spells breaks ahead limit w values run used answer → SaysIn framing Represents spells breaks ahead limit v values rest most answer
+  says_as w v run rest values used most out.More same front last h = subst (λ (y : List ℕ). Represents y values) same h
   says_as w v run rest values used most (out.Event value) same front last h = (
-    subst (λ (y : List ℕ). Stands y (values ++ value ∷ [])) same h.0,
+    subst (λ (y : List ℕ). Represents y (values ++ value ∷ [])) same h.0,
     subst (λ (y : List ℕ). EndsRecordIn framing spells limit y values (slice_index rest (most - 1)) value) front
         (subst (λ (c : ℕ). EndsRecordIn framing spells limit (w ++ take (used - 1) run) values c value) last h.1),
   )
@@ -121,8 +121,8 @@ module _ {E : Type 0} (framing : Framing) (Stands : List ℕ → List E → Type
       (subst (λ (c : ℕ). ByteStopsIn framing spells breaks ahead limit (w ++ take (used - 1) run) values c fault) last h)
 
   -- of a byte
-  pub says_first : (w rest : List ℕ) (values : List E) (answer : Out E) → 0 < length rest → SaysIn framing Stands spells breaks ahead limit w values (slice_index rest 0 ∷ []) 1 answer
-      → SaysIn framing Stands spells breaks ahead limit w values rest 1 answer
+  pub says_first : (w rest : List ℕ) (values : List E) (answer : Decoded E) → 0 < length rest → SaysIn framing Represents spells breaks ahead limit w values (slice_index rest 0 ∷ []) 1 answer
+      → SaysIn framing Represents spells breaks ahead limit w values rest 1 answer
   says_first w [] values answer some h = absurd (omega (arith, some))
   says_first w (c ∷ rest) values answer some h = says_as w w (c ∷ []) (c ∷ rest) values 1 1 answer refl refl refl h
 
@@ -136,15 +136,15 @@ module _ {E : Type 0} (framing : Framing) (Stands : List ℕ → List E → Type
   index_drop m n xs = grind (arith, common_steps)
 
   -- of a longer piece
-  pub says_more : (w rest : List ℕ) (values : List E) (used count : ℕ) (answer : Out E) → 0 < used → used ≤ count → SaysIn framing Stands spells breaks ahead limit w values (take count rest) used answer
-      → SaysIn framing Stands spells breaks ahead limit w values rest used answer
+  pub says_more : (w rest : List ℕ) (values : List E) (used count : ℕ) (answer : Decoded E) → 0 < used → used ≤ count → SaysIn framing Represents spells breaks ahead limit w values (take count rest) used answer
+      → SaysIn framing Represents spells breaks ahead limit w values rest used answer
   says_more w rest values used count answer some within h =
       says_as w w (take count rest) rest values used used answer (ap (λ (y : List ℕ). w ++ y) (take_take used count rest within)) (ap (λ (y : List ℕ). w ++ y) (take_take (used - 1) count rest (omega (arith, within))))
       (index_take (used - 1) count rest (omega (arith, some, within))) h
 
   -- of what is left of a piece
-  pub says_on : (w piece : List ℕ) (values : List E) (at used : ℕ) (answer : Out E) → 0 < used → SaysIn framing Stands spells breaks ahead limit (w ++ take at piece) values (drop at piece) used answer
-      → SaysIn framing Stands spells breaks ahead limit w values piece (at + used) answer
+  pub says_on : (w piece : List ℕ) (values : List E) (at used : ℕ) (answer : Decoded E) → 0 < used → SaysIn framing Represents spells breaks ahead limit (w ++ take at piece) values (drop at piece) used answer
+      → SaysIn framing Represents spells breaks ahead limit w values piece (at + used) answer
   says_on w piece values at used answer some h =
       let less : at + (used - 1) ≡ at + used - 1 = omega (arith, some) in
       says_as (w ++ take at piece) w (drop at piece) piece values used (at + used) answer (piece_on w piece at used)

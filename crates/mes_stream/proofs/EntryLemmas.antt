@@ -8,24 +8,24 @@ use Rattle.mes_stream.specs.declared.fault.Fault.{Fault}
 use Rattle.mes_stream.specs.declared.fault.Fault.TheVariants.{EndsInsideChunks, EndsInsideRecord, NoMemory, Read, ReadsSpent, BadEntry}
 use Rattle.mes_stream.specs.declared.fault.Report.{Report}
 use Rattle.mes_stream.specs.declared.fault.Stop.{Stop}
-use Rattle.mes_stream.specs.declared.refusal.RecordRefusal.{RecordRefusal}
-use Rattle.mes_stream.specs.declared.refusal.RecordRefusal.TheVariants as refusal
+use Rattle.mes_stream.specs.declared.record_error.RecordError.{RecordError}
+use Rattle.mes_stream.specs.declared.record_error.RecordError.TheVariants as refusal
 use Rattle.mes_stream.specs.declared.stream_reader.Framing.{Framing}
 use Rattle.mes_stream.specs.declared.stream_reader.Framing.TheVariants.{Plain, Chunked}
-use Rattle.mes_stream.specs.declared.taken.Out.{Out}
-use Rattle.mes_stream.specs.declared.taken.Out.TheVariants as out
+use Rattle.mes_stream.specs.declared.progress.Decoded.{Decoded}
+use Rattle.mes_stream.specs.declared.progress.Decoded.TheVariants as out
 
-module _ {E : Type 0} (spells : List ℕ → E → Type 0) (breaks : List ℕ → RecordRefusal → Type 0) (none : (r : List ℕ) → breaks r refusal.BadEntry → ⊥) where
+module _ {E : Type 0} (spells : List ℕ → E → Type 0) (breaks : List ℕ → RecordError → Type 0) (none : (r : List ℕ) → breaks r refusal.BadEntry → ⊥) where
   no_entry : (framing : Framing) (ahead limit : ℕ) (w : List ℕ) (values : List E) (c n : ℕ) → ByteStopsIn framing spells breaks ahead limit w values c (BadEntry n) → ⊥
   no_entry Plain ahead limit w values c n (inl h) = none h.0.is.0 h.0.is.2
   no_entry Plain ahead limit w values c n (inr h) = let clash : BadEntry n ≡ NoMemory = h.0 in absurd (cc)
   no_entry Chunked ahead limit w values c n (inl h) = none h.3.0.is.0 h.3.0.is.2
   no_entry Chunked ahead limit w values c n (inr h) = let clash : BadEntry n ≡ NoMemory = h.0 in absurd (cc)
 
-  pub none_said : (framing : Framing) (Stands : List ℕ → List E → Type 0) (ahead limit : ℕ) (w : List ℕ) (values : List E) (piece : List ℕ) (used : ℕ) (answer : Out E) (n : ℕ)
-      → SaysIn framing Stands spells breaks ahead limit w values piece used answer → answer ≢ out.Fault (BadEntry n)
-  none_said framing Stands ahead limit w values piece used answer n says is =
-      no_entry framing ahead limit _ values _ n (subst (λ (o : Out E). SaysIn framing Stands spells breaks ahead limit w values piece used o) is says)
+  pub none_said : (framing : Framing) (Represents : List ℕ → List E → Type 0) (ahead limit : ℕ) (w : List ℕ) (values : List E) (piece : List ℕ) (used : ℕ) (answer : Decoded E) (n : ℕ)
+      → SaysIn framing Represents spells breaks ahead limit w values piece used answer → answer ≢ out.Fault (BadEntry n)
+  none_said framing Represents ahead limit w values piece used answer n says is =
+      no_entry framing ahead limit _ values _ n (subst (λ (o : Decoded E). SaysIn framing Represents spells breaks ahead limit w values piece used o) is says)
 
   -- what the end of the input means is none
   no_entry_at_end : (framing : Framing) (limit : ℕ) (w : List ℕ) (values : List E) (n : ℕ) → InputEnds {T = Unit {0}} framing spells limit w values (Err (BadEntry n)) → ⊥

@@ -6,8 +6,8 @@ use Rattle.mes_json.specs.Place.{Begins, IsFault}
 use Rattle.mes_json.specs.declared.fault.ReadFault.{ReadFault}
 use Rattle.mes_json.specs.declared.fault.ReadFault.TheVariants as read
 use Rattle.mes_json.specs.declared.fault.TextFault.{TextFault}
-use Rattle.mes_json.specs.declared.fault.Why.{Why}
-use Rattle.mes_json.specs.declared.limits.TheConstants.{NESTING_LIMIT}
+use Rattle.mes_json.specs.declared.fault.TextFaultKind.{TextFaultKind}
+use Rattle.mes_json.specs.declared.limits.TheConstants.{MAX_NESTING}
 use Rattle.mes_json.proofs.LexerLemmas.{text_begins}
 use Rattle.mes_json.proofs.PlaceLemmas.{place_within}
 use Rattle.mes_json.proofs.ViableLemmas.{begins_from_run, none_begins}
@@ -19,19 +19,19 @@ use Rattle.mes_msg.specs.RecordFault.{RecordFault}
 use Rattle.mes_msg.specs.RecordFault.TheVariants as message
 use Rattle.mes_stream.specs.PlainReading.{IsExact, IsDecided}
 use Rattle.mes_stream.specs.Refusals.{refusal_of, IsEventRefusal}
-use Rattle.mes_stream.specs.declared.refusal.RecordRefusal.{RecordRefusal}
-use Rattle.mes_stream.specs.declared.refusal.RecordRefusal.TheVariants as refusal
+use Rattle.mes_stream.specs.declared.record_error.RecordError.{RecordError}
+use Rattle.mes_stream.specs.declared.record_error.RecordError.TheVariants as refusal
 
 -- ---- texts
 
 -- some text goes on from the bytes, or none does
-begins_or_not : (p : List ℕ) → Begins NESTING_LIMIT p ⊎ (Begins NESTING_LIMIT p → ⊥)
-begins_or_not p = by (run NESTING_LIMIT start p) refl where
-  by : (o : Option State) → run NESTING_LIMIT start p ≡ o → Begins NESTING_LIMIT p ⊎ (Begins NESTING_LIMIT p → ⊥)
-  by (Some s) is = inl (begins_from_run NESTING_LIMIT s p is)
-  by None is = inr (none_begins NESTING_LIMIT p is)
+begins_or_not : (p : List ℕ) → Begins MAX_NESTING p ⊎ (Begins MAX_NESTING p → ⊥)
+begins_or_not p = by (run MAX_NESTING start p) refl where
+  by : (o : Option State) → run MAX_NESTING start p ≡ o → Begins MAX_NESTING p ⊎ (Begins MAX_NESTING p → ⊥)
+  by (Some s) is = inl (begins_from_run MAX_NESTING s p is)
+  by None is = inr (none_begins MAX_NESTING p is)
 
-pub begins_known : (p : List ℕ) → ((Begins NESTING_LIMIT p → ⊥) → ⊥) → Begins NESTING_LIMIT p
+pub begins_known : (p : List ℕ) → ((Begins MAX_NESTING p → ⊥) → ⊥) → Begins MAX_NESTING p
 begins_known p known = elim (begins_or_not p) [
   | inl begins ↦ begins
   | inr not ↦ absurd (known not)
@@ -43,28 +43,28 @@ exact_fault d b f short h =
     let most = place_within d b h.exact.byte h.exact.why h.is_fault.reason in
     let rounds = h.rounds.byte in
     let byte : h.exact.byte ≡ f.byte = omega (arith, most, short, rounds) in
-    let same : h.exact ≡ f = ap₂ (λ (n : ℕ) (y : Why). let x : TextFault = record { byte = n; why = y } in x) byte (sym h.rounds.why) in
+    let same : h.exact ≡ f = ap₂ (λ (n : ℕ) (y : TextFaultKind). let x : TextFault = record { byte = n; why = y } in x) byte (sym h.rounds.why) in
     subst (λ (x : TextFault). IsFault d b x) same h.is_fault
 
 -- ---- events
 
-pub refuses : (r : List ℕ) (f : RecordFault) → (f ≡ message.NoMemory → Begins NESTING_LIMIT r) → IsRecordFault r f → IsEventRefusal r (refusal_of f)
+pub refuses : (r : List ℕ) (f : RecordFault) → (f ≡ message.NoMemory → Begins MAX_NESTING r) → IsRecordFault r f → IsEventRefusal r (refusal_of f)
 refuses r (message.Text f) begins h = h
 refuses r (message.Field f) begins h = h
 refuses r message.NoMemory begins h = begins refl
 
 -- the data are no text, or an allocation failed
-pub text_refused : (r : List ℕ) (e : ReadFault) → length r < 2 ^ 64 → IsLexFault NESTING_LIMIT r e → (e ≡ read.NoMemory → Begins NESTING_LIMIT r) → IsEventRefusal r (refusal_of (of_read e))
-text_refused r (read.Text f) short h begins = exact_fault NESTING_LIMIT r f short h
+pub text_refused : (r : List ℕ) (e : ReadFault) → length r < 2 ^ 64 → IsLexFault MAX_NESTING r e → (e ≡ read.NoMemory → Begins MAX_NESTING r) → IsEventRefusal r (refusal_of (of_read e))
+text_refused r (read.Text f) short h begins = exact_fault MAX_NESTING r f short h
 text_refused r read.NoMemory short h begins = begins refl
 
 -- data with an event begin a text, so that the list could not grow is no more than `IsEventRefusal` says
-pub refused_of : (r : List ℕ) (why : RecordRefusal) → IsRefused Spells IsEventRefusal r why → IsEventRefusal r why
+pub refused_of : (r : List ℕ) (why : RecordError) → IsRefused Spells IsEventRefusal r why → IsEventRefusal r why
 refused_of r why (inl h) = h
-refused_of r why (inr (none, (value, (t, text, reads)))) = subst (λ (f : RecordRefusal). IsEventRefusal r f) (sym none) (text_begins r t text)
+refused_of r why (inr (none, (value, (t, text, reads)))) = subst (λ (f : RecordError). IsEventRefusal r f) (sym none) (text_begins r t text)
 
 -- the refusal of an event is a fault of its message
-refused : (r : List ℕ) (why : RecordRefusal) → why ≢ refusal.NoMemory → IsEventRefusal r why → (f : RecordFault) × (f ≢ message.NoMemory) × IsRecordFault r f × (why ≡ refusal_of f)
+refused : (r : List ℕ) (why : RecordError) → why ≢ refusal.NoMemory → IsEventRefusal r why → (f : RecordFault) × (f ≢ message.NoMemory) × IsRecordFault r f × (why ≡ refusal_of f)
 refused r (refusal.Text f) known h = (message.Text f, λ none. absurd (cc), h, refl)
 refused r (refusal.Field f) known h = (message.Field f, λ none. absurd (cc), h, refl)
 refused r refusal.BadEntry known h = absurd h

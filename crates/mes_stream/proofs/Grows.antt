@@ -2,13 +2,13 @@
 use Rattle.std.proofs.Common.{◌≡◌, ℕ, List, [], ◌∷◌, ◌++◌, refl, ap, sym, ◌∙◌, subst, append_assoc, append-nil}
 use Rattle.mes_frame.specs.ChunkFront.{IsOpen}
 use Rattle.mes_frame.specs.ChunkReading.{ChunkReading, Begins, Whole, Broken, ReadsChunks}
-use Rattle.mes_frame.specs.ChunkState.{PlaceStands, ChunkStands, ChunkSteps}
+use Rattle.mes_frame.specs.ChunkState.{PhaseRepresents, ChunkRepresents, ChunkSteps}
 use Rattle.mes_frame.specs.declared.chunk.ChunkState.{ChunkState}
 use Rattle.mes_frame.specs.declared.chunk.ChunkOut.{ChunkOut}
 use Rattle.mes_frame.specs.declared.chunk.ChunkOut.TheVariants as out
 use Rattle.mes_frame.proofs.ChunkParts.{lift, open_of, within}
 use Rattle.mes_frame.proofs.ChunkAnswers.{answer_at}
-use Rattle.mes_frame.proofs.ChunkPlaces.{at_place}
+use Rattle.mes_frame.proofs.ChunkPhases.{at_place}
 use Rattle.mes_frame.proofs.OneChunkReading.{one_reading}
 
 -- the data that a reading tells
@@ -22,11 +22,11 @@ record Next (w body : List ℕ) (b : ℕ) : Type 0 where
   answer : ChunkOut
   steps : ChunkSteps state w body b answer
 
-next_of : (s : ChunkState) (w body : List ℕ) (b : ℕ) → ChunkStands s w body → Next w body b
-unfolding ChunkStands
+next_of : (s : ChunkState) (w body : List ℕ) (b : ℕ) → ChunkRepresents s w body → Next w body b
+unfolding ChunkRepresents
 next_of s w body b at =
-    let found = answer_at s.place b at.part at.stands at.is in
-    record { state = record { place = found.place }; answer = found.answer; steps = lift s.place found.place w body b found.answer at found.steps }
+    let found = answer_at s.phase b at.part at.represents at.is in
+    record { state = record { phase = found.phase }; answer = found.answer; steps = lift s.phase found.phase w body b found.answer at found.steps }
 
 -- a reading of w whose data begin with the body
 record Grown (w body : List ℕ) : Type 0 where
@@ -38,7 +38,7 @@ record Grown (w body : List ℕ) : Type 0 where
 seam : (w rest body : List ℕ) (b : ℕ) → Grown ((w ++ b ∷ []) ++ rest) body → Grown (w ++ b ∷ rest) body
 seam w rest body b g = subst (λ (v : List ℕ). Grown v body) (append_assoc w (b ∷ []) rest) g
 
-grown_next : (w body rest : List ℕ) (b : ℕ) (s : ChunkState) (answer : ChunkOut) → ChunkSteps s w body b answer → ((more : List ℕ) → ChunkStands s (w ++ b ∷ []) more → Grown ((w ++ b ∷ []) ++ rest) more) → Grown (w ++ b ∷ rest) body
+grown_next : (w body rest : List ℕ) (b : ℕ) (s : ChunkState) (answer : ChunkOut) → ChunkSteps s w body b answer → ((more : List ℕ) → ChunkRepresents s (w ++ b ∷ []) more → Grown ((w ++ b ∷ []) ++ rest) more) → Grown (w ++ b ∷ rest) body
 grown_next w body rest b s out.Quiet steps go = seam w rest body b (go body steps)
 grown_next w body rest b s out.Byte steps go =
     let g = go (body ++ b ∷ []) steps in
@@ -47,17 +47,17 @@ grown_next w body rest b s out.Closed steps go =
     seam w rest body b (record { reading = Whole (w ++ b ∷ []) body; reads = (rest, refl, steps.0); more = []; grows = sym (append-nil body) })
 grown_next w body rest b s (out.Fault fault) steps go = record { reading = Broken w b body fault; reads = (rest, refl, steps.0); more = []; grows = sym (append-nil body) }
 
-grown : (rest w body : List ℕ) (s : ChunkState) → ChunkStands s w body → Grown (w ++ rest) body
+grown : (rest w body : List ℕ) (s : ChunkState) → ChunkRepresents s w body → Grown (w ++ rest) body
 grown [] w body s at = rw append-nil (record { reading = Begins body; reads = open_of s w body at; more = []; grows = sym (append-nil body) })
 grown (b ∷ rest) w body s at =
     let next = next_of s w body b at in
-    grown_next w body rest b next.state next.answer next.steps (λ more stands. grown rest (w ++ b ∷ []) more next.state stands)
+    grown_next w body rest b next.state next.answer next.steps (λ more represents. grown rest (w ++ b ∷ []) more next.state represents)
 
-state_of : (w body : List ℕ) → IsOpen w body → (s : ChunkState) × ChunkStands s w body
-unfolding ChunkStands
+state_of : (w body : List ℕ) → IsOpen w body → (s : ChunkState) × ChunkRepresents s w body
+unfolding ChunkRepresents
 state_of w body at =
-    let placed = at_place at.part at.stands at.is in
-    (record { place = placed.place }, within {Q = PlaceStands placed.place} w body at placed.stands)
+    let placed = at_place at.part at.represents at.is in
+    (record { phase = placed.phase }, within {Q = PhaseRepresents placed.phase} w body at placed.represents)
 
 -- whatever the bytes behind it are
 pub grows : (w body rest : List ℕ) (reading : ChunkReading) → IsOpen w body → ReadsChunks (w ++ rest) reading → (more : List ℕ) × (content_of reading ≡ body ++ more)

@@ -17,5 +17,5 @@ mod SizeLemmas
 mod SomeReading
 mod StreamLaw
 pub mod StreamLemmas
-mod TellsLemmas
+mod ReportsLemmas
 pub mod Wider

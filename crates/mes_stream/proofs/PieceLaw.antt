@@ -5,10 +5,10 @@ use Rattle.std.proofs.lemmas.List.{take-append-le, drop-append-le}
 use Rattle.mes_msg.specs.Events.{Spells}
 use Rattle.mes_msg.specs.Event.{Event}
 use Rattle.mes_stream.specs.Chunked.{Live}
-use Rattle.mes_stream.specs.Decoders.{DecoderStands, StateStands, answer_of}
+use Rattle.mes_stream.specs.Decoders.{DecoderRepresents, DecoderStateRepresents, answer_of}
 use Rattle.mes_stream.specs.EventData.{HoldsData}
 use Rattle.mes_stream.specs.Framings.{SaysIn}
-use Rattle.mes_stream.specs.Pieces.{Decoded, decoded, after_call, Decodes, joined, HadMemory}
+use Rattle.mes_stream.specs.Pieces.{DecodeOutcome, decoded, after_call, Decodes, joined, HadMemory}
 use Rattle.mes_stream.specs.Refusals.{IsEventRefusal}
 use Rattle.mes_stream.specs.StreamReading.{StreamReading, Goes, Ends, Stops, ReadsStream}
 use Rattle.mes_stream.specs.declared.decoder.RecordDecoder.{RecordDecoder}
@@ -20,8 +20,8 @@ use Rattle.mes_stream.specs.declared.event_reader.EventReader.{EventReader}
 use Rattle.mes_stream.specs.declared.fault.Fault.{Fault}
 use Rattle.mes_stream.specs.declared.fault.Fault.TheVariants.{NoMemory}
 use Rattle.mes_stream.specs.declared.stream_reader.Framing.TheVariants.{Chunked}
-use Rattle.mes_stream.specs.declared.taken.Out.{Out}
-use Rattle.mes_stream.specs.declared.taken.Out.TheVariants as out
+use Rattle.mes_stream.specs.declared.progress.Decoded.{Decoded}
+use Rattle.mes_stream.specs.declared.progress.Decoded.TheVariants as out
 use Rattle.mes_stream.proofs.BodyLemmas.{run_split}
 use Rattle.mes_stream.proofs.ChunkLemmas.{says_more, says_on, take_whole}
 use Rattle.mes_stream.proofs.StreamLemmas.{goes_of}
@@ -36,7 +36,7 @@ abbrev Reached : ℕ → List ℕ → List Event → List ℕ → ℕ → Option
 Reached limit w events all used None = (used ≡ length all) × Live Spells limit (w ++ all) events
 Reached limit w events all used (Some end) = (0 < used) × (used ≤ length all) × SaysIn Chunked Any Spells IsEventRefusal 0 limit w events all used (answer_of end)
 
-live_at : (s : State EventReader) (limit : ℕ) (w : List ℕ) (events : List Event) → StateStands HoldsData Spells s limit w events → Live Spells limit w events
+live_at : (s : State EventReader) (limit : ℕ) (w : List ℕ) (events : List Event) → DecoderStateRepresents HoldsData Spells s limit w events → Live Spells limit w events
 live_at (state.Going stream) limit w events h = goes_of HoldsData Spells stream Chunked limit w events h
 live_at (state.Ended end) limit w events h = absurd h
 
@@ -77,34 +77,34 @@ drop_whole piece used all = none (drop used piece) (let len = length-drop used p
   none (x ∷ xs) is = absurd (omega (arith, is))
 
 -- the outcome as one of the calls
-as_outcome : (limit : ℕ) (w : List ℕ) (events : List Event) (all : List ℕ) (outcome other : Decoded) → outcome ≡ other → Reached limit w (events ++ other.events) all other.used other.end
+as_outcome : (limit : ℕ) (w : List ℕ) (events : List Event) (all : List ℕ) (outcome other : DecodeOutcome) → outcome ≡ other → Reached limit w (events ++ other.events) all other.used other.end
     → Reached limit w (events ++ outcome.events) all outcome.used outcome.end
-as_outcome limit w events all outcome other is h = subst (λ (o : Decoded). Reached limit w (events ++ o.events) all o.used o.end) (sym is) h
+as_outcome limit w events all outcome other is h = subst (λ (o : DecodeOutcome). Reached limit w (events ++ o.events) all o.used o.end) (sym is) h
 
-reached : (limit : ℕ) (d : RecordDecoder EventReader) (pieces : List (List ℕ)) (calls : List (ℕ × Out Event)) (outcome : Decoded) (w : List ℕ) (events : List Event) → DecoderStands HoldsData Spells d limit w events
+reached : (limit : ℕ) (d : RecordDecoder EventReader) (pieces : List (List ℕ)) (calls : List (ℕ × Decoded Event)) (outcome : DecodeOutcome) (w : List ℕ) (events : List Event) → DecoderRepresents HoldsData Spells d limit w events
     → Decodes d pieces calls outcome → Reached limit w (events ++ outcome.events) (joined pieces) outcome.used outcome.end
-reached limit d [] [] outcome w events stands is =
-    let live : Live Spells limit (w ++ []) (events ++ []) = rw (append-nil w, append-nil events) (live_at d.state limit w events stands) in
+reached limit d [] [] outcome w events represents is =
+    let live : Live Spells limit (w ++ []) (events ++ []) = rw (append-nil w, append-nil events) (live_at d.state limit w events represents) in
     as_outcome limit w events [] outcome (decoded [] None 0) is (refl, live)
-reached limit d [] (call ∷ calls) outcome w events stands h = absurd h
-reached limit d (piece ∷ pieces) [] outcome w events stands h = absurd h
-reached limit d (piece ∷ pieces) ((used, out.More) ∷ calls) outcome w events stands (new, rest, call, later, is) =
+reached limit d [] (call ∷ calls) outcome w events represents h = absurd h
+reached limit d (piece ∷ pieces) [] outcome w events represents h = absurd h
+reached limit d (piece ∷ pieces) ((used, out.More) ∷ calls) outcome w events represents (new, rest, call, later, is) =
     let all : used ≡ length piece = call.more refl in
-    let on = reached limit new pieces calls rest (w ++ take used piece) events (call.says limit w events stands) later in
+    let on = reached limit new pieces calls rest (w ++ take used piece) events (call.says limit w events represents) later in
     as_outcome limit w events (piece ++ joined pieces) outcome (after_call used [] rest) is
     (front_moved limit w (events ++ rest.events) piece (joined pieces) used rest.used rest.end call.within
     (subst (λ (y : List ℕ). Reached limit (w ++ take used piece) (events ++ rest.events) (y ++ joined pieces) rest.used rest.end) (sym (drop_whole piece used all)) on))
-reached limit d (piece ∷ pieces) ((used, out.Event event) ∷ calls) outcome w events stands (new, rest, call, later, is) =
-    let on = reached limit new (drop used piece ∷ pieces) calls rest (w ++ take used piece) (events ++ event ∷ []) (call.says limit w events stands).0 later in
+reached limit d (piece ∷ pieces) ((used, out.Event event) ∷ calls) outcome w events represents (new, rest, call, later, is) =
+    let on = reached limit new (drop used piece ∷ pieces) calls rest (w ++ take used piece) (events ++ event ∷ []) (call.says limit w events represents).0 later in
     as_outcome limit w events (piece ++ joined pieces) outcome (after_call used (event ∷ []) rest) is
     (front_moved limit w (events ++ event ∷ rest.events) piece (joined pieces) used rest.used rest.end call.within
     (subst (λ (es : List Event). Reached limit (w ++ take used piece) es (drop used piece ++ joined pieces) rest.used rest.end) (append_assoc events (event ∷ []) rest.events) on))
-reached limit d (piece ∷ pieces) ((used, out.End) ∷ calls) outcome w events stands (new, call, is) =
-    let ended = front_ended limit w events piece (joined pieces) used Closed (call.some limit w events stands (λ more. absurd (cc))) call.within (call.says limit w events stands) in
+reached limit d (piece ∷ pieces) ((used, out.End) ∷ calls) outcome w events represents (new, call, is) =
+    let ended = front_ended limit w events piece (joined pieces) used Closed (call.some limit w events represents (λ more. absurd (cc))) call.within (call.says limit w events represents) in
     as_outcome limit w events (piece ++ joined pieces) outcome (decoded [] (Some Closed) used) is
     (subst (λ (es : List Event). Reached limit w es (piece ++ joined pieces) used (Some Closed)) (sym (append-nil events)) ended)
-reached limit d (piece ∷ pieces) ((used, out.Fault fault) ∷ calls) outcome w events stands (new, call, is) =
-    let ended = front_ended limit w events piece (joined pieces) used (Failed fault) (call.some limit w events stands (λ more. absurd (cc))) call.within (call.says limit w events stands) in
+reached limit d (piece ∷ pieces) ((used, out.Fault fault) ∷ calls) outcome w events represents (new, call, is) =
+    let ended = front_ended limit w events piece (joined pieces) used (Failed fault) (call.some limit w events represents (λ more. absurd (cc))) call.within (call.says limit w events represents) in
     as_outcome limit w events (piece ++ joined pieces) outcome (decoded [] (Some (Failed fault)) used) is
     (subst (λ (es : List Event). Reached limit w es (piece ++ joined pieces) used (Some (Failed fault))) (sym (append-nil events)) ended)
 
@@ -170,8 +170,8 @@ same_of limit w events others used more (Some (Failed fault)) (Some (Failed othe
     make_same events others (Some (Failed fault)) (Some (Failed other)) used more values (ap (λ (f : Fault). Some (Failed f)) faults) (omega (arith, places, some, too))
 
 pub one_decoding : ((limit : ℕ) (w : List ℕ) (reading other : StreamReading Event) → ReadsStream Spells IsEventRefusal 0 limit w reading → ReadsStream Spells IsEventRefusal 0 limit w other → reading ≡ other)
-    → (limit : ℕ) (first second : RecordDecoder EventReader) (pieces others : List (List ℕ)) (calls more : List (ℕ × Out Event)) (outcome other : Decoded)
-    → DecoderStands HoldsData Spells first limit [] [] → DecoderStands HoldsData Spells second limit [] [] → joined pieces ≡ joined others
+    → (limit : ℕ) (first second : RecordDecoder EventReader) (pieces others : List (List ℕ)) (calls more : List (ℕ × Decoded Event)) (outcome other : DecodeOutcome)
+    → DecoderRepresents HoldsData Spells first limit [] [] → DecoderRepresents HoldsData Spells second limit [] [] → joined pieces ≡ joined others
     → Decodes first pieces calls outcome → Decodes second others more other → HadMemory outcome → HadMemory other → outcome ≡ other
 one_decoding one limit first second pieces others calls more outcome other starts begins same decodes also memory too =
     let a = reached limit first pieces calls outcome [] [] starts decodes in

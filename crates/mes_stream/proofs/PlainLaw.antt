@@ -1,11 +1,11 @@
 -- Bytes are read as plain RecordIO in at most one way: the records are found one by one, and what stands behind them decides.
 use Rattle.std.proofs.Common.{◌≡◌, ◌≢◌, ℕ, ◌+◌, List, [], ◌∷◌, ◌++◌, length, refl, ap, ap₂, sym, ◌∙◌, subst, append_assoc, append-nil, arith, inl}
-use Rattle.mes_frame.proofs.OneReading.{one_reading, one_record}
+use Rattle.mes_frame.proofs.OneReading.{one_reading, record_is_unique}
 use Rattle.mes_frame.specs.Record.{IsRecord, Begun, SizeShows}
 use Rattle.mes_frame.specs.RecordReading.{RecordReading, ReadsRecord, Begins, Whole, Broken}
 use Rattle.mes_frame.specs.declared.fault.FrameFault.{FrameFault}
-use Rattle.mes_stream.specs.declared.refusal.RecordRefusal.{RecordRefusal}
-use Rattle.mes_stream.specs.declared.refusal.RecordRefusal.TheVariants as refusal
+use Rattle.mes_stream.specs.declared.record_error.RecordError.{RecordError}
+use Rattle.mes_stream.specs.declared.record_error.RecordError.TheVariants as refusal
 use Rattle.mes_stream.specs.Stream.{Records, BodyShows, EndsInside}
 use Rattle.mes_stream.specs.Taking.{fault_of_record}
 use Rattle.mes_stream.specs.PlainReading.{IsExact, PlainReading, Goes, Stops, ReadsPlain}
@@ -16,7 +16,7 @@ use Rattle.mes_stream.specs.declared.fault.Fault.TheVariants.{Frame, EndsInsideC
 data Tail : Type 0 where
   Front : Tail
   Bad : (x : List ℕ) (c : ℕ) (fault : FrameFault) → Tail
-  Refused : (x : List ℕ) (c : ℕ) (why : RecordRefusal) → Tail
+  Refused : (x : List ℕ) (c : ℕ) (why : RecordError) → Tail
 
 pub same_last : (x y : List ℕ) (c d : ℕ) → x ++ c ∷ [] ≡ y ++ d ∷ [] → (x ≡ y) × (c ≡ d)
 same_last [] [] c d same = (refl, cc)
@@ -31,7 +31,7 @@ same_last (a ∷ x) (b ∷ y) c d same =
     let front : x ≡ y = one.0 in
     (cc, one.1)
 
-module _ {E : Type 0} (spells : List ℕ → E → Type 0) (breaks : List ℕ → RecordRefusal → Type 0) (exact : IsExact spells breaks) (ahead limit : ℕ) where
+module _ {E : Type 0} (spells : List ℕ → E → Type 0) (breaks : List ℕ → RecordError → Type 0) (exact : IsExact spells breaks) (ahead limit : ℕ) where
   IsTail : List ℕ → Tail → Type 0
   IsTail t Front = (r : List ℕ) × Begun t r limit
   IsTail t (Bad x c fault) = (rest : List ℕ) × (t ≡ x ++ c ∷ rest) × SizeShows x c limit fault
@@ -66,8 +66,8 @@ module _ {E : Type 0} (spells : List ℕ → E → Type 0) (breaks : List ℕ �
       let clash : Begins r ≡ Whole (x ++ c ∷ []) q = one_reading limit t (Begins r) (Whole (x ++ c ∷ []) q) begun (rest, is ∙ sym (append_assoc x (c ∷ []) rest), whole) in absurd (cc)
   one_tail t (Bad x c fault) Front (rest, is, shows) (r, begun) =
       let clash : Begins r ≡ Broken x c fault = one_reading limit t (Begins r) (Broken x c fault) begun (rest, is, shows) in absurd (cc)
-  one_tail t (Bad x c fault) (Bad y d other) (rest, is, shows) (more, at, tells) =
-      let both : Broken x c fault ≡ Broken y d other = one_reading limit t (Broken x c fault) (Broken y d other) (rest, is, shows) (more, at, tells) in
+  one_tail t (Bad x c fault) (Bad y d other) (rest, is, shows) (more, at, reports) =
+      let both : Broken x c fault ≡ Broken y d other = one_reading limit t (Broken x c fault) (Broken y d other) (rest, is, shows) (more, at, reports) in
       let fronts : x ≡ y = cc in
       let bytes : c ≡ d = cc in
       let faults : fault ≡ other = cc in
@@ -97,12 +97,12 @@ module _ {E : Type 0} (spells : List ℕ → E → Type 0) (breaks : List ℕ �
       absurd (stuck t front r (rest ++ u) k v tail is (rw (none, spelt) at same ∙ append_assoc front rest u) says)
   peel (v ∷ values) [] whole other t u k l (front, rest, r, is, says, spelt, more) nor tail end same =
       absurd (stuck u front r (rest ++ t) l v end is (sym (rw (nor, spelt) at same) ∙ append_assoc front rest t) says)
-  peel (v ∷ values) (e ∷ others) whole other t u k l (front, rest, r, is, says, spelt, more) (before, left, q, at, tells, given, less) tail end same =
+  peel (v ∷ values) (e ∷ others) whole other t u k l (front, rest, r, is, says, spelt, more) (before, left, q, at, reports, given, less) tail end same =
       let seam : front ++ (rest ++ t) ≡ before ++ (left ++ u) =
       sym (append_assoc front rest t) ∙ sym (ap (λ (y : List ℕ). y ++ t) spelt) ∙ same ∙ ap (λ (y : List ℕ). y ++ u) given ∙ append_assoc before left u in
-      let one = one_record front r (rest ++ t) before q (left ++ u) limit limit is at seam in
+      let one = record_is_unique front r (rest ++ t) before q (left ++ u) limit limit is at seam in
       let on = peel values others rest left t u k l more less tail end one.2 in
-      let head : v ≡ e = exact.value r v e says (subst (λ (y : List ℕ). spells y e) (sym one.1) tells) in
+      let head : v ≡ e = exact.value r v e says (subst (λ (y : List ℕ). spells y e) (sym one.1) reports) in
       (ap₂ (λ (y : E) (ys : List E). y ∷ ys) head on.0, spelt ∙ ap₂ (λ (y z : List ℕ). y ++ z) one.0 on.1 ∙ sym given, on.2)
 
   -- the reading that records and a tail make
@@ -133,15 +133,15 @@ module _ {E : Type 0} (spells : List ℕ → E → Type 0) (breaks : List ℕ �
     spelt = is ∙ ap (λ (y : List ℕ). y ++ byte ∷ rest) shows.spelt ∙ append_assoc shows.whole shows.x (byte ∷ rest);
     is = ap (λ (y : List ℕ). Stops y byte values (Frame fault)) shows.spelt;
   }
-  found_stop w front byte values (Text at place why) rest is (shows, number) = record {
+  found_stop w front byte values (Text at phase why) rest is (shows, number) = record {
     whole = shows.whole;
     t = shows.x ++ byte ∷ rest;
     values = values;
-    tail = Refused shows.x byte (refusal.Text (record { byte = place; why = why }));
+    tail = Refused shows.x byte (refusal.Text (record { byte = phase; why = why }));
     records = shows.records;
     is_tail = (rest, shows.is.0, refl, shows.is.1, shows.is.2, λ none. absurd (cc));
     spelt = is ∙ ap (λ (y : List ℕ). y ++ byte ∷ rest) shows.spelt ∙ append_assoc shows.whole shows.x (byte ∷ rest);
-    is = ap₂ (λ (y : List ℕ) (n : ℕ). Stops y byte values (Text n place why)) shows.spelt number;
+    is = ap₂ (λ (y : List ℕ) (n : ℕ). Stops y byte values (Text n phase why)) shows.spelt number;
   }
   found_stop w front byte values (Field at path why) rest is (shows, number) = record {
     whole = shows.whole;

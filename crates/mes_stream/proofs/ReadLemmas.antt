@@ -8,9 +8,9 @@ use Rattle.std.proofs.lemmas.Bool.Decides.{nat_tests}
 use Rattle.mes_frame.specs.Counts.{up, up_if}
 use Rattle.mes_frame.specs.declared.counts.Counts.{Counts}
 use Rattle.mes_stream.specs.Reads.{ReadsMade, EndsReads}
-use Rattle.mes_stream.specs.declared.limits.TheConstants.{READ_MOST}
-use Rattle.mes_stream.specs.declared.reads.ReadsEnd.{ReadsEnd}
-use Rattle.mes_stream.specs.declared.reads.ReadsEnd.TheVariants.{Stopped, AtEnd, Failed, Spent}
+use Rattle.mes_stream.specs.declared.limits.TheConstants.{MAX_READ}
+use Rattle.mes_stream.specs.declared.device.ReadsEnd.{ReadsEnd}
+use Rattle.mes_stream.specs.declared.device.ReadsEnd.TheVariants.{Stopped, AtEnd, Failed, Spent}
 
 -- after some reads: the device gave the bytes w, of which this holds, and nothing failed
 pub record Reads (Goes : List ℕ → Type 0) (first now : Option (List ℕ)) (old new : Counts) (reads : ℕ) : Type 0 where
@@ -54,7 +54,7 @@ one_more_call : (old new later : Counts) (reads most len : ℕ) (w : List ℕ) �
 one_more_call old new later reads most len w before full counted =
     counted ∙ asked len new.calls full ∙ ap (λ (n : ℕ). up n 1) before.calls ∙ up_more old.calls reads
 
-pub asked_more : (old new later : Counts) (reads most len count : ℕ) (w p : List ℕ) → ReadsMade reads old new w reads 0 0 → reads < most → 0 < count → length p ≡ count → length p ≤ READ_MOST → 0 < len
+pub asked_more : (old new later : Counts) (reads most len count : ℕ) (w p : List ℕ) → ReadsMade reads old new w reads 0 0 → reads < most → 0 < count → length p ≡ count → length p ≤ MAX_READ → 0 < len
     → Counted new later len count → ReadsMade most old later (w ++ p) (reads + 1) 0 0
 asked_more old new later reads most len count w p before left some size short full counted = record {
   most = omega (arith, left);
@@ -104,7 +104,7 @@ reads_start Goes first old goes = record {
 
 module _ (Goes Later : List ℕ → Type 0) (first now next : Option (List ℕ)) (old new later : Counts) (reads most len : ℕ) (r : Reads Goes first now old new reads) (left : reads < most) (full : 0 < len) where
   -- one more read gave a piece, which was taken
-  pub reads_more : (count : ℕ) (buffer : List ℕ) → 0 < count → count ≤ length buffer → length buffer ≤ READ_MOST → Consumes now next (take count buffer) → Counted new later len count
+  pub reads_more : (count : ℕ) (buffer : List ℕ) → 0 < count → count ≤ length buffer → length buffer ≤ MAX_READ → Consumes now next (take count buffer) → Counted new later len count
       → Later (r.w ++ take count buffer) → Reads Later first next old later (reads + 1)
   reads_more count buffer some within small gives counted goes = record {
     w = r.w ++ take count buffer;
@@ -114,7 +114,7 @@ module _ (Goes Later : List ℕ → Type 0) (first now next : Option (List ℕ))
   }
 
   -- or with which no more were wanted
-  pub reads_stop : {Z : Type 0} (Stops : List ℕ → List ℕ → Z → Type 0) (count : ℕ) (buffer : List ℕ) (why : Z) → 0 < count → count ≤ length buffer → length buffer ≤ READ_MOST → Consumes now next (take count buffer)
+  pub reads_stop : {Z : Type 0} (Stops : List ℕ → List ℕ → Z → Type 0) (count : ℕ) (buffer : List ℕ) (why : Z) → 0 < count → count ≤ length buffer → length buffer ≤ MAX_READ → Consumes now next (take count buffer)
       → Counted new later len count → Stops r.w (take count buffer) why → HaveEnded Later Stops most first next old later (Stopped why)
   reads_stop Stops count buffer why some within small gives counted stops =
       let size : length (take count buffer) ≡ count = length-take-le count buffer within in (

@@ -5,25 +5,25 @@ use Rattle.std.specs.Prelude.{OnOk, IfErr, slice_index}
 use Rattle.mes_frame.specs.declared.counts.Counts.{Counts}
 use Rattle.mes_stream.specs.Framings.{GoesIn, EndsIn, WholeIn, EndsRecordIn, ByteStopsIn, StopsWithin}
 use Rattle.mes_stream.specs.Reads.{EndsReads}
-use Rattle.mes_stream.specs.Reading.{Ahead, nothing_ahead, EndsAt, ByteEndsBehind, EndsReading, ReadingStands, ReadingStandsBehind, ReadingTakesBehind, Means, Gathers, GathersLast, told_as}
+use Rattle.mes_stream.specs.Reading.{Ahead, nothing_ahead, EndsAt, ByteEndsAfter, EndsReading, ReadingRepresents, ReadingRepresentsAfter, ReadingTakesAfter, Means, Gathers, GathersLast, reported_as}
 use Rattle.mes_stream.specs.Stream.{saturated, Records, EndsRecord, HasValue}
 use Rattle.mes_stream.specs.Held.{held_by_reading}
 use Rattle.mes_stream.specs.StreamReaders.{KeepsNoneAfterStop}
 use Rattle.mes_stream.specs.declared.fault.Fault.{Fault}
 use Rattle.mes_stream.specs.declared.fault.Report.{Report}
 use Rattle.mes_stream.specs.declared.fault.Stop.{Stop}
-use Rattle.mes_stream.specs.declared.limits.TheConstants.{READ_MOST}
-use Rattle.mes_stream.specs.declared.reading.Reading.{Reading}
-use Rattle.mes_stream.specs.declared.reading.ReadingStop.{ReadingStop}
-use Rattle.mes_stream.specs.declared.reads.ReadsEnd.{ReadsEnd}
-use Rattle.mes_stream.specs.declared.reads.ReadsEnd.TheVariants.{Stopped, AtEnd, Failed, Spent}
-use Rattle.mes_stream.specs.declared.refusal.RecordRefusal.{RecordRefusal}
+use Rattle.mes_stream.specs.declared.limits.TheConstants.{MAX_READ}
+use Rattle.mes_stream.specs.declared.counted_reader.Reading.{Reading}
+use Rattle.mes_stream.specs.declared.counted_reader.ReadingStop.{ReadingStop}
+use Rattle.mes_stream.specs.declared.device.ReadsEnd.{ReadsEnd}
+use Rattle.mes_stream.specs.declared.device.ReadsEnd.TheVariants.{Stopped, AtEnd, Failed, Spent}
+use Rattle.mes_stream.specs.declared.record_error.RecordError.{RecordError}
 use Rattle.mes_stream.specs.declared.stream_reader.Framing.{Framing}
 use Rattle.mes_stream.specs.declared.stream_reader.Framing.TheVariants.{Plain, Chunked}
 use Rattle.mes_stream.proofs.BodyLemmas.{records_more, stops_in}
 
 -- a byte of the piece ended the stream
-pub ends_at : {E : Type 0} (framing : Framing) (spells : List ℕ → E → Type 0) (ahead : Ahead) (limit : ℕ) (w piece : List ℕ) (values : List E) (used end after : ℕ) (rest : List ℕ) → 0 < end → end ≤ length piece → length piece ≤ READ_MOST
+pub ends_at : {E : Type 0} (framing : Framing) (spells : List ℕ → E → Type 0) (ahead : Ahead) (limit : ℕ) (w piece : List ℕ) (values : List E) (used end after : ℕ) (rest : List ℕ) → 0 < end → end ≤ length piece → length piece ≤ MAX_READ
     → used ≡ saturated (ahead.bytes + length w) → after ≡ saturated (used + end) → rest ≡ drop end piece → EndsIn framing spells limit (w ++ take end piece) values
     → EndsAt framing spells ahead limit (w ++ piece) values after rest
 ends_at framing spells ahead limit w piece values used end after rest some within small counted is left ends =
@@ -38,7 +38,7 @@ ends_at framing spells ahead limit w piece values used end after rest some withi
     }
 
 -- a byte of it stops the reading
-pub stops_at : {E : Type 0} (framing : Framing) (spells : List ℕ → E → Type 0) (breaks : List ℕ → RecordRefusal → Type 0) (ahead : Ahead) (limit : ℕ) (w piece : List ℕ) (values : List E) (fault : Fault) (used : ℕ)
+pub stops_at : {E : Type 0} (framing : Framing) (spells : List ℕ → E → Type 0) (breaks : List ℕ → RecordError → Type 0) (ahead : Ahead) (limit : ℕ) (w piece : List ℕ) (values : List E) (fault : Fault) (used : ℕ)
     → 0 < used → used ≤ length piece → GoesIn framing spells limit (w ++ take (used - 1) piece) values
     → ByteStopsIn framing spells breaks ahead.records limit (w ++ take (used - 1) piece) values (slice_index piece (used - 1)) fault
     → StopsWithin framing spells breaks ahead.records limit (w ++ piece) values fault (length w + used)
@@ -55,7 +55,7 @@ record_whole spells limit b values c value ends =
 whole_more : {E : Type 0} (framing : Framing) (spells : List ℕ → E → Type 0) (limit : ℕ) (u : List ℕ) (values : List E) (c : ℕ) (value : E) → EndsRecordIn framing spells limit u values c value
     → WholeIn framing spells limit (u ++ c ∷ []) (values ++ value ∷ [])
 whole_more Plain spells limit u values c value ends = record_whole spells limit u values c value ends
-whole_more Chunked spells limit u values c value (body, before, behind, ends) = (body ++ c ∷ [], behind, record_whole spells limit body values c value ends)
+whole_more Chunked spells limit u values c value (body, before, following, ends) = (body ++ c ∷ [], following, record_whole spells limit body values c value ends)
 
 pub whole_at : {E : Type 0} (framing : Framing) (spells : List ℕ → E → Type 0) (limit : ℕ) (w piece : List ℕ) (values : List E) (value : E) (used : ℕ) → 0 < used → used ≤ length piece
     → EndsRecordIn framing spells limit (w ++ take (used - 1) piece) values (slice_index piece (used - 1)) value → WholeIn framing spells limit (w ++ take used piece) (values ++ value ∷ [])
@@ -66,27 +66,27 @@ whole_at framing spells limit w piece values value used some within ends =
     append_assoc w (take (used - 1) piece) (slice_index piece (used - 1) ∷ []) ∙ sym (ap (λ (y : List ℕ). w ++ y) more) in
     subst (λ (y : List ℕ). WholeIn framing spells limit y (values ++ value ∷ [])) join (whole_more framing spells limit (w ++ take (used - 1) piece) values (slice_index piece (used - 1)) value ends)
 
-module _ {R E : Type 0} (holds : R → List ℕ → Type 0) (spells : List ℕ → E → Type 0) (breaks : List ℕ → RecordRefusal → Type 0) where
+module _ {R E : Type 0} (holds : R → List ℕ → Type 0) (spells : List ℕ → E → Type 0) (breaks : List ℕ → RecordError → Type 0) where
   -- what is asked of a call that takes a piece
   abbrev pub TakesAll : {T : Type 0} → Reading R → Reading R → List ℕ → List E → List E → Result T ReadingStop → Type 0
   TakesAll d new piece old now result =
-      (ahead : Ahead) (framing : Framing) (limit : ℕ) (v : List ℕ) (before : List E) → ReadingStandsBehind holds spells ahead d framing limit v before
-      → ReadingTakesBehind holds spells breaks ahead new framing limit v before piece old now result
+      (ahead : Ahead) (framing : Framing) (limit : ℕ) (v : List ℕ) (before : List E) → ReadingRepresentsAfter holds spells ahead d framing limit v before
+      → ReadingTakesAfter holds spells breaks ahead new framing limit v before piece old now result
 
   -- before the first piece
   pub gathers_none : (d : Reading R) (start : List E) → Gathers holds spells d start d start []
-  gathers_none d start = λ ahead framing limit v before stands. ([], sym (append-nil start), rw (append-nil, append-nil) stands)
+  gathers_none d start = λ ahead framing limit v before represents. ([], sym (append-nil start), rw (append-nil, append-nil) represents)
 
   -- the list of a reader that has taken one more piece
   pub gathers_more : {T : Type 0} (first d new : Reading R) (start old now : List E) (w piece : List ℕ) (result : Result T ReadingStop) → Gathers holds spells first start d old w → TakesAll d new piece old now result
       → OnOk result (Gathers holds spells first start new now (w ++ piece))
-  gathers_more first d new start old now w piece (Ok done) h fed = λ ahead framing limit v before stands.
-      let so_far = h ahead framing limit v before stands in
+  gathers_more first d new start old now w piece (Ok done) h fed = λ ahead framing limit v before represents.
+      let so_far = h ahead framing limit v before represents in
       let more = fed ahead framing limit (v ++ w) (before ++ so_far.0) so_far.2 in (
         so_far.0 ++ more.0,
         more.1 ∙ ap (λ (x : List E). x ++ more.0) so_far.1 ∙ append_assoc start so_far.0 more.0,
-        subst (λ (y : List ℕ). ReadingStandsBehind holds spells ahead new framing limit y (before ++ (so_far.0 ++ more.0))) (append_assoc v w piece)
-            (subst (λ (vs : List E). ReadingStandsBehind holds spells ahead new framing limit ((v ++ w) ++ piece) vs) (append_assoc before so_far.0 more.0) more.2),
+        subst (λ (y : List ℕ). ReadingRepresentsAfter holds spells ahead new framing limit y (before ++ (so_far.0 ++ more.0))) (append_assoc v w piece)
+            (subst (λ (vs : List E). ReadingRepresentsAfter holds spells ahead new framing limit ((v ++ w) ++ piece) vs) (append_assoc before so_far.0 more.0) more.2),
       )
   gathers_more first d new start old now w piece (Err stop) h fed = tt
 
@@ -94,27 +94,27 @@ module _ {R E : Type 0} (holds : R → List ℕ → Type 0) (spells : List ℕ �
       → KeepsNoneAfterStop (held_by_reading kept new) result → IfErr result (λ stop. GathersLast holds spells breaks kept first start new now w piece stop)
   gathers_last kept first d new start old now w piece (Ok done) h fed none = tt
   gathers_last kept first d new start old now w piece (Err stop) h fed none = (
-    λ ahead framing limit v before stands.
-        let so_far = h ahead framing limit v before stands in
+    λ ahead framing limit v before represents.
+        let so_far = h ahead framing limit v before represents in
         let more = fed ahead framing limit (v ++ w) (before ++ so_far.0) so_far.2 in (
           so_far.0 ++ more.0,
           more.1 ∙ ap (λ (x : List E). x ++ more.0) so_far.1 ∙ append_assoc start so_far.0 more.0,
-          subst (λ (y : List ℕ). ByteEndsBehind framing spells breaks ahead limit y (before ++ (so_far.0 ++ more.0)) (told_as new stop)) (append_assoc v w piece)
-              (subst (λ (vs : List E). ByteEndsBehind framing spells breaks ahead limit ((v ++ w) ++ piece) vs (told_as new stop)) (append_assoc before so_far.0 more.0) more.2),
+          subst (λ (y : List ℕ). ByteEndsAfter framing spells breaks ahead limit y (before ++ (so_far.0 ++ more.0)) (reported_as new stop)) (append_assoc v w piece)
+              (subst (λ (vs : List E). ByteEndsAfter framing spells breaks ahead limit ((v ++ w) ++ piece) vs (reported_as new stop)) (append_assoc before so_far.0 more.0) more.2),
         ),
     none,
   )
 
   -- how the reading ended, by how the reads did
   pub read_through : (kept : R → ℕ) (first now : Reading R) (start to : List E) (framing : Framing) (limit reads : ℕ) (old new : Counts) (last : Option (List ℕ)) (w : List ℕ) (end : ReadsEnd ReadingStop) (answer : Result Report Stop)
-      → ReadingStands holds spells first framing limit [] [] → EndsReads (Gathers holds spells first start now to) (GathersLast holds spells breaks kept first start now to) reads old new last w end → Means holds spells now end answer
+      → ReadingRepresents holds spells first framing limit [] [] → EndsReads (Gathers holds spells first start now to) (GathersLast holds spells breaks kept first start now to) reads old new last w end → Means holds spells now end answer
       → (more : List E) × (to ≡ start ++ more) × EndsReading framing spells breaks limit reads old new last w more answer
-  read_through kept first now start to framing limit reads old new last w (Stopped stop) answer stands (front, piece, at, stops, asked) is =
-      let h = stops.0 nothing_ahead framing limit [] [] stands in
+  read_through kept first now start to framing limit reads old new last w (Stopped stop) answer represents (front, piece, at, stops, asked) is =
+      let h = stops.0 nothing_ahead framing limit [] [] represents in
       (h.0, h.1, inl (rw (is, at.is) h.2, asked))
-  read_through kept first now start to framing limit reads old new last w AtEnd answer stands (goes, end, asked) means =
-      let h = goes nothing_ahead framing limit [] [] stands in (h.0, h.1, inr (inl (means framing limit w h.0 h.2, end, asked)))
-  read_through kept first now start to framing limit reads old new last w Failed answer stands (goes, asked) means =
-      let h = goes nothing_ahead framing limit [] [] stands in (h.0, h.1, inr (inr (inl (means framing limit w h.0 h.2, asked))))
-  read_through kept first now start to framing limit reads old new last w Spent answer stands (goes, asked) means =
-      let h = goes nothing_ahead framing limit [] [] stands in (h.0, h.1, inr (inr (inr (means framing limit w h.0 h.2, asked))))
+  read_through kept first now start to framing limit reads old new last w AtEnd answer represents (goes, end, asked) means =
+      let h = goes nothing_ahead framing limit [] [] represents in (h.0, h.1, inr (inl (means framing limit w h.0 h.2, end, asked)))
+  read_through kept first now start to framing limit reads old new last w Failed answer represents (goes, asked) means =
+      let h = goes nothing_ahead framing limit [] [] represents in (h.0, h.1, inr (inr (inl (means framing limit w h.0 h.2, asked))))
+  read_through kept first now start to framing limit reads old new last w Spent answer represents (goes, asked) means =
+      let h = goes nothing_ahead framing limit [] [] represents in (h.0, h.1, inr (inr (inr (means framing limit w h.0 h.2, asked))))

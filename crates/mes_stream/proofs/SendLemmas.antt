@@ -5,7 +5,7 @@ use Rattle.std.proofs.lemmas.Grind.{flat_map-append}
 use Rattle.std.proofs.lemmas.List.{take_more, get_or-map, length-map}
 use Rattle.std.proofs.lemmas.List.Elements.{All-append, All-nil, All-cons}
 use Rattle.std.specs.Io.KnownBytes.{Appends}
-use Rattle.mes_frame.proofs.Framings.{one_framing, framing_is_chunked}
+use Rattle.mes_frame.proofs.Framings.{framing_is_unique, framing_is_chunked}
 use Rattle.mes_frame.specs.Frames.{record_bytes, IsFrames}
 use Rattle.mes_frame.specs.Record.{IsRecord}
 use Rattle.mes_frame.specs.Write.{NoneFails, CallsFor, StopsWrite}
@@ -21,8 +21,8 @@ use Rattle.mes_stream.proofs.BodyLemmas.{records_more}
 use Rattle.mes_stream.specs.EventData.{HoldsData}
 use Rattle.mes_stream.specs.Stream.{Records}
 use Rattle.mes_stream.specs.Sending.{records_of, AllGood, IsBad, IsFirstBad, IsPlainOf, IsStreamOf, WroteAll, IsUnsent, fault_at, StopsSending}
-use Rattle.mes_msg.specs.declared.send_fault.EncodeWhy.{EncodeWhy}
-use Rattle.mes_msg.specs.declared.send_fault.EncodeWhy.TheVariants.{TooDeep, TooLarge}
+use Rattle.mes_msg.specs.declared.send_fault.EncodeFaultKind.{EncodeFaultKind}
+use Rattle.mes_msg.specs.declared.send_fault.EncodeFaultKind.TheVariants.{TooDeep, TooLarge}
 use Rattle.mes_msg.specs.declared.send_fault.SendFault.TheVariants.{Write}
 
 -- the events that are borrowed
@@ -56,14 +56,14 @@ plain_of_more limit events i event old new inside here plain is good framed spel
     })
 
 -- the event at this place is the first that is not good
-first_bad : (limit : ℕ) (events : List Event) (i : ℕ) (event : Event) (why : EncodeWhy) → i < length events → event ≡ get_or events i event
+first_bad : (limit : ℕ) (events : List Event) (i : ℕ) (event : Event) (why : EncodeFaultKind) → i < length events → event ≡ get_or events i event
     → AllGood limit (take i events) → IsBad limit event why → IsFirstBad limit events i why
 first_bad limit events i event why inside here good bad = record {
   front = take i events;
   event = event;
   rest = drop (suc i) events;
   is = split_at events i event inside ∙ ap (λ (e : Event). take i events ++ e ∷ drop (suc i) events) (sym here);
-  place = sym (length-take-le i events (omega arith));
+  phase = sym (length-take-le i events (omega arith));
   good = good;
   bad = bad;
 }
@@ -93,7 +93,7 @@ module _ {W : Type 0} (written : W → Option (List ℕ)) (counts : W → Counts
       → (w : List ℕ) × IsStreamOf limit most events w × WroteAll written counts old new w
   stream_out most body old new small plain (w, frames, out) none (v, same, calls) =
       let P : List ℕ → Type 0 = λ u. CallsFor (length u) (counts old) (counts new) in
-      (w, stream_of most body w small plain frames, record { out = out; none_fails = none; calls = subst P (one_framing body v w most same frames) calls })
+      (w, stream_of most body w small plain frames, record { out = out; none_fails = none; calls = subst P (framing_is_unique body v w most same frames) calls })
 
   -- the writer stopped in the chunks
   pub stream_stops : (most : ℕ) (body : List ℕ) (old new : W) (fault : WriteFault) → most < 2 ^ 64 → IsPlainOf limit events body
@@ -102,4 +102,4 @@ module _ {W : Type 0} (written : W → Option (List ℕ)) (counts : W → Counts
       → StopsSending written counts (IsStreamOf limit most events) limit events old new (Write fault)
   stream_stops most body old new fault small plain (w, frames, out) last (v, same, calls) =
       let P : List ℕ → Type 0 = λ u. CallsFor (length u) (counts old) (counts new) in
-      (w, stream_of most body w small plain frames, record { out = out; last = last; calls = subst P (one_framing body v w most same frames) calls })
+      (w, stream_of most body w small plain frames, record { out = out; last = last; calls = subst P (framing_is_unique body v w most same frames) calls })

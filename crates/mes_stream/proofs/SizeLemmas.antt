@@ -16,20 +16,20 @@ cases_le m n h = elim (eqb_tells m (n + 1)) [ inl e ↦ inr (sym e.1) | inr e �
 
 -- none were taken
 pub size_first : (s : RecordState) (x r run : List ℕ) → RecordStands s x r → PassesSize s x r run 0
-size_first s x r run stands = (
-  rw (append-nil x) stands,
+size_first s x r run represents = (
+  rw (append-nil x) represents,
   λ n none.
       let zero : 0 ≡ n = omega (arith, none) in
-      subst (λ (m : ℕ). Begun (x ++ take m run) r (limit_of s)) zero (rw (append-nil x) (begun_of s x r stands)),
+      subst (λ (m : ℕ). Begun (x ++ take m run) r (limit_of s)) zero (rw (append-nil x) (begun_of s x r represents)),
 )
 
 -- one byte more
 pub size_next : (old new : RecordState) (x r run : List ℕ) (count : ℕ) → count < length run → limit_of new ≡ limit_of old
     → RecordStands new ((x ++ take count run) ++ get_or run count 0 ∷ []) r → PassesSize old x r run count → PassesSize new x r run (count + 1)
-size_next old new x r run count inside limit stands (before, begun) =
+size_next old new x r run count inside limit represents (before, begun) =
     let on : RecordStands new (x ++ take (count + 1) run) r =
     subst (λ (y : List ℕ). RecordStands new y r) (append_assoc x (take count run) (get_or run count 0 ∷ [])
-    ∙ ap (λ (y : List ℕ). x ++ y) (sym (take_more run count 0 inside))) stands in (
+    ∙ ap (λ (y : List ℕ). x ++ y) (sym (take_more run count 0 inside))) represents in (
       on,
       λ n within.
           elim (cases_le n count within) [
@@ -43,9 +43,9 @@ pub size_line : (new : RecordState) (x r run : List ℕ) (count : ℕ) → 0 < l
     → PassesSize new (x ++ get_or run 0 0 ∷ []) r (drop 1 run) count
     → RecordStands new (x ++ take (1 + count) run) r × ((n : ℕ) → n < 1 + count → Begun (x ++ take n run) r (limit_of new))
 size_line new x r [] count some first passes = absurd (omega (arith, some))
-size_line new x r (b ∷ run) count some first (stands, begun) = (
+size_line new x r (b ∷ run) count some first (represents, begun) = (
   let next : suc count ≡ 1 + count = omega arith in
-      subst (λ (n : ℕ). RecordStands new (x ++ take n (b ∷ run)) r) next (subst (λ (y : List ℕ). RecordStands new y r) (append_assoc x (b ∷ []) (take count run)) stands),
+      subst (λ (n : ℕ). RecordStands new (x ++ take n (b ∷ run)) r) next (subst (λ (y : List ℕ). RecordStands new y r) (append_assoc x (b ∷ []) (take count run)) represents),
   λ n within. each n within,
 ) where
   each : (n : ℕ) → n < 1 + count → Begun (x ++ take n (b ∷ run)) r (limit_of new)

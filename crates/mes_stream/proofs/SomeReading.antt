@@ -4,16 +4,16 @@ use Rattle.mes_frame.specs.Record.{IsRecord, Begun, SizeShows}
 use Rattle.mes_frame.specs.RecordReading as record_reading
 use Rattle.mes_frame.specs.RecordReading.{RecordReading, ReadsRecord}
 use Rattle.mes_frame.specs.ChunkFront.{IsOpen}
-use Rattle.mes_frame.specs.ChunkState.{ChunkStands, ChunkSteps}
-use Rattle.mes_frame.specs.declared.chunk.Place.TheVariants.{Size}
+use Rattle.mes_frame.specs.ChunkState.{ChunkRepresents, ChunkSteps}
+use Rattle.mes_frame.specs.declared.chunk.Phase.TheVariants.{Size}
 use Rattle.mes_frame.specs.declared.chunk.ChunkState.{ChunkState}
 use Rattle.mes_frame.specs.declared.chunk.ChunkOut.{ChunkOut}
 use Rattle.mes_frame.specs.declared.chunk.ChunkOut.TheVariants as out
 use Rattle.mes_frame.proofs.OneReading.{one_reading, some_reading}
 use Rattle.mes_frame.proofs.ChunkParts.{lift, open_of}
 use Rattle.mes_frame.proofs.ChunkAnswers.{answer_at}
-use Rattle.mes_stream.specs.declared.refusal.RecordRefusal.{RecordRefusal}
-use Rattle.mes_stream.specs.declared.refusal.RecordRefusal.TheVariants as refusal
+use Rattle.mes_stream.specs.declared.record_error.RecordError.{RecordError}
+use Rattle.mes_stream.specs.declared.record_error.RecordError.TheVariants as refusal
 use Rattle.mes_stream.specs.Stream.{Records, BodyLive, EndsInside, BodyShows, number_after}
 use Rattle.mes_stream.specs.PlainReading.{IsDecided, PlainReading, ReadsPlain}
 use Rattle.mes_stream.specs.PlainReading as plain
@@ -41,19 +41,19 @@ before_last (b ∷ x) (a ∷ front) rest c d same =
 seam : (P : List ℕ → Type 0) (w rest : List ℕ) (b : ℕ) → P ((w ++ b ∷ []) ++ rest) → P (w ++ b ∷ rest)
 seam P w rest b h = subst P (append_assoc w (b ∷ []) rest) h
 
-start_stands : ChunkStands (record { place = Size 0 0 }) [] []
-unfolding ChunkStands
+start_stands : ChunkRepresents (record { phase = Size 0 0 }) [] []
+unfolding ChunkRepresents
 start_stands = record {
   chunks = [];
   each = tt;
   part = [];
-  stands = [];
+  represents = [];
   is = (record { hex = tt; fits = omega arith; short = omega arith; empty = refl }, refl, refl);
   spelt = refl;
   content = refl;
 }
 
-module _ {E : Type 0} (spells : List ℕ → E → Type 0) (breaks : List ℕ → RecordRefusal → Type 0) (decided : IsDecided spells breaks) (ahead limit : ℕ) where
+module _ {E : Type 0} (spells : List ℕ → E → Type 0) (breaks : List ℕ → RecordError → Type 0) (decided : IsDecided spells breaks) (ahead limit : ℕ) where
   -- one more byte behind a live body leaves it live, or shows a fault
   Next : List ℕ → List E → ℕ → Type 0
   Next b values c = ((more : List E) × BodyLive spells limit (b ++ c ∷ []) more) ⊎ ((fault : Fault) × BodyShows spells breaks ahead limit b values c fault)
@@ -77,16 +77,16 @@ module _ {E : Type 0} (spells : List ℕ → E → Type 0) (breaks : List ℕ �
     )
     | inr h ↦ inr (refused h.0 h.1 h.2)
   ] where
-    refused : (f : RecordRefusal) → f ≢ refusal.NoMemory → breaks r f → (fault : Fault) × BodyShows spells breaks ahead limit b values c fault
+    refused : (f : RecordError) → f ≢ refusal.NoMemory → breaks r f → (fault : Fault) × BodyShows spells breaks ahead limit b values c fault
     refused (refusal.Text f) known h = (Text (number_after ahead values) f.byte f.why, (record { whole = live.whole; x = live.x; spelt = live.spelt; records = live.records; is = (r, is, h) }, refl))
     refused (refusal.Field f) known h = (Field (number_after ahead values) f.path f.why, (record { whole = live.whole; x = live.x; spelt = live.spelt; records = live.records; is = (r, is, h) }, refl))
     refused refusal.BadEntry known h = (BadEntry (number_after ahead values), (record { whole = live.whole; x = live.x; spelt = live.spelt; records = live.records; is = (r, is, h) }, refl))
     refused refusal.NoMemory known h = absurd (known refl)
 
   -- what the bytes of the record that has begun and one more begin with
-  told : (b : List ℕ) (values : List E) (c : ℕ) (live : BodyLive spells limit b values) (reading : RecordReading) → ReadsRecord limit (live.x ++ c ∷ []) reading → Next b values c
+  reported : (b : List ℕ) (values : List E) (c : ℕ) (live : BodyLive spells limit b values) (reading : RecordReading) → ReadsRecord limit (live.x ++ c ∷ []) reading → Next b values c
   unfolding Next
-  told b values c live (record_reading.Begins r) begun = inl (
+  reported b values c live (record_reading.Begins r) begun = inl (
     values,
     record {
       whole = live.whole;
@@ -96,14 +96,14 @@ module _ {E : Type 0} (spells : List ℕ → E → Type 0) (breaks : List ℕ �
       is = (r, begun);
     },
   )
-  told b values c live (record_reading.Whole front r) ([], is, whole) =
+  reported b values c live (record_reading.Whole front r) ([], is, whole) =
       ends b values c r live (subst (λ (y : List ℕ). IsRecord y r limit) (sym (is ∙ append-nil front)) whole)
-  told b values c live (record_reading.Whole front r) (d ∷ rest, is, whole) =
+  reported b values c live (record_reading.Whole front r) (d ∷ rest, is, whole) =
       let k = before_last live.x front rest c d is in
       let clash : record_reading.Begins live.is.0 ≡ record_reading.Whole front r =
       one_reading limit live.x (record_reading.Begins live.is.0) (record_reading.Whole front r) live.is.1 (k.0, k.1, whole) in
       absurd (cc)
-  told b values c live (record_reading.Broken front e fault) ([], is, shows) =
+  reported b values c live (record_reading.Broken front e fault) ([], is, shows) =
       let same = same_last live.x front c e is in
       inr (
         Frame fault,
@@ -115,14 +115,14 @@ module _ {E : Type 0} (spells : List ℕ → E → Type 0) (breaks : List ℕ �
           is = subst (λ (y : List ℕ). SizeShows y c limit fault) (sym same.0) (subst (λ (y : ℕ). SizeShows front y limit fault) (sym same.1) shows);
         },
       )
-  told b values c live (record_reading.Broken front e fault) (d ∷ rest, is, shows) =
+  reported b values c live (record_reading.Broken front e fault) (d ∷ rest, is, shows) =
       let k = before_last live.x (front ++ e ∷ []) rest c d (is ∙ sym (append_assoc front (e ∷ []) (d ∷ rest))) in
       let clash : record_reading.Begins live.is.0 ≡ record_reading.Broken front e fault =
       one_reading limit live.x (record_reading.Begins live.is.0) (record_reading.Broken front e fault) live.is.1 (k.0, k.1 ∙ append_assoc front (e ∷ []) k.0, shows) in
       absurd (cc)
 
   next : (b : List ℕ) (values : List E) (c : ℕ) → BodyLive spells limit b values → Next b values c
-  next b values c live = let read = some_reading limit (live.x ++ c ∷ []) in told b values c live read.0 read.1
+  next b values c live = let read = some_reading limit (live.x ++ c ∷ []) in reported b values c live read.0 read.1
 
   start_live : BodyLive spells limit [] []
   start_live = record { whole = []; x = []; spelt = refl; records = refl; is = ([], none_begun) }
@@ -158,7 +158,7 @@ module _ {E : Type 0} (spells : List ℕ → E → Type 0) (breaks : List ℕ �
 
   -- what the answer to the byte b says of all bytes, where the bytes behind it are read in some way
   stream_next : (w body rest : List ℕ) (values : List E) (b : ℕ) (s : ChunkState) (answer : ChunkOut) → ChunkSteps s w body b answer → IsOpen w body → BodyLive spells limit body values
-      → ((more : List ℕ) (vs : List E) → ChunkStands s (w ++ b ∷ []) more → BodyLive spells limit more vs → ReadStream ((w ++ b ∷ []) ++ rest)) → ReadStream (w ++ b ∷ rest)
+      → ((more : List ℕ) (vs : List E) → ChunkRepresents s (w ++ b ∷ []) more → BodyLive spells limit more vs → ReadStream ((w ++ b ∷ []) ++ rest)) → ReadStream (w ++ b ∷ rest)
   unfolding ReadStream Next
   stream_next w body rest values b s out.Quiet steps begun live read = seam ReadStream w rest b (read body values steps live)
   stream_next w body rest values b s out.Byte steps begun live read = elim (next body values b live) [
@@ -171,14 +171,14 @@ module _ {E : Type 0} (spells : List ℕ → E → Type 0) (breaks : List ℕ �
   ]
   stream_next w body rest values b s (out.Fault fault) steps begun live read = (Stops w b values (Frame fault), (rest, refl, inl (body, steps.0, live)))
 
-  stream_on : (rest w body : List ℕ) (values : List E) (s : ChunkState) → ChunkStands s w body → BodyLive spells limit body values → ReadStream (w ++ rest)
-  unfolding ReadStream ChunkStands
+  stream_on : (rest w body : List ℕ) (values : List E) (s : ChunkState) → ChunkRepresents s w body → BodyLive spells limit body values → ReadStream (w ++ rest)
+  unfolding ReadStream ChunkRepresents
   stream_on [] w body values s at live = rw append-nil (Goes values, (body, open_of s w body at, live))
   stream_on (b ∷ rest) w body values s at live =
-      let found = answer_at s.place b at.part at.stands at.is in
-      stream_next w body rest values b (record { place = found.place }) found.answer (lift s.place found.place w body b found.answer at found.steps) (open_of s w body at) live
-      (λ more vs stands on. stream_on rest (w ++ b ∷ []) more vs (record { place = found.place }) stands on)
+      let found = answer_at s.phase b at.part at.represents at.is in
+      stream_next w body rest values b (record { phase = found.phase }) found.answer (lift s.phase found.phase w body b found.answer at found.steps) (open_of s w body at) live
+      (λ more vs represents on. stream_on rest (w ++ b ∷ []) more vs (record { phase = found.phase }) represents on)
 
   pub some_stream : (w : List ℕ) → (reading : StreamReading E) × ReadsStream spells breaks ahead limit w reading
   unfolding ReadStream
-  some_stream w = stream_on w [] [] [] (record { place = Size 0 0 }) start_stands start_live
+  some_stream w = stream_on w [] [] [] (record { phase = Size 0 0 }) start_stands start_live

@@ -5,7 +5,7 @@ use Rattle.mes_frame.proofs.OneChunkReading.{one_reading}
 use Rattle.mes_frame.proofs.ChunkTotal.{some_reading}
 use Rattle.mes_frame.specs.ChunkFront.{IsOpen}
 use Rattle.mes_frame.specs.ChunkReading.{ChunkReading, Begins, Whole, Broken, ReadsChunks}
-use Rattle.mes_stream.specs.declared.refusal.RecordRefusal.{RecordRefusal}
+use Rattle.mes_stream.specs.declared.record_error.RecordError.{RecordError}
 use Rattle.mes_stream.specs.Stream.{Records, BodyLive, BodyShows, EndsInside}
 use Rattle.mes_frame.specs.Chunk.{IsChunked}
 use Rattle.mes_stream.specs.Chunked.{IsStream, Live, AtData, ChunkedShows}
@@ -62,7 +62,7 @@ data Mark : Type 0 where
   Clean : Mark
   Inside : (front : List ℕ) (c : ℕ) → Mark
 
-module _ {E : Type 0} (spells : List ℕ → E → Type 0) (breaks : List ℕ → RecordRefusal → Type 0) (exact : IsExact spells breaks) (ahead limit : ℕ) where
+module _ {E : Type 0} (spells : List ℕ → E → Type 0) (breaks : List ℕ → RecordError → Type 0) (exact : IsExact spells breaks) (ahead limit : ℕ) where
   outer_of : ChunkReading → List E → Mark → StreamReading E
   outer_of (Begins body) values mark = Goes values
   outer_of (Whole front body) values Clean = Ends front values
@@ -95,7 +95,7 @@ module _ {E : Type 0} (spells : List ℕ → E → Type 0) (breaks : List ℕ �
     body : List ℕ
     spelt : w ≡ front ++ c ∷ rest
     before : IsOpen front body
-    behind : IsOpen (front ++ c ∷ []) (body ++ c ∷ [])
+    following : IsOpen (front ++ c ∷ []) (body ++ c ∷ [])
     shows : BodyShows spells breaks ahead limit body values c fault
     is : reading ≡ Stops front c values fault
 
@@ -123,7 +123,7 @@ module _ {E : Type 0} (spells : List ℕ → E → Type 0) (breaks : List ℕ �
   content_on : (w : List ℕ) (reading : StreamReading E) (f : Inner w reading) (k : ChunkReading) → ReadsChunks w k → (more : List ℕ) × (content_of k ≡ f.body ++ f.c ∷ more)
   content_on w reading f k reads =
       let spelt : w ≡ (f.front ++ f.c ∷ []) ++ f.rest = f.spelt ∙ sym (append_assoc f.front (f.c ∷ []) f.rest) in
-      let on = grows (f.front ++ f.c ∷ []) (f.body ++ f.c ∷ []) f.rest k f.behind (subst (λ (y : List ℕ). ReadsChunks y k) spelt reads) in
+      let on = grows (f.front ++ f.c ∷ []) (f.body ++ f.c ∷ []) f.rest k f.following (subst (λ (y : List ℕ). ReadsChunks y k) spelt reads) in
       (on.0, on.1 ∙ append_assoc f.body (f.c ∷ []) on.0)
 
   inner_outer : (w : List ℕ) (reading other : StreamReading E) → Inner w reading → Outer w other → ⊥
@@ -145,8 +145,8 @@ module _ {E : Type 0} (spells : List ℕ → E → Type 0) (breaks : List ℕ �
       let values : f.values ≡ g.values = cc in
       let faults : f.fault ≡ g.fault = cc in
       let fronts : f.front ≡ g.front = one_front f.front g.front f.rest g.rest f.body f.c
-      (sym f.spelt ∙ g.spelt ∙ ap (λ (b : ℕ). g.front ++ b ∷ g.rest) (sym bytes)) f.before (subst (λ (y : List ℕ). IsOpen g.front y) (sym bodies) g.before) f.behind
-      (subst (λ (b : ℕ). IsOpen (g.front ++ b ∷ []) (f.body ++ b ∷ [])) (sym bytes) (subst (λ (y : List ℕ). IsOpen (g.front ++ g.c ∷ []) (y ++ g.c ∷ [])) (sym bodies) g.behind)) in
+      (sym f.spelt ∙ g.spelt ∙ ap (λ (b : ℕ). g.front ++ b ∷ g.rest) (sym bytes)) f.before (subst (λ (y : List ℕ). IsOpen g.front y) (sym bodies) g.before) f.following
+      (subst (λ (b : ℕ). IsOpen (g.front ++ b ∷ []) (f.body ++ b ∷ [])) (sym bytes) (subst (λ (y : List ℕ). IsOpen (g.front ++ g.c ∷ []) (y ++ g.c ∷ [])) (sym bodies) g.following)) in
       f.is ∙ ap₂ (λ (y : List ℕ) (b : ℕ). Stops y b f.values f.fault) fronts bytes ∙ ap₂ (λ (vs : List E) (h : Fault). Stops g.front g.c vs h) values faults ∙ sym g.is
 
   Found : List ℕ → StreamReading E → Type 0
@@ -159,7 +159,7 @@ module _ {E : Type 0} (spells : List ℕ → E → Type 0) (breaks : List ℕ �
   found_data : (w front rest : List ℕ) (byte : ℕ) (values : List E) (fault : Fault) → w ≡ front ++ byte ∷ rest → AtData (λ body vs. BodyShows spells breaks ahead limit body vs byte fault) front values byte
       → Found w (Stops front byte values fault)
   unfolding Found
-  found_data w front rest byte values fault is (body, before, behind, shows) = inr (record {
+  found_data w front rest byte values fault is (body, before, following, shows) = inr (record {
     front = front;
     c = byte;
     values = values;
@@ -168,7 +168,7 @@ module _ {E : Type 0} (spells : List ℕ → E → Type 0) (breaks : List ℕ �
     body = body;
     spelt = is;
     before = before;
-    behind = behind;
+    following = following;
     shows = shows;
     is = refl;
   })
@@ -188,7 +188,7 @@ module _ {E : Type 0} (spells : List ℕ → E → Type 0) (breaks : List ℕ �
     is_mark = (refl, inside);
     is = refl;
   })
-  found_stop w front rest byte values (Text at place why) is shows = found_data w front rest byte values (Text at place why) is shows
+  found_stop w front rest byte values (Text at phase why) is shows = found_data w front rest byte values (Text at phase why) is shows
   found_stop w front rest byte values (Field at path why) is shows = found_data w front rest byte values (Field at path why) is shows
   found_stop w front rest byte values EndsInsideChunks is shows = absurd shows
   found_stop w front rest byte values NoMemory is shows = absurd shows
@@ -224,8 +224,8 @@ module _ {E : Type 0} (spells : List ℕ → E → Type 0) (breaks : List ℕ �
   IsKin (Begins body) (Whole front other) = ⊥
   IsKin (Begins body) (Broken front c other fault) = ⊥
   IsKin (Whole front body) (Begins other) = ⊥
-  IsKin (Whole front body) (Whole behind other) = body ≡ other
-  IsKin (Whole front body) (Broken behind c other fault) = ⊥
+  IsKin (Whole front body) (Whole following other) = body ≡ other
+  IsKin (Whole front body) (Broken following c other fault) = ⊥
   IsKin (Broken front c body fault) k = ⊥
 
   same_content : (k l : ChunkReading) → IsKin k l → content_of k ≡ content_of l
@@ -234,8 +234,8 @@ module _ {E : Type 0} (spells : List ℕ → E → Type 0) (breaks : List ℕ �
   same_content (Begins body) (Whole front other) is = absurd is
   same_content (Begins body) (Broken front c other fault) is = absurd is
   same_content (Whole front body) (Begins other) is = absurd is
-  same_content (Whole front body) (Whole behind other) is = is
-  same_content (Whole front body) (Broken behind c other fault) is = absurd is
+  same_content (Whole front body) (Whole following other) is = is
+  same_content (Whole front body) (Broken following c other fault) is = absurd is
   same_content (Broken front c body fault) l is = absurd is
 
   -- where the framing decides of both
@@ -245,11 +245,11 @@ module _ {E : Type 0} (spells : List ℕ → E → Type 0) (breaks : List ℕ �
   outer_alike (Begins body) (Whole front other) values others m n is same h g = absurd is
   outer_alike (Begins body) (Broken front c other fault) values others m n is same h g = absurd is
   outer_alike (Whole front body) (Begins other) values others m n is same h g = absurd is
-  outer_alike (Whole front body) (Whole behind other) values others Clean Clean is same h g = same
-  outer_alike (Whole front body) (Whole behind other) values others Clean (Inside u c) is same h (at, g) = absurd (no_rest spells breaks exact ahead limit body values others h (rw is g))
-  outer_alike (Whole front body) (Whole behind other) values others (Inside u c) Clean is same (at, h) g = absurd (no_rest spells breaks exact ahead limit body others values (rw is g) h)
-  outer_alike (Whole front body) (Whole behind other) values others (Inside u c) (Inside v d) is same h g = (same, refl)
-  outer_alike (Whole front body) (Broken behind c other fault) values others m n is same h g = absurd is
+  outer_alike (Whole front body) (Whole following other) values others Clean Clean is same h g = same
+  outer_alike (Whole front body) (Whole following other) values others Clean (Inside u c) is same h (at, g) = absurd (no_rest spells breaks exact ahead limit body values others h (rw is g))
+  outer_alike (Whole front body) (Whole following other) values others (Inside u c) Clean is same (at, h) g = absurd (no_rest spells breaks exact ahead limit body others values (rw is g) h)
+  outer_alike (Whole front body) (Whole following other) values others (Inside u c) (Inside v d) is same h g = (same, refl)
+  outer_alike (Whole front body) (Broken following c other fault) values others m n is same h g = absurd is
   outer_alike (Broken front c body fault) l values others m n is same h g = absurd is
 
   -- what decides makes the data read so

@@ -3,7 +3,7 @@ use Rattle.std.proofs.Common.{◌≡◌, ℕ, List, refl, sym, subst}
 use Rattle.mes_stream.specs.Stream.{BodyLive}
 use Rattle.mes_stream.specs.Chunked.{Live}
 use Rattle.mes_stream.specs.Framings.{GoesIn}
-use Rattle.mes_stream.specs.StreamReaders.{StreamStands, body_of, with_body}
+use Rattle.mes_stream.specs.StreamReaders.{StreamRepresents, body_of, with_body}
 use Rattle.mes_stream.specs.declared.stream_reader.Framing.{Framing}
 use Rattle.mes_stream.specs.declared.stream_reader.Framing.TheVariants.{Plain, Chunked}
 use Rattle.mes_stream.specs.declared.stream_reader.StreamReader.{StreamReader}
@@ -18,15 +18,15 @@ same_body (reader.Chunked chunked) = refl
 
 module _ {R E : Type 0} (holds : R → List ℕ → Type 0) (spells : List ℕ → E → Type 0) (ahead : ℕ) where
   -- what a reader has taken goes on
-  pub goes_behind : (d : StreamReader R) (framing : Framing) (limit : ℕ) (w : List ℕ) (values : List E) → StreamStands holds spells ahead d framing limit w values → GoesIn framing spells limit w values
-  goes_behind (reader.Plain body) framing limit w values (is, stands, same) =
-      let live : GoesIn Plain spells limit w values = subst (λ (n : ℕ). BodyLive spells n w values) same (live_of holds spells ahead body w values stands) in
+  pub goes_behind : (d : StreamReader R) (framing : Framing) (limit : ℕ) (w : List ℕ) (values : List E) → StreamRepresents holds spells ahead d framing limit w values → GoesIn framing spells limit w values
+  goes_behind (reader.Plain body) framing limit w values (is, represents, same) =
+      let live : GoesIn Plain spells limit w values = subst (λ (n : ℕ). BodyLive spells n w values) same (live_of holds spells ahead body w values represents) in
       subst (λ (f : Framing). GoesIn f spells limit w values) (sym is) live
-  goes_behind (reader.Chunked chunked) framing limit w values (is, stands, same) =
-      let live : GoesIn Chunked spells limit w values = subst (λ (n : ℕ). Live spells n w values) same (chunked_live holds spells ahead chunked w values stands) in
+  goes_behind (reader.Chunked chunked) framing limit w values (is, represents, same) =
+      let live : GoesIn Chunked spells limit w values = subst (λ (n : ℕ). Live spells n w values) same (chunked_live holds spells ahead chunked w values represents) in
       subst (λ (f : Framing). GoesIn f spells limit w values) (sym is) live
 
 -- and where nothing stands ahead of it
 pub goes_of : {R E : Type 0} (holds : R → List ℕ → Type 0) (spells : List ℕ → E → Type 0) (d : StreamReader R) (framing : Framing) (limit : ℕ) (w : List ℕ) (values : List E)
-    → StreamStands holds spells 0 d framing limit w values → GoesIn framing spells limit w values
+    → StreamRepresents holds spells 0 d framing limit w values → GoesIn framing spells limit w values
 goes_of holds spells d framing limit w values s = goes_behind holds spells 0 d framing limit w values s

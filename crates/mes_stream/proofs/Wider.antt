@@ -5,7 +5,7 @@ use Rattle.mes_frame.specs.declared.counts.Counts.{Counts}
 use Rattle.mes_stream.specs.Stream.{EndsRecord, HasValue, BodyShows, RunsOut}
 use Rattle.mes_stream.specs.Chunked.{ChunkedShows}
 use Rattle.mes_stream.specs.Framings.{SaysIn, EndsRecordIn, ByteStopsIn, StopsWithin}
-use Rattle.mes_stream.specs.Reading.{Ahead, nothing_ahead, ByteEndsBehind, EndsReading, ReadingTakesBehind, told_as}
+use Rattle.mes_stream.specs.Reading.{Ahead, nothing_ahead, ByteEndsAfter, EndsReading, ReadingTakesAfter, reported_as}
 use Rattle.mes_stream.specs.RecordValues.{IsRefused}
 use Rattle.mes_stream.specs.Refusals.{fault_at_record}
 use Rattle.mes_stream.specs.Taking.{Ends, EndsInto, record_answer}
@@ -14,16 +14,16 @@ use Rattle.mes_stream.specs.declared.fault.Fault.{Fault}
 use Rattle.mes_stream.specs.declared.fault.Fault.TheVariants.{Frame, EndsInsideChunks, EndsInsideRecord, Text, Field, NoMemory, Read, ReadsSpent, BadEntry}
 use Rattle.mes_stream.specs.declared.fault.Report.{Report}
 use Rattle.mes_stream.specs.declared.fault.Stop.{Stop}
-use Rattle.mes_stream.specs.declared.reading.Reading.{Reading}
-use Rattle.mes_stream.specs.declared.reading.ReadingStop.{ReadingStop}
-use Rattle.mes_stream.specs.declared.refusal.RecordRefusal.{RecordRefusal}
-use Rattle.mes_stream.specs.declared.refusal.RecordRefusal.TheVariants as refusal
+use Rattle.mes_stream.specs.declared.counted_reader.Reading.{Reading}
+use Rattle.mes_stream.specs.declared.counted_reader.ReadingStop.{ReadingStop}
+use Rattle.mes_stream.specs.declared.record_error.RecordError.{RecordError}
+use Rattle.mes_stream.specs.declared.record_error.RecordError.TheVariants as refusal
 use Rattle.mes_stream.specs.declared.stream_reader.Framing.{Framing}
 use Rattle.mes_stream.specs.declared.stream_reader.Framing.TheVariants.{Plain, Chunked}
 use Rattle.mes_stream.proofs.BodyLemmas.{ends_runs_out}
 
-module _ {E : Type 0} (spells : List ℕ → E → Type 0) (breaks wide : List ℕ → RecordRefusal → Type 0) (wider : (r : List ℕ) (why : RecordRefusal) → breaks r why → wide r why) where
-  ends_wider : (limit : ℕ) (b : List ℕ) (values : List E) (c : ℕ) (why : RecordRefusal) → EndsRecord spells limit b values c (λ r. breaks r why) → EndsRecord spells limit b values c (λ r. wide r why)
+module _ {E : Type 0} (spells : List ℕ → E → Type 0) (breaks wide : List ℕ → RecordError → Type 0) (wider : (r : List ℕ) (why : RecordError) → breaks r why → wide r why) where
+  ends_wider : (limit : ℕ) (b : List ℕ) (values : List E) (c : ℕ) (why : RecordError) → EndsRecord spells limit b values c (λ r. breaks r why) → EndsRecord spells limit b values c (λ r. wide r why)
   ends_wider limit b values c why h =
       record { whole = h.whole; x = h.x; spelt = h.spelt; records = h.records; is = (h.is.0, h.is.1, wider h.is.0 why h.is.2) }
 
@@ -59,14 +59,14 @@ module _ {E : Type 0} (spells : List ℕ → E → Type 0) (breaks wide : List �
   chunked_shows : (ahead limit : ℕ) (w : List ℕ) (values : List E) (c : ℕ) (fault : Fault) → ChunkedShows spells breaks ahead limit w values c fault → ChunkedShows spells wide ahead limit w values c fault
   chunked_shows ahead limit w values c (Frame fault) (inl h) = inl h
   chunked_shows ahead limit w values c (Frame fault) (inr h) = inr h
-  chunked_shows ahead limit w values c (Text at byte why) (body, before, behind, h) = (body, before, behind, body_shows ahead limit body values c (Text at byte why) h)
-  chunked_shows ahead limit w values c (Field at path why) (body, before, behind, h) = (body, before, behind, body_shows ahead limit body values c (Field at path why) h)
+  chunked_shows ahead limit w values c (Text at byte why) (body, before, following, h) = (body, before, following, body_shows ahead limit body values c (Text at byte why) h)
+  chunked_shows ahead limit w values c (Field at path why) (body, before, following, h) = (body, before, following, body_shows ahead limit body values c (Field at path why) h)
   chunked_shows ahead limit w values c EndsInsideRecord h = h
   chunked_shows ahead limit w values c EndsInsideChunks h = h
   chunked_shows ahead limit w values c NoMemory h = h
   chunked_shows ahead limit w values c Read h = h
   chunked_shows ahead limit w values c ReadsSpent h = h
-  chunked_shows ahead limit w values c (BadEntry at) (body, before, behind, h) = (body, before, behind, body_shows ahead limit body values c (BadEntry at) h)
+  chunked_shows ahead limit w values c (BadEntry at) (body, before, following, h) = (body, before, following, body_shows ahead limit body values c (BadEntry at) h)
 
   -- a byte that stops a reading
   pub stops_wider : (framing : Framing) (ahead limit : ℕ) (w : List ℕ) (values : List E) (c : ℕ) (fault : Fault) → ByteStopsIn framing spells breaks ahead limit w values c fault
@@ -74,7 +74,7 @@ module _ {E : Type 0} (spells : List ℕ → E → Type 0) (breaks wide : List �
   stops_wider Plain ahead limit w values c fault (inl h) = inl (body_shows ahead limit w values c fault h)
   stops_wider Plain ahead limit w values c fault (inr (none, h)) = inr (none, runs_out limit w values c h)
   stops_wider Chunked ahead limit w values c fault (inl h) = inl (chunked_shows ahead limit w values c fault h)
-  stops_wider Chunked ahead limit w values c fault (inr (none, (body, before, behind, h))) = inr (none, (body, before, behind, runs_out limit body values c h))
+  stops_wider Chunked ahead limit w values c fault (inr (none, (body, before, following, h))) = inr (none, (body, before, following, runs_out limit body values c h))
 
   within_wider : (framing : Framing) (ahead limit : ℕ) (w : List ℕ) (values : List E) (fault : Fault) (n : ℕ) → StopsWithin framing spells breaks ahead limit w values fault n
       → StopsWithin framing spells wide ahead limit w values fault n
@@ -82,8 +82,8 @@ module _ {E : Type 0} (spells : List ℕ → E → Type 0) (breaks wide : List �
       record { front = h.front; byte = h.byte; rest = h.rest; is = h.is; used = h.used; live = h.live; stops = stops_wider framing ahead limit h.front values h.byte fault h.stops }
 
   -- what a byte of the last piece did
-  pub byte_ends_wider : (framing : Framing) (ahead : Ahead) (limit : ℕ) (w : List ℕ) (values : List E) (outcome : Result Report Stop) → ByteEndsBehind framing spells breaks ahead limit w values outcome
-      → ByteEndsBehind framing spells wide ahead limit w values outcome
+  pub byte_ends_wider : (framing : Framing) (ahead : Ahead) (limit : ℕ) (w : List ℕ) (values : List E) (outcome : Result Report Stop) → ByteEndsAfter framing spells breaks ahead limit w values outcome
+      → ByteEndsAfter framing spells wide ahead limit w values outcome
   byte_ends_wider framing ahead limit w values (Ok report) h = h
   byte_ends_wider framing ahead limit w values (Err stop) h = record { n = h.n; count = h.count; stops = within_wider framing ahead.records limit w values stop.fault h.n h.stops; last = h.last }
 
@@ -95,30 +95,30 @@ module _ {E : Type 0} (spells : List ℕ → E → Type 0) (breaks wide : List �
 
   -- what became of a piece
   pub takes_wider : {R T : Type 0} (holds : R → List ℕ → Type 0) (ahead : Ahead) (new : Reading R) (framing : Framing) (limit : ℕ) (w : List ℕ) (values : List E) (piece : List ℕ) (old now : List E) (result : Result T ReadingStop)
-      → ReadingTakesBehind holds spells breaks ahead new framing limit w values piece old now result → ReadingTakesBehind holds spells wide ahead new framing limit w values piece old now result
+      → ReadingTakesAfter holds spells breaks ahead new framing limit w values piece old now result → ReadingTakesAfter holds spells wide ahead new framing limit w values piece old now result
   takes_wider holds ahead new framing limit w values piece old now (Ok done) h = h
-  takes_wider holds ahead new framing limit w values piece old now (Err stop) h = (h.0, h.1, byte_ends_wider framing ahead limit (w ++ piece) (values ++ h.0) (told_as new stop) h.2)
+  takes_wider holds ahead new framing limit w values piece old now (Err stop) h = (h.0, h.1, byte_ends_wider framing ahead limit (w ++ piece) (values ++ h.0) (reported_as new stop) h.2)
 
 -- a record ends with the byte c, its data have a value, and the list could not grow
-lost_in : {E : Type 0} (spells : List ℕ → E → Type 0) (breaks : List ℕ → RecordRefusal → Type 0) (limit : ℕ) (b : List ℕ) (values : List E) (c : ℕ) (value : E)
+lost_in : {E : Type 0} (spells : List ℕ → E → Type 0) (breaks : List ℕ → RecordError → Type 0) (limit : ℕ) (b : List ℕ) (values : List E) (c : ℕ) (value : E)
     → EndsRecord spells limit b values c (HasValue spells value) → RunsOut spells (IsRefused spells breaks) limit b values c
 lost_in spells breaks limit b values c value h =
     ends_runs_out spells (IsRefused spells breaks) limit b values c
     (record { whole = h.whole; x = h.x; spelt = h.spelt; records = h.records; is = (h.is.0, h.is.1, (h.is.2.0, inr (refl, (value, h.is.2.1)))) })
 
-lost_at : {E : Type 0} (framing : Framing) (spells : List ℕ → E → Type 0) (breaks : List ℕ → RecordRefusal → Type 0) (ahead limit : ℕ) (w : List ℕ) (values : List E) (c : ℕ) (value : E)
+lost_at : {E : Type 0} (framing : Framing) (spells : List ℕ → E → Type 0) (breaks : List ℕ → RecordError → Type 0) (ahead limit : ℕ) (w : List ℕ) (values : List E) (c : ℕ) (value : E)
     → EndsRecordIn framing spells limit w values c value → ByteStopsIn framing spells (IsRefused spells breaks) ahead limit w values c NoMemory
 lost_at Plain spells breaks ahead limit w values c value h = inr (refl, lost_in spells breaks limit w values c value h)
-lost_at Chunked spells breaks ahead limit w values c value (body, before, behind, h) = inr (refl, (body, before, behind, lost_in spells breaks limit body values c value h))
+lost_at Chunked spells breaks ahead limit w values c value (body, before, following, h) = inr (refl, (body, before, following, lost_in spells breaks limit body values c value h))
 
 -- a record has ended whose value was not added to a list
-pub refused_into : {R E : Type 0} (holds : R → List ℕ → Type 0) (spells : List ℕ → E → Type 0) (breaks : List ℕ → RecordRefusal → Type 0) (framing : Framing) (ahead limit : ℕ) (Stands : Body R → List ℕ → List E → Type 0)
-    (w : List ℕ) (values : List E) (piece : List ℕ) (used : ℕ) (old new : Body R) (r : List ℕ) (before after : List E) (why : RecordRefusal) → new.records ≡ old.records
-    → ((now : Body R) (answer : Result E RecordRefusal) → now.records ≡ old.records → Ends holds spells breaks old now r answer → SaysIn framing (Stands now) spells breaks ahead limit w values piece used (record_answer now.done answer))
+pub refused_into : {R E : Type 0} (holds : R → List ℕ → Type 0) (spells : List ℕ → E → Type 0) (breaks : List ℕ → RecordError → Type 0) (framing : Framing) (ahead limit : ℕ) (Represents : Body R → List ℕ → List E → Type 0)
+    (w : List ℕ) (values : List E) (piece : List ℕ) (used : ℕ) (old new : Body R) (r : List ℕ) (before after : List E) (why : RecordError) → new.records ≡ old.records
+    → ((now : Body R) (answer : Result E RecordError) → now.records ≡ old.records → Ends holds spells breaks old now r answer → SaysIn framing (Represents now) spells breaks ahead limit w values piece used (record_answer now.done answer))
     → EndsInto {T = Unit {0}} holds spells breaks old new r before after (Err why)
     → ByteStopsIn framing spells (IsRefused spells breaks) ahead limit (w ++ take (used - 1) piece) values (slice_index piece (used - 1)) (fault_at_record new.done why)
-refused_into holds spells breaks framing ahead limit Stands w values piece used old new r before after why same so (inl ends, is) =
+refused_into holds spells breaks framing ahead limit Represents w values piece used old new r before after why same so (inl ends, is) =
     stops_wider spells breaks (IsRefused spells breaks) (λ q f h. inl h) framing ahead limit (w ++ take (used - 1) piece) values (slice_index piece (used - 1)) (fault_at_record new.done why) (so new (Err why) same ends)
-refused_into holds spells breaks framing ahead limit Stands w values piece used old new r before after why same so (inr (none, (value, ends)), is) =
-    subst (λ (f : RecordRefusal). ByteStopsIn framing spells (IsRefused spells breaks) ahead limit (w ++ take (used - 1) piece) values (slice_index piece (used - 1)) (fault_at_record new.done f)) (sym none)
+refused_into holds spells breaks framing ahead limit Represents w values piece used old new r before after why same so (inr (none, (value, ends)), is) =
+    subst (λ (f : RecordError). ByteStopsIn framing spells (IsRefused spells breaks) ahead limit (w ++ take (used - 1) piece) values (slice_index piece (used - 1)) (fault_at_record new.done f)) (sym none)
     (lost_at framing spells breaks ahead limit (w ++ take (used - 1) piece) values (slice_index piece (used - 1)) value (so new (Ok value) same ends).1)

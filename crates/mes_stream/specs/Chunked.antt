@@ -3,7 +3,7 @@ use Rattle.std.specs.Prelude.{◌≡◌, ℕ, ◌⊎◌, List, [], ◌∷◌, �
 use Rattle.mes_frame.specs.Chunk.{IsChunked}
 use Rattle.mes_frame.specs.ChunkFront.{IsOpen}
 use Rattle.mes_frame.specs.ChunkFaults.{ChunkShows}
-use Rattle.mes_stream.specs.declared.refusal.RecordRefusal.{RecordRefusal}
+use Rattle.mes_stream.specs.declared.record_error.RecordError.{RecordError}
 use Rattle.mes_stream.specs.Stream.{Records, BodyLive, EndsInside, EndsRecord, HasValue, BodyShows, RunsOut}
 use Rattle.mes_stream.specs.declared.fault.Fault.{Fault}
 use Rattle.mes_stream.specs.declared.fault.Fault.TheVariants.{Frame, EndsInsideChunks, EndsInsideRecord, Text, Field, NoMemory, Read, ReadsSpent, BadEntry}
@@ -27,7 +27,7 @@ EndsWith spells limit w values c value = AtData (λ body vs. EndsRecord spells l
 -- The byte c behind w, which is live with the values, shows the fault: no chunked body has it there (F1 to F5); it is a byte
 -- of the body and shows it there (F7 to F9, F11, F12, and F16 where `breaks` knows bad entries); or it ends the body inside a
 -- record (F10).
-abbrev pub ChunkedShows : {E : Type 0} → (List ℕ → E → Type 0) → (List ℕ → RecordRefusal → Type 0) → ℕ → ℕ → List ℕ → List E → ℕ → Fault → Type 0
+abbrev pub ChunkedShows : {E : Type 0} → (List ℕ → E → Type 0) → (List ℕ → RecordError → Type 0) → ℕ → ℕ → List ℕ → List E → ℕ → Fault → Type 0
 ChunkedShows spells breaks ahead limit w values c (Frame fault) =
     ((body : List ℕ) × ChunkShows w body c fault × BodyLive spells limit body values)
     ⊎ AtData (λ body vs. BodyShows spells breaks ahead limit body vs c (Frame fault)) w values c
@@ -45,6 +45,6 @@ ChunkedShows spells breaks ahead limit w values c (BadEntry at_record) =
     AtData (λ body vs. BodyShows spells breaks ahead limit body vs c (BadEntry at_record)) w values c
 
 -- the byte c shows the fault, or an allocation failed at it, for data of which `breaks` allows that
-abbrev pub ChunkedStops : {E : Type 0} → (List ℕ → E → Type 0) → (List ℕ → RecordRefusal → Type 0) → ℕ → ℕ → List ℕ → List E → ℕ → Fault → Type 0
+abbrev pub ChunkedStops : {E : Type 0} → (List ℕ → E → Type 0) → (List ℕ → RecordError → Type 0) → ℕ → ℕ → List ℕ → List E → ℕ → Fault → Type 0
 ChunkedStops spells breaks ahead limit w values c fault =
     ChunkedShows spells breaks ahead limit w values c fault ⊎ ((fault ≡ NoMemory) × AtData (λ body vs. RunsOut spells breaks limit body vs c) w values c)

@@ -2,8 +2,8 @@
 use Rattle.std.specs.Prelude.{◌≡◌, ℕ, ◌≤◌, List, Option, None, Some, Result, Ok, Err}
 use Rattle.mes_frame.specs.ChunkFront.{IsOpen}
 use Rattle.mes_frame.specs.Record.{Begun}
-use Rattle.mes_stream.specs.Stream.{Behind}
-use Rattle.mes_stream.specs.StreamReaders.{StreamStands}
+use Rattle.mes_stream.specs.Stream.{Following}
+use Rattle.mes_stream.specs.StreamReaders.{StreamRepresents}
 use Rattle.mes_stream.specs.declared.stream_reader.Framing.{Framing}
 use Rattle.mes_stream.specs.declared.stream_reader.Framing.TheVariants.{Plain, Chunked}
 use Rattle.mes_stream.specs.declared.fault.Fault.{Fault}
@@ -13,8 +13,8 @@ use Rattle.mes_stream.specs.declared.decoder.State.{State}
 use Rattle.mes_stream.specs.declared.decoder.State.TheVariants as state
 use Rattle.mes_stream.specs.declared.decoder.StreamEnd.{StreamEnd}
 use Rattle.mes_stream.specs.declared.decoder.StreamEnd.TheVariants.{Closed, Failed}
-use Rattle.mes_stream.specs.declared.taken.Out.{Out}
-use Rattle.mes_stream.specs.declared.taken.Out.TheVariants as out
+use Rattle.mes_stream.specs.declared.progress.Decoded.{Decoded}
+use Rattle.mes_stream.specs.declared.progress.Decoded.TheVariants as out
 
 abbrev pub end_at : {R : Type 0} → State R → Option StreamEnd
 end_at (state.Going stream) = None
@@ -24,16 +24,16 @@ end_at (state.Ended end) = Some end
 abbrev pub end_of : {R : Type 0} → RecordDecoder R → Option StreamEnd
 end_of d = end_at d.state
 
-abbrev pub StateStands : {R E : Type 0} → (R → List ℕ → Type 0) → (List ℕ → E → Type 0) → State R → ℕ → List ℕ → List E → Type 0
-StateStands holds spells (state.Going stream) limit w values = StreamStands holds spells 0 stream Chunked limit w values
-StateStands holds spells (state.Ended end) limit w values = ⊥
+abbrev pub DecoderStateRepresents : {R E : Type 0} → (R → List ℕ → Type 0) → (List ℕ → E → Type 0) → State R → ℕ → List ℕ → List E → Type 0
+DecoderStateRepresents holds spells (state.Going stream) limit w values = StreamRepresents holds spells 0 stream Chunked limit w values
+DecoderStateRepresents holds spells (state.Ended end) limit w values = ⊥
 
 -- the decoder has taken w, which is live with the values under that limit; after the end or a fault it stands for no bytes
-abbrev pub DecoderStands : {R E : Type 0} → (R → List ℕ → Type 0) → (List ℕ → E → Type 0) → RecordDecoder R → ℕ → List ℕ → List E → Type 0
-DecoderStands holds spells d limit w values = StateStands holds spells d.state limit w values
+abbrev pub DecoderRepresents : {R E : Type 0} → (R → List ℕ → Type 0) → (List ℕ → E → Type 0) → RecordDecoder R → ℕ → List ℕ → List E → Type 0
+DecoderRepresents holds spells d limit w values = DecoderStateRepresents holds spells d.state limit w values
 
 -- what is answered from then on
-abbrev pub answer_of : {E : Type 0} → StreamEnd → Out E
+abbrev pub answer_of : {E : Type 0} → StreamEnd → Decoded E
 answer_of Closed = out.End
 answer_of (Failed fault) = out.Fault fault
 
@@ -44,7 +44,7 @@ finish_of (Some Closed) = Ok tt
 finish_of (Some (Failed fault)) = Err fault
 
 -- the end that is kept behind an answer
-abbrev pub EndsBy : {E : Type 0} → Option StreamEnd → Out E → Type 0
+abbrev pub EndsBy : {E : Type 0} → Option StreamEnd → Decoded E → Type 0
 EndsBy end out.More = end ≡ None
 EndsBy end (out.Event value) = end ≡ None
 EndsBy end out.End = end ≡ Some Closed
@@ -52,7 +52,7 @@ EndsBy end (out.Fault fault) = end ≡ Some (Failed fault)
 
 -- n is at most what may be kept of the data, so far, of the record that has begun
 abbrev pub HoldsInBody : {E : Type 0} → (List ℕ → E → Type 0) → (List ℕ → ℕ) → ℕ → List ℕ → List E → ℕ → Type 0
-HoldsInBody spells room limit b values n = Behind spells limit (λ x. (r : List ℕ) × Begun x r limit × (n ≤ room r)) b values
+HoldsInBody spells room limit b values n = Following spells limit (λ x. (r : List ℕ) × Begun x r limit × (n ≤ room r)) b values
 
 abbrev pub HoldsOf : {E : Type 0} → (List ℕ → E → Type 0) → (List ℕ → ℕ) → ℕ → List ℕ → List E → ℕ → Type 0
 HoldsOf spells room limit w values n = (body : List ℕ) × IsOpen w body × HoldsInBody spells room limit body values n

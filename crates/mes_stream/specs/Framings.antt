@@ -1,13 +1,13 @@
 -- A stream of values by its framing: records one behind the other, or records in a chunked body.
 use Rattle.std.specs.Prelude.{◌≡◌, ℕ, ◌+◌, ◌-◌, ◌<◌, List, [], ◌∷◌, ◌++◌, length, take, slice_index, Result, Ok, Err}
 use Rattle.mes_frame.specs.ChunkFront.{IsOpen}
-use Rattle.mes_stream.specs.declared.refusal.RecordRefusal.{RecordRefusal}
+use Rattle.mes_stream.specs.declared.record_error.RecordError.{RecordError}
 use Rattle.mes_stream.specs.Stream.{Records, BodyLive, EndsInside, EndsRecord, HasValue, BodyStops}
 use Rattle.mes_stream.specs.Chunked.{IsStream, Live, EndsWith, ChunkedStops}
 use Rattle.mes_stream.specs.declared.fault.Fault.{Fault}
 use Rattle.mes_stream.specs.declared.fault.Fault.TheVariants.{EndsInsideChunks, EndsInsideRecord}
-use Rattle.mes_stream.specs.declared.taken.Out.{Out}
-use Rattle.mes_stream.specs.declared.taken.Out.TheVariants as out
+use Rattle.mes_stream.specs.declared.progress.Decoded.{Decoded}
+use Rattle.mes_stream.specs.declared.progress.Decoded.TheVariants as out
 use Rattle.mes_stream.specs.declared.stream_reader.Framing.{Framing}
 use Rattle.mes_stream.specs.declared.stream_reader.Framing.TheVariants.{Plain, Chunked}
 
@@ -32,19 +32,19 @@ EndsRecordIn Plain spells limit w values c value = EndsRecord spells limit w val
 EndsRecordIn Chunked spells limit w values c value = EndsWith spells limit w values c value
 
 -- the byte c behind w shows the fault, or memory was refused at it
-abbrev pub ByteStopsIn : {E : Type 0} → Framing → (List ℕ → E → Type 0) → (List ℕ → RecordRefusal → Type 0) → ℕ → ℕ → List ℕ → List E → ℕ → Fault → Type 0
+abbrev pub ByteStopsIn : {E : Type 0} → Framing → (List ℕ → E → Type 0) → (List ℕ → RecordError → Type 0) → ℕ → ℕ → List ℕ → List E → ℕ → Fault → Type 0
 ByteStopsIn Plain spells breaks ahead limit w values c fault = BodyStops spells breaks ahead limit w values c fault
 ByteStopsIn Chunked spells breaks ahead limit w values c fault = ChunkedStops spells breaks ahead limit w values c fault
 
 -- What a call that uses so many bytes of a piece says of them, behind w, which goes on with the values: they were taken; a
 -- record ended with the last of them; the stream did; or the last of them stops the reading.
-abbrev pub SaysIn : {E : Type 0} → Framing → (List ℕ → List E → Type 0) → (List ℕ → E → Type 0) → (List ℕ → RecordRefusal → Type 0) → ℕ → ℕ → List ℕ → List E → List ℕ → ℕ → Out E → Type 0
-SaysIn framing Stands spells breaks ahead limit w values piece used out.More = Stands (w ++ take used piece) values
-SaysIn framing Stands spells breaks ahead limit w values piece used (out.Event value) =
-    Stands (w ++ take used piece) (values ++ value ∷ [])
+abbrev pub SaysIn : {E : Type 0} → Framing → (List ℕ → List E → Type 0) → (List ℕ → E → Type 0) → (List ℕ → RecordError → Type 0) → ℕ → ℕ → List ℕ → List E → List ℕ → ℕ → Decoded E → Type 0
+SaysIn framing Represents spells breaks ahead limit w values piece used out.More = Represents (w ++ take used piece) values
+SaysIn framing Represents spells breaks ahead limit w values piece used (out.Event value) =
+    Represents (w ++ take used piece) (values ++ value ∷ [])
     × EndsRecordIn framing spells limit (w ++ take (used - 1) piece) values (slice_index piece (used - 1)) value
-SaysIn framing Stands spells breaks ahead limit w values piece used out.End = EndsIn framing spells limit (w ++ take used piece) values
-SaysIn framing Stands spells breaks ahead limit w values piece used (out.Fault fault) =
+SaysIn framing Represents spells breaks ahead limit w values piece used out.End = EndsIn framing spells limit (w ++ take used piece) values
+SaysIn framing Represents spells breaks ahead limit w values piece used (out.Fault fault) =
     ByteStopsIn framing spells breaks ahead limit (w ++ take (used - 1) piece) values (slice_index piece (used - 1)) fault
 
 -- before the last byte that was used all goes on with the same values
@@ -60,7 +60,7 @@ InputEnds Chunked spells limit w values (Ok done) = ⊥
 InputEnds Chunked spells limit w values (Err fault) = Live spells limit w values × (fault ≡ EndsInsideChunks)
 
 -- the first n bytes of w stop the reading with their last
-pub record StopsWithin {E : Type 0} (framing : Framing) (spells : List ℕ → E → Type 0) (breaks : List ℕ → RecordRefusal → Type 0) (ahead limit : ℕ) (w : List ℕ) (values : List E) (fault : Fault) (n : ℕ) : Type 0 where
+pub record StopsWithin {E : Type 0} (framing : Framing) (spells : List ℕ → E → Type 0) (breaks : List ℕ → RecordError → Type 0) (ahead limit : ℕ) (w : List ℕ) (values : List E) (fault : Fault) (n : ℕ) : Type 0 where
   pub front : List ℕ
   pub byte : ℕ
   pub rest : List ℕ

@@ -17,5 +17,5 @@ pub mod StreamReaders
 pub mod StreamReading
 pub mod RecordValues
 pub mod Refusals
-pub mod SmallFaults
+pub mod PackedFaults
 pub mod Taking

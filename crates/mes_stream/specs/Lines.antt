@@ -1,13 +1,13 @@
 -- The lines that are printed of a stream, without their LF.
 use Rattle.std.specs.Prelude.{ℕ, List, [], ◌∷◌, ◌++◌, codes, decimal}
 use Rattle.mes_frame.specs.declared.fault.FrameFault.TheVariants.{BadChunkLine, ChunkLineTooLong, ChunkTooLarge, BadChunkEnd, TrailersTooLong, BadSizeLine, SizeLineTooLong, RecordTooLarge}
-use Rattle.mes_json.specs.declared.fault.Why.{Why}
-use Rattle.mes_json.specs.declared.fault.Why.TheVariants.{End, Depth, Byte}
+use Rattle.mes_json.specs.declared.fault.TextFaultKind.{TextFaultKind}
+use Rattle.mes_json.specs.declared.fault.TextFaultKind.TheVariants.{End, Depth, Byte}
 use Rattle.mes_msg.specs.Shown.{spaced}
 use Rattle.mes_stream.specs.declared.fault.Fault.{Fault}
 use Rattle.mes_stream.specs.declared.fault.Fault.TheVariants.{Frame, EndsInsideChunks, EndsInsideRecord, Text, Field, NoMemory, Read, ReadsSpent, BadEntry}
-use Rattle.mes_part.specs.Paths.{path_text}
-use Rattle.mes_part.specs.Whys.{field_why_name}
+use Rattle.mes_model_schema.specs.Paths.{path_text}
+use Rattle.mes_model_schema.specs.FieldFaultKinds.{field_fault_kind_name}
 
 -- a fault's number and name
 abbrev pub fault_title : Fault → List ℕ
@@ -29,10 +29,10 @@ fault_title ReadsSpent = codes "F15 ReadsSpent"
 fault_title (BadEntry at_record) = codes "F16 BadEntry"
 
 -- why bytes are no JSON text
-abbrev pub text_why_name : Why → List ℕ
-text_why_name End = codes "End"
-text_why_name Depth = codes "Depth"
-text_why_name Byte = codes "Byte"
+abbrev pub text_fault_kind_name : TextFaultKind → List ℕ
+text_fault_kind_name End = codes "End"
+text_fault_kind_name Depth = codes "Depth"
+text_fault_kind_name Byte = codes "Byte"
 
 -- the words that say where a record is at fault and why
 abbrev pub details : Fault → List (List ℕ)
@@ -40,9 +40,9 @@ details (Frame f) = []
 details EndsInsideChunks = []
 details EndsInsideRecord = []
 details (Text at_record byte why) =
-    codes "record" ∷ decimal at_record ∷ codes "byte" ∷ decimal byte ∷ text_why_name why ∷ []
+    codes "record" ∷ decimal at_record ∷ codes "byte" ∷ decimal byte ∷ text_fault_kind_name why ∷ []
 details (Field at_record path why) =
-    codes "record" ∷ decimal at_record ∷ path_text path ∷ field_why_name why ∷ []
+    codes "record" ∷ decimal at_record ∷ path_text path ∷ field_fault_kind_name why ∷ []
 details NoMemory = []
 details Read = []
 details ReadsSpent = []

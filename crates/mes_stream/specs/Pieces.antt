@@ -2,7 +2,7 @@
 use Rattle.std.specs.Prelude.{◌≡◌, ◌≢◌, ℕ, ◌+◌, ◌<◌, ◌≤◌, List, [], ◌∷◌, ◌++◌, length, drop, Option, None, Some}
 use Rattle.mes_msg.specs.Events.{Spells}
 use Rattle.mes_msg.specs.Event.{Event}
-use Rattle.mes_stream.specs.Decoders.{DecoderStands}
+use Rattle.mes_stream.specs.Decoders.{DecoderRepresents}
 use Rattle.mes_stream.specs.Decoding.{Says}
 use Rattle.mes_stream.specs.EventData.{HoldsData}
 use Rattle.mes_stream.specs.Refusals.{IsEventRefusal}
@@ -11,40 +11,40 @@ use Rattle.mes_stream.specs.declared.decoder.StreamEnd.{StreamEnd}
 use Rattle.mes_stream.specs.declared.decoder.StreamEnd.TheVariants.{Closed, Failed}
 use Rattle.mes_stream.specs.declared.event_reader.EventReader.{EventReader}
 use Rattle.mes_stream.specs.declared.fault.Fault.TheVariants.{NoMemory}
-use Rattle.mes_stream.specs.declared.taken.Out.{Out}
-use Rattle.mes_stream.specs.declared.taken.Out.TheVariants as out
+use Rattle.mes_stream.specs.declared.progress.Decoded.{Decoded}
+use Rattle.mes_stream.specs.declared.progress.Decoded.TheVariants as out
 
 -- a call of `next` that used so many bytes of the piece and returned the answer: what the contract of `next` ensures of it
-pub record IsNext (old new : RecordDecoder EventReader) (piece : List ℕ) (used : ℕ) (answer : Out Event) : Type 0 where
-  pub says : (limit : ℕ) (w : List ℕ) (events : List Event) → DecoderStands HoldsData Spells old limit w events
-      → Says (DecoderStands HoldsData Spells new limit) Spells IsEventRefusal limit w events piece used answer
+pub record IsNext (old new : RecordDecoder EventReader) (piece : List ℕ) (used : ℕ) (answer : Decoded Event) : Type 0 where
+  pub says : (limit : ℕ) (w : List ℕ) (events : List Event) → DecoderRepresents HoldsData Spells old limit w events
+      → Says (DecoderRepresents HoldsData Spells new limit) Spells IsEventRefusal limit w events piece used answer
   pub more : answer ≡ out.More → used ≡ length piece
-  pub some : (limit : ℕ) (w : List ℕ) (events : List Event) → DecoderStands HoldsData Spells old limit w events → answer ≢ out.More → 0 < used
+  pub some : (limit : ℕ) (w : List ℕ) (events : List Event) → DecoderRepresents HoldsData Spells old limit w events → answer ≢ out.More → 0 < used
   pub within : used ≤ length piece
 
 -- the events that the calls returned, the end or the fault that they came to, if any, and how many bytes they used
-pub record Decoded : Type 0 where
+pub record DecodeOutcome : Type 0 where
   pub events : List Event
   pub end : Option StreamEnd
   pub used : ℕ
 
-abbrev pub decoded : List Event → Option StreamEnd → ℕ → Decoded
+abbrev pub decoded : List Event → Option StreamEnd → ℕ → DecodeOutcome
 decoded events end used = record { events = events; end = end; used = used }
 
 -- the same with one call more before the others
-abbrev pub after_call : ℕ → List Event → Decoded → Decoded
+abbrev pub after_call : ℕ → List Event → DecodeOutcome → DecodeOutcome
 after_call used events rest = decoded (events ++ rest.events) rest.end (used + rest.used)
 
 -- The decoder was given the pieces in order, by one call after the other: each call was given a piece, or the bytes of it that the call
 -- before it did not use. After the end or a fault no more calls were made.
-abbrev pub Decodes : RecordDecoder EventReader → List (List ℕ) → List (ℕ × Out Event) → Decoded → Type 0
+abbrev pub Decodes : RecordDecoder EventReader → List (List ℕ) → List (ℕ × Decoded Event) → DecodeOutcome → Type 0
 Decodes d [] [] outcome = outcome ≡ decoded [] None 0
 Decodes d [] (call ∷ calls) outcome = ⊥
 Decodes d (piece ∷ pieces) [] outcome = ⊥
 Decodes d (piece ∷ pieces) ((used, out.More) ∷ calls) outcome =
-    (new : RecordDecoder EventReader) × (rest : Decoded) × IsNext d new piece used out.More × Decodes new pieces calls rest × (outcome ≡ after_call used [] rest)
+    (new : RecordDecoder EventReader) × (rest : DecodeOutcome) × IsNext d new piece used out.More × Decodes new pieces calls rest × (outcome ≡ after_call used [] rest)
 Decodes d (piece ∷ pieces) ((used, out.Event event) ∷ calls) outcome =
-    (new : RecordDecoder EventReader) × (rest : Decoded) × IsNext d new piece used (out.Event event) × Decodes new (drop used piece ∷ pieces) calls rest
+    (new : RecordDecoder EventReader) × (rest : DecodeOutcome) × IsNext d new piece used (out.Event event) × Decodes new (drop used piece ∷ pieces) calls rest
     × (outcome ≡ after_call used (event ∷ []) rest)
 Decodes d (piece ∷ pieces) ((used, out.End) ∷ calls) outcome =
     (new : RecordDecoder EventReader) × IsNext d new piece used out.End × (outcome ≡ decoded [] (Some Closed) used)
@@ -57,5 +57,5 @@ joined [] = []
 joined (piece ∷ pieces) = piece ++ joined pieces
 
 -- no allocation failed
-abbrev pub HadMemory : Decoded → Type 0
+abbrev pub HadMemory : DecodeOutcome → Type 0
 HadMemory outcome = outcome.end ≢ Some (Failed NoMemory)

@@ -5,23 +5,23 @@ use Rattle.mes_frame.specs.declared.counts.Counts.{Counts}
 use Rattle.mes_msg.specs.Events.{Spells}
 use Rattle.mes_msg.specs.Event.{Event}
 use Rattle.mes_stream.specs.Refusals.{IsEventRefusal}
-use Rattle.mes_stream.specs.declared.refusal.RecordRefusal.{RecordRefusal}
+use Rattle.mes_stream.specs.declared.record_error.RecordError.{RecordError}
 use Rattle.mes_stream.specs.Reads.{ReadsMade, SomeReadsMade}
 use Rattle.mes_stream.specs.Stream.{saturated}
 use Rattle.mes_stream.specs.Framings.{GoesIn, GoesBefore, EndsIn, EndsRecordIn, WholeIn, InputEnds, StopsWithin}
 use Rattle.mes_stream.specs.Held.{held_by_reading}
-use Rattle.mes_stream.specs.StreamReaders.{StreamStands}
+use Rattle.mes_stream.specs.StreamReaders.{StreamRepresents}
 use Rattle.mes_stream.specs.declared.fault.Fault.{Fault}
 use Rattle.mes_stream.specs.declared.fault.Fault.TheVariants.{Read, ReadsSpent}
 use Rattle.mes_stream.specs.declared.fault.Report.{Report}
 use Rattle.mes_stream.specs.declared.fault.Stop.{Stop}
-use Rattle.mes_stream.specs.declared.limits.TheConstants.{READ_MOST}
-use Rattle.mes_stream.specs.declared.reading.EndedRecord.{EndedRecord}
-use Rattle.mes_stream.specs.declared.reading.Reading.{Reading}
-use Rattle.mes_stream.specs.declared.reading.ReadingStop.{ReadingStop}
-use Rattle.mes_stream.specs.declared.reading.ReadingStop.TheVariants as reading_stop
-use Rattle.mes_stream.specs.declared.reads.ReadsEnd.{ReadsEnd}
-use Rattle.mes_stream.specs.declared.reads.ReadsEnd.TheVariants.{Stopped, AtEnd, Failed, Spent}
+use Rattle.mes_stream.specs.declared.limits.TheConstants.{MAX_READ}
+use Rattle.mes_stream.specs.declared.counted_reader.EndedRecord.{EndedRecord}
+use Rattle.mes_stream.specs.declared.counted_reader.Reading.{Reading}
+use Rattle.mes_stream.specs.declared.counted_reader.ReadingStop.{ReadingStop}
+use Rattle.mes_stream.specs.declared.counted_reader.ReadingStop.TheVariants as reading_stop
+use Rattle.mes_stream.specs.declared.device.ReadsEnd.{ReadsEnd}
+use Rattle.mes_stream.specs.declared.device.ReadsEnd.TheVariants.{Stopped, AtEnd, Failed, Spent}
 use Rattle.mes_stream.specs.declared.stream_reader.Framing.{Framing}
 use Rattle.mes_stream.specs.declared.stream_reader.Framing.TheVariants.{Plain, Chunked}
 
@@ -34,11 +34,11 @@ abbrev pub nothing_ahead : Ahead
 nothing_ahead = record { records = 0; bytes = 0 }
 
 -- a byte among the last 512 of w stops the reading
-pub record StopsAt {E : Type 0} (framing : Framing) (spells : List ℕ → E → Type 0) (breaks : List ℕ → RecordRefusal → Type 0) (ahead : Ahead) (limit : ℕ) (w : List ℕ) (values : List E) (used : ℕ) (fault : Fault) : Type 0 where
+pub record StopsAt {E : Type 0} (framing : Framing) (spells : List ℕ → E → Type 0) (breaks : List ℕ → RecordError → Type 0) (ahead : Ahead) (limit : ℕ) (w : List ℕ) (values : List E) (used : ℕ) (fault : Fault) : Type 0 where
   pub n : ℕ
   pub count : used ≡ saturated (ahead.bytes + n)
   pub stops : StopsWithin framing spells breaks ahead.records limit w values fault n
-  pub last : length w < n + READ_MOST
+  pub last : length w < n + MAX_READ
 
 -- a byte among the last 512 of w ends the stream, and the rest are the bytes behind it
 pub record EndsAt {E : Type 0} (framing : Framing) (spells : List ℕ → E → Type 0) (ahead : Ahead) (limit : ℕ) (w : List ℕ) (values : List E) (used : ℕ) (rest : List ℕ) : Type 0 where
@@ -46,12 +46,12 @@ pub record EndsAt {E : Type 0} (framing : Framing) (spells : List ℕ → E → 
   pub is : w ≡ stream ++ rest
   pub count : used ≡ saturated (ahead.bytes + length stream)
   pub ends : EndsIn framing spells limit stream values
-  pub last : length rest < READ_MOST
+  pub last : length rest < MAX_READ
 
 -- what a byte among the last 512 of w did: it ended the stream, or it stops the reading
-abbrev pub ByteEndsBehind : {E : Type 0} → Framing → (List ℕ → E → Type 0) → (List ℕ → RecordRefusal → Type 0) → Ahead → ℕ → List ℕ → List E → Result Report Stop → Type 0
-ByteEndsBehind framing spells breaks ahead limit w values (Ok report) = EndsAt framing spells ahead limit w values report.used report.rest.items
-ByteEndsBehind framing spells breaks ahead limit w values (Err stop) = StopsAt framing spells breaks ahead limit w values stop.used stop.fault
+abbrev pub ByteEndsAfter : {E : Type 0} → Framing → (List ℕ → E → Type 0) → (List ℕ → RecordError → Type 0) → Ahead → ℕ → List ℕ → List E → Result Report Stop → Type 0
+ByteEndsAfter framing spells breaks ahead limit w values (Ok report) = EndsAt framing spells ahead limit w values report.used report.rest.items
+ByteEndsAfter framing spells breaks ahead limit w values (Err stop) = StopsAt framing spells breaks ahead limit w values stop.used stop.fault
 
 -- what the end of the input means behind w, all of which was used
 abbrev pub EndMeans : {E : Type 0} → Framing → (List ℕ → E → Type 0) → Ahead → ℕ → List ℕ → List E → Result Report Stop → Type 0
@@ -78,11 +78,11 @@ EndsReadingAs Byte End Off reads old new last w values outcome =
     ⊎ (Off ReadsSpent w values outcome × ReadsMade reads old new w reads 0 0)
 
 -- the same where nothing stands ahead
-abbrev pub ByteEnds : {E : Type 0} → Framing → (List ℕ → E → Type 0) → (List ℕ → RecordRefusal → Type 0) → ℕ → List ℕ → List E → Result Report Stop → Type 0
-ByteEnds framing spells breaks limit w values outcome = ByteEndsBehind framing spells breaks nothing_ahead limit w values outcome
+abbrev pub ByteEnds : {E : Type 0} → Framing → (List ℕ → E → Type 0) → (List ℕ → RecordError → Type 0) → ℕ → List ℕ → List E → Result Report Stop → Type 0
+ByteEnds framing spells breaks limit w values outcome = ByteEndsAfter framing spells breaks nothing_ahead limit w values outcome
 
 -- and how reading ended
-abbrev pub EndsReading : {E : Type 0} → Framing → (List ℕ → E → Type 0) → (List ℕ → RecordRefusal → Type 0) → ℕ → ℕ → Counts → Counts → Option (List ℕ) → List ℕ → List E → Result Report Stop → Type 0
+abbrev pub EndsReading : {E : Type 0} → Framing → (List ℕ → E → Type 0) → (List ℕ → RecordError → Type 0) → ℕ → ℕ → Counts → Counts → Option (List ℕ) → List ℕ → List E → Result Report Stop → Type 0
 EndsReading framing spells breaks limit reads old new last w values outcome =
     EndsReadingAs (ByteEnds framing spells breaks limit) (EndMeans framing spells nothing_ahead limit) (λ fault. BreaksOff fault framing spells nothing_ahead limit) reads old new last w values outcome
 
@@ -95,37 +95,37 @@ abbrev pub EndsStream : ℕ → ℕ → Counts → Counts → Option (List ℕ) 
 EndsStream limit reads old new last w events outcome = EndsReading Chunked Spells IsEventRefusal limit reads old new last w events outcome
 
 -- the reading has taken w, which goes on with the values, and counted it
-abbrev pub ReadingStandsBehind : {R E : Type 0} → (R → List ℕ → Type 0) → (List ℕ → E → Type 0) → Ahead → Reading R → Framing → ℕ → List ℕ → List E → Type 0
-ReadingStandsBehind holds spells ahead d framing limit w values = StreamStands holds spells ahead.records d.stream framing limit w values × (d.used ≡ saturated (ahead.bytes + length w))
+abbrev pub ReadingRepresentsAfter : {R E : Type 0} → (R → List ℕ → Type 0) → (List ℕ → E → Type 0) → Ahead → Reading R → Framing → ℕ → List ℕ → List E → Type 0
+ReadingRepresentsAfter holds spells ahead d framing limit w values = StreamRepresents holds spells ahead.records d.stream framing limit w values × (d.used ≡ saturated (ahead.bytes + length w))
 
-abbrev pub ReadingStands : {R E : Type 0} → (R → List ℕ → Type 0) → (List ℕ → E → Type 0) → Reading R → Framing → ℕ → List ℕ → List E → Type 0
-ReadingStands holds spells d framing limit w values = ReadingStandsBehind holds spells nothing_ahead d framing limit w values
+abbrev pub ReadingRepresents : {R E : Type 0} → (R → List ℕ → Type 0) → (List ℕ → E → Type 0) → Reading R → Framing → ℕ → List ℕ → List E → Type 0
+ReadingRepresents holds spells d framing limit w values = ReadingRepresentsAfter holds spells nothing_ahead d framing limit w values
 
 -- what a reading that has stopped came to
-abbrev pub told_as : {R : Type 0} → Reading R → ReadingStop → Result Report Stop
-told_as d reading_stop.Ended = Ok (record { used = d.used; rest = d.rest })
-told_as d (reading_stop.Fault fault) = Err (record { fault = fault; used = d.used })
+abbrev pub reported_as : {R : Type 0} → Reading R → ReadingStop → Result Report Stop
+reported_as d reading_stop.Ended = Ok (record { used = d.used; rest = d.rest })
+reported_as d (reading_stop.Fault fault) = Err (record { fault = fault; used = d.used })
 
 -- what became of a piece behind w, where the list got the values of the records that ended in it
-abbrev pub ReadingTakesBehind : {R E T : Type 0} → (R → List ℕ → Type 0) → (List ℕ → E → Type 0) → (List ℕ → RecordRefusal → Type 0) → Ahead → Reading R → Framing → ℕ → List ℕ → List E → List ℕ → List E → List E → Result T ReadingStop → Type 0
-ReadingTakesBehind {E = E} holds spells breaks ahead new framing limit w values piece old now (Ok done) =
-    (more : List E) × (now ≡ old ++ more) × ReadingStandsBehind holds spells ahead new framing limit (w ++ piece) (values ++ more)
-ReadingTakesBehind {E = E} holds spells breaks ahead new framing limit w values piece old now (Err stop) =
-    (more : List E) × (now ≡ old ++ more) × ByteEndsBehind framing spells breaks ahead limit (w ++ piece) (values ++ more) (told_as new stop)
+abbrev pub ReadingTakesAfter : {R E T : Type 0} → (R → List ℕ → Type 0) → (List ℕ → E → Type 0) → (List ℕ → RecordError → Type 0) → Ahead → Reading R → Framing → ℕ → List ℕ → List E → List ℕ → List E → List E → Result T ReadingStop → Type 0
+ReadingTakesAfter {E = E} holds spells breaks ahead new framing limit w values piece old now (Ok done) =
+    (more : List E) × (now ≡ old ++ more) × ReadingRepresentsAfter holds spells ahead new framing limit (w ++ piece) (values ++ more)
+ReadingTakesAfter {E = E} holds spells breaks ahead new framing limit w values piece old now (Err stop) =
+    (more : List E) × (now ≡ old ++ more) × ByteEndsAfter framing spells breaks ahead limit (w ++ piece) (values ++ more) (reported_as new stop)
 
-abbrev pub ReadingTakes : {R E T : Type 0} → (R → List ℕ → Type 0) → (List ℕ → E → Type 0) → (List ℕ → RecordRefusal → Type 0) → Reading R → Framing → ℕ → List ℕ → List E → List ℕ → List E → List E → Result T ReadingStop → Type 0
-ReadingTakes holds spells breaks new framing limit w values piece old now result = ReadingTakesBehind holds spells breaks nothing_ahead new framing limit w values piece old now result
+abbrev pub ReadingTakes : {R E T : Type 0} → (R → List ℕ → Type 0) → (List ℕ → E → Type 0) → (List ℕ → RecordError → Type 0) → Reading R → Framing → ℕ → List ℕ → List E → List ℕ → List E → List E → Result T ReadingStop → Type 0
+ReadingTakes holds spells breaks new framing limit w values piece old now result = ReadingTakesAfter holds spells breaks nothing_ahead new framing limit w values piece old now result
 
 -- What became of a piece behind w up to the end of a record: all of it was taken and none ended; or one ended with the last of the
 -- bytes that were used, and before that byte all went on; or a byte of it ended the stream, or stops the reading.
-abbrev pub ReadingTakesRecord : {R E : Type 0} → (R → List ℕ → Type 0) → (List ℕ → E → Type 0) → (List ℕ → RecordRefusal → Type 0) → Ahead → Reading R → Framing → ℕ → List ℕ → List E → List ℕ → Result (Option (EndedRecord E)) ReadingStop → Type 0
-ReadingTakesRecord holds spells breaks ahead new framing limit w values piece (Ok None) = ReadingStandsBehind holds spells ahead new framing limit (w ++ piece) values
+abbrev pub ReadingTakesRecord : {R E : Type 0} → (R → List ℕ → Type 0) → (List ℕ → E → Type 0) → (List ℕ → RecordError → Type 0) → Ahead → Reading R → Framing → ℕ → List ℕ → List E → List ℕ → Result (Option (EndedRecord E)) ReadingStop → Type 0
+ReadingTakesRecord holds spells breaks ahead new framing limit w values piece (Ok None) = ReadingRepresentsAfter holds spells ahead new framing limit (w ++ piece) values
 ReadingTakesRecord holds spells breaks ahead new framing limit w values piece (Ok (Some ended)) =
-    ReadingStandsBehind holds spells ahead new framing limit (w ++ take ended.used piece) (values ++ ended.value ∷ [])
+    ReadingRepresentsAfter holds spells ahead new framing limit (w ++ take ended.used piece) (values ++ ended.value ∷ [])
     × WholeIn framing spells limit (w ++ take ended.used piece) (values ++ ended.value ∷ [])
     × EndsRecordIn framing spells limit (w ++ take (ended.used - 1) piece) values (slice_index piece (ended.used - 1)) ended.value
     × GoesBefore framing spells limit w values piece ended.used
-ReadingTakesRecord holds spells breaks ahead new framing limit w values piece (Err stop) = ByteEndsBehind framing spells breaks ahead limit (w ++ piece) values (told_as new stop)
+ReadingTakesRecord holds spells breaks ahead new framing limit w values piece (Err stop) = ByteEndsAfter framing spells breaks ahead limit (w ++ piece) values (reported_as new stop)
 
 -- it ended with a byte of the piece
 abbrev pub EndsWithin : {E T : Type 0} → ℕ → Result (Option (EndedRecord E)) T → Type 0
@@ -134,28 +134,28 @@ EndsWithin len (Ok (Some ended)) = (0 < ended.used) × (ended.used ≤ len)
 EndsWithin len (Err stop) = Unit {0}
 
 -- what the end of the reads means: a stop is told as the reading has it; else what the reading stands for decides
-abbrev pub MeansBehind : {R E : Type 0} → (R → List ℕ → Type 0) → (List ℕ → E → Type 0) → Ahead → Reading R → ReadsEnd ReadingStop → Result Report Stop → Type 0
-MeansBehind holds spells ahead d (Stopped stop) answer = answer ≡ told_as d stop
-MeansBehind {E = E} holds spells ahead d AtEnd answer =
-    (framing : Framing) (limit : ℕ) (w : List ℕ) (values : List E) → ReadingStandsBehind holds spells ahead d framing limit w values → EndMeans framing spells ahead limit w values answer
-MeansBehind {E = E} holds spells ahead d Failed answer =
-    (framing : Framing) (limit : ℕ) (w : List ℕ) (values : List E) → ReadingStandsBehind holds spells ahead d framing limit w values → BreaksOff Read framing spells ahead limit w values answer
-MeansBehind {E = E} holds spells ahead d Spent answer =
-    (framing : Framing) (limit : ℕ) (w : List ℕ) (values : List E) → ReadingStandsBehind holds spells ahead d framing limit w values → BreaksOff ReadsSpent framing spells ahead limit w values answer
+abbrev pub MeansAfter : {R E : Type 0} → (R → List ℕ → Type 0) → (List ℕ → E → Type 0) → Ahead → Reading R → ReadsEnd ReadingStop → Result Report Stop → Type 0
+MeansAfter holds spells ahead d (Stopped stop) answer = answer ≡ reported_as d stop
+MeansAfter {E = E} holds spells ahead d AtEnd answer =
+    (framing : Framing) (limit : ℕ) (w : List ℕ) (values : List E) → ReadingRepresentsAfter holds spells ahead d framing limit w values → EndMeans framing spells ahead limit w values answer
+MeansAfter {E = E} holds spells ahead d Failed answer =
+    (framing : Framing) (limit : ℕ) (w : List ℕ) (values : List E) → ReadingRepresentsAfter holds spells ahead d framing limit w values → BreaksOff Read framing spells ahead limit w values answer
+MeansAfter {E = E} holds spells ahead d Spent answer =
+    (framing : Framing) (limit : ℕ) (w : List ℕ) (values : List E) → ReadingRepresentsAfter holds spells ahead d framing limit w values → BreaksOff ReadsSpent framing spells ahead limit w values answer
 
 abbrev pub Means : {R E : Type 0} → (R → List ℕ → Type 0) → (List ℕ → E → Type 0) → Reading R → ReadsEnd ReadingStop → Result Report Stop → Type 0
-Means holds spells d end answer = MeansBehind holds spells nothing_ahead d end answer
+Means holds spells d end answer = MeansAfter holds spells nothing_ahead d end answer
 
 -- The list got the values of the bytes w, by which the reading came from its first state to the other, whatever it had taken before
 -- and whatever stands ahead.
 abbrev pub Gathers : {R E : Type 0} → (R → List ℕ → Type 0) → (List ℕ → E → Type 0) → Reading R → List E → Reading R → List E → List ℕ → Type 0
 Gathers {E = E} holds spells first start now to w =
-    (ahead : Ahead) (framing : Framing) (limit : ℕ) (v : List ℕ) (before : List E) → ReadingStandsBehind holds spells ahead first framing limit v before
-    → (more : List E) × (to ≡ start ++ more) × ReadingStandsBehind holds spells ahead now framing limit (v ++ w) (before ++ more)
+    (ahead : Ahead) (framing : Framing) (limit : ℕ) (v : List ℕ) (before : List E) → ReadingRepresentsAfter holds spells ahead first framing limit v before
+    → (more : List E) × (to ≡ start ++ more) × ReadingRepresentsAfter holds spells ahead now framing limit (v ++ w) (before ++ more)
 
 -- and a byte of the piece behind them ended the stream, or stops the reading; nothing is kept then
-abbrev pub GathersLast : {R E : Type 0} → (R → List ℕ → Type 0) → (List ℕ → E → Type 0) → (List ℕ → RecordRefusal → Type 0) → (R → ℕ) → Reading R → List E → Reading R → List E → List ℕ → List ℕ → ReadingStop → Type 0
+abbrev pub GathersLast : {R E : Type 0} → (R → List ℕ → Type 0) → (List ℕ → E → Type 0) → (List ℕ → RecordError → Type 0) → (R → ℕ) → Reading R → List E → Reading R → List E → List ℕ → List ℕ → ReadingStop → Type 0
 GathersLast {E = E} holds spells breaks kept first start now to w piece stop =
-    ((ahead : Ahead) (framing : Framing) (limit : ℕ) (v : List ℕ) (before : List E) → ReadingStandsBehind holds spells ahead first framing limit v before
-    → (more : List E) × (to ≡ start ++ more) × ByteEndsBehind framing spells breaks ahead limit (v ++ (w ++ piece)) (before ++ more) (told_as now stop))
+    ((ahead : Ahead) (framing : Framing) (limit : ℕ) (v : List ℕ) (before : List E) → ReadingRepresentsAfter holds spells ahead first framing limit v before
+    → (more : List E) × (to ≡ start ++ more) × ByteEndsAfter framing spells breaks ahead limit (v ++ (w ++ piece)) (before ++ more) (reported_as now stop))
     × (held_by_reading kept now ≡ 0)

@@ -3,15 +3,15 @@ use Rattle.std.specs.Prelude.{◌≡◌, ℕ, ◌+◌, ◌*◌, ◌<◌, ◌≤�
 use Rattle.std.specs.Io.KnownBytes.{IsAtEnd}
 use Rattle.mes_frame.specs.Counts.{up}
 use Rattle.mes_frame.specs.declared.counts.Counts.{Counts}
-use Rattle.mes_stream.specs.declared.limits.TheConstants.{READ_MOST}
-use Rattle.mes_stream.specs.declared.reads.ReadsEnd.{ReadsEnd}
-use Rattle.mes_stream.specs.declared.reads.ReadsEnd.TheVariants.{Stopped, AtEnd, Failed, Spent}
+use Rattle.mes_stream.specs.declared.limits.TheConstants.{MAX_READ}
+use Rattle.mes_stream.specs.declared.device.ReadsEnd.{ReadsEnd}
+use Rattle.mes_stream.specs.declared.device.ReadsEnd.TheVariants.{Stopped, AtEnd, Failed, Spent}
 
 -- The device was asked as often as `made` says, at most `reads` times, and gave the bytes w, at most 512 a time. So many
 -- of the calls failed, and so many told the end.
 pub record ReadsMade (reads : ℕ) (old new : Counts) (w : List ℕ) (made failed ended : ℕ) : Type 0 where
   pub most : made ≤ reads
-  pub bytes : length w ≤ READ_MOST * made
+  pub bytes : length w ≤ MAX_READ * made
   pub calls : new.calls ≡ up old.calls made
   pub failures : new.failures ≡ up old.failures failed
   pub idle : new.idle ≡ up old.idle ended
@@ -27,7 +27,7 @@ SomeReadsMade reads old new w failed ended = (made : ℕ) × ReadsMade reads old
 pub record LastRead (w front piece : List ℕ) : Type 0 where
   pub is : w ≡ front ++ piece
   pub some : 0 < length piece
-  pub most : length piece ≤ READ_MOST
+  pub most : length piece ≤ MAX_READ
 
 -- How the reads ended, where `Goes` says what came of the bytes that were taken and `Stops` what of the last piece behind the
 -- others: no more were wanted; or the device told its end; or a call failed; or as many were made as allowed.

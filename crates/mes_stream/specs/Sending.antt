@@ -14,8 +14,8 @@ use Rattle.mes_msg.specs.EncodeFault.TheVariants as refused
 use Rattle.mes_msg.specs.Event.{Event}
 use Rattle.mes_stream.specs.Chunked.{IsStream}
 use Rattle.mes_stream.specs.Stream.{Records}
-use Rattle.mes_msg.specs.declared.send_fault.EncodeWhy.{EncodeWhy}
-use Rattle.mes_msg.specs.declared.send_fault.EncodeWhy.TheVariants.{TooDeep, TooLarge}
+use Rattle.mes_msg.specs.declared.send_fault.EncodeFaultKind.{EncodeFaultKind}
+use Rattle.mes_msg.specs.declared.send_fault.EncodeFaultKind.TheVariants.{TooDeep, TooLarge}
 use Rattle.mes_msg.specs.declared.send_fault.SendFault.{SendFault}
 use Rattle.mes_msg.specs.declared.send_fault.SendFault.TheVariants.{Encode, NoMemory, Write}
 
@@ -28,17 +28,17 @@ abbrev pub AllGood : ℕ → List Event → Type 0
 AllGood limit events = All (λ event. IsGood event limit) events
 
 -- no record of the limit can hold the event, and why
-abbrev pub IsBad : ℕ → Event → EncodeWhy → Type 0
+abbrev pub IsBad : ℕ → Event → EncodeFaultKind → Type 0
 IsBad limit event TooDeep = IsEncodeFault event limit refused.TooDeep
 IsBad limit event TooLarge = IsEncodeFault event limit refused.TooLarge
 
 -- the event at this place, from 0, is the first of them that is not good, and why
-pub record IsFirstBad (limit : ℕ) (events : List Event) (index : ℕ) (why : EncodeWhy) : Type 0 where
+pub record IsFirstBad (limit : ℕ) (events : List Event) (index : ℕ) (why : EncodeFaultKind) : Type 0 where
   pub front : List Event
   pub event : Event
   pub rest : List Event
   pub is : events ≡ front ++ event ∷ rest
-  pub place : index ≡ length front
+  pub phase : index ≡ length front
   pub good : AllGood limit front
   pub bad : IsBad limit event why
 

@@ -2,8 +2,8 @@
 -- which value, and why data spell none, are given: `spells` and `breaks`.
 use Rattle.std.specs.Prelude.{◌≡◌, ◌≢◌, ℕ, ◌+◌, ◌-◌, ◌^◌, ◌⊎◌, min, List, [], ◌∷◌, ◌++◌, length}
 use Rattle.mes_frame.specs.Record.{IsRecord, Begun, DataBegun, SizeShows}
-use Rattle.mes_stream.specs.declared.refusal.RecordRefusal.{RecordRefusal}
-use Rattle.mes_stream.specs.declared.refusal.RecordRefusal.TheVariants as refusal
+use Rattle.mes_stream.specs.declared.record_error.RecordError.{RecordError}
+use Rattle.mes_stream.specs.declared.record_error.RecordError.TheVariants as refusal
 use Rattle.mes_stream.specs.declared.fault.Fault.{Fault}
 use Rattle.mes_stream.specs.declared.fault.Fault.TheVariants.{Frame, EndsInsideChunks, EndsInsideRecord, Text, Field, NoMemory, Read, ReadsSpent, BadEntry}
 
@@ -19,7 +19,7 @@ Records spells limit b (value ∷ values) =
     × Records spells limit rest values
 
 -- the bytes are such records, and behind them x, of which Is holds
-pub record Behind {E : Type 0} (spells : List ℕ → E → Type 0) (limit : ℕ) (Is : List ℕ → Type 0) (b : List ℕ) (values : List E) : Type 0 where
+pub record Following {E : Type 0} (spells : List ℕ → E → Type 0) (limit : ℕ) (Is : List ℕ → Type 0) (b : List ℕ) (values : List E) : Type 0 where
   pub whole : List ℕ
   pub x : List ℕ
   pub spelt : b ≡ whole ++ x
@@ -28,11 +28,11 @@ pub record Behind {E : Type 0} (spells : List ℕ → E → Type 0) (limit : ℕ
 
 -- the bytes are such records, and perhaps the front of one more
 abbrev pub BodyLive : {E : Type 0} → (List ℕ → E → Type 0) → ℕ → List ℕ → List E → Type 0
-BodyLive spells limit b values = Behind spells limit (λ x. (r : List ℕ) × Begun x r limit) b values
+BodyLive spells limit b values = Following spells limit (λ x. (r : List ℕ) × Begun x r limit) b values
 
 -- the bytes are such records, and behind them a record that has begun and not ended
 abbrev pub EndsInside : {E : Type 0} → (List ℕ → E → Type 0) → ℕ → List ℕ → List E → Type 0
-EndsInside spells limit b values = Behind spells limit (λ x. (x ≢ []) × ((r : List ℕ) × Begun x r limit)) b values
+EndsInside spells limit b values = Following spells limit (λ x. (x ≢ []) × ((r : List ℕ) × Begun x r limit)) b values
 
 -- the number, from 1, of the record behind the values, where so many records stand ahead of theirs
 abbrev pub number_after : {E : Type 0} → ℕ → List E → ℕ
@@ -40,7 +40,7 @@ number_after ahead values = saturated (ahead + length values + 1)
 
 -- the byte c behind the bytes b ends a record whose data are r
 abbrev pub EndsRecord : {E : Type 0} → (List ℕ → E → Type 0) → ℕ → List ℕ → List E → ℕ → (List ℕ → Type 0) → Type 0
-EndsRecord spells limit b values c Is = Behind spells limit (λ x. (r : List ℕ) × IsRecord (x ++ c ∷ []) r limit × Is r) b values
+EndsRecord spells limit b values c Is = Following spells limit (λ x. (r : List ℕ) × IsRecord (x ++ c ∷ []) r limit × Is r) b values
 
 -- the data are those of the value, and not empty
 abbrev pub HasValue : {E : Type 0} → (List ℕ → E → Type 0) → E → List ℕ → Type 0
@@ -48,8 +48,8 @@ HasValue spells value r = (r ≢ []) × spells r value
 
 -- behind the bytes b, which are live, the byte c shows the fault: no size line has it there, or it ends a record that
 -- spells no value
-abbrev pub BodyShows : {E : Type 0} → (List ℕ → E → Type 0) → (List ℕ → RecordRefusal → Type 0) → ℕ → ℕ → List ℕ → List E → ℕ → Fault → Type 0
-BodyShows spells breaks ahead limit b values c (Frame fault) = Behind spells limit (λ x. SizeShows x c limit fault) b values
+abbrev pub BodyShows : {E : Type 0} → (List ℕ → E → Type 0) → (List ℕ → RecordError → Type 0) → ℕ → ℕ → List ℕ → List E → ℕ → Fault → Type 0
+BodyShows spells breaks ahead limit b values c (Frame fault) = Following spells limit (λ x. SizeShows x c limit fault) b values
 BodyShows spells breaks ahead limit b values c (Text at_record byte why) =
     EndsRecord spells limit b values c (λ r. breaks r (refusal.Text (record { byte = byte; why = why }))) × (at_record ≡ number_after ahead values)
 BodyShows spells breaks ahead limit b values c (Field at_record path why) =
@@ -64,16 +64,16 @@ BodyShows spells breaks ahead limit b values c (BadEntry at_record) =
 
 -- the next byte after b is a byte of a record's data, and Is holds of the data before it and of how many are still to come
 abbrev pub InRecordData : {E : Type 0} → (List ℕ → E → Type 0) → ℕ → List ℕ → List E → (List ℕ → ℕ → Type 0) → Type 0
-InRecordData spells limit b values Is = Behind spells limit (λ x. (r : List ℕ) × (left : ℕ) × DataBegun x r left limit × Is r left) b values
+InRecordData spells limit b values Is = Following spells limit (λ x. (r : List ℕ) × (left : ℕ) × DataBegun x r left limit × Is r left) b values
 
 -- an allocation may fail at the byte c, the next one of a record's data: for the data r before it; or, if c is the last one, for all of them
-abbrev pub MayFail : (List ℕ → RecordRefusal → Type 0) → ℕ → List ℕ → ℕ → Type 0
+abbrev pub MayFail : (List ℕ → RecordError → Type 0) → ℕ → List ℕ → ℕ → Type 0
 MayFail breaks c r left = breaks r refusal.NoMemory ⊎ ((left ≡ 1) × breaks (r ++ c ∷ []) refusal.NoMemory)
 
-abbrev pub RunsOut : {E : Type 0} → (List ℕ → E → Type 0) → (List ℕ → RecordRefusal → Type 0) → ℕ → List ℕ → List E → ℕ → Type 0
+abbrev pub RunsOut : {E : Type 0} → (List ℕ → E → Type 0) → (List ℕ → RecordError → Type 0) → ℕ → List ℕ → List E → ℕ → Type 0
 RunsOut spells breaks limit b values c = InRecordData spells limit b values (MayFail breaks c)
 
 -- the byte c shows the fault, or an allocation failed at it, for data of which `breaks` allows that
-abbrev pub BodyStops : {E : Type 0} → (List ℕ → E → Type 0) → (List ℕ → RecordRefusal → Type 0) → ℕ → ℕ → List ℕ → List E → ℕ → Fault → Type 0
+abbrev pub BodyStops : {E : Type 0} → (List ℕ → E → Type 0) → (List ℕ → RecordError → Type 0) → ℕ → ℕ → List ℕ → List E → ℕ → Fault → Type 0
 BodyStops spells breaks ahead limit b values c fault =
     BodyShows spells breaks ahead limit b values c fault ⊎ ((fault ≡ NoMemory) × RunsOut spells breaks limit b values c)

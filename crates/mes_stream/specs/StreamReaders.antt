@@ -1,20 +1,20 @@
 -- What a reader of a stream stands for, and what it makes of a piece of it.
 use Rattle.std.specs.Prelude.{◌≡◌, ℕ, ◌+◌, ◌<◌, ◌≤◌, List, ◌++◌, length, take, Option, None, Some, Result, Ok, Err}
 use Rattle.mes_frame.specs.RecordState.{limit_of}
-use Rattle.mes_stream.specs.Taking.{BodyStands}
-use Rattle.mes_stream.specs.Decoding.{ChunkedStands}
+use Rattle.mes_stream.specs.Taking.{BodyRepresents}
+use Rattle.mes_stream.specs.Decoding.{ChunkedRepresents}
 use Rattle.mes_stream.specs.Framings.{EndsIn, StopsWithin}
 use Rattle.mes_stream.specs.declared.body.Body.{Body}
-use Rattle.mes_stream.specs.declared.refusal.RecordRefusal.{RecordRefusal}
+use Rattle.mes_stream.specs.declared.record_error.RecordError.{RecordError}
 use Rattle.mes_stream.specs.declared.stream_reader.Framing.{Framing}
 use Rattle.mes_stream.specs.declared.stream_reader.Framing.TheVariants.{Plain, Chunked}
 use Rattle.mes_stream.specs.declared.stream_reader.StreamReader.{StreamReader}
 use Rattle.mes_stream.specs.declared.stream_reader.StreamReader.TheVariants as reader
-use Rattle.mes_stream.specs.declared.taken.FaultAt.{FaultAt}
-use Rattle.mes_stream.specs.declared.taken.Out.{Out}
-use Rattle.mes_stream.specs.declared.taken.Out.TheVariants as out
-use Rattle.mes_stream.specs.declared.taken.SmallOut.{SmallOut}
-use Rattle.mes_stream.specs.declared.taken.SmallOut.TheVariants as small
+use Rattle.mes_stream.specs.declared.progress.FaultAt.{FaultAt}
+use Rattle.mes_stream.specs.declared.progress.Decoded.{Decoded}
+use Rattle.mes_stream.specs.declared.progress.Decoded.TheVariants as out
+use Rattle.mes_stream.specs.declared.progress.PackedOut.{PackedOut}
+use Rattle.mes_stream.specs.declared.progress.PackedOut.TheVariants as small
 
 -- what reads the records, and the same reader with another
 abbrev pub body_of : {R : Type 0} → StreamReader R → Body R
@@ -27,16 +27,16 @@ with_body (reader.Chunked chunked) after = reader.Chunked (record { chunks = chu
 
 -- The reader of streams of that framing has taken w, which goes on with the values, under that limit. Behind the end or a
 -- fault nothing is said of it.
-abbrev pub StreamStands : {R E : Type 0} → (R → List ℕ → Type 0) → (List ℕ → E → Type 0) → ℕ → StreamReader R → Framing → ℕ → List ℕ → List E → Type 0
-StreamStands holds spells ahead (reader.Plain body) framing limit w values = (framing ≡ Plain) × BodyStands holds spells ahead body w values × (limit_of body.records ≡ limit)
-StreamStands holds spells ahead (reader.Chunked chunked) framing limit w values =
-    (framing ≡ Chunked) × ChunkedStands holds spells ahead chunked w values × (limit_of chunked.body.records ≡ limit)
+abbrev pub StreamRepresents : {R E : Type 0} → (R → List ℕ → Type 0) → (List ℕ → E → Type 0) → ℕ → StreamReader R → Framing → ℕ → List ℕ → List E → Type 0
+StreamRepresents holds spells ahead (reader.Plain body) framing limit w values = (framing ≡ Plain) × BodyRepresents holds spells ahead body w values × (limit_of body.records ≡ limit)
+StreamRepresents holds spells ahead (reader.Chunked chunked) framing limit w values =
+    (framing ≡ Chunked) × ChunkedRepresents holds spells ahead chunked w values × (limit_of chunked.body.records ≡ limit)
 
 -- What became of a piece behind w: all of it was taken; or a byte of it ended the stream, or stops the reading, and so many
 -- bytes were used. The list got the values of the records that ended before.
-abbrev pub StreamFeeds : {R E : Type 0} → (R → List ℕ → Type 0) → (List ℕ → E → Type 0) → (List ℕ → RecordRefusal → Type 0) → ℕ → StreamReader R → Framing → ℕ → List ℕ → List E → List ℕ → List E → List E → Result (Option ℕ) FaultAt → Type 0
+abbrev pub StreamFeeds : {R E : Type 0} → (R → List ℕ → Type 0) → (List ℕ → E → Type 0) → (List ℕ → RecordError → Type 0) → ℕ → StreamReader R → Framing → ℕ → List ℕ → List E → List ℕ → List E → List E → Result (Option ℕ) FaultAt → Type 0
 StreamFeeds {E = E} holds spells breaks ahead new framing limit w values piece old now (Ok None) =
-    (more : List E) × (now ≡ old ++ more) × StreamStands holds spells ahead new framing limit (w ++ piece) (values ++ more)
+    (more : List E) × (now ≡ old ++ more) × StreamRepresents holds spells ahead new framing limit (w ++ piece) (values ++ more)
 StreamFeeds {E = E} holds spells breaks ahead new framing limit w values piece old now (Ok (Some used)) =
     (more : List E) × (now ≡ old ++ more) × (0 < used) × EndsIn framing spells limit (w ++ take used piece) (values ++ more)
 StreamFeeds {E = E} holds spells breaks ahead new framing limit w values piece old now (Err stop) =
@@ -50,7 +50,7 @@ UsesWithin len (Ok (Some used)) = used ≤ len
 UsesWithin len (Err stop) = stop.used ≤ len
 
 -- an answer, of one in little room
-abbrev pub out_of : {E : Type 0} → SmallOut E → Out E
+abbrev pub out_of : {E : Type 0} → PackedOut E → Decoded E
 out_of small.More = out.More
 out_of (small.Event value) = out.Event value
 out_of small.End = out.End
@@ -58,7 +58,7 @@ out_of (small.Fault fault) = out.Fault fault
 
 -- Where a byte ended the stream or stops the reading nothing is kept: after the answer to a piece up to the end of a record; after
 -- what became of a whole piece; and after a stop.
-abbrev pub KeepsNoneAfterAnswer : {E : Type 0} → ℕ → Out E → Type 0
+abbrev pub KeepsNoneAfterAnswer : {E : Type 0} → ℕ → Decoded E → Type 0
 KeepsNoneAfterAnswer kept out.More = Unit {0}
 KeepsNoneAfterAnswer kept (out.Event value) = Unit {0}
 KeepsNoneAfterAnswer kept out.End = kept ≡ 0

@@ -1,6 +1,6 @@
 -- What any bytes are to a reader of chunked streams.
 use Rattle.std.specs.Prelude.{◌≡◌, ℕ, List, ◌∷◌, ◌++◌}
-use Rattle.mes_stream.specs.declared.refusal.RecordRefusal.{RecordRefusal}
+use Rattle.mes_stream.specs.declared.record_error.RecordError.{RecordError}
 use Rattle.mes_stream.specs.Chunked.{IsStream, Live, ChunkedShows}
 use Rattle.mes_stream.specs.declared.fault.Fault.{Fault}
 
@@ -13,7 +13,7 @@ pub data StreamReading (E : Type 0) : Type 0 where
   Stops : (front : List ℕ) (byte : ℕ) (values : List E) (fault : Fault) → StreamReading E
 
 -- the bytes w read so
-abbrev pub ReadsStream : {E : Type 0} → (List ℕ → E → Type 0) → (List ℕ → RecordRefusal → Type 0) → ℕ → ℕ → List ℕ → StreamReading E → Type 0
+abbrev pub ReadsStream : {E : Type 0} → (List ℕ → E → Type 0) → (List ℕ → RecordError → Type 0) → ℕ → ℕ → List ℕ → StreamReading E → Type 0
 ReadsStream spells breaks ahead limit w (Goes values) = Live spells limit w values
 ReadsStream spells breaks ahead limit w (Ends front values) = (rest : List ℕ) × (w ≡ front ++ rest) × IsStream spells limit front values
 ReadsStream spells breaks ahead limit w (Stops front byte values fault) =

@@ -3,23 +3,23 @@ use Rattle.std.specs.Prelude.{◌≡◌, ℕ, ◌+◌, ◌^◌, ◌<◌, ◌≤�
 use Rattle.mes_frame.specs.Record.{IsRecord, Begun, DataBegun, SizeShows}
 use Rattle.mes_frame.specs.RecordState.{RecordStands, RecordPasses, limit_of}
 use Rattle.mes_frame.specs.declared.record.RecordState.{RecordState}
-use Rattle.mes_stream.specs.declared.refusal.RecordRefusal.{RecordRefusal}
-use Rattle.mes_stream.specs.declared.refusal.RecordRefusal.TheVariants as refusal
+use Rattle.mes_stream.specs.declared.record_error.RecordError.{RecordError}
+use Rattle.mes_stream.specs.declared.record_error.RecordError.TheVariants as refusal
 use Rattle.mes_stream.specs.Stream.{saturated, Records}
 use Rattle.mes_stream.specs.declared.fault.Fault.{Fault}
 use Rattle.mes_stream.specs.Refusals.{fault_at_record}
 use Rattle.mes_stream.specs.Framings.{SaysIn}
 use Rattle.mes_stream.specs.declared.body.Body.{Body}
 use Rattle.mes_stream.specs.declared.stream_reader.Framing.{Framing}
-use Rattle.mes_stream.specs.declared.taken.Out.{Out}
-use Rattle.mes_stream.specs.declared.taken.Out.TheVariants as out
-use Rattle.mes_stream.specs.declared.taken.SoFar.{SoFar}
-use Rattle.mes_stream.specs.declared.taken.SoFar.TheVariants as so_far
+use Rattle.mes_stream.specs.declared.progress.Decoded.{Decoded}
+use Rattle.mes_stream.specs.declared.progress.Decoded.TheVariants as out
+use Rattle.mes_stream.specs.declared.progress.DecodeStatus.{DecodeStatus}
+use Rattle.mes_stream.specs.declared.progress.DecodeStatus.TheVariants as so_far
 use Rattle.mes_stream.specs.declared.body.Front.{Front}
 use Rattle.mes_stream.specs.declared.body.Front.TheVariants.{Size, Data, Empty, Bad}
 
 -- it has taken the bytes b, which are records that spell the values and perhaps the front of one more
-pub record BodyStands {R E : Type 0} (holds : R → List ℕ → Type 0) (spells : List ℕ → E → Type 0) (ahead : ℕ) (d : Body R) (b : List ℕ) (values : List E) : Type 0 where
+pub record BodyRepresents {R E : Type 0} (holds : R → List ℕ → Type 0) (spells : List ℕ → E → Type 0) (ahead : ℕ) (d : Body R) (b : List ℕ) (values : List E) : Type 0 where
   pub whole : List ℕ
   pub x : List ℕ
   pub r : List ℕ
@@ -47,36 +47,36 @@ Fronts new x r run Empty = IsRecord (x ++ slice_index run 0 ∷ []) [] (limit_of
 Fronts new x r run (Bad fault) = SizeShows x (slice_index run 0) (limit_of new) fault
 
 -- a refusal of the record behind so many
-abbrev pub fault_of_record : ℕ → RecordRefusal → Fault
+abbrev pub fault_of_record : ℕ → RecordError → Fault
 fault_of_record done why = fault_at_record (saturated (done + 1)) why
 
 -- the value of the record whose data r has ended, or why there is none; one more record has ended
-abbrev pub Ends : {R E : Type 0} → (R → List ℕ → Type 0) → (List ℕ → E → Type 0) → (List ℕ → RecordRefusal → Type 0) → Body R → Body R → List ℕ → Result E RecordRefusal → Type 0
+abbrev pub Ends : {R E : Type 0} → (R → List ℕ → Type 0) → (List ℕ → E → Type 0) → (List ℕ → RecordError → Type 0) → Body R → Body R → List ℕ → Result E RecordError → Type 0
 Ends holds spells breaks old new r (Ok value) = spells r value × holds new.reader [] × (new.done ≡ saturated (old.done + 1))
 Ends holds spells breaks old new r (Err why) = breaks r why × (new.done ≡ saturated (old.done + 1))
 
 -- Like `Ends`, where the value was added to a list. If the list could not grow, the record has a value all the same.
-abbrev pub EndsInto : {R E T : Type 0} → (R → List ℕ → Type 0) → (List ℕ → E → Type 0) → (List ℕ → RecordRefusal → Type 0) → Body R → Body R → List ℕ → List E → List E → Result T RecordRefusal → Type 0
+abbrev pub EndsInto : {R E T : Type 0} → (R → List ℕ → Type 0) → (List ℕ → E → Type 0) → (List ℕ → RecordError → Type 0) → Body R → Body R → List ℕ → List E → List E → Result T RecordError → Type 0
 EndsInto {E = E} holds spells breaks old new r before after (Ok done) = (value : E) × Ends holds spells breaks old new r (Ok value) × (after ≡ before ++ value ∷ [])
 EndsInto {E = E} holds spells breaks old new r before after (Err why) =
     (Ends {E = E} holds spells breaks old new r (Err why) ⊎ ((why ≡ refusal.NoMemory) × ((value : E) × Ends holds spells breaks old new r (Ok value)))) × (after ≡ before)
 
 -- what the end of the record of that number is for who reads it
-abbrev pub record_answer : {E : Type 0} → ℕ → Result E RecordRefusal → Out E
+abbrev pub record_answer : {E : Type 0} → ℕ → Result E RecordError → Decoded E
 record_answer number (Ok value) = out.Event value
 record_answer number (Err why) = out.Fault (fault_at_record number why)
 
 -- a record has ended, and whatever its value is read to, that is so
-abbrev pub HasEnded : {R E : Type 0} → (R → List ℕ → Type 0) → (List ℕ → E → Type 0) → (List ℕ → RecordRefusal → Type 0) → Body R → (Body R → Out E → Type 0) → Type 0
+abbrev pub HasEnded : {R E : Type 0} → (R → List ℕ → Type 0) → (List ℕ → E → Type 0) → (List ℕ → RecordError → Type 0) → Body R → (Body R → Decoded E → Type 0) → Type 0
 HasEnded {R} {E} holds spells breaks d IsSo =
     (r : List ℕ) × holds d.reader r × (length r < 2 ^ 64)
-    × ((after : Body R) (answer : Result E RecordRefusal) → after.records ≡ d.records → Ends holds spells breaks d after r answer → IsSo after (record_answer after.done answer))
+    × ((after : Body R) (answer : Result E RecordError) → after.records ≡ d.records → Ends holds spells breaks d after r answer → IsSo after (record_answer after.done answer))
 
 -- What became of the front of a piece, where the value of a record that ended with it is still to be read. What it stands for
 -- then is by its body.
-abbrev pub Tells : {R E : Type 0} → (R → List ℕ → Type 0) → (List ℕ → E → Type 0) → (List ℕ → RecordRefusal → Type 0) → ℕ → Framing → (Body R → List ℕ → List E → Type 0) → Body R → ℕ → List ℕ → List E → List ℕ → ℕ → SoFar → Type 0
-Tells holds spells breaks ahead framing Stands body limit w values piece used so_far.More = SaysIn framing (Stands body) spells breaks ahead limit w values piece used out.More
-Tells holds spells breaks ahead framing Stands body limit w values piece used so_far.RecordEnded =
-    HasEnded holds spells breaks body (λ after answer. SaysIn framing (Stands after) spells breaks ahead limit w values piece used answer)
-Tells holds spells breaks ahead framing Stands body limit w values piece used so_far.StreamEnded = SaysIn framing (Stands body) spells breaks ahead limit w values piece used out.End
-Tells holds spells breaks ahead framing Stands body limit w values piece used (so_far.Fault fault) = SaysIn framing (Stands body) spells breaks ahead limit w values piece used (out.Fault fault)
+abbrev pub Reports : {R E : Type 0} → (R → List ℕ → Type 0) → (List ℕ → E → Type 0) → (List ℕ → RecordError → Type 0) → ℕ → Framing → (Body R → List ℕ → List E → Type 0) → Body R → ℕ → List ℕ → List E → List ℕ → ℕ → DecodeStatus → Type 0
+Reports holds spells breaks ahead framing Represents body limit w values piece used so_far.More = SaysIn framing (Represents body) spells breaks ahead limit w values piece used out.More
+Reports holds spells breaks ahead framing Represents body limit w values piece used so_far.RecordEnded =
+    HasEnded holds spells breaks body (λ after answer. SaysIn framing (Represents after) spells breaks ahead limit w values piece used answer)
+Reports holds spells breaks ahead framing Represents body limit w values piece used so_far.StreamEnded = SaysIn framing (Represents body) spells breaks ahead limit w values piece used out.End
+Reports holds spells breaks ahead framing Represents body limit w values piece used (so_far.Fault fault) = SaysIn framing (Represents body) spells breaks ahead limit w values piece used (out.Fault fault)

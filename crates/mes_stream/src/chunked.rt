@@ -1,17 +1,17 @@
 //! Reads the body of a chunked stream, up to its end or its first fault.
 
 ghost use Rattle.std.specs.Prelude.{◌≡◌, ◌<◌, ◌≤◌, ℕ, List, [], ◌∷◌, ◌++◌, length, slice_index};
-ghost use Rattle.mes_frame.specs.ChunkState.{ChunkStands, PassesFraming, room_of};
+ghost use Rattle.mes_frame.specs.ChunkState.{ChunkRepresents, PassesFraming, remaining_of};
 ghost use Rattle.mes_frame.specs.RecordState.{limit_of};
-ghost use Rattle.mes_stream.specs.Taking.{BodyStands, Tells};
-ghost use Rattle.mes_stream.specs.Decoding.{ChunkedStands, Gathers, LiveBefore};
+ghost use Rattle.mes_stream.specs.Taking.{BodyRepresents, Reports};
+ghost use Rattle.mes_stream.specs.Decoding.{ChunkedRepresents, Gathers, LiveBefore};
 ghost use Rattle.mes_stream.specs.declared.stream_reader.Framing.TheVariants as framing;
 
 use crate::body::Body;
-use crate::limits::{GATHERED_MOST, SHORT_MOST};
+use crate::limits::{MAX_GATHERED, MAX_SHORT_CHUNK};
+use crate::packed_fault::PackedFault;
+use crate::progress::{DecodeStatus, Progress};
 use crate::record_reader::RecordReader;
-use crate::small_fault::SmallFault;
-use crate::taken::{SoFar, Taken};
 use arrayvec::ArrayVec;
 use mes_frame::{ChunkOut, ChunkState};
 use mes_json::NoMemoryAt;
@@ -26,7 +26,7 @@ pub struct ChunkedBody<R> {
 impl<R: RecordReader> ChunkedBody<R> {
     /// Before the first byte.
     pub(crate) fn new(body: Body<R>) -> ChunkedBody<R>
-        ensures stands { (ahead : ℕ) → BodyStands R.holds R.spells ahead body [] [] → ChunkedStands R.holds R.spells ahead result [] [] }
+        ensures represents { (ahead : ℕ) → BodyRepresents R.holds R.spells ahead body [] [] → ChunkedRepresents R.holds R.spells ahead result [] [] }
         ensures body { result.body ≡ body }
     {
         ChunkedBody {
@@ -36,12 +36,12 @@ impl<R: RecordReader> ChunkedBody<R> {
     }
 
     /// Takes short chunks, or bytes of the framing or a run of data, from the front of a piece.
-    pub(crate) fn take(&mut self, rest: &[u8]) -> Taken
+    pub(crate) fn take(&mut self, rest: &[u8]) -> Progress
         requires { 0 < length rest.now }
-        ensures tells { (ahead : ℕ) (w : List ℕ) (values : List R.Value) → ChunkedStands R.holds R.spells ahead self.old w values
-            → Tells R.holds R.spells R.breaks ahead framing.Chunked (λ body. ChunkedStands R.holds R.spells ahead (record { chunks = self.new.chunks; body = body }))
+        ensures reports { (ahead : ℕ) (w : List ℕ) (values : List R.Value) → ChunkedRepresents R.holds R.spells ahead self.old w values
+            → Reports R.holds R.spells R.breaks ahead framing.Chunked (λ body. ChunkedRepresents R.holds R.spells ahead (record { chunks = self.new.chunks; body = body }))
             self.new.body (limit_of self.new.body.records) w values rest.now result.used result.so_far }
-        ensures before { (ahead : ℕ) (w : List ℕ) (values : List R.Value) → ChunkedStands R.holds R.spells ahead self.old w values
+        ensures before { (ahead : ℕ) (w : List ℕ) (values : List R.Value) → ChunkedRepresents R.holds R.spells ahead self.old w values
             → LiveBefore R.spells (limit_of self.new.body.records) w values rest.now result.used }
         ensures used { (0 < result.used) × (result.used ≤ length rest.now) }
         ensures limit { limit_of self.new.body.records ≡ limit_of self.old.body.records }
@@ -61,13 +61,13 @@ impl<R: RecordReader> ChunkedBody<R> {
     }
 
     // The same, where no data come next.
-    fn take_between(&mut self, rest: &[u8]) -> Taken
+    fn take_between(&mut self, rest: &[u8]) -> Progress
         requires some { 0 < length rest.now }
-        requires none { room_of self.old.chunks ≡ 0 }
-        ensures tells { (ahead : ℕ) (w : List ℕ) (values : List R.Value) → ChunkedStands R.holds R.spells ahead self.old w values
-            → Tells R.holds R.spells R.breaks ahead framing.Chunked (λ body. ChunkedStands R.holds R.spells ahead (record { chunks = self.new.chunks; body = body }))
+        requires none { remaining_of self.old.chunks ≡ 0 }
+        ensures reports { (ahead : ℕ) (w : List ℕ) (values : List R.Value) → ChunkedRepresents R.holds R.spells ahead self.old w values
+            → Reports R.holds R.spells R.breaks ahead framing.Chunked (λ body. ChunkedRepresents R.holds R.spells ahead (record { chunks = self.new.chunks; body = body }))
             self.new.body (limit_of self.new.body.records) w values rest.now result.used result.so_far }
-        ensures before { (ahead : ℕ) (w : List ℕ) (values : List R.Value) → ChunkedStands R.holds R.spells ahead self.old w values
+        ensures before { (ahead : ℕ) (w : List ℕ) (values : List R.Value) → ChunkedRepresents R.holds R.spells ahead self.old w values
             → LiveBefore R.spells (limit_of self.new.body.records) w values rest.now result.used }
         ensures used { (0 < result.used) × (result.used ≤ length rest.now) }
         ensures limit { limit_of self.new.body.records ≡ limit_of self.old.body.records }
@@ -80,69 +80,69 @@ impl<R: RecordReader> ChunkedBody<R> {
     }
 
     // Takes chunks that are short and plain from the front of a piece, as far as they stand there and the record goes on behind them.
-    fn take_short(&mut self, rest: &[u8]) -> Taken
-        ensures tells { (ahead : ℕ) (w : List ℕ) (values : List R.Value) → ChunkedStands R.holds R.spells ahead self.old w values
-            → Tells R.holds R.spells R.breaks ahead framing.Chunked (λ body. ChunkedStands R.holds R.spells ahead (record { chunks = self.new.chunks; body = body }))
+    fn take_short(&mut self, rest: &[u8]) -> Progress
+        ensures reports { (ahead : ℕ) (w : List ℕ) (values : List R.Value) → ChunkedRepresents R.holds R.spells ahead self.old w values
+            → Reports R.holds R.spells R.breaks ahead framing.Chunked (λ body. ChunkedRepresents R.holds R.spells ahead (record { chunks = self.new.chunks; body = body }))
             self.new.body (limit_of self.new.body.records) w values rest.now result.used result.so_far }
-        ensures before { (ahead : ℕ) (w : List ℕ) (values : List R.Value) → ChunkedStands R.holds R.spells ahead self.old w values
+        ensures before { (ahead : ℕ) (w : List ℕ) (values : List R.Value) → ChunkedRepresents R.holds R.spells ahead self.old w values
             → LiveBefore R.spells (limit_of self.new.body.records) w values rest.now result.used }
         ensures none { result.used ≡ 0 → self.new ≡ self.old }
         ensures used { result.used ≤ length rest.now }
         ensures limit { limit_of self.new.body.records ≡ limit_of self.old.body.records }
     {
         let most = self.body.room();
-        let gathered = gather(&mut self.chunks, rest, most);
+        let gathered = gather_short_chunks(&mut self.chunks, rest, most);
         if gathered.bytes.is_empty() {
-            return Taken::more(gathered.used);
+            return Progress::more(gathered.used);
         }
         match self.body.pass(gathered.bytes.as_slice()) {
-            Ok(()) => Taken::more(gathered.used),
-            Err(refused) => Taken::no_memory(NoMemoryAt {
+            Ok(()) => Progress::more(gathered.used),
+            Err(refused) => Progress::no_memory(NoMemoryAt {
                 taken: gathered.places.as_slice()[refused.taken],
             }),
         }
     }
 
     // Takes bytes of the framing from the front of a piece.
-    fn take_framing(&mut self, rest: &[u8]) -> Taken
+    fn take_framing(&mut self, rest: &[u8]) -> Progress
         requires some { 0 < length rest.now }
-        requires none { room_of self.old.chunks ≡ 0 }
-        ensures tells { (ahead : ℕ) (w : List ℕ) (values : List R.Value) → ChunkedStands R.holds R.spells ahead self.old w values
-            → Tells R.holds R.spells R.breaks ahead framing.Chunked (λ body. ChunkedStands R.holds R.spells ahead (record { chunks = self.new.chunks; body = body }))
+        requires none { remaining_of self.old.chunks ≡ 0 }
+        ensures reports { (ahead : ℕ) (w : List ℕ) (values : List R.Value) → ChunkedRepresents R.holds R.spells ahead self.old w values
+            → Reports R.holds R.spells R.breaks ahead framing.Chunked (λ body. ChunkedRepresents R.holds R.spells ahead (record { chunks = self.new.chunks; body = body }))
             self.new.body (limit_of self.new.body.records) w values rest.now result.used result.so_far }
-        ensures before { (ahead : ℕ) (w : List ℕ) (values : List R.Value) → ChunkedStands R.holds R.spells ahead self.old w values
+        ensures before { (ahead : ℕ) (w : List ℕ) (values : List R.Value) → ChunkedRepresents R.holds R.spells ahead self.old w values
             → LiveBefore R.spells (limit_of self.new.body.records) w values rest.now result.used }
         ensures used { (0 < result.used) × (result.used ≤ length rest.now) }
         ensures limit { limit_of self.new.body.records ≡ limit_of self.old.body.records }
     {
         let framed = frame_run(&mut self.chunks, rest);
         if framed > 0 {
-            return Taken::more(framed);
+            return Progress::more(framed);
         }
-        Taken {
+        Progress {
             used: 1,
             so_far: self.frame(rest[0]),
         }
     }
 
     // Takes a byte of the framing.
-    fn frame(&mut self, byte: u8) -> SoFar
-        ensures tells { (ahead : ℕ) (w : List ℕ) (values : List R.Value) → ChunkedStands R.holds R.spells ahead self.old w values → room_of self.old.chunks ≡ 0
-            → Tells R.holds R.spells R.breaks ahead framing.Chunked (λ body. ChunkedStands R.holds R.spells ahead (record { chunks = self.new.chunks; body = body }))
+    fn frame(&mut self, byte: u8) -> DecodeStatus
+        ensures reports { (ahead : ℕ) (w : List ℕ) (values : List R.Value) → ChunkedRepresents R.holds R.spells ahead self.old w values → remaining_of self.old.chunks ≡ 0
+            → Reports R.holds R.spells R.breaks ahead framing.Chunked (λ body. ChunkedRepresents R.holds R.spells ahead (record { chunks = self.new.chunks; body = body }))
             self.new.body (limit_of self.new.body.records) w values (byte ∷ []) 1 result }
         ensures body { self.new.body ≡ self.old.body }
     {
         match self.chunks.step(byte) {
-            ChunkOut::Quiet => SoFar::More,
-            ChunkOut::Byte => SoFar::More,
+            ChunkOut::Quiet => DecodeStatus::More,
+            ChunkOut::Byte => DecodeStatus::More,
             ChunkOut::Closed => {
                 if self.body.between() {
-                    SoFar::StreamEnded
+                    DecodeStatus::StreamEnded
                 } else {
-                    SoFar::Fault(SmallFault::ends_inside_record())
+                    DecodeStatus::Fault(PackedFault::ends_inside_record())
                 }
             }
-            ChunkOut::Fault(fault) => SoFar::Fault(SmallFault::frame(fault)),
+            ChunkOut::Fault(fault) => DecodeStatus::Fault(PackedFault::frame(fault)),
         }
     }
 }
@@ -150,15 +150,15 @@ impl<R: RecordReader> ChunkedBody<R> {
 // What was taken from the front of a piece, of chunks that are short: how many bytes, the data among them, and where in the piece each
 // byte of these stands.
 #[derive(Drop)]
-struct Gathered {
+struct ShortChunks {
     used: usize,
-    bytes: ArrayVec<u8, GATHERED_MOST>,
-    places: ArrayVec<usize, GATHERED_MOST>,
+    bytes: ArrayVec<u8, MAX_GATHERED>,
+    places: ArrayVec<usize, MAX_GATHERED>,
 }
 
 // Takes chunks that are short and plain from the front of a piece, as far as they stand there with fewer than `most` bytes of data.
-fn gather(chunks: &mut ChunkState, piece: &[u8], most: usize) -> Gathered
-    ensures gathers { (w body : List ℕ) → ChunkStands chunks.old w body
+fn gather_short_chunks(chunks: &mut ChunkState, piece: &[u8], most: usize) -> ShortChunks
+    ensures gathers { (w body : List ℕ) → ChunkRepresents chunks.old w body
         → Gathers chunks.new w body piece.now result.used result.bytes.items result.places.items }
     ensures few { 0 < length result.bytes.items → length result.bytes.items < most }
     ensures places { length result.places.items ≡ length result.bytes.items }
@@ -170,10 +170,10 @@ fn gather(chunks: &mut ChunkState, piece: &[u8], most: usize) -> Gathered
     let mut used = 0;
     let mut bytes = ArrayVec::new();
     let mut places = ArrayVec::new();
-    while bytes.len() < GATHERED_MOST {
+    while bytes.len() < MAX_GATHERED {
         used += next.next_chunk(&piece[used..]);
         let room = next.room();
-        if room == 0 || room > SHORT_MOST || used == piece.len() || bytes.len() + 1 >= most {
+        if room == 0 || room > MAX_SHORT_CHUNK || used == piece.len() || bytes.len() + 1 >= most {
             break;
         }
         bytes.push(piece[used]);
@@ -182,7 +182,7 @@ fn gather(chunks: &mut ChunkState, piece: &[u8], most: usize) -> Gathered
         used += 1;
     }
     *chunks = next;
-    Gathered {
+    ShortChunks {
         used,
         bytes,
         places,
@@ -191,7 +191,7 @@ fn gather(chunks: &mut ChunkState, piece: &[u8], most: usize) -> Gathered
 
 // Takes the bytes of the framing at the front of a piece, up to one that ends the stream or stops the reading: how many there are.
 fn frame_run(chunks: &mut ChunkState, rest: &[u8]) -> usize
-    ensures passes { (w body : List ℕ) → ChunkStands chunks.old w body → PassesFraming chunks.new w body rest.now result }
+    ensures passes { (w body : List ℕ) → ChunkRepresents chunks.old w body → PassesFraming chunks.new w body rest.now result }
     ensures none { result ≡ 0 → chunks.new ≡ chunks.old }
     ensures within { result ≤ length rest.now }
 {

@@ -3,17 +3,17 @@
 ghost use Rattle.std.specs.Prelude.{◌≡◌, ◌≢◌, ℕ, ◌+◌, ◌<◌, ◌≤◌, List, [], ◌++◌, length, None, Some, IfSome};
 ghost use Rattle.mes_stream.specs.Chunked.{Live};
 ghost use Rattle.mes_stream.specs.Decoding.{Says, LiveBefore};
-ghost use Rattle.mes_stream.specs.Decoders.{DecoderStands, end_of, answer_of, finish_of, EndsBy, HoldsOf};
+ghost use Rattle.mes_stream.specs.Decoders.{DecoderRepresents, end_of, answer_of, finish_of, EndsBy, HoldsOf};
 ghost use Rattle.mes_stream.specs.Held.{held_by_decoder};
 ghost use Rattle.mes_stream.specs.EventData.{HoldsData};
 ghost use Rattle.mes_msg.specs.Events.{Spells};
 
 use crate::event_reader::EventReader;
 use crate::fault::Fault;
+use crate::progress::{Decoded, Step};
+use crate::record_error::RecordError;
 use crate::record_reader::RecordReader;
-use crate::refusal::RecordRefusal;
 use crate::stream_reader::{Framing, StreamReader};
-use crate::taken::{Out, Step};
 use mes_frame::Limit;
 use std::alloc::Global;
 
@@ -26,24 +26,24 @@ pub(crate) enum StreamEnd {
 
 impl StreamEnd {
     // What is answered from then on.
-    fn answer<V>(&self) -> Out<V>
+    fn answer<V>(&self) -> Decoded<V>
         ensures { result ≡ answer_of self.now }
     {
         match self {
-            StreamEnd::Closed => Out::End,
-            StreamEnd::Failed(fault) => Out::Fault(fault.copy()),
+            StreamEnd::Closed => Decoded::End,
+            StreamEnd::Failed(fault) => Decoded::Fault(fault.copy()),
         }
     }
 
     // The end that an answer brings, if it does.
-    fn brought<V>(out: &Out<V>) -> Option<StreamEnd>
+    fn brought<V>(out: &Decoded<V>) -> Option<StreamEnd>
         ensures { EndsBy result out.now }
     {
         match out {
-            Out::More => None,
-            Out::Event(_) => None,
-            Out::End => Some(StreamEnd::Closed),
-            Out::Fault(fault) => Some(StreamEnd::Failed(fault.copy())),
+            Decoded::More => None,
+            Decoded::Event(_) => None,
+            Decoded::End => Some(StreamEnd::Closed),
+            Decoded::Fault(fault) => Some(StreamEnd::Failed(fault.copy())),
         }
     }
 }
@@ -67,7 +67,7 @@ pub type Decoder = RecordDecoder<EventReader>;
 impl RecordDecoder<EventReader> {
     /// A decoder of events before the first byte. Takes no memory.
     pub fn new(alloc: Global, limit: Limit) -> Decoder
-        ensures stands { DecoderStands HoldsData Spells result limit [] [] }
+        ensures represents { DecoderRepresents HoldsData Spells result limit [] [] }
     {
         RecordDecoder::of(EventReader::new(alloc), limit)
     }
@@ -77,7 +77,7 @@ impl<R: RecordReader> RecordDecoder<R> {
     /// A decoder before the first byte, by what reads its records.
     pub fn of(reader: R, limit: Limit) -> RecordDecoder<R>
         requires { R.holds reader [] }
-        ensures stands { DecoderStands R.holds R.spells result limit [] [] }
+        ensures represents { DecoderRepresents R.holds R.spells result limit [] [] }
     {
         RecordDecoder {
             state: State::Going(StreamReader::new(Framing::Chunked, reader, limit)),
@@ -88,27 +88,27 @@ impl<R: RecordReader> RecordDecoder<R> {
     /// answered again by every later call, which uses no byte.
     pub fn next(&mut self, piece: &[u8]) -> Step<R::Value>
         // What each answer means behind w, which is live with the values.
-        ensures says { (limit : ℕ) (w : List ℕ) (values : List R.Value) → DecoderStands R.holds R.spells self.old limit w values
-            → Says (DecoderStands R.holds R.spells self.new limit) R.spells R.breaks limit w values piece.now result.used result.out }
+        ensures says { (limit : ℕ) (w : List ℕ) (values : List R.Value) → DecoderRepresents R.holds R.spells self.old limit w values
+            → Says (DecoderRepresents R.holds R.spells self.new limit) R.spells R.breaks limit w values piece.now result.used result.out }
 
         // Up to the last byte that was used all is live with the same values.
-        ensures before { (limit : ℕ) (w : List ℕ) (values : List R.Value) → DecoderStands R.holds R.spells self.old limit w values
+        ensures before { (limit : ℕ) (w : List ℕ) (values : List R.Value) → DecoderRepresents R.holds R.spells self.old limit w values
             → LiveBefore R.spells limit w values piece.now result.used }
 
         // More is wanted only behind the whole piece, and what was used then is live.
-        ensures more { result.out ≡ Out.More → result.used ≡ length piece.now }
-        ensures live { (limit : ℕ) (w : List ℕ) (values : List R.Value) → DecoderStands R.holds R.spells self.old limit w values
-            → result.out ≡ Out.More → Live R.spells limit (w ++ piece.now) values }
+        ensures more { result.out ≡ Decoded.More → result.used ≡ length piece.now }
+        ensures live { (limit : ℕ) (w : List ℕ) (values : List R.Value) → DecoderRepresents R.holds R.spells self.old limit w values
+            → result.out ≡ Decoded.More → Live R.spells limit (w ++ piece.now) values }
 
         // Each other answer comes with a byte; an event always does.
-        ensures event { (value : R.Value) → result.out ≡ Out.Event value → 0 < result.used }
-        ensures some { (limit : ℕ) (w : List ℕ) (values : List R.Value) → DecoderStands R.holds R.spells self.old limit w values
-            → result.out ≢ Out.More → 0 < result.used }
+        ensures event { (value : R.Value) → result.out ≡ Decoded.Event value → 0 < result.used }
+        ensures some { (limit : ℕ) (w : List ℕ) (values : List R.Value) → DecoderRepresents R.holds R.spells self.old limit w values
+            → result.out ≢ Decoded.More → 0 < result.used }
         ensures used { result.used ≤ length piece.now }
 
         // A reader whose records are never a bad entry, as that of events, tells none: F16 never comes.
-        ensures entries { (limit : ℕ) (w : List ℕ) (values : List R.Value) → DecoderStands R.holds R.spells self.old limit w values
-            → ((r : List ℕ) → R.breaks r RecordRefusal.BadEntry → ⊥) → (n : ℕ) → result.out ≢ Out.Fault (Fault.BadEntry n) }
+        ensures entries { (limit : ℕ) (w : List ℕ) (values : List R.Value) → DecoderRepresents R.holds R.spells self.old limit w values
+            → ((r : List ℕ) → R.breaks r RecordError.BadEntry → ⊥) → (n : ℕ) → result.out ≢ Decoded.Fault (Fault.BadEntry n) }
 
         // The end or a fault is kept, and answered again.
         ensures ends { EndsBy (end_of self.new) result.out }
@@ -141,7 +141,7 @@ impl<R: RecordReader> RecordDecoder<R> {
     /// How many bytes of the record that has begun are kept, not counting spare room: for events at most those inside its
     /// texts and numbers.
     pub fn held(&self) -> u64
-        ensures held { (limit : ℕ) (w : List ℕ) (values : List R.Value) → DecoderStands R.holds R.spells self.now limit w values
+        ensures held { (limit : ℕ) (w : List ℕ) (values : List R.Value) → DecoderRepresents R.holds R.spells self.now limit w values
             → HoldsOf R.spells R.room limit w values result }
         // It is what the reader of records keeps; after the end or a fault that `next` told nothing is.
         ensures count { result ≡ held_by_decoder R.kept self.now }

@@ -10,8 +10,8 @@ ghost use Rattle.mes_stream.specs.Sending.{IsPlainOf, IsUnsent, fault_at};
 use itoa::Buffer;
 use mes_frame::Limit;
 use mes_json::NoMemory;
-use mes_msg::{EncodeFault, EncodeWhy, Event, SendFault};
-use mes_record::canonical_into;
+use mes_msg::{EncodeFault, EncodeFaultKind, Event, SendFault};
+use mes_msg_record::canonical_into;
 use std::alloc::Global;
 
 /// The records of the events' canonical texts, one behind the other. Errors: the first event that no record of the limit can
@@ -88,11 +88,11 @@ fn refused_at(index: usize, fault: EncodeFault) -> SendFault
     match fault {
         EncodeFault::TooDeep => SendFault::Encode {
             index,
-            why: EncodeWhy::TooDeep,
+            why: EncodeFaultKind::TooDeep,
         },
         EncodeFault::TooLarge => SendFault::Encode {
             index,
-            why: EncodeWhy::TooLarge,
+            why: EncodeFaultKind::TooLarge,
         },
         EncodeFault::NoMemory => SendFault::NoMemory,
     }

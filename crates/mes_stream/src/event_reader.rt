@@ -6,11 +6,11 @@ ghost use Rattle.mes_msg.specs.Events.{Spells};
 ghost use Rattle.mes_stream.specs.Refusals.{IsEventRefusal};
 ghost use Rattle.mes_stream.specs.EventData.{HoldsData, kept_data};
 
+use crate::record_error::RecordError;
 use crate::record_reader::RecordReader;
-use crate::refusal::RecordRefusal;
-use mes_json::{Lexer, NoMemory, NoMemoryAt, TextFault, Why, lexer_bound};
+use mes_json::{Lexer, NoMemory, NoMemoryAt, TextFault, TextFaultKind, lexer_bound};
+use mes_model_schema::{Part, PathBuilder};
 use mes_msg::Event;
-use mes_part::{Part, Trail};
 use std::alloc::Global;
 
 /// Reads the data of records to events: JSON texts that are lexed as their bytes come. The memory of a text serves for the
@@ -51,32 +51,32 @@ impl RecordReader for EventReader {
         self.lexer.push_run(bytes)
     }
 
-    fn finish(&mut self) -> Result<Event, RecordRefusal> {
+    fn finish(&mut self) -> Result<Event, RecordError> {
         let tape = self.lexer.take()?;
-        let event = Event::read_from(self.alloc, &tape.root(), &Trail::new())?;
+        let event = Event::read_from(self.alloc, &tape.root(), &PathBuilder::new())?;
         self.lexer.reuse(tape);
         Ok(event)
     }
 
     #[inline(always)]
-    fn finish_into(&mut self, events: &mut Vec<Event>) -> Result<(), RecordRefusal> {
+    fn finish_into(&mut self, events: &mut Vec<Event>) -> Result<(), RecordError> {
         let tape = self.lexer.take()?;
-        let event = Event::read_from(self.alloc, &tape.root(), &Trail::new())?;
+        let event = Event::read_from(self.alloc, &tape.root(), &PathBuilder::new())?;
         if let Err(_) = add(events, event) {
-            return Err(RecordRefusal::NoMemory);
+            return Err(RecordError::NoMemory);
         }
         self.lexer.reuse(tape);
         Ok(())
     }
 
-    fn refuse_empty(&self) -> RecordRefusal {
-        RecordRefusal::Text(TextFault {
+    fn empty_record_error(&self) -> RecordError {
+        RecordError::Text(TextFault {
             byte: 0,
-            why: Why::End,
+            why: TextFaultKind::End,
         })
     }
 
-    fn let_go(&mut self) {
+    fn release(&mut self) {
         self.lexer = Lexer::new(self.alloc);
         lexer_bound(&self.lexer);
     }

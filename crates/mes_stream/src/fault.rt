@@ -3,11 +3,11 @@
 ghost use Rattle.std.specs.Prelude.{◌≡◌, ◌≤◌, length};
 ghost use Rattle.mes_stream.specs.Lines.{fault_title};
 
-use crate::limits::REST_MOST;
+use crate::limits::MAX_REST;
 use arrayvec::ArrayVec;
 use mes_frame::FrameFault;
-use mes_json::Why;
-use mes_part::{FieldWhy, Path};
+use mes_json::TextFaultKind;
+use mes_model_schema::{FieldFaultKind, Path};
 
 /// Why the reading of a stream stopped before its end.
 #[derive(Debug, Drop)]
@@ -26,7 +26,7 @@ pub enum Fault {
         /// How many bytes of the record stand before the first that no JSON text has there.
         byte: u64,
         /// Why no text goes on there.
-        why: Why,
+        why: TextFaultKind,
     },
     /// F12: the record's JSON text is no event. It comes with the record's last byte.
     Field {
@@ -35,7 +35,7 @@ pub enum Fault {
         /// The place of the first fault in the record's value.
         path: Path,
         /// What is wrong there.
-        why: FieldWhy,
+        why: FieldFaultKind,
     },
     /// F13: memory was refused.
     NoMemory,
@@ -119,7 +119,7 @@ pub struct Report {
     /// The bytes of the stream.
     pub used: u64,
     /// The bytes that were taken after its end.
-    pub rest: ArrayVec<u8, REST_MOST>,
+    pub rest: ArrayVec<u8, MAX_REST>,
 }
 
 /// Where and why the reading of a stream stopped.

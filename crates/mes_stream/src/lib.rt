@@ -4,44 +4,44 @@
 
 mod body;
 mod chunked;
+mod counted_reader;
 mod decoder;
+mod device;
 mod encode;
 mod event_reader;
 mod fault;
-mod laws;
 mod limits;
 mod line;
-mod read;
-mod reading;
-mod reads;
+mod packed_fault;
+mod progress;
+mod record_error;
 mod record_reader;
-mod refusal;
 mod send;
-mod small_fault;
+mod send_fault_line;
+mod stream;
 mod stream_reader;
-mod taken;
-mod unsent;
+mod theorems;
 
 pub use body::Body;
 pub use chunked::ChunkedBody;
+pub use counted_reader::{EndedRecord, Reading, ReadingStop};
 pub use decoder::{Decoder, RecordDecoder};
+pub use device::{Consumer, ReadsEnd, read_device};
 pub use encode::{encode_each, encode_events, event_refs};
 pub use event_reader::EventReader;
 pub use fault::{Fault, Report, Stop};
-pub use laws::{
-    one_answer, one_chunking, one_decoding, one_event_reading, one_plain_outcome,
-    one_plain_reading, one_stream_outcome, one_stream_reading, stream_limits,
-};
-pub use limits::{COUNT_LINE_MOST, FAULT_LINE_MOST, READ_MOST, REST_MOST};
+pub use limits::{MAX_COUNT_LINE, MAX_FAULT_LINE, MAX_READ, MAX_REST};
 pub use line::{count_line, fault_line, push_number, push_word};
-pub use mes_msg::{EncodeWhy, SendFault};
-pub use read::{read_events, read_plain, read_stream};
-pub use reading::{EndedRecord, Reading, ReadingStop};
-pub use reads::{Consumer, ReadsEnd, read_device};
+pub use mes_msg::{EncodeFaultKind, SendFault};
+pub use packed_fault::PackedFault;
+pub use progress::{Decoded, FaultAt, Step};
+pub use record_error::RecordError;
 pub use record_reader::RecordReader;
-pub use refusal::RecordRefusal;
 pub use send::{write_plain, write_stream};
-pub use small_fault::SmallFault;
+pub use send_fault_line::send_line;
+pub use stream::{read_events, read_plain, read_stream};
 pub use stream_reader::{Framing, StreamReader};
-pub use taken::{FaultAt, Out, Step};
-pub use unsent::send_line;
+pub use theorems::{
+    chunking_is_irrelevant, event_reading_is_unique, one_answer, one_decoding, one_plain_outcome,
+    one_stream_outcome, plain_reading_is_unique, stream_limits, stream_reading_is_unique,
+};

@@ -2,19 +2,19 @@
 
 ghost use Rattle.std.specs.Prelude.{◌≡◌, ◌+◌, ◌≤◌, [], ◌∷◌, ◌++◌, length, decimal, codes};
 ghost use Rattle.arrayvec.specs.ArrayString.{array_string_len};
-ghost use Rattle.mes_part.specs.Paths.{path_text};
+ghost use Rattle.mes_model_schema.specs.Paths.{path_text};
 ghost use Rattle.mes_msg.specs.Shown.{spaced};
-ghost use Rattle.mes_stream.specs.Lines.{fault_text, count_text, details, text_why_name};
+ghost use Rattle.mes_stream.specs.Lines.{fault_text, count_text, details, text_fault_kind_name};
 
 use crate::fault::Fault;
-use crate::limits::{COUNT_LINE_MOST, FAULT_LINE_MOST};
+use crate::limits::{MAX_COUNT_LINE, MAX_FAULT_LINE};
 use arrayvec::ArrayString;
 use itoa::Buffer;
-use mes_json::Why;
-use mes_part::{PATH_TEXT_MOST, Path};
+use mes_json::TextFaultKind;
+use mes_model_schema::{MAX_PATH_TEXT, Path};
 
 /// Writes a fault's line in place of the text; `used` counts the bytes used up to the fault.
-pub fn fault_line(fault: &Fault, used: u64, line: &mut ArrayString<FAULT_LINE_MOST>)
+pub fn fault_line(fault: &Fault, used: u64, line: &mut ArrayString<MAX_FAULT_LINE>)
     ensures { line.new.bytes ≡ fault_text fault.now used }
 {
     line.clear();
@@ -26,7 +26,7 @@ pub fn fault_line(fault: &Fault, used: u64, line: &mut ArrayString<FAULT_LINE_MO
 }
 
 /// Writes in place of the text how many events a stream had, and how many bytes.
-pub fn count_line(events: u64, used: u64, line: &mut ArrayString<COUNT_LINE_MOST>)
+pub fn count_line(events: u64, used: u64, line: &mut ArrayString<MAX_COUNT_LINE>)
     ensures { line.new.bytes ≡ count_text events used }
 {
     line.clear();
@@ -37,10 +37,10 @@ pub fn count_line(events: u64, used: u64, line: &mut ArrayString<COUNT_LINE_MOST
 }
 
 /// Appends where a record is at fault and why, if the fault is a record's: at most 41 bytes more than a path has.
-fn push_details(line: &mut ArrayString<FAULT_LINE_MOST>, fault: &Fault)
-    requires { array_string_len line.old + PATH_TEXT_MOST + 41 ≤ FAULT_LINE_MOST }
+fn push_details(line: &mut ArrayString<MAX_FAULT_LINE>, fault: &Fault)
+    requires { array_string_len line.old + MAX_PATH_TEXT + 41 ≤ MAX_FAULT_LINE }
     ensures text { line.new.bytes ≡ line.old.bytes ++ spaced (details fault.now) }
-    ensures bound { array_string_len line.new ≤ array_string_len line.old + PATH_TEXT_MOST + 41 }
+    ensures bound { array_string_len line.new ≤ array_string_len line.old + MAX_PATH_TEXT + 41 }
 {
     match fault {
         Fault::Text {
@@ -52,7 +52,7 @@ fn push_details(line: &mut ArrayString<FAULT_LINE_MOST>, fault: &Fault)
             push_number(line, *at_record);
             push_word(line, "byte");
             push_number(line, *byte);
-            push_word(line, text_why(*why));
+            push_word(line, text_fault_kind(*why));
         }
         Fault::Field {
             at_record,
@@ -73,12 +73,12 @@ fn push_details(line: &mut ArrayString<FAULT_LINE_MOST>, fault: &Fault)
 }
 
 /// Appends a space and the path.
-fn push_path(line: &mut ArrayString<FAULT_LINE_MOST>, path: &Path)
-    requires { array_string_len line.old + PATH_TEXT_MOST + 1 ≤ FAULT_LINE_MOST }
+fn push_path(line: &mut ArrayString<MAX_FAULT_LINE>, path: &Path)
+    requires { array_string_len line.old + MAX_PATH_TEXT + 1 ≤ MAX_FAULT_LINE }
     ensures text { line.new.bytes ≡ line.old.bytes ++ (codes " " ++ path_text path.now) }
-    ensures bound { array_string_len line.new ≤ array_string_len line.old + PATH_TEXT_MOST + 1 }
+    ensures bound { array_string_len line.new ≤ array_string_len line.old + MAX_PATH_TEXT + 1 }
 {
-    let mut text = ArrayString::<PATH_TEXT_MOST>::new();
+    let mut text = ArrayString::<MAX_PATH_TEXT>::new();
     path.text(&mut text);
     push_word(line, text.as_str());
 }
@@ -104,13 +104,13 @@ pub fn push_word<const N: usize>(line: &mut ArrayString<N>, word: &str)
 }
 
 /// Why no JSON text goes on, as it is printed.
-fn text_why(why: Why) -> &'static str
-    ensures text { result.now ≡ text_why_name why }
+fn text_fault_kind(why: TextFaultKind) -> &'static str
+    ensures text { result.now ≡ text_fault_kind_name why }
     ensures bound { length result.now ≤ 5 }
 {
     match why {
-        Why::End => "End",
-        Why::Depth => "Depth",
-        Why::Byte => "Byte",
+        TextFaultKind::End => "End",
+        TextFaultKind::Depth => "Depth",
+        TextFaultKind::Byte => "Byte",
     }
 }

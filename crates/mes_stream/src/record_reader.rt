@@ -2,9 +2,9 @@
 
 ghost use Rattle.std.specs.Prelude.{◌≡◌, ◌≢◌, ℕ, ◌^◌, ◌<◌, ◌≤◌, List, [], ◌++◌, length, take, OnOk, IfOk, IfErr};
 ghost use Rattle.mes_stream.specs.RecordValues.{AddsValue};
-ghost use Rattle.mes_stream.specs.declared.refusal.RecordRefusal.{RecordRefusal as Refusal};
+ghost use Rattle.mes_stream.specs.declared.record_error.RecordError.{RecordError as Refusal};
 
-use crate::refusal::RecordRefusal;
+use crate::record_error::RecordError;
 use mes_json::NoMemoryAt;
 
 /// Reads the data of one record after the other to a value each, while the bytes come.
@@ -33,27 +33,27 @@ pub trait RecordReader: Drop {
         // Memory was refused for the byte behind those that were taken.
         ensures err { IfErr result (λ refused. 0 < length bytes.now → refused.taken < length bytes.now) }
         // The data before that byte are ones that may run out of memory.
-        ensures before { (r : List ℕ) → holds self.old r → IfErr result (λ refused. breaks (r ++ take refused.taken bytes.now) RecordRefusal.NoMemory) };
+        ensures before { (r : List ℕ) → holds self.old r → IfErr result (λ refused. breaks (r ++ take refused.taken bytes.now) RecordError.NoMemory) };
 
     /// Reads the value of the record whose data has ended.
-    fn finish(&mut self) -> Result<Self::Value, RecordRefusal>
+    fn finish(&mut self) -> Result<Self::Value, RecordError>
         ensures ok { (r : List ℕ) → holds self.old r → length r < 2 ^ 64 → IfOk result (spells r) }
         ensures err { (r : List ℕ) → holds self.old r → length r < 2 ^ 64 → IfErr result (breaks r) }
         // Then it is ready for the next record.
         ensures next { OnOk result (holds self.new []) };
 
     /// The same, where the value is added to a list, so that it isn't moved from call to call: it may be large.
-    fn finish_into(&mut self, values: &mut Vec<Self::Value>) -> Result<(), RecordRefusal>
+    fn finish_into(&mut self, values: &mut Vec<Self::Value>) -> Result<(), RecordError>
         ensures adds { (r : List ℕ) → holds self.old r → length r < 2 ^ 64 → AddsValue spells breaks (holds self.new []) r values.old.items values.new.items result }
         ensures next { OnOk result (holds self.new []) };
 
     /// Why a record without data has no value. Takes no memory.
-    fn refuse_empty(&self) -> RecordRefusal
+    fn empty_record_error(&self) -> RecordError
         ensures breaks { breaks [] result }
-        ensures memory { result ≢ RecordRefusal.NoMemory };
+        ensures memory { result ≢ RecordError.NoMemory };
 
     /// Keeps nothing any more. No record is read after that.
-    fn let_go(&mut self)
+    fn release(&mut self)
         ensures { kept self.new ≡ 0 };
 
     /// How many bytes of the data are kept, not counting spare room.

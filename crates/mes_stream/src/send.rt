@@ -4,7 +4,7 @@ ghost use Rattle.std.specs.Prelude.{ℕ, ◌≤◌, List, OnOk, IfErr};
 ghost use Rattle.mes_stream.specs.Sending.{IsPlainOf, IsStreamOf, WroteAll, StopsSending};
 
 use crate::encode::encode_events;
-use mes_frame::{CHUNK_LEAST, CHUNK_MOST, Limit, Sink, write_all, write_chunked};
+use mes_frame::{Limit, MAX_CHUNK, MIN_CHUNK, Sink, write_all, write_chunked};
 use mes_msg::{Event, SendFault};
 use std::alloc::Global;
 
@@ -17,8 +17,8 @@ pub fn write_stream<W: Sink>(
     limit: Limit,
     most: u32,
 ) -> Result<(), SendFault>
-    requires least { CHUNK_LEAST ≤ most }
-    requires greatest { most ≤ CHUNK_MOST }
+    requires least { MIN_CHUNK ≤ most }
+    requires greatest { most ≤ MAX_CHUNK }
     // Ok: each event is good, and all of their stream went out.
     ensures ok { OnOk result ((w : List ℕ) × IsStreamOf limit most events.now w × WroteAll W.written W.counts writer.old writer.new w) }
 

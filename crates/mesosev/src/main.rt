@@ -4,7 +4,7 @@
 mod run;
 
 use mes_frame::FromStd;
-use mes_run::Output;
+use mesosev_stream::Output;
 use run::{end_without_memory, end_without_text, run};
 use std::env;
 use std::fs::File;

@@ -2,31 +2,33 @@
 
 ghost use Rattle.mes_frame.specs.Devices.{device_of};
 ghost use Rattle.std.specs.Prelude.{◌≡◌, codes, ◌⊎◌, false, map};
-ghost use Rattle.mes_run.specs.Outputs.{output_of};
-ghost use Rattle.mes_run.specs.Printing.{LacksMemory, Prints};
-ghost use Rattle.mes_run.specs.Showing.{Follows};
-ghost use Rattle.mes_words.specs.NamedOptions.{SayPlainly, IsInRange};
+ghost use Rattle.mesosev_stream.specs.Outputs.{output_of};
+ghost use Rattle.mesosev_stream.specs.Printing.{LacksMemory, Prints};
+ghost use Rattle.mesosev_stream.specs.Showing.{Follows};
+ghost use Rattle.mesosev_args.specs.NamedOptions.{SayPlainly, IsInRange};
 ghost use Rattle.mesosev.specs.Running.{Ends, LeavesError, Performs, PerformsSaid, Runs};
-ghost use Rattle.mesosev.specs.Telling.{Tells, TellsError, not_text_line};
-ghost use Rattle.mes_words.specs.declared.words.Options.{Options as OptionsValue};
+ghost use Rattle.mesosev.specs.Reporting.{Reports, ReportsError, not_text_line};
+ghost use Rattle.mesosev_args.specs.declared.args.Options.{Options as OptionsValue};
 
 use mes_frame::{Limit, Sink, Source};
-use mes_net::{loopback, serve, subscribe};
-use mes_replay::{relog, replay};
-use mes_run::{
-    Detail, Ended, GOOD, Output, READS_MOST, convert, finish, follow, out_of_memory, print_text,
-};
 use mes_stream::Framing;
-use mes_words::{
-    COUNT_LEAST, COUNT_MOST, LIMIT_DEFAULT, LOOPBACK_DEFAULT, Options, PORT_LEAST, PORT_MOST,
-    READS_DEFAULT, READS_GREATEST, READS_LEAST, STREAM_DEFAULT, WordsFault, options,
+use mesosev_args::{
+    DEFAULT_LIMIT, DEFAULT_LOOPBACK_CHUNK, DEFAULT_STREAM, DEFAULT_SUBSCRIBE_READS,
+    MAX_CONNECTIONS, MAX_PORT, MAX_SUBSCRIBE_READS, MIN_CONNECTIONS, MIN_PORT, MIN_SUBSCRIBE_READS,
+    Options, WordsFault, options,
+};
+use mesosev_log::{relog, replay};
+use mesosev_net::{loopback, serve, subscribe};
+use mesosev_stream::{
+    Detail, MAX_READS, Output, RunOutcome, SUCCESS, convert, finish, follow, out_of_memory,
+    print_text,
 };
 use std::alloc::{AllocGlobal, Global};
 use std::convert::AsStr;
 use std::net::{Net, TcpListener, TcpStream};
 
 /// The status of bad words.
-const BAD_WORDS: u8 = 2;
+const USAGE_ERROR: u8 = 2;
 
 /// What is told where a word is not UTF-8.
 const NOT_TEXT: &str = "error: a word is not UTF-8\n";
@@ -58,25 +60,25 @@ where
         out.new.closed (device_of E.written E.counts err.new) result }
 
     // The defaults and the ranges of the options; the other limits that the clauses name are pinned where they stand.
-    ensures limit { LIMIT_DEFAULT.now ≡ codes "4194304" }
-    ensures port { (PORT_LEAST ≡ 1) × (PORT_MOST ≡ 65535) }
-    ensures count { (COUNT_LEAST ≡ 1) × (COUNT_MOST ≡ 1000) }
-    ensures stream { STREAM_DEFAULT.now ≡ codes "00000000-0000-4000-8000-000000000001" }
-    ensures reads { (READS_LEAST ≡ 0) × (READS_GREATEST ≡ 4294967295) × (READS_DEFAULT.now ≡ codes "1000000") }
-    ensures most { LOOPBACK_DEFAULT.now ≡ codes "4096" }
+    ensures limit { DEFAULT_LIMIT.now ≡ codes "4194304" }
+    ensures port { (MIN_PORT ≡ 1) × (MAX_PORT ≡ 65535) }
+    ensures count { (MIN_CONNECTIONS ≡ 1) × (MAX_CONNECTIONS ≡ 1000) }
+    ensures stream { DEFAULT_STREAM.now ≡ codes "00000000-0000-4000-8000-000000000001" }
+    ensures reads { (MIN_SUBSCRIBE_READS ≡ 0) × (MAX_SUBSCRIBE_READS ≡ 4294967295) × (DEFAULT_SUBSCRIBE_READS.now ≡ codes "1000000") }
+    ensures most { DEFAULT_LOOPBACK_CHUNK.now ≡ codes "4096" }
 {
-    let ended = perform_words(rt, words, input, out, err);
+    let ended = run_args(rt, words, input, out, err);
     finish(ended, out.is_closed(), err)
 }
 
 // Does what the words name, or tells why they name nothing.
-fn perform_words<R, W: AsStr, I: Source, O: Sink, E: Sink>(
+fn run_args<R, W: AsStr, I: Source, O: Sink, E: Sink>(
     rt: &R,
     words: &[W],
     input: &mut I,
     out: &mut O,
     err: &mut E,
-) -> Ended
+) -> RunOutcome
 where
     R: AllocGlobal + Net<Listener = TcpListener, Stream = TcpStream>,
     ensures runs { Runs (map W.text words.now)
@@ -107,7 +109,7 @@ fn perform<R, I: Source, O: Sink, E: Sink>(
     input: &mut I,
     out: &mut O,
     err: &mut E,
-) -> Ended
+) -> RunOutcome
 where
     R: AllocGlobal + Net<Listener = TcpListener, Stream = TcpStream>,
     ensures { Performs options.now
@@ -128,9 +130,9 @@ where
             framing,
             limit,
             most,
-        } => Ended::Status(convert(alloc, *framing, *limit, *most, input, out, err)),
+        } => RunOutcome::Status(convert(alloc, *framing, *limit, *most, input, out, err)),
         Options::Replay { limit } => replay(alloc, *limit, input, out),
-        Options::Relog { limit } => Ended::Status(relog(alloc, *limit, input, out, err)),
+        Options::Relog { limit } => RunOutcome::Status(relog(alloc, *limit, input, out, err)),
         Options::Serve {
             port,
             count,
@@ -154,11 +156,11 @@ fn follow_all<I: Source, O: Sink>(
     limit: Limit,
     input: &mut I,
     out: &mut O,
-) -> Ended
-    ensures { Follows detail framing limit READS_MOST (device_of I.left I.counts input.old) (device_of I.left I.counts input.new)
+) -> RunOutcome
+    ensures { Follows detail framing limit MAX_READS (device_of I.left I.counts input.old) (device_of I.left I.counts input.new)
         (device_of O.written O.counts out.old) (device_of O.written O.counts out.new) result }
 {
-    follow(alloc, detail, framing, limit, READS_MOST, input, out)
+    follow(alloc, detail, framing, limit, MAX_READS, input, out)
 }
 
 /// Tells that memory was refused before any word was read, and answers the exit status.
@@ -172,24 +174,24 @@ pub(crate) fn end_without_memory<O: Sink, E: Sink>(out: &mut Output<O>, err: &mu
 
 /// Tells on standard error that a word is no text, before any word is read, and answers the exit status.
 pub(crate) fn end_without_text<E: Sink>(err: &mut E) -> u8
-    ensures { Ends (λ told ended. Prints (device_of E.written E.counts err.old) told not_text_line 2 ended)
+    ensures { Ends (λ reported ended. Prints (device_of E.written E.counts err.old) reported not_text_line 2 ended)
         false (device_of E.written E.counts err.new) result }
 {
-    let ended = print_text(err, NOT_TEXT, BAD_WORDS);
+    let ended = print_text(err, NOT_TEXT, USAGE_ERROR);
     finish(ended, false, err)
 }
 
 /// Tells why the words name no options.
-fn tell<O: Sink, E: Sink>(alloc: Global, fault: &WordsFault, out: &mut O, err: &mut E) -> Ended
-    ensures { Tells fault.now
+fn tell<O: Sink, E: Sink>(alloc: Global, fault: &WordsFault, out: &mut O, err: &mut E) -> RunOutcome
+    ensures { Reports fault.now
         (device_of O.written O.counts out.old) (device_of O.written O.counts out.new)
         (device_of E.written E.counts err.old) (device_of E.written E.counts err.new)
         result }
 {
     match fault {
-        WordsFault::Clap(error) => tell_error(alloc, error, out, err),
+        WordsFault::Clap(error) => report_error(alloc, error, out, err),
         WordsFault::BadValue(name) => match format!(in alloc; "bad value --{name}\n") {
-            Ok(text) => print_text(err, text.as_str(), BAD_WORDS),
+            Ok(text) => print_text(err, text.as_str(), USAGE_ERROR),
             Err(_) => out_of_memory(out),
         },
         WordsFault::NoMemory => out_of_memory(out),
@@ -197,13 +199,13 @@ fn tell<O: Sink, E: Sink>(alloc: Global, fault: &WordsFault, out: &mut O, err: &
 }
 
 /// Tells an error of clap: help on standard output, a mistake on standard error.
-fn tell_error<O: Sink, E: Sink>(
+fn report_error<O: Sink, E: Sink>(
     alloc: Global,
     error: &clap::Error,
     out: &mut O,
     err: &mut E,
-) -> Ended
-    ensures { TellsError error.now
+) -> RunOutcome
+    ensures { ReportsError error.now
         (device_of O.written O.counts out.old) (device_of O.written O.counts out.new)
         (device_of E.written E.counts err.old) (device_of E.written E.counts err.new)
         result
@@ -214,8 +216,8 @@ fn tell_error<O: Sink, E: Sink>(
         return out_of_memory(out);
     };
     if error.use_stderr() {
-        print_text(err, text.as_str(), BAD_WORDS)
+        print_text(err, text.as_str(), USAGE_ERROR)
     } else {
-        print_text(out, text.as_str(), GOOD)
+        print_text(out, text.as_str(), SUCCESS)
     }
 }

@@ -1,11 +1,11 @@
 //! How a world makes a move.
 ghost use Rattle.std.specs.Prelude.{◌≡◌, ◌++◌, [], ◌∷◌, slice_get, option_copied, None, Some, IsOk, IsSome, IfSome, IfNone, IfOk, OnOk, OnErr, IsErr, true};
 ghost use Rattle.mes_msg.specs.declared.entry.Entry.TheVariants.{Heard};
-ghost use Rattle.mes_hand.specs.Refusals.{Answers};
+ghost use Rattle.mes_session_state.specs.Refusals.{Answers};
 ghost use Rattle.mes_session.specs.History.{after, NeedsMemory};
-ghost use Rattle.mes_master.specs.Masters.{handled};
-ghost use Rattle.mes_master.specs.declared.refusal.MasterRefusal.TheVariants.{NoMemory as no_memory};
-ghost use Rattle.mes_master.specs.Sending.{offers_sent, rescind_sent, update_sent, resend_sent};
+ghost use Rattle.mes_double_master.specs.Masters.{handled};
+ghost use Rattle.mes_double_master.specs.declared.refusal.MasterRefusal.TheVariants.{NoMemory as no_memory};
+ghost use Rattle.mes_double_master.specs.Sending.{offers_sent, rescind_sent, update_sent, resend_sent};
 ghost use Rattle.mes_double.specs.declared.moves.Move.TheVariants as moves;
 ghost use Rattle.mes_double.specs.Worlds.{HasRoom, skip, sending, hearing, is_done, taking, world_info, reopening, resubscribing, subscribe_answer, Happens};
 ghost use Rattle.mes_double.specs.Memory.{HearingWants, WishingWants, ArrivingWants, MayWant};
@@ -14,9 +14,9 @@ use super::World;
 use crate::moves::Move;
 use crate::sent::Sent;
 use http::StatusCode;
-use mes_http::StreamId;
+use mes_double_http::StreamId;
+use mes_double_master::{Answer, Master, MasterRefusal};
 use mes_json::{NoMemory, Text};
-use mes_master::{Answer, Master, MasterRefusal};
 use mes_model::{FrameworkInfo, List, Offer, Part, TaskStatus};
 use mes_msg::{Call, Event};
 use std::alloc::Global;

@@ -5,37 +5,37 @@ use Rattle.mes_json.specs.declared.value.Json.{Json}
 use Rattle.mes_json.proofs.ViewLemmas.{is_object}
 use Rattle.mes_json.proofs.SameLemmas.{denied, holds, fails, as_many_items, same_item, one_more_item, as_many_members, same_name, same_value, one_more_member, same_object, names_differ, names_same}
 use Rattle.mes_json.proofs.+same.Goals as goal
-use Rattle.mes_json.proofs.+same.Goals.{same::same_members-then-ne-via-then-ne, same::same_members-then-ne-via-else-ne+then-not-same}
+use Rattle.mes_json.proofs.+same.Goals.{equality::same_members-then-ne-via-then-ne, equality::same_members-then-ne-via-else-ne+then-not-same}
 
-pub same::same_items-returns-then-items-others : goal.same::same_items-returns-then-items-others
-same::same_items-returns-then-items-others t c = denied (λ e. c.if-items-others.true (as_many_items _ _ e))
+pub equality::same_items-returns-then-items-others : goal.equality::same_items-returns-then-items-others
+equality::same_items-returns-then-items-others t c = denied (λ e. c.if-items-others.true (as_many_items _ _ e))
 
-pub same::same_items-returns-then-not-same : goal.same::same_items-returns-then-not-same
-same::same_items-returns-then-not-same t c =
+pub equality::same_items-returns-then-not-same : goal.equality::same_items-returns-then-not-same
+equality::same_items-returns-then-not-same t c =
     let others : c.loop-at.at < length c.args.others.now = omega (arith, c.loop-at-test.true, c.if-items-others.false) in
     denied (λ e. fails c.same.result c.same.ensures c.if-not-same.true
     (same_item c.args.items.now c.args.others.now c.loop-at.at c.index-items-at.result c.index-others-at.result c.loop-at-test.true others c.index-items-at.is c.index-others-at.is e))
 
-pub same::same_items-loop-at-preserved : goal.same::same_items-loop-at-preserved
-same::same_items-loop-at-preserved t c =
+pub equality::same_items-loop-at-preserved : goal.equality::same_items-loop-at-preserved
+equality::same_items-loop-at-preserved t c =
     one_more_item c.args.items.now c.args.others.now c.loop-at.at c.index-items-at.result c.index-others-at.result c.loop-at-test.true
     (omega (arith, c.loop-at-test.true, c.if-items-others.false)) c.index-items-at.is c.index-others-at.is c.loop-at.invariant (holds c.same.result c.same.ensures c.if-not-same.false)
 
-pub same::same_members-returns-then-members-others : goal.same::same_members-returns-then-members-others
-same::same_members-returns-then-members-others t c = denied (λ e. c.if-members-others.true (as_many_members _ _ e))
+pub equality::same_members-returns-then-members-others : goal.equality::same_members-returns-then-members-others
+equality::same_members-returns-then-members-others t c = denied (λ e. c.if-members-others.true (as_many_members _ _ e))
 
-pub same::same_members-returns-then-ne : goal.same::same_members-returns-then-ne
-same::same_members-returns-then-ne t c =
+pub equality::same_members-returns-then-ne : goal.equality::same_members-returns-then-ne
+equality::same_members-returns-then-ne t c =
     let others : c.loop-at.at < length c.args.others.now = omega (arith, c.loop-at-test.true, c.if-members-others.false) in
     elim c.then-ne.branch [
-      | same::same_members-then-ne-via-then-ne w ↦ denied (λ e. names_differ c.ne.result _ _ c.ne.ensures w.if-ne.true
+      | equality::same_members-then-ne-via-then-ne w ↦ denied (λ e. names_differ c.ne.result _ _ c.ne.ensures w.if-ne.true
           (same_name c.args.members.now c.args.others.now c.loop-at.at c.index-members-at.result c.index-others-at.result c.loop-at-test.true others e))
-      | same::same_members-then-ne-via-else-ne+then-not-same w ↦ denied (λ e. fails w.same.result w.same.ensures w.if-not-same.true
+      | equality::same_members-then-ne-via-else-ne+then-not-same w ↦ denied (λ e. fails w.same.result w.same.ensures w.if-not-same.true
           (same_value c.args.members.now c.args.others.now c.loop-at.at w.index-members-at-else-ne.result w.index-others-at-else-ne.result c.loop-at-test.true others e))
     ]
 
-pub same::same_members-loop-at-preserved : goal.same::same_members-loop-at-preserved
-same::same_members-loop-at-preserved t c =
+pub equality::same_members-loop-at-preserved : goal.equality::same_members-loop-at-preserved
+equality::same_members-loop-at-preserved t c =
     one_more_member c.args.members.now c.args.others.now c.loop-at.at c.index-members-at.result c.index-others-at.result c.index-members-at-else-ne.result c.index-others-at-else-ne.result
     c.loop-at-test.true (omega (arith, c.loop-at-test.true, c.if-members-others.false)) c.loop-at.invariant
     (names_same c.ne.result _ _ c.ne.ensures c.if-ne.false) (holds c.same.result c.same.ensures c.if-not-same.false)

@@ -4,9 +4,9 @@ ghost use Rattle.mes_json.specs.Tree.{Tree};
 ghost use Rattle.mes_json.specs.Tokens.{BeginsWith};
 ghost use Rattle.mes_json.specs.View.{view};
 
-use crate::build;
 use crate::cursor::Element;
 use crate::memory::NoMemory;
+use crate::tree_builder;
 use crate::value::Json;
 use std::alloc::Global;
 
@@ -15,7 +15,7 @@ impl Element<'_> {
     pub fn to_json(&self, alloc: Global) -> Result<Json, NoMemory>
         ensures { (t : Tree) → BeginsWith self.now t → IfOk result (λ json. view json ≡ t) }
     {
-        match build::to_json(alloc, self.texts, self.nodes)? {
+        match tree_builder::to_json(alloc, self.texts, self.nodes)? {
             Some(json) => Ok(json),
             None => Ok(Json::Null),
         }

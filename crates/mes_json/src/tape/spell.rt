@@ -3,7 +3,7 @@ ghost use Rattle.std.specs.Prelude.{◌≡◌, ℕ, List, [], ◌∷◌, ◌++�
 ghost use Rattle.mes_json.specs.Tokens.{tokens, tokens_of_items, tokens_of_members};
 ghost use Rattle.mes_json.specs.Tape.{span, IsSpan, HasSpan};
 ghost use Rattle.mes_json.specs.Cursor.{token_of};
-ghost use Rattle.mes_json.specs.Lengths.{untold};
+ghost use Rattle.mes_json.specs.Lengths.{unreported};
 ghost use Rattle.mes_json.specs.Spell.{HasNoText, text_token, IsTextOf};
 ghost use Rattle.mes_json.specs.View.{view, items_view, members_view};
 
@@ -30,7 +30,7 @@ enum Form {
 impl Form {
     /// The node of the text of a span.
     fn node(self, from: u32, to: u32) -> Node
-        ensures untold { untold result ≡ result }
+        ensures unreported { unreported result ≡ result }
         ensures token { (texts : List ℕ) → token_of texts result ≡ text_token self (span texts from to) }
         ensures span { (texts : List ℕ) → IsSpan texts from to → IsTextOf self (span texts from to) → HasSpan texts result }
     {
@@ -134,7 +134,7 @@ impl Spelling {
     /// One more node, which has no text.
     fn put(&mut self, node: Node) -> Result<(), NoMemory>
         requires text { HasNoText node }
-        requires untold { untold node ≡ node }
+        requires unreported { unreported node ≡ node }
         ensures { OnOk result (self.new ≡ self.old ++ token_of [] node ∷ []) }
     {
         self.nodes.put(node)?;

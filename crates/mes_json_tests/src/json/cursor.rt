@@ -4,7 +4,7 @@ use std::process::Abort;
 use std::test::Fail;
 
 /// What a value shows: its kind in a word, and the text of a truth, a number or a text.
-type Shown = (&'static str, &'static str);
+type PrintProgress = (&'static str, &'static str);
 
 /// The word of a kind.
 fn word_of(kind: ValueKind) -> &'static str {
@@ -45,13 +45,13 @@ fn given<'a>(element: &Element<'a>) -> &'a str {
 }
 
 /// Whether the value shows just that.
-fn shows(element: &Element<'_>, shown: &Shown) -> bool {
+fn shows(element: &Element<'_>, shown: &PrintProgress) -> bool {
     let (word, text) = *shown;
     word_of(element.kind()) == word && calls(element) == call_of(word) && given(element) == text
 }
 
 /// These items are left, and no more.
-fn expect_items<R: Abort>(rt: &R, mut items: Items<'_>, expected: &[Shown]) {
+fn expect_items<R: Abort>(rt: &R, mut items: Items<'_>, expected: &[PrintProgress]) {
     for shown in expected {
         let item = items.next().expect(rt, "an item");
         assert!(rt; shows(&item, shown), "{shown:?}");
@@ -61,7 +61,7 @@ fn expect_items<R: Abort>(rt: &R, mut items: Items<'_>, expected: &[Shown]) {
 }
 
 /// These members are left, and no more.
-fn expect_members<R: Abort>(rt: &R, mut members: Members<'_>, expected: &[(&str, Shown)]) {
+fn expect_members<R: Abort>(rt: &R, mut members: Members<'_>, expected: &[(&str, PrintProgress)]) {
     for (name, shown) in expected {
         let (found, value) = members.next().expect(rt, "a member");
         assert_eq!(rt; found, *name);
@@ -71,27 +71,27 @@ fn expect_members<R: Abort>(rt: &R, mut members: Members<'_>, expected: &[(&str,
     assert!(rt; members.next().is_none());
 }
 
-const NULL: Shown = ("null", "");
+const NULL: PrintProgress = ("null", "");
 
-const FALSE: Shown = ("truth", "false");
+const FALSE: PrintProgress = ("truth", "false");
 
-const TRUE: Shown = ("truth", "true");
+const TRUE: PrintProgress = ("truth", "true");
 
-const ARRAY: Shown = ("list", "");
+const ARRAY: PrintProgress = ("list", "");
 
-const OBJECT: Shown = ("map", "");
+const OBJECT: PrintProgress = ("map", "");
 
-const ONE: Shown = ("number", "1");
+const ONE: PrintProgress = ("number", "1");
 
-const TWO: Shown = ("number", "2");
+const TWO: PrintProgress = ("number", "2");
 
-const NUMBER: Shown = ("number", "-1.50E+2");
+const NUMBER: PrintProgress = ("number", "-1.50E+2");
 
-const DIGIT: Shown = ("text", "1");
+const DIGIT: PrintProgress = ("text", "1");
 
-const WORD: Shown = ("text", "a\u{e9}\"");
+const WORD: PrintProgress = ("text", "a\u{e9}\"");
 
-const EMPTY: Shown = ("text", "");
+const EMPTY: PrintProgress = ("text", "");
 
 #[test]
 fn shows_each_kind(rt: HostRuntime) -> Result<(), Fail> {

@@ -1,7 +1,7 @@
 //! Bytes that are no JSON text, with the place and the reason: each state of the reader at a byte that it has no place for, and
 //! at the end.
 
-use mes_json::{NESTING_LIMIT, ReadFault, TextFault, Why, read_text};
+use mes_json::{MAX_NESTING, ReadFault, TextFault, TextFaultKind, read_text};
 use std::process::Abort;
 use std::test::Fail;
 
@@ -10,7 +10,7 @@ fn expect_bytes<R: Abort + AllocGlobal>(rt: &R, faults: &[(&[u8], u64)]) {
     for (bytes, byte) in faults {
         let fault = TextFault {
             byte: *byte,
-            why: Why::Byte,
+            why: TextFaultKind::Byte,
         };
         assert_eq!(rt;
             read_text(rt.alloc(), bytes).err(),
@@ -25,7 +25,7 @@ fn expect_ends<R: Abort + AllocGlobal>(rt: &R, texts: &[&[u8]]) {
     for bytes in texts {
         let fault = TextFault {
             byte: bytes.len() as u64,
-            why: Why::End,
+            why: TextFaultKind::End,
         };
         assert_eq!(rt;
             read_text(rt.alloc(), bytes).err(),
@@ -311,28 +311,28 @@ fn nested<R: Abort + AllocGlobal>(
     Ok(text)
 }
 
-const DEPTH_IN_ARRAYS: [(&[u8], Why); 5] = [
-    (b"[", Why::Depth),
-    (b"{", Why::Depth),
-    (b"}", Why::Byte),
-    (b"x", Why::Byte),
-    (b"", Why::End),
+const DEPTH_IN_ARRAYS: [(&[u8], TextFaultKind); 5] = [
+    (b"[", TextFaultKind::Depth),
+    (b"{", TextFaultKind::Depth),
+    (b"}", TextFaultKind::Byte),
+    (b"x", TextFaultKind::Byte),
+    (b"", TextFaultKind::End),
 ];
 
-const DEPTH_IN_OBJECTS: [(&[u8], Why); 5] = [
-    (b"[", Why::Depth),
-    (b"{", Why::Depth),
-    (b"]", Why::Byte),
-    (b"}", Why::Byte),
-    (b"", Why::End),
+const DEPTH_IN_OBJECTS: [(&[u8], TextFaultKind); 5] = [
+    (b"[", TextFaultKind::Depth),
+    (b"{", TextFaultKind::Depth),
+    (b"]", TextFaultKind::Byte),
+    (b"}", TextFaultKind::Byte),
+    (b"", TextFaultKind::End),
 ];
 
 #[test]
 fn depth(rt: HostRuntime) -> Result<(), Fail> {
     for &(bytes, why) in &DEPTH_IN_ARRAYS {
-        let text = nested(&rt, b"[", NESTING_LIMIT, bytes)?;
+        let text = nested(&rt, b"[", MAX_NESTING, bytes)?;
         let fault = TextFault {
-            byte: NESTING_LIMIT as u64,
+            byte: MAX_NESTING as u64,
             why,
         };
         assert_eq!(rt;
@@ -343,9 +343,9 @@ fn depth(rt: HostRuntime) -> Result<(), Fail> {
     }
     for &(bytes, why) in &DEPTH_IN_OBJECTS {
         // Each front has 5 bytes.
-        let text = nested(&rt, b"{\"a\":", NESTING_LIMIT, bytes)?;
+        let text = nested(&rt, b"{\"a\":", MAX_NESTING, bytes)?;
         let fault = TextFault {
-            byte: 5 * NESTING_LIMIT as u64,
+            byte: 5 * MAX_NESTING as u64,
             why,
         };
         assert_eq!(rt;

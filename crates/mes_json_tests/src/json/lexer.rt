@@ -1,6 +1,6 @@
 //! Texts that come in pieces are read as whole ones are: each front of each, by the byte and in every cut into two runs.
 
-use mes_json::{Json, Lexer, NESTING_LIMIT, ReadFault, TextFault, Why, read_text};
+use mes_json::{Json, Lexer, MAX_NESTING, ReadFault, TextFault, TextFaultKind, read_text};
 use std::alloc::Global;
 use std::process::Abort;
 use std::test::Fail;
@@ -109,7 +109,7 @@ fn reads_pieces_as_the_whole(rt: HostRuntime) {
 
 #[test]
 fn reads_deep_pieces_as_the_whole(rt: HostRuntime) -> Result<(), Fail> {
-    for depth in NESTING_LIMIT..NESTING_LIMIT + 2 {
+    for depth in MAX_NESTING..MAX_NESTING + 2 {
         let mut text = Vec::new(rt.alloc());
         for _ in 0..depth {
             text.push(b'[')?;
@@ -193,7 +193,7 @@ fn read_behind_a_fault(alloc: Global) -> Result<Json, ReadFault> {
 fn swallows_what_follows_a_fault(rt: HostRuntime) {
     let fault = TextFault {
         byte: 2,
-        why: Why::Byte,
+        why: TextFaultKind::Byte,
     };
     assert_eq!(rt;
         read_behind_a_fault(rt.alloc()).err(),

@@ -1,7 +1,7 @@
 //! Strings about as long as the blocks that are looked at together, with each kind of end, and white space between tokens.
 
 use super::values::is_same;
-use mes_json::{Json, ReadFault, Text, TextFault, Why, read_text};
+use mes_json::{Json, ReadFault, Text, TextFault, TextFaultKind, read_text};
 use std::alloc::Global;
 use std::process::Abort;
 use std::test::Fail;
@@ -52,8 +52,8 @@ pub(super) fn are_spelled(
 fn reads_strings_of_each_length(rt: HostRuntime) -> Result<(), Fail> {
     for length in 0..101 {
         let plain = &PLAIN[..length];
-        for behind in [b"", &[b' '; 64] as &[u8]] {
-            let parts = [b"\"", plain, b"\"", behind];
+        for following in [b"", &[b' '; 64] as &[u8]] {
+            let parts = [b"\"", plain, b"\"", following];
             assert!(rt; are_spelled(rt.alloc(), &parts, &[plain])?, "{length}");
         }
     }
@@ -131,11 +131,11 @@ fn reads_members_of_each_length(rt: HostRuntime) -> Result<(), Fail> {
     for length in 0..36 {
         let plain = &PLAIN[..length];
         for &colon in &COLONS {
-            for &behind in &BEHIND {
-                let parts = [b"{\"", plain, b"\"", colon, b"\"", plain, b"\"", behind];
+            for &following in &BEHIND {
+                let parts = [b"{\"", plain, b"\"", colon, b"\"", plain, b"\"", following];
                 assert!(rt;
                     begins_with(rt.alloc(), &parts, &[plain], &[plain])?,
-                    "{length} {colon:?} {behind:?}"
+                    "{length} {colon:?} {following:?}"
                 );
             }
         }
@@ -162,7 +162,7 @@ fn reads_each_end_of_a_run_in_a_member(rt: HostRuntime) -> Result<(), Fail> {
 fn is_refused(alloc: Global, bytes: &[u8], byte: u64) -> bool {
     let fault = TextFault {
         byte,
-        why: Why::Byte,
+        why: TextFaultKind::Byte,
     };
     read_text(alloc, bytes).err() == Some(ReadFault::Text(fault))
 }

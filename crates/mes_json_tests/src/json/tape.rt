@@ -1,7 +1,7 @@
 //! Tapes: a value in place, the tree of it, and memory used again.
 
 use super::values::written;
-use mes_json::{Lexer, ReadFault, Tape, TextFault, Why, read_tape, read_text};
+use mes_json::{Lexer, ReadFault, Tape, TextFault, TextFaultKind, read_tape, read_text};
 use std::alloc::Global;
 use std::test::Fail;
 
@@ -28,14 +28,14 @@ const WRITTEN: [(&[u8], &[u8]); 12] = [
 ];
 
 /// The place and the reason of the fault of bytes that are no text.
-const FAULTY: [(&[u8], u64, Why); 7] = [
-    (b"", 0, Why::End),
-    (b"[1", 2, Why::End),
-    (b"-", 1, Why::End),
-    (b"{\"a\":1", 6, Why::End),
-    (b"\"a", 2, Why::End),
-    (b"[1,]", 3, Why::Byte),
-    (b"1 2", 2, Why::Byte),
+const FAULTY: [(&[u8], u64, TextFaultKind); 7] = [
+    (b"", 0, TextFaultKind::End),
+    (b"[1", 2, TextFaultKind::End),
+    (b"-", 1, TextFaultKind::End),
+    (b"{\"a\":1", 6, TextFaultKind::End),
+    (b"\"a", 2, TextFaultKind::End),
+    (b"[1,]", 3, TextFaultKind::Byte),
+    (b"1 2", 2, TextFaultKind::Byte),
 ];
 
 /// Whether the value of the tape is written so.

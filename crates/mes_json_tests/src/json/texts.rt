@@ -2,7 +2,7 @@
 
 use super::runs::are_spelled;
 use super::values::written;
-use mes_json::{Json, NESTING_LIMIT, Text, read_text};
+use mes_json::{Json, MAX_NESTING, Text, read_text};
 use std::alloc::Global;
 use std::process::Abort;
 use std::test::Fail;
@@ -89,8 +89,8 @@ fn is_at(alloc: Global, text: &[u8], places: &str, kind: &str, what: &str) -> bo
 /// Each row has places that lead to such a value in what the text spells.
 fn expect_values<R: Abort + AllocGlobal>(rt: &R, text: &[u8], rows: &str) -> Result<(), Fail> {
     for row in rows.lines() {
-        let (places, told) = row.split_once(" => ").ok_or("places and a value")?;
-        let (kind, what) = told.split_once(' ').unwrap_or((told, ""));
+        let (places, reported) = row.split_once(" => ").ok_or("places and a value")?;
+        let (kind, what) = reported.split_once(' ').unwrap_or((reported, ""));
         assert!(rt; is_at(rt.alloc(), text, places, kind, what), "{row}");
     }
     Ok(())
@@ -245,8 +245,8 @@ fn reads_long_texts(rt: HostRuntime) -> Result<(), Fail> {
 const DEEP: [(&[u8], &[u8], &[u8]); 2] = [(b"[", b"[", b"]"), (b"{\"a\":", b"{", b"}")];
 
 fn deep(alloc: Global, front: &[u8], inner: &[u8], end: &[u8]) -> Result<Vec<u8>, Fail> {
-    let fronts = times(alloc, NESTING_LIMIT - 1, front)?;
-    let ends = times(alloc, NESTING_LIMIT, end)?;
+    let fronts = times(alloc, MAX_NESTING - 1, front)?;
+    let ends = times(alloc, MAX_NESTING, end)?;
     Ok([&fronts, inner, &ends].concat(alloc)?)
 }
 
@@ -254,7 +254,7 @@ fn deep(alloc: Global, front: &[u8], inner: &[u8], end: &[u8]) -> Result<Vec<u8>
 fn is_deepest(alloc: Global, text: &[u8]) -> Result<bool, Fail> {
     let json = read_text(alloc, text)?;
     let out = written(alloc, &json)?;
-    Ok(out.as_slice() == text && json.depth() == NESTING_LIMIT as u64)
+    Ok(out.as_slice() == text && json.depth() == MAX_NESTING as u64)
 }
 
 #[test]

@@ -1,6 +1,6 @@
 //! Values copied, measured, compared and written: texts by the grammar of RFC 8259.
 
-use mes_json::{Json, NESTING_LIMIT, NumText, Text, read_text, text_length, write_str, write_text};
+use mes_json::{Json, MAX_NESTING, NumText, Text, read_text, text_length, write_str, write_text};
 use std::alloc::Global;
 use std::test::Fail;
 
@@ -163,7 +163,7 @@ fn tells_values_apart(rt: HostRuntime) -> Result<(), Fail> {
 }
 
 /// Writes a value and texts behind what is there.
-fn write_behind(json: &Json, out: &mut Vec<u8>) -> Result<(), Fail> {
+fn write_after(json: &Json, out: &mut Vec<u8>) -> Result<(), Fail> {
     write_text(json, out)?;
     write_text(&Json::Null, out)?;
     write_str("a\n\"", out)?;
@@ -173,7 +173,7 @@ fn write_behind(json: &Json, out: &mut Vec<u8>) -> Result<(), Fail> {
 /// Writes the value that the bytes spell, and texts, behind what is there.
 fn write_read(alloc: Global, bytes: &[u8], out: &mut Vec<u8>) -> Result<(), Fail> {
     let json = read_text(alloc, bytes)?;
-    let answer = write_behind(&json, out);
+    let answer = write_after(&json, out);
     drop(json);
     answer
 }
@@ -279,9 +279,9 @@ pub(super) fn is_same(alloc: Global, one: &[u8], other: &[u8]) -> Result<bool, F
 
 #[test]
 fn copies_compares_and_writes_what_is_deep(rt: HostRuntime) -> Result<(), Fail> {
-    let bytes = nested(rt.alloc(), NESTING_LIMIT)?;
-    assert!(rt; has_copy(rt.alloc(), &bytes, NESTING_LIMIT as u64)?);
-    let other = nested(rt.alloc(), NESTING_LIMIT - 1)?;
+    let bytes = nested(rt.alloc(), MAX_NESTING)?;
+    assert!(rt; has_copy(rt.alloc(), &bytes, MAX_NESTING as u64)?);
+    let other = nested(rt.alloc(), MAX_NESTING - 1)?;
     assert!(rt; !is_same(rt.alloc(), &bytes, &other)?);
     Ok(())
 }

@@ -55,8 +55,8 @@ const ENDS: [(&[u8], &str); 22] = [
 #[test]
 fn bodies_end_and_break_at_their_byte(rt: HostRuntime) -> Result<(), AllocError> {
     for &(body, end) in &ENDS {
-        let told = told_end(rt.alloc(), first_end(body))?;
-        assert_eq!(rt; told.as_str(), end, "{body:?}");
+        let reported = told_end(rt.alloc(), first_end(body))?;
+        assert_eq!(rt; reported.as_str(), end, "{body:?}");
     }
     Ok(())
 }
@@ -112,8 +112,8 @@ fn end_and_room(alloc: Global, parts: &[&[u8]]) -> Result<(String, u64), AllocEr
 #[test]
 fn lines_and_trailers_have_a_limit(rt: HostRuntime) -> Result<(), AllocError> {
     for &(parts, end, room) in &LONG {
-        let (told, left) = end_and_room(rt.alloc(), parts)?;
-        assert_eq!(rt; (told.as_str(), left), (end, room));
+        let (reported, left) = end_and_room(rt.alloc(), parts)?;
+        assert_eq!(rt; (reported.as_str(), left), (end, room));
     }
     Ok(())
 }

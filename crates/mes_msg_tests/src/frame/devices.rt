@@ -4,9 +4,9 @@ use std::io;
 use std::io::{ErrorKind, Read, Write};
 
 /// How many bytes a device moves at most by a call.
-const MOST: usize = 100;
+const LARGEST: usize = 100;
 
-/// Gives at most `MOST` bytes a call, and is interrupted at one of its calls.
+/// Gives at most `LARGEST` bytes a call, and is interrupted at one of its calls.
 #[derive(Drop)]
 struct Reader {
     calls: u64,
@@ -19,13 +19,13 @@ impl Read for Reader {
         if self.calls == self.interrupted {
             return Err(io::Error::from(ErrorKind::Interrupted));
         }
-        let count = buffer.len().min(MOST);
+        let count = buffer.len().min(LARGEST);
         buffer[..count].fill(7);
         Ok(count)
     }
 }
 
-/// Takes at most `MOST` bytes a call, and is interrupted at one of its calls.
+/// Takes at most `LARGEST` bytes a call, and is interrupted at one of its calls.
 #[derive(Drop)]
 struct Writer {
     calls: u64,
@@ -38,7 +38,7 @@ impl Write for Writer {
         if self.calls == self.interrupted {
             return Err(io::Error::from(ErrorKind::Interrupted));
         }
-        Ok(bytes.len().min(MOST))
+        Ok(bytes.len().min(LARGEST))
     }
 
     fn flush(&mut self) -> io::Result<()> {
@@ -47,7 +47,7 @@ impl Write for Writer {
 }
 
 /// What a device answered: how many bytes, or that it was interrupted.
-fn told(answer: io::Result<usize>) -> Option<usize> {
+fn reported(answer: io::Result<usize>) -> Option<usize> {
     match answer {
         Ok(count) => Some(count),
         Err(error) => {
@@ -78,10 +78,10 @@ fn a_fetch_is_one_read(rt: HostRuntime) {
     let mut small = [0; 512];
     let mut one = [0; 1];
     let fetched = [
-        told(source.fetch(&mut large)),
-        told(source.fetch(&mut small)),
-        told(source.fetch(&mut large)),
-        told(source.fetch(&mut one)),
+        reported(source.fetch(&mut large)),
+        reported(source.fetch(&mut small)),
+        reported(source.fetch(&mut large)),
+        reported(source.fetch(&mut one)),
     ];
     let counts = source.counts();
     assert_eq!(rt; fetched, [Some(100), Some(100), None, Some(1)]);
@@ -97,10 +97,10 @@ fn a_put_is_one_write(rt: HostRuntime) {
     };
     let mut sink = FromStd::new(&mut writer);
     let put = [
-        told(sink.put(&[7; 4096])),
-        told(sink.put(&[7; 512])),
-        told(sink.put(&[7; 4096])),
-        told(sink.put(&[7; 1])),
+        reported(sink.put(&[7; 4096])),
+        reported(sink.put(&[7; 512])),
+        reported(sink.put(&[7; 4096])),
+        reported(sink.put(&[7; 1])),
     ];
     let counts = sink.counts();
     assert_eq!(rt; put, [Some(100), Some(100), None, Some(1)]);
@@ -121,10 +121,16 @@ fn a_device_lasts(rt: HostRuntime) {
     let mut sink = FromStd::new(&mut writer);
     let mut buffer = [0; 1];
     for _ in 0..1_000_000 {
-        let moved = [told(source.fetch(&mut buffer)), told(sink.put(&buffer))];
+        let moved = [
+            reported(source.fetch(&mut buffer)),
+            reported(sink.put(&buffer)),
+        ];
         assert_eq!(rt; moved, [Some(1), Some(1)]);
     }
-    let moved = [told(source.fetch(&mut buffer)), told(sink.put(&buffer))];
+    let moved = [
+        reported(source.fetch(&mut buffer)),
+        reported(sink.put(&buffer)),
+    ];
     assert_eq!(rt; moved, [None, None]);
     let counts = Counts {
         calls: 1_000_001,

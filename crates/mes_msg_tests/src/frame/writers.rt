@@ -7,7 +7,7 @@ use std::process::Abort;
 
 const HEARTBEAT: &[u8] = b"20\n{\"type\":\"HEARTBEAT\"}";
 
-fn stopped(sent: u64, why: WriteWhy) -> Result<(), WriteFault> {
+fn stopped(sent: u64, why: WriteFaultKind) -> Result<(), WriteFault> {
     Err(WriteFault { sent, why })
 }
 
@@ -31,7 +31,13 @@ fn records_are_written(rt: HostRuntime) {
     let empty = MemorySink::new(rt.alloc(), 5);
     expect_record(&rt, empty, b"", Ok(()), b"0\n");
     let failing = MemorySink::stopping_after(rt.alloc(), 5, 2, MemoryStop::Fails);
-    expect_record(&rt, failing, text, stopped(2, WriteWhy::Device), b"20");
+    expect_record(
+        &rt,
+        failing,
+        text,
+        stopped(2, WriteFaultKind::Device),
+        b"20",
+    );
 }
 
 /// The body in chunks of this size is answered so, and these bytes go out.
@@ -43,8 +49,8 @@ fn expect_body<R: Abort>(
     answer: Result<(), WriteFault>,
     bytes: &[u8],
 )
-    requires least { CHUNK_LEAST ≤ size }
-    requires greatest { size ≤ CHUNK_MOST }
+    requires least { MIN_CHUNK ≤ size }
+    requires greatest { size ≤ MAX_CHUNK }
 {
     assert_eq!(rt; write_chunked(&mut sink, body, size), answer);
     assert_eq!(rt; sink.bytes(), bytes);
@@ -73,10 +79,10 @@ fn bodies_are_written_in_chunks(rt: HostRuntime) {
 #[test]
 fn chunks_stop_where_the_writer_does(rt: HostRuntime) {
     let failing = MemorySink::stopping_after(rt.alloc(), 64, 7, MemoryStop::Fails);
-    let answer = stopped(7, WriteWhy::Device);
+    let answer = stopped(7, WriteFaultKind::Device);
     expect_body(&rt, failing, HEARTBEAT, 4096, answer, b"17\r\n20\n");
     let idle = MemorySink::stopping_after(rt.alloc(), 64, 0, MemoryStop::TakesNone);
-    let answer = stopped(0, WriteWhy::Zero);
+    let answer = stopped(0, WriteFaultKind::Zero);
     expect_body(&rt, idle, HEARTBEAT, 4096, answer, b"");
 }
 
@@ -87,7 +93,7 @@ fn each_front_of_a_body_is_exact(rt: HostRuntime) {
     for good in 0..143 {
         let mut sink = MemorySink::stopping_after(rt.alloc(), 2, good, MemoryStop::Fails);
         let sent = write_chunked(&mut sink, HEARTBEAT, 1);
-        let answer = stopped(good as u64, WriteWhy::Device);
+        let answer = stopped(good as u64, WriteFaultKind::Device);
         assert_eq!(rt;
             (sent, Some(sink.bytes())),
             (answer, whole.bytes().get(..good))
@@ -108,7 +114,7 @@ fn small_chunks_are_gathered(rt: HostRuntime) {
     assert_eq!(rt;
         (sent, Some(failing.bytes())),
         (
-            stopped(10_000, WriteWhy::Device),
+            stopped(10_000, WriteFaultKind::Device),
             sink.bytes().get(..10_000)
         )
     );

@@ -4,10 +4,10 @@ mod faults;
 
 use super::{Record, canon, expect_record, expect_records, nested};
 use crate::support::text_fault_of;
-use mes_json::{NESTING_LIMIT, Text, Why, read_tape};
+use mes_json::{MAX_NESTING, Text, TextFaultKind, read_tape};
 use mes_model::{Id, TaskInfo};
+use mes_model_schema::{List, Part, PathBuilder};
 use mes_msg::{Accept, Call, EncodeFault, Limit, Operation};
-use mes_part::{List, Part, Trail};
 use std::alloc::Global;
 use std::test::Fail;
 
@@ -67,7 +67,7 @@ fn calls_are_written(rt: HostRuntime) -> Result<(), Fail> {
 #[test]
 fn other_bytes_are_no_text(rt: HostRuntime) {
     let answer = Call::read_record(rt.alloc(), br#"{"type":"REVIVE",}"#);
-    assert_eq!(rt; text_fault_of(answer), Some((17, Why::Byte)));
+    assert_eq!(rt; text_fault_of(answer), Some((17, TextFaultKind::Byte)));
 }
 
 /// The text of the smallest call.
@@ -88,7 +88,7 @@ fn calls_have_their_bytes_counted(rt: HostRuntime) -> Result<(), Fail> {
 /// The task of a text that is one.
 fn task_of(alloc: Global, text: &[u8]) -> Result<TaskInfo, Fail> {
     let tape = read_tape(alloc, text)?;
-    match TaskInfo::read_from(alloc, &tape.root(), &Trail::new()) {
+    match TaskInfo::read_from(alloc, &tape.root(), &PathBuilder::new()) {
         Ok(task) => Ok(task),
         Err(_) => Err("a task")?,
     }
@@ -141,14 +141,14 @@ fn deep_call(alloc: Global, objects: usize) -> Result<Call, Fail> {
 
 /// Whether the canonical text of the record is one of its type again.
 fn is_read_again<T: Record>(alloc: Global, record: T) -> Result<bool, Fail> {
-    let text = canon(&record, alloc, Limit::MOST)?;
+    let text = canon(&record, alloc, Limit::LARGEST)?;
     Ok(T::of_text(alloc, text.as_slice()).is_ok())
 }
 
 /// Whether the record nests deeper than a text may.
 fn is_too_deep<T: Record>(alloc: Global, record: T) -> bool {
     matches!(
-        record.canonical(alloc, Limit::MOST),
+        record.canonical(alloc, Limit::LARGEST),
         Err(EncodeFault::TooDeep)
     )
 }
@@ -157,13 +157,13 @@ fn is_too_deep<T: Record>(alloc: Global, record: T) -> bool {
 #[test]
 fn calls_nest_to_the_limit(rt: HostRuntime) -> Result<(), Fail> {
     let alloc = rt.alloc();
-    assert!(rt; is_read_again(alloc, deep_call(alloc, NESTING_LIMIT - 7)?)?);
+    assert!(rt; is_read_again(alloc, deep_call(alloc, MAX_NESTING - 7)?)?);
     Ok(())
 }
 
 #[test]
 fn deep_calls_are_refused(rt: HostRuntime) -> Result<(), Fail> {
     let alloc = rt.alloc();
-    assert!(rt; is_too_deep(alloc, deep_call(alloc, NESTING_LIMIT - 6)?));
+    assert!(rt; is_too_deep(alloc, deep_call(alloc, MAX_NESTING - 6)?));
     Ok(())
 }

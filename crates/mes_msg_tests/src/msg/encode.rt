@@ -1,13 +1,13 @@
 //! Events that have no canonical text, and the names of other events.
 
 use super::{nested, refused, rewritten};
-use mes_json::{NESTING_LIMIT, Text};
+use mes_json::{MAX_NESTING, Text};
 use mes_msg::{EncodeFault, Event, Limit, OtherName};
 use std::alloc::Global;
 use std::test::Fail;
 
 /// The most objects inside each other that a `disk` of an OFFERS may be, as it is written: six objects and arrays stand around it.
-const MOST_OBJECTS: usize = NESTING_LIMIT - 6;
+const MOST_OBJECTS: usize = MAX_NESTING - 6;
 
 /// An OFFERS in the form of the bare array, with one offer whose resource has a `disk` of so many objects inside each other.
 fn deep_offers(alloc: Global, objects: usize) -> Result<Vec<u8>, Fail> {
@@ -28,7 +28,7 @@ fn refused_deep(alloc: Global, objects: usize, limit: Limit) -> Result<Option<En
 #[test]
 fn deep_events_are_refused(rt: HostRuntime) -> Result<(), Fail> {
     let smallest = Limit::new(1).ok_or("a limit")?;
-    for limit in [Limit::MOST, smallest] {
+    for limit in [Limit::LARGEST, smallest] {
         let why = refused_deep(rt.alloc(), MOST_OBJECTS + 1, limit)?;
         assert!(rt; matches!(why, Some(EncodeFault::TooDeep)));
     }

@@ -2,9 +2,9 @@
 
 use super::expect_faults;
 use crate::support::{field_fault_of, text_fault_of};
-use mes_json::{NESTING_LIMIT, Why};
+use mes_json::{MAX_NESTING, TextFaultKind};
+use mes_model_schema::FieldFaultKind;
 use mes_msg::Event;
-use mes_part::FieldWhy;
 use std::test::Fail;
 
 /// Faults of the member `type`, and of what is no object.
@@ -180,12 +180,12 @@ fn first_faults_are_told(rt: HostRuntime) -> Result<(), Fail> {
 }
 
 /// Bytes that are no JSON text, the place and the reason.
-const NO_TEXTS: [(&str, u64, Why); 5] = [
-    ("", 0, Why::End),
-    (r#"{"type":"HEARTBEAT""#, 19, Why::End),
-    (r#"{"type":"HEARTBEAT"}}"#, 20, Why::Byte),
-    (r#"{"type":"HEARTBEAT",}"#, 20, Why::Byte),
-    (r#"{"type":"UPDATE" "update":{}}"#, 17, Why::Byte),
+const NO_TEXTS: [(&str, u64, TextFaultKind); 5] = [
+    ("", 0, TextFaultKind::End),
+    (r#"{"type":"HEARTBEAT""#, 19, TextFaultKind::End),
+    (r#"{"type":"HEARTBEAT"}}"#, 20, TextFaultKind::Byte),
+    (r#"{"type":"HEARTBEAT",}"#, 20, TextFaultKind::Byte),
+    (r#"{"type":"UPDATE" "update":{}}"#, 17, TextFaultKind::Byte),
 ];
 
 #[test]
@@ -200,11 +200,11 @@ fn other_bytes_are_no_text(rt: HostRuntime) {
 #[test]
 fn arrays_are_no_event(rt: HostRuntime) -> Result<(), Fail> {
     let mut text = Vec::new(rt.alloc());
-    text.extend_from_slice(&[b'['; NESTING_LIMIT])?;
-    text.extend_from_slice(&[b']'; NESTING_LIMIT])?;
+    text.extend_from_slice(&[b'['; MAX_NESTING])?;
+    text.extend_from_slice(&[b']'; MAX_NESTING])?;
     let fault = field_fault_of(Event::read_record(rt.alloc(), text.as_slice()));
     match fault {
-        Some(fault) => assert_eq!(rt; fault.why, FieldWhy::WrongKind),
+        Some(fault) => assert_eq!(rt; fault.why, FieldFaultKind::WrongKind),
         None => Err("a fault")?,
     }
     Ok(())
@@ -213,9 +213,9 @@ fn arrays_are_no_event(rt: HostRuntime) -> Result<(), Fail> {
 // Deeper ones are none.
 #[test]
 fn deeper_arrays_are_no_text(rt: HostRuntime) {
-    let answer = Event::read_record(rt.alloc(), &[b'['; NESTING_LIMIT + 1]);
+    let answer = Event::read_record(rt.alloc(), &[b'['; MAX_NESTING + 1]);
     assert_eq!(rt;
         text_fault_of(answer),
-        Some((NESTING_LIMIT as u64, Why::Depth))
+        Some((MAX_NESTING as u64, TextFaultKind::Depth))
     );
 }

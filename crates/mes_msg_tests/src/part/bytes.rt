@@ -4,7 +4,7 @@ ghost use Rattle.std.specs.Prelude.{◌<◌, ◌≤◌};
 
 use crate::support::{again, expect_fault, expect_faults, expect_text, part_fault_of, value_of};
 use mes_json::read_tape;
-use mes_part::{Bytes, Part, PartFault, Trail};
+use mes_model_schema::{Bytes, Part, PartFault, PathBuilder};
 use std::alloc::Global;
 use std::process::Abort;
 use std::test::Fail;
@@ -70,7 +70,7 @@ fn read_letters(
     text.extend_from_slice(last)?;
     text.push(b'"')?;
     let tape = read_tape(alloc, text.as_slice())?;
-    Ok(Bytes::read_from(alloc, &tape.root(), &Trail::new()))
+    Ok(Bytes::read_from(alloc, &tape.root(), &PathBuilder::new()))
 }
 
 /// The bytes of an answer that has some.

@@ -1,7 +1,7 @@
 //! Paths as they are printed.
 
 use arrayvec::ArrayString;
-use mes_part::{Path, Step};
+use mes_model_schema::{Path, Step};
 use std::process::Abort;
 
 fn expect_text(rt: &impl Abort, path: &Path, expected: &str) {

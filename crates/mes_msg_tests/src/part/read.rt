@@ -6,9 +6,9 @@ use crate::support::{
     again, expect_fault, expect_faults, expect_text, part_fault_of, row_of, value_of,
 };
 use mes_json::{Json, read_tape, read_text};
-use mes_part::{
-    FieldFault, Label, Labels, List, Part, PartFault, Path, STEPS_MOST, Trail, find_rows, left_out,
-    list_tree, nothing_found, read_either_list, read_list,
+use mes_model_schema::{
+    FieldFault, Label, Labels, List, MAX_PATH_STEPS, Part, PartFault, Path, PathBuilder, find_rows,
+    left_out, list_tree, nothing_found, read_either_list, read_list,
 };
 use std::alloc::Global;
 use std::process::Abort;
@@ -68,8 +68,8 @@ const NOT_THERE: [&str; 3] = ["{}", "{\"x\":null}", "{\"y\":{},\"y\":{}}"];
 fn fault_of_left_out(alloc: Global, text: &str) -> Result<Option<FieldFault>, Fail> {
     let tape = read_tape(alloc, text.as_bytes())?;
     let mut found = nothing_found::<1>();
-    match find_rows(alloc, &tape.root(), &["x"], &Trail::new(), &mut found) {
-        Ok(()) => Ok(part_fault_of(left_out(alloc, &found[0], "x", &Trail::new()))),
+    match find_rows(alloc, &tape.root(), &["x"], &PathBuilder::new(), &mut found) {
+        Ok(()) => Ok(part_fault_of(left_out(alloc, &found[0], "x", &PathBuilder::new()))),
         Err(_) => Err("an object")?,
     }
 }
@@ -81,7 +81,7 @@ fn faults_are_told(rt: HostRuntime) -> Result<(), Fail> {
 
 /// The tree of the value of a text, which was written and read again.
 fn tree_again<T: Part>(alloc: Global, text: &str) -> Result<Json, Fail>
-    requires { T.STEPS ≤ STEPS_MOST }
+    requires { T.STEPS ≤ MAX_PATH_STEPS }
 {
     let value: T = value_of(alloc, text)?;
     Ok(again(alloc, &value)?.tree(alloc)?)
@@ -103,10 +103,10 @@ fn labels_are_read(rt: HostRuntime) -> Result<(), Fail> {
 
 /// The list of the values of a text, in either form, under `labels` in the one that has a name.
 fn read_either<T: Part>(alloc: Global, text: &str) -> Result<Result<List<T>, PartFault>, Fail>
-    requires { 2 + T.STEPS ≤ STEPS_MOST }
+    requires { 2 + T.STEPS ≤ MAX_PATH_STEPS }
 {
     let tape = read_tape(alloc, text.as_bytes())?;
-    Ok(read_either_list(alloc, &tape.root(), "labels", &Trail::new()))
+    Ok(read_either_list(alloc, &tape.root(), "labels", &PathBuilder::new()))
 }
 
 /// The list of an answer that is one.
@@ -135,8 +135,8 @@ fn lists_are_read_in_either_form(rt: HostRuntime) -> Result<(), Fail> {
     }
     for line in EITHER_FAULTS.lines() {
         let (text, fault) = row_of(line)?;
-        let told = part_fault_of(read_either::<Label>(rt.alloc(), text)?);
-        expect_fault(&rt, text, told, fault)?;
+        let reported = part_fault_of(read_either::<Label>(rt.alloc(), text)?);
+        expect_fault(&rt, text, reported, fault)?;
     }
     Ok(())
 }
@@ -155,7 +155,7 @@ null => . WrongKind
 
 /// The list of the values that the tree of a text is.
 fn read_array<T: Part>(alloc: Global, text: &str) -> Result<Result<List<T>, PartFault>, Fail>
-    requires { 1 + T.STEPS ≤ STEPS_MOST }
+    requires { 1 + T.STEPS ≤ MAX_PATH_STEPS }
 {
     let tree = read_text(alloc, text.as_bytes())?;
     Ok(read_list(alloc, &tree, &Path::new()))
@@ -182,8 +182,8 @@ fn lists_are_read_from_trees(rt: HostRuntime) -> Result<(), Fail> {
     }
     for line in NO_ARRAYS.lines() {
         let (text, fault) = row_of(line)?;
-        let told = part_fault_of(read_array::<Label>(rt.alloc(), text)?);
-        expect_fault(&rt, text, told, fault)?;
+        let reported = part_fault_of(read_array::<Label>(rt.alloc(), text)?);
+        expect_fault(&rt, text, reported, fault)?;
     }
     Ok(())
 }

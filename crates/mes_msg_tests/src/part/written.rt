@@ -3,7 +3,7 @@
 use crate::support::expect_text;
 use mes_fixed::{Micros, Thousandths};
 use mes_json::{Json, Text};
-use mes_part::{Kept, Label, Labels, List, Part, put_flag, whole_object};
+use mes_model_schema::{Kept, Label, Labels, List, Part, push_flag_tree, whole_object};
 use std::alloc::Global;
 use std::process::Abort;
 use std::test::Fail;
@@ -150,7 +150,7 @@ fn labels_are_written(rt: HostRuntime) -> Result<(), Fail> {
 fn flags_are_written(rt: HostRuntime) -> Result<(), Fail> {
     let alloc = rt.alloc();
     let mut members = Vec::new(alloc);
-    put_flag(&mut members, alloc, "shared", false)?;
-    put_flag(&mut members, alloc, "revocable", true)?;
+    push_flag_tree(&mut members, alloc, "shared", false)?;
+    push_flag_tree(&mut members, alloc, "revocable", true)?;
     expect_text(&rt, alloc, &whole_object(members), "{\"revocable\":{}}")
 }

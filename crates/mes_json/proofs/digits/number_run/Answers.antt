@@ -8,7 +8,7 @@ loop-place-preserved c =
     part_more AtStart c.loop-place.part c.in-Some.next c.args.bytes.now c.loop-place.place c.loop-place-test.true c.loop-place.invariant
     (sym c.next_state.ensures.next ∙ c.in-Some.is)
 
-pub loop-place-preserved-then-keeps_on : goal.loop-place-preserved-then-keeps_on
-loop-place-preserved-then-keeps_on c =
+pub loop-place-preserved-then-continues_number : goal.loop-place-preserved-then-continues_number
+loop-place-preserved-then-continues_number c =
     part_more AtStart c.loop-place.part c.loop-place.part c.args.bytes.now c.loop-place.place c.loop-place-test.true c.loop-place.invariant
-    (leads c.loop-place.part _ (c.if-keeps_on.ensures.0 refl) (c.if-is_digit.ensures.0 refl))
+    (leads c.loop-place.part _ (c.if-continues_number.ensures.0 refl) (c.if-is_digit.ensures.0 refl))

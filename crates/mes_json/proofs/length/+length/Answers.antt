@@ -2,8 +2,8 @@ use Rattle.std.proofs.Common.{◌+◌, ◌-◌, length, take, drop, arith}
 use Rattle.mes_json.proofs.LengthLemmas.{items_grow, items_front, items_split, members_grow, members_front, members_split}
 use Rattle.mes_json.proofs.length.+length.Goals as goal
 
-pub room_behind_items-returns-in_err-checked_sub-clause-none : goal.room_behind_items-returns-in_err-checked_sub-clause-none
-room_behind_items-returns-in_err-checked_sub-clause-none t c =
+pub capacity_after_items-returns-in_err-checked_sub-clause-none : goal.capacity_after_items-returns-in_err-checked_sub-clause-none
+capacity_after_items-returns-in_err-checked_sub-clause-none t c =
     let rest = take (length c.args.items.now - 1) (drop 1 c.args.items.now) in
     let at = c.loop-item.item-index in
     rw c.from_residual-in_err-checked_sub.ensures (omega (
@@ -16,8 +16,8 @@ room_behind_items-returns-in_err-checked_sub-clause-none t c =
       c.in_err-checked_sub.ensures,
     ))
 
-pub room_behind_items-returns-in_err-free-2-clause-none : goal.room_behind_items-returns-in_err-free-2-clause-none
-room_behind_items-returns-in_err-free-2-clause-none t c =
+pub capacity_after_items-returns-in_err-free-2-clause-none : goal.capacity_after_items-returns-in_err-free-2-clause-none
+capacity_after_items-returns-in_err-free-2-clause-none t c =
     let rest = take (length c.args.items.now - 1) (drop 1 c.args.items.now) in
     let at = c.loop-item.item-index in
     rw c.from_residual-in_err-free-2.ensures (omega (
@@ -31,8 +31,8 @@ room_behind_items-returns-in_err-free-2-clause-none t c =
       c.in_err-free-2.ensures.none,
     ))
 
-pub room_behind_items-loop-item-preserved : goal.room_behind_items-loop-item-preserved
-room_behind_items-loop-item-preserved t c =
+pub capacity_after_items-loop-item-preserved : goal.capacity_after_items-loop-item-preserved
+capacity_after_items-loop-item-preserved t c =
     let rest = take (length c.args.items.now - 1) (drop 1 c.args.items.now) in
     omega (
       arith,
@@ -42,8 +42,8 @@ room_behind_items-loop-item-preserved t c =
       c.in_ok-free-2.ensures.some,
     )
 
-pub room_behind_members-returns-in_err-checked_sub-clause-none : goal.room_behind_members-returns-in_err-checked_sub-clause-none
-room_behind_members-returns-in_err-checked_sub-clause-none t c =
+pub capacity_after_members-returns-in_err-checked_sub-clause-none : goal.capacity_after_members-returns-in_err-checked_sub-clause-none
+capacity_after_members-returns-in_err-checked_sub-clause-none t c =
     let rest = take (length c.args.members.now - 1) (drop 1 c.args.members.now) in
     let at = c.loop-name.name-index in
     rw c.from_residual-in_err-checked_sub.ensures (omega (
@@ -56,8 +56,8 @@ room_behind_members-returns-in_err-checked_sub-clause-none t c =
       c.in_err-checked_sub.ensures,
     ))
 
-pub room_behind_members-returns-in_err-free-2-clause-none : goal.room_behind_members-returns-in_err-free-2-clause-none
-room_behind_members-returns-in_err-free-2-clause-none t c =
+pub capacity_after_members-returns-in_err-free-2-clause-none : goal.capacity_after_members-returns-in_err-free-2-clause-none
+capacity_after_members-returns-in_err-free-2-clause-none t c =
     let rest = take (length c.args.members.now - 1) (drop 1 c.args.members.now) in
     let at = c.loop-name.name-index in
     rw c.from_residual-in_err-free-2.ensures (omega (
@@ -71,8 +71,8 @@ room_behind_members-returns-in_err-free-2-clause-none t c =
       c.in_err-free-2.ensures.none,
     ))
 
-pub room_behind_members-loop-name-preserved : goal.room_behind_members-loop-name-preserved
-room_behind_members-loop-name-preserved t c =
+pub capacity_after_members-loop-name-preserved : goal.capacity_after_members-loop-name-preserved
+capacity_after_members-loop-name-preserved t c =
     let rest = take (length c.args.members.now - 1) (drop 1 c.args.members.now) in
     omega (
       arith,

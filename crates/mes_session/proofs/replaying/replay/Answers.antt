@@ -8,7 +8,7 @@ returns-in-Err-clause-err c =
 
 pub loop-index-preserved : goal.loop-index-preserved
 loop-index-preserved c =
-    so_far-push c.args.entries.now c.loop-index.session c.enter.new.self c.index-entries-index.result c.loop-index.index
+    so_far-push c.args.entries.now c.loop-index.session c.apply_entry.new.self c.index-entries-index.result c.loop-index.index
     (get-is c.args.entries.now c.loop-index.index c.index-entries-index.result c.loop-index-test.true c.index-entries-index.is) c.loop-index.invariant c.in_default.ensures.passes c.in_default.ensures.next
 
 pub returns-clause-legal : goal.returns-clause-legal

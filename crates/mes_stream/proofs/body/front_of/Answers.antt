@@ -10,6 +10,6 @@ returns-in-Quiet-clause-fronts c = λ x r s.
     let stepped = (c.in-Quiet.ensures.steps x r s).0 in
     size_line c.size_run.new.records x r c.args.run.now c.size_run.result c.requires
     (rw (c.size_run.ensures.limit ∙ c.step.ensures.limit) (begun_of c.args.records.now x r s)) (
-      rw rest at (c.size_run.ensures.stands (x ++ get_or c.args.run.now 0 0 ∷ []) r stepped),
+      rw rest at (c.size_run.ensures.represents (x ++ get_or c.args.run.now 0 0 ∷ []) r stepped),
       λ n within. rw rest at (c.size_run.ensures.begun (x ++ get_or c.args.run.now 0 0 ∷ []) r stepped n within),
     )

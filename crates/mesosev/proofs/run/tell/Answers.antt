@@ -1,6 +1,6 @@
 use Rattle.std.proofs.Common.{◌≡◌, inl, refl, ◌∙◌}
 use Rattle.mes_frame.specs.Devices.{Device}
-use Rattle.mesosev.specs.Telling.{bad_value_line}
+use Rattle.mesosev.specs.Reporting.{bad_value_line}
 use Rattle.mesosev.proofs.CommandLemmas.{prints_line}
 use Rattle.mesosev.proofs.run.tell.Goals as goal
 

@@ -1,5 +1,5 @@
 use Rattle.std.proofs.Common.{None, ap, ◌∙◌}
-use Rattle.mes_master.specs.Masters.{handled}
+use Rattle.mes_double_master.specs.Masters.{handled}
 use Rattle.mes_double.specs.Worlds.{WorldState, resubscribing}
 use Rattle.mes_double.proofs.MakeLemmas.{reopened}
 use Rattle.mes_double.proofs.world.World.open_stream.Goals as goal

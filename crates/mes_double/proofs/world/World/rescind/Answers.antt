@@ -1,5 +1,5 @@
 use Rattle.std.proofs.Common.{ℕ, ◌≡◌, ◌<◌, OnOk, OnErr, IsOk, ap, sym, subst}
-use Rattle.mes_master.specs.Sending.{rescind_sent}
+use Rattle.mes_double_master.specs.Sending.{rescind_sent}
 use Rattle.mes_double.specs.Worlds.{WorldState, sending}
 use Rattle.mes_double.proofs.MakeLemmas.{sent-ok, sent-err}
 use Rattle.mes_double.proofs.WantLemmas.{sent-wants, refused-wants}

@@ -1,5 +1,5 @@
 use Rattle.std.proofs.Common.{OnErr, IsOk, sym, subst}
-use Rattle.mes_master.specs.Sending.{resend_sent}
+use Rattle.mes_double_master.specs.Sending.{resend_sent}
 use Rattle.mes_double.specs.Worlds.{WorldState}
 use Rattle.mes_double.proofs.MakeLemmas.{resent-ok, resent-err}
 use Rattle.mes_double.proofs.WantLemmas.{sent-wants, refused-wants}

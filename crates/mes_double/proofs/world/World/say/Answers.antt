@@ -1,5 +1,5 @@
 use Rattle.std.proofs.Common.{ℕ, ◌<◌, OnOk, OnErr, None, ap, sym, subst, ◌∙◌}
-use Rattle.mes_hand.specs.Refusals.{Answers}
+use Rattle.mes_session_state.specs.Refusals.{Answers}
 use Rattle.mes_double.specs.Worlds.{WorldState, Wishes}
 use Rattle.mes_double.proofs.MakeLemmas.{said-ok, said-err}
 use Rattle.mes_double.proofs.WantLemmas.{anyway}

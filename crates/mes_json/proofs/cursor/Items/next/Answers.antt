@@ -11,9 +11,9 @@ returns-then-is_end-clause-item c ts begins =
 pub returns-clause-item : goal.returns-clause-item
 returns-clause-item c ts begins =
     next_item c.self.inside.next c.replace.result c.replace.new.dest ts (sym c.is_end.ensures ∙ c.if-is_end.false) c.replace.ensures.value
-    (c.replace.ensures.after ∙ c.behind-behind.ensures) (subst (λ (xs : List Token). BeginsItems xs ts) (sym c.self.view_is) begins)
+    (c.replace.ensures.after ∙ c.following-following.ensures) (subst (λ (xs : List Token). BeginsItems xs ts) (sym c.self.view_is) begins)
 
 pub returns-clause-shorter : goal.returns-clause-shorter
 returns-clause-shorter c =
     subst (λ (xs : List Token). length c.replace.new.dest < length xs) c.self.view_is
-    (shorter_item c.self.inside.next c.replace.new.dest (sym c.is_end.ensures ∙ c.if-is_end.false) (c.replace.ensures.after ∙ c.behind-behind.ensures))
+    (shorter_item c.self.inside.next c.replace.new.dest (sym c.is_end.ensures ∙ c.if-is_end.false) (c.replace.ensures.after ∙ c.following-following.ensures))

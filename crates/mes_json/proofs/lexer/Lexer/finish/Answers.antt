@@ -15,7 +15,7 @@ pub returns-clause-only : goal.returns-clause-only
 returns-clause-only c p h t text =
     tree_only c.in_ok-tape.tape c.root.result c.in_ok-to_json.field-0 t (c.in_ok-tape.ensures.only p h t text) c.root.ensures c.in_ok-to_json.ensures
 
-pub returns-in_err-to_json-clause-told : goal.returns-in_err-to_json-clause-told
-returns-in_err-to_json-clause-told c p h no_text memory =
+pub returns-in_err-to_json-clause-reported : goal.returns-in_err-to_json-clause-reported
+returns-in_err-to_json-clause-reported c p h no_text memory =
     let text = c.in_ok-tape.ensures.read p h in
     absurd (no_text (text_begins p text.0 text.1))

@@ -28,6 +28,6 @@ returns-in-Faulty-clause-only c p h t text = absurd (faulty_only c.in-Faulty.fau
 pub returns-in-Faulty-clause-fault : goal.returns-in-Faulty-clause-fault
 returns-in-Faulty-clause-fault c p h = counted_fault c.in-Faulty.fault p (faulty_at _ _ _ p c.in-Faulty.is h)
 
-pub returns-in_err-tape-in-Reading-clause-told : goal.returns-in_err-tape-in-Reading-clause-told
-returns-in_err-tape-in-Reading-clause-told c p h no_text memory =
+pub returns-in_err-tape-in-Reading-clause-reported : goal.returns-in_err-tape-in-Reading-clause-reported
+returns-in_err-tape-in-Reading-clause-reported c p h no_text memory =
     absurd (no_text (reading_begins _ c.in-Reading.reader p (reading_at _ _ _ p c.in-Reading.is h)))

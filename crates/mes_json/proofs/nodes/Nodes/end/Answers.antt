@@ -1,6 +1,6 @@
 use Rattle.std.proofs.Common.{◌≡◌, ℕ, List, [], ◌∷◌, ◌++◌, ◌-◌, ◌<◌, length, refl, reverse, ap, sym, ◌∙◌, subst, arith, append-nil}
 use Rattle.std.proofs.lemmas.List.{reverse-append, map-append}
-use Rattle.mes_json.specs.Lengths.{untold, AreBegun}
+use Rattle.mes_json.specs.Lengths.{unreported, AreBegun}
 use Rattle.mes_json.specs.Nodes.{Nodes}
 use Rattle.mes_json.specs.declared.tape.Node.TheVariants.{End}
 use Rattle.mes_json.proofs.LengthsLemmas.{begun_close, begun_end, untold_close}
@@ -34,5 +34,5 @@ returns-clause-items c = elim c.match-pop.branch [
   | in-Some w ↦ rw (c.push_reserved.ensures.items, w.self-inside-is, w.tell.ensures, w.index_mut.ensures.value)
       (untold_close w.kept_length-length.result w.in-Some.begin c.self.inside.nodes.items _ ∙ ap (λ (n : Nodes). n.items ++ End ∷ []) c.self.view_is)
   | in_default w ↦ rw (c.push_reserved.ensures.items, w.self-inside-is)
-      (map-append untold c.self.inside.nodes.items (End ∷ []) ∙ ap (λ (n : Nodes). n.items ++ End ∷ []) c.self.view_is)
+      (map-append unreported c.self.inside.nodes.items (End ∷ []) ∙ ap (λ (n : Nodes). n.items ++ End ∷ []) c.self.view_is)
 ]

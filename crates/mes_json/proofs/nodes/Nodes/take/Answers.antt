@@ -15,7 +15,7 @@ pub returns-clause-spans : goal.returns-clause-spans
 returns-clause-spans c texts h =
     rw c.replace.ensures.value (untold_spans texts c.self.inside.nodes.items (subst (λ (n : Nodes). AllByRecursion (HasSpan texts) n.items) (sym c.self.view_is) h))
 
-pub returns-clause-told : goal.returns-clause-told
-returns-clause-told c =
+pub returns-clause-reported : goal.returns-clause-reported
+returns-clause-reported c =
     rw c.replace.ensures.value
     (subst TellLengths (append-nil c.self.inside.nodes.items) (begun_tells (reverse c.self.inside.begins.items) c.self.inside.nodes.items [] c.self.invariant tt))

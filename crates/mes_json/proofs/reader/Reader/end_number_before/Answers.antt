@@ -1,7 +1,7 @@
 use Rattle.std.proofs.Common.{rules, ◌≡◌, true, Some, ◌∙◌, subst}
 use Rattle.mes_json.specs.Reader.{innermost, outer, with_value, Puts}
 use Rattle.mes_json.specs.declared.nesting.Open.TheVariants.{Object, Array}
-use Rattle.mes_json.specs.declared.at.At as at
+use Rattle.mes_json.specs.declared.reader_state.ReaderState as at
 use Rattle.mes_json.specs.declared.tape.Node.{Node}
 use Rattle.mes_json.specs.declared.tape.Node.TheVariants.{End}
 use Rattle.mes_json.proofs.MemberLemmas.{Leads}
@@ -24,15 +24,15 @@ returns-in-Some-Object-eq44-clause-gives c taken = (before_name c taken).gives
 pub returns-in-Some-Object-eq44-clause-fits : goal.returns-in-Some-Object-eq44-clause-fits
 returns-in-Some-Object-eq44-clause-fits c taken = (before_name c taken).fits
 
-ends_object : (c : goal.After-close_behind) → c.close_behind.result ≡ true → Leads c.args.self.now c.args.byte c.close_behind.new.self
+ends_object : (c : goal.After-close_following) → c.close_following.result ≡ true → Leads c.args.self.now c.args.byte c.close_following.new.self
 ends_object c taken =
     let inside : innermost c.args.self.now.nesting.items ≡ Some Object = search rules in
     let ends = may_end c.args.self.now c.args.part c.args.byte 125 c.requires.fits c.requires.reached c.requires.at c.requires.whole c.requires.ends c.in-Some-Object-eq125.is-1 in
     let node = node_is c.args.self.now c.in-Ok.from c.in-Ok.to c.in-Ok.ensures.0 (c.in-Ok.ensures.1 ∙ c.len.ensures) in
     rw c.in-Some-Object-eq125.is-1
-    (number_ends_object c.args.self.now c.close_behind.new.self c.args.part ends inside
-    (subst (λ (x : Node). Puts (with_value x c.args.self.now) (outer c.args.self.now.nesting.items) End at.TheVariants.After c.close_behind.new.self) node
-    (c.close_behind.ensures.puts taken)))
+    (number_ends_object c.args.self.now c.close_following.new.self c.args.part ends inside
+    (subst (λ (x : Node). Puts (with_value x c.args.self.now) (outer c.args.self.now.nesting.items) End at.TheVariants.After c.close_following.new.self) node
+    (c.close_following.ensures.puts taken)))
 
 pub returns-in-Some-Object-eq125-clause-gives : goal.returns-in-Some-Object-eq125-clause-gives
 returns-in-Some-Object-eq125-clause-gives c taken = (ends_object c taken).gives
@@ -56,15 +56,15 @@ returns-in-Some-Array-eq44-clause-gives c taken = (before_item c taken).gives
 pub returns-in-Some-Array-eq44-clause-fits : goal.returns-in-Some-Array-eq44-clause-fits
 returns-in-Some-Array-eq44-clause-fits c taken = (before_item c taken).fits
 
-ends_array : (c : goal.After-close_behind-in-Some-Array-eq93) → c.close_behind-in-Some-Array-eq93.result ≡ true → Leads c.args.self.now c.args.byte c.close_behind-in-Some-Array-eq93.new.self
+ends_array : (c : goal.After-close_following-in-Some-Array-eq93) → c.close_following-in-Some-Array-eq93.result ≡ true → Leads c.args.self.now c.args.byte c.close_following-in-Some-Array-eq93.new.self
 ends_array c taken =
     let inside : innermost c.args.self.now.nesting.items ≡ Some Array = search rules in
     let ends = may_end c.args.self.now c.args.part c.args.byte 93 c.requires.fits c.requires.reached c.requires.at c.requires.whole c.requires.ends c.in-Some-Array-eq93.is-1 in
     let node = node_is c.args.self.now c.in-Ok.from c.in-Ok.to c.in-Ok.ensures.0 (c.in-Ok.ensures.1 ∙ c.len.ensures) in
     rw c.in-Some-Array-eq93.is-1
-    (number_ends_array c.args.self.now c.close_behind-in-Some-Array-eq93.new.self c.args.part ends inside
-    (subst (λ (x : Node). Puts (with_value x c.args.self.now) (outer c.args.self.now.nesting.items) End at.TheVariants.After c.close_behind-in-Some-Array-eq93.new.self) node
-    (c.close_behind-in-Some-Array-eq93.ensures.puts taken)))
+    (number_ends_array c.args.self.now c.close_following-in-Some-Array-eq93.new.self c.args.part ends inside
+    (subst (λ (x : Node). Puts (with_value x c.args.self.now) (outer c.args.self.now.nesting.items) End at.TheVariants.After c.close_following-in-Some-Array-eq93.new.self) node
+    (c.close_following-in-Some-Array-eq93.ensures.puts taken)))
 
 pub returns-in-Some-Array-eq93-clause-gives : goal.returns-in-Some-Array-eq93-clause-gives
 returns-in-Some-Array-eq93-clause-gives c taken = (ends_array c taken).gives

@@ -1,6 +1,6 @@
 use Rattle.std.proofs.Common.{sym, ◌∙◌, ap, encode_utf8}
 use Rattle.mes_json.specs.EscapeView.{move_view}
-use Rattle.mes_json.specs.declared.utf8.Mid.TheVariants.{Between, Escape as escape}
+use Rattle.mes_json.specs.declared.utf8.Utf8State.TheVariants.{Between, Escape as escape}
 use Rattle.mes_json.proofs.StringLemmas.{string_grows, escape_reads, escape_known}
 use Rattle.mes_json.proofs.reader.Reader.escaped.Goals as goal
 

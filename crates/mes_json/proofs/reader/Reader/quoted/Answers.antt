@@ -1,7 +1,7 @@
 use Rattle.std.proofs.Common.{sym, ◌∙◌, ap, option_map, [], ◌∷◌, arith}
 use Rattle.mes_json.specs.Reader.{mid_view}
-use Rattle.mes_json.specs.declared.utf8.Mid.TheVariants.{Between, Within}
-use Rattle.mes_json.specs.declared.at.At.TheVariants.{Quoted}
+use Rattle.mes_json.specs.declared.utf8.Utf8State.TheVariants.{Between, Within}
+use Rattle.mes_json.specs.declared.reader_state.ReaderState.TheVariants.{Quoted}
 use Rattle.mes_json.proofs.StringLemmas.{string_ends, string_grows, between_reads, within_reads}
 use Rattle.mes_json.proofs.reader.Reader.quoted.Goals as goal
 

@@ -2,10 +2,10 @@ use Rattle.std.proofs.Common.{refl}
 use Rattle.mes_json.proofs.MemberLemmas.{token_taken, left}
 use Rattle.mes_json.proofs.reader.Reader.take_after.Goals as goal
 
-pub returns-then-go_behind : goal.returns-then-go_behind
-returns-then-go_behind c =
-    token_taken c.args.self.now c.go_behind.new.self c.args.bytes.now c.args.from _ c.requires.fits c.requires.inside refl
-    (c.go_behind.ensures.gives c.if-go_behind.true) (c.go_behind.ensures.fits c.if-go_behind.true)
+pub returns-then-enter_following : goal.returns-then-enter_following
+returns-then-enter_following c =
+    token_taken c.args.self.now c.enter_following.new.self c.args.bytes.now c.args.from _ c.requires.fits c.requires.inside refl
+    (c.enter_following.ensures.gives c.if-enter_following.true) (c.enter_following.ensures.fits c.if-enter_following.true)
 
-pub returns-else-go_behind : goal.returns-else-go_behind
-returns-else-go_behind c = left c.args.self.now c.go_behind.new.self c.args.bytes.now c.args.from c.requires.fits c.requires.inside (c.go_behind.ensures.stays c.if-go_behind.false)
+pub returns-else-enter_following : goal.returns-else-enter_following
+returns-else-enter_following c = left c.args.self.now c.enter_following.new.self c.args.bytes.now c.args.from c.requires.fits c.requires.inside (c.enter_following.ensures.stays c.if-enter_following.false)

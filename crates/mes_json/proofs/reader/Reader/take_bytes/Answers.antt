@@ -1,7 +1,7 @@
 use Rattle.std.proofs.Common.{◌+◌, refl, arith, take, ◌∙◌}
 use Rattle.mes_json.specs.Machine.{run}
 use Rattle.mes_json.specs.Reader.{state_view}
-use Rattle.mes_json.specs.declared.limits.TheConstants.{NESTING_LIMIT}
+use Rattle.mes_json.specs.declared.limits.TheConstants.{MAX_NESTING}
 use Rattle.mes_json.proofs.RunLemmas.{run_take}
 use Rattle.mes_json.proofs.TakenLemmas.{reached_over}
 use Rattle.mes_json.proofs.reader.Reader.take_bytes.Goals as goal
@@ -16,12 +16,12 @@ step-requires-clause-reached c = reached_over c.args.self.now c.loop-place.self 
 pub take_run-place-requires-clause-reached : goal.take_run-place-requires-clause-reached
 take_run-place-requires-clause-reached c =
     reached_over c.args.self.now c.step.new.self (take (c.loop-place.place + 1) c.args.bytes.now) c.requires.reached
-    (run_take NESTING_LIMIT _ _ c.args.bytes.now c.loop-place.place c.loop-place-test.true c.loop-place.invariant.reached ∙ c.in_default.ensures.gives)
+    (run_take MAX_NESTING _ _ c.args.bytes.now c.loop-place.place c.loop-place-test.true c.loop-place.invariant.reached ∙ c.in_default.ensures.gives)
 
 pub loop-place-preserved : goal.loop-place-preserved
 loop-place-preserved c = record {
   fits = c.take_run-place.ensures.fits;
   inside = c.take_run-place.ensures.inside;
   reached = c.take_run-place.ensures.runs (state_view c.args.self.now)
-      (run_take NESTING_LIMIT _ _ c.args.bytes.now c.loop-place.place c.loop-place-test.true c.loop-place.invariant.reached ∙ c.in_default.ensures.gives);
+      (run_take MAX_NESTING _ _ c.args.bytes.now c.loop-place.place c.loop-place-test.true c.loop-place.invariant.reached ∙ c.in_default.ensures.gives);
 }

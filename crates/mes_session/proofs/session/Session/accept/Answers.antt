@@ -1,6 +1,6 @@
 use Rattle.std.proofs.Common.{option_copied}
 use Rattle.mes_model.specs.Id.{Id}
-use Rattle.mes_hand.specs.Calls.{accept_call}
+use Rattle.mes_session_state.specs.Calls.{accept_call}
 use Rattle.mes_session.proofs.SessionLemmas.{turned_down, made_ok, made_err}
 use Rattle.mes_session.proofs.session.Session.accept.Goals as goal
 

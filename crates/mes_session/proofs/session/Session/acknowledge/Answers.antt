@@ -1,5 +1,5 @@
 use Rattle.mes_model.specs.Id.{Id}
-use Rattle.mes_hand.specs.Calls.{acknowledge_call}
+use Rattle.mes_session_state.specs.Calls.{acknowledge_call}
 use Rattle.mes_session.proofs.SessionLemmas.{turned_down, made_ok, made_err}
 use Rattle.mes_session.proofs.session.Session.acknowledge.Goals as goal
 

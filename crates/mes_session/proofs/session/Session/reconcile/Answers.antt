@@ -1,6 +1,6 @@
 use Rattle.std.proofs.Common.{refl}
 use Rattle.mes_model.specs.Id.{Id}
-use Rattle.mes_making.specs.Made.{reconcile_call}
+use Rattle.mes_session_calls.specs.Made.{reconcile_call}
 use Rattle.mes_session.proofs.SessionLemmas.{turned_down, made_ok, made_err}
 use Rattle.mes_session.proofs.session.Session.reconcile.Goals as goal
 

@@ -1,5 +1,5 @@
 use Rattle.std.proofs.Common.{ℕ, List, ◌∙◌, ap}
-use Rattle.mes_hand.specs.Held.{without_offer}
+use Rattle.mes_session_state.specs.Held.{without_offer}
 use Rattle.mes_session.proofs.SessionLemmas.{rescinded-next}
 use Rattle.mes_session.proofs.session.Session.rescinded.Goals as goal
 

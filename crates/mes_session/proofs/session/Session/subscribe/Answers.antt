@@ -1,5 +1,5 @@
 use Rattle.std.proofs.Common.{option_copied, ◌∙◌, ap}
-use Rattle.mes_hand.specs.Held.{Held}
+use Rattle.mes_session_state.specs.Held.{Held}
 use Rattle.mes_session.proofs.SessionLemmas.{subscribed_ok}
 use Rattle.mes_session.proofs.session.Session.subscribe.Goals as goal
 

@@ -8,5 +8,5 @@ returns-clause-inside g c = λ ahead b values s no_end. record {
   x = s.x;
   spelt = s.spelt;
   records = s.records;
-  is = (λ none. let ended : c.between.result ≡ true = (c.between.ensures.stands s.x s.r s.state).1 none in absurd (cc), (s.r, begun_of c.args.self.now.records s.x s.r s.state));
+  is = (λ none. let ended : c.between.result ≡ true = (c.between.ensures.represents s.x s.r s.state).1 none in absurd (cc), (s.r, begun_of c.args.self.now.records s.x s.r s.state));
 }

@@ -2,15 +2,15 @@ use Rattle.std.proofs.Common.{ap, Err, ◌∙◌}
 use Rattle.std.proofs.lemmas.Result.{err_from_is_err_and}
 use Rattle.mes_json.proofs.LexerLemmas.{text_begins}
 use Rattle.mes_msg.specs.Events.{lawful_event}
-use Rattle.mes_event.proofs.RecordLemmas.{refused}
-use Rattle.mes_record.proofs.RecordLemmas.{begins}
+use Rattle.mes_msg_event.proofs.RecordLemmas.{refused}
+use Rattle.mes_msg_record.proofs.RecordLemmas.{begins}
 use Rattle.mes_stream.proofs.EventLemmas.{begins_known, refuses, text_refused}
 use Rattle.mes_stream.proofs.event_reader.EventReaderRecordReader.finish.Goals as goal
 
 pub returns-in_err-tape-clause-err : goal.returns-in_err-tape-clause-err
 returns-in_err-tape-clause-err c = λ r h short.
     let p = err_from_is_err_and c.from_residual.result c.from_residual.ensures.1 in
-    rw (p.1, p.2) (text_refused r _ short (c.in_err-tape.ensures.fault r h.lexed) (λ none. begins_known r (λ not. c.in_err-tape.ensures.told r h.lexed not h.memory (ap Err none))))
+    rw (p.1, p.2) (text_refused r _ short (c.in_err-tape.ensures.fault r h.lexed) (λ none. begins_known r (λ not. c.in_err-tape.ensures.reported r h.lexed not h.memory (ap Err none))))
 
 pub returns-in_err-event-clause-err : goal.returns-in_err-event-clause-err
 returns-in_err-event-clause-err c = λ r h short.

@@ -2,15 +2,15 @@ use Rattle.std.proofs.Common.{ap, Err, ◌∙◌, inl, inr, refl}
 use Rattle.std.proofs.lemmas.Result.{err_from_is_err_and}
 use Rattle.mes_json.proofs.LexerLemmas.{text_begins}
 use Rattle.mes_msg.specs.Events.{lawful_event}
-use Rattle.mes_event.proofs.RecordLemmas.{refused}
-use Rattle.mes_record.proofs.RecordLemmas.{begins}
+use Rattle.mes_msg_event.proofs.RecordLemmas.{refused}
+use Rattle.mes_msg_record.proofs.RecordLemmas.{begins}
 use Rattle.mes_stream.proofs.EventLemmas.{begins_known, refuses, text_refused}
 use Rattle.mes_stream.proofs.event_reader.EventReaderRecordReader.finish_into.Goals as goal
 
 pub returns-in_err-tape-clause-adds : goal.returns-in_err-tape-clause-adds
 returns-in_err-tape-clause-adds c = λ r h short.
     let p = err_from_is_err_and c.from_residual.result c.from_residual.ensures.1 in
-    rw (p.1, p.2) (inl (text_refused r _ short (c.in_err-tape.ensures.fault r h.lexed) (λ none. begins_known r (λ not. c.in_err-tape.ensures.told r h.lexed not h.memory (ap Err none)))), refl)
+    rw (p.1, p.2) (inl (text_refused r _ short (c.in_err-tape.ensures.fault r h.lexed) (λ none. begins_known r (λ not. c.in_err-tape.ensures.reported r h.lexed not h.memory (ap Err none)))), refl)
 
 pub returns-in_err-event-clause-adds : goal.returns-in_err-event-clause-adds
 returns-in_err-event-clause-adds c = λ r h short.

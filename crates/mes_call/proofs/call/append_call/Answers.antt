@@ -1,5 +1,0 @@
-use Rattle.mes_part.proofs.AppendLemmas.{both_members}
-use Rattle.mes_call.proofs.call.append_call.Goals as goal
-
-pub returns-clause-members : goal.returns-clause-members
-returns-clause-members g c = both_members _ _ _ _ _ _ _ _ c.in_ok-head.ensures.members c.in_ok-rest.ensures.members c.deeper.ensures

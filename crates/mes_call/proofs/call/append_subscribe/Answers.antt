@@ -1,7 +1,0 @@
-use Rattle.mes_part.proofs.AppendLemmas.{both_members}
-use Rattle.mes_call.proofs.call.append_subscribe.Goals as goal
-
-pub returns-clause-members : goal.returns-clause-members
-returns-clause-members c =
-    let ahead = both_members _ _ _ _ _ _ _ _ c.in_ok-kind.ensures c.in_ok-framework.ensures.members c.deeper.ensures in
-    both_members _ _ _ _ _ _ _ _ ahead c.in_ok-rest.ensures.members c.deeper-2.ensures

@@ -1,0 +1,57 @@
+-- A call as it is written: a request, or why there is none.
+use Rattle.std.specs.Prelude.{◌≡◌, ℕ, ◌<◌, List, ◌++◌, Option, length, take}
+use Rattle.std.specs.Io.KnownBytes.{Appends}
+use Rattle.mes_frame.specs.Write.{NoneFails, CallsFor, StopsWrite}
+use Rattle.mes_frame.specs.declared.counts.Counts.{Counts}
+use Rattle.mes_msg.specs.Calls.{call}
+use Rattle.mes_msg.specs.Texts.{canonical_of, Fits, IsRefusalOf}
+use Rattle.mes_msg.specs.Call.{Call}
+use Rattle.mes_msg.specs.EncodeFault.{EncodeFault}
+use Rattle.mes_msg.specs.EncodeFault.TheVariants as refused
+use Rattle.mes_msg.specs.declared.send_fault.EncodeFaultKind.{EncodeFaultKind}
+use Rattle.mes_msg.specs.declared.send_fault.EncodeFaultKind.TheVariants.{TooDeep, TooLarge}
+use Rattle.mes_msg.specs.declared.send_fault.SendFault.{SendFault}
+use Rattle.mes_msg.specs.declared.send_fault.SendFault.TheVariants.{Encode, NoMemory, Write}
+use Rattle.mes_double_http.specs.Texts.{call_head}
+use Rattle.mes_double_http.specs.declared.limits.TheConstants.{MAX_BODY}
+
+-- the head, and behind it the call's canonical text
+abbrev pub call_bytes : List ℕ → Option (List ℕ) → Call → List ℕ
+call_bytes host stream c = call_head host stream (length (canonical_of call c)) ++ canonical_of call c
+
+-- a body can hold the call
+abbrev pub IsGoodCall : Call → Type 0
+IsGoodCall c = Fits call c MAX_BODY
+
+-- no body can, and why
+abbrev pub IsBadCall : Call → EncodeFaultKind → Type 0
+IsBadCall c TooDeep = IsRefusalOf call c MAX_BODY refused.TooDeep
+IsBadCall c TooLarge = IsRefusalOf call c MAX_BODY refused.TooLarge
+
+-- what is told of a call that has no text: it is the one call, at place 0
+abbrev pub unmade : EncodeFault → SendFault
+unmade refused.TooDeep = Encode 0 TooDeep
+unmade refused.TooLarge = Encode 0 TooLarge
+unmade refused.NoMemory = NoMemory
+
+-- why a call has not become a request
+abbrev pub IsUnmade : Call → SendFault → Type 0
+IsUnmade c (Encode index why) = (index ≡ 0) × IsBadCall c why
+IsUnmade c NoMemory = Unit {0}
+IsUnmade c (Write fault) = ⊥
+
+-- a body can hold the call, and its request went out
+pub record WroteCall {W : Type 0} (written : W → Option (List ℕ)) (counts : W → Counts) (host : List ℕ) (stream : Option (List ℕ)) (c : Call) (old new : W) : Type 0 where
+  pub good : IsGoodCall c
+  pub out : Appends (written old) (written new) (call_bytes host stream c)
+  pub none_fails : NoneFails (counts old) (counts new)
+  pub calls : CallsFor (length (call_bytes host stream c)) (counts old) (counts new)
+
+-- no body can hold the call, or memory was refused, and the writer is as it was; or the writer stopped
+abbrev pub StopsCall : {W : Type 0} → (W → Option (List ℕ)) → (W → Counts) → List ℕ → Option (List ℕ) → Call → W → W → SendFault → Type 0
+StopsCall written counts host stream c old new (Encode index why) = (index ≡ 0) × IsBadCall c why × (new ≡ old)
+StopsCall written counts host stream c old new NoMemory = new ≡ old
+StopsCall written counts host stream c old new (Write fault) = IsGoodCall c
+    × (fault.sent < length (call_bytes host stream c))
+    × Appends (written old) (written new) (take fault.sent (call_bytes host stream c))
+    × StopsWrite fault.why (counts old) (counts new) × CallsFor (length (call_bytes host stream c)) (counts old) (counts new)

@@ -1,0 +1,28 @@
+-- How the fault of a head is printed.
+use Rattle.std.specs.Prelude.{List, ℕ, [], ◌++◌, codes, decimal}
+use Rattle.mes_double_http.specs.declared.fault.HeadFault.{HeadFault}
+use Rattle.mes_double_http.specs.declared.fault.HeadFault.TheVariants as fault
+
+-- its number and its name
+abbrev pub head_fault_title : HeadFault → List ℕ
+head_fault_title fault.Read = codes "H1 Read"
+head_fault_title fault.HeadTooLong = codes "H2 HeadTooLong"
+head_fault_title fault.BadHead = codes "H3 BadHead"
+head_fault_title (fault.Status code) = codes "H4 Status"
+head_fault_title fault.NotChunked = codes "H5 NotChunked"
+head_fault_title fault.NotJson = codes "H6 NotJson"
+head_fault_title fault.NoStreamId = codes "H7 NoStreamId"
+head_fault_title fault.WrongPath = codes "H8 WrongPath"
+head_fault_title fault.WrongMethod = codes "H9 WrongMethod"
+head_fault_title fault.NoLength = codes "H10 NoLength"
+head_fault_title fault.BodyTooLong = codes "H11 BodyTooLong"
+head_fault_title fault.ShortBody = codes "H12 ShortBody"
+head_fault_title fault.NoMemory = codes "H13 NoMemory"
+
+-- behind them the code of a status that wasn't expected
+abbrev pub head_fault_details : HeadFault → List ℕ
+head_fault_details (fault.Status code) = codes " " ++ decimal code
+head_fault_details _ = []
+
+abbrev pub head_fault_text : HeadFault → List ℕ
+head_fault_text f = head_fault_title f ++ head_fault_details f

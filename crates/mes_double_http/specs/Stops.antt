@@ -1,0 +1,70 @@
+-- How the taking of a head ends before there is one.
+use Rattle.std.specs.Prelude.{◌≡◌, ℕ, Bool, not, ◌==◌, ◌<◌, List, ◌∷◌, ◌++◌, length}
+use Rattle.httparse.specs.Ascii.{space}
+use Rattle.httparse.specs.Grammar.{AllPass, is_uri_byte, RequestHead, ResponseHead}
+use Rattle.httparse.specs.Spans.{IsRequestAt, IsResponseAt, IsRequestWithin, IsResponseWithin}
+use Rattle.httparse.specs.declared.spans.HeaderSpan.{HeaderSpan}
+use Rattle.httparse.specs.declared.spans.RequestSpans.{RequestSpans}
+use Rattle.httparse.specs.declared.spans.ResponseSpans.{ResponseSpans}
+use Rattle.mes_frame.specs.declared.counts.Counts.{Counts}
+use Rattle.mes_double_http.specs.Endings.{AllGive, OneFails, OneEnds}
+use Rattle.mes_double_http.specs.Heads.{IsRequest, IsResponse, PendsRequest, PendsResponse, FailsRequest, FailsResponse}
+use Rattle.mes_double_http.specs.declared.fault.HeadFault.{HeadFault}
+use Rattle.mes_double_http.specs.declared.fault.HeadFault.TheVariants as fault
+use Rattle.mes_double_http.specs.declared.head.HeadStop.{HeadStop}
+use Rattle.mes_double_http.specs.declared.head.HeadStop.TheVariants.{Read, TooLong, Refused, Ended}
+use Rattle.mes_double_http.specs.declared.limits.TheConstants.{MAX_HEAD}
+
+-- the fault that is told of it
+abbrev pub stop_fault : HeadStop → HeadFault
+stop_fault Read = fault.Read
+stop_fault TooLong = fault.HeadTooLong
+stop_fault Refused = fault.BadHead
+stop_fault Ended = fault.BadHead
+
+-- no byte came: the reader failed, or gave its end
+abbrev pub StopsByte : HeadStop → Counts → Counts → Type 0
+StopsByte Read old new = OneFails old new
+StopsByte Ended old new = OneEnds old new
+StopsByte _ old new = ⊥
+
+-- the reader failed, or gave its end, in what may become a head; or that has as many bytes as a head may have; or none can come of it
+abbrev pub StopsRequest : HeadStop → List ℕ → Counts → Counts → Type 0
+StopsRequest Read taken old new = PendsRequest taken × OneFails old new
+StopsRequest TooLong taken old new = (length taken ≡ MAX_HEAD) × PendsRequest taken × AllGive old new
+StopsRequest Refused taken old new = FailsRequest taken × AllGive old new
+StopsRequest Ended taken old new = PendsRequest taken × OneEnds old new
+
+-- the same for a response
+abbrev pub StopsResponse : HeadStop → List ℕ → Counts → Counts → Type 0
+StopsResponse Read taken old new = PendsResponse taken × OneFails old new
+StopsResponse TooLong taken old new = (length taken ≡ MAX_HEAD) × PendsResponse taken × AllGive old new
+StopsResponse Refused taken old new = FailsResponse taken × AllGive old new
+StopsResponse Ended taken old new = PendsResponse taken × OneEnds old new
+
+-- any byte but a space
+abbrev pub is_no_space : ℕ → Bool
+is_no_space b = not (b == space)
+
+-- the first space is followed by at least one byte, and only by bytes of a target
+pub record IsInTarget (taken : List ℕ) : Type 0 where
+  pub front : List ℕ
+  pub target : List ℕ
+  pub is : taken ≡ front ++ space ∷ target
+  pub unspaced : AllPass is_no_space front
+  pub some : 0 < length target
+  pub visible : AllPass is_uri_byte target
+
+-- the spans are those of the head that was taken
+pub record IsRequestTaken (taken : List ℕ) (headers : List HeaderSpan) (r : RequestSpans) : Type 0 where
+  pub head : RequestHead
+  pub at : IsRequestAt taken headers r head
+  pub is : IsRequest taken head
+  pub within : IsRequestWithin taken headers r
+
+-- the same for a response
+pub record IsResponseTaken (taken : List ℕ) (headers : List HeaderSpan) (r : ResponseSpans) : Type 0 where
+  pub head : ResponseHead
+  pub at : IsResponseAt taken headers r head
+  pub is : IsResponse taken head
+  pub within : IsResponseWithin taken headers r

@@ -1,0 +1,54 @@
+//! The body of a request, of a length that is known.
+
+ghost use Rattle.std.specs.Prelude.{◌≡◌, ◌++◌, ◌<◌, ◌≤◌, ℕ, List, length, MatchResult};
+ghost use Rattle.std.specs.Io.KnownBytes.{Consumes};
+ghost use Rattle.mes_double_http.specs.Endings.{AllGive};
+ghost use Rattle.mes_double_http.specs.Bodies.{StopsBody, StopsPart};
+
+use crate::fault::HeadFault;
+use crate::limits::MAX_BODY_READ;
+use mes_frame::Source;
+use std::alloc::Global;
+
+/// Takes a body of `size` bytes.
+pub(crate) fn take_body<S: Source>(
+    alloc: Global,
+    reader: &mut S,
+    size: usize,
+) -> Result<Vec<u8>, HeadFault>
+    ensures { (taken : List ℕ) × Consumes (S.left reader.old) (S.left reader.new) taken
+        × MatchResult result
+        (λ body. (body.items ≡ taken) × (length taken ≡ size) × AllGive (S.counts reader.old) (S.counts reader.new))
+        (λ f. StopsBody size f taken (S.counts reader.old) (S.counts reader.new)) }
+{
+    let mut body = Vec::new(alloc);
+    while body.len() < size {
+        let left = size - body.len();
+        if let Err(fault) = take_part(reader, left, &mut body) {
+            return Err(fault);
+        }
+    }
+    Ok(body)
+}
+
+/// Takes some of the `left` bytes, by one read, and appends them.
+fn take_part<S: Source>(reader: &mut S, left: usize, body: &mut Vec<u8>) -> Result<(), HeadFault>
+    requires { 0 < left }
+    ensures { (part : List ℕ) × Consumes (S.left reader.old) (S.left reader.new) part
+        × MatchResult result
+        (λ _. (body.new.items ≡ body.old.items ++ part) × (0 < length part) × (length part ≤ left) × AllGive (S.counts reader.old) (S.counts reader.new))
+        (λ f. StopsPart left f part (S.counts reader.old) (S.counts reader.new)) }
+{
+    let mut buffer = [0; MAX_BODY_READ];
+    let room = left.min(MAX_BODY_READ);
+    let part = &mut buffer[..room];
+    let count = match reader.fetch(part) {
+        Ok(0) => return Err(HeadFault::ShortBody),
+        Ok(count) => count,
+        Err(_) => return Err(HeadFault::Read),
+    };
+    match body.extend_from_slice(&part[..count]) {
+        Ok(()) => Ok(()),
+        Err(_) => Err(HeadFault::NoMemory),
+    }
+}

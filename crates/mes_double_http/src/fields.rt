@@ -1,0 +1,43 @@
+//! The fields of a head that was taken.
+
+ghost use Rattle.std.specs.Prelude.{◌≡◌, length, map, All};
+ghost use Rattle.httparse.specs.Spans.{IsHeaderWithin, header_bytes};
+ghost use Rattle.std.specs.Str.{str_eq_ignore_ascii_case};
+ghost use Rattle.mes_double_http.specs.Fields.{IsNamed, values_named};
+
+use httparse::spans::HeaderSpan;
+
+/// What a head has under a field's name.
+#[derive(Clone, Copy, Debug, PartialEq, Eq)]
+pub(crate) enum Named<'b> {
+    /// No field has the name.
+    Nothing,
+    /// One has it; this is its value.
+    One(&'b [u8]),
+    /// Two have it, or more.
+    More,
+}
+
+/// What the fields at these places have under a name.
+pub(crate) fn find_field<'b>(bytes: &'b [u8], headers: &[HeaderSpan], name: &[u8]) -> Named<'b>
+    requires { All (IsHeaderWithin (length bytes.now)) headers.now }
+    ensures { IsNamed result (values_named name.now (map (header_bytes bytes.now) headers.now)) }
+{
+    let mut found = Named::Nothing;
+    for header in headers {
+        if same_text(header.name.of(bytes), name) {
+            match found {
+                Named::Nothing => found = Named::One(header.value.of(bytes)),
+                _ => return Named::More,
+            }
+        }
+    }
+    found
+}
+
+/// Whether the texts are the same but for the case of ASCII letters.
+pub(crate) fn same_text(text: &[u8], other: &[u8]) -> bool
+    ensures { result ≡ str_eq_ignore_ascii_case text.now other.now }
+{
+    text.eq_ignore_ascii_case(other)
+}

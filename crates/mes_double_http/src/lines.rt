@@ -1,0 +1,34 @@
+//! Counts the complete lines of a head that may go on.
+
+ghost use Rattle.std.specs.Prelude.{◌≡◌};
+ghost use Rattle.httparse.specs.Pieces.{is_newline};
+ghost use Rattle.mes_double_http.specs.Heads.{from_start_line, field_lines};
+
+/// Counts the complete lines after the start line.
+pub(crate) fn field_lines(taken: &[u8]) -> usize
+    ensures { result ≡ field_lines taken.now }
+{
+    let lines = from_start_line(taken)
+        .iter()
+        .filter(|byte| **byte == b'\n')
+        .count();
+    lines.saturating_sub(1)
+}
+
+/// Returns the bytes from the start line on: the empty lines before it are skipped.
+fn from_start_line(taken: &[u8]) -> &[u8]
+    ensures { result.now ≡ from_start_line taken.now }
+{
+    let mut start = 0;
+    while start < taken.len() && is_newline(taken[start]) {
+        start += 1;
+    }
+    &taken[start..]
+}
+
+/// Returns whether the byte is a carriage return or a line feed.
+fn is_newline(byte: u8) -> bool
+    ensures { result ≡ is_newline byte }
+{
+    byte == b'\r' || byte == b'\n'
+}

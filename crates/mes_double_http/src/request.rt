@@ -1,0 +1,106 @@
+//! A request, taken from a reader: its head, and the body that it announces.
+
+ghost use Rattle.std.specs.Prelude.{ℕ, List, MatchResult};
+ghost use Rattle.std.specs.Io.KnownBytes.{Consumes};
+ghost use Rattle.httparse.specs.Grammar.{RequestHead};
+ghost use Rattle.mes_double_http.specs.Endings.{AllGive};
+ghost use Rattle.mes_double_http.specs.Heads.{IsRequest};
+ghost use Rattle.mes_double_http.specs.Requests.{BreaksCall, IsCall, IsWholeCall, RefusesCall};
+ghost use Rattle.mes_double_http.specs.Stops.{IsRequestTaken};
+
+use crate::body::take_body;
+use crate::fault::HeadFault;
+use crate::head::take_request;
+use crate::length::body_length;
+use crate::limits::{MAX_BODY, MAX_FIELDS};
+use crate::rules::{is_json, stream_named};
+use crate::stream_id::StreamId;
+use arrayvec::ArrayVec;
+use httparse::spans::{EMPTY_HEADER_SPAN, HeaderSpan, RequestSpans};
+use mes_frame::Source;
+use std::alloc::Global;
+
+/// A request to the scheduler API.
+#[derive(Debug, Drop)]
+pub struct Request {
+    /// The stream that it names, if any.
+    pub stream: Option<StreamId>,
+    /// Its body: a call, if the client keeps to the API.
+    pub body: Vec<u8>,
+}
+
+/// What the head of a request announces.
+#[derive(Debug, Drop)]
+struct Announced {
+    stream: Option<StreamId>,
+    length: usize,
+}
+
+/// Takes a request: its head, and then its body. Nothing behind the body is taken, and of a request that is refused for its head
+/// nothing behind that.
+pub fn read_request<S: Source>(alloc: Global, reader: &mut S) -> Result<Request, HeadFault>
+    // Ok: exactly a head that keeps every rule was taken, and this body. Else the first fault.
+    ensures { (taken : List ℕ) × Consumes (S.left reader.old) (S.left reader.new) taken
+        × MatchResult result
+        (λ request. IsWholeCall taken request.stream request.body.items × AllGive (S.counts reader.old) (S.counts reader.new))
+        (λ f. RefusesCall f taken (S.counts reader.old) (S.counts reader.new)) }
+{
+    let announced = take_announced(reader)?;
+    match take_body(alloc, reader, announced.length) {
+        Ok(body) => Ok(Request {
+            stream: announced.stream,
+            body,
+        }),
+        Err(fault) => Err(fault),
+    }
+}
+
+/// Takes the head of a request.
+fn take_announced<S: Source>(reader: &mut S) -> Result<Announced, HeadFault>
+    ensures { (taken : List ℕ) × Consumes (S.left reader.old) (S.left reader.new) taken
+        × MatchResult result
+        (λ a. (h : RequestHead) × IsRequest taken h × IsCall h a.length a.stream × AllGive (S.counts reader.old) (S.counts reader.new))
+        (λ f. RefusesCall f taken (S.counts reader.old) (S.counts reader.new)) }
+{
+    let mut taken = ArrayVec::new();
+    let mut headers = [EMPTY_HEADER_SPAN; MAX_FIELDS];
+    match take_request(reader, &mut taken, &mut headers) {
+        Ok(head) => announced_by(taken.as_slice(), &headers, &head),
+        Err(stop) => Err(stop.fault()),
+    }
+}
+
+/// What a head announces.
+fn announced_by(
+    taken: &[u8],
+    headers: &[HeaderSpan],
+    head: &RequestSpans,
+) -> Result<Announced, HeadFault>
+    requires { IsRequestTaken taken.now headers.now head.now }
+    ensures { (h : RequestHead) × IsRequest taken.now h × MatchResult result (λ a. IsCall h a.length a.stream) (λ f. BreaksCall f h) }
+{
+    if head.path.of(taken) != b"/api/v1/scheduler".as_slice() {
+        return Err(HeadFault::WrongPath);
+    }
+    if head.method.of(taken) != b"POST".as_slice() {
+        return Err(HeadFault::WrongMethod);
+    }
+    let fields = &headers[..head.headers];
+    if !is_json(taken, fields) {
+        return Err(HeadFault::NotJson);
+    }
+    let length = match body_length(taken, fields) {
+        Some(length) => length,
+        None => return Err(HeadFault::NoLength),
+    };
+    if length > MAX_BODY {
+        return Err(HeadFault::BodyTooLong);
+    }
+    match stream_named(taken, fields) {
+        Ok(stream) => Ok(Announced {
+            stream,
+            length: length as usize,
+        }),
+        Err(_) => Err(HeadFault::NoStreamId),
+    }
+}

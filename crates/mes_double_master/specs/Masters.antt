@@ -1,0 +1,161 @@
+-- A test master: what it holds, and what it answers to each call.
+use Rattle.std.specs.Prelude.{◌≡◌, ℕ, Bool, true, false, ◌||◌, not, if◌then◌else◌, List, [], ◌∷◌, ◌++◌, map, filter, Option, Some, None, is_some}
+use Rattle.std.specs.List.{list_all}
+use Rattle.std.specs.Str.{bytes_eq}
+use Rattle.uuid.specs.Text.{hyphenated_text, lower}
+use Rattle.mes_model.specs.Id.{Id}
+use Rattle.mes_model.specs.Offer.{Offer}
+use Rattle.mes_model.specs.OwedKey.{OwedKey}
+use Rattle.mes_model.specs.TaskInfo.{TaskInfo}
+use Rattle.mes_model.specs.TaskRef.{TaskRef}
+use Rattle.mes_model.specs.TaskStatus.{TaskStatus}
+use Rattle.mes_msg.specs.Call.{Call}
+use Rattle.mes_msg.specs.Call.TheVariants as of
+use Rattle.mes_msg.specs.Event.{Event}
+use Rattle.mes_session_fit.specs.Launched.{launched, launched_by}
+use Rattle.mes_session_state.specs.Held.{offer_in, names, without_offers, with_key}
+use Rattle.mes_session_state.specs.Calls.{framework_of}
+use Rattle.mes_session_state.specs.Refusals.{ids_of}
+pub use Rattle.mes_double_master_state.specs.Ids.{same_id, new_tasks}
+pub use Rattle.mes_double_master_state.specs.Events.{interval, subscribed_event, update_event, reconciled_event, last_of, asked_for}
+pub use Rattle.mes_double_master_state.specs.Updates.{is_unacknowledged, key_in}
+
+-- what a master holds
+pub record MasterState : Type 0 where
+  pub framework : Id
+  -- the UUIDs that are left for streams
+  pub ids : List (List ℕ)
+  -- the id of the current stream
+  pub stream : Option (List ℕ)
+  -- whether a TEARDOWN was carried out
+  pub down : Bool
+  -- the identifier of every offer that was ever made
+  pub offered : List Id
+  pub outstanding : List Offer
+  -- of each task the last status that was given, in the order of their first ones
+  pub latest : List (Id × TaskStatus)
+  -- the updates that owe an acknowledgement, each under its key
+  pub owing : List (OwedKey × TaskStatus)
+  pub launched : List Id
+  pub acked : List OwedKey
+
+-- what is answered to a call: the status, the events, the offers that it took away, the tasks that it launched, and the master then
+pub record MasterAnswer : Type 0 where
+  pub status : ℕ
+  pub events : List Event
+  pub took : List Offer
+  pub ran : List TaskInfo
+  pub master : MasterState
+
+-- nothing but a status, and the master then
+abbrev pub plain : ℕ → MasterState → MasterAnswer
+plain status m = record { status = status; events = []; took = []; ran = []; master = m }
+
+-- ---- SUBSCRIBE
+
+-- the next id becomes that of the stream, and no offer is outstanding
+abbrev pub subscribed : MasterState → List (List ℕ) → MasterAnswer
+subscribed m [] = plain 403 m
+subscribed m (uuid ∷ uuids) = record {
+  status = 200;
+  events = subscribed_event m.framework ∷ [];
+  took = [];
+  ran = [];
+  master = record m { ids = uuids; stream = Some (hyphenated_text lower uuid); outstanding = [] };
+}
+
+-- ---- ACCEPT and DECLINE
+
+abbrev pub is_there : List Offer → Id → Bool
+is_there offers d = is_some (offer_in offers d.value)
+
+-- whether one offer or more is named, and all of them are outstanding
+abbrev pub all_there : List Offer → List Id → Bool
+all_there offers [] = false
+all_there offers (d ∷ ds) = list_all (is_there offers) (d ∷ ds)
+
+-- the offers that are named
+abbrev pub named : List Id → List Offer → List Offer
+named ids offers = filter (names ids) offers
+
+-- the tasks that an ACCEPT of these offers launches
+abbrev pub launchable : MasterState → List Id → List TaskInfo → List TaskInfo
+launchable m ids tasks = if all_there m.outstanding ids then new_tasks m.launched tasks else []
+
+abbrev pub accepted : MasterState → List Id → List TaskInfo → MasterAnswer
+accepted m ids tasks =
+    let ran = launchable m ids tasks in record {
+      status = 202;
+      events = [];
+      took = named ids m.outstanding;
+      ran = ran;
+      master = record m { outstanding = without_offers ids m.outstanding; launched = m.launched ++ ids_of ran };
+    }
+
+abbrev pub declined : MasterState → List Id → MasterAnswer
+declined m ids = record {
+  status = 202;
+  events = [];
+  took = named ids m.outstanding;
+  ran = [];
+  master = record m { outstanding = without_offers ids m.outstanding };
+}
+
+-- ---- ACKNOWLEDGE
+
+abbrev pub acknowledged : MasterState → OwedKey → MasterState
+acknowledged m key = record m { acked = if is_unacknowledged m.owing key then with_key m.acked key else m.acked }
+
+-- ---- RECONCILE
+
+abbrev pub reconciled : MasterState → List TaskRef → MasterAnswer
+reconciled m tasks = record { status = 202; events = map reconciled_event (asked_for m.latest tasks); took = []; ran = []; master = m }
+
+-- ---- TEARDOWN
+
+abbrev pub torn_down : MasterState → MasterState
+torn_down m = record m { stream = None; down = true; outstanding = [] }
+
+-- ---- each call
+
+-- whether the framework is absent or this one
+abbrev pub agrees : Id → Option Id → Bool
+agrees framework None = true
+agrees framework (Some other) = same_id framework other
+
+-- what is answered to a call of the framework that names the current stream; calls without a line of their own change nothing
+abbrev pub carried_out : MasterState → Call → MasterAnswer
+carried_out m (of.Accept framework body) = accepted m body.offer_ids (launched launched_by body.operations)
+carried_out m (of.Decline framework body) = declined m body.offer_ids
+carried_out m (of.Acknowledge framework body) = plain 202 (acknowledged m (key_in body))
+carried_out m (of.Reconcile framework body) = reconciled m body.tasks
+carried_out m (of.Teardown framework) = plain 202 (torn_down m)
+carried_out m _ = plain 202 m
+
+-- whether this stream is the one that is named
+abbrev pub is_named : List ℕ → Option (List ℕ) → Bool
+is_named current None = false
+is_named current (Some given) = bytes_eq current given
+
+-- without a stream a call is answered 403, and where another stream is named, or none, 400
+abbrev pub in_stream : MasterState → Call → Option (List ℕ) → Option (List ℕ) → MasterAnswer
+in_stream m call None given = plain 403 m
+in_stream m call (Some current) given = if is_named current given then carried_out m call else plain 400 m
+
+abbrev pub is_subscribe : Call → Bool
+is_subscribe (of.Subscribe framework body) = true
+is_subscribe _ = false
+
+-- a SUBSCRIBE needs no stream, and which one it names doesn't count
+abbrev pub answered : MasterState → Call → Option (List ℕ) → MasterAnswer
+answered m call given = if is_subscribe call then subscribed m m.ids else in_stream m call m.stream given
+
+-- what is answered to a call that names this stream, or none
+abbrev pub handled : MasterState → Call → Option (List ℕ) → MasterAnswer
+handled m call given = if m.down || not (agrees m.framework (framework_of call)) then plain 403 m else answered m call given
+
+-- what the code answers, and leaves, is that
+pub record IsAnswer (answer : MasterAnswer) (status : ℕ) (events : List Event) (master : MasterState) : Type 0 where
+  pub status_is : status ≡ answer.status
+  pub events_are : events ≡ answer.events
+  pub master_is : master ≡ answer.master

@@ -1,0 +1,65 @@
+-- Whatever a test master is asked to do, one thing after the other.
+use Rattle.std.specs.Prelude.{◌≡◌, ℕ, false, fold, List, [], ◌++◌, Option, None, Ok, Err}
+use Rattle.mes_model.specs.Id.{Id}
+use Rattle.mes_model.specs.Offer.{Offer}
+use Rattle.mes_model.specs.TaskInfo.{TaskInfo}
+use Rattle.mes_model.specs.TaskStatus.{TaskStatus}
+use Rattle.mes_msg.specs.Call.{Call}
+use Rattle.mes_session_state.specs.Refusals.{is_duplicated, ids_of}
+use Rattle.mes_double_master.specs.Masters.{MasterState, MasterAnswer, handled}
+use Rattle.mes_double_master.specs.Sending.{Sends, offer_ids, offers_sent, rescind_sent, update_sent, resend_sent}
+
+abbrev pub new_master : Id → List (List ℕ) → MasterState
+new_master framework ids = record {
+  framework = framework;
+  ids = ids;
+  stream = None;
+  down = false;
+  offered = [];
+  outstanding = [];
+  latest = [];
+  owing = [];
+  launched = [];
+  acked = [];
+}
+
+pub data Deed : Type 0 where
+  handles : (call : Call) (stream : Option (List ℕ)) → Deed
+  offers : (list : List Offer) → Deed
+  rescinds : (name : List ℕ) → Deed
+  updates : (status : TaskStatus) → Deed
+  resends : (index : ℕ) → Deed
+
+-- a master, and what its calls took away and launched so far
+pub record Past : Type 0 where
+  pub master : MasterState
+  pub took : List Offer
+  pub ran : List TaskInfo
+
+abbrev pub after_call : Past → MasterAnswer → Past
+after_call past answer = record { master = answer.master; took = past.took ++ answer.took; ran = past.ran ++ answer.ran }
+
+-- what is refused changes nothing
+abbrev pub after_sending : Past → Sends → Past
+after_sending past (Ok sent) = record past { master = sent.1 }
+after_sending past (Err why) = past
+
+abbrev pub after : Past → Deed → Past
+after past (handles call stream) = after_call past (handled past.master call stream)
+after past (offers list) = after_sending past (offers_sent past.master list)
+after past (rescinds name) = after_sending past (rescind_sent past.master name)
+after past (updates status) = after_sending past (update_sent past.master status)
+after past (resends index) = after_sending past (resend_sent past.master index)
+
+-- a new master after these
+abbrev pub past_of : Id → List (List ℕ) → List Deed → Past
+past_of framework ids deeds = fold after (record { master = new_master framework ids; took = []; ran = [] }) deeds
+
+-- what the master tells as launched is what its calls launched, and no task was launched twice
+pub record LaunchedOnce (past : Past) : Type 0 where
+  pub launched : past.master.launched ≡ ids_of past.ran
+  pub once : is_duplicated past.master.launched ≡ false
+
+-- no offer was taken away twice
+abbrev pub TakenOnce : Past → Type 0
+TakenOnce past = is_duplicated (offer_ids past.took) ≡ false

@@ -1,0 +1,138 @@
+//! What a test master sends of its own.
+ghost use Rattle.std.specs.Prelude.{◌≡◌, ◌≢◌, ◌⊎◌, ◌++◌, [], ◌∷◌, false, Ok, Err, IsOk, IsSome, IfSome, IfNone, IfOk, IfErr, OnOk, OnErr};
+ghost use Rattle.mes_double_master.specs.declared.refusal.MasterRefusal.TheVariants.{NoMemory as no_memory};
+ghost use Rattle.mes_double_master.specs.Masters.{is_unacknowledged, update_event};
+ghost use Rattle.mes_double_master.specs.Sending.{offer_ids, is_duplicate, made, offers_sent, rescind_sent, reported, reported_unacknowledged, update_sent, resend_sent};
+
+use super::Master;
+use crate::refusal::MasterRefusal;
+use mes_double_master_state::events;
+use mes_double_master_state::ids::{ids_of_offers, is_duplicate, put_new, reserve};
+use mes_double_master_state::updates::{
+    is_unacknowledged, note, pending_at, record_unacknowledged,
+};
+use mes_json::{NoMemory, Text};
+use mes_model::{Id, Offer, TaskStatus};
+use mes_model_schema::Part;
+use mes_msg::{Event, Rescind};
+
+impl Master {
+    /// The OFFERS that makes these offers, which are outstanding then. M1, M2 or M6 changes nothing, as any refusal here; M6 comes only in the place of the event.
+    pub fn offer(&mut self, offers: &[Offer]) -> Result<Event, MasterRefusal>
+        ensures ok { IfOk result (λ event. offers_sent self.old offers.now ≡ Ok (event, self.new)) }
+        ensures err { IfErr result (λ why. (self.new ≡ self.old) × ((why ≡ no_memory) ⊎ (offers_sent self.old offers.now ≡ Err why))) }
+        ensures memory { IfErr result (λ why. why ≡ no_memory → IsOk (offers_sent self.old offers.now)) }
+    {
+        if let Some(why) = self.refusal_of(offers) {
+            return Err(why);
+        }
+        let event = events::offers(self.alloc, offers)?;
+        self.make(offers)?;
+        Ok(event)
+    }
+
+    /// The same for who has that OFFERS: the offers are outstanding then, and no event is given.
+    pub fn note_offers(&mut self, offers: &[Offer]) -> Result<(), MasterRefusal>
+        ensures ok { OnOk result (offers_sent self.old offers.now ≡ Ok (Event.Offers offers.now, self.new)) }
+        ensures err { IfErr result (λ why. (self.new ≡ self.old) × ((why ≡ no_memory) ⊎ (offers_sent self.old offers.now ≡ Err why))) }
+        ensures memory { IfErr result (λ why. why ≡ no_memory → IsOk (offers_sent self.old offers.now)) }
+    {
+        match self.refusal_of(offers) {
+            None => Ok(self.make(offers)?),
+            Some(why) => Err(why),
+        }
+    }
+
+    /// Why these offers may not be made, M1 or M2, if they may not. Takes no memory.
+    fn refusal_of(&self, offers: &[Offer]) -> Option<MasterRefusal>
+        ensures none { IfNone result (IsSome self.now.stream × (is_duplicate self.now.offered (offer_ids offers.now) ≡ false)) }
+        ensures some { IfSome result (λ why. (why ≢ no_memory) × (offers_sent self.now offers.now ≡ Err why)) }
+    {
+        if self.stream.is_none() {
+            return Some(MasterRefusal::NoStream);
+        }
+        if is_duplicate(&self.offered, offers) {
+            return Some(MasterRefusal::OfferTwice);
+        }
+        None
+    }
+
+    /// Makes offers none of which was made before, nor two of one identifier.
+    fn make(&mut self, offers: &[Offer]) -> Result<(), NoMemory>
+        requires { is_duplicate self.old.offered (offer_ids offers.now) ≡ false }
+        ensures ok { OnOk result (made self.old offers.now ≡ (Event.Offers offers.now, self.new)) }
+        ensures err { OnErr result (self.new ≡ self.old) }
+    {
+        let ids = ids_of_offers(self.alloc, offers)?;
+        reserve(&mut self.offered, ids.len())?;
+        self.outstanding.add(self.alloc, offers)?;
+        put_new(&mut self.offered, ids);
+        Ok(())
+    }
+
+    /// The RESCIND that takes back the outstanding offer of that identifier, or M1, M3 or, in the place of the event, M6.
+    pub fn rescind(&mut self, id: &str) -> Result<Event, MasterRefusal>
+        ensures ok { IfOk result (λ event. rescind_sent self.old id.now ≡ Ok (event, self.new)) }
+        ensures err { IfErr result (λ why. (self.new ≡ self.old) × ((why ≡ no_memory) ⊎ (rescind_sent self.old id.now ≡ Err why))) }
+        ensures memory { IfErr result (λ why. why ≡ no_memory → IsOk (rescind_sent self.old id.now)) }
+    {
+        if self.stream.is_none() {
+            return Err(MasterRefusal::NoStream);
+        }
+        if self.outstanding.get(id).is_none() {
+            return Err(MasterRefusal::NoSuchOffer);
+        }
+        let value = Text::of(self.alloc, id)?;
+        self.outstanding.remove(id);
+        let offer_id = Id { value };
+        Ok(Event::Rescind(Rescind { offer_id }))
+    }
+
+    /// The UPDATE of a status, which is then the last of its task, or M1, M4 or, in the place of the event or of M4, M6.
+    pub fn update(&mut self, status: &TaskStatus) -> Result<Event, MasterRefusal>
+        ensures ok { IfOk result (λ event. update_sent self.old status.now ≡ Ok (event, self.new)) }
+        ensures err { IfErr result (λ why. (self.new ≡ self.old) × ((why ≡ no_memory) ⊎ (update_sent self.old status.now ≡ Err why))) }
+        ensures memory { IfErr result (λ why. why ≡ no_memory → IsSome self.old.stream) }
+    {
+        if self.stream.is_none() {
+            return Err(MasterRefusal::NoStream);
+        }
+        let event = events::update(self.alloc, status)?;
+        self.note_update(status)?;
+        Ok(event)
+    }
+
+    /// The same for who has that UPDATE: the status is the last of its task then, and no event is given.
+    pub fn note_update(&mut self, status: &TaskStatus) -> Result<(), MasterRefusal>
+        ensures ok { OnOk result (update_sent self.old status.now ≡ Ok (update_event status.now, self.new)) }
+        ensures err { IfErr result (λ why. (self.new ≡ self.old) × ((why ≡ no_memory) ⊎ (update_sent self.old status.now ≡ Err why))) }
+        ensures memory { IfErr result (λ why. why ≡ no_memory → IsSome self.old.stream) }
+    {
+        if self.stream.is_none() {
+            return Err(MasterRefusal::NoStream);
+        }
+        let Some(key) = status.owed_key(self.alloc)? else {
+            return Ok(note(self.alloc, &mut self.latest, status)?);
+        };
+        if is_unacknowledged(&self.owing, &key) {
+            return Err(MasterRefusal::UpdateTwice);
+        }
+        Ok(record_unacknowledged(self.alloc, &mut self.latest, &mut self.owing, key, status)?)
+    }
+
+    /// The UPDATE again that stands at that place among those that owe an acknowledgement and have none, or M1, M5 or, in the place of the
+    /// event, M6.
+    pub fn resend(&self, index: usize) -> Result<Event, MasterRefusal>
+        ensures ok { IfOk result (λ event. resend_sent self.now index ≡ Ok (event, self.now)) }
+        ensures err { IfErr result (λ why. (why ≡ no_memory) ⊎ (resend_sent self.now index ≡ Err why)) }
+        ensures memory { IfErr result (λ why. why ≡ no_memory → IsOk (resend_sent self.now index)) }
+    {
+        if self.stream.is_none() {
+            return Err(MasterRefusal::NoStream);
+        }
+        match pending_at(&self.owing, &self.acked, index) {
+            Some(status) => Ok(events::update(self.alloc, status)?),
+            None => Err(MasterRefusal::NoSuchUpdate),
+        }
+    }
+}

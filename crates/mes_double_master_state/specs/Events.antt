@@ -1,0 +1,32 @@
+-- The events that a master sends, and the statuses that a RECONCILE asks for.
+use Rattle.std.specs.Prelude.{ℕ, List, [], ◌∷◌, filter_map, Option, Some, None, codes}
+use Rattle.std.specs.Map.{values_of, lookup}
+use Rattle.mes_model.specs.Id.{Id}
+use Rattle.mes_model.specs.TaskRef.{TaskRef}
+use Rattle.mes_model.specs.TaskStatus.{TaskStatus}
+use Rattle.mes_msg.specs.Event.{Event}
+use Rattle.mes_msg.specs.Event.TheVariants as event
+use Rattle.mes_double_master_state.specs.Ids.{same_id}
+
+-- 15 seconds, in microseconds
+abbrev pub interval : ℕ
+interval = 15000000
+
+abbrev pub subscribed_event : Id → Event
+subscribed_event framework = event.Subscribed (record { framework_id = framework; heartbeat_interval_seconds = Some interval })
+
+abbrev pub update_event : TaskStatus → Event
+update_event status = event.Update (record { status = status })
+
+-- a status that is told again owes nothing
+abbrev pub reconciled_event : TaskStatus → Event
+reconciled_event status = update_event (record status { reason = Some (codes "REASON_RECONCILIATION"); uuid = None })
+
+-- the last status of a task
+abbrev pub last_of : List (Id × TaskStatus) → TaskRef → Option TaskStatus
+last_of latest task = lookup (same_id task.task_id) latest
+
+-- the statuses that are asked for: of the tasks that are named, in order, so far as one was given; where none is named, of all
+abbrev pub asked_for : List (Id × TaskStatus) → List TaskRef → List TaskStatus
+asked_for latest [] = values_of latest
+asked_for latest (task ∷ tasks) = filter_map (last_of latest) (task ∷ tasks)

@@ -1,0 +1,18 @@
+-- The updates that were sent, each under its key, and which of them wait for an acknowledgement.
+use Rattle.std.specs.Prelude.{Bool, not, List, filter, is_some}
+use Rattle.std.specs.Map.{lookup}
+use Rattle.mes_model.specs.OwedKey.{OwedKey}
+use Rattle.mes_model.specs.TaskStatus.{TaskStatus}
+use Rattle.mes_msg.specs.Acknowledge.{Acknowledge}
+use Rattle.mes_session_state.specs.Held.{same_key, is_owed}
+
+-- whether the key is that of an update
+abbrev pub is_unacknowledged : List (OwedKey × TaskStatus) → OwedKey → Bool
+is_unacknowledged owing key = is_some (lookup (same_key key) owing)
+
+abbrev pub key_in : Acknowledge → OwedKey
+key_in body = record { agent = body.agent_id; task = body.task_id; uuid = body.uuid }
+
+-- the updates that were not acknowledged
+abbrev pub waiting : List (OwedKey × TaskStatus) → List OwedKey → List (OwedKey × TaskStatus)
+waiting owing acked = filter (λ e. not (is_owed e.0 acked)) owing

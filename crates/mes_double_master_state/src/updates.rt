@@ -1,0 +1,128 @@
+//! The updates that a master has sent.
+ghost use Rattle.std.specs.Prelude.{◌≡◌, ◌<◌, ◌++◌, [], ◌∷◌, false, None, not, filter, slice_get, option_map, option_copied, IfOk, OnOk, OnErr};
+ghost use Rattle.std.specs.Map.{lookup};
+ghost use Rattle.indexmap.specs.IndexMap.{spare, insert_entry};
+ghost use Rattle.mes_session_state.specs.Held.{same_key};
+ghost use Rattle.mes_double_master_state.specs.Ids.{same_id};
+ghost use Rattle.mes_double_master_state.specs.Updates.{is_unacknowledged, key_in, waiting};
+
+use indexmap::IndexMap;
+use mes_model::{Id, OwedKey, TaskStatus};
+use mes_model_schema::Part;
+use mes_model_schema::json::NoMemory;
+use mes_msg::Acknowledge;
+use mes_session_state::PendingAcknowledgements;
+use std::alloc::Global;
+
+/// The key of the update that is acknowledged.
+pub fn key_in(alloc: Global, body: &Acknowledge) -> Result<OwedKey, NoMemory>
+    ensures { IfOk result (λ key. key ≡ key_in body.now) }
+{
+    Ok(OwedKey {
+        agent: body.agent_id.copy(alloc)?,
+        task: body.task_id.copy(alloc)?,
+        uuid: body.uuid.copy(alloc)?,
+    })
+}
+
+/// Whether the key is that of an update.
+pub fn is_unacknowledged(owing: &IndexMap<OwedKey, TaskStatus>, key: &OwedKey) -> bool
+    ensures { result ≡ is_unacknowledged owing.now.entries key.now }
+{
+    owing.contains_key(key)
+}
+
+/// Notes the status as the last of its task. Refused memory, it changes nothing.
+pub fn note(
+    alloc: Global,
+    latest: &mut IndexMap<Id, TaskStatus>,
+    status: &TaskStatus,
+) -> Result<(), NoMemory>
+    ensures ok { OnOk result (latest.new.entries ≡ insert_entry same_id latest.old.entries status.now.task_id status.now) }
+    ensures err { OnErr result (latest.new.entries ≡ latest.old.entries) }
+{
+    let task = status.task_id.copy(alloc)?;
+    let copied = status.copy(alloc)?;
+    latest.reserve(1)?;
+    put_last(latest, task, copied);
+    Ok(())
+}
+
+/// Puts a status in the place of the last one of its task, or behind the others, where there is room.
+fn put_last(latest: &mut IndexMap<Id, TaskStatus>, task: Id, status: TaskStatus)
+    requires { 0 < spare latest.old }
+    ensures { latest.new.entries ≡ insert_entry same_id latest.old.entries task status }
+{
+    latest.insert(task, status).unwrap();
+}
+
+/// Makes room for one more.
+fn reserve_one(owing: &mut IndexMap<OwedKey, TaskStatus>) -> Result<(), NoMemory>
+    ensures same { owing.new.entries ≡ owing.old.entries }
+    ensures room { OnOk result (0 < spare owing.new) }
+{
+    owing.reserve(1)?;
+    Ok(())
+}
+
+/// Adds an update, where there is room.
+fn put_entry(owing: &mut IndexMap<OwedKey, TaskStatus>, key: OwedKey, status: TaskStatus)
+    requires { 0 < spare owing.old }
+    ensures { owing.new.entries ≡ insert_entry same_key owing.old.entries key status }
+{
+    owing.insert(key, status).unwrap();
+}
+
+/// Adds an update of another key than those that are there, where there is room.
+fn push_unacknowledged(owing: &mut IndexMap<OwedKey, TaskStatus>, key: OwedKey, status: TaskStatus)
+    requires room { 0 < spare owing.old }
+    requires other { is_unacknowledged owing.old.entries key ≡ false }
+    ensures { owing.new.entries ≡ owing.old.entries ++ (key, status) ∷ [] }
+{
+    put_entry(owing, key, status);
+}
+
+/// Notes the status as the last of its task, and as an update that owes an acknowledgement, of another key than those that are there.
+/// Refused memory, it changes nothing.
+pub fn record_unacknowledged(
+    alloc: Global,
+    latest: &mut IndexMap<Id, TaskStatus>,
+    owing: &mut IndexMap<OwedKey, TaskStatus>,
+    key: OwedKey,
+    status: &TaskStatus,
+) -> Result<(), NoMemory>
+    requires { is_unacknowledged owing.old.entries key ≡ false }
+    ensures latest { OnOk result (latest.new.entries ≡ insert_entry same_id latest.old.entries status.now.task_id status.now) }
+    ensures owing { OnOk result (owing.new.entries ≡ owing.old.entries ++ (key, status.now) ∷ []) }
+    ensures err { OnErr result ((latest.new.entries ≡ latest.old.entries) × (owing.new.entries ≡ owing.old.entries)) }
+{
+    let copied = status.copy(alloc)?;
+    reserve_one(owing)?;
+    note(alloc, latest, status)?;
+    push_unacknowledged(owing, key, copied);
+    Ok(())
+}
+
+/// The update at that place among those that were not acknowledged.
+pub fn pending_at<'a>(
+    owing: &'a IndexMap<OwedKey, TaskStatus>,
+    acked: &PendingAcknowledgements,
+    index: usize,
+) -> Option<&'a TaskStatus>
+    ensures { option_copied result ≡ option_map (λ e. e.1) (slice_get (waiting owing.now.entries acked.now) index) }
+{
+    let mut before = index;
+    for at in 0..owing.len() {
+        let Some((key, status)) = owing.get_index(at) else {
+            return None;
+        };
+        if acked.contains(key) {
+            continue;
+        }
+        if before == 0 {
+            return Some(status);
+        }
+        before -= 1;
+    }
+    None
+}

@@ -1,0 +1,55 @@
+//! Reads lists of moves, a line for each move, and prints for each list the world that it leads to, in one line. docs/FORMAT.md has the
+//! lines.
+#![tactic(auto)]
+
+mod ends;
+mod lines;
+
+use ends::end_of;
+use lines::{Line, ids_from_one, read_line};
+use mes_double::{Move, run_world};
+use mes_json::{NoMemory, Text};
+use mes_model::Id;
+use std::alloc::Global;
+use std::io::{self, BufRead, BufReader};
+
+/// How many streams a list's master has ids for.
+const STREAMS: u8 = 2;
+
+/// The world that the moves lead to, in words.
+fn reported(alloc: Global, moves: &[Move]) -> Result<String, NoMemory> {
+    let value = Text::of(alloc, "F1")?;
+    let ids = ids_from_one(alloc, STREAMS)?;
+    let world = run_world(alloc, Id { value }, ids, moves)?;
+    end_of(alloc, &world)
+}
+
+/// Prints the world that the moves lead to.
+fn tell(rt: &HostRuntime, moves: &[Move]) -> io::Result<()> {
+    match reported(rt.alloc(), moves) {
+        Ok(end) => println!(rt; "{end}"),
+        Err(NoMemory) => println!(rt; "no memory"),
+    }
+}
+
+/// Does what a line says: one more move, or the end of the list.
+fn take(rt: &HostRuntime, moves: &mut Vec<Move>, line: &str) -> io::Result<()> {
+    match read_line(rt.alloc(), line) {
+        Some(Line::Move(next)) => moves.push(next)?,
+        Some(Line::End) => {
+            tell(rt, moves.as_slice())?;
+            moves.clear();
+        }
+        None => println!(rt; "no move: {line}")?,
+    }
+    Ok(())
+}
+
+fn main(rt: HostRuntime) -> io::Result<()> {
+    let input = BufReader::new(rt.alloc(), rt.stdin())?;
+    let mut moves = Vec::new(rt.alloc());
+    for line in input.lines(rt.alloc()) {
+        take(&rt, &mut moves, line?.as_str())?;
+    }
+    Ok(())
+}

@@ -1,7 +1,0 @@
-pub use Rattle.mes_resource.specs.declared.id.Id
-pub use Rattle.mes_offer.specs.declared.offer.Offer
-pub use Rattle.mes_task.specs.TaskStates
-pub use Rattle.mes_task.specs.declared.task_status.TaskStatus
-pub mod Bodies
-pub mod EventNames
-pub mod Offers

@@ -1,9 +1,0 @@
-use Rattle.std.proofs.Common.{◌≡◌, false, take}
-use Rattle.mes_fit.specs.Keys.{key_of}
-use Rattle.mes_fit.specs.Fits.{has_piece, offered}
-use Rattle.mes_fit.specs.Fits.Piece.{item as item_piece}
-use Rattle.mes_fit.proofs.missing.offers_have_item.Given as goal
-
--- none of the offers so far has it
-abbrev pub invariant-loop-index : goal.invariant-loop-index
-invariant-loop-index g l = has_piece (key_of l.key) (item_piece l.item) (offered (take l.index (g.O.OfferList.offers l.offers))) ≡ false

@@ -1,5 +1,0 @@
-use Rattle.mes_fixed.proofs.Grammar.{number_ends}
-use Rattle.mes_fixed.proofs.laws.automaton_reads_numbers.Goals as goal
-
-pub returns : goal.returns
-returns c = number_ends

@@ -1,7 +1,0 @@
-use Rattle.mes_frame.proofs.record.Place.after.Goals as goal
-
-pub returns-in-Data-clause-steps : goal.returns-in-Data-clause-steps
-returns-in-Data-clause-steps c = λ x r stands. c.after_data.ensures.steps x r c.args.limit c.args.byte (rw c.in-Data.is at stands)
-
-pub returns-in-Data-clause-data : goal.returns-in-Data-clause-data
-returns-in-Data-clause-data c = λ x r stands. rw c.in-Data.is (c.after_data.ensures.«data» (rw c.in-Data.is at stands).some)

@@ -1,7 +1,0 @@
-use Rattle.std.proofs.Common.{◌≡◌, take}
-use Rattle.mes_hand.specs.Slots.{marked}
-use Rattle.mes_hand.proofs.slot.mark.Given as goal
-
--- those so far are marked
-abbrev pub invariant-loop-id : goal.invariant-loop-id
-invariant-loop-id l = l.slots.entries ≡ marked (take l.id-index l.ids) l.initial.slots.entries

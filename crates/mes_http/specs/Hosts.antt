@@ -1,8 +1,0 @@
--- The host that a client's calls go to.
-use Rattle.std.specs.Prelude.{ℕ, ◌≤◌, List, length, All}
-use Rattle.mes_http.specs.StreamIds.{IsVisible}
-use Rattle.mes_http.specs.declared.limits.TheConstants.{HOST_MOST}
-
--- 1 to 255 visible characters
-abbrev pub IsHost : List ℕ → Type 0
-IsHost text = (1 ≤ length text) × (length text ≤ HOST_MOST) × All IsVisible text

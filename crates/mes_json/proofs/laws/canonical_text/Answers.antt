@@ -1,5 +1,0 @@
-use Rattle.mes_json.proofs.CanonicalLemmas.{canonical_is_text}
-use Rattle.mes_json.proofs.laws.canonical_text.Goals as goal
-
-pub returns : goal.returns
-returns c = λ d t. canonical_is_text t d

@@ -1,0 +1,51 @@
+//! What a byte is outside a string.
+ghost use Rattle.std.specs.Prelude.{◌≡◌};
+ghost use Rattle.mes_json.specs.Machine.{kind_of};
+ghost use Rattle.mes_json.specs.Reader.{kind_view};
+
+use crate::literal::LiteralState;
+use mes_fixed::automaton::NumberState;
+
+/// What a byte is outside a string (RFC 8259, sections 2, 3 and 6).
+#[derive(Clone, Copy)]
+pub(crate) enum ByteClass {
+    Blank,
+    Quote,
+    Opening,
+    Closing,
+    OpeningArray,
+    ClosingArray,
+    Colon,
+    Comma,
+    /// The first byte of a literal.
+    LiteralState(LiteralState),
+    /// The first byte of a number, with the part that it leads to.
+    Digits(NumberState),
+    Other,
+}
+
+impl ByteClass {
+    /// The kind of a byte.
+    #[inline(always)]
+    pub(crate) fn of(byte: u8) -> ByteClass
+        ensures { kind_view byte result ≡ kind_of byte }
+    {
+        match byte {
+            b'"' => ByteClass::Quote,
+            b' ' | b'\t' | b'\n' | b'\r' => ByteClass::Blank,
+            b'{' => ByteClass::Opening,
+            b'}' => ByteClass::Closing,
+            b'[' => ByteClass::OpeningArray,
+            b']' => ByteClass::ClosingArray,
+            b':' => ByteClass::Colon,
+            b',' => ByteClass::Comma,
+            b'-' => ByteClass::Digits(NumberState::AfterMinus),
+            b'0' => ByteClass::Digits(NumberState::AfterZero),
+            b'1'..=b'9' => ByteClass::Digits(NumberState::InWhole),
+            b'n' => ByteClass::LiteralState(LiteralState::N),
+            b't' => ByteClass::LiteralState(LiteralState::T),
+            b'f' => ByteClass::LiteralState(LiteralState::F),
+            _ => ByteClass::Other,
+        }
+    }
+}

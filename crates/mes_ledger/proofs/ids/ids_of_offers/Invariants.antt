@@ -1,6 +1,0 @@
-use Rattle.std.proofs.Common.{◌≡◌, take}
-use Rattle.mes_ledger.specs.Ids.{offer_ids}
-use Rattle.mes_ledger.proofs.ids.ids_of_offers.Given as goal
-
-abbrev pub invariant-loop-offer : goal.invariant-loop-offer
-invariant-loop-offer l = l.ids.items ≡ offer_ids (take l.offer-index l.offers)

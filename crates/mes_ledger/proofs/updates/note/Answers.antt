@@ -1,8 +1,0 @@
-use Rattle.std.proofs.Common.{◌∙◌}
-use Rattle.indexmap.specs.IndexMap.{insert_entry}
-use Rattle.mes_ledger.specs.Ids.{same_id}
-use Rattle.mes_ledger.proofs.updates.note.Goals as goal
-
-pub returns-clause-ok : goal.returns-clause-ok
-returns-clause-ok c =
-    c.put_last.ensures ∙ (λ i. insert_entry same_id (c.reserve.ensures.entries i) (c.in_ok-task.ensures i) (c.in_ok-copied.ensures i))

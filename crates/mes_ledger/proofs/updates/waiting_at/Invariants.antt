@@ -1,7 +1,0 @@
-use Rattle.std.proofs.Common.{◌≡◌, drop, slice_get}
-use Rattle.mes_ledger.specs.Updates.{waiting}
-use Rattle.mes_ledger.proofs.updates.waiting_at.Given as goal
-
--- so many more of what is left
-abbrev pub invariant-loop-at : goal.invariant-loop-at
-invariant-loop-at l = slice_get (waiting (drop l.at l.owing.entries) l.acked) l.before ≡ slice_get (waiting l.owing.entries l.acked) l.fn.index

@@ -1,5 +1,0 @@
-pub use Rattle.mes_entry.specs.Entries
-pub mod Logs
-pub mod LogStages
-pub mod Writing
-pub mod Encoding

@@ -1,0 +1,55 @@
+-- The first faults of an attribute and of an offer, as their tables are written.
+use Rattle.std.specs.Prelude.{codes}
+use Rattle.mes_model_schema.specs.Leaves.{texts}
+use Rattle.mes_model_schema.specs.FirstFaults.{NeedBreaks}
+use Rattle.mes_model_schema.specs.FirstRows.{OfRows, OfTypes, NoRows, Then, NeedThen, MaybeThen, ListThen, TypeThen, NoType, ByType}
+use Rattle.mes_model_schema.specs.declared.field.FieldFaultKind.TheVariants.{UnknownName}
+use Rattle.mes_model_resource.specs.Ids.{id}
+use Rattle.mes_model_resource.specs.Reservations.{allocation}
+use Rattle.mes_model_resource.specs.Resources.{resource}
+use Rattle.mes_model_resource.specs.Values.{scalar, ranges, set}
+use Rattle.mes_model_offer.specs.Attributes.{attribute, attribute_value_rows}
+use Rattle.mes_model_offer.specs.TextValues.{text_value}
+
+-- by the type: SCALAR, RANGES, SET or TEXT, and the row of that name; another type is UnknownName
+abbrev pub OfValues : OfTypes
+OfValues =
+    TypeThen (codes "SCALAR") (NeedBreaks scalar (codes "scalar")) (
+    TypeThen (codes "RANGES") (NeedBreaks ranges (codes "ranges")) (
+    TypeThen (codes "SET") (NeedBreaks set (codes "set")) (
+    TypeThen (codes "TEXT") (NeedBreaks text_value (codes "text")) (
+    NoType UnknownName
+    )
+    )
+    )
+    )
+
+-- name !, its value
+abbrev pub OfAttribute : OfRows
+OfAttribute =
+    NeedThen (codes "name") texts (
+    Then attribute_value_rows (ByType OfValues) (
+    NoRows
+    )
+    )
+
+-- id !, framework_id !, agent_id !, hostname !, resources *, attributes *, executor_ids *, allocation_info ?
+abbrev pub OfOffer : OfRows
+OfOffer =
+    NeedThen (codes "id") id (
+    NeedThen (codes "framework_id") id (
+    NeedThen (codes "agent_id") id (
+    NeedThen (codes "hostname") texts (
+    ListThen (codes "resources") resource (
+    ListThen (codes "attributes") attribute (
+    ListThen (codes "executor_ids") id (
+    MaybeThen (codes "allocation_info") allocation (
+    NoRows
+    )
+    )
+    )
+    )
+    )
+    )
+    )
+    )

@@ -1,0 +1,248 @@
+//! A resource of an agent.
+
+ghost use Rattle.std.specs.Prelude.{◌≡◌, IfOk};
+
+use crate::allocation::Allocation;
+use crate::id::Id;
+use crate::reservation::Reservation;
+use crate::value::{Ranges, Scalar, Set};
+use mes_model_schema::json::{self, Element, NoMemory, Text};
+use mes_model_schema::{
+    Boxed, Choice, ConstructFrom, FieldFaultKind, Flag, Found, Kept, List, OptionalRow, Part,
+    PartFault, PathBuilder, RepeatedRow, RequiredRow, RequiredRowRef, RowList, RowRefs, Rows8,
+    Typed, TypedRef, made, message_text, message_tree, pairs, push_type_tree, put, read_message,
+    required, type_of, type_refusal, write_case_text,
+};
+use std::alloc::Global;
+
+/// What there is of a resource.
+#[derive(Debug, Drop)]
+pub enum ResourceValue {
+    /// So much of it, under the type `SCALAR`.
+    Scalar(Scalar),
+    /// These numbers, under the type `RANGES`.
+    Ranges(Ranges),
+    /// These names, under the type `SET`.
+    Set(Set),
+}
+
+impl ResourceValue {
+    /// The same value, in memory of its own.
+    pub fn copy(&self, alloc: Global) -> Result<ResourceValue, NoMemory>
+        ensures { IfOk result (λ v. v ≡ self.now) }
+    {
+        match self {
+            ResourceValue::Scalar(scalar) => Ok(ResourceValue::Scalar(scalar.copy(alloc)?)),
+            ResourceValue::Ranges(ranges) => Ok(ResourceValue::Ranges(ranges.copy(alloc)?)),
+            ResourceValue::Set(set) => Ok(ResourceValue::Set(set.copy(alloc)?)),
+        }
+    }
+}
+
+impl Choice for ResourceValue {
+    ghost use Rattle.mes_model_resource.specs.Resources.{resource_value_names, resource_value_rows, lawful_resource_value_rows};
+    ghost use Rattle.std.specs.Prelude.{refl};
+
+    ghost names = { resource_value_names };
+
+    ghost table = { resource_value_rows };
+
+    ghost STEPS = { 4 };
+
+    ghost COUNT = { 4 };
+
+    const COUNT: usize = 4;
+
+    ghost counted = { refl };
+
+    ghost lawful = { lawful_resource_value_rows };
+
+    #[tactic(auto, using(mes_model_schema::specs::NameLaws::names_differ))]
+    fn read_choice(
+        alloc: Global,
+        found: &[Found<'_>],
+        path: &PathBuilder<'_>,
+    ) -> Result<ResourceValue, PartFault> {
+        match type_of(alloc, &found[0], path)? {
+            "SCALAR" => Ok(ResourceValue::Scalar(required(alloc, &found[1], "scalar", path)?)),
+            "RANGES" => Ok(ResourceValue::Ranges(required(alloc, &found[2], "ranges", path)?)),
+            "SET" => Ok(ResourceValue::Set(required(alloc, &found[3], "set", path)?)),
+            _ => Err(type_refusal(alloc, path, FieldFaultKind::UnknownName)),
+        }
+    }
+
+    fn push_choice_tree(
+        &self,
+        members: &mut Vec<(Text, json::Json)>,
+        alloc: Global,
+    ) -> Result<(), NoMemory> {
+        match self {
+            ResourceValue::Scalar(scalar) => {
+                push_type_tree(members, alloc, "SCALAR")?;
+                put(members, alloc, "scalar", scalar)
+            }
+            ResourceValue::Ranges(ranges) => {
+                push_type_tree(members, alloc, "RANGES")?;
+                put(members, alloc, "ranges", ranges)
+            }
+            ResourceValue::Set(set) => {
+                push_type_tree(members, alloc, "SET")?;
+                put(members, alloc, "set", set)
+            }
+        }
+    }
+
+    fn write_choice_text(&self, alloc: Global, out: &mut Vec<u8>) -> Result<u64, NoMemory> {
+        match self {
+            ResourceValue::Scalar(scalar) => write_case_text(
+                alloc, "SCALAR", "scalar", scalar, out,
+            ),
+            ResourceValue::Ranges(ranges) => write_case_text(
+                alloc, "RANGES", "ranges", ranges, out,
+            ),
+            ResourceValue::Set(set) => write_case_text(alloc, "SET", "set", set, out),
+        }
+    }
+
+    fn copy_choice(&self, alloc: Global) -> Result<ResourceValue, NoMemory> {
+        self.copy(alloc)
+    }
+}
+
+/// A resource of an agent: so many processors, so much memory, these ports.
+#[derive(Debug, Drop)]
+pub struct Resource {
+    /// The name.
+    pub name: Text,
+    /// What there is of it: the member `type` and the one that belongs to it.
+    pub value: ResourceValue,
+    /// The role that it is for.
+    pub role: Option<Text>,
+    /// The role that it is allocated to.
+    pub allocation_info: Option<Allocation>,
+    /// For whom it is reserved, in the older form. It stands in memory of its own, so that a resource is small.
+    pub reservation: Option<Boxed<Reservation>>,
+    /// For whom it is reserved, from the outermost role inwards.
+    pub reservations: List<Reservation>,
+    /// What disk it is, kept whole, and in memory of its own.
+    pub disk: Option<Boxed<Kept>>,
+    /// Whether it may be taken back at any time.
+    pub revocable: bool,
+    /// Whether several tasks may use it at once.
+    pub shared: bool,
+    /// Who provides it, if not the agent. It stands in memory of its own.
+    pub provider_id: Option<Boxed<Id>>,
+}
+
+/// The names of the rows of a resource, in the order of the table.
+const RESOURCE_NAMES: [&str; 13] = [
+    "name",
+    "type",
+    "scalar",
+    "ranges",
+    "set",
+    "role",
+    "allocation_info",
+    "reservation",
+    "reservations",
+    "disk",
+    "revocable",
+    "shared",
+    "provider_id",
+];
+
+type ResourceRows = (
+    RequiredRow<Text>,
+    Typed<
+        ResourceValue,
+        Rows8<
+            OptionalRow<Text>,
+            OptionalRow<Allocation>,
+            OptionalRow<Boxed<Reservation>>,
+            RepeatedRow<Reservation>,
+            OptionalRow<Boxed<Kept>>,
+            Flag,
+            Flag,
+            OptionalRow<Boxed<Id>>,
+        >,
+    >,
+);
+
+impl ConstructFrom<<ResourceRows as RowList>::Values> for Resource {
+    ghost use Rattle.mes_model_resource.specs.Resources.{resource_layout};
+
+    ghost to = { resource_layout.to };
+
+    fn made_of(values: <ResourceRows as RowList>::Values) -> Resource {
+        made!(values => Resource {
+            name,
+            value,
+            role,
+            allocation_info,
+            reservation,
+            reservations,
+            disk,
+            revocable,
+            shared,
+            provider_id,
+        })
+    }
+}
+
+/// What the rows of a resource hold.
+macro_rules! resource_rows {
+    ($of:ident) => {
+        (
+            RequiredRowRef(&$of.name),
+            TypedRef(
+                &$of.value,
+                pairs!(
+                    &$of.role,
+                    &$of.allocation_info,
+                    &$of.reservation,
+                    &$of.reservations,
+                    &$of.disk,
+                    $of.revocable,
+                    $of.shared,
+                    &$of.provider_id,
+                ),
+            ),
+        )
+    };
+}
+
+impl Part for Resource {
+    ghost use Rattle.mes_model_resource.specs.Resources.{resource, lawful_resource};
+
+    ghost kind = { resource };
+
+    ghost STEPS = { 6 };
+
+    const STEPS: u32 = 6;
+
+    ghost lawful = { lawful_resource };
+
+    #[tactic(auto, unfolding(crate::specs::Resources::resource))]
+    fn read_from(
+        alloc: Global,
+        element: &Element<'_>,
+        path: &PathBuilder<'_>,
+    ) -> Result<Resource, PartFault> {
+        read_message::<ResourceRows, Resource, 13>(alloc, element, &RESOURCE_NAMES, path)
+    }
+
+    #[tactic(auto, using(crate::specs::Resources::resource_back), unfolding(crate::specs::Resources::resource))]
+    fn tree(&self, alloc: Global) -> Result<json::Json, NoMemory> {
+        message_tree(alloc, &RESOURCE_NAMES, &resource_rows!(self))
+    }
+
+    #[tactic(auto, using(crate::specs::Resources::resource_back), unfolding(crate::specs::Resources::resource))]
+    fn write_json(&self, alloc: Global, out: &mut Vec<u8>) -> Result<u64, NoMemory> {
+        message_text(alloc, &RESOURCE_NAMES, &resource_rows!(self), out)
+    }
+
+    fn copy(&self, alloc: Global) -> Result<Resource, NoMemory> {
+        let values = resource_rows!(self).copy_rows(alloc)?;
+        Ok(Resource::made_of(values))
+    }
+}

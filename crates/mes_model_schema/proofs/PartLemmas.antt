@@ -1,0 +1,23 @@
+-- What a fault that is told says of the answer.
+use Rattle.std.proofs.Common.{◌≡◌}
+use Rattle.std.specs.Prelude.{Result, Err}
+use Rattle.mes_model_schema.specs.Parts.{Gives, Refuses}
+use Rattle.mes_model_schema.specs.Refusals.{Reports}
+use Rattle.mes_model_schema.specs.declared.field.FieldFault.{FieldFault}
+use Rattle.mes_model_schema.specs.declared.part.PartFault.{PartFault}
+use Rattle.mes_model_schema.specs.declared.part.PartFault.TheVariants.{Field, NoMemory}
+
+-- the fault that is expected
+pub gives_told : {V : Type 0} (expected : Result V FieldFault) (f : FieldFault) (e : PartFault) → Reports f e → expected ≡ Err f → Gives {V = V} expected (Err e)
+gives_told expected f (Field g) reported is = cc
+gives_told expected f NoMemory reported is = tt
+
+-- the same, where no other memory is taken
+pub refuses_told : {V : Type 0} (expected : Result V FieldFault) (f : FieldFault) (e : PartFault) → Reports f e → expected ≡ Err f → Refuses expected e
+refuses_told expected f (Field g) reported is = cc
+refuses_told expected f NoMemory reported is = (f, is)
+
+-- a fault that is expected is given
+pub gives_refused : {V : Type 0} (expected : Result V FieldFault) (e : PartFault) → Refuses expected e → Gives {V = V} expected (Err e)
+gives_refused expected (Field f) refused = refused
+gives_refused expected NoMemory refused = tt

@@ -1,0 +1,7 @@
+use Rattle.std.proofs.Common.{sym, subst}
+use Rattle.mes_fixed.specs.Number.{IsNumber}
+use Rattle.mes_model_schema.proofs.NumberPlaces.{whole_is_number}
+use Rattle.mes_model_schema.proofs.numbers.U64Part.write_json.Goals as goal
+
+pub append_number-requires : goal.append_number-requires
+append_number-requires c = subst IsNumber (sym c.format.ensures.text) (whole_is_number c.args.self.now c.type_inv.number.fits)

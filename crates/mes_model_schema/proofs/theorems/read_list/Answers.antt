@@ -1,0 +1,9 @@
+-- The tape of a tree begins with the tree, and nothing stands behind it.
+use Rattle.std.proofs.Common.{[], sym, ◌∙◌, append-nil}
+use Rattle.mes_json.specs.Tokens.{tokens}
+use Rattle.mes_json.specs.View.{view}
+use Rattle.mes_model_schema.proofs.theorems.read_list.Goals as goal
+
+pub returns : goal.returns
+returns g c =
+    rw (← c.along.ensures) (c.read_items.ensures (view c.args.json.now) ([], c.root.ensures ∙ (c.in_ok-tape.ensures ∙ sym (append-nil (tokens (view c.args.json.now))))))

@@ -1,0 +1,98 @@
+-- The member `type`, and the rows that depend on it.
+use Rattle.std.specs.Prelude.{◌≡◌, ◌≢◌, ◌⊎◌, ℕ, Bool, true, false, ◌||◌, ◌&&◌, not, List, [], ◌∷◌, bytes_eq, codes, if◌then◌else◌, Result, Ok}
+use Rattle.std.proofs.Common.{inl, inr}
+use Rattle.mes_json.specs.Tree.{Tree, Members}
+use Rattle.mes_json.specs.Tree.Tree.{string}
+use Rattle.mes_model_schema.specs.Paths.{Place}
+use Rattle.mes_model_schema.specs.Fields.{is_in, Has, below, fault}
+use Rattle.mes_model_schema.specs.Kinds.{◌>>=◌}
+use Rattle.mes_model_schema.specs.Leaves.{texts}
+use Rattle.mes_model_schema.specs.NameLaws.{distinct, united}
+use Rattle.mes_model_schema.specs.Rows.{Table, required}
+use Rattle.mes_model_schema.specs.declared.field.FieldFault.{FieldFault}
+use Rattle.mes_model_schema.specs.declared.field.FieldFaultKind.{FieldFaultKind}
+
+-- What the members of an object hold by its type.
+pub record Choice (F : Type 0) : Type 1 where
+  -- a value may have this type
+  pub takes : List ℕ → Bool
+  -- no type stands twice, and under none of them does a name
+  pub reported_apart : Bool
+  -- the names of the members that are read under one of them or more
+  pub names : List (List ℕ)
+  -- under a type, the members hold x
+  pub Reads : List ℕ → Members → F → Type 0
+  -- under a type, what the members of an object at a path hold, or the first fault
+  pub read : List Place → List ℕ → Members → Result F FieldFault
+  -- the type of x, and the members beside it that x is written as
+  pub type_of : F → List ℕ
+  pub members : F → List (List ℕ × Tree)
+  -- each value in x is read back from its own tree
+  pub Back : F → Type 0
+
+abbrev pub type_name : List ℕ
+type_name = codes "type"
+
+-- no further type is known
+abbrev pub no_other : FieldFaultKind → Choice ⊥
+no_other why = record {
+  takes = λ kind. false;
+  reported_apart = true;
+  names = [];
+  Reads = λ kind ms x. ⊥;
+  read = λ at kind ms. fault (below at type_name) why;
+  type_of = λ x. [];
+  members = λ x. [];
+  Back = λ x. ⊥;
+}
+
+-- any further type is kept by its name, which is none of the known ones, and no member is read or written
+abbrev pub others : List (List ℕ) → Choice (List ℕ)
+others known = record {
+  takes = λ kind. not (is_in kind known);
+  reported_apart = true;
+  names = [];
+  Reads = λ kind ms x. kind ≡ x;
+  read = λ at kind ms. Ok kind;
+  type_of = λ x. x;
+  members = λ x. [];
+  Back = λ x. is_in x known ≡ false;
+}
+
+-- under this type these rows, and else the rest; a name may stand under several types, each with a row of its own
+abbrev pub case : {F G : Type 0} → List ℕ → Table F → Choice G → Choice (F ⊎ G)
+case {F} {G} this r rest = record {
+  takes = λ kind. bytes_eq this kind || rest.takes kind;
+  reported_apart = not (rest.takes this) && (distinct r.names && rest.reported_apart);
+  names = united r.names rest.names;
+  Reads = CaseReads;
+  read = λ at kind ms. if bytes_eq kind this then (r.read at ms >>= λ x. Ok (inl x)) else (rest.read at kind ms >>= λ y. Ok (inr y));
+  type_of = case_type;
+  members = case_members;
+  Back = CaseBack;
+} where
+  CaseReads : List ℕ → Members → F ⊎ G → Type 0
+  CaseReads kind ms (inl x) = (kind ≡ this) × r.Reads ms x
+  CaseReads kind ms (inr y) = (kind ≢ this) × rest.Reads kind ms y
+
+  case_type : F ⊎ G → List ℕ
+  case_type (inl x) = this
+  case_type (inr y) = rest.type_of y
+
+  case_members : F ⊎ G → List (List ℕ × Tree)
+  case_members (inl x) = r.members x
+  case_members (inr y) = rest.members y
+
+  CaseBack : F ⊎ G → Type 0
+  CaseBack (inl x) = r.Back x
+  CaseBack (inr y) = rest.Back y
+
+-- the row `type`, which must be there, and the rows of the type
+abbrev pub typed : {F : Type 0} → Choice F → Table F
+typed c = record {
+  names = type_name ∷ c.names;
+  Reads = λ ms x. (kind : List ℕ) × Has ms type_name (string kind) × c.Reads kind ms x;
+  read = λ at ms. required type_name texts at ms >>= λ kind. c.read at kind ms;
+  members = λ x. (type_name, string (c.type_of x)) ∷ c.members x;
+  Back = c.Back;
+}

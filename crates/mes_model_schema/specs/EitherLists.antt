@@ -1,0 +1,23 @@
+-- Lists that are read in two forms, the member of an object or the array itself, and written in the first.
+use Rattle.std.specs.Prelude.{◌⊎◌, ℕ, Bool, true, false, List, if◌then◌else◌}
+use Rattle.mes_json.specs.Tree.{Tree}
+use Rattle.mes_json.specs.Tree.Tree.{null, boolean, number, string, array, object}
+use Rattle.mes_model_schema.specs.Kinds.{Kind}
+use Rattle.mes_model_schema.specs.Lists.{list_of}
+use Rattle.mes_model_schema.specs.Rows.{many, message}
+
+abbrev pub is_array : Tree → Bool
+is_array (array ts) = true
+is_array null = false
+is_array (boolean x) = false
+is_array (number n) = false
+is_array (string s) = false
+is_array (object ms) = false
+
+-- an object whose member of that name is the list, or the list itself
+abbrev pub either_list : {V : Type 0} → List ℕ → Kind V → Kind (List V)
+either_list n k = record {
+  Reads = λ t vs. (message (many n k)).Reads t vs ⊎ (list_of k).Reads t vs;
+  read = λ at t. if is_array t then (list_of k).read at t else (message (many n k)).read at t;
+  tree = (message (many n k)).tree;
+}

@@ -1,0 +1,79 @@
+-- The kinds of numbers: what text is which number is said by `mes_fixed`; here its value is worked out from its parts.
+use Rattle.std.specs.Prelude.{◌≡◌, ℕ, suc, ◌+◌, ◌*◌, ◌/◌, ◌%◌, ◌^◌, Bool, true, ◌==◌, nat_lt, nat_le, if◌then◌else◌, List, length, Option, Some, None, Result, Ok, ℤ, pos, negsuc, ◌+ℤ◌, decimal}
+use Rattle.std.specs.Option.{option_and_then}
+use Rattle.std.specs.Fmt.{signed_decimal}
+use Rattle.std.specs.Int.Signed.{mag}
+use Rattle.mes_fixed.specs.declared.limits.TheConstants.{MAX_NUMBER_TEXT, MAX_UNITS}
+use Rattle.mes_fixed.specs.declared.automaton.NumberState.TheVariants.{AtStart}
+use Rattle.mes_fixed.specs.Number.{Numeral}
+use Rattle.mes_fixed.specs.Gathering.{blank, run}
+use Rattle.mes_fixed.specs.Value.{mantissa, exponent, signed, GivesUnits, GivesWhole, GivesSigned}
+use Rattle.mes_fixed.specs.Value.{Reads as ReadsNumber}
+use Rattle.mes_fixed.specs.Text.{text_of}
+use Rattle.mes_json.specs.Tree.Tree.{number}
+use Rattle.mes_model_schema.specs.Paths.{Place}
+use Rattle.mes_model_schema.specs.Fields.{fault}
+use Rattle.mes_model_schema.specs.Kinds.{Kind, ◌>>=◌}
+use Rattle.mes_model_schema.specs.Leaves.{number_of}
+use Rattle.mes_model_schema.specs.declared.field.FieldFault.{FieldFault}
+use Rattle.mes_model_schema.specs.declared.field.FieldFaultKind.TheVariants.{NumberRange}
+
+-- x, where the test holds
+abbrev pub when : {X : Type 0} → Bool → X → Option X
+when b x = if b then Some x else None
+
+-- the whole number that m * 10^e is
+abbrev pub exact : ℕ → ℤ → Option ℕ
+exact m (pos k) = Some (m * 10 ^ k)
+exact m (negsuc k) = when (m % 10 ^ suc k == 0) (m / 10 ^ suc k)
+
+-- the whole number that is nearest to m * 10^e, a half upwards
+abbrev pub nearest : ℕ → ℤ → ℕ
+nearest m (pos k) = m * 10 ^ k
+nearest m (negsuc k) = (2 * m + 10 ^ suc k) / (2 * 10 ^ suc k)
+
+-- no minus sign stands before a digit other than zero
+abbrev pub is_unsigned : Numeral → Bool
+is_unsigned n = if n.negative then mantissa n == 0 else true
+
+abbrev pub whole_value : Numeral → Option ℕ
+whole_value n =
+    if is_unsigned n then option_and_then (λ v. when (nat_lt v (2 ^ 64)) v) (exact (mantissa n) (exponent n)) else None
+
+abbrev pub signed_value : Numeral → Option ℤ
+signed_value n =
+    option_and_then (λ v. when (nat_lt (mag (signed n.negative v)) (2 ^ 31)) (signed n.negative v)) (exact (mantissa n) (exponent n))
+
+abbrev pub units_of : ℕ → Numeral → ℕ
+units_of places n = nearest (mantissa n) (exponent n +ℤ pos places)
+
+abbrev pub units_value : ℕ → Numeral → Option ℕ
+units_value places n = if is_unsigned n then when (nat_le (units_of places n) MAX_UNITS) (units_of places n) else None
+
+-- the value of a text of at most MAX_NUMBER_TEXT bytes
+abbrev pub value_of : {X : Type 0} → (Numeral → Option X) → List ℕ → Option X
+value_of value text = if nat_le (length text) MAX_NUMBER_TEXT then option_and_then value (run AtStart blank text) else None
+
+abbrev pub or_range : {X : Type 0} → List Place → Option X → Result X FieldFault
+or_range at None = fault at NumberRange
+or_range at (Some x) = Ok x
+
+-- numbers that give an X, which is written so
+abbrev pub numbers : {X : Type 0} → (Numeral → X → Type 0) → (Numeral → Option X) → (X → List ℕ) → Kind X
+numbers Gives value write = record {
+  Reads = λ t x. (text : List ℕ) × (t ≡ number text) × ReadsNumber Gives text x;
+  read = λ at t. number_of at t >>= λ text. or_range at (value_of value text);
+  tree = λ x. number (write x);
+}
+
+-- whole numbers of 64 bits
+unfoldable pub whole : Kind ℕ
+whole = numbers GivesWhole whole_value decimal
+
+-- whole numbers of 32 bits and a sign
+unfoldable pub signed32 : Kind ℤ
+signed32 = numbers GivesSigned signed_value signed_decimal
+
+-- decimal numbers, as units of 10^-places, rounded to the nearest
+unfoldable pub fixed : ℕ → Kind ℕ
+fixed places = numbers (GivesUnits places) (units_value places) (text_of places)

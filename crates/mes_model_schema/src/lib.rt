@@ -1,0 +1,78 @@
+#![tactic(auto)]
+//! Messages as tables of rows, each read, written and copied by its rows; the kinds of values, paths into a JSON value, and faults.
+
+mod append;
+mod blocks;
+mod boxed;
+mod bytes;
+mod choice;
+mod field;
+pub mod first_fault;
+mod found;
+mod groups;
+mod kept;
+mod label;
+mod leaf;
+mod leaves;
+mod letters;
+mod limits;
+mod list;
+mod message;
+mod numbers;
+mod pairs;
+mod part;
+mod path;
+mod path_builder;
+mod read_row;
+mod refusal;
+mod row;
+mod row_list;
+mod row_ref;
+mod row_refs;
+mod theorems;
+mod typed;
+mod write_row;
+
+pub use append::{
+    append_name, close_object, deeper, list_text, write_case_text, write_flag_text,
+    write_optional_text, write_repeated_text, write_row_text, write_type_text,
+};
+pub use boxed::{Boxed, BoxedFault};
+pub use bytes::Bytes;
+pub use choice::Choice;
+pub use field::{FieldFault, FieldFaultKind};
+pub use found::{Found, find_rows, nothing_found};
+pub use kept::Kept;
+pub use label::{Label, Labels};
+pub use leaf::text_in;
+pub use limits::{MAX_PATH_NAME, MAX_PATH_STEPS, MAX_PATH_TEXT, MAX_ROWS};
+pub use list::List;
+pub use mes_fixed as fixed;
+pub use mes_json as json;
+pub use message::{
+    ConstructFrom, message_text, message_tree, read_message, read_typed, typed_text, typed_tree,
+};
+pub use pairs::{
+    Rows1, Rows2, Rows3, Rows4, Rows5, Rows6, Rows7, Rows8, Rows9, Rows10, Rows11, Rows12, Rows13,
+    Rows14, Rows15, Rows16,
+};
+pub use part::{Part, PartFault};
+pub use path::{Path, Step};
+pub use path_builder::PathBuilder;
+pub use read_row::{
+    flagged, left_out, optional, read_either_list, read_items, repeated, required, type_of,
+};
+pub use refusal::{refusal_at, type_refusal};
+pub use row::{Flag, OptionalRow, RepeatedRow, RequiredRow, Row};
+pub use row_list::RowList;
+pub use row_ref::{RequiredRowRef, RowRef};
+pub use row_refs::RowRefs;
+pub use theorems::{
+    either_list_reading_is_unique, either_list_returned, list_reading_is_unique, list_returned,
+    most_steps, one_answer, part_limits, read_list, read_part, returned, written_again,
+};
+pub use typed::{Typed, TypedRef};
+pub use write_row::{
+    copy_list, copy_some, list_tree, push_flag_tree, push_optional_tree, push_repeated_tree,
+    push_type_tree, put, whole_object,
+};

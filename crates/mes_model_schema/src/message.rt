@@ -1,0 +1,125 @@
+//! A message whose rows are a table: read, written and copied by its rows.
+
+ghost use Rattle.std.specs.Prelude.{◌≡◌, true, ◌+◌, ◌≤◌, length, map, IfOk, OnOk};
+ghost use Rattle.mes_json.specs.Tree.{Tree};
+ghost use Rattle.mes_json.specs.Tree.Tree.{object};
+ghost use Rattle.mes_json.specs.Tokens.{BeginsWith};
+ghost use Rattle.mes_json.specs.View.{view, members_of};
+ghost use Rattle.mes_model_schema.specs.Appended.{Appends};
+ghost use Rattle.mes_model_schema.specs.Layouts.{message_of};
+ghost use Rattle.mes_model_schema.specs.Rows.{message};
+ghost use Rattle.mes_model_schema.specs.Parts.{Gives};
+ghost use Rattle.mes_model_schema.specs.RowNames.{are_names};
+
+use crate::append::close_object;
+use crate::choice::Choice;
+use crate::found::{find_rows, nothing_found};
+use crate::limits::{MAX_PATH_STEPS, MAX_ROWS};
+use crate::part::PartFault;
+use crate::path_builder::PathBuilder;
+use crate::row_list::RowList;
+use crate::row_refs::RowRefs;
+use crate::write_row::whole_object;
+use mes_json::{Element, Json, NoMemory};
+use std::alloc::Global;
+
+/// A value that is made of the values of its rows.
+pub trait ConstructFrom<V>: Drop {
+    // What the values make.
+    ghost to: { V → Self };
+
+    /// The value that these make. Takes no memory.
+    fn made_of(values: V) -> Self
+        ensures { result ≡ to values };
+}
+
+/// The message that stands at the place, by its rows, whose names are these; or the first fault.
+pub fn read_message<R: RowList, M: ConstructFrom<R::Values>, const N: usize>(
+    alloc: Global,
+    element: &Element<'_>,
+    names: &[&'static str],
+    path: &PathBuilder<'_>,
+) -> Result<M, PartFault>
+    requires room { length path.now + R.STEPS ≤ MAX_PATH_STEPS }
+    requires most { N ≤ MAX_ROWS }
+    requires each { length names.now ≡ N }
+    requires rows { R.COUNT ≡ length names.now }
+    requires names { are_names (map (λ n. n.now) names.now) ≡ true }
+    requires fits { R.fits (map (λ n. n.now) names.now) 0 ≡ true }
+    ensures { (t : Tree) → BeginsWith element.now t
+        → Gives (message_of (R.table (map (λ n. n.now) names.now) 0) M.to path.now t) result }
+{
+    let mut found = nothing_found::<N>();
+    find_rows(alloc, element, names, path, &mut found)?;
+    let values = R::read_rows(alloc, found.as_slice(), names, 0, path)?;
+    Ok(M::made_of(values))
+}
+
+/// What a message is written as whose rows hold these values.
+pub fn message_tree<R: RowRefs>(alloc: Global, names: &[&str], rows: &R) -> Result<Json, NoMemory>
+    requires { R.COUNT ≡ length names.now }
+    ensures tree { IfOk result (λ t. view t
+        ≡ object (members_of ((R.table (map (λ n. n.now) names.now) 0).members (R.values rows.now)))) }
+    ensures back { OnOk result ((R.table (map (λ n. n.now) names.now) 0).Back (R.values rows.now)) }
+{
+    let mut members = Vec::new(alloc);
+    rows.push_rows_tree(&mut members, alloc, names, 0)?;
+    Ok(whole_object(members))
+}
+
+/// Appends the text of a message whose rows hold these values, and tells how deep it nests.
+pub fn message_text<R: RowRefs>(
+    alloc: Global,
+    names: &[&str],
+    rows: &R,
+    out: &mut Vec<u8>,
+) -> Result<u64, NoMemory>
+    requires { R.COUNT ≡ length names.now }
+    ensures text { IfOk result (λ deep. Appends out.old.items
+        (object (members_of ((R.table (map (λ n. n.now) names.now) 0).members (R.values rows.now)))) out.new.items deep) }
+    ensures back { OnOk result ((R.table (map (λ n. n.now) names.now) 0).Back (R.values rows.now)) }
+{
+    let start = out.len();
+    let deepest = rows.write_rows_text(alloc, names, 0, out)?;
+    close_object(deepest, start, out)
+}
+
+/// The value with a type that stands at the place, whose rows are the whole message; or the first fault.
+#[inline(always)]
+pub fn read_typed<C: Choice, const N: usize>(
+    alloc: Global,
+    element: &Element<'_>,
+    names: &[&'static str],
+    path: &PathBuilder<'_>,
+) -> Result<C, PartFault>
+    requires room { length path.now + C.STEPS ≤ MAX_PATH_STEPS }
+    requires most { N ≤ MAX_ROWS }
+    requires each { length names.now ≡ N }
+    requires names { are_names (map (λ n. n.now) names.now) ≡ true }
+    requires fits { map (λ n. n.now) names.now ≡ C.names }
+    ensures { (t : Tree) → BeginsWith element.now t → Gives ((message C.table).read path.now t) result }
+{
+    let mut found = nothing_found::<N>();
+    find_rows(alloc, element, names, path, &mut found)?;
+    C::read_choice(alloc, found.as_slice(), path)
+}
+
+/// What a value with a type is written as whose rows are the whole message.
+pub fn typed_tree<C: Choice>(alloc: Global, value: &C) -> Result<Json, NoMemory>
+    ensures tree { IfOk result (λ t. view t ≡ (message C.table).tree value.now) }
+    ensures back { OnOk result (C.table.Back value.now) }
+{
+    let mut members = Vec::new(alloc);
+    value.push_choice_tree(&mut members, alloc)?;
+    Ok(whole_object(members))
+}
+
+/// Appends the text of a value with a type whose rows are the whole message, and tells how deep it nests.
+pub fn typed_text<C: Choice>(alloc: Global, value: &C, out: &mut Vec<u8>) -> Result<u64, NoMemory>
+    ensures text { IfOk result (λ deep. Appends out.old.items ((message C.table).tree value.now) out.new.items deep) }
+    ensures back { OnOk result (C.table.Back value.now) }
+{
+    let start = out.len();
+    let deepest = value.write_choice_text(alloc, out)?;
+    close_object(deepest, start, out)
+}

@@ -1,0 +1,102 @@
+//! Values that messages are made of, each read from a place of a tape and written as a tree.
+
+ghost use Rattle.std.specs.Prelude.{◌≡◌, ℕ, ◌+◌, ◌≤◌, length, IfOk, OnOk};
+ghost use Rattle.mes_json.specs.Tree.{Tree};
+ghost use Rattle.mes_json.specs.Tokens.{BeginsWith};
+ghost use Rattle.mes_json.specs.View.{view};
+ghost use Rattle.mes_model_schema.specs.Appended.{Appends};
+ghost use Rattle.mes_model_schema.specs.Kinds.{Kind, Lawful, Returns};
+ghost use Rattle.mes_model_schema.specs.Parts.{Gives};
+ghost use Rattle.mes_model_schema.specs.declared.part.PartFault.TheVariants.{NoMemory as no_memory};
+
+use crate::boxed::BoxedFault;
+use crate::limits::MAX_PATH_STEPS;
+use crate::path::Path;
+use crate::path_builder::PathBuilder;
+use mes_json::{Element, Json, NoMemory, Tape, write_text};
+use std::alloc::{AllocError, AllocFailed, Global};
+
+/// Why a value was not read from a tree.
+#[derive(Debug, Drop)]
+pub enum PartFault {
+    /// The tree is no such value.
+    Field(BoxedFault),
+    /// A growth was refused memory.
+    NoMemory,
+}
+
+impl From<NoMemory> for PartFault {
+    ghost from_gives = { λ _ e. e ≡ no_memory };
+
+    fn from(_refused: NoMemory) -> PartFault {
+        PartFault::NoMemory
+    }
+}
+
+impl From<AllocError> for PartFault {
+    ghost from_gives = { λ _ e. e ≡ no_memory };
+
+    fn from(_refused: AllocError) -> PartFault {
+        PartFault::NoMemory
+    }
+}
+
+impl<T: Drop> From<AllocFailed<T>> for PartFault {
+    ghost from_gives = { λ _ e. e ≡ no_memory };
+
+    fn from(_refused: AllocFailed<T>) -> PartFault {
+        PartFault::NoMemory
+    }
+}
+
+/// A value that a message may hold, or a message.
+pub trait Part: Drop {
+    ghost kind: { Kind Self };
+
+    ghost STEPS: { ℕ };
+
+    /// The most steps from a value of this type to the place of a fault in it.
+    const STEPS: u32;
+
+    /// The value that stands at the place, whose path this is, or the first fault.
+    fn read_from(
+        alloc: Global,
+        element: &Element<'_>,
+        path: &PathBuilder<'_>,
+    ) -> Result<Self, PartFault>
+        requires { length path.now + STEPS ≤ MAX_PATH_STEPS }
+        ensures { (t : Tree) → BeginsWith element.now t → Gives (kind.read path.now t) result };
+
+    /// The value that a tree is, where it stands at the path, or the first fault. The tree is laid on a tape.
+    final fn read(alloc: Global, json: &Json, path: &Path) -> Result<Self, PartFault>
+        requires { length path.now + STEPS ≤ MAX_PATH_STEPS }
+        ensures { Gives (kind.read path.now (view json.now)) result }
+    {
+        let tape = Tape::of_json(alloc, json)?;
+        Self::read_from(alloc, &tape.root(), &PathBuilder::along(path))
+    }
+
+    /// What the value is written as.
+    fn tree(&self, alloc: Global) -> Result<Json, NoMemory>
+        ensures tree { IfOk result (λ t. view t ≡ kind.tree self.now) }
+        // It is read back.
+        ensures back { OnOk result (Returns kind self.now) };
+
+    /// Appends the canonical text of what the value is written as, and tells how deep that nests. After want of memory what stands
+    /// in `out` is of no use.
+    fn write_json(&self, alloc: Global, out: &mut Vec<u8>) -> Result<u64, NoMemory>
+        ensures text { IfOk result (λ deep. Appends out.old.items (kind.tree self.now) out.new.items deep) }
+        // It is read back.
+        ensures back { OnOk result (Returns kind self.now) }
+    {
+        let tree = self.tree(alloc)?;
+        write_text(&tree, out)?;
+        Ok(tree.depth())
+    }
+
+    /// The same value, in memory of its own.
+    fn copy(&self, alloc: Global) -> Result<Self, NoMemory>
+        ensures { IfOk result (λ v. v ≡ self.now) };
+
+    ghost lawful: { Lawful kind STEPS };
+}

@@ -1,0 +1,87 @@
+//! The way to a place of a JSON value while it is read.
+
+ghost use Rattle.std.specs.Prelude.{◌≡◌, ◌<◌, [], ◌∷◌, ◌++◌, length};
+ghost use Rattle.mes_model_schema.specs.Paths.{IsPlace};
+ghost use Rattle.mes_model_schema.specs.Steps.{place_of};
+
+use crate::limits::MAX_PATH_STEPS;
+use crate::path::{Path, Step};
+use std::marker::Model;
+
+/// The way from a JSON value to a place in it: the last step, and the way to the place above. Going a step on copies nothing;
+/// a path is made of it where a fault is told.
+#[cycle(trail)]
+#[derive(Drop)]
+pub struct PathBuilder<'a> {
+    link: Link<'a>,
+}
+
+#[cycle(trail)]
+#[derive(Drop)]
+enum Link<'a> {
+    /// No step.
+    Start,
+    /// The steps of a path.
+    Along(&'a Path),
+    /// One more step.
+    Below(&'a PathBuilder<'a>, Step),
+}
+
+impl<'a> Model for PathBuilder<'a> {
+    ghost use Rattle.std.specs.Prelude.{List, length};
+    ghost use Rattle.mes_model_schema.specs.Paths.{Place};
+
+    ghost Value = { List Place };
+
+    ghost use Rattle.mes_model_schema.specs.PathBuilders.{places, HasRoom};
+
+    ghost view = { λ t. places t.link };
+
+    ghost invariant = { λ t. HasRoom t.link };
+
+    ghost size = { length };
+
+    ghost use Rattle.std.proofs.Common.{arith, length-append};
+
+    ghost size_decreases = { λ a h. Prim.grind (arith, length-append) };
+}
+
+impl<'a> PathBuilder<'a> {
+    /// The way to the value itself.
+    pub fn new() -> PathBuilder<'a>
+        ensures { result ≡ [] }
+    {
+        PathBuilder { link: Link::Start }
+    }
+
+    /// The way along the steps of a path.
+    pub fn along(path: &'a Path) -> PathBuilder<'a>
+        ensures { result ≡ path.now }
+    {
+        PathBuilder {
+            link: Link::Along(path),
+        }
+    }
+
+    /// The way with one more step at its end; takes no memory.
+    pub fn with(&self, step: Step) -> PathBuilder<'_>
+        requires room { length self.now < MAX_PATH_STEPS }
+        requires step { IsPlace (place_of step) }
+        ensures { result ≡ self.now ++ place_of step ∷ [] }
+    {
+        PathBuilder {
+            link: Link::Below(self, step),
+        }
+    }
+
+    /// The path of its steps; takes no memory.
+    pub fn path(&self) -> Path
+        ensures { result ≡ self.now }
+    {
+        match &self.link {
+            Link::Start => Path::new(),
+            Link::Along(path) => path.copy(),
+            Link::Below(above, step) => above.path().with(*step),
+        }
+    }
+}

@@ -1,0 +1,173 @@
+//! What the rows of a message hold, borrowed: each is written under its name, and copied.
+
+ghost use Rattle.std.specs.Prelude.{◌≡◌, ℕ, ◌++◌, List as list, IfOk, IfErr, OnOk};
+ghost use Rattle.mes_model_schema.specs.Appended.{AppendsMembers};
+ghost use Rattle.mes_model_schema.specs.Rows.{Table, need, maybe, many, flag};
+ghost use Rattle.mes_model_schema.specs.Written.{pairs_view};
+
+use crate::append::{write_flag_text, write_optional_text, write_repeated_text, write_row_text};
+use crate::list::List;
+use crate::part::Part;
+use crate::write_row::{
+    copy_list, copy_some, push_flag_tree, push_optional_tree, push_repeated_tree, put,
+};
+use mes_json::{Json, NoMemory, Text};
+use std::alloc::Global;
+
+/// What a row holds.
+pub trait RowRef {
+    /// The same in memory of its own.
+    type Value: Drop;
+
+    // The row of this name, as a table.
+    ghost table: { list ℕ → Table Self.Value };
+
+    // The value that is borrowed.
+    ghost value: { Self → Self.Value };
+
+    /// Appends the member that it is written as, if it is written. After want of memory the members are as they were.
+    fn push_row_tree(
+        &self,
+        members: &mut Vec<(Text, Json)>,
+        alloc: Global,
+        name: &str,
+    ) -> Result<(), NoMemory>
+        ensures members { OnOk result (pairs_view members.new.items ≡ pairs_view members.old.items ++ (table name.now).members (value self.now)) }
+        ensures unchanged { IfErr result (λ _. pairs_view members.new.items ≡ pairs_view members.old.items) }
+        ensures back { OnOk result ((table name.now).Back (value self.now)) };
+
+    /// Appends the text of that member behind a comma, and tells how deep its value nests. After want of memory what stands in `out`
+    /// is of no use.
+    fn write_row_text(&self, alloc: Global, name: &str, out: &mut Vec<u8>) -> Result<u64, NoMemory>
+        ensures members { IfOk result (λ deep. AppendsMembers out.old.items ((table name.now).members (value self.now)) out.new.items deep) }
+        ensures back { OnOk result ((table name.now).Back (value self.now)) };
+
+    /// The same value, in memory of its own.
+    fn copy_row(&self, alloc: Global) -> Result<Self::Value, NoMemory>
+        ensures { IfOk result (λ v. v ≡ value self.now) };
+}
+
+/// The value of a row that must be there.
+#[derive(Drop)]
+pub struct RequiredRowRef<'a, T>(pub &'a T);
+
+impl<'a, T: Part> RowRef for RequiredRowRef<'a, T> {
+    type Value = T;
+
+    ghost table = { λ n. need n T.kind };
+
+    ghost value = { λ r. r.0.now };
+
+    fn push_row_tree(
+        &self,
+        members: &mut Vec<(Text, Json)>,
+        alloc: Global,
+        name: &str,
+    ) -> Result<(), NoMemory> {
+        put(members, alloc, name, self.0)
+    }
+
+    fn write_row_text(
+        &self,
+        alloc: Global,
+        name: &str,
+        out: &mut Vec<u8>,
+    ) -> Result<u64, NoMemory> {
+        write_row_text(alloc, name, self.0, out)
+    }
+
+    fn copy_row(&self, alloc: Global) -> Result<T, NoMemory> {
+        self.0.copy(alloc)
+    }
+}
+
+impl<'a, T: Part> RowRef for &'a Option<T> {
+    type Value = Option<T>;
+
+    ghost table = { λ n. maybe n T.kind };
+
+    ghost value = { λ r. r.now };
+
+    fn push_row_tree(
+        &self,
+        members: &mut Vec<(Text, Json)>,
+        alloc: Global,
+        name: &str,
+    ) -> Result<(), NoMemory> {
+        push_optional_tree(members, alloc, name, self)
+    }
+
+    fn write_row_text(
+        &self,
+        alloc: Global,
+        name: &str,
+        out: &mut Vec<u8>,
+    ) -> Result<u64, NoMemory> {
+        write_optional_text(alloc, name, self, out)
+    }
+
+    fn copy_row(&self, alloc: Global) -> Result<Option<T>, NoMemory> {
+        copy_some(alloc, self)
+    }
+}
+
+impl<'a, T: Part> RowRef for &'a List<T> {
+    type Value = List<T>;
+
+    ghost table = { λ n. many n T.kind };
+
+    ghost value = { λ r. r.now };
+
+    fn push_row_tree(
+        &self,
+        members: &mut Vec<(Text, Json)>,
+        alloc: Global,
+        name: &str,
+    ) -> Result<(), NoMemory> {
+        push_repeated_tree(members, alloc, name, self)
+    }
+
+    fn write_row_text(
+        &self,
+        alloc: Global,
+        name: &str,
+        out: &mut Vec<u8>,
+    ) -> Result<u64, NoMemory> {
+        write_repeated_text(alloc, name, self, out)
+    }
+
+    fn copy_row(&self, alloc: Global) -> Result<List<T>, NoMemory> {
+        copy_list(alloc, self)
+    }
+}
+
+/// A flag.
+impl RowRef for bool {
+    type Value = bool;
+
+    ghost table = { flag };
+
+    ghost value = { λ r. r };
+
+    fn push_row_tree(
+        &self,
+        members: &mut Vec<(Text, Json)>,
+        alloc: Global,
+        name: &str,
+    ) -> Result<(), NoMemory> {
+        push_flag_tree(members, alloc, name, *self)
+    }
+
+    fn write_row_text(
+        &self,
+        _alloc: Global,
+        name: &str,
+        out: &mut Vec<u8>,
+    ) -> Result<u64, NoMemory> {
+        write_flag_text(name, *self, out)
+    }
+
+    fn copy_row(&self, _alloc: Global) -> Result<bool, NoMemory> {
+        Ok(*self)
+    }
+}

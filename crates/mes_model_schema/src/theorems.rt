@@ -1,0 +1,91 @@
+//! What holds of every part, as contracts of generic calls.
+
+ghost use Rattle.std.specs.Prelude.{◌≡◌, ℕ, ◌+◌, ◌≤◌, List as list, Ok, length, IfOk, IfErr};
+ghost use Rattle.mes_json.specs.Tree.{Tree};
+ghost use Rattle.mes_model_schema.specs.Paths.{Place};
+ghost use Rattle.mes_json.specs.View.{view};
+ghost use Rattle.mes_model_schema.specs.Kinds.{Settled, Within, Reaches, Returns};
+ghost use Rattle.mes_model_schema.specs.Lists.{list_of};
+ghost use Rattle.mes_model_schema.specs.EitherLists.{either_list};
+ghost use Rattle.mes_model_schema.specs.Rows.{ReturnsEach};
+ghost use Rattle.mes_model_schema.specs.Parts.{Gives, IsFirstFault};
+
+use crate::limits::{MAX_PATH_NAME, MAX_PATH_STEPS, MAX_PATH_TEXT, MAX_ROWS};
+use crate::list::List;
+use crate::part::{Part, PartFault};
+use crate::path::Path;
+use crate::path_builder::PathBuilder;
+use crate::read_row::read_items;
+use mes_json::{Json, Tape};
+use std::alloc::Global;
+
+/// Any tree at any path is one value of the type, or has one first fault.
+pub fn one_answer<T: Part>()
+    ensures { (at : list Place) (t : Tree) → Settled T.kind at t }
+{}
+
+/// No fault of a tree lies more than `STEPS` steps below its path, and a fault of some tree, which is not `null`, lies just so many.
+pub fn most_steps<T: Part>()
+    ensures within { Within T.kind T.STEPS }
+    ensures reached { Reaches T.kind T.STEPS }
+{}
+
+/// A value that is read back from the tree that it is written as is read there at any path.
+pub fn returned<T: Part>()
+    ensures { (at : list Place) (value : T) → Returns T.kind value → T.kind.read at (T.kind.tree value) ≡ Ok value }
+{}
+
+/// Any tree at any path is one list of values of the type, or has one first fault.
+pub fn list_reading_is_unique<T: Part>()
+    ensures { (at : list Place) (t : Tree) → Settled (list_of T.kind) at t }
+{}
+
+/// A list whose values are read back is read back from the tree that it is written as.
+pub fn list_returned<T: Part>()
+    ensures { (at : list Place) (values : list T) → ReturnsEach T.kind values
+        → (list_of T.kind).read at ((list_of T.kind).tree values) ≡ Ok values }
+{}
+
+/// Any tree at any path is one list of values of the type in either of a list's forms, or has one first fault.
+pub fn either_list_reading_is_unique<T: Part>()
+    ensures { (n : list ℕ) (at : list Place) (t : Tree) → Settled (either_list n T.kind) at t }
+{}
+
+/// A list whose values are read back is read back from the object that it is written as.
+pub fn either_list_returned<T: Part>()
+    ensures { (n : list ℕ) (at : list Place) (values : list T) → ReturnsEach T.kind values
+        → (either_list n T.kind).read at ((either_list n T.kind).tree values) ≡ Ok values }
+{}
+
+/// The value that is read where another is written: the same one. It takes the memory of its tree.
+pub fn written_again<T: Part>(alloc: Global, value: &T) -> Result<T, PartFault>
+    requires { T.STEPS ≤ MAX_PATH_STEPS }
+    ensures { Gives (Ok value.now) result }
+{
+    let tree = value.tree(alloc)?;
+    T::read(alloc, &tree, &Path::new())
+}
+
+/// The value that a tree is, exactly.
+pub fn read_part<T: Part>(alloc: Global, json: &Json, path: &Path) -> Result<T, PartFault>
+    requires { length path.now + T.STEPS ≤ MAX_PATH_STEPS }
+    ensures found { IfOk result (λ v. T.kind.Reads (view json.now) v) }
+    ensures only { (v : T) → T.kind.Reads (view json.now) v → Gives (Ok v) result }
+    ensures fault { IfErr result (λ e. IsFirstFault T.kind path.now (view json.now) e) }
+{
+    T::read(alloc, json, path)
+}
+
+/// The values that the items of an array are, in order, or the first fault. The array is laid on a tape.
+pub fn read_list<T: Part>(alloc: Global, json: &Json, path: &Path) -> Result<List<T>, PartFault>
+    requires { length path.now + 1 + T.STEPS ≤ MAX_PATH_STEPS }
+    ensures { Gives ((list_of T.kind).read path.now (view json.now)) result }
+{
+    let tape = Tape::of_json(alloc, json)?;
+    read_items(alloc, &tape.root(), &PathBuilder::along(path))
+}
+
+/// A path has at most 16 steps, whose names have at most 31 bytes, and its text at most 512; a message has at most 64 rows.
+pub fn part_limits()
+    ensures { (MAX_PATH_STEPS ≡ 16) × (MAX_PATH_NAME ≡ 31) × (MAX_PATH_TEXT ≡ 512) × (MAX_ROWS ≡ 64) }
+{}

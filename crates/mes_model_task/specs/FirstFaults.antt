@@ -1,0 +1,42 @@
+-- The first fault of a status, as its table is written.
+use Rattle.std.specs.Prelude.{codes}
+use Rattle.mes_model_schema.specs.Binary.{base64_bytes}
+use Rattle.mes_model_schema.specs.Leaves.{texts, booleans}
+use Rattle.mes_model_schema.specs.Numbers.{fixed}
+use Rattle.mes_model_schema.specs.Labels.{labels}
+use Rattle.mes_model_schema.specs.FirstRows.{OfRows, NoRows, NeedThen, MaybeThen}
+use Rattle.mes_model_resource.specs.Ids.{id}
+use Rattle.mes_model_task.specs.TaskStates.{states}
+use Rattle.mes_model_task.specs.Times.{time_info}
+
+-- task_id !, state !, message ?, source ?, reason ?, data ?, agent_id ?, executor_id ?, timestamp ?, uuid ?, healthy ?, labels ?,
+-- unreachable_time ?
+abbrev pub OfStatus : OfRows
+OfStatus =
+    NeedThen (codes "task_id") id (
+    NeedThen (codes "state") states (
+    MaybeThen (codes "message") texts (
+    MaybeThen (codes "source") texts (
+    MaybeThen (codes "reason") texts (
+    MaybeThen (codes "data") base64_bytes (
+    MaybeThen (codes "agent_id") id (
+    MaybeThen (codes "executor_id") id (
+    MaybeThen (codes "timestamp") (fixed 6) (
+    MaybeThen (codes "uuid") base64_bytes (
+    MaybeThen (codes "healthy") booleans (
+    MaybeThen (codes "labels") labels (
+    MaybeThen (codes "unreachable_time") time_info (
+    NoRows
+    )
+    )
+    )
+    )
+    )
+    )
+    )
+    )
+    )
+    )
+    )
+    )
+    )

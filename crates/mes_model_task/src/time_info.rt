@@ -1,0 +1,73 @@
+//! A moment.
+
+use mes_model_schema::json::{self, Element, NoMemory};
+use mes_model_schema::{
+    ConstructFrom, Part, PartFault, PathBuilder, RequiredRow, RequiredRowRef, RowList, RowRefs,
+    Rows1, made, message_text, message_tree, pairs, read_message,
+};
+use std::alloc::Global;
+
+/// A moment.
+#[derive(Debug, Drop)]
+pub struct TimeInfo {
+    /// The nanoseconds since the beginning of 1970 (UTC). The field of `mesos.proto` is signed; no moment before 1970 is read.
+    pub nanoseconds: u64,
+}
+
+/// The names of the rows of a moment, in the order of the table.
+const TIME_INFO_NAMES: [&str; 1] = ["nanoseconds"];
+
+type TimeInfoRows = Rows1<RequiredRow<u64>>;
+
+impl ConstructFrom<<TimeInfoRows as RowList>::Values> for TimeInfo {
+    ghost use Rattle.mes_model_task.specs.Times.{time_info_layout};
+
+    ghost to = { time_info_layout.to };
+
+    fn made_of(values: <TimeInfoRows as RowList>::Values) -> TimeInfo {
+        made!(values => TimeInfo { nanoseconds })
+    }
+}
+
+/// What the rows of a moment hold.
+macro_rules! time_info_rows {
+    ($of:ident) => {
+        pairs!(RequiredRowRef(&$of.nanoseconds))
+    };
+}
+
+impl Part for TimeInfo {
+    ghost use Rattle.mes_model_task.specs.Times.{time_info, lawful_time_info};
+
+    ghost kind = { time_info };
+
+    ghost STEPS = { 1 };
+
+    const STEPS: u32 = 1;
+
+    ghost lawful = { lawful_time_info };
+
+    #[tactic(auto, unfolding(crate::specs::Times::time_info))]
+    fn read_from(
+        alloc: Global,
+        element: &Element<'_>,
+        path: &PathBuilder<'_>,
+    ) -> Result<TimeInfo, PartFault> {
+        read_message::<TimeInfoRows, TimeInfo, 1>(alloc, element, &TIME_INFO_NAMES, path)
+    }
+
+    #[tactic(auto, using(crate::specs::Times::time_info_back), unfolding(crate::specs::Times::time_info))]
+    fn tree(&self, alloc: Global) -> Result<json::Json, NoMemory> {
+        message_tree(alloc, &TIME_INFO_NAMES, &time_info_rows!(self))
+    }
+
+    #[tactic(auto, using(crate::specs::Times::time_info_back), unfolding(crate::specs::Times::time_info))]
+    fn write_json(&self, alloc: Global, out: &mut Vec<u8>) -> Result<u64, NoMemory> {
+        message_text(alloc, &TIME_INFO_NAMES, &time_info_rows!(self), out)
+    }
+
+    fn copy(&self, alloc: Global) -> Result<TimeInfo, NoMemory> {
+        let values = time_info_rows!(self).copy_rows(alloc)?;
+        Ok(TimeInfo::made_of(values))
+    }
+}

@@ -1,0 +1,47 @@
+-- The first fault of a call, as its table is written.
+use Rattle.std.specs.Prelude.{ℕ, List, codes}
+use Rattle.mes_model_schema.specs.Kinds.{Kind}
+use Rattle.mes_model_schema.specs.Leaves.{left_out}
+use Rattle.mes_model_schema.specs.FirstFaults.{OptionalBreaks, NeedBreaks}
+use Rattle.mes_model_schema.specs.FirstRows.{OfRows, NeedThen, MaybeThen, TypeThen, NoType, ByType}
+use Rattle.mes_model_schema.specs.declared.field.FieldFaultKind.TheVariants.{LeftOut}
+use Rattle.mes_model_resource.specs.Ids.{id}
+use Rattle.mes_msg_record.specs.Messages.{message_body}
+use Rattle.mes_msg_call_body.specs.CallBodies.{subscribe, accept, decline, kill, acknowledge, reconcile, shutdown}
+
+-- framework_id !, and the row of a body !
+abbrev pub WithBody : {V : Type 0} → List ℕ → Kind V → OfRows
+WithBody n k = NeedThen (codes "framework_id") id (NeedBreaks k n)
+
+-- framework_id !; a body is left out
+abbrev pub WithoutBody : List ℕ → OfRows
+WithoutBody n = NeedThen (codes "framework_id") id (OptionalBreaks left_out n)
+
+-- type !, and by it framework_id, ? under SUBSCRIBE and else !, and the one row of its body; another type is left out
+abbrev pub OfCall : OfRows
+OfCall =
+    ByType (
+    TypeThen (codes "SUBSCRIBE") (MaybeThen (codes "framework_id") id (NeedBreaks subscribe (codes "subscribe"))) (
+    TypeThen (codes "ACCEPT") (WithBody (codes "accept") accept) (
+    TypeThen (codes "DECLINE") (WithBody (codes "decline") decline) (
+    TypeThen (codes "REVIVE") (WithoutBody (codes "revive")) (
+    TypeThen (codes "KILL") (WithBody (codes "kill") kill) (
+    TypeThen (codes "ACKNOWLEDGE") (WithBody (codes "acknowledge") acknowledge) (
+    TypeThen (codes "RECONCILE") (WithBody (codes "reconcile") reconcile) (
+    TypeThen (codes "TEARDOWN") (NeedBreaks id (codes "framework_id")) (
+    TypeThen (codes "SUPPRESS") (WithoutBody (codes "suppress")) (
+    TypeThen (codes "SHUTDOWN") (WithBody (codes "shutdown") shutdown) (
+    TypeThen (codes "MESSAGE") (WithBody (codes "message") message_body) (
+    NoType LeftOut
+    )
+    )
+    )
+    )
+    )
+    )
+    )
+    )
+    )
+    )
+    )
+    )

@@ -1,0 +1,22 @@
+-- The body of OFFERS: an object with the offers, or the offers alone; it is written as the object.
+use Rattle.std.specs.Prelude.{List, codes}
+use Rattle.mes_model_schema.specs.Kinds.{Kind, Lawful, Returns}
+use Rattle.mes_model_schema.specs.Rows.{ReturnsEach}
+use Rattle.mes_model_schema.specs.EitherLists.{either_list}
+use Rattle.mes_model_schema.specs.EitherListLaws.{lawful_either_list, either_list_back}
+use Rattle.mes_model_offer.specs.Offers.{offer, lawful_offer}
+use Rattle.mes_model_offer.specs.declared.offer.Offer.{Offer}
+
+-- offers *
+unfoldable pub offers : Kind (List Offer)
+offers = either_list (codes "offers") offer
+
+-- ---- its laws
+
+pub lawful_offers : Lawful offers 10
+unfolding offers
+lawful_offers = lawful_either_list lawful_offer
+
+pub offers_back : (v : List Offer) → ReturnsEach offer v → Returns offers v
+unfolding offers
+offers_back v back = either_list_back lawful_offer v back

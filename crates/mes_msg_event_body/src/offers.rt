@@ -1,0 +1,102 @@
+//! The body of OFFERS.
+ghost use Rattle.std.specs.Prelude.{◌≡◌, IfOk, OnOk};
+ghost use Rattle.mes_model_schema.specs.View.{view};
+ghost use Rattle.mes_model_schema.specs.Appended.{Appends};
+ghost use Rattle.mes_model_schema.specs.Kinds.{Returns};
+ghost use Rattle.mes_msg_event_body.specs.Offers.{offers};
+
+use mes_model_offer::Offer;
+use mes_model_schema::json::{self, Element, NoMemory};
+use mes_model_schema::{
+    List, Part, PartFault, PathBuilder, close_object, copy_list, push_repeated_tree,
+    read_either_list, whole_object, write_repeated_text,
+};
+use std::alloc::Global;
+use std::marker::Model;
+
+/// The offers of the body of OFFERS, which is read in two forms. A contract sees the list of them.
+#[derive(Debug, Drop)]
+pub struct Offers {
+    offers: List<Offer>,
+}
+
+impl Model for Offers {
+    ghost use Rattle.std.specs.Prelude.{List as list};
+    ghost use Rattle.mes_model_offer.specs.declared.offer.Offer.{Offer as OfferValue};
+    ghost use Rattle.mes_model_schema.specs.contracts.kept.Kept as kept;
+    ghost use Rattle.std.specs.Coded.{codes};
+
+    ghost Value = { list OfferValue };
+
+    ghost coded = { Prim.hlevel (codes, kept.the_row.coded) };
+
+    ghost view = { λ body. body.offers };
+}
+
+impl Offers {
+    /// The offers.
+    pub fn into_list(self) -> List<Offer>
+        ensures { result ≡ self }
+    {
+        self.offers
+    }
+}
+
+impl Part for Offers {
+    ghost use Rattle.mes_msg_event_body.specs.Offers.{offers, lawful_offers};
+
+    ghost kind = { offers };
+
+    ghost STEPS = { 10 };
+
+    const STEPS: u32 = 10;
+
+    ghost lawful = { lawful_offers };
+
+    #[tactic(auto, unfolding(crate::specs::Offers::offers))]
+    fn read_from(
+        alloc: Global,
+        element: &Element<'_>,
+        path: &PathBuilder<'_>,
+    ) -> Result<Offers, PartFault> {
+        let offers = read_either_list(alloc, element, "offers", path)?;
+        Ok(Offers { offers })
+    }
+
+    fn tree(&self, alloc: Global) -> Result<json::Json, NoMemory> {
+        offers_tree(alloc, &self.offers)
+    }
+
+    fn write_json(&self, alloc: Global, out: &mut Vec<u8>) -> Result<u64, NoMemory> {
+        offers_text(alloc, &self.offers, out)
+    }
+
+    fn copy(&self, alloc: Global) -> Result<Offers, NoMemory> {
+        let offers = copy_list(alloc, &self.offers)?;
+        Ok(Offers { offers })
+    }
+}
+
+/// What the body of OFFERS is written as.
+#[tactic(auto, using(crate::specs::Offers::offers_back), unfolding(crate::specs::Offers::offers))]
+pub fn offers_tree(alloc: Global, list: &List<Offer>) -> Result<json::Json, NoMemory>
+    ensures tree { IfOk result (λ t. view t ≡ offers.tree list.now) }
+    // It is read back.
+    ensures back { OnOk result (Returns offers list.now) }
+{
+    let mut members = Vec::new(alloc);
+    push_repeated_tree(&mut members, alloc, "offers", list)?;
+    Ok(whole_object(members))
+}
+
+/// Appends the text of the body of OFFERS, and tells how deep it nests.
+#[tactic(auto, using(crate::specs::Offers::offers_back), unfolding(crate::specs::Offers::offers))]
+pub fn offers_text(alloc: Global, list: &List<Offer>, out: &mut Vec<u8>) -> Result<u64, NoMemory>
+    ensures text { IfOk result (λ deep. Appends out.old.items (offers.tree list.now) out.new.items deep) }
+    // It is read back.
+    ensures back { OnOk result (Returns offers list.now) }
+{
+    let start = out.len();
+    let deepest = write_repeated_text(alloc, "offers", list, out)?;
+    close_object(deepest, start, out)
+}

@@ -1,0 +1,97 @@
+//! The name of an event that is none of those that are read.
+ghost use Rattle.std.specs.Prelude.{◌≡◌, IfOk, IfErr};
+ghost use Rattle.mes_model_schema.specs.Fields.{is_in};
+ghost use Rattle.mes_msg_event_body.specs.EventNames.{event_names, IsOther};
+
+use mes_model_schema::json::{NoMemory, Text};
+use std::alloc::Global;
+use std::marker::Model;
+
+/// The type of an event whose body is dropped: any text but the eight types that are read. A contract sees it as its bytes.
+#[derive(Debug, Drop)]
+pub struct OtherName {
+    name: Text,
+}
+
+impl Model for OtherName {
+    ghost use Rattle.std.specs.Prelude.{ℕ, List};
+    ghost use Rattle.mes_msg_event_body.specs.EventNames.{IsOther};
+
+    ghost Value = { List ℕ };
+
+    ghost view = { λ other. other.name };
+
+    ghost invariant = { λ other. IsOther other.name };
+}
+
+impl OtherName {
+    /// The name of another event, or the text again where it is one of the eight types that are read. Takes no memory.
+    pub fn new(name: Text) -> Result<OtherName, Text>
+        ensures ok { IfOk result (λ other. (other ≡ name) × IsOther name) }
+        ensures err { IfErr result (λ again. (again ≡ name) × (IsOther name → ⊥)) }
+    {
+        if is_read(name.as_str()) {
+            Err(name)
+        } else {
+            Ok(OtherName { name })
+        }
+    }
+
+    /// The name of an event of this type, which is none of those that are read.
+    pub fn of_type(alloc: Global, name: &str) -> Result<OtherName, NoMemory>
+        requires { IsOther name.now }
+        ensures { IfOk result (λ other. other ≡ name.now) }
+    {
+        let name = Text::of(alloc, name)?;
+        Ok(OtherName { name })
+    }
+
+    /// The name, as a text.
+    pub fn text(&self) -> &Text
+        ensures text { result.now ≡ self.now }
+        ensures other { IsOther self.now }
+    {
+        &self.name
+    }
+
+    /// The name.
+    pub fn as_str(&self) -> &str
+        ensures text { result.now ≡ self.now }
+        ensures other { IsOther self.now }
+    {
+        self.name.as_str()
+    }
+
+    /// The name, in the memory that it owned.
+    pub fn into_text(self) -> Text
+        ensures { result ≡ self }
+    {
+        let OtherName { name } = self;
+        name
+    }
+
+    /// The same name, in memory of its own.
+    pub fn copy(&self, alloc: Global) -> Result<OtherName, NoMemory>
+        ensures { IfOk result (λ other. other ≡ self.now) }
+    {
+        let name = self.name.copy(alloc)?;
+        Ok(OtherName { name })
+    }
+}
+
+/// Whether events of this type are read with their bodies.
+fn is_read(name: &str) -> bool
+    ensures { result ≡ is_in name.now event_names }
+{
+    matches!(
+        name,
+        "SUBSCRIBED"
+            | "OFFERS"
+            | "RESCIND"
+            | "UPDATE"
+            | "MESSAGE"
+            | "FAILURE"
+            | "ERROR"
+            | "HEARTBEAT"
+    )
+}

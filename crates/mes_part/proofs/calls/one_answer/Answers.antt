@@ -1,5 +1,0 @@
-use Rattle.mes_part.specs.KindLaws.{settled}
-use Rattle.mes_part.proofs.calls.one_answer.Goals as goal
-
-pub returns : goal.returns
-returns g c = λ at t. settled g.T.Part.kind g.met.T.Part.lawful at t

@@ -1,5 +1,0 @@
-use Rattle.mes_part.proofs.RowFaults.{joined_breaks}
-use Rattle.mes_part.proofs.first_fault.joined_rows_break.Goals as goal
-
-pub returns-clause-both : goal.returns-clause-both
-returns-clause-both g c = joined_breaks g.R.AnyRows.table g.S.AnyRows.table g.R.AnyRows.exact

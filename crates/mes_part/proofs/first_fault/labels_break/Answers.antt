@@ -1,8 +1,0 @@
-use Rattle.std.specs.Prelude.{codes}
-use Rattle.mes_part.specs.Labels.{label, lawful_label, labels, labels_layout}
-use Rattle.mes_part.proofs.FirstRows.{no_rows_have, list_then, layout_has}
-use Rattle.mes_part.proofs.first_fault.labels_break.Goals as goal
-
-pub returns : goal.returns
-unfolding labels
-returns c = layout_has labels_layout (list_then (codes "labels") label lawful_label no_rows_have)

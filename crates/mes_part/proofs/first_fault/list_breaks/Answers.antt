@@ -1,5 +1,0 @@
-use Rattle.mes_part.proofs.ListFaults.{list_breaks}
-use Rattle.mes_part.proofs.first_fault.list_breaks.Goals as goal
-
-pub returns : goal.returns
-returns g c = list_breaks g.T.Part.kind g.met.T.Part.lawful

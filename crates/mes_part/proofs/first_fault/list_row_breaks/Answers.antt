@@ -1,5 +1,0 @@
-use Rattle.mes_part.proofs.RowFaults.{many_breaks}
-use Rattle.mes_part.proofs.first_fault.list_row_breaks.Goals as goal
-
-pub returns : goal.returns
-returns g c = many_breaks g.T.Part.kind

@@ -1,5 +1,0 @@
-use Rattle.mes_part.proofs.RowFaults.{message_breaks}
-use Rattle.mes_part.proofs.first_fault.message_breaks.Goals as goal
-
-pub returns : goal.returns
-returns g c = message_breaks g.R.AnyRows.table

@@ -1,7 +1,0 @@
-use Rattle.mes_part.proofs.RowLemmas.{looked_value, repeated_at}
-use Rattle.mes_part.proofs.read_row.repeated.Goals as goal
-
-pub returns-in-Present : goal.returns-in-Present
-returns-in-Present g c = λ ms found.
-    let value = looked_value c.args.found.now c.args.path.now c.args.name.now ms c.sole_value.result c.in-Present.value c.sole_value.ensures c.in-Present.is found in
-    rw (repeated_at g.T.Part.kind c.args.path.now c.with.result c.args.name.now ms value.0 c.with.ensures value.1) (c.read_items.ensures value.0 value.2)

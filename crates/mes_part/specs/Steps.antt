@@ -1,9 +1,0 @@
--- The place that a step of a path names.
-use Rattle.mes_part.specs.Paths.{Place}
-use Rattle.mes_part.specs.Paths.Place.{name, index}
-use Rattle.mes_part.specs.declared.path.Step.{Step}
-use Rattle.mes_part.specs.declared.path.Step.TheVariants.{Name, Index}
-
-abbrev pub place_of : Step → Place
-place_of (Name n) = name n.now
-place_of (Index i) = index i

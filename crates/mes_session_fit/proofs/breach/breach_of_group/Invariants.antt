@@ -1,0 +1,13 @@
+use Rattle.std.proofs.Common.{◌≤◌}
+use Rattle.mes_session_fit.specs.Fits.{NoneBefore}
+use Rattle.mes_session_fit.specs.Launched.{launched, place}
+use Rattle.mes_session_fit.specs.Batches.{IsBatch}
+use Rattle.mes_session_fit.proofs.breach.breach_of_group.Given as goal
+
+-- no task so far has a breach, and the batch began among them
+abbrev pub invariant-loop-index : goal.invariant-loop-index
+invariant-loop-index g l = record {
+  none : NoneBefore (g.O.OfferList.offers l.offers) (launched g.L.TaskGroup.tasks l.launches) (place g.L.TaskGroup.tasks l.launches l.at l.index);
+  begun : l.batch.first ≤ l.index;
+  is : IsBatch g.L.TaskGroup.tasks l.launches l.at l.batch;
+}

@@ -1,0 +1,9 @@
+use Rattle.std.proofs.Common.{◌≡◌, false, take}
+use Rattle.std.specs.List.{list_any}
+use Rattle.mes_session_fit.specs.Keys.{key_of, is_of}
+use Rattle.mes_session_fit.specs.Fits.{asked}
+use Rattle.mes_session_fit.proofs.other_tasks.tasks_have_key.Given as goal
+
+-- none of the tasks so far has it
+abbrev pub invariant-loop-task : goal.invariant-loop-task
+invariant-loop-task l = list_any (is_of (key_of l.key)) (asked (take l.task-index l.tasks)) ≡ false

@@ -1,0 +1,14 @@
+use Rattle.std.proofs.Common.{◌≡◌, ◌+◌}
+use Rattle.mes_session_fit.specs.Keys.{key_of}
+use Rattle.mes_session_fit.specs.Pouring.{rest, steps}
+use Rattle.mes_session_fit.proofs.supply.Supply.take.Given as goal
+
+-- what was taken, what is wanted and what is left are what was wanted and left
+abbrev pub invariant-loop-self : goal.invariant-loop-self
+invariant-loop-self g l =
+    let offers = g.O.OfferList.offers l.offers in
+    let k = key_of l.key in
+    l.wanted + rest k offers l.initial.self ≡ l.initial.wanted + rest k offers l.self
+
+abbrev pub decreases-loop-self : goal.decreases-loop-self
+decreases-loop-self g l = steps (g.O.OfferList.offers l.offers) l.self

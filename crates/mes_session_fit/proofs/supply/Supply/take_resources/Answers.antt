@@ -1,0 +1,15 @@
+use Rattle.std.proofs.Common.{arith}
+use Rattle.mes_session_fit.specs.Keys.{key_of}
+use Rattle.mes_session_fit.specs.Fits.{amount_of}
+use Rattle.mes_session_fit.proofs.PourLemmas.{sum-more}
+use Rattle.mes_session_fit.proofs.supply.Supply.take_resources.Goals as goal
+
+pub returns-then-not-take-clause-short : goal.returns-then-not-take-clause-short
+returns-then-not-take-clause-short g c = λ _.
+    omega (
+      arith,
+      c.take.ensures.short c.if-not-take.true,
+      c.amount_under.ensures,
+      c.loop-resource.invariant,
+      sum-more (amount_of (key_of c.args.key.now)) c.args.resources.now c.loop-resource.resource-index c.resource-item.result c.loop-resource-test.true c.resource-item.is,
+    )

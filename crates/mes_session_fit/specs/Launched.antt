@@ -1,0 +1,27 @@
+-- The tasks of groups that are launched together, such as the operations of a call. Of any kind of group `tasks` tells the tasks of one.
+use Rattle.std.specs.Prelude.{◌≡◌, ℕ, ◌+◌, ◌<◌, List, length, get_or, take, min}
+use Rattle.std.specs.List.{flat_map}
+use Rattle.mes_model.specs.TaskInfo.{TaskInfo}
+use Rattle.mes_msg.specs.Operation.{Operation}
+use Rattle.mes_msg.specs.Operation.TheVariants as of
+
+-- the tasks of one operation
+abbrev pub launched_by : Operation → List TaskInfo
+launched_by (of.Launch tasks) = tasks
+
+-- those of all groups, in order
+abbrev pub launched : {G : Type 0} → (G → List TaskInfo) → List G → List TaskInfo
+launched tasks groups = flat_map tasks groups
+
+-- where the task at t of the group at g stands among all
+abbrev pub place : {G : Type 0} → (G → List TaskInfo) → List G → ℕ → ℕ → ℕ
+place tasks groups g t = length (launched tasks (take g groups)) + t
+
+-- there is a group at `at`, and a task at `task` of it
+pub record IsInRange {G : Type 0} (tasks : G → List TaskInfo) (groups : List G) (at task : ℕ) : Type 0 where
+  pub group_within : at < length groups
+  pub task_within : (group : G) → group ≡ get_or groups at group → task < length (tasks group)
+
+-- A count of tasks as an index: from 2^64 - 1 on it stays there. No machine holds so many.
+abbrev pub as_index : ℕ → ℕ
+as_index n = min n 18446744073709551615

@@ -1,0 +1,145 @@
+//! How far ranges reach: from a point on, to the end of a range that holds it.
+ghost use Rattle.std.specs.Prelude.{◌≡◌, ◌≤◌, ℕ, true, false, Some, IfSome};
+ghost use Rattle.mes_session_fit.specs.Keys.{key_of};
+ghost use Rattle.mes_session_fit.specs.Fits.{in_ranges, piece_of, has_piece, offered};
+ghost use Rattle.mes_session_fit.specs.Fits.Piece.{point};
+ghost use Rattle.mes_session_fit.specs.Looking.{Reaches, AllFrom, farther};
+
+use crate::key::same_key;
+use crate::offer_list::OfferList;
+use mes_model::{Range, Resource, ResourceValue};
+
+/// How many offers on each side of the near one are looked at before all.
+const NEAR_OFFERS: usize = 8;
+
+/// The farther of two ends.
+pub(crate) fn farther_end(end: Option<u64>, other: Option<u64>) -> Option<u64>
+    ensures { result ≡ farther end other }
+{
+    match end {
+        None => other,
+        Some(end) => match other {
+            None => Some(end),
+            Some(other) => Some(end.max(other)),
+        },
+    }
+}
+
+/// Whether an end is as far as wanted.
+fn is_far(end: Option<u64>, wanted: u64) -> bool
+    ensures { end ≡ None → result ≡ false }
+{
+    match end {
+        None => false,
+        Some(end) => end >= wanted,
+    }
+}
+
+/// How far ranges reach from a point on: to the last end of those that hold it, or to the first that is as far as wanted.
+pub(crate) fn range_reach(ranges: &[Range], at: u64, wanted: u64) -> Option<u64>
+    ensures { Reaches (λ x. in_ranges x ranges.now) at result }
+{
+    let mut reach = None;
+    for range in ranges {
+        if range.first <= at && at <= range.last {
+            if range.last >= wanted {
+                return Some(range.last);
+            }
+            reach = farther_end(reach, Some(range.last));
+        }
+    }
+    reach
+}
+
+/// How far a resource reaches under a key.
+fn value_reach(resource: &Resource, key: &Resource, at: u64, wanted: u64) -> Option<u64>
+    ensures { Reaches (λ x. piece_of (key_of key.now) (point x) resource.now) at result }
+{
+    if let ResourceValue::Ranges(ranges) = &resource.value {
+        let reach = range_reach(ranges.range.as_slice(), at, wanted);
+        if reach.is_some() && same_key(key, resource) {
+            return reach;
+        }
+    }
+    None
+}
+
+/// How far resources reach under a key.
+pub(crate) fn resource_reach(
+    resources: &[Resource],
+    key: &Resource,
+    at: u64,
+    wanted: u64,
+) -> Option<u64>
+    ensures { Reaches (λ x. has_piece (key_of key.now) (point x) resources.now) at result }
+{
+    let mut reach = None;
+    for resource in resources {
+        let end = value_reach(resource, key, at, wanted);
+        if is_far(end, wanted) {
+            return end;
+        }
+        reach = farther_end(reach, end);
+    }
+    reach
+}
+
+/// How far one of the offers beside a place reaches under a key, where that is as far as wanted. Its place is kept.
+fn last_coverage<O: OfferList>(
+    offers: &O,
+    near: &mut usize,
+    key: &Resource,
+    at: u64,
+    wanted: u64,
+) -> Option<u64>
+    ensures { IfSome result (λ end. Reaches (λ x. has_piece (key_of key.now) (point x) (offered (O.offers offers.now))) at (Some end)) }
+{
+    let first = near.saturating_sub(NEAR_OFFERS);
+    let end = near.saturating_add(NEAR_OFFERS).min(offers.count());
+    for index in first..end {
+        let end = resource_reach(offers.at(index).resources.as_slice(), key, at, wanted);
+        if is_far(end, wanted) {
+            *near = index;
+            return end;
+        }
+    }
+    None
+}
+
+/// How far offers reach under a key. The offer that reaches as far as wanted is kept as the near one.
+fn coverage<O: OfferList>(
+    offers: &O,
+    near: &mut usize,
+    key: &Resource,
+    at: u64,
+    wanted: u64,
+) -> Option<u64>
+    ensures { Reaches (λ x. has_piece (key_of key.now) (point x) (offered (O.offers offers.now))) at result }
+{
+    let mut reach = None;
+    for index in 0..offers.count() {
+        let end = resource_reach(offers.at(index).resources.as_slice(), key, at, wanted);
+        if is_far(end, wanted) {
+            *near = index;
+            return end;
+        }
+        reach = farther_end(reach, end);
+    }
+    reach
+}
+
+/// How far offers reach under a key. Those beside the near one are looked at first: ranges in order are offered in order, mostly.
+pub(crate) fn offer_reach<O: OfferList>(
+    offers: &O,
+    near: &mut usize,
+    key: &Resource,
+    at: u64,
+    wanted: u64,
+) -> Option<u64>
+    ensures { Reaches (λ x. has_piece (key_of key.now) (point x) (offered (O.offers offers.now))) at result }
+{
+    match last_coverage(offers, near, key, at, wanted) {
+        Some(end) => Some(end),
+        None => coverage(offers, near, key, at, wanted),
+    }
+}

@@ -1,0 +1,34 @@
+//! What launches tasks.
+ghost use Rattle.std.specs.Prelude.{◌≡◌, List};
+ghost use Rattle.mes_model.specs.TaskInfo.{TaskInfo as TaskValue};
+ghost use Rattle.mes_session_fit.specs.Launched.{launched_by};
+
+use mes_model::TaskInfo;
+use mes_msg::Operation;
+
+/// A group of tasks that are launched together: an operation, or a slice of tasks.
+pub trait TaskGroup {
+    /// The tasks.
+    ghost tasks: { Self → List TaskValue };
+
+    /// The tasks, borrowed.
+    fn tasks(&self) -> &[TaskInfo]
+        ensures { result.now ≡ tasks self.now };
+}
+
+impl TaskGroup for Operation {
+    ghost tasks = { launched_by };
+
+    fn tasks(&self) -> &[TaskInfo] {
+        let Operation::Launch { task_infos } = self;
+        task_infos.as_slice()
+    }
+}
+
+impl<'a> TaskGroup for &'a [TaskInfo] {
+    ghost tasks = { λ tasks. tasks.now };
+
+    fn tasks(&self) -> &[TaskInfo] {
+        *self
+    }
+}

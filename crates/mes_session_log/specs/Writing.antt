@@ -1,0 +1,86 @@
+-- A session log that is written: the header, and then a record for each entry.
+use Rattle.std.specs.Prelude.{◌≡◌, ℕ, ◌<◌, ◌≤◌, List, [], ◌∷◌, ◌++◌, length, Option, All}
+use Rattle.std.specs.List.{flat_map}
+use Rattle.mes_json.specs.Tree.{depth}
+use Rattle.mes_json.specs.declared.limits.TheConstants.{MAX_NESTING}
+use Rattle.mes_frame.specs.Frames.{record_bytes}
+use Rattle.mes_frame.specs.declared.counts.Counts.{Counts}
+use Rattle.mes_model_schema.specs.Kinds.{Kind}
+use Rattle.mes_msg.specs.Events.{event}
+use Rattle.mes_msg.specs.Calls.{call}
+use Rattle.mes_msg.specs.Texts.{canonical_of, NestsFew}
+use Rattle.mes_msg.specs.declared.entry.Entry.{Entry}
+use Rattle.mes_msg.specs.declared.entry.Entry.TheVariants.{Heard, Said, Broken}
+use Rattle.mes_msg.specs.declared.send_fault.EncodeFaultKind.{EncodeFaultKind}
+use Rattle.mes_msg.specs.declared.send_fault.EncodeFaultKind.TheVariants.{TooDeep, TooLarge}
+use Rattle.mes_msg.specs.declared.send_fault.SendFault.{SendFault}
+use Rattle.mes_msg.specs.declared.send_fault.SendFault.TheVariants.{Encode, NoMemory, Write}
+use Rattle.mes_stream.specs.Sending.{WroteSome}
+use Rattle.mes_session_log.specs.Logs.{IsLog}
+use Rattle.mes_session_log_entry.specs.declared.letters.TheConstants.{EVENT, CALL, BROKEN, HEADER}
+
+-- the data of the entry: its letter, and behind it the canonical text
+abbrev pub entry_data : Entry → List ℕ
+entry_data (Heard heard) = EVENT ∷ canonical_of event heard
+entry_data (Said said) = CALL ∷ canonical_of call said
+entry_data Broken = BROKEN ∷ []
+
+-- the records of the entries, one behind the other
+abbrev pub entry_records : List Entry → List ℕ
+entry_records entries = flat_map (λ entry. record_bytes (entry_data entry)) entries
+
+-- the log of the entries: the header's record, and theirs
+abbrev pub log_bytes : List Entry → List ℕ
+log_bytes entries = record_bytes (HEADER ∷ []) ++ entry_records entries
+
+-- why no record of the limit can hold a letter and the message's text: it nests too deep, or letter and text have too many bytes
+abbrev pub IsUnfit : {V : Type 0} → Kind V → ℕ → V → EncodeFaultKind → Type 0
+IsUnfit k limit v TooDeep = MAX_NESTING < depth (k.tree v)
+IsUnfit k limit v TooLarge = NestsFew k v × (limit ≤ length (canonical_of k v))
+
+-- a record of the limit can hold them
+abbrev pub IsFit : {V : Type 0} → Kind V → ℕ → V → Type 0
+IsFit k limit v = NestsFew k v × (length (canonical_of k v) < limit)
+
+-- a record of the limit can hold the entry
+abbrev pub EntryFits : ℕ → Entry → Type 0
+EntryFits limit (Heard heard) = IsFit event limit heard
+EntryFits limit (Said said) = IsFit call limit said
+EntryFits limit Broken = Unit {0}
+
+-- none can, and why
+abbrev pub EntryUnfit : ℕ → Entry → EncodeFaultKind → Type 0
+EntryUnfit limit (Heard heard) why = IsUnfit event limit heard why
+EntryUnfit limit (Said said) why = IsUnfit call limit said why
+EntryUnfit limit Broken why = ⊥
+
+abbrev pub AllFit : ℕ → List Entry → Type 0
+AllFit limit entries = All (EntryFits limit) entries
+
+-- the entry at this place, from 0, is the first that no record of the limit can hold, and why
+pub record IsFirstUnfit (limit : ℕ) (entries : List Entry) (index : ℕ) (why : EncodeFaultKind) : Type 0 where
+  pub front : List Entry
+  pub entry : Entry
+  pub rest : List Entry
+  pub is : entries ≡ front ++ entry ∷ rest
+  pub place : index ≡ length front
+  pub fit : AllFit limit front
+  pub unfit : EntryUnfit limit entry why
+
+-- w is the log of the entries, which fit; under a limit of at least one byte, as each is, it is read to them
+pub record IsLogOf (limit : ℕ) (entries : List Entry) (w : List ℕ) : Type 0 where
+  pub fit : AllFit limit entries
+  pub written : w ≡ log_bytes entries
+  pub read : 1 ≤ limit → IsLog limit w entries
+
+-- why the entries have not become a log
+abbrev pub IsUnwritten : ℕ → List Entry → SendFault → Type 0
+IsUnwritten limit entries (Encode index why) = IsFirstUnfit limit entries index why
+IsUnwritten limit entries NoMemory = Unit {0}
+IsUnwritten limit entries (Write fault) = ⊥
+
+-- Why the writing ended early: an entry doesn't fit, or memory was refused, and the writer is as it was; or the writer stopped.
+abbrev pub StopsLog : {W : Type 0} → (W → Option (List ℕ)) → (W → Counts) → ℕ → List Entry → W → W → SendFault → Type 0
+StopsLog written counts limit entries old new (Encode index why) = IsFirstUnfit limit entries index why × (new ≡ old)
+StopsLog written counts limit entries old new NoMemory = new ≡ old
+StopsLog written counts limit entries old new (Write fault) = (w : List ℕ) × IsLogOf limit entries w × WroteSome written counts old new w fault

@@ -1,0 +1,108 @@
+-- What lettered data are, over the places where a reader of them stands.
+use Rattle.std.proofs.Common.{◌≡◌, ◌≢◌, ℕ, ◌+◌, ◌^◌, ◌<◌, ◌≤◌, inl, inr, List, [], ◌∷◌, ◌++◌, length, take, Result, Ok, Err, refl, ap, sym, ◌∙◌, subst, arith, add-one, Bool, true, false}
+use Rattle.std.specs.Prelude.{◌==◌, IfErr}
+use Rattle.mes_json.specs.Inner.{inner}
+use Rattle.mes_json.specs.Lexer.{HasLexed, IsBounded, IsLexFault, IsOutOfMemory, held}
+use Rattle.mes_json.specs.Place.{Begins}
+use Rattle.mes_json.specs.declared.fault.ReadFault.{ReadFault}
+use Rattle.mes_json.specs.declared.fault.ReadFault.TheVariants as read
+use Rattle.mes_json.specs.declared.limits.TheConstants.{MAX_NESTING}
+use Rattle.mes_json.specs.declared.memory.NoMemoryAt.{NoMemoryAt}
+use Rattle.mes_json.specs.declared.lexer.Lexer.{Lexer}
+use Rattle.mes_model_schema.specs.Kinds.{Kind}
+use Rattle.mes_msg.specs.Events.{event}
+use Rattle.mes_msg.specs.Calls.{call}
+use Rattle.mes_msg.specs.RecordFaults.{of_read}
+use Rattle.mes_msg.specs.Texts.{IsFaultOf}
+use Rattle.mes_msg.specs.RecordFault.{RecordFault}
+use Rattle.mes_msg.specs.RecordFault.TheVariants as message
+use Rattle.mes_stream.proofs.EventLemmas.{exact_fault}
+use Rattle.mes_stream.specs.Refusals.{refusal_of}
+use Rattle.mes_stream.specs.declared.record_error.RecordError.{RecordError}
+use Rattle.mes_stream.specs.declared.record_error.RecordError.TheVariants as refusal
+use Rattle.mes_session_log_entry.specs.Entries.{AfterLetter, BeginsMessage}
+use Rattle.mes_session_log_entry.specs.Lettered.{HasText, HoldsAt, LetteredBreaks, IsTextRefusal}
+use Rattle.mes_session_log_entry.specs.declared.letters.TheConstants.{EVENT, CALL}
+use Rattle.mes_session_log_entry.specs.declared.lettered.Place.{Place}
+use Rattle.mes_session_log_entry.specs.declared.lettered.Place.TheVariants as place
+
+-- the text is shorter than the data
+pub shorter : (letter : ℕ) (text r : List ℕ) → r ≡ letter ∷ text → length r < 2 ^ 64 → length text < 2 ^ 64
+shorter letter text r is short = let size = ap length is in omega (arith, size, short)
+
+-- more bytes of a text
+pub text_on : (letter : ℕ) (old new : Lexer) (bytes r : List ℕ) → ((p : List ℕ) → HasLexed old p → HasLexed new (p ++ bytes)) → (IsOutOfMemory new → ⊥)
+    → AfterLetter letter (HasText old) r → AfterLetter letter (HasText new) (r ++ bytes)
+text_on letter old new bytes r lexed memory (text, is, has) =
+    (text ++ bytes, ap (λ (x : List ℕ). x ++ bytes) is, record { lexed = lexed text has.lexed; memory = memory })
+
+-- a refusal of a text is one of the data that have it behind an event's letter, and the same for a call
+pub event_refused : (r : List ℕ) (text : List ℕ) (why : RecordError) → r ≡ EVENT ∷ text → IsTextRefusal event text why → LetteredBreaks r why
+event_refused r text (refusal.Text f) is h = inl (text, is, h)
+event_refused r text (refusal.Field f) is h = inl (text, is, h)
+event_refused r text refusal.BadEntry is h = absurd h
+event_refused r text refusal.NoMemory is h = inl (text, is, h)
+
+pub call_refused : (r : List ℕ) (text : List ℕ) (why : RecordError) → r ≡ CALL ∷ text → IsTextRefusal call text why → LetteredBreaks r why
+call_refused r text (refusal.Text f) is h = inr (text, is, h)
+call_refused r text (refusal.Field f) is h = inr (text, is, h)
+call_refused r text refusal.BadEntry is h = absurd h
+call_refused r text refusal.NoMemory is h = inr (text, is, h)
+
+-- why a text is none of a message of the kind, as a refusal
+pub text_refused : {V : Type 0} (k : Kind V) (text : List ℕ) (f : RecordFault) → (f ≡ message.NoMemory → Begins MAX_NESTING text) → IsFaultOf k text f → IsTextRefusal k text (refusal_of f)
+text_refused k text (message.Text f) begins h = h
+text_refused k text (message.Field f) begins h = h
+text_refused k text message.NoMemory begins h = begins refl
+
+-- the bytes are no text, or an allocation failed
+pub lexed_refused : {V : Type 0} (k : Kind V) (text : List ℕ) (e : ReadFault) → length text < 2 ^ 64 → IsLexFault MAX_NESTING text e → (e ≡ read.NoMemory → Begins MAX_NESTING text)
+    → IsTextRefusal k text (refusal_of (of_read e))
+lexed_refused k text (read.Text f) short h begins = exact_fault MAX_NESTING text f short h
+lexed_refused k text read.NoMemory short h begins = begins refl
+
+-- an allocation failed for a byte of a text: the data before it begin as its message's do
+abbrev pub StopsText : {T : Type 0} → Lexer → List ℕ → Result T NoMemoryAt → Type 0
+StopsText lexer bytes result =
+    (text : List ℕ) → HasLexed lexer text → (IsOutOfMemory lexer → ⊥) → IfErr result (λ refused. Begins MAX_NESTING (text ++ take refused.taken bytes))
+
+pub event_before : {T : Type 0} (lexer : Lexer) (r bytes : List ℕ) (result : Result T NoMemoryAt) → StopsText lexer bytes result → AfterLetter EVENT (HasText lexer) r
+    → IfErr result (λ refused. BeginsMessage (r ++ take refused.taken bytes))
+event_before lexer r bytes (Ok done) before h = tt
+event_before lexer r bytes (Err refused) before (text, is, has) =
+    inl (text ++ take refused.taken bytes, ap (λ (x : List ℕ). x ++ take refused.taken bytes) is, before text has.lexed has.memory)
+
+pub call_before : {T : Type 0} (lexer : Lexer) (r bytes : List ℕ) (result : Result T NoMemoryAt) → StopsText lexer bytes result → AfterLetter CALL (HasText lexer) r
+    → IfErr result (λ refused. BeginsMessage (r ++ take refused.taken bytes))
+call_before lexer r bytes (Ok done) before h = tt
+call_before lexer r bytes (Err refused) before (text, is, has) =
+    inr (text ++ take refused.taken bytes, ap (λ (x : List ℕ). x ++ take refused.taken bytes) is, before text has.lexed has.memory)
+
+-- data of which some were taken are not empty
+pub some_held : (p : Place) (lexer : Lexer) (r : List ℕ) → p ≢ place.Start → HoldsAt p lexer r → r ≢ []
+some_held place.Start lexer r other h none = absurd (other refl)
+some_held place.Event lexer r other (text, is, has) none = absurd (cc)
+some_held place.Call lexer r other (text, is, has) none = absurd (cc)
+some_held (place.Alone letter) lexer r other (is, alone, has) none = absurd (cc)
+some_held place.More lexer r other (letter, next, more, is, alone, has) none = absurd (cc)
+
+-- a front of the letter and the text after it
+pub take_letter : (n letter : ℕ) (text : List ℕ) → take (n + 1) (letter ∷ text) ≡ letter ∷ take n text
+take_letter n letter text = rw add-one refl
+
+-- a list that is not empty has an item
+pub some_bytes : (bytes : List ℕ) (empty : Bool) → empty ≡ (length bytes == 0) → empty ≡ false → bytes ≡ [] → ⊥
+some_bytes bytes empty is not none = let both : true ≡ false = subst (λ (xs : List ℕ). (length xs == 0) ≡ false) none (sym is ∙ not) in absurd (cc)
+
+-- more stands behind a byte that is no letter of a text
+pub alone_more : (lexer : Lexer) (letter : ℕ) (r bytes : List ℕ) → (bytes ≡ [] → ⊥) → HoldsAt (place.Alone letter) lexer r → HoldsAt place.More lexer (r ++ bytes)
+alone_more lexer letter r [] some h = absurd (some refl)
+alone_more lexer letter r (next ∷ more) some (is, other, has) = (letter, next, more, ap (λ (x : List ℕ). x ++ next ∷ more) is, other, has)
+
+-- what is kept of the text is at most what counts in the data
+pub kept_most : (lexer : Lexer) (place : Place) (r : List ℕ) → ((p : List ℕ) → HasLexed lexer p → IsBounded lexer p) → HoldsAt place lexer r → held lexer ≤ inner r
+kept_most lexer place.Start r bound h = let most = (bound [] h.1.lexed).texts in omega (arith, most)
+kept_most lexer place.Event r bound (text, is, has) = let most = (bound text has.lexed).texts in rw is (omega (arith, most))
+kept_most lexer place.Call r bound (text, is, has) = let most = (bound text has.lexed).texts in rw is (omega (arith, most))
+kept_most lexer (place.Alone letter) r bound h = let most = (bound [] h.2.lexed).texts in omega (arith, most)
+kept_most lexer place.More r bound h = let most = (bound [] h.5.lexed).texts in omega (arith, most)

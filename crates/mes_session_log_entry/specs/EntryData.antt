@@ -1,0 +1,13 @@
+-- What the readers of a log's records have taken of a record's data.
+use Rattle.std.specs.Prelude.{ℕ, List}
+use Rattle.mes_session_log_entry.specs.Lettered.{HoldsLettered}
+use Rattle.mes_session_log_entry.specs.declared.entry_reader.EntryReader.{EntryReader}
+use Rattle.mes_session_log_entry.specs.declared.first_reader.FirstReader.{FirstReader}
+
+-- these bytes of a first record's data were taken
+abbrev pub HoldsFirst : FirstReader → List ℕ → Type 0
+HoldsFirst reader r = HoldsLettered reader.lettered r
+
+-- these bytes of an entry's data were taken
+abbrev pub HoldsEntry : {version : ℕ} → EntryReader version → List ℕ → Type 0
+HoldsEntry reader r = HoldsLettered reader.lettered r

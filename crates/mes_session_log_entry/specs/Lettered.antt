@@ -1,0 +1,66 @@
+-- What a reader of lettered data has taken of a record's data, and what it makes of them.
+use Rattle.std.specs.Prelude.{◌≡◌, ℕ, ◌+◌, ◌⊎◌, List, [], ◌∷◌}
+use Rattle.mes_json.specs.Lexer.{HasLexed, IsOutOfMemory, held}
+use Rattle.mes_json.specs.Place.{Begins}
+use Rattle.mes_json.specs.declared.limits.TheConstants.{MAX_NESTING}
+use Rattle.mes_json.specs.declared.lexer.Lexer.{Lexer}
+use Rattle.mes_model_schema.specs.Kinds.{Kind}
+use Rattle.mes_msg.specs.Events.{Spells}
+use Rattle.mes_msg.specs.Calls.{call}
+use Rattle.mes_msg.specs.Texts.{IsTextOf, IsFaultOf}
+use Rattle.mes_msg.specs.RecordFault.TheVariants as message
+use Rattle.mes_stream.specs.Held.{fixed}
+use Rattle.mes_stream.specs.declared.record_error.RecordError.{RecordError}
+use Rattle.mes_stream.specs.declared.record_error.RecordError.TheVariants as refusal
+use Rattle.mes_session_log_entry.specs.Entries.{AfterLetter, BeginsMessage, IsOther, IsMessageFault}
+use Rattle.mes_session_log_entry.specs.declared.letters.TheConstants.{EVENT, CALL}
+use Rattle.mes_session_log_entry.specs.declared.lettered.Lettered.{Lettered}
+use Rattle.mes_session_log_entry.specs.declared.lettered.Lettered.TheVariants as lettered
+use Rattle.mes_session_log_entry.specs.declared.lettered.LetteredReader.{LetteredReader}
+use Rattle.mes_session_log_entry.specs.declared.lettered.Place.{Place}
+use Rattle.mes_session_log_entry.specs.declared.lettered.Place.TheVariants as place
+
+-- the lexer has taken the text, and no growth was refused memory
+pub record HasText (lexer : Lexer) (text : List ℕ) : Type 0 where
+  pub lexed : HasLexed lexer text
+  pub memory : IsOutOfMemory lexer → ⊥
+
+-- no byte; a letter and a text; or another byte, alone or with more behind it
+abbrev pub HoldsAt : Place → Lexer → List ℕ → Type 0
+HoldsAt place.Start lexer r = (r ≡ []) × HasText lexer []
+HoldsAt place.Event lexer r = AfterLetter EVENT (HasText lexer) r
+HoldsAt place.Call lexer r = AfterLetter CALL (HasText lexer) r
+HoldsAt (place.Alone letter) lexer r = (r ≡ letter ∷ []) × IsOther letter × HasText lexer []
+HoldsAt place.More lexer r = (letter : ℕ) × (next : ℕ) × (more : List ℕ) × (r ≡ letter ∷ next ∷ more) × IsOther letter × HasText lexer []
+
+-- these bytes of the data were taken
+abbrev pub HoldsLettered : LetteredReader → List ℕ → Type 0
+HoldsLettered reader r = HoldsAt reader.place reader.lexer r
+
+-- how many bytes of texts and numbers are kept of them: the sum over all fields
+abbrev pub kept_text : LetteredReader → ℕ
+kept_text reader = let record { alloc = alloc; place = now; lexer = lexer } = reader in fixed alloc + fixed now + held lexer
+
+-- the data are these
+abbrev pub SpellsLettered : List ℕ → Lettered → Type 0
+SpellsLettered r (lettered.Event heard) = AfterLetter EVENT (λ text. Spells text heard) r
+SpellsLettered r (lettered.Call said) = AfterLetter CALL (λ text. IsTextOf call text said) r
+SpellsLettered r (lettered.Alone letter) = (r ≡ letter ∷ []) × IsOther letter
+
+-- there are none, or more stands behind another byte
+abbrev pub IsBadData : List ℕ → Type 0
+IsBadData r = (r ≡ []) ⊎ ((letter : ℕ) × (next : ℕ) × (more : List ℕ) × (r ≡ letter ∷ next ∷ more) × IsOther letter)
+
+-- Why they are none of these. An allocation fails only for data that begin as an event's or a call's do.
+abbrev pub LetteredBreaks : List ℕ → RecordError → Type 0
+LetteredBreaks r (refusal.Text fault) = IsMessageFault r (message.Text fault)
+LetteredBreaks r (refusal.Field fault) = IsMessageFault r (message.Field fault)
+LetteredBreaks r refusal.BadEntry = IsBadData r
+LetteredBreaks r refusal.NoMemory = BeginsMessage r
+
+-- Why a text is none of a message of this kind. An allocation fails only for bytes that begin a text.
+abbrev pub IsTextRefusal : {V : Type 0} → Kind V → List ℕ → RecordError → Type 0
+IsTextRefusal k text (refusal.Text fault) = IsFaultOf k text (message.Text fault)
+IsTextRefusal k text (refusal.Field fault) = IsFaultOf k text (message.Field fault)
+IsTextRefusal k text refusal.BadEntry = ⊥
+IsTextRefusal k text refusal.NoMemory = Begins MAX_NESTING text

@@ -1,0 +1,91 @@
+//! Reads the data of the first record of a session log, which tells its version.
+
+ghost use Rattle.std.specs.Prelude.{◌≡◌, ◌≢◌, ℕ, ◌^◌, ◌<◌, ◌≤◌, List, [], ◌++◌, length, OnOk, IfOk, IfErr};
+ghost use Rattle.mes_json.specs.Inner.{inner};
+ghost use Rattle.mes_session_log_entry.specs.Entries.{FirstBreaks, SpellsFirst};
+ghost use Rattle.mes_session_log_entry.specs.Lettered.{HoldsLettered, kept_text};
+
+use crate::lettered::{Lettered, LetteredReader};
+use crate::letters::HEADER;
+use mes_json::NoMemoryAt;
+use mes_msg::Entry;
+use mes_stream::{RecordError, RecordReader};
+use std::alloc::Global;
+
+/// What the first record of a log is.
+#[derive(Debug, Drop)]
+pub enum FirstRecord {
+    /// The header, with which a log of version 2 begins.
+    Header,
+    /// An entry, with which a log of version 1 begins.
+    Entry(Entry),
+}
+
+/// Reads the data of a first record.
+#[derive(Drop)]
+pub struct FirstReader {
+    lettered: LetteredReader,
+}
+
+impl FirstReader {
+    /// A reader before the first record. Takes no memory.
+    pub fn new(alloc: Global) -> FirstReader
+        ensures { HoldsLettered result.lettered [] }
+    {
+        FirstReader {
+            lettered: LetteredReader::new(alloc),
+        }
+    }
+}
+
+impl RecordReader for FirstReader {
+    type Value = FirstRecord;
+
+    ghost holds = { λ reader r. HoldsLettered reader.lettered r };
+
+    ghost spells = { SpellsFirst };
+
+    ghost breaks = { FirstBreaks };
+
+    ghost kept = { λ reader. kept_text reader.lettered };
+
+    ghost room = { inner };
+
+    fn push_run(&mut self, bytes: &[u8]) -> Result<(), NoMemoryAt> {
+        self.lettered.push_run(bytes)
+    }
+
+    fn finish(&mut self) -> Result<FirstRecord, RecordError> {
+        match self.lettered.finish()? {
+            Lettered::Event(event) => Ok(FirstRecord::Entry(Entry::Heard(event))),
+            Lettered::Call(call) => Ok(FirstRecord::Entry(Entry::Said(call))),
+            Lettered::Alone(letter) => {
+                if letter == HEADER {
+                    Ok(FirstRecord::Header)
+                } else {
+                    Err(RecordError::BadEntry)
+                }
+            }
+        }
+    }
+
+    fn finish_into(&mut self, records: &mut Vec<FirstRecord>) -> Result<(), RecordError> {
+        let value = self.finish()?;
+        match records.push(value) {
+            Ok(()) => Ok(()),
+            Err(_) => Err(RecordError::NoMemory),
+        }
+    }
+
+    fn empty_record_error(&self) -> RecordError {
+        RecordError::BadEntry
+    }
+
+    fn release(&mut self) {
+        self.lettered.release();
+    }
+
+    fn held(&self) -> u64 {
+        self.lettered.held()
+    }
+}

@@ -1,0 +1,118 @@
+//! Logs that come in pieces, that break off and that fail.
+
+use crate::support::{
+    BREAK, BROKEN, HEADER_TWICE, Log, READS, VERSION_1, VERSION_2, in_words, reported,
+};
+use mes_frame::{FromStd, Limit, MemorySource};
+use mes_session_log::read_log;
+use std::alloc::Global;
+use std::io::Read;
+use std::process::Abort;
+use std::test::Fail;
+
+/// Expects of each front of a log what it is in words.
+fn expect_fronts<A: Abort>(rt: &A, alloc: Global, log: &Log) -> Result<(), Fail> {
+    for count in 0..log.bytes.len() + 1 {
+        let text = reported(
+            alloc,
+            &mut MemorySource::new(&log.bytes[..count], 512),
+            READS,
+        )?;
+        assert_eq!(rt; text.as_str(), log.front_in_words(alloc, count)?.as_str());
+    }
+    Ok(())
+}
+
+#[test]
+fn every_front(rt: HostRuntime) -> Result<(), Fail> {
+    for log in &[VERSION_1, VERSION_2, BREAK, HEADER_TWICE] {
+        expect_fronts(&rt, rt.alloc(), log)?;
+    }
+    Ok(())
+}
+
+/// Expects of a log whose reads fail behind so many bytes that this is told, whatever that number is.
+fn expect_failing_reads<A: Abort>(rt: &A, alloc: Global, log: &Log) -> Result<(), Fail> {
+    for count in 0..log.bytes.len() + 1 {
+        let mut source = MemorySource::failing_after(log.bytes, 1, count);
+        let text = reported(alloc, &mut source, READS)?;
+        let entries = log.entries_in(count);
+        let expected = format!(in alloc; "{entries} fault F14 Read after {count}")?;
+        assert_eq!(rt; text.as_str(), expected.as_str());
+    }
+    Ok(())
+}
+
+#[test]
+fn every_failing_read(rt: HostRuntime) -> Result<(), Fail> {
+    for log in &[VERSION_1, VERSION_2] {
+        expect_failing_reads(&rt, rt.alloc(), log)?;
+    }
+    Ok(())
+}
+
+#[test]
+fn reads_are_counted(rt: HostRuntime) -> Result<(), Fail> {
+    for max_reads in 0..128 {
+        let mut source = MemorySource::new(BROKEN, 1);
+        let text = reported(rt.alloc(), &mut source, max_reads)?;
+        let entries = VERSION_2.entries_in(max_reads as usize);
+        let expected = format!(in rt.alloc(); "{entries} fault F15 ReadsSpent after {max_reads}")?;
+        assert_eq!(rt; text.as_str(), expected.as_str());
+    }
+    let text = reported(rt.alloc(), &mut MemorySource::new(BROKEN, 1), 128)?;
+    assert_eq!(rt; text.as_str(), "EBC ok 127");
+    Ok(())
+}
+
+/// Expects of a log that comes in two reads that it is what it is in one, wherever it is cut.
+fn expect_cuts<A: Abort>(rt: &A, alloc: Global, log: &Log, words: &str) -> Result<(), Fail> {
+    for cut in 0..log.bytes.len() + 1 {
+        let mut source = FromStd::new((&log.bytes[..cut]).chain(&log.bytes[cut..]));
+        let text = reported(alloc, &mut source, READS)?;
+        assert_eq!(rt; text.as_str(), words);
+    }
+    Ok(())
+}
+
+#[test]
+fn every_cut_into_two_reads(rt: HostRuntime) -> Result<(), Fail> {
+    expect_cuts(&rt, rt.alloc(), &VERSION_1, "EC ok 121")?;
+    expect_cuts(&rt, rt.alloc(), &VERSION_2, "EBC ok 127")
+}
+
+/// A log of version 2 of exactly 512 bytes, the most that one read returns: the header and 169 breaks. The size line of the last break
+/// has two leading zeros.
+fn log_of_one_read(alloc: Global) -> Result<Vec<u8>, Fail> {
+    let mut log = Vec::new(alloc);
+    log.extend_from_slice(b"1\n2")?;
+    for _ in 0..168 {
+        log.extend_from_slice(b"1\nB")?;
+    }
+    log.extend_from_slice(b"001\nB")?;
+    Ok(log)
+}
+
+/// Reads that log from a source that returns up to 512 bytes per read. Expects its entries, this outcome, and `max_reads` reads.
+fn expect_whole_reads<A: Abort>(
+    rt: &A,
+    alloc: Global,
+    max_reads: u64,
+    words: &str,
+) -> Result<(), Fail> {
+    let log = log_of_one_read(alloc)?;
+    let mut source = MemorySource::new(log.as_slice(), 512);
+    let mut entries = Vec::new(alloc);
+    let outcome = read_log(alloc, &mut source, Limit::USUAL, max_reads, &mut entries);
+    assert_eq!(rt; in_words(alloc, &[], &outcome)?.as_str(), words);
+    assert_eq!(rt; entries.len(), 169);
+    assert_eq!(rt; source.counts().calls, max_reads);
+    Ok(())
+}
+
+/// One read takes all 512 bytes, and a second one finds the end. No clause says that a read asks for 512 bytes.
+#[test]
+fn reads_take_what_there_is(rt: HostRuntime) -> Result<(), Fail> {
+    expect_whole_reads(&rt, rt.alloc(), 2, " ok 512")?;
+    expect_whole_reads(&rt, rt.alloc(), 1, " fault F15 ReadsSpent after 512")
+}

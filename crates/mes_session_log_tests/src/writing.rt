@@ -1,0 +1,178 @@
+//! Logs that are written.
+
+use crate::support::{BROKEN, READS, SUBSCRIBED};
+use mes_frame::{Limit, MemorySink, MemorySource, MemoryStop, WriteFault, WriteFaultKind};
+use mes_msg::{EncodeFaultKind, Entry, SendFault};
+use mes_session_log::{read_log, write_log};
+use std::alloc::Global;
+use std::process::Abort;
+use std::test::Fail;
+
+/// The entries of a log, which is good.
+fn entries_of(alloc: Global, log: &[u8]) -> Result<Vec<Entry>, Fail> {
+    let mut entries = Vec::new(alloc);
+    match read_log(
+        alloc,
+        &mut MemorySource::new(log, 512),
+        Limit::USUAL,
+        READS,
+        &mut entries,
+    ) {
+        Ok(_) => Ok(entries),
+        Err(_) => Err("a good log")?,
+    }
+}
+
+/// A limit of so many bytes.
+fn limit_of(bytes: u32) -> Result<Limit, Fail> {
+    match Limit::new(bytes) {
+        Some(limit) => Ok(limit),
+        None => Err("a limit")?,
+    }
+}
+
+/// Writes the entries of one log under a limit, and expects these bytes.
+fn expect_written<A: Abort>(
+    rt: &A,
+    alloc: Global,
+    log: &[u8],
+    limit: u32,
+    written: &[u8],
+) -> Result<(), Fail> {
+    let entries = entries_of(alloc, log)?;
+    let mut sink = MemorySink::new(alloc, 512);
+    assert_eq!(rt;
+        write_log(alloc, &mut sink, entries.as_slice(), limit_of(limit)?),
+        Ok(())
+    );
+    assert_eq!(rt; sink.bytes(), written);
+    Ok(())
+}
+
+/// Writes the entries of one log under a limit, and expects that the entry at this place is too large.
+fn expect_too_large<A: Abort>(
+    rt: &A,
+    alloc: Global,
+    log: &[u8],
+    limit: u32,
+    index: usize,
+) -> Result<(), Fail> {
+    let entries = entries_of(alloc, log)?;
+    let mut sink = MemorySink::new(alloc, 512);
+    let answer = write_log(alloc, &mut sink, entries.as_slice(), limit_of(limit)?);
+    let why = EncodeFaultKind::TooLarge;
+    assert_eq!(rt; answer, Err(SendFault::Encode { index, why }));
+    assert!(rt; sink.bytes().is_empty());
+    Ok(())
+}
+
+/// A break and the call REVIVE: its letter and text are 48 bytes.
+const BREAK_AND_REVIVE: &[u8] =
+    b"1\n21\nB48\nC{\"type\":\"REVIVE\",\"framework_id\":{\"value\":\"F1\"}}";
+
+/// HEARTBEAT, whose letter and text are 21 bytes.
+const HEARTBEAT: &[u8] = b"1\n221\nE{\"type\":\"HEARTBEAT\"}";
+
+/// A log, a limit, and what its entries are written to under it.
+const WRITTEN: &[(&[u8], u32, &[u8])] = &[
+    // Of nothing there is the header.
+    (b"", 1, b"1\n2"),
+    (b"1\n2", 1, b"1\n2"),
+    // Header and breaks fit the least limit.
+    (b"1\n21\nB1\nB", 1, b"1\n21\nB1\nB"),
+    // Letter and text exactly at the limit.
+    (HEARTBEAT, 21, HEARTBEAT),
+    (BREAK_AND_REVIVE, 48, BREAK_AND_REVIVE),
+    (BROKEN, 67, BROKEN),
+];
+
+/// A log, a limit, and the place of its first entry that is too large for it.
+const TOO_LARGE: &[(&[u8], u32, usize)] = &[
+    (HEARTBEAT, 1, 0),
+    (HEARTBEAT, 20, 0),
+    (BROKEN, 66, 0),
+    (BREAK_AND_REVIVE, 1, 1),
+    (BREAK_AND_REVIVE, 47, 1),
+];
+
+#[test]
+fn entries_that_fit(rt: HostRuntime) -> Result<(), Fail> {
+    for (log, limit, written) in WRITTEN {
+        expect_written(&rt, rt.alloc(), log, *limit, written)?;
+    }
+    Ok(())
+}
+
+#[test]
+fn entries_that_are_too_large(rt: HostRuntime) -> Result<(), Fail> {
+    for (log, limit, index) in TOO_LARGE {
+        expect_too_large(&rt, rt.alloc(), log, *limit, *index)?;
+    }
+    Ok(())
+}
+
+#[test]
+fn version_1_becomes_version_2(rt: HostRuntime) -> Result<(), Fail> {
+    let mut expected = Vec::new(rt.alloc());
+    expected.extend_from_slice(b"1\n2")?;
+    expected.extend_from_slice(SUBSCRIBED)?;
+    expect_written(&rt, rt.alloc(), SUBSCRIBED, 67, expected.as_slice())
+}
+
+/// Expects of a writer that stops behind these bytes of the log that this is told.
+fn expect_stop<A: Abort>(
+    rt: &A,
+    alloc: Global,
+    written: &[u8],
+    stop: MemoryStop,
+    why: WriteFaultKind,
+) -> Result<(), Fail> {
+    let entries = entries_of(alloc, BROKEN)?;
+    let mut sink = MemorySink::stopping_after(alloc, 7, written.len(), stop);
+    let answer = write_log(alloc, &mut sink, entries.as_slice(), Limit::USUAL);
+    let sent = written.len() as u64;
+    assert_eq!(rt; answer, Err(SendFault::Write(WriteFault { sent, why })));
+    assert_eq!(rt; sink.bytes(), written);
+    Ok(())
+}
+
+#[test]
+fn every_failing_write(rt: HostRuntime) -> Result<(), Fail> {
+    for count in 0..BROKEN.len() {
+        let front = &BROKEN[..count];
+        expect_stop(
+            &rt,
+            rt.alloc(),
+            front,
+            MemoryStop::Fails,
+            WriteFaultKind::Device,
+        )?;
+        expect_stop(
+            &rt,
+            rt.alloc(),
+            front,
+            MemoryStop::TakesNone,
+            WriteFaultKind::Zero,
+        )?;
+    }
+    Ok(())
+}
+
+/// How many bytes a writer takes per call, and how many calls the log of 127 bytes needs then.
+const CALLS: &[(usize, u64)] = &[(512, 1), (127, 1), (126, 2), (64, 2), (1, 127)];
+
+/// Each call hands the writer all that is left. No clause says so: it bounds the calls by the bytes of the log.
+#[test]
+fn writes_are_as_few_as_the_writer_allows(rt: HostRuntime) -> Result<(), Fail> {
+    let entries = entries_of(rt.alloc(), BROKEN)?;
+    for (most, calls) in CALLS {
+        let mut sink = MemorySink::new(rt.alloc(), *most);
+        assert_eq!(rt;
+            write_log(rt.alloc(), &mut sink, entries.as_slice(), Limit::USUAL),
+            Ok(())
+        );
+        assert_eq!(rt; sink.bytes(), BROKEN);
+        assert_eq!(rt; sink.counts().calls, *calls);
+    }
+    Ok(())
+}

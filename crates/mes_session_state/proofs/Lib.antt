@@ -1,0 +1,7 @@
+pub mod SlotLemmas
+pub mod PendingLemmas
+pub mod LookLemmas
+pub mod DuplicateLemmas
+pub mod NamedLemmas
+pub mod FirstLemmas
+pub mod RefusalLemmas

@@ -1,0 +1,179 @@
+-- Which calls a session refuses, and for which reason first.
+use Rattle.std.specs.Prelude.{◌≡◌, ◌≢◌, ◌⊎◌, ℕ, ◌<◌, Bool, true, false, not, ◌||◌, List, [], ◌∷◌, map, filter_map, slice_get, Option, Some, None, IfSome}
+use Rattle.std.specs.List.{list_any}
+use Rattle.std.specs.Str.{bytes_eq}
+use Rattle.mes_model.specs.Id.{Id}
+use Rattle.mes_model.specs.Offer.{Offer}
+use Rattle.mes_model.specs.OwedKey.{OwedKey}
+use Rattle.mes_model.specs.TaskInfo.{TaskInfo}
+use Rattle.mes_msg.specs.Call.{Call}
+use Rattle.mes_msg.specs.Call.TheVariants as of
+use Rattle.mes_session_fit.specs.Fits.{BreaksAt}
+use Rattle.mes_session_fit.specs.Launched.{as_index}
+use Rattle.mes_session_state.specs.declared.refusal.Refusal.{Refusal}
+use Rattle.mes_session_state.specs.declared.refusal.Refusal.TheVariants.{NotSubscribed, NamedTwice, NoSuchOffer, TwoAgents, WrongAgent, Exceeds, NotOwed, NoMemory}
+use Rattle.mes_session_state.specs.Held.{Held, offer_in, is_owed}
+use Rattle.mes_session_state.specs.Calls.{named_by, accepted_by, tasks_of, acknowledged_by}
+
+-- ---- S1
+
+-- a call from this framework: no SUBSCRIBED was heard since the stream broke, or the framework is another
+abbrev pub IsOtherFramework : Held → Id → Type 0
+IsOtherFramework held framework = (held.connected ≡ false) ⊎ (held.framework ≢ Some framework)
+
+-- a SUBSCRIBE needs no stream: a framework is known, and it names another
+abbrev pub IsOtherSubscription : Held → Option Id → Type 0
+IsOtherSubscription held framework = (known named : Id) × (held.framework ≡ Some known) × (framework ≡ Some named) × (named ≢ known)
+
+abbrev pub IsForeign : Held → Call → Type 0
+IsForeign held (of.Subscribe framework body) = IsOtherSubscription held framework
+IsForeign held (of.Accept framework body) = IsOtherFramework held framework
+IsForeign held (of.Decline framework body) = IsOtherFramework held framework
+IsForeign held (of.Revive framework) = IsOtherFramework held framework
+IsForeign held (of.Kill framework body) = IsOtherFramework held framework
+IsForeign held (of.Acknowledge framework body) = IsOtherFramework held framework
+IsForeign held (of.Reconcile framework body) = IsOtherFramework held framework
+IsForeign held (of.Teardown framework) = IsOtherFramework held framework
+IsForeign held (of.Suppress framework) = IsOtherFramework held framework
+IsForeign held (of.Shutdown framework body) = IsOtherFramework held framework
+IsForeign held (of.Message framework body) = IsOtherFramework held framework
+
+-- ---- S2
+
+-- whether the identifier is one of these
+abbrev pub is_among : Id → List Id → Bool
+is_among x xs = list_any (λ (y : Id). bytes_eq x.value y.value) xs
+
+-- whether one of them stands among those behind it
+abbrev pub is_duplicated : List Id → Bool
+is_duplicated [] = false
+is_duplicated (x ∷ xs) = is_among x xs || is_duplicated xs
+
+abbrev pub ids_of : List TaskInfo → List Id
+ids_of tasks = map (λ (t : TaskInfo). t.task_id) tasks
+
+-- ---- S4 and S5
+
+-- the offers of these names that are in hand, in order
+abbrev pub offers_named : List Offer → List Id → List Offer
+offers_named hand ids = filter_map (λ (d : Id). offer_in hand d.value) ids
+
+-- the agent of offers that are all of one: that of the first
+abbrev pub agent_of : List Offer → Option Id
+agent_of [] = None
+agent_of (o ∷ os) = Some o.agent_id
+
+-- whether there is an agent, and it is this one
+abbrev pub is_agent : Option Id → Id → Bool
+is_agent None id = false
+is_agent (Some agent) id = bytes_eq agent.value id.value
+
+-- whether one is of another agent than the first
+abbrev pub has_two_agents : List Offer → Bool
+has_two_agents offers = list_any (λ (o : Offer). not (is_agent (agent_of offers) o.agent_id)) offers
+
+-- whether a task is not on the agent of the offers
+abbrev pub is_elsewhere : List Offer → TaskInfo → Bool
+is_elsewhere offers task = not (is_agent (agent_of offers) task.agent_id)
+
+-- ---- S1 to S7
+
+-- what a call asks for
+pub record Asked : Type 0 where
+  pub named : List Id
+  pub accepted : List Id
+  pub tasks : List TaskInfo
+  pub acknowledged : Option OwedKey
+
+abbrev pub asked_by : Call → Asked
+asked_by call = record { named = named_by call; accepted = accepted_by call; tasks = tasks_of call; acknowledged = acknowledged_by call }
+
+-- What a refusal says is so of what is asked for, whatever else is. Want of memory is no fault of a call.
+abbrev pub IsFaultyIn : Held → Asked → Refusal → Type 0
+IsFaultyIn held asked NotSubscribed = ⊥
+IsFaultyIn held asked NamedTwice = (is_duplicated asked.named ≡ true) ⊎ (is_duplicated (ids_of asked.tasks) ≡ true)
+IsFaultyIn held asked (NoSuchOffer index) = (d : Id) × (slice_get asked.named index ≡ Some d) × (offer_in held.hand d.value ≡ None)
+IsFaultyIn held asked TwoAgents = has_two_agents (offers_named held.hand asked.accepted) ≡ true
+IsFaultyIn held asked (WrongAgent task) = (t : TaskInfo) × (slice_get asked.tasks task ≡ Some t) × (is_elsewhere (offers_named held.hand asked.accepted) t ≡ true)
+IsFaultyIn held asked (Exceeds task resource) = BreaksAt (offers_named held.hand asked.accepted) asked.tasks task resource
+IsFaultyIn held asked NotOwed = (k : OwedKey) × (asked.acknowledged ≡ Some k) × (is_owed k held.owed ≡ false)
+IsFaultyIn held asked NoMemory = ⊥
+
+-- the same of a call, which may be foreign too
+abbrev pub IsFaulty : Held → Call → Refusal → Type 0
+IsFaulty held call NotSubscribed = IsForeign held call
+IsFaulty held call NamedTwice = IsFaultyIn held (asked_by call) NamedTwice
+IsFaulty held call (NoSuchOffer index) = IsFaultyIn held (asked_by call) (NoSuchOffer index)
+IsFaulty held call TwoAgents = IsFaultyIn held (asked_by call) TwoAgents
+IsFaulty held call (WrongAgent task) = IsFaultyIn held (asked_by call) (WrongAgent task)
+IsFaulty held call (Exceeds task resource) = IsFaultyIn held (asked_by call) (Exceeds task resource)
+IsFaulty held call NotOwed = IsFaultyIn held (asked_by call) NotOwed
+IsFaulty held call NoMemory = ⊥
+
+-- ---- their order: by number, then by task, then by resource
+
+abbrev pub rank : Refusal → ℕ × ℕ × ℕ
+rank NotSubscribed = (1, 0, 0)
+rank NamedTwice = (2, 0, 0)
+rank (NoSuchOffer index) = (3, index, 0)
+rank TwoAgents = (4, 0, 0)
+rank (WrongAgent task) = (5, task, 0)
+rank (Exceeds task resource) = (6, task, resource)
+rank NotOwed = (7, 0, 0)
+rank NoMemory = (8, 0, 0)
+
+abbrev pub IsLess : ℕ × ℕ × ℕ → ℕ × ℕ × ℕ → Type 0
+IsLess p q = (p.0 < q.0) ⊎ ((p.0 ≡ q.0) × ((p.1 < q.1) ⊎ ((p.1 ≡ q.1) × (p.2 < q.2))))
+
+abbrev pub ComesBefore : Refusal → Refusal → Type 0
+ComesBefore fault other = IsLess (rank fault) (rank other)
+
+-- of the ways in which something is faulty, the first
+pub record IsFirst (faulty : Refusal → Type 0) (fault : Refusal) : Type 0 where
+  pub is : faulty fault
+  pub first : (other : Refusal) → ComesBefore other fault → faulty other → ⊥
+
+-- a call is refused for its first fault
+abbrev pub IsRefused : Held → Call → Refusal → Type 0
+IsRefused held call fault = IsFirst (IsFaulty held call) fault
+
+-- ---- as it is answered: a task is told by an index
+
+abbrev pub as_reported : Refusal → Refusal
+as_reported NotSubscribed = NotSubscribed
+as_reported NamedTwice = NamedTwice
+as_reported (NoSuchOffer index) = NoSuchOffer index
+as_reported TwoAgents = TwoAgents
+as_reported (WrongAgent task) = WrongAgent (as_index task)
+as_reported (Exceeds task resource) = Exceeds (as_index task) resource
+as_reported NotOwed = NotOwed
+as_reported NoMemory = NoMemory
+
+-- what is answered: the first fault, or none where there is none
+abbrev pub ReportsFirst : (Refusal → Type 0) → Option Refusal → Type 0
+ReportsFirst faulty None = (fault : Refusal) → faulty fault → ⊥
+ReportsFirst faulty (Some answer) = (fault : Refusal) × (answer ≡ as_reported fault) × IsFirst faulty fault
+
+-- what is answered of a call
+abbrev pub Answers : Held → Call → Option Refusal → Type 0
+Answers held call answer = ReportsFirst (IsFaulty held call) answer
+
+-- ---- calls that are not made yet
+
+-- the framework that a session's own calls name: the one that is known, or any where none is
+abbrev pub IsOwn : Held → Id → Type 0
+IsOwn held framework = IfSome held.framework (λ known. known ≡ framework)
+
+-- a call of which nothing counts but its framework
+abbrev pub IsPlain : Call → Type 0
+IsPlain (of.Subscribe framework body) = ⊥
+IsPlain (of.Accept framework body) = ⊥
+IsPlain (of.Decline framework body) = ⊥
+IsPlain (of.Revive framework) = Unit {0}
+IsPlain (of.Kill framework body) = Unit {0}
+IsPlain (of.Acknowledge framework body) = ⊥
+IsPlain (of.Reconcile framework body) = Unit {0}
+IsPlain (of.Teardown framework) = Unit {0}
+IsPlain (of.Suppress framework) = Unit {0}
+IsPlain (of.Shutdown framework body) = Unit {0}
+IsPlain (of.Message framework body) = Unit {0}

@@ -1,0 +1,211 @@
+//! What a session holds, and which calls it refuses.
+ghost use Rattle.std.specs.Prelude.{◌≡◌, ◌↔◌, [], Option as option, option_copied, IsTrue, IsFalse, IfNone, IsSome};
+ghost use Rattle.mes_model.specs.Id.{Id as IdValue};
+ghost use Rattle.mes_model.specs.declared.filters.Filters.{Filters};
+ghost use Rattle.mes_msg.specs.Call.{Call as CallValue};
+ghost use Rattle.mes_session_fit.specs.Launched.{launched};
+ghost use Rattle.mes_session_state.specs.Calls.{framework_of, accept_call, decline_call, acknowledge_call};
+ghost use Rattle.mes_session_state.specs.Refusals.{IsOtherFramework, IsOtherSubscription, IsForeign, IsFaultyIn, ReportsFirst, Answers, IsOwn, IsPlain};
+
+use crate::duplicates::{is_duplicated, task_is_duplicated};
+use crate::named_offers::{NamedOffers, missing, on_other_agent, two_agents};
+use crate::outstanding_offers::OutstandingOffers;
+use crate::pending_acknowledgements::PendingAcknowledgements;
+use crate::refusal::Refusal;
+use mes_model::{Id, OwedKey, TaskInfo};
+use mes_msg::Call;
+use mes_session_fit::{TaskGroup, first_breach};
+use std::marker::Model;
+
+/// What a session holds, borrowed, for calls to be looked at. A contract sees it as `Held`.
+#[derive(Drop)]
+pub struct CallCheck<'a> {
+    framework: Option<&'a Id>,
+    connected: bool,
+    hand: &'a OutstandingOffers,
+    owed: &'a PendingAcknowledgements,
+}
+
+impl<'a> Model for CallCheck<'a> {
+    ghost use Rattle.std.specs.Prelude.{option_copied};
+    ghost use Rattle.std.specs.Coded.{codes};
+    ghost use Rattle.mes_model_schema.specs.MembersCode.{members_code};
+    ghost use Rattle.mes_session_state.specs.Held.{Held};
+
+    ghost Value = { Held };
+
+    ghost coded = { Prim.hlevel (codes, members_code) };
+
+    ghost view = { λ s. record { framework = option_copied s.framework; connected = s.connected; hand = s.hand.now; owed = s.owed.now } };
+}
+
+impl<'a> CallCheck<'a> {
+    /// What a session holds.
+    pub fn new(
+        framework: Option<&'a Id>,
+        connected: bool,
+        hand: &'a OutstandingOffers,
+        owed: &'a PendingAcknowledgements,
+    ) -> CallCheck<'a>
+        ensures { result ≡ record { framework = option_copied framework.entry; connected = connected; hand = hand.now; owed = owed.now } }
+    {
+        CallCheck {
+            framework,
+            connected,
+            hand,
+            owed,
+        }
+    }
+
+    /// The first of S1 to S7 that is so of the call, or none. Takes no memory: so for S2 the identifiers that are named are compared
+    /// pairwise, and those of the tasks. The rest looks up each offer that is named in a time that does not grow with the hand.
+    pub fn refusal(&self, call: &Call) -> Option<Refusal>
+        ensures { Answers self.now call.now result }
+    {
+        if self.is_foreign(call) {
+            return Some(Refusal::NotSubscribed);
+        }
+        match call {
+            Call::Accept { body, .. } => {
+                self.fault_of_accept(body.offer_ids.as_slice(), body.operations.as_slice())
+            }
+            Call::Decline { body, .. } => self.fault_of_decline(body.offer_ids.as_slice()),
+            Call::Acknowledge { body, .. } => {
+                let owed = self.owed.has(&body.agent_id, &body.task_id, &body.uuid);
+                if owed { None } else { Some(Refusal::NotOwed) }
+            }
+            _ => None,
+        }
+    }
+
+    /// The same of an ACCEPT of these offers that launches these tasks, from the framework that is known: of no tasks it has no
+    /// operation, else one LAUNCH. Takes no memory.
+    pub fn refusal_of_accept(&self, ids: &[Id], tasks: &[TaskInfo]) -> Option<Refusal>
+        ensures answers { (framework : IdValue) (filters : option Filters) → IsOwn self.now framework → Answers self.now (accept_call framework ids.now tasks.now filters) result }
+        ensures known { IfNone result (IsSome self.now.framework) }
+    {
+        if self.is_disconnected() {
+            return Some(Refusal::NotSubscribed);
+        }
+        self.fault_of_accept(ids, &[tasks])
+    }
+
+    /// The same of a DECLINE of these offers. Takes no memory.
+    pub fn refusal_of_decline(&self, ids: &[Id]) -> Option<Refusal>
+        ensures answers { (framework : IdValue) (filters : option Filters) → IsOwn self.now framework → Answers self.now (decline_call framework ids.now filters) result }
+        ensures known { IfNone result (IsSome self.now.framework) }
+    {
+        if self.is_disconnected() {
+            return Some(Refusal::NotSubscribed);
+        }
+        self.fault_of_decline(ids)
+    }
+
+    /// The same of an ACKNOWLEDGE of this update. Takes no memory.
+    pub fn refusal_of_acknowledge(&self, key: &OwedKey) -> Option<Refusal>
+        ensures answers { (framework : IdValue) → IsOwn self.now framework → Answers self.now (acknowledge_call framework key.now) result }
+        ensures known { IfNone result (IsSome self.now.framework) }
+    {
+        if self.is_disconnected() {
+            return Some(Refusal::NotSubscribed);
+        }
+        if self.owed.contains(key) {
+            None
+        } else {
+            Some(Refusal::NotOwed)
+        }
+    }
+
+    /// The same of a REVIVE, KILL, RECONCILE, TEARDOWN, SUPPRESS, SHUTDOWN or MESSAGE: S1, or none. Takes no memory.
+    pub fn refusal_of_plain(&self) -> Option<Refusal>
+        ensures answers { (framework : IdValue) (call : CallValue) → IsOwn self.now framework → framework_of call ≡ Some framework → IsPlain call → Answers self.now call result }
+        ensures known { IfNone result (IsSome self.now.framework) }
+    {
+        if self.is_disconnected() {
+            return Some(Refusal::NotSubscribed);
+        }
+        None
+    }
+
+    /// Whether no call can be made: no SUBSCRIBED was heard since the stream broke.
+    fn is_disconnected(&self) -> bool
+        ensures strange { (framework : IdValue) → IsOwn self.now framework → IsTrue result ↔ IsOtherFramework self.now framework }
+        ensures known { IsFalse result → IsSome self.now.framework }
+    {
+        !self.connected || self.framework.is_none()
+    }
+
+    /// Whether a call from this framework is S1.
+    fn is_other_framework(&self, framework: &Id) -> bool
+        ensures { IsTrue result ↔ IsOtherFramework self.now framework.now }
+    {
+        match self.framework {
+            Some(known) => !self.connected || known != framework,
+            None => true,
+        }
+    }
+
+    /// Whether a SUBSCRIBE is S1.
+    fn is_other_subscription(&self, named: &Option<Id>) -> bool
+        ensures { IsTrue result ↔ IsOtherSubscription self.now named.now }
+    {
+        match (self.framework, named) {
+            (Some(known), Some(named)) => named != known,
+            _ => false,
+        }
+    }
+
+    /// Whether the call is S1.
+    fn is_foreign(&self, call: &Call) -> bool
+        ensures { IsTrue result ↔ IsForeign self.now call.now }
+    {
+        match call {
+            Call::Subscribe { framework_id, .. } => self.is_other_subscription(framework_id),
+            Call::Accept { framework_id, .. } => self.is_other_framework(framework_id),
+            Call::Decline { framework_id, .. } => self.is_other_framework(framework_id),
+            Call::Revive { framework_id } => self.is_other_framework(framework_id),
+            Call::Kill { framework_id, .. } => self.is_other_framework(framework_id),
+            Call::Acknowledge { framework_id, .. } => self.is_other_framework(framework_id),
+            Call::Reconcile { framework_id, .. } => self.is_other_framework(framework_id),
+            Call::Teardown { framework_id } => self.is_other_framework(framework_id),
+            Call::Suppress { framework_id } => self.is_other_framework(framework_id),
+            Call::Shutdown { framework_id, .. } => self.is_other_framework(framework_id),
+            Call::Message { framework_id, .. } => self.is_other_framework(framework_id),
+        }
+    }
+
+    /// The first of S2 to S6 that is so of an ACCEPT of these offers that launches these tasks, or none.
+    fn fault_of_accept<L: TaskGroup>(&self, ids: &[Id], launches: &[L]) -> Option<Refusal>
+        ensures { ReportsFirst (IsFaultyIn self.now (record { named = ids.now; accepted = ids.now; tasks = launched L.tasks launches.now; acknowledged = None })) result }
+    {
+        if is_duplicated(ids) || task_is_duplicated(launches) {
+            return Some(Refusal::NamedTwice);
+        }
+        if let Some(index) = missing(self.hand, ids) {
+            return Some(Refusal::NoSuchOffer { index });
+        }
+        let offers = NamedOffers::new(self.hand, ids);
+        if two_agents(&offers) {
+            return Some(Refusal::TwoAgents);
+        }
+        if let Some(task) = on_other_agent(&offers, launches) {
+            return Some(Refusal::WrongAgent { task });
+        }
+        let breach = first_breach(&offers, launches)?;
+        Some(Refusal::Exceeds {
+            task: breach.task,
+            resource: breach.resource,
+        })
+    }
+
+    /// The first of S2 and S3 that is so of a DECLINE of these offers, or none.
+    fn fault_of_decline(&self, ids: &[Id]) -> Option<Refusal>
+        ensures { ReportsFirst (IsFaultyIn self.now (record { named = ids.now; accepted = []; tasks = []; acknowledged = None })) result }
+    {
+        if is_duplicated(ids) {
+            return Some(Refusal::NamedTwice);
+        }
+        let index = missing(self.hand, ids)?;
+        Some(Refusal::NoSuchOffer { index })
+    }
+}

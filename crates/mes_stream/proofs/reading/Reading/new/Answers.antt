@@ -1,6 +1,0 @@
-use Rattle.std.proofs.Common.{arith}
-use Rattle.mes_stream.specs.Reading.{nothing_ahead}
-use Rattle.mes_stream.proofs.reading.Reading.new.Goals as goal
-
-pub returns : goal.returns
-returns g c = c.behind.ensures nothing_ahead (omega arith) (omega arith)

@@ -1,0 +1,30 @@
+//! The line that is printed where events were not sent, or not to the end.
+
+ghost use Rattle.std.specs.Prelude.{◌≡◌};
+ghost use Rattle.mes_stream.specs.SendLines.{send_text};
+
+use crate::fault::Fault;
+use crate::limits::MAX_FAULT_LINE;
+use crate::line::{fault_line, push_number, push_word};
+use arrayvec::ArrayString;
+use mes_msg::SendFault;
+
+/// Writes the fault's line in place of the text, without its LF: an event by its number, from 1; want of memory as F13 after 0
+/// bytes. Takes no memory.
+pub fn send_line(fault: &SendFault, line: &mut ArrayString<MAX_FAULT_LINE>)
+    ensures { line.new.bytes ≡ send_text fault.now }
+{
+    line.clear();
+    match fault {
+        SendFault::Encode { index, why } => {
+            line.push_str("encode failed event");
+            push_number(line, (*index as u64).saturating_add(1));
+            push_word(line, why.name());
+        }
+        SendFault::NoMemory => fault_line(&Fault::NoMemory, 0, line),
+        SendFault::Write(stopped) => {
+            line.push_str("write failed after");
+            push_number(line, stopped.sent);
+        }
+    }
+}

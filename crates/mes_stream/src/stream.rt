@@ -1,0 +1,98 @@
+//! Reads a stream of either framing from a device.
+
+ghost use Rattle.std.specs.Prelude.{◌≡◌, ◌≢◌, ℕ, List, [], ◌++◌, IfErr};
+ghost use Rattle.std.specs.Io.KnownBytes.{Consumes};
+ghost use Rattle.mes_stream.specs.Reading.{EndsReading, EndsPlain, EndsStream};
+ghost use Rattle.mes_msg.specs.Events.{Spells};
+ghost use Rattle.mes_stream.specs.RecordValues.{IsRefused};
+ghost use Rattle.mes_stream.specs.Refusals.{IsEventRefusal};
+ghost use Rattle.mes_msg.specs.Event.{Event as EventValue};
+
+use crate::counted_reader::Reading;
+use crate::device::read_device;
+use crate::event_reader::EventReader;
+use crate::fault::{Fault, Report, Stop};
+use crate::record_reader::RecordReader;
+use crate::stream_reader::Framing;
+use mes_frame::{Limit, Source};
+use mes_msg::Event;
+use std::alloc::Global;
+
+/// Reads plain RecordIO to the end of the reader, in at most `max_reads` reads of at most `MAX_READ` bytes, and adds
+/// the events to the list; those before a fault stay in it.
+pub fn read_plain<S: Source>(
+    alloc: Global,
+    reader: &mut S,
+    limit: Limit,
+    max_reads: u64,
+    events: &mut Vec<Event>,
+) -> Result<Report, Stop>
+    // The bytes w were taken, the list has more events, and the reading ended as `EndsPlain` says of them.
+    ensures reads { (w : List ℕ) × (more : List EventValue)
+        × Consumes (S.left reader.old) (S.left reader.new) w
+        × (events.new.items ≡ events.old.items ++ more)
+        × EndsPlain limit max_reads (S.counts reader.old) (S.counts reader.new) (S.left reader.new) w more result }
+    // An event is never a bad entry: F16 never comes.
+    ensures entries { IfErr result (λ stop. (n : ℕ) → stop.fault ≢ Fault.BadEntry n) }
+{
+    read_events(alloc, reader, Framing::Plain, limit, max_reads, events)
+}
+
+/// Reads a chunked stream to its end, in at most `max_reads` reads of at most `MAX_READ` bytes, and adds the events to
+/// the list; those before a fault stay in it. What the last read took behind the end is in the report.
+pub fn read_stream<S: Source>(
+    alloc: Global,
+    reader: &mut S,
+    limit: Limit,
+    max_reads: u64,
+    events: &mut Vec<Event>,
+) -> Result<Report, Stop>
+    ensures reads { (w : List ℕ) × (more : List EventValue)
+        × Consumes (S.left reader.old) (S.left reader.new) w
+        × (events.new.items ≡ events.old.items ++ more)
+        × EndsStream limit max_reads (S.counts reader.old) (S.counts reader.new) (S.left reader.new) w more result }
+    // An event is never a bad entry: F16 never comes.
+    ensures entries { IfErr result (λ stop. (n : ℕ) → stop.fault ≢ Fault.BadEntry n) }
+{
+    read_events(alloc, reader, Framing::Chunked, limit, max_reads, events)
+}
+
+/// Reads a stream of events of either framing, as `read_plain` and `read_stream` do.
+pub fn read_events<S: Source>(
+    alloc: Global,
+    reader: &mut S,
+    framing: Framing,
+    limit: Limit,
+    max_reads: u64,
+    events: &mut Vec<Event>,
+) -> Result<Report, Stop>
+    ensures reads { (w : List ℕ) × (more : List EventValue)
+        × Consumes (S.left reader.old) (S.left reader.new) w
+        × (events.new.items ≡ events.old.items ++ more)
+        × EndsReading framing Spells IsEventRefusal limit max_reads (S.counts reader.old) (S.counts reader.new) (S.left reader.new) w more result }
+    // An event is never a bad entry: F16 never comes.
+    ensures entries { IfErr result (λ stop. (n : ℕ) → stop.fault ≢ Fault.BadEntry n) }
+{
+    let records = EventReader::new(alloc);
+    read_records(reader, framing, records, limit, max_reads, events)
+}
+
+// The same for any reader of records, before its first byte.
+fn read_records<R: RecordReader, S: Source>(
+    reader: &mut S,
+    framing: Framing,
+    records: R,
+    limit: Limit,
+    max_reads: u64,
+    values: &mut Vec<R::Value>,
+) -> Result<Report, Stop>
+    requires { R.holds records [] }
+    ensures { (w : List ℕ) × (more : List R.Value)
+        × Consumes (S.left reader.old) (S.left reader.new) w
+        × (values.new.items ≡ values.old.items ++ more)
+        × EndsReading framing R.spells (IsRefused R.spells R.breaks) limit max_reads (S.counts reader.old) (S.counts reader.new) (S.left reader.new) w more result }
+{
+    let mut reading = Reading::new(framing, records, limit);
+    let end = read_device(reader, max_reads, &mut reading, values);
+    reading.outcome(end)
+}

@@ -1,0 +1,38 @@
+//! The output of the command: what its writer answers is handed on, and that its reader has gone is remembered.
+use mes_frame::{FromStd, Sink};
+use mesosev_stream::Output;
+use std::io;
+use std::io::{ErrorKind, Write};
+
+/// Fails by an error of this kind.
+#[derive(Drop)]
+struct Failing {
+    kind: ErrorKind,
+}
+
+impl Write for Failing {
+    fn write(&mut self, _bytes: &[u8]) -> io::Result<usize> {
+        Err(io::Error::from(self.kind))
+    }
+
+    fn flush(&mut self) -> io::Result<()> {
+        Ok(())
+    }
+}
+
+/// Whether an output hands on an error of this kind, and counts as closed or not.
+fn hands_on(kind: ErrorKind, closed: bool) -> bool {
+    let mut output = Output::new(FromStd::new(Failing { kind }));
+    match &output.put(b"x") {
+        Ok(_) => false,
+        Err(error) => error.kind() == kind && output.is_closed() == closed,
+    }
+}
+
+#[test]
+fn a_failure_is_handed_on_and_a_closed_pipe_remembered(rt: HostRuntime) {
+    assert!(rt; hands_on(ErrorKind::BrokenPipe, true));
+    assert!(rt; hands_on(ErrorKind::WouldBlock, false));
+    assert!(rt; hands_on(ErrorKind::StorageFull, false));
+    assert!(rt; hands_on(ErrorKind::Interrupted, false));
+}

@@ -1,0 +1,303 @@
+//! What `check`, `show` and `convert` do over devices in memory that give and take a few bytes at a time, or fail.
+
+use crate::support::heartbeats;
+use mes_frame::{Limit, MemorySink, MemorySource, MemoryStop};
+use mes_stream::Framing;
+use mesosev_stream::{Detail, MAX_READS, RunOutcome, convert, finish, follow};
+use std::alloc::{AllocGlobal, Global};
+use std::process::Abort;
+use std::test::Fail;
+
+/// A record of 20 bytes, 23 with its size line.
+const HEARTBEAT: &str = "20\n{\"type\":\"HEARTBEAT\"}";
+
+/// What `show` prints of it.
+const LINES: &str = "1 HEARTBEAT\nevents 1 bytes 23\n";
+
+/// What `check` prints of it.
+const COUNTS: &str = "events 1 bytes 23\n";
+
+/// How many bytes the writer takes by one call.
+const WRITE_SIZE: usize = 5;
+
+/// Follows plain RecordIO under the usual limit, and answers how that ended.
+fn followed(
+    alloc: Global,
+    detail: Detail,
+    source: &mut MemorySource<'_>,
+    out: &mut MemorySink,
+) -> RunOutcome {
+    follow(
+        alloc,
+        detail,
+        Framing::Plain,
+        Limit::USUAL,
+        MAX_READS,
+        source,
+        out,
+    )
+}
+
+/// Asserts what is printed of what the source gives, and how that ends.
+fn expect_printed<R: Abort + AllocGlobal>(
+    rt: &R,
+    detail: Detail,
+    source: &mut MemorySource<'_>,
+    out: &mut MemorySink,
+    lines: &[u8],
+    ended: RunOutcome,
+) {
+    let reported = followed(rt.alloc(), detail, source, out);
+    assert_eq!(rt; (out.bytes(), reported), (lines, ended));
+}
+
+/// The same with a writer that does not stop.
+fn expect_status<R: Abort + AllocGlobal>(
+    rt: &R,
+    detail: Detail,
+    source: &mut MemorySource<'_>,
+    lines: &str,
+    status: u8,
+) {
+    let mut out = MemorySink::new(rt.alloc(), WRITE_SIZE);
+    let ended = RunOutcome::Status(status);
+    expect_printed(rt, detail, source, &mut out, lines.as_bytes(), ended);
+}
+
+/// Follows the record, given so many bytes by one read, and asserts what is printed.
+fn expect_lines<R: Abort + AllocGlobal>(rt: &R, detail: Detail, lines: &str, size: usize) {
+    let mut source = MemorySource::new(HEARTBEAT.as_bytes(), size);
+    expect_status(rt, detail, &mut source, lines, 0);
+}
+
+#[test]
+fn records_are_read_by_pieces(rt: HostRuntime) {
+    for size in [1, 7, 4096] {
+        expect_lines(&rt, Detail::Lines, LINES, size);
+        expect_lines(&rt, Detail::Counts, COUNTS, size);
+    }
+}
+
+/// Follows the record, whose reader fails behind so many bytes, and asserts what is printed.
+fn expect_failed_read<R: Abort + AllocGlobal>(rt: &R, detail: Detail, taken: usize, lines: &str) {
+    let mut source = MemorySource::failing_after(HEARTBEAT.as_bytes(), 1, taken);
+    expect_status(rt, detail, &mut source, lines, 1);
+}
+
+// The reader fails behind each front of the record, and behind all of it.
+#[test]
+fn a_reader_that_fails_is_told(rt: HostRuntime) -> Result<(), Fail> {
+    for taken in 0..=HEARTBEAT.len() {
+        let line = format!(in rt.alloc(); "fault F14 Read after {taken}\n")?;
+        expect_failed_read(&rt, Detail::Counts, taken, line.as_str());
+    }
+    let lines = "1 HEARTBEAT\nfault F14 Read after 23\n";
+    expect_failed_read(&rt, Detail::Lines, 23, lines);
+    Ok(())
+}
+
+/// Follows the record, whose writer stops so behind this front of what is printed, and asserts that the front is written.
+fn expect_cut<R: Abort + AllocGlobal>(rt: &R, detail: Detail, front: &[u8], stop: MemoryStop) {
+    let good = front.len();
+    let mut source = MemorySource::new(HEARTBEAT.as_bytes(), 7);
+    let mut out = MemorySink::stopping_after(rt.alloc(), WRITE_SIZE, good, stop);
+    let ended = RunOutcome::OutputFailed(good as u64);
+    expect_printed(rt, detail, &mut source, &mut out, front, ended);
+}
+
+/// The writer fails, or takes no more, behind each front of the lines.
+fn expect_cuts<R: Abort + AllocGlobal>(rt: &R, detail: Detail, lines: &[u8]) {
+    for good in 0..lines.len() {
+        let (front, _) = lines.split_at(good);
+        expect_cut(rt, detail, front, MemoryStop::Fails);
+        expect_cut(rt, detail, front, MemoryStop::TakesNone);
+    }
+}
+
+#[test]
+fn lines_are_cut_where_the_writer_stops(rt: HostRuntime) {
+    expect_cuts(&rt, Detail::Lines, LINES.as_bytes());
+    expect_cuts(&rt, Detail::Counts, COUNTS.as_bytes());
+}
+
+/// Follows the record by at most so many reads.
+fn followed_by(
+    alloc: Global,
+    max_reads: u32,
+    source: &mut MemorySource<'_>,
+    out: &mut MemorySink,
+) -> RunOutcome {
+    follow(
+        alloc,
+        Detail::Lines,
+        Framing::Plain,
+        Limit::USUAL,
+        max_reads as u64,
+        source,
+        out,
+    )
+}
+
+/// Asserts what is printed where so many reads are spent, and that they were made.
+fn expect_spent_by<R: Abort + AllocGlobal>(
+    rt: &R,
+    max_reads: u32,
+    out: &mut MemorySink,
+    lines: &str,
+) {
+    let mut source = MemorySource::new(HEARTBEAT.as_bytes(), 1);
+    let ended = followed_by(rt.alloc(), max_reads, &mut source, out);
+    assert_eq!(rt;
+        (out.bytes(), ended),
+        (lines.as_bytes(), RunOutcome::Status(1))
+    );
+    assert_eq!(rt; source.counts().calls, max_reads as u64);
+}
+
+/// The same with a new writer.
+fn expect_spent<R: Abort + AllocGlobal>(rt: &R, max_reads: u32, lines: &str) {
+    let mut out = MemorySink::new(rt.alloc(), WRITE_SIZE);
+    expect_spent_by(rt, max_reads, &mut out, lines);
+}
+
+// As many reads as allowed were made, and another was needed; the events of those are printed.
+#[test]
+fn spent_reads_are_told(rt: HostRuntime) -> Result<(), Fail> {
+    for max_reads in 0..24 {
+        let shown = if max_reads == 23 { "1 HEARTBEAT\n" } else { "" };
+        let lines = format!(in rt.alloc(); "{shown}fault F15 ReadsSpent after {max_reads}\n")?;
+        expect_spent(&rt, max_reads, lines.as_str());
+    }
+    Ok(())
+}
+
+/// How the following of a stream ended, how often its reader was called, and how often its writer.
+type Calls = (RunOutcome, u64, u64);
+
+/// Follows the stream, whose reader gives all it is asked for.
+fn calls_of(alloc: Global, detail: Detail, bytes: &[u8], mut out: MemorySink) -> Calls {
+    let mut source = MemorySource::new(bytes, usize::MAX);
+    let ended = followed(alloc, detail, &mut source, &mut out);
+    (ended, source.counts().calls, out.counts().calls)
+}
+
+/// How often the reader of a stream is called.
+fn reads_of_check(alloc: Global, bytes: &[u8]) -> (RunOutcome, u64) {
+    let out = MemorySink::new(alloc, usize::MAX);
+    let (ended, reads, _) = calls_of(alloc, Detail::Counts, bytes, out);
+    (ended, reads)
+}
+
+// A device that gives all it is asked for is asked once for each 512 bytes, and once more for the end.
+#[test]
+fn a_stream_is_followed_by_few_reads(rt: HostRuntime) -> Result<(), Fail> {
+    for records in 0..100 {
+        let bytes = heartbeats(rt.alloc(), records)?;
+        let reads = bytes.len().div_ceil(512) as u64 + 1;
+        let reported = reads_of_check(rt.alloc(), bytes.as_slice());
+        assert_eq!(rt; reported, (RunOutcome::Status(0), reads));
+    }
+    Ok(())
+}
+
+/// How the following of a stream ends whose writer fails behind three bytes, and how often its reader is called.
+fn reads_before_failure(alloc: Global, bytes: &[u8]) -> (RunOutcome, u64) {
+    let out = MemorySink::stopping_after(alloc, WRITE_SIZE, 3, MemoryStop::Fails);
+    let (ended, reads, _) = calls_of(alloc, Detail::Lines, bytes, out);
+    (ended, reads)
+}
+
+// Behind a read whose lines the writer did not take no more is read.
+#[test]
+fn nothing_is_read_behind_a_failed_output(rt: HostRuntime) -> Result<(), Fail> {
+    let bytes = heartbeats(rt.alloc(), 100)?;
+    let reported = reads_before_failure(rt.alloc(), bytes.as_slice());
+    drop(bytes);
+    assert_eq!(rt; reported, (RunOutcome::OutputFailed(3), 1));
+    Ok(())
+}
+
+/// Shows so many records to a writer that takes all it is given, and answers how often that was called.
+fn writes_of_show(alloc: Global, records: usize) -> Result<u64, Fail> {
+    let bytes = heartbeats(alloc, records)?;
+    let out = MemorySink::new(alloc, usize::MAX);
+    let (_, _, writes) = calls_of(alloc, Detail::Lines, bytes.as_slice(), out);
+    Ok(writes)
+}
+
+// The lines of a read's events go out by one write: 22 of them end in the first 512 bytes. The last line is a write of its own.
+#[test]
+fn lines_go_out_by_few_writes(rt: HostRuntime) -> Result<(), Fail> {
+    for &(records, writes) in &[(0, 1), (1, 2), (22, 2), (23, 3), (45, 4)] {
+        assert_eq!(rt; writes_of_show(rt.alloc(), records)?, writes);
+    }
+    Ok(())
+}
+
+/// Ends a run whose output failed behind 7 bytes, and asserts what this writer is told.
+fn expect_told_by<R: Abort>(rt: &R, closed: bool, err: &mut MemorySink, line: &str) {
+    let status = finish(RunOutcome::OutputFailed(7), closed, err);
+    assert_eq!(rt; (err.bytes(), status), (line.as_bytes(), 1));
+}
+
+/// The same with a new writer.
+fn expect_told<R: Abort + AllocGlobal>(rt: &R, closed: bool, line: &str) {
+    let mut err = MemorySink::new(rt.alloc(), WRITE_SIZE);
+    expect_told_by(rt, closed, &mut err, line);
+}
+
+#[test]
+fn an_output_that_failed_is_told(rt: HostRuntime) {
+    expect_told(&rt, false, "write failed after 7\n");
+    expect_told(&rt, true, "");
+}
+
+/// Converts the record into plain RecordIO, and answers the status.
+fn converted(alloc: Global, out: &mut MemorySink, err: &mut MemorySink) -> u8 {
+    let mut source = MemorySource::new(HEARTBEAT.as_bytes(), 7);
+    convert(
+        alloc,
+        Framing::Plain,
+        Limit::USUAL,
+        None,
+        &mut source,
+        out,
+        err,
+    )
+}
+
+/// Converts the record, and asserts what is written and told.
+fn expect_stopped_by<R: Abort + AllocGlobal>(
+    rt: &R,
+    out: &mut MemorySink,
+    err: &mut MemorySink,
+    front: &[u8],
+    line: &str,
+) {
+    let status = converted(rt.alloc(), out, err);
+    assert_eq!(rt; (out.bytes(), status), (front, 1));
+    assert_eq!(rt; err.bytes(), line.as_bytes());
+}
+
+/// The same with a writer that stops so behind this front of the record.
+fn expect_stopped<R: Abort + AllocGlobal>(rt: &R, front: &[u8], stop: MemoryStop, line: &str) {
+    let mut out = MemorySink::stopping_after(rt.alloc(), WRITE_SIZE, front.len(), stop);
+    let mut err = MemorySink::new(rt.alloc(), WRITE_SIZE);
+    expect_stopped_by(rt, &mut out, &mut err, front, line);
+}
+
+/// The writer fails, or takes no more, behind each front of the record.
+fn expect_stops<R: Abort + AllocGlobal>(rt: &R, record: &[u8]) -> Result<(), Fail> {
+    for good in 0..record.len() {
+        let (front, _) = record.split_at(good);
+        let line = format!(in rt.alloc(); "write failed after {good}\n")?;
+        expect_stopped(rt, front, MemoryStop::Fails, line.as_str());
+        expect_stopped(rt, front, MemoryStop::TakesNone, line.as_str());
+    }
+    Ok(())
+}
+
+#[test]
+fn a_writer_that_stops_is_told(rt: HostRuntime) -> Result<(), Fail> {
+    expect_stops(&rt, HEARTBEAT.as_bytes())
+}

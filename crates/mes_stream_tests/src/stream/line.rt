@@ -1,0 +1,123 @@
+//! The lines of faults and of the count.
+
+use arrayvec::ArrayString;
+use mes_frame::FrameFault;
+use mes_json::TextFaultKind;
+use mes_model_schema::{FieldFaultKind, Path, Step};
+use mes_stream::{Fault, count_line, fault_line};
+use std::process::Abort;
+
+fn expect_line<R: Abort>(rt: &R, fault: Fault, used: u64, expected: &str) {
+    let mut line = ArrayString::new();
+    fault_line(&fault, used, &mut line);
+    drop(fault);
+    assert_eq!(rt; line.as_str(), expected);
+}
+
+/// The line of a fault of the framing, behind five bytes.
+fn expect_framing<R: Abort>(rt: &R, fault: FrameFault, expected: &str) {
+    expect_line(rt, Fault::Frame(fault), 5, expected);
+}
+
+/// The line of a fault of the first record's text.
+fn expect_text<R: Abort>(rt: &R, byte: u64, why: TextFaultKind, used: u64, expected: &str) {
+    let fault = Fault::Text {
+        at_record: 1,
+        byte,
+        why,
+    };
+    expect_line(rt, fault, used, expected);
+}
+
+fn expect_field<R: Abort>(
+    rt: &R,
+    at_record: u64,
+    path: Path,
+    why: FieldFaultKind,
+    used: u64,
+    expected: &str,
+) {
+    let fault = Fault::Field {
+        at_record,
+        path,
+        why,
+    };
+    expect_line(rt, fault, used, expected);
+}
+
+#[test]
+fn framing_faults(rt: HostRuntime) {
+    use FrameFault::*;
+    expect_framing(&rt, BadChunkLine, "fault F1 BadChunkLine after 5");
+    expect_framing(&rt, ChunkLineTooLong, "fault F2 ChunkLineTooLong after 5");
+    expect_framing(&rt, ChunkTooLarge, "fault F3 ChunkTooLarge after 5");
+    expect_framing(&rt, BadChunkEnd, "fault F4 BadChunkEnd after 5");
+    expect_framing(&rt, TrailersTooLong, "fault F5 TrailersTooLong after 5");
+    expect_framing(&rt, BadSizeLine, "fault F7 BadSizeLine after 5");
+    expect_framing(&rt, SizeLineTooLong, "fault F8 SizeLineTooLong after 5");
+    expect_framing(&rt, RecordTooLarge, "fault F9 RecordTooLarge after 5");
+}
+
+/// The line of a fault behind twelve bytes.
+fn expect_twelve<R: Abort>(rt: &R, fault: Fault, expected: &str) {
+    expect_line(rt, fault, 12, expected);
+}
+
+#[test]
+fn ends_and_device_faults(rt: HostRuntime) {
+    use Fault::*;
+    expect_twelve(&rt, EndsInsideChunks, "fault F6 EndsInsideChunks after 12");
+    expect_twelve(&rt, EndsInsideRecord, "fault F10 EndsInsideRecord after 12");
+    expect_twelve(&rt, NoMemory, "fault F13 NoMemory after 12");
+    expect_twelve(&rt, Read, "fault F14 Read after 12");
+    expect_twelve(&rt, ReadsSpent, "fault F15 ReadsSpent after 12");
+}
+
+#[test]
+fn entry_faults(rt: HostRuntime) {
+    let entry = Fault::BadEntry { at_record: 1 };
+    expect_line(&rt, entry, 3, "fault F16 BadEntry record 1 after 3");
+}
+
+#[test]
+fn text_faults(rt: HostRuntime) {
+    let end = "fault F11 Text record 1 byte 0 End after 2";
+    expect_text(&rt, 0, TextFaultKind::End, 2, end);
+    let depth = "fault F11 Text record 1 byte 128 Depth after 133";
+    expect_text(&rt, 128, TextFaultKind::Depth, 133, depth);
+    let byte = "fault F11 Text record 1 byte 31 Byte after 37";
+    expect_text(&rt, 31, TextFaultKind::Byte, 37, byte);
+}
+
+#[test]
+fn field_faults(rt: HostRuntime) {
+    let state = Path::new()
+        .with(Step::Name("update"))
+        .with(Step::Name("status"))
+        .with(Step::Name("state"));
+    let line = "fault F12 Field record 3 update.status.state Missing after 210";
+    expect_field(&rt, 3, state, FieldFaultKind::Missing, 210, line);
+    let kind = Path::new().with(Step::Name("type"));
+    let line = "fault F12 Field record 1 type Missing after 4";
+    expect_field(&rt, 1, kind, FieldFaultKind::Missing, 4, line);
+    let line = "fault F12 Field record 1 . WrongKind after 5";
+    expect_field(&rt, 1, Path::new(), FieldFaultKind::WrongKind, 5, line);
+}
+
+#[test]
+fn field_faults_of_elements(rt: HostRuntime) {
+    let listed = Path::new()
+        .with(Step::Name("a"))
+        .with(Step::Name("b"))
+        .with(Step::Index(0))
+        .with(Step::Name("c"));
+    let line = "fault F12 Field record 2 a.b[0].c NumberRange after 98";
+    expect_field(&rt, 2, listed, FieldFaultKind::NumberRange, 98, line);
+}
+
+#[test]
+fn counts(rt: HostRuntime) {
+    let mut line = ArrayString::new();
+    count_line(1, 29, &mut line);
+    assert_eq!(rt; line.as_str(), "events 1 bytes 29");
+}

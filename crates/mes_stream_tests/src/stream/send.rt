@@ -1,0 +1,331 @@
+//! Worked examples of what is sent: whole, stopped by the writer at each byte, and refused before the first byte.
+
+use crate::support::{HEARTBEAT, HEARTBEAT_BY_BYTES, read_into};
+use arrayvec::ArrayString;
+use mes_frame::{Counts, Limit, MemorySink, MemorySource, MemoryStop, WriteFault, WriteFaultKind};
+use mes_json::MAX_NESTING;
+use mes_msg::Event;
+use mes_stream::{
+    EncodeFaultKind, Framing, MAX_FAULT_LINE, SendFault, send_line, write_plain, write_stream,
+};
+use std::alloc::{AllocGlobal, Global};
+use std::process::Abort;
+use std::test::Fail;
+
+// 98 bytes of text, whose canonical text has 100: `15.0` for `15`.
+const SUBSCRIBED: &[u8] =
+    b"98\n{\"type\":\"SUBSCRIBED\",\"subscribed\":{\"framework_id\":{\"value\":\"F1\"},\"heartbeat_interval_seconds\":15}}";
+
+// HEARTBEAT, SUBSCRIBED and HEARTBEAT again.
+const THREE: &[u8] =
+    b"20\n{\"type\":\"HEARTBEAT\"}98\n{\"type\":\"SUBSCRIBED\",\"subscribed\":{\"framework_id\":{\"value\":\"F1\"},\"heartbeat_interval_seconds\":15}}20\n{\"type\":\"HEARTBEAT\"}";
+
+/// How events are written.
+#[derive(Clone, Copy)]
+enum Form {
+    /// As plain RecordIO.
+    Plain,
+    /// In chunks of one byte.
+    ByteChunks,
+    /// In chunks of 4,096 bytes.
+    LongChunks,
+}
+
+/// What is sent: the events of records, in a form, under a limit.
+#[derive(Clone, Copy)]
+struct Sending<'a> {
+    records: &'a [u8],
+    form: Form,
+    limit: Limit,
+}
+
+/// Adds the events that plain RecordIO has.
+fn push_events(alloc: Global, records: &[u8], events: &mut Vec<Event>) -> Result<(), Fail> {
+    let mut source = MemorySource::new(records, 512);
+    match &read_into(alloc, Framing::Plain, &mut source, 100, events) {
+        Ok(_) => Ok(()),
+        Err(_) => Err("the stream is whole")?,
+    }
+}
+
+/// Writes the events.
+fn write(
+    alloc: Global,
+    sending: &Sending<'_>,
+    events: &[Event],
+    sink: &mut MemorySink,
+) -> Result<(), SendFault> {
+    let limit = sending.limit;
+    match sending.form {
+        Form::Plain => write_plain(alloc, sink, events, limit),
+        Form::ByteChunks => write_stream(alloc, sink, events, limit, 1),
+        Form::LongChunks => write_stream(alloc, sink, events, limit, 4096),
+    }
+}
+
+/// Reads the events into an empty list and writes them.
+fn send_by(
+    alloc: Global,
+    sending: &Sending<'_>,
+    events: &mut Vec<Event>,
+    sink: &mut MemorySink,
+) -> Result<Result<(), SendFault>, Fail> {
+    push_events(alloc, sending.records, events)?;
+    Ok(write(alloc, sending, events.as_slice(), sink))
+}
+
+/// Sends the events.
+fn send(
+    alloc: Global,
+    sending: &Sending<'_>,
+    sink: &mut MemorySink,
+) -> Result<Result<(), SendFault>, Fail> {
+    let mut events = Vec::new(alloc);
+    let sent = send_by(alloc, sending, &mut events, sink);
+    drop(events);
+    sent
+}
+
+/// The sending is answered so, and these bytes go out.
+fn expect_answer<R: Abort + AllocGlobal>(
+    rt: &R,
+    sending: &Sending<'_>,
+    sink: &mut MemorySink,
+    answer: Result<(), SendFault>,
+    bytes: &[u8],
+) -> Result<(), Fail> {
+    assert_eq!(rt; send(rt.alloc(), sending, sink)?, answer);
+    assert_eq!(rt; sink.bytes(), bytes);
+    Ok(())
+}
+
+/// The same with this writer, which is gone then. Answers how it was called.
+fn expect_sent<R: Abort + AllocGlobal>(
+    rt: &R,
+    sending: &Sending<'_>,
+    mut sink: MemorySink,
+    answer: Result<(), SendFault>,
+    bytes: &[u8],
+) -> Result<Counts, Fail> {
+    let reported = expect_answer(rt, sending, &mut sink, answer, bytes);
+    let counts = sink.counts();
+    drop(sink);
+    reported?;
+    Ok(counts)
+}
+
+/// Where no record can hold an event the writer is not called.
+fn expect_refused<R: Abort + AllocGlobal>(
+    rt: &R,
+    sending: &Sending<'_>,
+    fault: SendFault,
+) -> Result<(), Fail> {
+    let sink = MemorySink::new(rt.alloc(), 64);
+    let counts = expect_sent(rt, sending, sink, Err(fault), b"")?;
+    assert_eq!(rt; counts.calls, 0);
+    Ok(())
+}
+
+/// The line that is printed of the fault.
+fn expect_line(rt: &impl Abort, fault: &SendFault, expected: &str) {
+    let mut line = ArrayString::<MAX_FAULT_LINE>::new();
+    send_line(fault, &mut line);
+    assert_eq!(rt; line.as_str(), expected);
+}
+
+/// A heartbeat in chunks of one byte.
+const BYTES: Sending<'static> = Sending {
+    records: HEARTBEAT,
+    form: Form::ByteChunks,
+    limit: Limit::USUAL,
+};
+
+#[test]
+fn a_heartbeat_in_chunks_of_one_byte(rt: HostRuntime) -> Result<(), Fail> {
+    assert_eq!(rt; HEARTBEAT_BY_BYTES.len(), 143);
+    let sink = MemorySink::new(rt.alloc(), 64);
+    let _ = expect_sent(&rt, &BYTES, sink, Ok(()), HEARTBEAT_BY_BYTES)?;
+    Ok(())
+}
+
+/// A writer that fails behind these bytes has them, and was called once to no effect.
+fn expect_front<R: Abort + AllocGlobal>(rt: &R, front: &[u8]) -> Result<(), Fail> {
+    let good = front.len();
+    let sink = MemorySink::stopping_after(rt.alloc(), 64, good, MemoryStop::Fails);
+    let stopped = WriteFault {
+        sent: good as u64,
+        why: WriteFaultKind::Device,
+    };
+    let counts = expect_sent(rt, &BYTES, sink, Err(SendFault::Write(stopped)), front)?;
+    assert_eq!(rt; counts.failures, 1);
+    Ok(())
+}
+
+/// Each front of these bytes can be the last that goes out.
+fn expect_fronts<R: Abort + AllocGlobal>(rt: &R, whole: &[u8]) -> Result<(), Fail> {
+    for good in 0..whole.len() {
+        let (front, _) = whole.split_at(good);
+        expect_front(rt, front)?;
+    }
+    Ok(())
+}
+
+#[test]
+fn a_writer_that_fails_after_each_byte(rt: HostRuntime) -> Result<(), Fail> {
+    expect_fronts(&rt, HEARTBEAT_BY_BYTES)
+}
+
+/// A writer that takes no byte.
+fn takes_none(alloc: Global) -> MemorySink {
+    MemorySink::stopping_after(alloc, 64, 0, MemoryStop::TakesNone)
+}
+
+#[test]
+fn a_writer_that_takes_none(rt: HostRuntime) -> Result<(), Fail> {
+    let stopped = SendFault::Write(WriteFault {
+        sent: 0,
+        why: WriteFaultKind::Zero,
+    });
+    let plain = Sending {
+        records: HEARTBEAT,
+        form: Form::Plain,
+        limit: Limit::USUAL,
+    };
+    let _ = expect_sent(&rt, &plain, takes_none(rt.alloc()), Err(stopped), b"")?;
+    let _ = expect_sent(&rt, &BYTES, takes_none(rt.alloc()), Err(stopped), b"")?;
+    expect_line(&rt, &stopped, "write failed after 0");
+    Ok(())
+}
+
+// The record has 98 bytes of text, the event's canonical text two more.
+#[test]
+fn an_event_that_no_record_can_hold(rt: HostRuntime) -> Result<(), Fail> {
+    let limit = Limit::new(98).ok_or("a limit")?;
+    let fault = SendFault::Encode {
+        index: 0,
+        why: EncodeFaultKind::TooLarge,
+    };
+    for form in [Form::Plain, Form::LongChunks] {
+        let sending = Sending {
+            records: SUBSCRIBED,
+            form,
+            limit,
+        };
+        expect_refused(&rt, &sending, fault)?;
+    }
+    expect_line(&rt, &fault, "encode failed event 1 TooLarge");
+    Ok(())
+}
+
+/// The text of an OFFERS whose one resource has a `disk` of objects inside each other: it is read in the form of the bare array, and
+/// nests one deeper than a text may as it is written.
+fn deep_text(alloc: Global) -> Result<String, Fail> {
+    let open = r#"{"a":"#.repeat(alloc, MAX_NESTING - 6)?;
+    let close = "}".repeat(alloc, MAX_NESTING - 6)?;
+    Ok(format!(in alloc;
+        r#"{{"type":"OFFERS","offers":[{{"id":{{"value":"O1"}},"framework_id":{{"value":"F1"}},"agent_id":{{"value":"A1"}},"hostname":"h","resources":[{{"name":"disk","type":"SET","set":{{}},"disk":{open}{{}}{close}}}]}}]}}"#
+    )?)
+}
+
+/// The records of a heartbeat and of that event.
+fn deep_records(alloc: Global) -> Result<String, Fail> {
+    let text = deep_text(alloc)?;
+    let size = text.len();
+    let text = text.as_str();
+    Ok(format!(in alloc; "20\n{{\"type\":\"HEARTBEAT\"}}{size}\n{text}")?)
+}
+
+// It is too large for the limit too, which is told of events that aren't too deep.
+#[test]
+fn an_event_that_nests_too_deep(rt: HostRuntime) -> Result<(), Fail> {
+    let limit = Limit::new(98).ok_or("a limit")?;
+    let records = deep_records(rt.alloc())?;
+    let sending = Sending {
+        records: records.as_bytes(),
+        form: Form::Plain,
+        limit,
+    };
+    let fault = SendFault::Encode {
+        index: 1,
+        why: EncodeFaultKind::TooDeep,
+    };
+    expect_refused(&rt, &sending, fault)
+}
+
+/// The three events, of which the second has the canonical text.
+const THREE_WRITTEN: &[u8] =
+    b"20\n{\"type\":\"HEARTBEAT\"}100\n{\"type\":\"SUBSCRIBED\",\"subscribed\":{\"framework_id\":{\"value\":\"F1\"},\"heartbeat_interval_seconds\":15.0}}20\n{\"type\":\"HEARTBEAT\"}";
+
+/// The same in one chunk.
+const THREE_IN_A_CHUNK: &[u8] =
+    b"96\r\n20\n{\"type\":\"HEARTBEAT\"}100\n{\"type\":\"SUBSCRIBED\",\"subscribed\":{\"framework_id\":{\"value\":\"F1\"},\"heartbeat_interval_seconds\":15.0}}20\n{\"type\":\"HEARTBEAT\"}\r\n0\r\n\r\n";
+
+/// The three events go out so.
+fn expect_three<R: Abort + AllocGlobal>(rt: &R, form: Form, bytes: &[u8]) -> Result<(), Fail> {
+    let sending = Sending {
+        records: THREE,
+        form,
+        limit: Limit::USUAL,
+    };
+    let sink = MemorySink::new(rt.alloc(), 7);
+    let _ = expect_sent(rt, &sending, sink, Ok(()), bytes)?;
+    Ok(())
+}
+
+#[test]
+fn several_events(rt: HostRuntime) -> Result<(), Fail> {
+    expect_three(&rt, Form::Plain, THREE_WRITTEN)?;
+    expect_three(&rt, Form::LongChunks, THREE_IN_A_CHUNK)
+}
+
+// The second of three events is the first that 99 bytes can't hold.
+#[test]
+fn the_first_bad_event_is_told(rt: HostRuntime) -> Result<(), Fail> {
+    let limit = Limit::new(99).ok_or("a limit")?;
+    let sending = Sending {
+        records: THREE,
+        form: Form::ByteChunks,
+        limit,
+    };
+    let fault = SendFault::Encode {
+        index: 1,
+        why: EncodeFaultKind::TooLarge,
+    };
+    expect_refused(&rt, &sending, fault)?;
+    expect_line(&rt, &fault, "encode failed event 2 TooLarge");
+    Ok(())
+}
+
+/// Of no events these bytes go out. Answers how often the writer was called.
+fn expect_none<R: Abort + AllocGlobal>(rt: &R, form: Form, bytes: &[u8]) -> Result<u64, Fail> {
+    let sending = Sending {
+        records: b"",
+        form,
+        limit: Limit::USUAL,
+    };
+    let sink = MemorySink::new(rt.alloc(), 64);
+    let counts = expect_sent(rt, &sending, sink, Ok(()), bytes)?;
+    Ok(counts.calls)
+}
+
+#[test]
+fn no_events(rt: HostRuntime) -> Result<(), Fail> {
+    assert_eq!(rt; expect_none(&rt, Form::Plain, b"")?, 0);
+    let _ = expect_none(&rt, Form::ByteChunks, b"0\r\n\r\n")?;
+    Ok(())
+}
+
+#[test]
+fn faults_are_told(rt: HostRuntime) {
+    let deep = SendFault::Encode {
+        index: 6,
+        why: EncodeFaultKind::TooDeep,
+    };
+    expect_line(&rt, &deep, "encode failed event 7 TooDeep");
+    expect_line(&rt, &SendFault::NoMemory, "fault F13 NoMemory after 0");
+    let stopped = SendFault::Write(WriteFault {
+        sent: 7,
+        why: WriteFaultKind::Device,
+    });
+    expect_line(&rt, &stopped, "write failed after 7");
+}

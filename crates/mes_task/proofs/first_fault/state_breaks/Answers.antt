@@ -1,5 +1,0 @@
-use Rattle.mes_task.proofs.StateFaults.{state_is_broken}
-use Rattle.mes_task.proofs.first_fault.state_breaks.Goals as goal
-
-pub returns : goal.returns
-returns c = state_is_broken

@@ -1,0 +1,36 @@
+-- What is told where words name no options.
+use Rattle.std.specs.Prelude.{◌≡◌, ◌≢◌, ℕ, ◌⊎◌, List, [], ◌∷◌, ◌++◌, codes}
+use Rattle.clap.specs.Words.{kind_of}
+use Rattle.clap.specs.declared.error.Error.{Error}
+use Rattle.clap.specs.declared.error.kind.ErrorKind.TheVariants.{DisplayHelp, DisplayVersion}
+use Rattle.mes_frame.specs.Devices.{Device}
+use Rattle.mesosev_stream.specs.Printing.{Prints, LacksMemory}
+use Rattle.mesosev_stream.specs.declared.outcome.RunOutcome.{RunOutcome}
+use Rattle.mesosev_args.specs.declared.args.WordsFault.{WordsFault}
+use Rattle.mesosev_args.specs.declared.args.WordsFault.TheVariants.{Clap, BadValue, NoMemory}
+
+-- the error is a mistake in the words, and no request for help
+abbrev pub IsMistake : Error → Type 0
+IsMistake error = (kind_of error ≢ DisplayHelp) × (kind_of error ≢ DisplayVersion)
+
+-- an error of clap was told: a mistake on standard error with status 2, help on standard output with status 0
+abbrev pub ReportsError : Error → Device → Device → Device → Device → RunOutcome → Type 0
+ReportsError error out printed err reported ended =
+    (text : List ℕ) × ((IsMistake error × Prints err reported text 2 ended × (printed ≡ out))
+    ⊎ (¬ (IsMistake error) × Prints out printed text 0 ended × (reported ≡ err)))
+
+-- the line of an option without a value in its range
+abbrev pub bad_value_line : List ℕ → List ℕ
+bad_value_line option = codes "bad value --" ++ (option ++ 10 ∷ [])
+
+-- why the words name no options, told
+abbrev pub Reports : WordsFault → Device → Device → Device → Device → RunOutcome → Type 0
+Reports (Clap error) out printed err reported ended =
+    ReportsError error out printed err reported ended ⊎ (LacksMemory out printed ended × (reported ≡ err))
+Reports (BadValue option) out printed err reported ended =
+    (Prints err reported (bad_value_line option.now) 2 ended × (printed ≡ out)) ⊎ (LacksMemory out printed ended × (reported ≡ err))
+Reports NoMemory out printed err reported ended = LacksMemory out printed ended × (reported ≡ err)
+
+-- the line where a word is no text
+abbrev pub not_text_line : List ℕ
+not_text_line = codes "error: a word is not UTF-8" ++ 10 ∷ []

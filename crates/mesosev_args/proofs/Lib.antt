@@ -1,0 +1,16 @@
+mod ConvertArgs
+mod LogArgs
+mod LoopbackArgs
+mod NamedOnce
+mod NumberLemmas
+mod OptionLemmas
+mod OptionArgs
+mod ReadLemmas
+mod ReadingArgs
+mod SaidLemmas
+mod ServeArgs
+mod SettingLemmas
+mod Subcommands
+mod SubscribeArgs
+mod ParsedArgs
+mod Walks

@@ -1,0 +1,222 @@
+-- What the words that name a flag or give an option its value come to in clap's model.
+use Rattle.std.proofs.Common.{◌≡◌, ◌++◌, ◌≤◌, ◌==◌, ◌∙◌, ℕ, List, [], ◌∷◌, Option, Some, None, Bool, true, false, inl, inr, refl, sym, subst, arith}
+use Rattle.std.specs.Prelude.{IsSomeAnd, codes, option_map, pos}
+use Rattle.std.specs.Str.Parse.{IsNumeral, without_leading_plus}
+use Rattle.std.proofs.lemmas.Bool.{eqb-true, ne_eqb}
+use Rattle.std.proofs.lemmas.Int.{ints}
+use Rattle.std.proofs.lemmas.Str.Parse.{digit_from_value}
+use Rattle.clap.specs.Words.{Accepts, Row, Rule, Text, one_of}
+use Rattle.clap.specs.Kinds.{value_kinds}
+use Rattle.clap.specs.Lexer.{without_minus}
+use Rattle.clap.specs.Simple.{Shape, filled}
+use Rattle.clap.specs.Walk.{arg_by_id, arg_by_long, used}
+use Rattle.clap.specs.declared.builder.value_parser.ValueParser.{ValueParser}
+use Rattle.clap.specs.declared.builder.value_parser.ValueParser.TheVariants as vp
+use Rattle.clap.proofs.KindLemmas.{value_kinds-ok}
+use Rattle.mesosev_args.specs.CommandLine.{chunked_rule, limit_rule}
+use Rattle.mesosev_args.specs.NamedOptions.{HasFraming, HasMost, IsLimit, IsMost, SayFraming, SayLimit, SayMost, SayNumber, SayText, SayUsually, Writes}
+use Rattle.mes_stream.specs.declared.stream_reader.Framing.{Framing}
+use Rattle.mes_stream.specs.declared.stream_reader.Framing.TheVariants.{Plain, Chunked}
+use Rattle.mes_frame.specs.declared.limits.TheConstants.{MIN_CHUNK, MAX_CHUNK, MIN_RECORD_LIMIT, MAX_RECORD_LIMIT}
+use Rattle.mesosev_args.specs.declared.args.TheConstants.{DEFAULT_LIMIT}
+use Rattle.mesosev_args.proofs.Walks.{Given, IsFlag, IsNoFlag, IsOption, IsUsable, Reaches, reaches_option, absent, apart, given_value, given_words, joined, reaches_flag, reaches_start, used_value}
+
+-- ---- a number in a range
+
+abbrev pub number_parser : ℕ → ℕ → ValueParser
+number_parser least most = vp.Signed (pos least) (pos most)
+
+-- the parser takes the value, where there is one
+abbrev pub Fits : ValueParser → Option Text → Type 0
+Fits parser None = Unit {0}
+Fits parser (Some v) = value_kinds false parser v ≡ []
+
+-- the value, and a default where it is not given
+abbrev pub value_or : Option Text → Option Text → Option Text
+value_or usual None = usual
+value_or usual (Some v) = Some v
+
+-- the value as a number is read of it, without a first hyphen
+abbrev pub read_value : Option Text → Option Text
+read_value = option_map without_minus
+
+pub read_plain : (v : Option Text) → IsNoFlag v → read_value v ≡ v
+read_plain None plain = refl
+read_plain (Some []) plain = absurd plain
+read_plain (Some (x ∷ xs)) plain = simp plain refl
+
+no_hyphen : (x : ℕ) (xs : Text) → IsNumeral 10 (without_leading_plus (x ∷ xs)) → (x == 45) ≡ false
+no_hyphen x xs h = go (x == 43) refl
+  where
+    go : (b : Bool) → (x == 43) ≡ b → (x == 45) ≡ false
+    go true is =
+        let plus : x ≡ 43 = eqb-true x 43 is in
+        ne_eqb _ _ (λ e. omega (arith, plus, e))
+    go false is =
+        let numeral : IsNumeral 10 (x ∷ xs) = rw is at h in
+        ne_eqb _ _ (λ e. omega (arith, digit_from_value x numeral.1.0, e))
+
+-- the words give the option, or leave it out, and then its text writes the number
+pub record Says (option : Text) (usual : Option Text) (parser : ValueParser) (words : List Text) (n : ℕ) : Type 0 where
+  pub given : Given
+  pub is : words ≡ given_words option given
+  pub plain : IsNoFlag (given_value given)
+  pub fits : Fits parser (given_value given)
+  pub text : Text
+  pub text_is : value_or usual (given_value given) ≡ Some text
+  pub writes : Writes text n
+
+-- a range of numbers of 32 bits
+module _ (least most : ℕ) (small : most ≤ 4294967295) where
+  accepted : (x : ℕ) (xs : Text) (n : ℕ) → (x == 45) ≡ false → Writes (x ∷ xs) n → (least ≤ n) × (n ≤ most) → Accepts false (number_parser least most) (x ∷ xs)
+  accepted x xs n plain writes range = rw plain (writes.0, omega (arith, ints, writes.1, range.0, range.1), omega (arith, ints, writes.1, range.0, range.1), omega (arith, ints, writes.1, range.0, range.1))
+
+  passes : (x : ℕ) (xs : Text) (n : ℕ) → Writes (x ∷ xs) n → (least ≤ n) × (n ≤ most) → value_kinds false (number_parser least most) (x ∷ xs) ≡ []
+  passes x xs n writes range = value_kinds-ok false (number_parser least most) (x ∷ xs) (accepted x xs n (no_hyphen x xs writes.0) writes range)
+
+  pub says_number : (option : Text) (usual : Option Text) (words : List Text) (n : ℕ) → SayNumber option words n → (least ≤ n) × (n ≤ most)
+      → Says option usual (number_parser least most) words n
+  says_number option usual words n ([], writes, side) range = absurd (omega (arith, writes.0.0))
+  says_number option usual words n (x ∷ xs, writes, inl is) range =
+      record { given = apart x xs; is = is; plain = no_hyphen x xs writes.0; fits = passes x xs n writes range; text = x ∷ xs; text_is = refl; writes = writes }
+  says_number option usual words n (x ∷ xs, writes, inr is) range =
+      record { given = joined x xs; is = is; plain = no_hyphen x xs writes.0; fits = passes x xs n writes range; text = x ∷ xs; text_is = refl; writes = writes }
+
+  -- the same where they may leave it out, for the usual number
+  pub says_usually : (option usual : Text) (words : List Text) (n : ℕ) → SayUsually usual option words n → (least ≤ n) × (n ≤ most)
+      → Says option (Some usual) (number_parser least most) words n
+  says_usually option usual words n (inl (is, writes)) range =
+      record { given = absent; is = is; plain = tt; fits = tt; text = usual; text_is = refl; writes = writes }
+  says_usually option usual words n (inr says) range = says_number option (Some usual) words n says range
+
+-- ---- an option that is given
+
+pub value_or_none : (v : Option Text) → value_or None v ≡ v
+value_or_none None = refl
+value_or_none (Some v) = refl
+
+-- the words give the option this text
+pub record Gives (option : Text) (parser : ValueParser) (words : List Text) (text : Text) : Type 0 where
+  pub given : Given
+  pub is : words ≡ given_words option given
+  pub value_is : given_value given ≡ Some text
+  pub plain : IsNoFlag (Some text)
+  pub fits : Fits parser (Some text)
+
+pub gives_number : (option : Text) (parser : ValueParser) (words : List Text) (n : ℕ) → (s : Says option None parser words n) → Gives option parser words s.text
+gives_number option parser words n s =
+    let value : given_value s.given ≡ Some s.text = sym (value_or_none (given_value s.given)) ∙ s.text_is in
+    record { given = s.given; is = s.is; value_is = value; plain = subst IsNoFlag value s.plain; fits = subst (Fits parser) value s.fits }
+
+pub gives_text : (option : Text) (words : List Text) (text : Text) → SayText option words text → Gives option vp.String words text
+gives_text option words [] (plain, is) = absurd plain
+gives_text option words (x ∷ xs) (plain, inl is) = record { given = apart x xs; is = is; value_is = refl; plain = plain; fits = refl }
+gives_text option words (x ∷ xs) (plain, inr is) = record { given = joined x xs; is = is; value_is = refl; plain = plain; fits = refl }
+
+-- the words lead on to the rows behind it
+pub reaches_given : (s : Shape) (a : Rule) (option name : Text) → IsOption s.rules a option name → (words more : List Text) (rows : List Row) → Reaches s words rows
+    → (parser : ValueParser) (text : Text) → (g : Gives option parser more text) → IsUsable s.args_override_self a (Some text) rows
+    → Reaches s (words ++ given_words option g.given) (used a (text ∷ []) rows)
+reaches_given s a option name is words more rows r parser text g usable =
+    subst (λ (v : Option Text). Reaches s (words ++ given_words option g.given) (used_value a v rows)) g.value_is
+    (reaches_option s a option name is words rows r g.given (subst IsNoFlag (sym g.value_is) g.plain)
+    (subst (λ (v : Option Text). IsUsable s.args_override_self a v rows) (sym g.value_is) usable))
+
+-- the number of an option that is given
+pub given_number : (held : Option Text) (option : Text) (parser : ValueParser) (words : List Text) (n : ℕ) → (s : Says option None parser words n)
+    → held ≡ read_value (Some s.text) → IsSomeAnd held (λ text. Writes text n)
+given_number held option parser words n s is =
+    subst (λ (h : Option Text). IsSomeAnd h (λ text. Writes text n)) (sym (is ∙ read_plain (Some s.text) (gives_number option parser words n s).plain)) s.writes
+
+-- the text that an option has in the rows, as the number that it writes
+pub has_number : (held : Option Text) (option : Text) (usual : Option Text) (parser : ValueParser) (words : List Text) (n : ℕ)
+    → (s : Says option usual parser words n) → held ≡ value_or usual (given_value s.given) → IsSomeAnd held (λ text. Writes text n)
+has_number held option usual parser words n s is = subst (λ h. IsSomeAnd h (λ text. Writes text n)) (sym (is ∙ s.text_is)) s.writes
+
+-- ---- `--chunked`
+
+abbrev pub flag_words : Framing → List Text
+flag_words Plain = []
+flag_words Chunked = codes "--chunked" ∷ []
+
+abbrev pub flag_text : Framing → Option Text
+flag_text Plain = Some (codes "false")
+flag_text Chunked = Some (codes "true")
+
+abbrev pub rows_flag : Framing → List Row
+rows_flag Plain = []
+rows_flag Chunked = used (filled chunked_rule) [] []
+
+pub flag_is : (framing : Framing) (words : List Text) → SayFraming words framing → words ≡ flag_words framing
+flag_is Plain words is = is
+flag_is Chunked words is = is
+
+pub chunked_is : (c : List Rule) → arg_by_long c (codes "chunked") ≡ Some (filled chunked_rule) → IsFlag c (filled chunked_rule) (codes "--chunked") (codes "chunked")
+chunked_is c by_long = record { dashes = refl; long = refl; by_long = by_long; takes = refl }
+
+-- the flag in front of all other options
+pub reaches_framing : (s : Shape) → IsFlag s.rules (filled chunked_rule) (codes "--chunked") (codes "chunked") → (framing : Framing)
+    → Reaches s (flag_words framing) (rows_flag framing)
+reaches_framing s is Plain = reaches_start s
+reaches_framing s is Chunked = reaches_flag s (filled chunked_rule) (codes "--chunked") (codes "chunked") is [] [] (reaches_start s) refl
+
+pub has_framing : (framing : Framing) (rows : List Row) → one_of (codes "chunked") rows ≡ flag_text framing → HasFraming rows framing
+has_framing Plain rows is = λ set. let other : Some (codes "false") ≡ Some (codes "true") = sym is ∙ set in absurd (cc)
+has_framing Chunked rows is = is
+
+-- ---- `--limit`
+
+abbrev pub limit_parser : ValueParser
+limit_parser = number_parser MIN_RECORD_LIMIT MAX_RECORD_LIMIT
+
+abbrev pub usual_limit : Option Text
+usual_limit = Some DEFAULT_LIMIT.now
+
+pub limit_is : (c : List Rule) → arg_by_long c (codes "limit") ≡ Some (filled limit_rule) → arg_by_id c (codes "limit") ≡ Some (filled limit_rule)
+    → IsOption c (filled limit_rule) (codes "--limit") (codes "limit")
+limit_is c by_long by_id =
+    record { dashes = refl; long = refl; dashes_joined = λ v. refl; long_joined = λ v. refl; by_long = by_long; by_id = by_id; same = refl; takes = refl; one = refl }
+
+-- the rows behind `--chunked` and `--limit`
+abbrev pub rows_limit : Framing → Option Text → List Row
+rows_limit framing v = used_value (filled limit_rule) v (rows_flag framing)
+
+pub limit_usable : (framing : Framing) (v : Option Text) → Fits limit_parser v → IsUsable false (filled limit_rule) v (rows_flag framing)
+limit_usable framing None fits = tt
+limit_usable Plain (Some v) fits = simp fits refl
+limit_usable Chunked (Some v) fits = simp fits refl
+
+-- the words that give the limit
+abbrev pub SaysLimit : List Text → ℕ → Type 0
+SaysLimit = Says (codes "--limit") usual_limit limit_parser
+
+pub says_limit : (words : List Text) (limit : ℕ) → SayLimit words limit → IsLimit limit → SaysLimit words limit
+says_limit words limit says range = says_usually MIN_RECORD_LIMIT MAX_RECORD_LIMIT (omega arith) (codes "--limit") DEFAULT_LIMIT.now words limit says range
+
+-- ---- `--most`
+
+abbrev pub most_parser : ValueParser
+most_parser = number_parser MIN_CHUNK MAX_CHUNK
+
+-- the text of `--most` is the size, or there is none
+abbrev IsSize : Option Text → Option ℕ → Type 0
+IsSize held None = held ≡ None
+IsSize held (Some most) = IsSomeAnd held (λ text. Writes text most)
+
+-- the words that give the size, or leave it out
+pub record SaysMost (words : List Text) (most : Option ℕ) : Type 0 where
+  pub given : Given
+  pub is : words ≡ given_words (codes "--most") given
+  pub plain : IsNoFlag (given_value given)
+  pub fits : Fits most_parser (given_value given)
+  pub size : IsSize (given_value given) most
+
+pub says_most : (words : List Text) (most : Option ℕ) → SayMost words most → IsMost most → SaysMost words most
+says_most words None is range = record { given = absent; is = is; plain = tt; fits = tt; size = refl }
+says_most words (Some most) says range =
+    let s : Says (codes "--most") None most_parser words most = says_number MIN_CHUNK MAX_CHUNK (omega arith) (codes "--most") None words most says range in
+    record { given = s.given; is = s.is; plain = s.plain; fits = s.fits; size = has_number (given_value s.given) (codes "--most") None most_parser words most s (sym (value_or_none (given_value s.given))) }
+
+pub has_most : (rows : List Row) (held : Option Text) (most : Option ℕ) → one_of (codes "most") rows ≡ held → IsSize held most → HasMost rows most
+has_most rows held None is size = is ∙ size
+has_most rows held (Some most) is size = subst (λ h. IsSomeAnd h (λ text. Writes text most)) (sym is) size

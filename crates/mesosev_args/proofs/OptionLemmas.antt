@@ -1,0 +1,87 @@
+-- What is read of `--chunked` and of `--most`.
+use Rattle.std.proofs.Common.{◌≡◌, ◌<◌, ◌^◌, ◌∙◌, ap, ℕ, Bool, true, false, Option, Some, None, Result, Ok, Err, refl, sym, subst, arith}
+use Rattle.std.specs.Prelude.{◌≤◌, codes}
+use Rattle.std.specs.Str.Parse.{ParsesBool}
+use Rattle.std.specs.declared.num.ParseIntError.{ParseIntError}
+use Rattle.clap.specs.Words.{ReadsOne, TriesOne, Text, one_of, one_text, rows_of}
+use Rattle.clap.specs.declared.parser.matches.Found.{Found}
+use Rattle.clap.proofs.WalkLemmas.{one_text-rows}
+use Rattle.mesosev_args.specs.NamedOptions.{HasMost, IsMost}
+use Rattle.mesosev_args.proofs.NumberLemmas.{FromStr, IsWritten, written_once}
+use Rattle.mes_frame.specs.declared.limits.TheConstants.{MIN_CHUNK, MAX_CHUNK}
+
+-- ---- the flag
+
+-- `bool::from_str`
+abbrev pub BoolFromStr : {E : Type 0} → Text → Result Bool E → Type 0
+BoolFromStr text r = ParsesBool text r
+
+set_text : (E : Type 0) (held : Option Text) (r : Option Bool) → (held ≡ None → r ≡ None) → ((t : Text) → held ≡ Some t → ReadsOne {E = E} BoolFromStr t r)
+    → r ≡ Some true → held ≡ Some (codes "true")
+set_text E None r none value is = let bad : None ≡ Some true = sym (none refl) ∙ is in absurd (cc)
+set_text E (Some t) None none value is = absurd (cc)
+set_text E (Some t) (Some true) none value is = ap Some (value t refl)
+set_text E (Some t) (Some false) none value is = absurd (cc)
+
+unset_text : (E : Type 0) (held : Option Text) (r : Option Bool) → ((t : Text) → held ≡ Some t → ReadsOne {E = E} BoolFromStr t r)
+    → (r ≡ Some true → ⊥) → held ≡ Some (codes "true") → ⊥
+unset_text E held None value not is = (value (codes "true") is).1.0 refl
+unset_text E held (Some true) value not is = not refl
+unset_text E held (Some false) value not is = let bad : codes "true" ≡ codes "false" = value (codes "true") is in absurd (cc)
+
+pub flag_set : (E : Type 0) (f : Found) (r : Option Bool) → (one_text f (codes "chunked") ≡ None → r ≡ None)
+    → ((t : Text) → one_text f (codes "chunked") ≡ Some t → ReadsOne {E = E} BoolFromStr t r) → r ≡ Some true → one_of (codes "chunked") (rows_of f) ≡ Some (codes "true")
+flag_set E f r none value is = sym (one_text-rows f (codes "chunked")) ∙ set_text E (one_text f (codes "chunked")) r none value is
+
+pub flag_unset : (E : Type 0) (f : Found) (r : Option Bool) → ((t : Text) → one_text f (codes "chunked") ≡ Some t → ReadsOne {E = E} BoolFromStr t r)
+    → (r ≡ Some true → ⊥) → one_of (codes "chunked") (rows_of f) ≡ Some (codes "true") → ⊥
+flag_unset E f r value not is = unset_text E (one_text f (codes "chunked")) r value not (one_text-rows f (codes "chunked") ∙ is)
+
+-- ---- the size of a chunk
+
+-- what reading `--most` answers
+abbrev Tried : Type 0
+Tried = Result (Option ℕ) ParseIntError
+
+tried_none : (held : Option Text) (r : Tried) → ((t : Text) → held ≡ Some t → TriesOne FromStr t r) → r ≡ Ok None → held ≡ None
+tried_none None r value is = refl
+tried_none (Some t) r value is = absurd (subst (λ (s : Tried). TriesOne FromStr t s) is (value t refl))
+
+tried_some : (held : Option Text) (r : Tried) → (held ≡ None → r ≡ Ok None) → ((t : Text) → held ≡ Some t → TriesOne FromStr t r)
+    → (n : ℕ) → r ≡ Ok (Some n) → IsWritten n held
+tried_some None r none value n is = let same : r ≡ Ok None = none refl in cc
+tried_some (Some t) r none value n is =
+    let read = subst (λ (s : Tried). TriesOne FromStr t s) is (value t refl) in
+    (read.0.0.0, sym read.0.1)
+
+tried_err : (held : Option Text) (r : Tried) (e : ParseIntError) → ((t : Text) → held ≡ Some t → TriesOne FromStr t r)
+    → r ≡ Err e → (n : ℕ) → IsWritten n held → n < 2 ^ 32 → ⊥
+tried_err None r e value is n h fits = h
+tried_err (Some t) r e value is n h fits =
+    let read = subst (λ (s : Tried). TriesOne FromStr t s) is (value t refl) in
+    read.0 (h.0, rw h.1 fits)
+
+module _ (f : Found) (r : Tried) (value : (t : Text) → one_text f (codes "most") ≡ Some t → TriesOne FromStr t r) where
+  -- no value was given
+  pub most_absent : r ≡ Ok None → HasMost (rows_of f) None
+  most_absent is = sym (one_text-rows f (codes "most")) ∙ tried_none (one_text f (codes "most")) r value is
+
+  module _ (none : one_text f (codes "most") ≡ None → r ≡ Ok None) where
+    written : (n : ℕ) → r ≡ Ok (Some n) → IsWritten n (one_of (codes "most") (rows_of f))
+    written n is = subst (IsWritten n) (one_text-rows f (codes "most")) (tried_some (one_text f (codes "most")) r none value n is)
+
+    -- the value is the size
+    pub most_given : (n size : ℕ) → r ≡ Ok (Some n) → size ≡ n → HasMost (rows_of f) (Some size)
+    most_given n size is same = rw same (written n is)
+
+    -- the value is a number out of range
+    pub most_out : (n : ℕ) → r ≡ Ok (Some n) → (((MIN_CHUNK ≤ n) × (n ≤ MAX_CHUNK)) → ⊥) → ((most : Option ℕ) × HasMost (rows_of f) most × IsMost most) → ⊥
+    most_out n is not (None, has, range) = rw has at (written n is)
+    most_out n is not (Some m, has, range) =
+        let same : m ≡ n = written_once (one_of (codes "most") (rows_of f)) m n has (written n is) in not (rw (← same) range)
+
+    -- the value is no number
+    pub most_unread : (e : ParseIntError) → r ≡ Err e → ((most : Option ℕ) × HasMost (rows_of f) most × IsMost most) → ⊥
+    most_unread e is (None, has, range) = let same : r ≡ Ok None = none (one_text-rows f (codes "most") ∙ has) in absurd (cc)
+    most_unread e is (Some m, has, range) =
+        tried_err (one_text f (codes "most")) r e value is m (subst (IsWritten m) (sym (one_text-rows f (codes "most"))) has) (omega (arith, range.1))

@@ -1,0 +1,120 @@
+-- The command line of `mesosev`, in the words of clap's model.
+use Rattle.std.specs.Prelude.{◌≡◌, ℕ, List, [], ◌∷◌, Some, pos, true, false, codes, fold}
+use Rattle.clap.specs.Words.{App, Rule, Text, app_of, new_app, new_rule, with_rule, with_subcommand}
+use Rattle.clap.specs.Simple.{on_top}
+use Rattle.clap.specs.declared.builder.action.ArgAction.TheVariants.{SetTrue}
+use Rattle.clap.specs.declared.builder.command.Command.{Command}
+use Rattle.clap.specs.declared.builder.command.Command.TheViews.{out-Command}
+use Rattle.clap.specs.declared.builder.value_parser.ValueParser.TheVariants as vp
+use Rattle.mesosev_args.specs.declared.args.TheConstants.{DEFAULT_LIMIT, DEFAULT_LOOPBACK_CHUNK, DEFAULT_SUBSCRIBE_READS, DEFAULT_STREAM}
+use Rattle.mesosev_args.specs.declared.args.TheConstants.{MIN_CONNECTIONS, MAX_CONNECTIONS, MIN_PORT, MAX_PORT, MIN_SUBSCRIBE_READS, MAX_SUBSCRIBE_READS}
+use Rattle.mes_frame.specs.declared.limits.TheConstants.{MIN_CHUNK, MAX_CHUNK, MIN_RECORD_LIMIT, MAX_RECORD_LIMIT}
+
+-- the command is this one, and has no argument that its subcommands share
+abbrev pub IsCommand : App → Command → Type 0
+IsCommand app c = (app_of c ≡ app) × ((out-Command c).has_globals ≡ false)
+
+-- `--chunked`: a flag
+abbrev pub chunked_rule : Rule
+chunked_rule = record (new_rule (codes "chunked")) { long = Some (codes "chunked"); action = Some SetTrue }
+
+-- `--NAME N`: a number from the least to the greatest
+abbrev pub number_rule : Text → ℕ → ℕ → Rule
+number_rule name least most = record (new_rule name) {
+  long = Some name;
+  value_names = 1;
+  parser = Some (vp.Signed (pos least) (pos most));
+}
+
+-- `--NAME TEXT`
+abbrev pub text_rule : Text → Rule
+text_rule name = record (new_rule name) { long = Some name; value_names = 1 }
+
+-- an option that is to be given
+abbrev pub wanted : Rule → Rule
+wanted rule = record rule { required = true }
+
+-- an option that has this value where it is not given
+abbrev pub usually : Text → Rule → Rule
+usually text rule = record rule { defaults = text ∷ [] }
+
+-- `--limit N`: a number in its range, and the default where it is not given
+abbrev pub limit_rule : Rule
+limit_rule = usually DEFAULT_LIMIT.now (number_rule (codes "limit") MIN_RECORD_LIMIT MAX_RECORD_LIMIT)
+
+-- `--most M`: a number in its range
+abbrev pub most_rule : Rule
+most_rule = number_rule (codes "most") MIN_CHUNK MAX_CHUNK
+
+-- `--port P`, `--count C`: numbers in their ranges
+abbrev pub port_rule : Rule
+port_rule = wanted (number_rule (codes "port") MIN_PORT MAX_PORT)
+
+abbrev pub count_rule : Rule
+count_rule = wanted (number_rule (codes "count") MIN_CONNECTIONS MAX_CONNECTIONS)
+
+-- `--stream UUID`
+abbrev pub stream_rule : Rule
+stream_rule = usually DEFAULT_STREAM.now (text_rule (codes "stream"))
+
+-- `--to ADDR`, `--user U`, `--name N`
+abbrev pub to_rule : Rule
+to_rule = wanted (text_rule (codes "to"))
+
+abbrev pub user_rule : Rule
+user_rule = wanted (text_rule (codes "user"))
+
+abbrev pub name_rule : Rule
+name_rule = wanted (text_rule (codes "name"))
+
+-- `--reads R`: a number in its range
+abbrev pub reads_rule : Rule
+reads_rule = usually DEFAULT_SUBSCRIBE_READS.now (number_rule (codes "reads") MIN_SUBSCRIBE_READS MAX_SUBSCRIBE_READS)
+
+-- `NAME [--chunked] [--limit N]`: a subcommand that reads a stream
+abbrev pub reading_app : Text → App
+reading_app name = with_rule (with_rule (new_app name) chunked_rule) limit_rule
+
+-- `check [--chunked] [--limit N]`
+abbrev pub check_app : App
+check_app = reading_app (codes "check")
+
+-- `show [--chunked] [--limit N]`
+abbrev pub show_app : App
+show_app = reading_app (codes "show")
+
+-- `convert [--chunked] [--limit N] [--most M]`
+abbrev pub convert_app : App
+convert_app = with_rule (reading_app (codes "convert")) most_rule
+
+-- `replay [--limit N]`
+abbrev pub replay_app : App
+replay_app = with_rule (new_app (codes "replay")) limit_rule
+
+-- `relog [--limit N]`
+abbrev pub relog_app : App
+relog_app = with_rule (new_app (codes "relog")) limit_rule
+
+-- `serve --port P --count C [--stream UUID]`
+abbrev pub serve_app : App
+serve_app = with_rule (with_rule (with_rule (new_app (codes "serve")) port_rule) count_rule) stream_rule
+
+-- `subscribe --to ADDR --user U --name N [--reads R]`
+abbrev pub subscribe_app : App
+subscribe_app = with_rule (with_rule (with_rule (with_rule (new_app (codes "subscribe")) to_rule) user_rule) name_rule) reads_rule
+
+-- `loopback [--most M]`, whose chunks have a usual size
+abbrev pub loopback_app : App
+loopback_app = with_rule (new_app (codes "loopback")) (usually DEFAULT_LOOPBACK_CHUNK.now most_rule)
+
+-- `mesosev` before its subcommands, of which one is wanted; `--version`, which each subcommand has too
+abbrev pub bare_app : App
+bare_app = on_top (λ s. record s { subcommand_required = true; has_version = true; propagate_version = true }) (new_app (codes "mesosev"))
+
+-- the subcommands, in the order in which help tells them
+abbrev pub subcommands : List App
+subcommands = check_app ∷ show_app ∷ convert_app ∷ replay_app ∷ relog_app ∷ serve_app ∷ subscribe_app ∷ loopback_app ∷ []
+
+-- `mesosev SUBCOMMAND`
+abbrev pub command_app : App
+command_app = fold (λ command app. with_subcommand command app.top) bare_app subcommands

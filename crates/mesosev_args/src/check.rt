@@ -1,0 +1,33 @@
+//! The subcommand `check`: each record is to be an event.
+ghost use Rattle.std.specs.Prelude.{IfOk, codes};
+ghost use Rattle.clap.specs.Words.{found_of, rows_of};
+ghost use Rattle.mesosev_args.specs.CommandLine.{IsCommand, check_app};
+ghost use Rattle.mesosev_args.specs.NamedOptions.{Reads};
+
+use crate::args::{Options, WordsFault};
+use crate::command::reading_command;
+use crate::values::{framing_of, limit_of};
+use clap::{ArgMatches, Command};
+use std::alloc::{AllocError, Global};
+
+/// `check [--chunked] [--limit N]`
+pub fn command<'a>(alloc: Global) -> Result<Command<'a>, AllocError>
+    ensures { IfOk result (IsCommand check_app) }
+{
+    reading_command(
+        alloc,
+        "check",
+        "Check that each record of standard input is an event, and count them",
+    )
+}
+
+/// The values that its words give.
+///
+/// Errors: `BadValue` where one is out of its range.
+pub fn read(found: &ArgMatches<'_>) -> Result<Options, WordsFault>
+    ensures { Reads (codes "check", rows_of (found_of found.now)) result }
+{
+    let limit = limit_of(found)?;
+    let framing = framing_of(found);
+    Ok(Options::Check { framing, limit })
+}

@@ -1,0 +1,154 @@
+//! The command line of `mesosev`, as `clap` is given it.
+ghost use Rattle.std.specs.Prelude.{◌≡◌, false, true, map, IfOk, MatchResult, IfErr, []};
+ghost use Rattle.clap.specs.Words.{App, HasKind, app_of, fault_of, rule_of, subcommand_of};
+ghost use Rattle.clap.specs.Words.{subcommand_rows_of, with_subcommand};
+ghost use Rattle.mesosev_args.specs.CommandLine.{bare_app, chunked_rule, limit_rule, most_rule, number_rule, text_rule};
+ghost use Rattle.mesosev_args.specs.CommandLine.{IsCommand, command_app, reading_app};
+
+use crate::args::{DEFAULT_LIMIT, VERSION};
+use crate::{check, convert, loopback, relog, replay, serve, show, subscribe};
+use clap::{Arg, ArgAction, ArgMatches, Command, Error};
+use mes_frame::{
+    MAX_CHUNK, MAX_RECORD_LIMIT, MIN_CHUNK, MIN_RECORD_LIMIT, max_chunk, max_record_limit,
+};
+use std::alloc::{AllocError, Global};
+use std::convert::AsStr;
+
+/// The matches of the words, of which the first is the program's name.
+///
+/// Errors: clap's, for words that the command does not take, for a request for help, and where
+/// memory runs out.
+pub fn matches_of<'a, S: AsStr>(alloc: Global, words: &'a [S]) -> Result<ArgMatches<'a>, Error>
+    // Ok: clap takes the words, and has the subcommand that they name.
+    ensures ok { IfOk result (λ _. fault_of command_app (map S.text words.entry.now) ≡ []) }
+    ensures named { IfOk result (λ m.
+        subcommand_rows_of m ≡ subcommand_of command_app (map S.text words.entry.now)) }
+    // Err: the kind is one of the words' faults, or memory ran out.
+    ensures err { IfErr result (HasKind (fault_of command_app (map S.text words.entry.now))) }
+{
+    let command = command(alloc)?;
+    command.try_get_matches_from(words)
+}
+
+// The whole command. `specs/CommandLine.antt` has the same in clap's model.
+fn command<'a>(alloc: Global) -> Result<Command<'a>, AllocError>
+    ensures { IfOk result (λ c. app_of c ≡ command_app) }
+{
+    let command = bare_command(alloc);
+    let command = with(command, check::command(alloc))?;
+    let command = with(command, show::command(alloc))?;
+    let command = with(command, convert::command(alloc))?;
+    let command = with(command, replay::command(alloc))?;
+    let command = with(command, relog::command(alloc))?;
+    let command = with(command, serve::command(alloc))?;
+    let command = with(command, subscribe::command(alloc))?;
+    with(command, loopback::command(alloc))
+}
+
+// The command with this subcommand behind its others.
+fn with<'a>(
+    command: Command<'a>,
+    subcommand: Result<Command<'a>, AllocError>,
+) -> Result<Command<'a>, AllocError>
+    ensures { (app : App) → IfOk subcommand.entry (IsCommand app)
+        → IfOk result (λ c. app_of c ≡ with_subcommand (app_of command.entry) app.top) }
+{
+    command.subcommand(subcommand?)
+}
+
+// `mesosev` before its subcommands, of which one is wanted; `--version`, which each subcommand has too
+fn bare_command<'a>(alloc: Global) -> Command<'a>
+    ensures { app_of result ≡ bare_app }
+{
+    Command::new(alloc, "mesosev")
+        .version(VERSION)
+        .propagate_version(true)
+        .about("Read and write the event stream of a Mesos scheduler (v1, JSON, RecordIO)")
+        .after_help(
+            "The stream is read from standard input, a file by <: mesosev check < FILE\n\
+            Exit status: 0 good, 1 a fault or an output that fails, 2 bad words",
+        )
+        .subcommand_required(true)
+}
+
+/// `NAME [--chunked] [--limit N]`: a subcommand that reads a stream.
+pub fn reading_command<'a>(
+    alloc: Global,
+    name: &'a str,
+    about: &'a str,
+) -> Result<Command<'a>, AllocError>
+    ensures { IfOk result (IsCommand (reading_app name.entry.now)) }
+{
+    Command::new(alloc, name)
+        .about(about)
+        .after_help("The stream is read from standard input, a file by < FILE")
+        .arg(chunked_option(alloc))?
+        .arg(limit_option(alloc))
+}
+
+// `--chunked`
+fn chunked_option<'a>(alloc: Global) -> Arg<'a>
+    ensures rule { rule_of result ≡ chunked_rule }
+    ensures local { result.global ≡ false }
+{
+    Arg::new(alloc, "chunked")
+        .long("chunked")
+        .action(ArgAction::SetTrue)
+        .help("Input is a chunked HTTP/1.1 body, not plain RecordIO")
+}
+
+/// `--limit N`, whose range clap tests too.
+pub fn limit_option<'a>(alloc: Global) -> Arg<'a>
+    ensures rule { rule_of result ≡ limit_rule }
+    ensures local { result.global ≡ false }
+{
+    let help = max_record_limit!(concat "Largest record in bytes, 1 to ");
+    number_option(
+        alloc,
+        "limit",
+        "N",
+        MIN_RECORD_LIMIT,
+        MAX_RECORD_LIMIT,
+        help,
+    )
+    .default_value(DEFAULT_LIMIT)
+}
+
+/// `--most M`, whose range clap tests too.
+pub fn most_option<'a>(alloc: Global, help: &'a str) -> Arg<'a>
+    ensures rule { rule_of result ≡ most_rule }
+    ensures local { result.global ≡ false }
+{
+    number_option(alloc, "most", "M", MIN_CHUNK, MAX_CHUNK, help)
+}
+
+/// `--NAME N`, a number from the least to the greatest, whose range clap tests too, for the text that it gives.
+pub fn number_option<'a>(
+    alloc: Global,
+    name: &'a str,
+    value_name: &'a str,
+    least: u32,
+    greatest: u32,
+    help: &'a str,
+) -> Arg<'a>
+    ensures rule { rule_of result ≡ number_rule name.entry.now least greatest }
+    ensures local { result.global ≡ false }
+{
+    let range = i64::from(least)..=i64::from(greatest);
+    Arg::new(alloc, name)
+        .long(name)
+        .value_name(value_name)
+        .value_parser(clap::value_parser!(u32).range(range))
+        .help(help)
+}
+
+/// `--NAME TEXT`
+pub fn text_option<'a>(alloc: Global, name: &'a str, value_name: &'a str, help: &'a str) -> Arg<'a>
+    ensures rule { rule_of result ≡ text_rule name.entry.now }
+    ensures local { result.global ≡ false }
+{
+    Arg::new(alloc, name)
+        .long(name)
+        .value_name(value_name)
+        .help(help)
+}

@@ -1,0 +1,55 @@
+//! Reads the words of the command.
+ghost use Rattle.std.specs.Prelude.{◌≡◌, [], map};
+ghost use Rattle.std.specs.Prelude.{IfOk, IfErr, MatchResult};
+ghost use Rattle.clap.specs.Words.{fault_of, found_of, rows_of};
+ghost use Rattle.mesosev_args.specs.CommandLine.{command_app};
+ghost use Rattle.mesosev_args.specs.NamedOptions.{IsInRange, NameOptions, Reads, RefusesArgs};
+ghost use Rattle.mesosev_args.specs.NamedOptions.{SayPlainly};
+ghost use Rattle.mesosev_args.specs.declared.args.Options.{Options};
+
+use crate::args::{Options, WordsFault};
+use crate::command::matches_of;
+use crate::{check, convert, loopback, relog, replay, serve, show, subscribe};
+use clap::ArgMatches;
+use std::alloc::Global;
+use std::convert::AsStr;
+
+/// The options that the words name. The first word is the program's name.
+///
+/// Errors: `Clap` for a mistake in the words and for a request for help, `BadValue` where a value is
+/// out of its range, `NoMemory`.
+pub fn options<S: AsStr>(alloc: Global, words: &[S]) -> Result<Options, WordsFault>
+    // Ok: clap takes the words, and they name this subcommand with these values, each in range.
+    ensures ok { IfOk result (λ _. fault_of command_app (map S.text words.now) ≡ []) }
+    ensures named { IfOk result (NameOptions (map S.text words.now)) }
+    ensures ranged { IfOk result IsInRange }
+    // Err: clap refuses the words by an error of this kind, or they name no options in range, or
+    // memory ran out.
+    ensures err { IfErr result (RefusesArgs (map S.text words.now)) }
+    // Words that say options in range plainly are answered by them, unless memory runs out.
+    ensures plain { (said : Options) → SayPlainly (map S.text words.now) said → IsInRange said
+        → MatchResult result (λ o. o ≡ said) (λ fault. fault ≡ WordsFault.NoMemory) }
+{
+    let matches = matches_of(alloc, words)?;
+    match matches.subcommand() {
+        Some((name, found)) => read(alloc, name, found),
+        None => Err(WordsFault::BadValue("COMMAND")),
+    }
+}
+
+/// The options that the subcommand of this name has in what clap found for it.
+fn read(alloc: Global, name: &str, found: &ArgMatches<'_>) -> Result<Options, WordsFault>
+    ensures { Reads (name.now, rows_of (found_of found.now)) result }
+{
+    match name {
+        "check" => check::read(found),
+        "show" => show::read(found),
+        "convert" => convert::read(found),
+        "replay" => replay::read(found),
+        "relog" => relog::read(found),
+        "serve" => serve::read(found),
+        "subscribe" => subscribe::read(alloc, found),
+        "loopback" => loopback::read(found),
+        _ => Err(WordsFault::BadValue("COMMAND")),
+    }
+}

@@ -1,0 +1,31 @@
+//! The subcommand `relog`: a session log is written again.
+ghost use Rattle.std.specs.Prelude.{IfOk, codes};
+ghost use Rattle.clap.specs.Words.{found_of, rows_of};
+ghost use Rattle.mesosev_args.specs.CommandLine.{IsCommand, relog_app};
+ghost use Rattle.mesosev_args.specs.NamedOptions.{Reads};
+
+use crate::args::{Options, WordsFault};
+use crate::command::limit_option;
+use crate::values::limit_of;
+use clap::{ArgMatches, Command};
+use std::alloc::{AllocError, Global};
+
+/// `relog [--limit N]`
+pub fn command<'a>(alloc: Global) -> Result<Command<'a>, AllocError>
+    ensures { IfOk result (IsCommand relog_app) }
+{
+    Command::new(alloc, "relog")
+        .about("Read the session log of standard input, and write it in version 2")
+        .after_help("The log is read from standard input, a file by < FILE")
+        .arg(limit_option(alloc))
+}
+
+/// The values that its words give.
+///
+/// Errors: `BadValue` where one is out of its range.
+pub fn read(found: &ArgMatches<'_>) -> Result<Options, WordsFault>
+    ensures { Reads (codes "relog", rows_of (found_of found.now)) result }
+{
+    let limit = limit_of(found)?;
+    Ok(Options::Relog { limit })
+}

@@ -1,0 +1,31 @@
+//! The subcommand `replay`: a session log is replayed.
+ghost use Rattle.std.specs.Prelude.{IfOk, codes};
+ghost use Rattle.clap.specs.Words.{found_of, rows_of};
+ghost use Rattle.mesosev_args.specs.CommandLine.{IsCommand, replay_app};
+ghost use Rattle.mesosev_args.specs.NamedOptions.{Reads};
+
+use crate::args::{Options, WordsFault};
+use crate::command::limit_option;
+use crate::values::limit_of;
+use clap::{ArgMatches, Command};
+use std::alloc::{AllocError, Global};
+
+/// `replay [--limit N]`
+pub fn command<'a>(alloc: Global) -> Result<Command<'a>, AllocError>
+    ensures { IfOk result (IsCommand replay_app) }
+{
+    Command::new(alloc, "replay")
+        .about("Replay the session log of standard input, and tell what is in hand and owed")
+        .after_help("The log is read from standard input, a file by < FILE")
+        .arg(limit_option(alloc))
+}
+
+/// The values that its words give.
+///
+/// Errors: `BadValue` where one is out of its range.
+pub fn read(found: &ArgMatches<'_>) -> Result<Options, WordsFault>
+    ensures { Reads (codes "replay", rows_of (found_of found.now)) result }
+{
+    let limit = limit_of(found)?;
+    Ok(Options::Replay { limit })
+}

@@ -1,0 +1,33 @@
+//! The subcommand `show`: the events are printed as they come.
+ghost use Rattle.std.specs.Prelude.{IfOk, codes};
+ghost use Rattle.clap.specs.Words.{found_of, rows_of};
+ghost use Rattle.mesosev_args.specs.CommandLine.{IsCommand, show_app};
+ghost use Rattle.mesosev_args.specs.NamedOptions.{Reads};
+
+use crate::args::{Options, WordsFault};
+use crate::command::reading_command;
+use crate::values::{framing_of, limit_of};
+use clap::{ArgMatches, Command};
+use std::alloc::{AllocError, Global};
+
+/// `show [--chunked] [--limit N]`
+pub fn command<'a>(alloc: Global) -> Result<Command<'a>, AllocError>
+    ensures { IfOk result (IsCommand show_app) }
+{
+    reading_command(
+        alloc,
+        "show",
+        "Print each event of standard input as it comes",
+    )
+}
+
+/// The values that its words give.
+///
+/// Errors: `BadValue` where one is out of its range.
+pub fn read(found: &ArgMatches<'_>) -> Result<Options, WordsFault>
+    ensures { Reads (codes "show", rows_of (found_of found.now)) result }
+{
+    let limit = limit_of(found)?;
+    let framing = framing_of(found);
+    Ok(Options::Show { framing, limit })
+}

@@ -1,0 +1,133 @@
+//! The subcommand `subscribe`: the events of a master.
+ghost use Rattle.std.specs.Prelude.{◌≡◌, false, IfOk, IfErr, codes};
+ghost use Rattle.clap.specs.Words.{found_of, rows_of, rule_of};
+ghost use Rattle.mes_double_http.specs.Hosts.{IsHost};
+ghost use Rattle.mesosev_args.specs.CommandLine.{IsCommand, name_rule, reads_rule, subscribe_app, to_rule, user_rule};
+ghost use Rattle.mesosev_args.specs.NamedOptions.{HasNumber, HasText, IsBad, IsBadOrLacks, IsReads, Reads};
+ghost use Rattle.mesosev_args.specs.NamedOptions.{the_name, the_reads, the_to, the_user};
+
+use crate::args::{
+    DEFAULT_SUBSCRIBE_READS, MAX_SUBSCRIBE_READS, MIN_SUBSCRIBE_READS, Options, WordsFault,
+};
+use crate::command::{number_option, text_option};
+use crate::values::{number_in, text_of};
+use clap::{Arg, ArgMatches, Command};
+use mes_double_http::Host;
+use mes_json::Text;
+use std::alloc::{AllocError, Global};
+
+/// `subscribe --to ADDR --user U --name N [--reads R]`
+pub fn command<'a>(alloc: Global) -> Result<Command<'a>, AllocError>
+    ensures { IfOk result (IsCommand subscribe_app) }
+{
+    Command::new(alloc, "subscribe")
+        .about("Subscribe to a master, and print its events as they come")
+        .arg(to_option(alloc))?
+        .arg(user_option(alloc))?
+        .arg(name_option(alloc))?
+        .arg(reads_option(alloc))
+}
+
+// `--to ADDR`
+fn to_option<'a>(alloc: Global) -> Arg<'a>
+    ensures rule { rule_of result ≡ to_rule }
+    ensures local { result.global ≡ false }
+{
+    text_option(alloc, "to", "ADDR", "Where the master listens: HOST:PORT").required(true)
+}
+
+// `--user U`
+fn user_option<'a>(alloc: Global) -> Arg<'a>
+    ensures rule { rule_of result ≡ user_rule }
+    ensures local { result.global ≡ false }
+{
+    text_option(alloc, "user", "U", "User of the framework").required(true)
+}
+
+// `--name N`
+fn name_option<'a>(alloc: Global) -> Arg<'a>
+    ensures rule { rule_of result ≡ name_rule }
+    ensures local { result.global ≡ false }
+{
+    text_option(alloc, "name", "N", "Name of the framework").required(true)
+}
+
+// `--reads R`
+fn reads_option<'a>(alloc: Global) -> Arg<'a>
+    ensures rule { rule_of result ≡ reads_rule }
+    ensures local { result.global ≡ false }
+{
+    number_option(
+        alloc,
+        "reads",
+        "R",
+        MIN_SUBSCRIBE_READS,
+        MAX_SUBSCRIBE_READS,
+        "Most reads of the stream, 0 to 4294967295",
+    )
+    .default_value(DEFAULT_SUBSCRIBE_READS)
+}
+
+/// The values that its words give.
+///
+/// Errors: `BadValue` where one is out of its range; `NoMemory`.
+pub fn read(alloc: Global, found: &ArgMatches<'_>) -> Result<Options, WordsFault>
+    ensures { Reads (codes "subscribe", rows_of (found_of found.now)) result }
+{
+    let reads = reads_of(found)?;
+    let to = to_of(found)?;
+    let user = user_of(alloc, found)?;
+    let name = name_of(alloc, found)?;
+    Ok(Options::Subscribe {
+        to,
+        user,
+        name,
+        reads,
+    })
+}
+
+// The value of `--to`.
+fn to_of(found: &ArgMatches<'_>) -> Result<Host, WordsFault>
+    ensures ok { IfOk result (HasText (codes "to") (rows_of (found_of found.now))) }
+    ensures ranged { IfOk result IsHost }
+    ensures err { IfErr result (IsBad the_to (rows_of (found_of found.now))) }
+{
+    let text = text_of(found, "to")?;
+    match Host::new(text) {
+        Some(host) => Ok(host),
+        None => Err(WordsFault::BadValue("to")),
+    }
+}
+
+// The value of `--user`.
+fn user_of(alloc: Global, found: &ArgMatches<'_>) -> Result<Text, WordsFault>
+    ensures ok { IfOk result (HasText (codes "user") (rows_of (found_of found.now))) }
+    ensures err { IfErr result (IsBadOrLacks the_user (rows_of (found_of found.now))) }
+{
+    let text = text_of(found, "user")?;
+    match Text::of(alloc, text) {
+        Ok(user) => Ok(user),
+        Err(_) => Err(WordsFault::NoMemory),
+    }
+}
+
+// The value of `--name`.
+fn name_of(alloc: Global, found: &ArgMatches<'_>) -> Result<Text, WordsFault>
+    ensures ok { IfOk result (HasText (codes "name") (rows_of (found_of found.now))) }
+    ensures err { IfErr result (IsBadOrLacks the_name (rows_of (found_of found.now))) }
+{
+    let text = text_of(found, "name")?;
+    match Text::of(alloc, text) {
+        Ok(name) => Ok(name),
+        Err(_) => Err(WordsFault::NoMemory),
+    }
+}
+
+// The value of `--reads`.
+fn reads_of(found: &ArgMatches<'_>) -> Result<u32, WordsFault>
+    ensures ok { IfOk result (HasNumber (codes "reads") (rows_of (found_of found.now))) }
+    ensures ranged { IfOk result IsReads }
+    ensures err { IfErr result (IsBad the_reads (rows_of (found_of found.now))) }
+{
+    number_in(found, "reads", MIN_SUBSCRIBE_READS, MAX_SUBSCRIBE_READS)
+}

@@ -1,0 +1,86 @@
+//! The values of the options, read of what clap found for a subcommand.
+ghost use Rattle.std.specs.Prelude.{◌≤◌, IfOk, IfErr};
+ghost use Rattle.clap.specs.Words.{found_of, rows_of};
+ghost use Rattle.mesosev_args.specs.NamedOptions.{HasFraming, HasLimit, HasMost, HasNumber, HasText, IsBad};
+ghost use Rattle.mesosev_args.specs.NamedOptions.{IsLimit, IsMost, LacksNumber, LacksText, the_limit, the_most};
+
+use crate::args::WordsFault;
+use clap::ArgMatches;
+use mes_frame::{Limit, MAX_RECORD_LIMIT, MIN_RECORD_LIMIT};
+use mes_stream::Framing;
+use mesosev_stream::ChunkSize;
+
+/// The framing: chunked where the flag `--chunked` is set.
+pub fn framing_of(matches: &ArgMatches<'_>) -> Framing
+    ensures { HasFraming (rows_of (found_of matches.now)) result }
+{
+    match matches.get_one::<bool>("chunked") {
+        Some(true) => Framing::Chunked,
+        _ => Framing::Plain,
+    }
+}
+
+/// The number that the option of this name has, from the least to the greatest.
+///
+/// Errors: `BadValue` where there is none.
+pub fn number_in(
+    matches: &ArgMatches<'_>,
+    name: &'static str,
+    least: u32,
+    greatest: u32,
+) -> Result<u32, WordsFault>
+    ensures ok { IfOk result (HasNumber name.now (rows_of (found_of matches.now))) }
+    ensures ranged { IfOk result (λ n. (least ≤ n) × (n ≤ greatest)) }
+    ensures err { IfErr result (LacksNumber name.now least greatest (rows_of (found_of matches.now))) }
+{
+    match matches.get_one::<u32>(name) {
+        Some(number) if least <= number && number <= greatest => Ok(number),
+        _ => Err(WordsFault::BadValue(name)),
+    }
+}
+
+/// The text that the option of this name has.
+///
+/// Errors: `BadValue` where there is none.
+pub fn text_of<'a>(matches: &ArgMatches<'a>, name: &'static str) -> Result<&'a str, WordsFault>
+    ensures ok { IfOk result (λ text. HasText name.now (rows_of (found_of matches.now)) text.now) }
+    ensures err { IfErr result (LacksText name.now (rows_of (found_of matches.now))) }
+{
+    match matches.get_str(name) {
+        Some(text) => Ok(text),
+        None => Err(WordsFault::BadValue(name)),
+    }
+}
+
+/// The value of `--limit`.
+///
+/// Errors: `BadValue` where there is none in its range.
+pub fn limit_of(matches: &ArgMatches<'_>) -> Result<Limit, WordsFault>
+    ensures ok { IfOk result (HasLimit (rows_of (found_of matches.now))) }
+    ensures ranged { IfOk result IsLimit }
+    ensures err { IfErr result (IsBad the_limit (rows_of (found_of matches.now))) }
+{
+    let limit = number_in(matches, "limit", MIN_RECORD_LIMIT, MAX_RECORD_LIMIT)?;
+    match Limit::new(limit) {
+        Some(limit) => Ok(limit),
+        None => Err(WordsFault::BadValue("limit")),
+    }
+}
+
+/// The value of `--most`, where it is given.
+///
+/// Errors: `BadValue` where it does not lie in its range.
+pub fn most_of(matches: &ArgMatches<'_>) -> Result<Option<ChunkSize>, WordsFault>
+    ensures ok { IfOk result (HasMost (rows_of (found_of matches.now))) }
+    ensures ranged { IfOk result IsMost }
+    ensures err { IfErr result (IsBad the_most (rows_of (found_of matches.now))) }
+{
+    match matches.try_get_one::<u32>("most") {
+        Ok(None) => Ok(None),
+        Ok(Some(most)) => match ChunkSize::new(most) {
+            Some(size) => Ok(Some(size)),
+            None => Err(WordsFault::BadValue("most")),
+        },
+        Err(_) => Err(WordsFault::BadValue("most")),
+    }
+}

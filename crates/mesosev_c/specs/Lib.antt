@@ -1,0 +1,14 @@
+pub mod Adding
+pub mod Asking
+pub mod Batches
+pub mod CallTexts
+pub mod Decoders
+pub mod EventTexts
+pub mod Exports
+pub mod HandleLends
+pub mod Handles
+pub mod Inputs
+pub mod Numbers
+pub mod Rooms
+pub mod Rows
+pub mod Reporting

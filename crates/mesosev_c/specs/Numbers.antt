@@ -1,0 +1,69 @@
+-- The numbers that stand for answers, faults and types of events in C.
+use Rattle.std.specs.Prelude.{ℕ}
+use Rattle.mes_frame.specs.declared.fault.FrameFault.TheVariants.{BadChunkLine, ChunkLineTooLong, ChunkTooLarge, BadChunkEnd, TrailersTooLong, BadSizeLine, SizeLineTooLong, RecordTooLarge}
+use Rattle.mes_msg.specs.Event.{Event}
+use Rattle.mes_msg.specs.Event.TheVariants as event
+use Rattle.mes_stream.specs.declared.fault.Fault.{Fault}
+use Rattle.mes_stream.specs.declared.fault.Fault.TheVariants.{Frame, EndsInsideChunks, EndsInsideRecord, Text, Field, NoMemory, Read, ReadsSpent, BadEntry}
+
+-- all was read, or a handle was made
+abbrev pub SUCCESS : ℕ
+SUCCESS = 0
+
+-- memory was refused for a handle: the number of F13
+abbrev pub NO_MEMORY : ℕ
+NO_MEMORY = 13
+
+-- more bytes are wanted
+abbrev pub MORE : ℕ
+MORE = 32
+
+-- an event has come
+abbrev pub EVENT : ℕ
+EVENT = 33
+
+-- the stream has ended
+abbrev pub END : ℕ
+END = 34
+
+-- an event has come, or a call, and no text of it
+abbrev pub NO_TEXT : ℕ
+NO_TEXT = 35
+
+-- no limit is that, and no framing has that number
+abbrev pub BAD_LIMIT : ℕ
+BAD_LIMIT = 100
+
+abbrev pub BAD_FRAMING : ℕ
+BAD_FRAMING = 101
+
+-- the number in a fault's name
+abbrev pub number_of_fault : Fault → ℕ
+number_of_fault (Frame BadChunkLine) = 1
+number_of_fault (Frame ChunkLineTooLong) = 2
+number_of_fault (Frame ChunkTooLarge) = 3
+number_of_fault (Frame BadChunkEnd) = 4
+number_of_fault (Frame TrailersTooLong) = 5
+number_of_fault EndsInsideChunks = 6
+number_of_fault (Frame BadSizeLine) = 7
+number_of_fault (Frame SizeLineTooLong) = 8
+number_of_fault (Frame RecordTooLarge) = 9
+number_of_fault EndsInsideRecord = 10
+number_of_fault (Text at_record byte why) = 11
+number_of_fault (Field at_record path why) = 12
+number_of_fault NoMemory = 13
+number_of_fault Read = 14
+number_of_fault ReadsSpent = 15
+number_of_fault (BadEntry at_record) = 16
+
+-- the number of an event's type (scheduler.proto, `Event.Type`), and 0 for one that is kept by its name
+abbrev pub number_of_event : Event → ℕ
+number_of_event (event.Subscribed body) = 1
+number_of_event (event.Offers list) = 2
+number_of_event (event.Rescind body) = 3
+number_of_event (event.Update body) = 4
+number_of_event (event.Message body) = 5
+number_of_event (event.Failure body) = 6
+number_of_event (event.Error body) = 7
+number_of_event event.Heartbeat = 8
+number_of_event (event.Other name) = 0

@@ -1,0 +1,66 @@
+-- What a decoder tells, by numbers and texts.
+use Rattle.std.specs.Prelude.{◌≡◌, ℕ, ◌⊎◌, List, [], Bool, true, false, Result, Ok, Err}
+use Rattle.mes_frame.specs.declared.limits.TheConstants.{MAX_RECORD_LIMIT}
+use Rattle.mes_msg.specs.Canon.{canonical_text, IsGood, IsEncodeFault}
+use Rattle.mes_msg.specs.EncodeFault.{EncodeFault}
+use Rattle.mes_msg.specs.Event.{Event}
+use Rattle.mes_stream.specs.Lines.{fault_text}
+use Rattle.mes_stream.specs.declared.fault.Fault.{Fault}
+use Rattle.mes_stream.specs.declared.progress.Decoded.{Decoded}
+use Rattle.mes_stream.specs.declared.progress.Decoded.TheVariants as out
+use Rattle.mesosev_c.specs.Decoders.{Takes, EndsInput}
+use Rattle.mesosev_c.specs.Numbers.{MORE, EVENT, END, NO_TEXT, number_of_event, number_of_fault}
+use Rattle.mesosev_c.specs.declared.event_decoder.EventDecoder.{EventDecoder}
+use Rattle.mesosev_c.specs.declared.text_decoder.TextDecoder.{TextDecoder}
+use Rattle.mesosev_c.specs.declared.text_decoder.Reported.{Reported}
+
+-- of an event: its type's number and, where texts are made, its canonical text, which fits into a record of the largest limit, or that there is none and why
+abbrev pub ReportsEvent : Bool → Event → List ℕ → Reported → Type 0
+ReportsEvent false event text reported = (reported.status ≡ EVENT) × (reported.kind ≡ number_of_event event) × (text ≡ [])
+ReportsEvent true event text reported =
+    (reported.kind ≡ number_of_event event)
+    × (((reported.status ≡ EVENT) × (text ≡ canonical_text event) × IsGood event MAX_RECORD_LIMIT)
+    ⊎ ((reported.status ≡ NO_TEXT) × (text ≡ []) × ((why : EncodeFault) × IsEncodeFault event MAX_RECORD_LIMIT why)))
+
+-- of a fault behind so many bytes: its number and its line, or no line where memory was refused for it
+abbrev pub ReportsFault : ℕ → Fault → List ℕ → Reported → Type 0
+ReportsFault used fault text reported = (reported.status ≡ number_of_fault fault) × (reported.kind ≡ 0) × ((text ≡ fault_text fault used) ⊎ (text ≡ []))
+
+-- of anything else: a status and no text
+abbrev pub ReportsPlain : ℕ → List ℕ → Reported → Type 0
+ReportsPlain status text reported = (reported.status ≡ status) × (reported.kind ≡ 0) × (text ≡ [])
+
+-- of what the bytes were that were used
+abbrev pub ReportsOutput : Bool → ℕ → Decoded Event → List ℕ → Reported → Type 0
+ReportsOutput texts used out.More text reported = ReportsPlain MORE text reported
+ReportsOutput texts used (out.Event event) text reported = ReportsEvent texts event text reported
+ReportsOutput texts used out.End text reported = ReportsPlain END text reported
+ReportsOutput texts used (out.Fault fault) text reported = ReportsFault used fault text reported
+
+-- of the end of the input
+abbrev pub ReportsEnd : ℕ → Result (Unit {0}) Fault → List ℕ → Reported → Type 0
+ReportsEnd used (Ok done) text reported = ReportsPlain END text reported
+ReportsEnd used (Err fault) text reported = ReportsFault used fault text reported
+
+-- all but the text stays
+pub record KeepsAll (old new : TextDecoder) : Type 0 where
+  pub decoder : new.decoder ≡ old.decoder
+  pub texts : new.texts ≡ old.texts
+
+-- a call of `next`, where texts are made or not: so many bytes were used, and that was told, with this text
+pub record ReportsStep (texts : Bool) (old new : EventDecoder) (piece : List ℕ) (used : ℕ) (reported : Reported) (text : List ℕ) : Type 0 where
+  pub out : Decoded Event
+  pub takes : Takes old new piece used out
+  pub reports : ReportsOutput texts new.used out text reported
+
+-- a call that took a piece
+pub record ReportsNext (old new : TextDecoder) (piece : List ℕ) (used : ℕ) (reported : Reported) : Type 0 where
+  pub step : ReportsStep old.texts old.decoder new.decoder piece used reported new.text.items
+  pub texts : new.texts ≡ old.texts
+
+-- a call at the end of the input
+pub record ReportsFinish (old new : TextDecoder) (reported : Reported) : Type 0 where
+  pub outcome : Result (Unit {0}) Fault
+  pub ends : EndsInput old.decoder new.decoder outcome
+  pub reports : ReportsEnd new.decoder.used outcome new.text.items reported
+  pub texts : new.texts ≡ old.texts

@@ -1,0 +1,104 @@
+//! A call's canonical text, or its fault.
+
+ghost use Rattle.std.specs.Prelude.{◌≡◌};
+ghost use Rattle.mes_msg_call.specs.Calls.{call};
+ghost use Rattle.mes_msg_record.specs.Texts.{IsFaultOf, canonical_of};
+ghost use Rattle.mes_stream.specs.Refusals.{fault_at_record, refusal_of};
+ghost use Rattle.mesosev_c.specs.CallTexts.{IsReportedCall, IsReportedText, PutsCall};
+
+use crate::room::put_text;
+use crate::statuses::{NO_TEXT, SUCCESS, fault_number};
+use arrayvec::ArrayString;
+use mes_frame::Limit;
+use mes_model_schema::FieldFault;
+use mes_msg::{Call, EncodeFault, RecordFault};
+use mes_stream::{Fault, MAX_FAULT_LINE, fault_line};
+use std::alloc::Global;
+
+/// What bytes are to a reader of calls.
+#[derive(Debug, Drop)]
+pub enum ReportedCall {
+    /// Those of a call with this canonical text.
+    Text(Vec<u8>),
+    /// Those of a call whose canonical text nests too deep or is too large.
+    Unfit,
+    /// Those of a call for whose canonical text memory was refused.
+    Lost,
+    /// Those of no call; they are taken as record 1.
+    Fault(Fault),
+}
+
+/// Reads a call, and tells its canonical text, or its fault.
+pub fn report_call(alloc: Global, bytes: &[u8]) -> ReportedCall
+    ensures { IsReportedCall bytes.now result }
+{
+    match Call::read_record(alloc, bytes) {
+        Ok(call) => reported_text(alloc, &call),
+        Err(fault) => ReportedCall::Fault(fault_of_call(fault)),
+    }
+}
+
+// The canonical text of a call, or that it has none.
+fn reported_text(alloc: Global, of: &Call) -> ReportedCall
+    ensures { IsReportedText of.now result }
+{
+    match of.canon(alloc, Limit::LARGEST) {
+        Ok(text) => ReportedCall::Text(text),
+        Err(EncodeFault::TooDeep) => ReportedCall::Unfit,
+        Err(EncodeFault::TooLarge) => ReportedCall::Unfit,
+        Err(EncodeFault::NoMemory) => ReportedCall::Lost,
+    }
+}
+
+// The fault, as that of record 1.
+fn fault_of_call(fault: RecordFault) -> Fault
+    ensures { result ≡ fault_at_record 1 (refusal_of fault) }
+{
+    match fault {
+        RecordFault::Text(fault) => Fault::Text {
+            at_record: 1,
+            byte: fault.byte,
+            why: fault.why,
+        },
+        RecordFault::Field(fault) => {
+            let FieldFault { path, why } = fault.into_inner();
+            Fault::Field {
+                at_record: 1,
+                path,
+                why,
+            }
+        }
+        RecordFault::NoMemory => Fault::NoMemory,
+    }
+}
+
+impl ReportedCall {
+    /// Writes the text, or the line of the fault behind so many bytes, into a caller's room, as much of it as there is place for, and
+    /// tells how long it is. Answers `SUCCESS`, `NO_TEXT` or the number of the fault.
+    pub fn put(&self, used: u64, size: &mut u64, room: &mut [u8]) -> u32
+        ensures { PutsCall self.now used size.new room.old room.new result }
+    {
+        match self {
+            ReportedCall::Text(text) => {
+                put_text(text.as_slice(), room);
+                *size = text.len() as u64;
+                SUCCESS
+            }
+            ReportedCall::Unfit => {
+                *size = 0;
+                NO_TEXT
+            }
+            ReportedCall::Lost => {
+                *size = 0;
+                NO_TEXT
+            }
+            ReportedCall::Fault(fault) => {
+                let mut line = ArrayString::<MAX_FAULT_LINE>::new();
+                fault_line(fault, used, &mut line);
+                put_text(line.as_str().as_bytes(), room);
+                *size = line.len() as u64;
+                fault_number(fault)
+            }
+        }
+    }
+}

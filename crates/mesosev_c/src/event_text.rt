@@ -1,0 +1,37 @@
+//! An event's canonical text behind those of others.
+
+ghost use Rattle.std.specs.Prelude.{◌≡◌};
+ghost use Rattle.mesosev_c.specs.EventTexts.{AppendsText};
+
+use mes_frame::Limit;
+use mes_model_schema::Part;
+use mes_model_schema::json::MAX_NESTING;
+use mes_msg::Event;
+use std::alloc::Global;
+
+/// What became of the texts that stood there, and of the event's.
+#[derive(Clone, Copy, Debug, PartialEq, Eq)]
+pub(crate) enum Appended {
+    /// The event's stands behind them.
+    Whole,
+    /// The event's nests too deep or is too large, and they stand as they were.
+    Unfit,
+    /// Memory was refused, and none is left.
+    Lost,
+}
+
+/// Appends the canonical text of an event, which nests at most `MAX_NESTING` deep and has at most `Limit::LARGEST` bytes.
+pub(crate) fn append_text(alloc: Global, event: &Event, texts: &mut Vec<u8>) -> Appended
+    ensures { AppendsText event.now texts.old.items texts.new.items result }
+{
+    let start = texts.len();
+    let Ok(depth) = event.write_json(alloc, texts) else {
+        texts.clear();
+        return Appended::Lost;
+    };
+    if depth <= MAX_NESTING as u64 && texts.len() - start <= Limit::LARGEST.get() as usize {
+        return Appended::Whole;
+    }
+    texts.truncate(start);
+    Appended::Unfit
+}

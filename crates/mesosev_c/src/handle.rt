@@ -1,0 +1,119 @@
+//! The handle of a decoder on the heap. All functions on raw memory stand here, and their proofs are by hand.
+
+ghost use Rattle.std.specs.Prelude.{◌≡◌, Option, Some};
+ghost use Rattle.std.specs.Box.Ownership.{box_owns};
+ghost use Rattle.mesosev_c.specs.Handles.{handle_owns, slot_owns, decoder_coded, maybe_coded};
+ghost use Rattle.mesosev_c.specs.declared.text_decoder.TextDecoder.{TextDecoder};
+
+use crate::text_decoder::TextDecoder;
+use std::alloc::{Allocator, Global};
+use std::marker::Model;
+
+/// What a C program holds: where a decoder stands on the heap.
+#[repr(C)]
+pub struct Handle {
+    ptr: *mut u8,
+    alloc: Global,
+    /// The decoder.
+    pub ghost held: { TextDecoder } by { decoder_coded },
+}
+
+impl Model for Handle {
+    ghost also_owns = { λ h. handle_owns h.alloc h.ptr h.held };
+}
+
+impl Handle {
+    ghost use Rattle.std.specs.Prelude.{◌≡◌};
+    ghost use Rattle.std.specs.Borrow.{sem};
+    ghost use Rattle.mesosev_c.specs.HandleLends.{handle_follows};
+
+    /// The decoder.
+    pub fn reach(&mut self) -> &mut TextDecoder
+        ensures* writes_back { sem 𝓛 (handle_follows self.entry result) }
+        ensures value { result.now ≡ self.old.held }
+    {
+        unsafe { &mut *self.ptr.cast::<TextDecoder>() }
+    }
+
+    // The parts of the decoder's box.
+    fn into_parts(self) -> Parts<TextDecoder, Global>
+        ensures { result.value ≡ self.held }
+    {
+        let Handle { ptr, alloc } = self;
+        Parts {
+            ptr: ptr.cast::<TextDecoder>(),
+            alloc,
+        }
+    }
+}
+
+/// Where a C program has a handle put. A slot that is let go of forgets the handle in it.
+#[repr(C)]
+#[derive(Drop)]
+pub struct Slot {
+    ptr: *mut u8,
+    alloc: Global,
+    /// The decoder of the handle in it, if there is one.
+    pub ghost held: { Option TextDecoder } by { maybe_coded },
+}
+
+impl Model for Slot {
+    ghost also_owns = { λ s. slot_owns s.alloc s.ptr s.held };
+}
+
+impl Slot {
+    /// A slot with a handle of the decoder in a box.
+    pub fn of(placed: Box<TextDecoder>) -> Slot
+        ensures { result.held ≡ Some placed.value }
+    {
+        Slot::of_parts(Parts::of(placed))
+    }
+
+    // A slot with the parts of the decoder's box.
+    fn of_parts(parts: Parts<TextDecoder, Global>) -> Slot
+        ensures { result.held ≡ Some parts.value }
+    {
+        let Parts { ptr, alloc } = parts;
+        Slot {
+            ptr: ptr.cast::<u8>(),
+            alloc,
+        }
+    }
+}
+
+impl Drop for Handle {
+    fn drop(self) {
+        drop(self.into_parts().into_box());
+    }
+}
+
+// A box with its fields in sight.
+struct Parts<T, A: Allocator> {
+    ptr: *mut T,
+    alloc: A,
+    ghost value: { T },
+}
+
+impl<T, A: Allocator> Model for Parts<T, A> {
+    ghost also_owns = { λ p. box_owns (A.dealloc_token p.alloc) T.row p.ptr p.value };
+}
+
+impl<T, A: Allocator> Parts<T, A> {
+    // The parts of a box.
+    fn of(placed: Box<T, A>) -> Parts<T, A>
+    where
+        T: Drop,
+        ensures { result.value ≡ placed.value }
+    {
+        let (ptr, alloc) = Box::into_raw_with_allocator(placed);
+        Parts { ptr, alloc }
+    }
+
+    // The box.
+    fn into_box(self) -> Box<T, A>
+        ensures { result.value ≡ self.value }
+    {
+        let Parts { ptr, alloc } = self;
+        unsafe { Box::from_raw(alloc, ptr) }
+    }
+}

@@ -1,0 +1,73 @@
+//! Worked examples of what the libraries promise, asked by their public calls. Each is a row, printed in one line: its name, and what was
+//! answered. Where memory was refused, the line says so and the row is asked again; docs/FORMAT.md has the lines.
+#![tactic(auto)]
+
+mod asking;
+mod bytes;
+mod heads;
+mod held;
+mod logs;
+mod making;
+mod masters;
+mod messages;
+mod nesting;
+mod numbers;
+mod offers;
+mod pieces;
+mod rows;
+mod sessions;
+mod streams;
+mod texts;
+mod told;
+mod words;
+mod writing;
+
+use rows::ROWS;
+use std::alloc::Global;
+use std::io;
+use told::Reported;
+use words::Words;
+
+fn main(rt: HostRuntime) -> io::Result<()> {
+    for line in ROWS.lines() {
+        tell_row(&rt, line)?;
+    }
+    Ok(())
+}
+
+/// Prints a row's name and its answer. A row that is refused memory is asked once more.
+fn tell_row(rt: &HostRuntime, line: &str) -> io::Result<()> {
+    let (name, asked) = line.split_once(" => ").unwrap_or((line, ""));
+    let mut words = Words::new();
+    if is_refused(rt.alloc(), asked, &mut words) {
+        let _again = is_refused(rt.alloc(), asked, &mut words);
+    }
+    println!(rt; "{name}: {}{}", words.as_str(), words.ending())
+}
+
+/// Tells a row's answer. Whether it was refused memory.
+fn is_refused(alloc: Global, asked: &str, words: &mut Words) -> bool {
+    let (what, rest) = asked.split_once(' ').unwrap_or((asked, ""));
+    let answer = answer(alloc, what, rest, words);
+    words.say_answer(answer)
+}
+
+/// Asks what a row asks, by its first word.
+fn answer(alloc: Global, what: &str, rest: &str, words: &mut Words) -> Result<(), Reported> {
+    match what {
+        "stream" => streams::answer(alloc, rest, words),
+        "pieces" => pieces::answer(alloc, rest, words),
+        "event" => messages::report_event(alloc, rest, words),
+        "short" => messages::tell_short(alloc, rest, words),
+        "call" => messages::report_call(alloc, rest, words),
+        "numbers" => numbers::tell_numbers(rest, words),
+        "resource" => messages::tell_resource(alloc, rest, words),
+        "nested" => nesting::answer(alloc, rest, words),
+        "write" => writing::answer(alloc, rest, words),
+        "head" => heads::answer(alloc, rest, words),
+        "session" => sessions::run(alloc, rest, words),
+        "master" => masters::run(alloc, rest, words),
+        "log" => logs::answer(alloc, rest, words),
+        _ => Err(Reported::fault("no such row")),
+    }
+}

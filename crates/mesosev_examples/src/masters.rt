@@ -1,0 +1,262 @@
+//! A test master: what it answers and sends, and what it has then.
+
+use crate::asking::{ask_twice, change, look_at};
+use crate::held::held_by_master;
+use crate::messages::{call_of, event_of, say_event};
+use crate::streams::tell_events;
+use crate::texts::text_named;
+use crate::told::Reported;
+use crate::words::Words;
+use mes_double_http::StreamId;
+use mes_double_master::{Answer, Master, MasterRefusal};
+use mes_model::{Id, Offer, TaskStatus};
+use mes_model_schema::json::{NoMemory, Text};
+use mes_msg::{Call, Event};
+use std::alloc::Global;
+use uuid::Uuid;
+
+/// The id of the first stream, which each call is for.
+const FIRST_STREAM: u128 = 1;
+
+/// The id of the second stream.
+const SECOND_STREAM: u128 = 2;
+
+/// What a master sends of its own, or notes as sent.
+#[derive(Clone, Copy)]
+enum Sending<'a> {
+    /// Offers that it makes.
+    Offers(&'a [Offer]),
+    /// Offers that it notes as made.
+    NotedOffers(&'a [Offer]),
+    /// That the offer of this identifier is gone.
+    Rescind(&'a str),
+    /// An update.
+    Update(&'a TaskStatus),
+    /// An update that it notes as sent.
+    NotedUpdate(&'a TaskStatus),
+    /// The update at this place among those that no one has acknowledged.
+    Resend(usize),
+}
+
+/// Does the steps of a row with a new master.
+pub(crate) fn run(alloc: Global, steps: &str, words: &mut Words) -> Result<(), Reported> {
+    change(new_master(alloc)?, |master| {
+        do_steps(alloc, master, steps, words)
+    })
+}
+
+/// Does steps, one behind the other. One that is refused says so; want of memory ends the row.
+fn do_steps(
+    alloc: Global,
+    master: &mut Master,
+    steps: &str,
+    words: &mut Words,
+) -> Result<(), Reported> {
+    for step in steps.split("; ") {
+        let answer = do_step(alloc, master, step, words);
+        words.go_on(answer)?;
+    }
+    Ok(())
+}
+
+/// A master of the framework F1.
+fn new_master(alloc: Global) -> Result<Master, NoMemory> {
+    let framework = framework(alloc)?;
+    let ids = stream_ids(alloc)?;
+    Ok(Master::new(alloc, framework, ids))
+}
+
+/// The framework F1.
+fn framework(alloc: Global) -> Result<Id, NoMemory> {
+    let value = Text::of(alloc, "F1")?;
+    Ok(Id { value })
+}
+
+/// The ids of the streams.
+fn stream_ids(alloc: Global) -> Result<Vec<Uuid>, NoMemory> {
+    let mut ids = Vec::new(alloc);
+    ids.push(Uuid::from_u128(FIRST_STREAM))?;
+    ids.push(Uuid::from_u128(SECOND_STREAM))?;
+    Ok(ids)
+}
+
+/// Does a step: answers a call, sends an event, or tells what it has.
+fn do_step(
+    alloc: Global,
+    master: &mut Master,
+    step: &str,
+    words: &mut Words,
+) -> Result<(), Reported> {
+    match step.split_once(' ') {
+        Some(("call", name)) => call(alloc, master, text_named(name), words),
+        Some(("event", name)) => send_like(alloc, master, text_named(name), words),
+        Some(("note", name)) => note_like(alloc, master, text_named(name), words),
+        Some(("rescind", id)) => send(alloc, master, Sending::Rescind(id), words),
+        Some(("resend", place)) => resend(alloc, master, place, words),
+        _ => {
+            words.say_words(&held_by_master(master));
+            Ok(())
+        }
+    }
+}
+
+/// Answers the call of a text, and tells the answer.
+fn call(alloc: Global, master: &mut Master, text: &str, words: &mut Words) -> Result<(), Reported> {
+    look_at(call_of(alloc, text)?, |call| {
+        answer_call(alloc, master, call, words)
+    })
+}
+
+/// Answers a call, and tells the answer.
+fn answer_call(
+    alloc: Global,
+    master: &mut Master,
+    call: &Call,
+    words: &mut Words,
+) -> Result<(), Reported> {
+    let answer = handle(master, call, words)?;
+    tell_answer(alloc, &answer, words)
+}
+
+/// Tells an answer: its status and its events.
+fn tell_answer(alloc: Global, answer: &Answer, words: &mut Words) -> Result<(), Reported> {
+    words.say_number("answered", u64::from(answer.status.as_u16()));
+    tell_events(alloc, answer.events.as_slice(), words)
+}
+
+/// What a call is answered. Where memory is refused, it is asked once more.
+fn handle(master: &mut Master, call: &Call, words: &mut Words) -> Result<Answer, Reported> {
+    ask_twice(|| handle_once(master, call), words)
+}
+
+/// What a call is answered. Where memory is refused, all that looks has to answer as before.
+fn handle_once(master: &mut Master, call: &Call) -> Result<Answer, Reported> {
+    let stream = StreamId::of_uuid(Uuid::from_u128(FIRST_STREAM));
+    let before = held_by_master(master);
+    match master.handle(call, Some(&stream)) {
+        Ok(answer) => Ok(answer),
+        Err(refused) => Err(Reported::from(refused).or_changed(is_still(master, &before))),
+    }
+}
+
+/// Sends what the event of a text tells: offers that are made, or an update.
+fn send_like(
+    alloc: Global,
+    master: &mut Master,
+    text: &str,
+    words: &mut Words,
+) -> Result<(), Reported> {
+    look_at(event_of(alloc, text.as_bytes())?, |event| {
+        send_told(alloc, master, event, words)
+    })
+}
+
+/// Sends what an event tells.
+fn send_told(
+    alloc: Global,
+    master: &mut Master,
+    event: &Event,
+    words: &mut Words,
+) -> Result<(), Reported> {
+    match event {
+        Event::Offers(offers) => send(alloc, master, Sending::Offers(offers.as_slice()), words),
+        Event::Update(body) => send(alloc, master, Sending::Update(body.status.get()), words),
+        _ => Err(Reported::fault("no such step")),
+    }
+}
+
+/// Notes as sent what the event of a text tells: offers that are made, or an update.
+fn note_like(
+    alloc: Global,
+    master: &mut Master,
+    text: &str,
+    words: &mut Words,
+) -> Result<(), Reported> {
+    look_at(event_of(alloc, text.as_bytes())?, |event| {
+        note_told(master, event, words)
+    })
+}
+
+/// Notes as sent what an event tells.
+fn note_told(master: &mut Master, event: &Event, words: &mut Words) -> Result<(), Reported> {
+    match event {
+        Event::Offers(offers) => note(master, Sending::NotedOffers(offers.as_slice()), words),
+        Event::Update(body) => note(master, Sending::NotedUpdate(body.status.get()), words),
+        _ => Err(Reported::fault("no such step")),
+    }
+}
+
+/// Has the master note something, and tells that it did. No event is given.
+fn note(master: &mut Master, sending: Sending<'_>, words: &mut Words) -> Result<(), Reported> {
+    look_at(sent_event(master, sending, words)?, |event| {
+        words.say(if event.is_none() { "noted" } else { "sent" });
+    });
+    Ok(())
+}
+
+/// Has the master send the update at a place again.
+fn resend(
+    alloc: Global,
+    master: &mut Master,
+    place: &str,
+    words: &mut Words,
+) -> Result<(), Reported> {
+    match place.parse::<usize>() {
+        Ok(index) => send(alloc, master, Sending::Resend(index), words),
+        Err(_) => Err(Reported::fault("no such place")),
+    }
+}
+
+/// Tells the event that the master sends.
+fn send(
+    alloc: Global,
+    master: &mut Master,
+    sending: Sending<'_>,
+    words: &mut Words,
+) -> Result<(), Reported> {
+    look_at(sent_event(master, sending, words)?, |event| match event {
+        Some(event) => say_event(alloc, event, words),
+        None => Err(Reported::fault("no event")),
+    })
+}
+
+/// The event that the master sends, or none of what it notes. Where memory is refused, it is asked once more.
+fn sent_event(
+    master: &mut Master,
+    sending: Sending<'_>,
+    words: &mut Words,
+) -> Result<Option<Event>, Reported> {
+    ask_twice(|| send_once(master, sending), words)
+}
+
+/// The event that the master sends, or none. Where it is refused, all that looks has to answer as before.
+fn send_once(master: &mut Master, sending: Sending<'_>) -> Result<Option<Event>, Reported> {
+    let before = held_by_master(master);
+    match ask_to_send(master, sending) {
+        Ok(event) => Ok(event),
+        Err(refusal) => Err(Reported::from(refusal).or_changed(is_still(master, &before))),
+    }
+}
+
+/// What the master's own call gives.
+fn ask_to_send(master: &mut Master, sending: Sending<'_>) -> Result<Option<Event>, MasterRefusal> {
+    match sending {
+        Sending::Offers(offers) => Ok(Some(master.offer(offers)?)),
+        Sending::NotedOffers(offers) => {
+            master.note_offers(offers)?;
+            Ok(None)
+        }
+        Sending::Rescind(id) => Ok(Some(master.rescind(id)?)),
+        Sending::Update(status) => Ok(Some(master.update(status)?)),
+        Sending::NotedUpdate(status) => {
+            master.note_update(status)?;
+            Ok(None)
+        }
+        Sending::Resend(place) => Ok(Some(master.resend(place)?)),
+    }
+}
+
+/// Whether a master has this.
+fn is_still(master: &Master, before: &Words) -> bool {
+    held_by_master(master).is_same(before)
+}

@@ -1,0 +1,29 @@
+//! Numbers, as texts and as thousandths.
+
+use crate::told::Reported;
+use crate::words::Words;
+use arrayvec::ArrayString;
+use mes_model_schema::fixed::{NumFault, Thousandths};
+
+/// Reads numbers, and tells how many thousandths each is and how it is written.
+pub(crate) fn tell_numbers(texts: &str, words: &mut Words) -> Result<(), Reported> {
+    for text in texts.split(' ') {
+        tell_number(text, words);
+    }
+    Ok(())
+}
+
+/// Tells how many thousandths a number is and how it is written, or why it is none.
+fn tell_number(text: &str, words: &mut Words) {
+    match Thousandths::read(text.as_bytes()) {
+        Ok(number) => {
+            let mut written = ArrayString::new();
+            number.write(&mut written);
+            words.say_number("units", number.units());
+            words.add_word(written.as_str());
+        }
+        Err(NumFault::TooLong) => words.say("TooLong"),
+        Err(NumFault::Shape) => words.say("Shape"),
+        Err(NumFault::Range) => words.say("Range"),
+    }
+}

@@ -1,0 +1,246 @@
+//! An offer in words that take no memory: all its members, in the order of their tables.
+
+use crate::words::Words;
+use arrayvec::ArrayString;
+use mes_model::{
+    Allocation, Attribute, AttributeValue, Boxed, Id, Kept, Label, Labels, Offer, Range, Ranges,
+    Reservation, Resource, ResourceValue, Scalar, Set,
+};
+use mes_model_schema::json::{Json, Text};
+
+/// Adds an offer: its identifier, and its other members in braces. What is absent is left out.
+pub(crate) fn add_offer(words: &mut Words, offer: &Offer) {
+    words.add_word(offer.id.value.as_str());
+    words.add("{framework ");
+    words.add(offer.framework_id.value.as_str());
+    add_member(words, "agent", offer.agent_id.value.as_str());
+    add_member(words, "host", offer.hostname.as_str());
+    add_resources(words, offer.resources.as_slice());
+    add_attributes(words, offer.attributes.as_slice());
+    add_executors(words, offer.executor_ids.as_slice());
+    add_allocation(words, offer.allocation_info.as_ref());
+    words.add("}");
+}
+
+/// Whether two offers are the same in words.
+pub(crate) fn is_same_offer(one: &Offer, other: &Offer) -> bool {
+    words_of(one).is_same(&words_of(other))
+}
+
+/// An offer in words.
+fn words_of(offer: &Offer) -> Words {
+    let mut words = Words::new();
+    add_offer(&mut words, offer);
+    words
+}
+
+/// A member of text.
+fn add_member(words: &mut Words, name: &str, value: &str) {
+    words.add_word(name);
+    words.add_word(value);
+}
+
+/// A member of text, where it is there.
+fn add_some(words: &mut Words, name: &str, value: Option<&Text>) {
+    if let Some(value) = value {
+        add_member(words, name, value.as_str());
+    }
+}
+
+/// The resources, each behind its word.
+fn add_resources(words: &mut Words, resources: &[Resource]) {
+    for resource in resources {
+        add_resource(words, resource);
+    }
+}
+
+/// A resource: its name, and its other members in braces.
+fn add_resource(words: &mut Words, resource: &Resource) {
+    add_member(words, "resource", resource.name.as_str());
+    words.add("{");
+    add_resource_value(words, &resource.value);
+    add_some(words, "role", resource.role.as_ref());
+    add_allocation(words, resource.allocation_info.as_ref());
+    add_reservations(words, resource);
+    add_disk(words, resource);
+    add_flag(words, "revocable", resource.revocable);
+    add_flag(words, "shared", resource.shared);
+    add_provider(words, resource.provider_id.as_ref());
+    words.add("}");
+}
+
+/// What there is of a resource, behind its type.
+fn add_resource_value(words: &mut Words, value: &ResourceValue) {
+    match value {
+        ResourceValue::Scalar(scalar) => add_scalar(words, scalar),
+        ResourceValue::Ranges(ranges) => add_ranges(words, ranges),
+        ResourceValue::Set(set) => add_set(words, set),
+    }
+}
+
+/// A number behind its type.
+fn add_scalar(words: &mut Words, scalar: &Scalar) {
+    let mut number = ArrayString::new();
+    scalar.value.write(&mut number);
+    words.add("SCALAR ");
+    words.add(number.as_str());
+}
+
+/// Ranges behind their type.
+fn add_ranges(words: &mut Words, ranges: &Ranges) {
+    words.add("RANGES");
+    for range in ranges.range.as_slice() {
+        add_range(words, range);
+    }
+}
+
+/// The first and the last number of a range.
+fn add_range(words: &mut Words, range: &Range) {
+    words.add(" ");
+    words.add_number(range.first);
+    words.add("-");
+    words.add_number(range.last);
+}
+
+/// Names behind their type.
+fn add_set(words: &mut Words, set: &Set) {
+    words.add("SET");
+    for item in set.item.as_slice() {
+        words.add_word(item.as_str());
+    }
+}
+
+/// The role that something is allocated to, where it is; an allocation to none is `-`.
+fn add_allocation(words: &mut Words, allocation: Option<&Allocation>) {
+    if let Some(allocation) = allocation {
+        add_member(words, "allocated", text_or_none(allocation.role.as_ref()));
+    }
+}
+
+/// A text, or `-`.
+fn text_or_none(text: Option<&Text>) -> &str {
+    match text {
+        Some(text) => text.as_str(),
+        None => "-",
+    }
+}
+
+/// For whom a resource is reserved: in the older form, and then from the outermost role inwards.
+fn add_reservations(words: &mut Words, resource: &Resource) {
+    if let Some(reservation) = &resource.reservation {
+        add_reservation(words, "reservation", reservation.get());
+    }
+    for reservation in resource.reservations.as_slice() {
+        add_reservation(words, "reservations", reservation);
+    }
+}
+
+/// A reservation, in braces behind its word.
+fn add_reservation(words: &mut Words, name: &str, reservation: &Reservation) {
+    words.add_word(name);
+    words.add("{");
+    words.add(text_or_none(reservation.kind.as_ref()));
+    add_some(words, "role", reservation.role.as_ref());
+    add_some(words, "principal", reservation.principal.as_ref());
+    add_labels(words, reservation.labels.as_ref());
+    words.add("}");
+}
+
+/// Labels, where they are there.
+fn add_labels(words: &mut Words, labels: Option<&Labels>) {
+    if let Some(labels) = labels {
+        words.add_word("labels");
+        add_each_label(words, labels.as_slice());
+    }
+}
+
+/// Each label: its key and its value.
+fn add_each_label(words: &mut Words, labels: &[Label]) {
+    for label in labels {
+        words.add_word(label.key.as_str());
+        words.add("=");
+        words.add(text_or_none(label.value.as_ref()));
+    }
+}
+
+/// What disk it is, where it is one.
+fn add_disk(words: &mut Words, resource: &Resource) {
+    if let Some(disk) = &resource.disk {
+        words.add_word("disk{");
+        add_kept(words, disk.get());
+        words.add(" }");
+    }
+}
+
+/// The members of an object that is kept whole.
+fn add_kept(words: &mut Words, kept: &Kept) {
+    if let Json::Map(members) = kept.get() {
+        for (name, value) in members {
+            words.add_word(name.as_str());
+            add_json(words, value);
+        }
+    }
+}
+
+/// A value: a list and an object by how deep they nest.
+fn add_json(words: &mut Words, value: &Json) {
+    match value {
+        Json::Null => words.add_word("null"),
+        Json::Bool(truth) => words.add_word(if *truth { "true" } else { "false" }),
+        Json::Num(number) => words.add_word(number.as_str()),
+        Json::Text(text) => words.add_word(text.as_str()),
+        Json::List(_) | Json::Map(_) => {
+            words.add_word("depth ");
+            words.add_number(value.depth());
+        }
+    }
+}
+
+/// The word of a flag that is set.
+fn add_flag(words: &mut Words, name: &str, is_set: bool) {
+    if is_set {
+        words.add_word(name);
+    }
+}
+
+/// Who provides a resource, where it is told.
+fn add_provider(words: &mut Words, provider: Option<&Boxed<Id>>) {
+    if let Some(id) = provider {
+        add_member(words, "provider", id.get().value.as_str());
+    }
+}
+
+/// The attributes of the agent, each behind its word.
+fn add_attributes(words: &mut Words, attributes: &[Attribute]) {
+    for attribute in attributes {
+        add_attribute(words, attribute);
+    }
+}
+
+/// An attribute: its name, and in braces what it is.
+fn add_attribute(words: &mut Words, attribute: &Attribute) {
+    add_member(words, "attribute", attribute.name.as_str());
+    words.add("{");
+    add_attribute_value(words, &attribute.value);
+    words.add("}");
+}
+
+/// What an attribute is, behind its type.
+fn add_attribute_value(words: &mut Words, value: &AttributeValue) {
+    match value {
+        AttributeValue::Scalar(scalar) => add_scalar(words, scalar),
+        AttributeValue::Ranges(ranges) => add_ranges(words, ranges),
+        AttributeValue::Set(set) => add_set(words, set),
+        AttributeValue::Text(text) => {
+            words.add("TEXT ");
+            words.add(text.value.as_str());
+        }
+    }
+}
+
+/// The executors that the framework has on the agent.
+fn add_executors(words: &mut Words, executors: &[Id]) {
+    for id in executors {
+        add_member(words, "executor", id.value.as_str());
+    }
+}

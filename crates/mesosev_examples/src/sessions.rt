@@ -1,0 +1,122 @@
+//! Sessions: what they hear, the calls that they make, and what they hold then.
+
+use crate::asking::{ask_twice, change, look_at};
+use crate::held::held_by_session;
+use crate::making::make;
+use crate::messages::{call_of, event_of, say_call};
+use crate::texts::text_named;
+use crate::told::Reported;
+use crate::words::Words;
+use mes_msg::{Call, Event};
+use mes_session::Session;
+use std::alloc::Global;
+
+/// Does the steps of a row with a new session.
+pub(crate) fn run(alloc: Global, steps: &str, words: &mut Words) -> Result<(), Reported> {
+    change(Session::new(alloc), |session| {
+        do_steps(alloc, session, steps, words)
+    })
+}
+
+/// Does steps, one behind the other. One that is refused says so; want of memory ends the row.
+fn do_steps(
+    alloc: Global,
+    session: &mut Session,
+    steps: &str,
+    words: &mut Words,
+) -> Result<(), Reported> {
+    for step in steps.split("; ") {
+        let answer = do_step(alloc, session, step, words);
+        words.go_on(answer)?;
+    }
+    Ok(())
+}
+
+/// Does a step: hears an event, makes a call, or tells what is held.
+fn do_step(
+    alloc: Global,
+    session: &mut Session,
+    step: &str,
+    words: &mut Words,
+) -> Result<(), Reported> {
+    match step.split_once(' ') {
+        Some(("hear", name)) => hear(alloc, session, text_named(name), words),
+        Some(("make", name)) => make_like(alloc, session, text_named(name), words),
+        _ => {
+            words.say_words(&held_by_session(session));
+            Ok(())
+        }
+    }
+}
+
+/// Hears the event of a text.
+fn hear(
+    alloc: Global,
+    session: &mut Session,
+    text: &str,
+    words: &mut Words,
+) -> Result<(), Reported> {
+    let event = event_of(alloc, text.as_bytes())?;
+    hear_event(session, &event, words)
+}
+
+/// Hears an event. Where memory is refused, once more.
+fn hear_event(session: &mut Session, event: &Event, words: &mut Words) -> Result<(), Reported> {
+    ask_twice(|| hear_once(session, event), words)
+}
+
+/// Hears an event. Where it is refused, all that looks has to answer as before.
+fn hear_once(session: &mut Session, event: &Event) -> Result<(), Reported> {
+    let before = held_by_session(session);
+    match session.heard(event) {
+        Ok(()) => Ok(()),
+        Err(refusal) => Err(Reported::from(refusal).or_changed(is_still(session, &before))),
+    }
+}
+
+/// Makes a call like the one of a text, and tells it.
+fn make_like(
+    alloc: Global,
+    session: &mut Session,
+    text: &str,
+    words: &mut Words,
+) -> Result<(), Reported> {
+    look_at(call_of(alloc, text)?, |like| {
+        tell_made(alloc, session, like, words)
+    })
+}
+
+/// Makes a call like this one, and tells it.
+fn tell_made(
+    alloc: Global,
+    session: &mut Session,
+    like: &Call,
+    words: &mut Words,
+) -> Result<(), Reported> {
+    let made = make_call(alloc, session, like, words)?;
+    look_at(made, |call| say_call(alloc, call, words))
+}
+
+/// Makes a call like this one. Where memory is refused, once more.
+fn make_call(
+    alloc: Global,
+    session: &mut Session,
+    like: &Call,
+    words: &mut Words,
+) -> Result<Call, Reported> {
+    ask_twice(|| make_once(alloc, session, like), words)
+}
+
+/// Makes a call like this one. Where it is refused, all that looks has to answer as before.
+fn make_once(alloc: Global, session: &mut Session, like: &Call) -> Result<Call, Reported> {
+    let before = held_by_session(session);
+    match make(alloc, session, like) {
+        Ok(call) => Ok(call),
+        Err(refusal) => Err(Reported::from(refusal).or_changed(is_still(session, &before))),
+    }
+}
+
+/// Whether a session holds this.
+fn is_still(session: &Session, before: &Words) -> bool {
+    held_by_session(session).is_same(before)
+}

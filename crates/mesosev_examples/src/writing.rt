@@ -1,0 +1,157 @@
+//! Events, chunks, calls and heads that are written.
+
+use crate::asking::look_at;
+use crate::bytes::{Bytes, bytes_of};
+use crate::messages::call_of;
+use crate::told::Reported;
+use crate::words::Words;
+use arrayvec::ArrayVec;
+use http::StatusCode;
+use mes_double_http::{StreamId, write_call, write_ok, write_status};
+use mes_frame::{FromStd, WriteFault, WriteFaultKind, write_chunked};
+use mes_msg::{Call, Event, Limit, SendFault};
+use mes_stream::{write_plain, write_stream};
+use std::alloc::Global;
+use std::io::{self, ErrorKind, Write};
+
+/// How many bytes a writer takes before it fails.
+const SUCCESS: usize = 7;
+
+/// The id of the stream.
+const STREAM: &str = "s1";
+
+/// The host that a call is for.
+const HOST: &str = "127.0.0.1:5050";
+
+/// A writer that takes so many bytes and then fails.
+#[derive(Drop)]
+struct Failing {
+    taken: ArrayVec<u8, SUCCESS>,
+}
+
+impl Write for Failing {
+    fn write(&mut self, bytes: &[u8]) -> io::Result<usize> {
+        match self.taken.write(bytes) {
+            Ok(0) if !bytes.is_empty() => Err(io::Error::from(ErrorKind::StorageFull)),
+            taken => taken,
+        }
+    }
+
+    fn flush(&mut self) -> io::Result<()> {
+        Ok(())
+    }
+}
+
+/// Writes what a row says, and tells what went out.
+pub(crate) fn answer(alloc: Global, row: &str, words: &mut Words) -> Result<(), Reported> {
+    let (what, text) = row.split_once(' ').unwrap_or((row, ""));
+    match what {
+        "plain" => write_heartbeat(alloc, words),
+        "chunks" => write_chunks(alloc, words),
+        "failing" => write_to_failing(text, words),
+        "stream-head" => write_stream_head(words),
+        "answer-head" => {
+            write_answer_head(words);
+            Ok(())
+        }
+        _ => write_request(alloc, text, words),
+    }
+}
+
+/// Tells what went out; where memory was refused, nothing may have.
+pub(crate) fn tell_sent(
+    answer: Result<(), SendFault>,
+    written: &Bytes,
+    words: &mut Words,
+) -> Result<(), Reported> {
+    match answer {
+        Ok(()) => {
+            words.say_bytes(written.as_slice());
+            Ok(())
+        }
+        Err(fault) => Err(Reported::from(fault).or_changed(written.is_empty())),
+    }
+}
+
+/// A heartbeat is written as plain RecordIO.
+fn write_heartbeat(alloc: Global, words: &mut Words) -> Result<(), Reported> {
+    let mut written = Bytes::new();
+    let mut sink = FromStd::new(&mut written);
+    let answer = write_plain(alloc, &mut sink, &[Event::Heartbeat], Limit::USUAL);
+    tell_sent(answer, &written, words)
+}
+
+/// A heartbeat is written as a body in chunks of one byte.
+fn write_chunks(alloc: Global, words: &mut Words) -> Result<(), Reported> {
+    let mut written = Bytes::new();
+    let mut sink = FromStd::new(&mut written);
+    let answer = write_stream(alloc, &mut sink, &[Event::Heartbeat], Limit::USUAL, 1);
+    tell_sent(answer, &written, words)
+}
+
+/// A call is written as a request.
+fn write_request(alloc: Global, text: &str, words: &mut Words) -> Result<(), Reported> {
+    look_at(call_of(alloc, text)?, |call| {
+        tell_request(alloc, call, words)
+    })
+}
+
+/// Writes a call as a request, and tells what went out.
+fn tell_request(alloc: Global, call: &Call, words: &mut Words) -> Result<(), Reported> {
+    let mut written = Bytes::new();
+    let answer = write_call_to(alloc, call, &mut written);
+    tell_sent(answer, &written, words)
+}
+
+/// Writes a call for the stream.
+fn write_call_to(alloc: Global, call: &Call, written: &mut Bytes) -> Result<(), SendFault> {
+    let id = StreamId::new(STREAM);
+    let mut sink = FromStd::new(written);
+    write_call(alloc, &mut sink, HOST, id.as_ref(), call)
+}
+
+/// A body is written to a writer that fails, in one chunk.
+fn write_to_failing(text: &str, words: &mut Words) -> Result<(), Reported> {
+    let bytes = bytes_of(text)?;
+    let mut failing = Failing {
+        taken: ArrayVec::new(),
+    };
+    let mut sink = FromStd::new(&mut failing);
+    let answer = write_chunked(&mut sink, bytes.as_slice(), 4_096);
+    tell_stopped(answer, words);
+    words.say_bytes(failing.taken.as_slice());
+    Ok(())
+}
+
+/// Tells how many bytes went out, and why no more did.
+fn tell_stopped(answer: Result<(), WriteFault>, words: &mut Words) {
+    if let Err(fault) = answer {
+        words.say_number("sent", fault.sent);
+        words.add_word(match fault.why {
+            WriteFaultKind::Device => "Device",
+            WriteFaultKind::Zero => "Zero",
+        });
+    }
+}
+
+/// The head before a stream is written, which takes no memory.
+fn write_stream_head(words: &mut Words) -> Result<(), Reported> {
+    let Some(id) = StreamId::new(STREAM) else {
+        return Err(Reported::fault("no id"));
+    };
+    let mut written = Bytes::new();
+    let mut sink = FromStd::new(&mut written);
+    let answer = write_ok(&mut sink, &id);
+    tell_stopped(answer, words);
+    words.say_bytes(written.as_slice());
+    Ok(())
+}
+
+/// The head of an answer to another call is written, which takes no memory.
+fn write_answer_head(words: &mut Words) {
+    let mut written = Bytes::new();
+    let mut sink = FromStd::new(&mut written);
+    let answer = write_status(&mut sink, StatusCode::ACCEPTED);
+    tell_stopped(answer, words);
+    words.say_bytes(written.as_slice());
+}

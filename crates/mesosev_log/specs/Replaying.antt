@@ -1,0 +1,39 @@
+-- What `replay` does: the session of a log is reported.
+use Rattle.std.specs.Prelude.{◌≡◌, ℕ, ◌⊎◌, List, [], ◌∷◌, ◌++◌, length, Result, Ok, Err}
+use Rattle.std.specs.Io.KnownBytes.{Consumes}
+use Rattle.mes_frame.specs.Devices.{Device}
+use Rattle.mes_msg.specs.declared.entry.Entry.{Entry}
+use Rattle.mes_stream.specs.Lines.{fault_text}
+use Rattle.mes_stream.specs.declared.fault.Report.{Report}
+use Rattle.mes_stream.specs.declared.fault.Stop.{Stop}
+use Rattle.mes_session.specs.Logs.{EndsLog}
+use Rattle.mes_session.specs.Held.{Held}
+use Rattle.mes_session.specs.Refusal.{Refusal}
+use Rattle.mes_session.specs.History.{Represents, IsLegal, StopsAt}
+use Rattle.mes_session.specs.Printed.{refusal_text, report_text}
+use Rattle.mesosev_stream.specs.Printing.{LacksMemory, Prints}
+use Rattle.mesosev_stream.specs.declared.outcome.RunOutcome.{RunOutcome}
+use Rattle.mesosev_stream.specs.declared.limits.TheConstants.{MAX_READS}
+
+-- the bytes w were taken from the input, and read as the entries of a log up to the outcome
+abbrev pub ReadsLogInput : ℕ → Device → Device → List ℕ → List Entry → Result Report Stop → Type 0
+ReadsLogInput limit input rest w entries outcome = Consumes input.bytes rest.bytes w × EndsLog limit MAX_READS input.counts rest.counts rest.bytes w entries outcome
+
+-- The session that they lead to, none of whose calls is refused, was reported, or memory was refused for its report. Or one of them is
+-- the first that is not taken, a call that is refused or an event that memory was refused for: that was told.
+abbrev pub ReplaysEntries : List Entry → Device → Device → RunOutcome → Type 0
+ReplaysEntries entries out printed ended =
+    ((held : Held) × IsLegal entries × Represents entries held
+    × (Prints out printed (report_text (length entries) held) 0 ended ⊎ LacksMemory out printed ended))
+    ⊎ ((before : ℕ) × (refusal : Refusal) × StopsAt entries before refusal × Prints out printed (refusal_text refusal before ++ 10 ∷ []) 1 ended)
+
+-- what became of the entries that were read: replayed, where the log was read to its end; else the fault was told
+abbrev pub ReplaysRead : List Entry → Result Report Stop → Device → Device → RunOutcome → Type 0
+ReplaysRead entries (Ok report) out printed ended = ReplaysEntries entries out printed ended
+ReplaysRead entries (Err stop) out printed ended = Prints out printed (fault_text stop.fault stop.used ++ 10 ∷ []) 1 ended
+
+-- the bytes w were taken from the input and read as the entries of a log up to the outcome, and that became of them
+abbrev pub Replays : ℕ → Device → Device → Device → Device → RunOutcome → Type 0
+Replays limit input rest out printed ended =
+    (w : List ℕ) × (entries : List Entry) × (outcome : Result Report Stop) × ReadsLogInput limit input rest w entries outcome
+    × ReplaysRead entries outcome out printed ended

@@ -1,0 +1,25 @@
+use Rattle.mes_frame.specs.Devices.{Device, device_of}
+use Rattle.mesosev_net.specs.ServedTurns.{Serves, ServesEvents}
+use Rattle.mesosev_net.proofs.GivenLemmas.{given_events, given_fault}
+use Rattle.mesosev_net.proofs.serving.serve.Goals as goal
+
+pub returns-in-Ok : goal.returns-in-Ok
+unfolding Serves
+returns-in-Ok g c =
+    let input : Device = device_of g.I.Source.left g.I.Source.counts c.args.input.now in
+    let rest : Device = device_of g.I.Source.left g.I.Source.counts c.read_plain.new.reader in
+    let out : Device = device_of g.O.Sink.written g.O.Sink.counts c.args.out.now in
+    let printed : Device = device_of g.O.Sink.written g.O.Sink.counts c.serve_events.new.out in
+    given_events (λ events. ServesEvents c.args.stream c.args.count events out printed c.serve_events.result) input rest out printed c.serve_events.result
+    c.new-events.result.items c.read_plain.new.events.items c.read_plain.result c.in-Ok.field-0 c.read_plain.ensures.reads c.new-events.ensures.items c.in-Ok.is
+    c.as_slice.result.now c.as_slice.ensures.value c.serve_events.ensures
+
+pub returns : goal.returns
+unfolding Serves
+returns g c =
+    let input : Device = device_of g.I.Source.left g.I.Source.counts c.args.input.now in
+    let rest : Device = device_of g.I.Source.left g.I.Source.counts c.read_plain.new.reader in
+    let out : Device = device_of g.O.Sink.written g.O.Sink.counts c.args.out.now in
+    let printed : Device = device_of g.O.Sink.written g.O.Sink.counts c.print_fault.new.out in
+    given_fault (λ events. ServesEvents c.args.stream c.args.count events out printed c.print_fault.result) input rest out printed c.print_fault.result
+    c.new-events.result.items c.read_plain.new.events.items c.read_plain.result c.in-Err.stop c.read_plain.ensures.reads c.in-Err.is c.print_fault.ensures

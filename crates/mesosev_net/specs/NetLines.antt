@@ -1,0 +1,25 @@
+-- The lines of a socket that could not be had.
+use Rattle.std.specs.Prelude.{◌≡◌, ◌⊎◌, ℕ, List, codes}
+use Rattle.mes_frame.specs.Devices.{Device}
+use Rattle.mesosev_stream.specs.Printing.{LacksMemory, Prints}
+use Rattle.mesosev_stream.specs.declared.outcome.RunOutcome.{RunOutcome}
+
+-- the address could not be listened on
+abbrev pub bind_failed : List ℕ
+bind_failed = codes "net bind failed\n"
+
+-- no connection could be taken
+abbrev pub accept_failed : List ℕ
+accept_failed = codes "net accept failed\n"
+
+-- the peer could not be reached
+abbrev pub connect_failed : List ℕ
+connect_failed = codes "net connect failed\n"
+
+-- one of the three
+abbrev pub IsNetLine : List ℕ → Type 0
+IsNetLine line = (line ≡ bind_failed) ⊎ (line ≡ accept_failed) ⊎ (line ≡ connect_failed)
+
+-- the line was printed, with the status 1
+abbrev pub ReportsNet : List ℕ → Device → Device → RunOutcome → Type 0
+ReportsNet line out printed ended = Prints out printed line 1 ended

@@ -1,0 +1,56 @@
+-- A test master that serves one connection after the other.
+use Rattle.std.specs.Prelude.{◌≡◌, ◌⊎◌, ℕ, ◌+◌, ◌<◌, zero, suc, List, Result, Ok, Err}
+use Rattle.mes_msg.specs.Event.{Event}
+use Rattle.mes_frame.specs.Devices.{Device}
+use Rattle.mes_frame.specs.declared.write.WriteFault.{WriteFault}
+use Rattle.mesosev_serve.specs.Masters.{MasterState}
+use Rattle.mesosev_serve.specs.Runs.{new_master}
+use Rattle.mesosev_net.specs.Given.{Given, test_framework}
+use Rattle.mesosev_net.specs.NetLines.{ReportsNet, accept_failed, bind_failed}
+use Rattle.mesosev_net.specs.StreamIds.{ids_from}
+use Rattle.mesosev_net.specs.declared.serving.TheConstants.{STREAM_CHUNK}
+use Rattle.mesosev_stream.specs.Printing.{LacksMemory, ended_after}
+use Rattle.mesosev_stream.specs.declared.outcome.RunOutcome.{RunOutcome}
+use Rattle.mesosev_stream.specs.declared.outcome.RunOutcome.TheVariants.{Status, OutputFailed}
+use Rattle.mesosev_serve.specs.Serving.{ServesOne}
+use Rattle.mesosev_serve.specs.declared.connection.Served.{Served}
+use Rattle.mes_stream.specs.Stream.{saturated}
+
+-- a connection over some socket was served
+pub record ServesSome (most : ℕ) (before : MasterState) (given : List Event) (out printed : Device) (later : MasterState) (served : Result Served WriteFault) : Type 0 where
+  pub input : Device
+  pub rest : Device
+  pub writer : Device
+  pub written : Device
+  pub serves : ServesOne before given most input rest writer written out printed later served
+
+-- The next connection was served, and so many bytes were printed of it. Or none could be taken, which was told, or the output failed.
+abbrev pub ServesNext : MasterState → List Event → Device → Device → MasterState → Result ℕ RunOutcome → Type 0
+ServesNext before given out printed later (Ok bytes) = (served : Served) × ServesSome STREAM_CHUNK before given out printed later (Ok served) × (bytes ≡ served.printed)
+ServesNext before given out printed later (Err ended) =
+    (ReportsNet accept_failed out printed ended × (later ≡ before))
+    ⊎ ((fault : WriteFault) × ServesSome STREAM_CHUNK before given out printed later (Err fault) × (ended ≡ OutputFailed fault.sent))
+
+-- so many connections were served, one after the other, which leaves the master so, and so many bytes were printed of them
+unfoldable pub Turned : ℕ → MasterState → List Event → Device → Device → MasterState → ℕ → Type 0
+Turned zero before given out printed later bytes = (later ≡ before) × (printed ≡ out) × (bytes ≡ 0)
+Turned (suc n) before given out printed later bytes =
+    (between : MasterState) × (reported : Device) × (sum : ℕ) × (more : ℕ) × Turned n before given out reported between sum
+    × ServesNext between given reported printed later (Ok more) × (bytes ≡ saturated (sum + more))
+
+-- all of so many were served; or one of them was not, which ended it behind what was printed of those before
+abbrev pub ServesTurns : MasterState → List Event → ℕ → Device → Device → RunOutcome → Type 0
+ServesTurns before given count out printed ended =
+    ((later : MasterState) × (bytes : ℕ) × Turned count before given out printed later bytes × (ended ≡ Status 0))
+    ⊎ ((n : ℕ) × (between : MasterState) × (reported : Device) × (sum : ℕ) × (later : MasterState) × (last : RunOutcome) × (n < count)
+    × Turned n before given out reported between sum × ServesNext between given reported printed later (Err last) × (ended ≡ ended_after sum last))
+
+-- a test master with these ids and events for its streams
+abbrev pub ServesEvents : List ℕ → ℕ → List Event → Device → Device → RunOutcome → Type 0
+ServesEvents first count given out printed ended =
+    LacksMemory out printed ended ⊎ ReportsNet bind_failed out printed ended
+    ⊎ ServesTurns (new_master test_framework (ids_from first count)) given count out printed ended
+
+-- the input was read, and of its events a test master was served
+unfoldable pub Serves : List ℕ → ℕ → Device → Device → Device → Device → RunOutcome → Type 0
+Serves first count input rest out printed ended = Given (λ events. ServesEvents first count events out printed ended) input rest out printed ended

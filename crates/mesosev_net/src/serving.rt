@@ -1,0 +1,171 @@
+//! A test master that serves one connection after the other.
+
+ghost use Rattle.std.specs.Prelude.{◌≡◌, IfOk};
+ghost use Rattle.mes_frame.specs.Devices.{device_of};
+ghost use Rattle.mesosev_serve.specs.Runs.{new_master};
+ghost use Rattle.mesosev_net.specs.Given.{test_framework};
+ghost use Rattle.mesosev_net.specs.ServedTurns.{Serves, ServesEvents, ServesNext, ServesTurns};
+ghost use Rattle.mesosev_net.specs.StreamIds.{ids_from};
+
+use crate::framework::framework_id;
+use crate::ids::stream_ids;
+use crate::lines::{ACCEPT_FAILED, BIND_FAILED};
+use mes_frame::{FromStd, Limit, Sink, Source};
+use mes_json::NoMemory;
+use mes_msg::Event;
+use mes_stream::read_plain;
+use mesosev_serve::{Master, serve_one};
+use mesosev_stream::{
+    ChunkSize, FAULT_STATUS, MAX_READS, RunOutcome, SUCCESS, out_of_memory, print_fault, print_text,
+};
+use std::alloc::{AllocGlobal, Global};
+use std::io::Read;
+use std::net::{Net, SocketAddr, TcpListener, TcpStream};
+use uuid::Uuid;
+
+/// The bytes of each chunk of a stream.
+pub const STREAM_CHUNK: u32 = 4_096;
+
+/// The most bytes of a request that are passed over by one read.
+const UNREAD_READ: usize = 4_096;
+
+/// The most reads that pass over a request: 16 MiB.
+const UNREAD_READS: u32 = 4_096;
+
+/// Reads events from the input as plain RecordIO, and then serves a test master of the framework `F1` on this port of 127.0.0.1 for so many
+/// connections, one after the other; its streams have this id and those that count up from it, and these events, in chunks of
+/// `STREAM_CHUNK` bytes. Of each connection a line is printed, as `serve_one` does. A connection is closed before the next one is taken,
+/// whatever became of it, and what its client does ends nothing. Tells the first fault of the input, or why there is no connection, with the
+/// status 1. Holds all events, and those that a stream sends.
+pub fn serve<R, I: Source, O: Sink>(
+    rt: &R,
+    port: u16,
+    count: u16,
+    stream: Uuid,
+    input: &mut I,
+    out: &mut O,
+) -> RunOutcome
+where
+    R: AllocGlobal + Net<Listener = TcpListener, Stream = TcpStream>,
+    ensures { Serves stream count (device_of I.left I.counts input.old) (device_of I.left I.counts input.new)
+        (device_of O.written O.counts out.old) (device_of O.written O.counts out.new) result }
+{
+    let alloc = rt.alloc();
+    let mut events = Vec::new(alloc);
+    match read_plain(alloc, input, Limit::USUAL, MAX_READS, &mut events) {
+        Ok(_) => serve_events(rt, port, count, stream, events.as_slice(), out),
+        Err(stop) => print_fault(out, &stop.fault, stop.used),
+    }
+}
+
+/// Serves a test master of these events on this port.
+fn serve_events<R, O: Sink>(
+    rt: &R,
+    port: u16,
+    count: u16,
+    stream: Uuid,
+    events: &[Event],
+    out: &mut O,
+) -> RunOutcome
+where
+    R: AllocGlobal + Net<Listener = TcpListener, Stream = TcpStream>,
+    ensures { ServesEvents stream count events.now (device_of O.written O.counts out.old) (device_of O.written O.counts out.new) result }
+{
+    let alloc = rt.alloc();
+    let Ok(mut master) = test_master(alloc, stream, count) else {
+        return out_of_memory(out);
+    };
+    match TcpListener::bind(rt, SocketAddr::from(([127, 0, 0, 1], port))) {
+        Ok(listener) => serve_turns(alloc, &listener, &mut master, events, count, out),
+        Err(_) => print_text(out, BIND_FAILED, FAULT_STATUS),
+    }
+}
+
+/// A test master whose streams have this id and those that count up from it, so many.
+pub(crate) fn test_master(alloc: Global, stream: Uuid, count: u16) -> Result<Master, NoMemory>
+    ensures { IfOk result (λ master. master ≡ new_master test_framework (ids_from stream count)) }
+{
+    let ids = stream_ids(alloc, stream, count)?;
+    let framework = framework_id(alloc)?;
+    Ok(Master::new(alloc, framework, ids))
+}
+
+/// Serves so many connections, one after the other.
+fn serve_turns<O: Sink>(
+    alloc: Global,
+    listener: &TcpListener,
+    master: &mut Master,
+    events: &[Event],
+    count: u16,
+    out: &mut O,
+) -> RunOutcome
+    ensures { ServesTurns master.old events.now count (device_of O.written O.counts out.old) (device_of O.written O.counts out.new) result }
+{
+    let mut printed: u64 = 0;
+    for _ in 0..count {
+        match serve_next(alloc, listener, master, events, out) {
+            Ok(bytes) => printed = printed.saturating_add(bytes),
+            Err(ended) => return ended.following(printed),
+        }
+    }
+    RunOutcome::Status(SUCCESS)
+}
+
+/// Takes the next connection, serves it, and closes it. Answers how many bytes were printed of it.
+///
+/// Errors: no connection could be taken, which was told; or the output failed.
+fn serve_next<O: Sink>(
+    alloc: Global,
+    listener: &TcpListener,
+    master: &mut Master,
+    events: &[Event],
+    out: &mut O,
+) -> Result<u64, RunOutcome>
+    ensures { ServesNext master.old events.now (device_of O.written O.counts out.old) (device_of O.written O.counts out.new) master.new result }
+{
+    let Ok((stream, _peer)) = listener.accept() else {
+        return Err(print_text(out, ACCEPT_FAILED, FAULT_STATUS));
+    };
+    let mut reader = FromStd::new(&stream);
+    let mut writer = FromStd::new(&stream);
+    let served = serve_one(
+        alloc,
+        master,
+        events,
+        stream_chunk(),
+        &mut reader,
+        &mut writer,
+        out,
+    );
+    pass_over_unread(&stream);
+    match served {
+        Ok(served) => Ok(served.printed),
+        Err(fault) => Err(RunOutcome::OutputFailed(fault.sent)),
+    }
+}
+
+/// Takes what came of a request behind what was read of it, as far as it is there. A socket that is closed with unread bytes is reset, and
+/// its client may lose the answer. Never waits.
+fn pass_over_unread(stream: &TcpStream) {
+    if stream.set_nonblocking(true).is_err() {
+        return;
+    }
+    let mut unread = stream;
+    let mut buffer = [0u8; UNREAD_READ];
+    for _ in 0..UNREAD_READS {
+        match unread.read(&mut buffer) {
+            Ok(count) if count > 0 => {}
+            _ => return,
+        }
+    }
+}
+
+/// The size of the chunks of a stream.
+fn stream_chunk() -> ChunkSize
+    ensures { result ≡ STREAM_CHUNK }
+{
+    match ChunkSize::new(STREAM_CHUNK) {
+        Some(size) => size,
+        None => unreachable!(),
+    }
+}

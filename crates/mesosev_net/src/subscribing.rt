@@ -1,0 +1,49 @@
+//! A scheduler that subscribes to a master.
+
+ghost use Rattle.mes_frame.specs.Devices.{device_of};
+ghost use Rattle.mesosev_net.specs.Subscribed.{Subscribes};
+
+use crate::framework::framework_info;
+use crate::lines::CONNECT_FAILED;
+use mes_double_http::Host;
+use mes_frame::{FromStd, Sink};
+use mes_json::Text;
+use mesosev_serve::subscribe_over;
+use mesosev_stream::{FAULT_STATUS, RunOutcome, out_of_memory, print_text};
+use std::alloc::AllocGlobal;
+use std::net::{Net, TcpListener, TcpStream};
+
+/// Connects to the host, subscribes a framework of this user and name there, and shows the events of the stream that comes as its answer, in
+/// at most so many reads behind its head, as `subscribe_over` does. Tells where the host could not be reached, with the status 1.
+pub fn subscribe<R, O: Sink>(
+    rt: &R,
+    to: &Host,
+    user: &Text,
+    name: &Text,
+    reads: u32,
+    out: &mut O,
+) -> RunOutcome
+where
+    R: AllocGlobal + Net<Listener = TcpListener, Stream = TcpStream>,
+    ensures { Subscribes to.now user.now name.now reads (device_of O.written O.counts out.old) (device_of O.written O.counts out.new) result }
+{
+    let alloc = rt.alloc();
+    let Ok(info) = framework_info(alloc, user.as_str(), name.as_str()) else {
+        return out_of_memory(out);
+    };
+    let host = to.as_str();
+    let Ok(stream) = TcpStream::connect(rt, host) else {
+        return print_text(out, CONNECT_FAILED, FAULT_STATUS);
+    };
+    let mut reader = FromStd::new(&stream);
+    let mut writer = FromStd::new(&stream);
+    subscribe_over(
+        alloc,
+        &info,
+        host,
+        &mut reader,
+        &mut writer,
+        u64::from(reads),
+        out,
+    )
+}

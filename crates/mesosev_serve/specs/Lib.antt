@@ -1,0 +1,10 @@
+pub use Rattle.mes_double_master.specs.Masters
+pub use Rattle.mes_double_master.specs.Runs
+pub mod Opening
+pub mod OneStream
+pub mod Asking
+pub mod Replying
+pub mod Writing
+pub mod Lines
+pub mod Serving
+pub mod Subscribing

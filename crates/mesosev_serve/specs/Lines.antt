@@ -1,0 +1,65 @@
+-- The lines that are printed of a connection.
+use Rattle.std.specs.Prelude.{◌≡◌, ℕ, Bool, true, false, List, ◌++◌, length, Result, Ok, Err, codes, decimal}
+use Rattle.mes_msg.specs.Call.{Call}
+use Rattle.mes_msg.specs.Call.TheVariants as of
+use Rattle.mes_frame.specs.Devices.{Device}
+use Rattle.mes_frame.specs.declared.write.WriteFault.{WriteFault}
+use Rattle.mesosev_serve.specs.Writing.{Stopped, Wrote}
+use Rattle.mesosev_serve.specs.declared.request.ParsedRequest.{ParsedRequest}
+use Rattle.mesosev_serve.specs.declared.request.ParsedRequest.TheVariants.{Calls}
+use Rattle.mesosev_serve.specs.declared.reply.Reply.{Reply}
+use Rattle.mesosev_serve.specs.declared.reply.Reply.TheVariants.{Nothing, Status, Stream}
+use Rattle.mesosev_serve.specs.declared.connection.Served.{Served}
+use Rattle.mesosev_serve.specs.declared.writing.SendError.{SendError}
+use Rattle.mesosev_serve.specs.declared.writing.SendError.TheVariants as unsent
+
+-- the name of the call's type
+abbrev pub call_name : Call → List ℕ
+call_name (of.Subscribe framework body) = codes "SUBSCRIBE"
+call_name (of.Accept framework body) = codes "ACCEPT"
+call_name (of.Decline framework body) = codes "DECLINE"
+call_name (of.Revive framework) = codes "REVIVE"
+call_name (of.Kill framework body) = codes "KILL"
+call_name (of.Acknowledge framework body) = codes "ACKNOWLEDGE"
+call_name (of.Reconcile framework body) = codes "RECONCILE"
+call_name (of.Teardown framework) = codes "TEARDOWN"
+call_name (of.Suppress framework) = codes "SUPPRESS"
+call_name (of.Shutdown framework body) = codes "SHUTDOWN"
+call_name (of.Message framework body) = codes "MESSAGE"
+
+-- `-` where no call was asked
+abbrev pub asked_name : ParsedRequest → List ℕ
+asked_name (Calls stream c) = call_name c
+asked_name _ = codes "-"
+
+-- the status that is answered, or `-`
+abbrev pub reply_name : Reply → List ℕ
+reply_name Nothing = codes "-"
+reply_name (Status code) = decimal code
+reply_name (Stream id events) = codes "200"
+
+-- `202 REVIVE`, `404 -`
+abbrev pub served_line : List ℕ → List ℕ → List ℕ
+served_line status name = status ++ codes " " ++ name ++ codes "\n"
+
+abbrev pub write_failed_line : List ℕ
+write_failed_line = codes "net write failed\n"
+
+-- a reply that can't be encoded or written has one more line; where memory was refused, nothing was answered
+abbrev pub served_lines : {T : Type 0} → Reply → ParsedRequest → Result T SendError → List ℕ
+served_lines reply asked (Ok done) = served_line (reply_name reply) (asked_name asked)
+served_lines reply asked (Err unsent.NoMemory) = served_line (codes "-") (asked_name asked)
+served_lines reply asked (Err unsent.Encode) = served_line (reply_name reply) (asked_name asked) ++ write_failed_line
+served_lines reply asked (Err unsent.Write) = served_line (reply_name reply) (asked_name asked) ++ write_failed_line
+
+-- whether all that was to be answered went out: nothing was, where memory was refused
+abbrev pub is_answered : {T : Type 0} → Result T SendError → Bool
+is_answered (Ok done) = true
+is_answered (Err unsent.NoMemory) = true
+is_answered (Err unsent.Encode) = false
+is_answered (Err unsent.Write) = false
+
+-- The text was printed, and its bytes are counted; what was to be answered went out, or not. Or the output stopped in the text.
+abbrev pub Reports : List ℕ → Bool → Device → Device → Result Served WriteFault → Type 0
+Reports text answered old new (Ok served) = Wrote old new text × (served.answered ≡ answered) × (served.printed ≡ length text)
+Reports text answered old new (Err fault) = Stopped old new text fault

@@ -1,0 +1,90 @@
+-- One stream, by its events alone: which events go out, and which event may follow those before it.
+use Rattle.std.specs.Prelude.{◌≡◌, ◌⊎◌, Bool, true, false, List, [], ◌∷◌, ◌++◌, Option, Some, None}
+use Rattle.std.specs.List.{flat_map, list_any}
+use Rattle.mes_model.specs.Id.{Id}
+use Rattle.mes_model.specs.OwedKey.{OwedKey}
+use Rattle.mes_model.specs.TaskStatus.{TaskStatus}
+use Rattle.mes_model.specs.Owed.{owed_key_of}
+use Rattle.mes_msg.specs.Event.{Event}
+use Rattle.mes_msg.specs.Event.TheVariants as event
+use Rattle.mes_double_master.specs.Masters.{MasterState, same_id, is_unacknowledged, subscribed_event}
+use Rattle.mes_double_master.specs.Sending.{offer_ids, is_duplicate}
+use Rattle.mesosev_serve.specs.declared.reply.Reply.{Reply}
+use Rattle.mesosev_serve.specs.declared.reply.Reply.TheVariants.{Stream}
+
+-- `part` has some events of `whole`, in the same order. Each event of `whole` is used at most once.
+abbrev pub IsSublist : List Event → List Event → Type 0
+IsSublist part [] = part ≡ []
+IsSublist part (e ∷ whole) = IsSublist part whole ⊎ ((rest : List Event) × (part ≡ e ∷ rest) × IsSublist rest whole)
+
+-- ---- what the events of a stream did so far
+
+-- the identifiers of the offers that an event makes
+abbrev pub offers_by : Event → List Id
+offers_by (event.Offers offers) = offer_ids offers
+offers_by _ = []
+
+abbrev pub offered_in : List Event → List Id
+offered_in events = flat_map offers_by events
+
+-- the identifier of the offer that an event rescinds
+abbrev pub rescinds_by : Event → List Id
+rescinds_by (event.Rescind body) = body.offer_id ∷ []
+rescinds_by _ = []
+
+abbrev pub rescinded_in : List Event → List Id
+rescinded_in events = flat_map rescinds_by events
+
+abbrev pub owing_of : TaskStatus → Option OwedKey → List (OwedKey × TaskStatus)
+owing_of status None = []
+owing_of status (Some key) = (key, status) ∷ []
+
+-- the update of an event, if it requires an acknowledgement
+abbrev pub owing_by : Event → List (OwedKey × TaskStatus)
+owing_by (event.Update body) = owing_of body.status (owed_key_of body.status)
+owing_by _ = []
+
+abbrev pub owing_in : List Event → List (OwedKey × TaskStatus)
+owing_in events = flat_map owing_by events
+
+abbrev pub rescind_of : Id → Event
+rescind_of id = event.Rescind (record { offer_id = id })
+
+-- ---- which event may follow
+
+abbrev pub is_among : Id → List Id → Bool
+is_among d ids = list_any (same_id d) ids
+
+-- no update before it requires the same acknowledgement
+abbrev pub IsNewUpdate : List (OwedKey × TaskStatus) → Option OwedKey → Type 0
+IsNewUpdate owing None = Unit {0}
+IsNewUpdate owing (Some key) = is_unacknowledged owing key ≡ false
+
+-- An event may follow the events `front` on a stream of a master that was in the state m before the stream. There is no second
+-- SUBSCRIBED. An offer has a new identifier: the master never made an offer with it, neither on this stream nor before. A RESCIND names an
+-- offer that was made on this stream and that no RESCIND named yet. An UPDATE that requires an acknowledgement is new in the same way.
+abbrev pub MayFollow : MasterState → List Event → Event → Type 0
+MayFollow m front (event.Subscribed body) = ⊥
+MayFollow m front (event.Offers offers) = is_duplicate (m.offered ++ offered_in front) (offer_ids offers) ≡ false
+MayFollow m front (event.Rescind body) = (is_among body.offer_id (offered_in front) ≡ true) × (is_among body.offer_id (rescinded_in front) ≡ false)
+MayFollow m front (event.Update body) = IsNewUpdate (m.owing ++ owing_in front) (owed_key_of body.status)
+MayFollow m front _ = Unit {0}
+
+-- each of the events may follow those before it
+abbrev pub AllFollow : MasterState → List Event → List Event → Type 0
+AllFollow m front [] = Unit {0}
+AllFollow m front (e ∷ events) = MayFollow m front e × AllFollow m (front ++ e ∷ []) events
+
+-- ---- the whole stream
+
+-- The stream begins with SUBSCRIBED. The other events are some of the given events, in their order, each at most once.
+pub record IsOneStream (m : MasterState) (given events : List Event) : Type 0 where
+  pub rest : List Event
+  pub begins : events ≡ subscribed_event m.framework ∷ rest
+  pub some : IsSublist rest given
+  pub follow : AllFollow m [] rest
+
+-- the same of a reply; one that has no stream meets it
+abbrev pub IsStreamReply : MasterState → List Event → Reply → Type 0
+IsStreamReply m given (Stream id events) = IsOneStream m given events
+IsStreamReply m given _ = Unit {0}

@@ -1,0 +1,64 @@
+-- What a connection is answered, and what that makes of the master.
+use Rattle.std.specs.Prelude.{◌≡◌, ℕ, ◌⊎◌, ◌==◌, if◌then◌else◌, List, ◌++◌, Option, None, Some}
+use Rattle.mes_msg.specs.Event.{Event}
+use Rattle.mes_double_http.specs.declared.fault.HeadFault.{HeadFault}
+use Rattle.mes_double_http.specs.declared.fault.HeadFault.TheVariants as fault
+use Rattle.mes_double_master.specs.Masters.{MasterState, MasterAnswer, handled}
+use Rattle.mes_double_master.specs.Memory.{MayWantMemory}
+use Rattle.mes_msg.specs.RecordFault.{RecordFault}
+use Rattle.mes_msg.specs.RecordFault.TheVariants as unread
+use Rattle.mesosev_serve.specs.Opening.{Streamed, and_all_given, opening}
+use Rattle.mesosev_serve.specs.declared.request.ParsedRequest.{ParsedRequest}
+use Rattle.mesosev_serve.specs.declared.request.ParsedRequest.TheVariants.{NoRequest, NoCall, Calls}
+use Rattle.mesosev_serve.specs.declared.reply.Reply.{Reply}
+use Rattle.mesosev_serve.specs.declared.reply.Reply.TheVariants.{Nothing, Status, Stream}
+
+-- A request that was refused: 404 to another target, 405 to another method, nothing where the reader failed or ended in the body, or
+-- memory was refused; else 400.
+abbrev pub reply_to_fault : HeadFault → Reply
+reply_to_fault fault.WrongPath = Status 404
+reply_to_fault fault.WrongMethod = Status 405
+reply_to_fault fault.Read = Nothing
+reply_to_fault fault.ShortBody = Nothing
+reply_to_fault fault.NoMemory = Nothing
+reply_to_fault _ = Status 400
+
+-- a body that is no call
+abbrev pub reply_to_text : RecordFault → Reply
+reply_to_text unread.NoMemory = Nothing
+reply_to_text _ = Status 400
+
+-- what is answered, and the master then
+pub record Service : Type 0 where
+  pub reply : Reply
+  pub master : MasterState
+
+-- this is answered, and the master is so
+abbrev pub IsService : Service → Reply → MasterState → Type 0
+IsService s reply later = (reply ≡ s.reply) × (later ≡ s.master)
+
+-- the events go out on this stream
+abbrev pub streamed : Option (List ℕ) → Streamed → Service
+streamed None s = record { reply = Nothing; master = s.master }
+streamed (Some id) s = record { reply = Stream id s.events; master = s.master }
+
+-- Where the master answers 200, its stream has its events and then those that are given; else its status is answered, and its events
+-- are dropped.
+abbrev pub service : MasterAnswer → List Event → Service
+service answer given =
+    if answer.status == 200 then streamed answer.master.stream (and_all_given (opening answer) given)
+    else record { reply = Status answer.status; master = answer.master }
+
+-- Memory was refused before there was a reply: the master is as it was, or, where it answers 200, as a front of the events leaves it.
+abbrev pub Lacks : MasterState → MasterAnswer → List Event → MasterState → Type 0
+Lacks before answer given later =
+    (later ≡ before)
+    ⊎ ((answer.status ≡ 200) × ((front : List Event) × (rest : List Event) × (given ≡ front ++ rest) × (later ≡ (and_all_given (opening answer) front).master)))
+
+-- What was asked has this reply, with these events for a stream, and leaves this master. Where memory was refused there is none, but
+-- only in the place of an answer that needs memory.
+abbrev pub Replies : MasterState → List Event → ParsedRequest → Reply → MasterState → Type 0
+Replies before given (NoRequest fault) reply later = (reply ≡ reply_to_fault fault) × (later ≡ before)
+Replies before given (NoCall fault) reply later = (reply ≡ reply_to_text fault) × (later ≡ before)
+Replies before given (Calls stream c) reply later =
+    IsService (service (handled before c stream) given) reply later ⊎ ((reply ≡ Nothing) × MayWantMemory before c stream × Lacks before (handled before c stream) given later)

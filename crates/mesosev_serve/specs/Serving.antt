@@ -1,0 +1,33 @@
+-- One connection served: what is asked, what is answered, and what is printed of it.
+use Rattle.std.specs.Prelude.{ℕ, List, Result}
+use Rattle.std.specs.Io.KnownBytes.{Consumes}
+use Rattle.mes_msg.specs.Event.{Event}
+use Rattle.mes_frame.specs.Devices.{Device}
+use Rattle.mes_frame.specs.declared.write.WriteFault.{WriteFault}
+use Rattle.mes_double_master.specs.Masters.{MasterState}
+use Rattle.mesosev_serve.specs.Asking.{IsAsked}
+use Rattle.mesosev_serve.specs.Lines.{Reports, is_answered, served_lines}
+use Rattle.mesosev_serve.specs.OneStream.{IsStreamReply}
+use Rattle.mesosev_serve.specs.Replying.{Replies}
+use Rattle.mesosev_serve.specs.Writing.{Writes}
+use Rattle.mesosev_serve.specs.declared.request.ParsedRequest.{ParsedRequest}
+use Rattle.mesosev_serve.specs.declared.reply.Reply.{Reply}
+use Rattle.mesosev_serve.specs.declared.connection.Served.{Served}
+use Rattle.mesosev_serve.specs.declared.writing.SendError.{SendError}
+
+-- These devices and masters are those before and after a connection that was given these events for a stream in chunks of `most` bytes.
+pub record ServesOne (before : MasterState) (given : List Event) (most : ℕ) (input rest writer written out reported : Device) (later : MasterState) (served : Result Served WriteFault) : Type 0 where
+  -- a request was taken, and nothing behind it
+  pub taken : List ℕ
+  pub consumes : Consumes input.bytes rest.bytes taken
+  pub asked : ParsedRequest
+  pub asks : IsAsked taken input.counts rest.counts asked
+  -- it was answered, which left the master so
+  pub reply : Reply
+  pub replies : Replies before given asked reply later
+  -- a stream has SUBSCRIBED and then some of the given events, in their order, each at most once
+  pub one : IsStreamReply before given reply
+  pub sent : Result (Unit {0}) SendError
+  pub writes : Writes most reply writer written sent
+  -- and that was printed
+  pub reports : Reports (served_lines reply asked sent) (is_answered sent) out reported served

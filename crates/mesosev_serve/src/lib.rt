@@ -1,0 +1,21 @@
+#![tactic(auto)]
+//! The two ends of a connection over any devices: one to a test master, served; and a stream of events, subscribed to and shown.
+
+mod connection;
+mod handshake;
+mod lines;
+mod outgoing;
+mod reply;
+mod replying;
+mod request;
+mod serve;
+mod subscribing;
+mod theorems;
+mod writing;
+
+pub use connection::Served;
+pub use lines::WRITE_FAILED;
+pub use mes_double_master::Master;
+pub use serve::serve_one;
+pub use subscribing::{report_unsent, send_subscribe, show_answer, subscribe_over};
+pub use theorems::serve_laws;

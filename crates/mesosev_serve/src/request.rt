@@ -1,0 +1,76 @@
+//! What the client of a connection asks.
+
+ghost use Rattle.std.specs.Prelude.{◌≡◌, ◌≤◌, ℕ, List, length};
+ghost use Rattle.std.specs.Io.KnownBytes.{Consumes};
+ghost use Rattle.mesosev_serve.specs.Asking.{IsAsked, IsAskedBy};
+ghost use Rattle.mesosev_serve.specs.Lines.{asked_name, call_name};
+
+use mes_double_http::{HeadFault, Request, StreamId, read_request};
+use mes_frame::Source;
+use mes_msg::{Call, RecordFault};
+use std::alloc::Global;
+
+/// What the client of a connection asks.
+#[derive(Drop)]
+pub(crate) enum ParsedRequest {
+    /// Nothing: no request came, or one that was refused.
+    NoRequest(HeadFault),
+    /// Nothing: the body of its request is no call.
+    NoCall(RecordFault),
+    /// A call, on the stream that the request names, if any.
+    Calls(Option<StreamId>, Call),
+}
+
+impl ParsedRequest {
+    /// The name of the call's type, or `-`.
+    pub(crate) fn name(&self) -> &'static str
+        ensures name { result.now ≡ asked_name self.now }
+        ensures bound { length result.now ≤ 11 }
+    {
+        match self {
+            ParsedRequest::Calls(_, call) => call_name(call),
+            ParsedRequest::NoRequest(_) | ParsedRequest::NoCall(_) => "-",
+        }
+    }
+}
+
+/// Takes a request, and reads its call.
+pub(crate) fn ask<R: Source>(alloc: Global, reader: &mut R) -> ParsedRequest
+    ensures { (taken : List ℕ) × Consumes (R.left reader.old) (R.left reader.new) taken
+        × IsAsked taken (R.counts reader.old) (R.counts reader.new) result }
+{
+    match read_request(alloc, reader) {
+        Ok(request) => parse_request(alloc, request),
+        Err(fault) => ParsedRequest::NoRequest(fault),
+    }
+}
+
+/// What a request asks.
+fn parse_request(alloc: Global, request: Request) -> ParsedRequest
+    ensures { IsAskedBy request.stream request.body.items result }
+{
+    match Call::read_record(alloc, request.body.as_slice()) {
+        Ok(call) => ParsedRequest::Calls(request.stream, call),
+        Err(fault) => ParsedRequest::NoCall(fault),
+    }
+}
+
+/// The name of the call's type (scheduler.proto, `Call.Type`).
+fn call_name(call: &Call) -> &'static str
+    ensures name { result.now ≡ call_name call.now }
+    ensures bound { length result.now ≤ 11 }
+{
+    match call {
+        Call::Subscribe { .. } => "SUBSCRIBE",
+        Call::Accept { .. } => "ACCEPT",
+        Call::Decline { .. } => "DECLINE",
+        Call::Revive { .. } => "REVIVE",
+        Call::Kill { .. } => "KILL",
+        Call::Acknowledge { .. } => "ACKNOWLEDGE",
+        Call::Reconcile { .. } => "RECONCILE",
+        Call::Teardown { .. } => "TEARDOWN",
+        Call::Suppress { .. } => "SUPPRESS",
+        Call::Shutdown { .. } => "SHUTDOWN",
+        Call::Message { .. } => "MESSAGE",
+    }
+}

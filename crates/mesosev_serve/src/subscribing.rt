@@ -1,0 +1,149 @@
+//! A stream of events subscribed to, and shown as it comes.
+
+ghost use Rattle.std.specs.Prelude.{◌≡◌, ◌≤◌, length, All, IfOk};
+ghost use Rattle.mes_frame.specs.Devices.{device_of};
+ghost use Rattle.mes_double_http.specs.StreamIds.{IsVisible};
+ghost use Rattle.mesosev_stream.specs.Printing.{Prints};
+ghost use Rattle.mesosev_stream.specs.Showing.{Shows};
+ghost use Rattle.mesosev_serve.specs.Subscribing.{SendsSubscribe, ShowsAnswer, SubscribesOver, ReportsUnsent, first_subscribe, refused_line};
+
+use crate::lines::WRITE_FAILED;
+use arrayvec::ArrayString;
+use mes_double_http::{HeadFault, MAX_HOST, read_head, write_call};
+use mes_frame::{DEFAULT_RECORD_LIMIT, Limit, Sink, Source};
+use mes_json::NoMemory;
+use mes_model::FrameworkInfo;
+use mes_msg::{Call, SendFault};
+use mes_session::Session;
+use mes_stream::Framing;
+use mesosev_stream::{
+    Detail, FAULT_STATUS, MAX_READS, RunOutcome, follow, out_of_memory, print_text,
+};
+use std::alloc::Global;
+
+/// The room for the line of a head that is refused, in bytes.
+const MAX_REFUSED_LINE: usize = 40;
+
+/// Subscribes a framework with a master that is known by this host, of 1 to `MAX_HOST` visible ASCII characters, and shows the events
+/// of the stream that it opens: the SUBSCRIBE of a session that has heard nothing is written, the head of the answer is read, and of what
+/// comes behind it in at most `max_reads` reads, which are at most `MAX_READS`, the lines of each event are printed before the next
+/// read, and then how many events there were in how many bytes of the body, or the first fault. A head that opens no stream is told,
+/// `refused H4 Status 403`, and then nothing behind it is read. Where the SUBSCRIBE can't be encoded or written `net write failed` is
+/// told, and nothing is read. Holds the events of one read at a time.
+pub fn subscribe_over<R: Source, W: Sink, O: Sink>(
+    alloc: Global,
+    info: &FrameworkInfo,
+    host: &str,
+    reader: &mut R,
+    writer: &mut W,
+    max_reads: u64,
+    out: &mut O,
+) -> RunOutcome
+    requires least { 1 ≤ length host.now }
+    requires greatest { length host.now ≤ MAX_HOST }
+    requires visible { All IsVisible host.now }
+    requires reads { max_reads ≤ MAX_READS }
+    ensures { SubscribesOver info.now host.now max_reads (device_of R.left R.counts reader.old) (device_of R.left R.counts reader.new)
+        (device_of W.written W.counts writer.old) (device_of W.written W.counts writer.new)
+        (device_of O.written O.counts out.old) (device_of O.written O.counts out.new) result }
+{
+    match send_subscribe(alloc, info, host, writer) {
+        Ok(()) => show_answer(alloc, reader, max_reads, out),
+        Err(fault) => report_unsent(out, &fault),
+    }
+}
+
+/// Writes the SUBSCRIBE of a session that has heard nothing, as a request to this host, of 1 to `MAX_HOST` visible ASCII characters.
+pub fn send_subscribe<W: Sink>(
+    alloc: Global,
+    info: &FrameworkInfo,
+    host: &str,
+    writer: &mut W,
+) -> Result<(), SendFault>
+    requires least { 1 ≤ length host.now }
+    requires greatest { length host.now ≤ MAX_HOST }
+    requires visible { All IsVisible host.now }
+    ensures { SendsSubscribe info.now host.now (device_of W.written W.counts writer.old) (device_of W.written W.counts writer.new) result }
+{
+    match first_subscribe(alloc, info) {
+        Ok(call) => write_call(alloc, writer, host, None, &call),
+        Err(NoMemory) => Err(SendFault::NoMemory),
+    }
+}
+
+/// Reads the answer to a SUBSCRIBE: the head of a stream, a byte by each read, and behind it the stream in at most `max_reads` reads,
+/// which are at most `MAX_READS`, whose events are shown as they come; a head that opens none is told.
+pub fn show_answer<R: Source, O: Sink>(
+    alloc: Global,
+    reader: &mut R,
+    max_reads: u64,
+    out: &mut O,
+) -> RunOutcome
+    requires { max_reads ≤ MAX_READS }
+    ensures { ShowsAnswer max_reads (device_of R.left R.counts reader.old) (device_of R.left R.counts reader.new)
+        (device_of O.written O.counts out.old) (device_of O.written O.counts out.new) result }
+{
+    match read_head(reader) {
+        Ok(_) => show_stream(alloc, reader, max_reads, out),
+        Err(fault) => print_refused(out, &fault),
+    }
+}
+
+/// Shows the events of a stream behind its head, in at most `max_reads` reads.
+fn show_stream<R: Source, O: Sink>(
+    alloc: Global,
+    reader: &mut R,
+    max_reads: u64,
+    out: &mut O,
+) -> RunOutcome
+    requires { max_reads ≤ MAX_READS }
+    ensures { Shows Framing.Chunked DEFAULT_RECORD_LIMIT max_reads (device_of R.left R.counts reader.old) (device_of R.left R.counts reader.new)
+        (device_of O.written O.counts out.old) (device_of O.written O.counts out.new) result }
+{
+    follow(
+        alloc,
+        Detail::Lines,
+        Framing::Chunked,
+        Limit::USUAL,
+        max_reads,
+        reader,
+        out,
+    )
+}
+
+/// Tells that a SUBSCRIBE did not go out: `net write failed`, or F13 after 0 where memory was refused. The status is 1.
+pub fn report_unsent<O: Sink>(out: &mut O, fault: &SendFault) -> RunOutcome
+    ensures { ReportsUnsent fault.now (device_of O.written O.counts out.old) (device_of O.written O.counts out.new) result }
+{
+    match fault {
+        SendFault::NoMemory => out_of_memory(out),
+        SendFault::Encode { .. } | SendFault::Write(_) => print_text(
+            out,
+            WRITE_FAILED,
+            FAULT_STATUS,
+        ),
+    }
+}
+
+/// Tells of a head that was refused. The status is 1.
+fn print_refused<O: Sink>(out: &mut O, fault: &HeadFault) -> RunOutcome
+    ensures { Prints (device_of O.written O.counts out.old) (device_of O.written O.counts out.new) (refused_line fault.now) 1 result }
+{
+    let mut why = ArrayString::new();
+    fault.text(&mut why);
+    let mut line = ArrayString::<MAX_REFUSED_LINE>::new();
+    line.push_str("refused ");
+    line.push_str(why.as_str());
+    line.push_str("\n");
+    print_text(out, line.as_str(), FAULT_STATUS)
+}
+
+/// The SUBSCRIBE of a session that has heard nothing.
+fn first_subscribe(alloc: Global, info: &FrameworkInfo) -> Result<Call, NoMemory>
+    ensures { IfOk result (λ call. call ≡ first_subscribe info.now) }
+{
+    match Session::new(alloc).subscribe(info) {
+        Ok(call) => Ok(call),
+        Err(_) => Err(NoMemory),
+    }
+}

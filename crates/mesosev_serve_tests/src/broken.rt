@@ -1,0 +1,136 @@
+//! Connections that are served and break: their reader ends or fails, their writer stops, or their lines can't be printed, at each byte.
+
+use crate::support::{
+    BAD, STREAM, SUBSCRIBE_REQUEST, bytes_of, events_of, push_bytes, serve_anew, served_anew,
+};
+use mes_frame::{MemorySink, MemorySource, MemoryStop};
+use std::alloc::{AllocGlobal, Global};
+use std::process::Abort;
+use std::test::Fail;
+
+/// The head of `SUBSCRIBE_REQUEST`, in bytes.
+const HEAD: usize = 141;
+
+// A head that ends early is refused; a body that does is not answered.
+#[test]
+fn requests_that_end_early(rt: HostRuntime) -> Result<(), Fail> {
+    let bytes = bytes_of(rt.alloc(), SUBSCRIBE_REQUEST)?;
+    for cut in 0..bytes.len() {
+        let expected = if cut < HEAD { BAD } else { " => - -~" };
+        let reported = served_anew(rt.alloc(), &mut MemorySource::new(&bytes[..cut], 7))?;
+        assert_eq!(rt; reported.as_str(), expected, "{cut}");
+    }
+    Ok(())
+}
+
+/// What is told of these bytes, behind so many of which each read fails.
+fn failing(alloc: Global, request: &[u8], good: usize) -> Result<String, Fail> {
+    served_anew(alloc, &mut MemorySource::failing_after(request, 7, good))
+}
+
+#[test]
+fn readers_that_fail(rt: HostRuntime) -> Result<(), Fail> {
+    let bytes = bytes_of(rt.alloc(), SUBSCRIBE_REQUEST)?;
+    for good in 0..bytes.len() {
+        let reported = failing(rt.alloc(), bytes.as_slice(), good)?;
+        assert_eq!(rt; reported.as_str(), " => - -~", "{good}");
+    }
+    Ok(())
+}
+
+/// Serves these bytes, with a HEARTBEAT for a stream.
+fn answered(
+    alloc: Global,
+    request: &[u8],
+    writer: &mut MemorySink,
+    out: &mut MemorySink,
+) -> Result<Result<(bool, u64), u64>, Fail> {
+    let events = events_of(alloc, r#"{"type":"HEARTBEAT"}"#)?;
+    let mut source = MemorySource::new(request, 64);
+    serve_anew(alloc, events.as_slice(), 4_096, &mut source, writer, out)
+}
+
+/// What is told of these bytes where the writer stops behind so many, if exactly those of the answer are written and all that is told
+/// is counted.
+fn stopped(
+    alloc: Global,
+    request: &[u8],
+    answer: &[u8],
+    good: usize,
+    stop: MemoryStop,
+) -> Result<String, Fail> {
+    let mut writer = MemorySink::stopping_after(alloc, 7, good, stop);
+    let mut out = MemorySink::new(alloc, 5);
+    let reported = answered(alloc, request, &mut writer, &mut out)?;
+    if answer.get(..good) != Some(writer.bytes())
+        || reported != Ok((false, out.bytes().len() as u64))
+    {
+        return Err("so much is written, and all lines are counted")?;
+    }
+    let mut text = String::new(alloc);
+    push_bytes(&mut text, out.bytes())?;
+    Ok(text)
+}
+
+/// The answer stops behind each of its bytes but the last, which is told so.
+fn expect_stops<R: Abort + AllocGlobal>(
+    rt: &R,
+    request: &str,
+    answer: &str,
+    lines: &str,
+) -> Result<(), Fail> {
+    let request = bytes_of(rt.alloc(), request)?;
+    let answer = bytes_of(rt.alloc(), answer)?;
+    for good in 0..answer.len() {
+        for stop in [MemoryStop::Fails, MemoryStop::TakesNone] {
+            let reported = stopped(
+                rt.alloc(),
+                request.as_slice(),
+                answer.as_slice(),
+                good,
+                stop,
+            )?;
+            assert_eq!(rt; reported.as_str(), lines, "{good}");
+        }
+    }
+    Ok(())
+}
+
+#[test]
+fn streams_whose_writer_stops(rt: HostRuntime) -> Result<(), Fail> {
+    let lines = "200 SUBSCRIBE~net write failed~";
+    expect_stops(&rt, SUBSCRIBE_REQUEST, STREAM, lines)
+}
+
+#[test]
+fn a_status_whose_writer_stops(rt: HostRuntime) -> Result<(), Fail> {
+    let answer = "HTTP/1.1 404 Not Found|Content-Length: 0|Connection: close||";
+    expect_stops(&rt, "POST /x HTTP/1.1||", answer, "404 -~net write failed~")
+}
+
+/// Whether the stream is written whole where the output stops behind so many bytes, which are counted.
+fn unreported(alloc: Global, stream: &[u8], good: usize, stop: MemoryStop) -> Result<bool, Fail> {
+    let request = bytes_of(alloc, SUBSCRIBE_REQUEST)?;
+    let mut writer = MemorySink::new(alloc, 64);
+    let mut out = MemorySink::stopping_after(alloc, 5, good, stop);
+    let reported = answered(alloc, request.as_slice(), &mut writer, &mut out)?;
+    Ok(
+        reported == Err(good as u64)
+            && writer.bytes() == stream
+            && b"200 SUBSCRIBE\n".get(..good) == Some(out.bytes()),
+    )
+}
+
+#[test]
+fn outputs_that_stop(rt: HostRuntime) -> Result<(), Fail> {
+    let stream = bytes_of(rt.alloc(), STREAM)?;
+    for good in 0..14 {
+        for stop in [MemoryStop::Fails, MemoryStop::TakesNone] {
+            assert!(rt;
+                unreported(rt.alloc(), stream.as_slice(), good, stop)?,
+                "{good}"
+            );
+        }
+    }
+    Ok(())
+}

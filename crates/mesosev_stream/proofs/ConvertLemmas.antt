@@ -1,0 +1,46 @@
+-- What was sent, said of the devices.
+use Rattle.std.proofs.Common.{◌≡◌, ℕ, ◌∷◌, ◌++◌, [], Option, List, Result, ap, ◌∙◌, subst, inl, inr, refl}
+use Rattle.std.specs.Io.KnownBytes.{Consumes}
+use Rattle.mes_frame.specs.declared.counts.Counts.{Counts}
+use Rattle.mes_msg.specs.Events.{Spells}
+use Rattle.mes_stream.specs.Refusals.{IsEventRefusal}
+use Rattle.mes_msg.specs.Event.{Event}
+use Rattle.mes_stream.specs.Reading.{EndsReading}
+use Rattle.mes_stream.specs.SendLines.{send_text}
+use Rattle.mes_stream.specs.Sending.{StopsSending, WroteAll}
+use Rattle.mes_msg.specs.declared.send_fault.SendFault.{SendFault}
+use Rattle.mes_msg.specs.declared.send_fault.SendFault.TheVariants.{Encode, NoMemory, Write}
+use Rattle.mes_stream.specs.declared.fault.Report.{Report}
+use Rattle.mes_stream.specs.declared.fault.Stop.{Stop}
+use Rattle.mes_stream.specs.declared.stream_reader.Framing.{Framing}
+use Rattle.mesosev_stream.specs.Converting.{Converts, IsConverted, Sends, SendsRead}
+use Rattle.mes_frame.specs.Devices.{Device, device_of}
+use Rattle.mesosev_stream.specs.Printing.{PrintsStatus}
+use Rattle.mesosev_stream.specs.declared.limits.TheConstants.{MAX_READS}
+
+module _ {W : Type 0} (written : W → Option (List ℕ)) (counts : W → Counts) where
+  pub sends_all : (limit : ℕ) (most : Option ℕ) (events : List Event) (old new : W) (err : Device)
+      → ((w : List ℕ) × IsConverted limit most events w × WroteAll written counts old new w)
+      → Sends limit most events (device_of written counts old) (device_of written counts new) err err 0
+  sends_all limit most events old new err (w, is, all) = inl (w, is, record { out = all.out; none_fails = all.none_fails; calls = all.calls }, refl, refl)
+
+  stops : (limit : ℕ) (most : Option ℕ) (events : List Event) (old new : W) (fault : SendFault)
+      → StopsSending written counts (IsConverted limit most events) limit events old new fault
+      → StopsSending {W = Device} (λ d. d.bytes) (λ d. d.counts) (IsConverted limit most events) limit events (device_of written counts old) (device_of written counts new) fault
+  stops limit most events old new (Encode index why) (first, same) = (first, ap (device_of written counts) same)
+  stops limit most events old new NoMemory same = ap (device_of written counts) same
+  stops limit most events old new (Write fault) (w, is, some) = (w, is, record { out = some.out; last = some.last; calls = some.calls })
+
+  pub sends_none : (limit : ℕ) (most : Option ℕ) (events : List Event) (old new : W) (err reported : Device) (fault : SendFault) (status : ℕ)
+      → StopsSending written counts (IsConverted limit most events) limit events old new fault → PrintsStatus err reported (send_text fault ++ 10 ∷ []) 1 status
+      → Sends limit most events (device_of written counts old) (device_of written counts new) err reported status
+  sends_none limit most events old new err reported fault status stopped prints = inr (fault, stops limit most events old new fault stopped, prints)
+
+-- the events that were read were sent
+pub converts : (framing : Framing) (limit : ℕ) (most : Option ℕ) (input rest out written err reported : Device) (status : ℕ) (before events : List Event) (outcome : Result Report Stop) → before ≡ []
+    → ((w : List ℕ) × (more : List Event) × Consumes input.bytes rest.bytes w × (events ≡ before ++ more)
+    × EndsReading framing Spells IsEventRefusal limit MAX_READS input.counts rest.counts rest.bytes w more outcome)
+    → SendsRead limit most events outcome out written err reported status → Converts framing limit most input rest out written err reported status
+converts framing limit most input rest out written err reported status before events outcome none (w, more, consumes, is, ends) sends =
+    let same : events ≡ more = is ∙ ap (λ (l : List Event). l ++ more) none in
+    (w, more, outcome, (consumes, ends), subst (λ (l : List Event). SendsRead limit most l outcome out written err reported status) same sends)

@@ -1,0 +1,77 @@
+-- A stream has no more events than bytes.
+use Rattle.std.proofs.Common.{◌≡◌, ℕ, ◌≤◌, List, [], ◌∷◌, ◌++◌, length, ◌∙◌, ap, arith, inl, inr, length-append}
+use Rattle.mes_frame.specs.Chunk.{Chunk, IsChunked, chunk_bytes, chunks_bytes, data_of, ending, line_bytes}
+use Rattle.mes_frame.specs.ChunkFront.{IsOpen, IsPart}
+use Rattle.mes_msg.specs.Events.{Spells}
+use Rattle.mes_msg.specs.Event.{Event}
+use Rattle.mes_stream.specs.Framings.{GoesIn, EndsIn}
+use Rattle.mes_stream.specs.Stream.{Records}
+use Rattle.mes_stream.specs.declared.stream_reader.Framing.{Framing}
+use Rattle.mes_stream.specs.declared.stream_reader.Framing.TheVariants.{Plain, Chunked}
+
+records_few : (limit : ℕ) (b : List ℕ) (events : List Event) → Records Spells limit b events → length events ≤ length b
+records_few limit b [] none = omega arith
+records_few limit b (e ∷ es) (front, rest, r, is, spells, spelt, following) =
+    let fewer = records_few limit rest es following in
+    let whole = ap length spelt ∙ length-append front rest in
+    let some = ap length is.spelt ∙ length-append is.size (10 ∷ r) in
+    omega (arith, fewer, whole, some)
+
+-- a chunked body has no more data than bytes
+data_few : (chunks : List Chunk) → length (data_of chunks) ≤ length (chunks_bytes chunks)
+data_few [] = omega arith
+data_few (c ∷ cs) =
+    let fewer = data_few cs in
+    let inside = length-append c.bytes (data_of cs) in
+    let bytes = length-append (chunk_bytes c) (chunks_bytes cs) in
+    let chunk = length-append (line_bytes c.line) (13 ∷ 10 ∷ (c.bytes ++ 13 ∷ 10 ∷ [])) in
+    let following = length-append c.bytes (13 ∷ 10 ∷ []) in
+    omega (arith, fewer, inside, bytes, chunk, following)
+
+none_few : (x d : List ℕ) → d ≡ [] → length d ≤ length x
+none_few x d is = let none = ap length is in omega (arith, none)
+
+part_few : (x d : List ℕ) → IsPart x d → length d ≤ length x
+part_few x d (inl h) = none_few x d h.empty
+part_few x d (inr (inl (l, h))) = none_few x d h.empty
+part_few x d (inr (inr (inl (l, h)))) = none_few x d h.empty
+part_few x d (inr (inr (inr (inl (l, left, h))))) =
+    let whole = ap length h.spelt ∙ length-append (line_bytes l) (13 ∷ 10 ∷ d) in omega (arith, whole)
+part_few x d (inr (inr (inr (inr (inl (l, h)))))) =
+    let whole = ap length h.spelt ∙ length-append (line_bytes l) (13 ∷ 10 ∷ (d ++ 13 ∷ [])) in omega (arith, whole, length-append d (13 ∷ []))
+part_few x d (inr (inr (inr (inr (inr (inl (l, ts, t, h))))))) = none_few x d h.empty
+part_few x d (inr (inr (inr (inr (inr (inr (inl (l, ts, t, h)))))))) = none_few x d h.empty
+part_few x d (inr (inr (inr (inr (inr (inr (inr (l, ts, h)))))))) = none_few x d h.empty
+
+open_few : (w body : List ℕ) → IsOpen w body → length body ≤ length w
+open_few w body h =
+    let inside = data_few h.chunks in
+    let part = part_few h.part h.represents h.is in
+    let whole = ap length h.spelt ∙ length-append (chunks_bytes h.chunks) h.part in
+    let content = ap length h.content ∙ length-append (data_of h.chunks) h.represents in
+    omega (arith, inside, part, whole, content)
+
+body_few : (w body : List ℕ) → IsChunked w body → length body ≤ length w
+body_few w body h =
+    let inside = data_few h.chunks in
+    let whole = ap length h.spelt ∙ length-append (chunks_bytes h.chunks) (ending h.last h.trailers ++ 13 ∷ 10 ∷ []) in
+    let content = ap length h.content in
+    omega (arith, inside, whole, content)
+
+pub goes_few : (framing : Framing) (limit : ℕ) (w : List ℕ) (events : List Event) → GoesIn framing Spells limit w events → length events ≤ length w
+goes_few Plain limit w events live =
+    let fewer = records_few limit live.whole events live.records in
+    let whole = ap length live.spelt ∙ length-append live.whole live.x in
+    omega (arith, fewer, whole)
+goes_few Chunked limit w events (body, begun, live) =
+    let fewer = records_few limit live.whole events live.records in
+    let whole = ap length live.spelt ∙ length-append live.whole live.x in
+    let small = open_few w body begun in
+    omega (arith, fewer, whole, small)
+
+pub ends_few : (framing : Framing) (limit : ℕ) (w : List ℕ) (events : List Event) → EndsIn framing Spells limit w events → length events ≤ length w
+ends_few Plain limit w events none = absurd none
+ends_few Chunked limit w events (body, whole, records) =
+    let fewer = records_few limit body events records in
+    let small = body_few w body whole in
+    omega (arith, fewer, small)

@@ -1,0 +1,100 @@
+-- Texts that went out behind one another, and the lines of events.
+use Rattle.std.proofs.Common.{◌≡◌, ℕ, suc, ◌+◌, ◌<◌, List, [], ◌∷◌, ◌++◌, length, take, drop, get_or, take-append-drop, length-take-le, sym, ◌∙◌, ap, subst, append_assoc, append-nil, arith, refl, length-append}
+use Rattle.std.proofs.KnownBytes.{Appends-nil, Appends-trans}
+use Rattle.std.proofs.lemmas.List.{take-append-le, take_more, drop_more}
+use Rattle.mes_frame.proofs.Parts.{none_then_stops, none_then_none}
+use Rattle.mes_frame.specs.Written.{WentOut, Stops}
+use Rattle.mes_frame.specs.declared.write.WriteFault.{WriteFault}
+use Rattle.mes_msg.specs.Shown.{event_lines}
+use Rattle.mes_msg.specs.Event.{Event}
+use Rattle.mes_stream.specs.Stream.{saturated}
+use Rattle.mes_frame.specs.Devices.{Device}
+use Rattle.mesosev_stream.specs.Printing.{GoesOut, IsCutOff, Prints, PrintsAfter, ended_after}
+use Rattle.mesosev_stream.specs.Showing.{lines_from}
+use Rattle.mesosev_stream.specs.declared.outcome.RunOutcome.{RunOutcome}
+use Rattle.mesosev_stream.specs.declared.outcome.RunOutcome.TheVariants.{Status, OutputFailed}
+
+pub goes_none : (a : Device) → GoesOut a a []
+goes_none a = (Appends-nil a.bytes, (refl, refl))
+
+pub goes_both : (a b c : Device) (v w : List ℕ) → GoesOut a b v → GoesOut b c w → GoesOut a c (v ++ w)
+goes_both a b c v w first second =
+    (Appends-trans a.bytes b.bytes c.bytes v w first.0 second.0, none_then_none a.counts b.counts c.counts first.1 second.1)
+
+-- what went out is counted
+pub goes_counted : (a b : Device) (w : List ℕ) (sent : ℕ) → WentOut a.bytes b.bytes a.counts b.counts w 0 sent → GoesOut a b w × (sent ≡ saturated (length w))
+goes_counted a b w sent went = ((went.out, went.good), let count = went.count in omega (arith, count))
+
+-- cut off behind a text that went out
+pub goes_then_cut : (a b c : Device) (u v w : List ℕ) (before sent : ℕ) → GoesOut a b u → before ≡ saturated (length u) → IsCutOff b c v w sent → IsCutOff a c (u ++ v) w (saturated (before + sent))
+goes_then_cut a b c u v w before sent first count cut =
+    let is = cut.sent_is in
+    record {
+      n = cut.n;
+      short = cut.short;
+      out = rw (append_assoc u v (take cut.n w)) (Appends-trans a.bytes b.bytes c.bytes u (v ++ take cut.n w) first.0 cut.out);
+      sent_is = omega (arith, count, is, length-append u v);
+      why = cut.why;
+      stops = none_then_stops cut.why a.counts b.counts c.counts first.1 cut.stops;
+    }
+
+-- cut off in a front of the text
+pub cut_more : (a b : Device) (u v w : List ℕ) (sent : ℕ) → IsCutOff a b u v sent → IsCutOff a b u (v ++ w) sent
+cut_more a b u v w sent cut =
+    let short = cut.short in
+    record {
+      n = cut.n;
+      short = omega (arith, short, length-append v w);
+      out = rw (take-append-le cut.n v w (omega (arith, short))) cut.out;
+      sent_is = cut.sent_is;
+      why = cut.why;
+      stops = cut.stops;
+    }
+
+-- printed behind a text that went out
+pub prints_behind : (a b c : Device) (v w : List ℕ) (before meant : ℕ) (ended : RunOutcome) → GoesOut a b v → before ≡ saturated (length v) → Prints b c w meant ended → PrintsAfter v a c w meant (ended_after before ended)
+prints_behind a b c v w before meant (Status status) first count (out, is) = (goes_both a b c v w first out, is)
+prints_behind a b c v w before meant (OutputFailed sent) first count cut =
+    subst (λ (u : List ℕ). IsCutOff a c u w (saturated (before + sent))) (append-nil v) (goes_then_cut a b c v [] w before sent first count cut)
+
+-- cut off inside the text behind one that went out, as the writer tells it
+pub goes_then_stops : (a b c : Device) (v w : List ℕ) (before : ℕ) (fault : WriteFault) → WentOut a.bytes b.bytes a.counts b.counts v 0 before → Stops b.bytes c.bytes b.counts c.counts w before fault → IsCutOff a c v w fault.sent
+goes_then_stops a b c v w before fault first stops =
+    let count = first.count in
+    let is = stops.part.sent_is in
+    record {
+      n = stops.part.n;
+      short = stops.part.short;
+      out = Appends-trans a.bytes b.bytes c.bytes v (take stops.part.n w) first.out stops.part.out;
+      sent_is = omega (arith, count, is);
+      why = fault.why;
+      stops = none_then_stops fault.why a.counts b.counts c.counts first.good stops.why;
+    }
+
+pub lines_both : (n : ℕ) (xs ys : List Event) → lines_from n (xs ++ ys) ≡ lines_from n xs ++ lines_from (n + length xs) ys
+lines_both n [] ys = ap (λ (k : ℕ). lines_from k ys) (none n) where
+  none : (n : ℕ) → n ≡ n + 0
+  none n = omega arith
+lines_both n (x ∷ xs) ys =
+    ap (λ (t : List ℕ). event_lines (saturated n) x ++ t) (rw (plus n (length xs)) at (lines_both (n + 1) xs ys))
+    ∙ sym (append_assoc (event_lines (saturated n) x) (lines_from (n + 1) xs) (lines_from (n + suc (length xs)) ys)) where
+      plus : (n k : ℕ) → (n + 1) + k ≡ n + suc k
+      plus n k = omega arith
+
+-- the lines up to the event x, which stands at i
+pub lines_to : (events : List Event) (x : Event) (i n : ℕ) → i < length events → x ≡ get_or events i x
+    → lines_from n (take (i + 1) events) ≡ lines_from n (take i events) ++ event_lines (saturated (n + i)) x
+lines_to events x i n inside is =
+    ap (λ (es : List Event). lines_from n es) (take_more events i x inside ∙ ap (λ (y : Event). take i events ++ y ∷ []) (sym is))
+    ∙ lines_both n (take i events) (x ∷ [])
+    ∙ ap (λ (t : List ℕ). lines_from n (take i events) ++ t) (append-nil (event_lines (saturated (n + length (take i events))) x))
+    ∙ ap (λ (k : ℕ). lines_from n (take i events) ++ event_lines (saturated (n + k)) x) (length-take-le i events (omega (arith, inside)))
+
+-- the lines of all events, from those of the first ones on
+pub lines_on : (events : List Event) (i n : ℕ) → lines_from n events ≡ lines_from n (take i events) ++ lines_from (n + length (take i events)) (drop i events)
+lines_on events i n = ap (λ (es : List Event). lines_from n es) (sym (take-append-drop i events)) ∙ lines_both n (take i events) (drop i events)
+
+-- the events up to the one at i, that one, and those behind it
+pub events_at : (events : List Event) (x : Event) (i : ℕ) → i < length events → x ≡ get_or events i x → events ≡ take i events ++ x ∷ drop (i + 1) events
+events_at events x i inside is =
+    sym (take-append-drop i events) ∙ ap (λ (es : List Event). take i events ++ es) (drop_more events i x inside ∙ ap (λ (y : Event). y ∷ drop (i + 1) events) (sym is))

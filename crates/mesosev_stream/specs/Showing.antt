@@ -1,0 +1,69 @@
+-- What `show` prints: the lines of each event, and then the line that ends the stream.
+use Rattle.std.specs.Prelude.{◌≡◌, ℕ, ◌+◌, ◌≤◌, ◌⊎◌, List, [], ◌∷◌, ◌++◌, length, Result}
+use Rattle.std.specs.Io.KnownBytes.{Consumes}
+use Rattle.mes_msg.specs.Events.{Spells}
+use Rattle.mes_msg.specs.Shown.{event_lines}
+use Rattle.mes_msg.specs.Event.{Event}
+use Rattle.mes_frame.specs.Devices.{Device}
+use Rattle.mes_stream.specs.Lines.{fault_text}
+use Rattle.mes_stream.specs.Framings.{GoesIn, EndsIn}
+use Rattle.mes_stream.specs.Reads.{SomeReadsMade, LastRead}
+use Rattle.mes_stream.specs.Stream.{saturated}
+use Rattle.mes_stream.specs.declared.limits.TheConstants.{MAX_READ}
+use Rattle.mes_stream.specs.declared.stream_reader.Framing.{Framing}
+use Rattle.mes_stream.specs.declared.fault.Fault.TheVariants.{NoMemory}
+use Rattle.mes_stream.specs.declared.fault.Report.{Report}
+use Rattle.mes_stream.specs.declared.fault.Stop.{Stop}
+use Rattle.mesosev_stream.specs.Printing.{IsCutOff, PrintsAfter, ReadsInput, Checks, outcome_line, outcome_status}
+use Rattle.mesosev_stream.specs.declared.outcome.RunOutcome.{RunOutcome}
+use Rattle.mesosev_stream.specs.declared.outcome.RunOutcome.TheVariants.{OutputFailed}
+use Rattle.mesosev_stream.specs.declared.follower.Detail.{Detail}
+use Rattle.mesosev_stream.specs.declared.follower.Detail.TheVariants.{Counts, Lines}
+
+-- the lines of the events, the first under this number
+abbrev pub lines_from : ℕ → List Event → List ℕ
+lines_from number [] = []
+lines_from number (event ∷ events) = event_lines (saturated number) event ++ lines_from (number + 1) events
+
+-- what is printed of the events, the first under this number: nothing, or their lines
+abbrev pub printed_from : Detail → ℕ → List Event → List ℕ
+printed_from Counts number events = []
+printed_from Lines number events = lines_from number events
+
+-- a front of the bytes w is the stream so far, or all of it, with the events; behind it stands no more than one read gives
+abbrev pub Spelt : Framing → ℕ → List ℕ → List Event → Type 0
+Spelt framing limit w events =
+    (front : List ℕ) × (rest : List ℕ) × (w ≡ front ++ rest) × (length rest ≤ MAX_READ)
+    × (GoesIn framing Spells limit front events ⊎ EndsIn framing Spells limit front events)
+
+-- the last read gave the end of the bytes w: in front of it they have the events `before`, and with it `last` too
+pub record LastEvents (framing : Framing) (limit : ℕ) (w : List ℕ) (before last : List Event) : Type 0 where
+  pub front : List ℕ
+  pub piece : List ℕ
+  pub read : LastRead w front piece
+  pub had : GoesIn framing Spells limit front before
+  pub has : Spelt framing limit w (before ++ last)
+
+-- the bytes w were taken from the input by reads that each gave some, the last of which brought the events `last`
+abbrev pub TakesEvents : Framing → ℕ → ℕ → Device → Device → List ℕ → List Event → List Event → Type 0
+TakesEvents framing limit reads input rest w before last = Consumes input.bytes rest.bytes w × LastEvents framing limit w before last
+    × SomeReadsMade reads input.counts rest.counts w 0 0
+
+-- The bytes w were taken from the input. They were read as the events up to the outcome; the lines of all events went out, and
+-- then the outcome's line was printed. Or the output failed in the lines of the events that the last read brought; those of the
+-- events before went out. Or memory was refused for the lines of one that the last read brought; those before them went
+-- out, and then the line of that was printed.
+abbrev pub Shows : Framing → ℕ → ℕ → Device → Device → Device → Device → RunOutcome → Type 0
+Shows framing limit reads input rest out printed ended =
+    (w : List ℕ) × (events : List Event)
+    × (((outcome : Result Report Stop) × ReadsInput framing limit reads input rest w events outcome
+    × PrintsAfter (lines_from 1 events) out printed (outcome_line (length events) outcome ++ 10 ∷ []) (outcome_status outcome) ended)
+    ⊎ ((last : List Event) × (sent : ℕ) × TakesEvents framing limit reads input rest w events last
+    × IsCutOff out printed (lines_from 1 events) (lines_from (1 + length events) last) sent × (ended ≡ OutputFailed sent))
+    ⊎ ((last : List Event) × (event : Event) × (more : List Event) × TakesEvents framing limit reads input rest w events (last ++ event ∷ more)
+    × PrintsAfter (lines_from 1 (events ++ last)) out printed (fault_text NoMemory 0 ++ 10 ∷ []) 1 ended))
+
+-- the events were checked, or shown
+abbrev pub Follows : Detail → Framing → ℕ → ℕ → Device → Device → Device → Device → RunOutcome → Type 0
+Follows Counts framing limit reads input rest out printed ended = Checks framing limit reads input rest out printed ended
+Follows Lines framing limit reads input rest out printed ended = Shows framing limit reads input rest out printed ended

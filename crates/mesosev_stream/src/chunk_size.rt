@@ -1,0 +1,46 @@
+//! How many bytes a chunk that is written has.
+ghost use Rattle.std.specs.Prelude.{◌≡◌, ◌≤◌};
+ghost use Rattle.std.specs.Option.{SomeIff};
+
+use mes_frame::{MAX_CHUNK, MIN_CHUNK};
+use std::marker::Model;
+
+/// The size of the chunks that are written: `MIN_CHUNK` to `MAX_CHUNK` bytes.
+#[derive(Clone, Copy, Debug, PartialEq, Eq)]
+pub struct ChunkSize {
+    bytes: u32,
+}
+
+impl Model for ChunkSize {
+    ghost use Rattle.std.specs.Prelude.{ℕ, ◌≤◌};
+    ghost use Rattle.mes_frame.specs.declared.limits.TheConstants.{MIN_CHUNK, MAX_CHUNK};
+
+    ghost Value = { ℕ };
+
+    ghost view = { λ s. s.bytes };
+
+    ghost invariant = { λ s. (MIN_CHUNK ≤ s.bytes) × (s.bytes ≤ MAX_CHUNK) };
+
+    ghost inverse = { λ n. record { bytes = n } };
+}
+
+impl ChunkSize {
+    /// A size of so many bytes, if a chunk may have that.
+    pub fn new(bytes: u32) -> Option<ChunkSize>
+        ensures { SomeIff result ((MIN_CHUNK ≤ bytes) × (bytes ≤ MAX_CHUNK)) bytes }
+    {
+        if MIN_CHUNK <= bytes && bytes <= MAX_CHUNK {
+            Some(ChunkSize { bytes })
+        } else {
+            None
+        }
+    }
+
+    /// The size as a number of bytes.
+    pub fn get(self) -> u32
+        ensures value { result ≡ self }
+        ensures range { (MIN_CHUNK ≤ result) × (result ≤ MAX_CHUNK) }
+    {
+        self.bytes
+    }
+}

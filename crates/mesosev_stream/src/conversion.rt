@@ -1,0 +1,76 @@
+//! `convert`: the events of a stream, read to its end and written again.
+
+ghost use Rattle.std.specs.Prelude.{◌≡◌, OnOk, IfErr, List, ℕ};
+ghost use Rattle.mes_stream.specs.Sending.{StopsSending, WroteAll};
+ghost use Rattle.mesosev_stream.specs.Converting.{Converts, IsConverted, Sends};
+ghost use Rattle.mes_frame.specs.Devices.{device_of};
+
+use crate::chunk_size::ChunkSize;
+use crate::limits::MAX_READS;
+use crate::outcome::SUCCESS;
+use crate::print::{print_fault, print_send_fault};
+use mes_frame::{Limit, Sink, Source};
+use mes_msg::Event;
+use mes_stream::{Framing, SendFault, read_events, write_plain, write_stream};
+use std::alloc::Global;
+
+/// Reads a stream to its end, and writes its events in canonical form: as plain RecordIO, or in chunks of `most` bytes.
+/// Where it has a fault nothing is written, and the fault is told. Answers the status. Holds all events.
+pub fn convert<I: Source, O: Sink, E: Sink>(
+    alloc: Global,
+    framing: Framing,
+    limit: Limit,
+    most: Option<ChunkSize>,
+    input: &mut I,
+    out: &mut O,
+    err: &mut E,
+) -> u8
+    ensures { Converts framing limit most
+        (device_of I.left I.counts input.old) (device_of I.left I.counts input.new)
+        (device_of O.written O.counts out.old) (device_of O.written O.counts out.new)
+        (device_of E.written E.counts err.old) (device_of E.written E.counts err.new)
+        result }
+{
+    let mut events = Vec::new(alloc);
+    match read_events(alloc, input, framing, limit, MAX_READS, &mut events) {
+        Ok(_report) => send(alloc, events.as_slice(), limit, most, out, err),
+        Err(stop) => print_fault(err, &stop.fault, stop.used).status(),
+    }
+}
+
+/// Writes the events, or tells why not. Answers the status.
+fn send<O: Sink, E: Sink>(
+    alloc: Global,
+    events: &[Event],
+    limit: Limit,
+    most: Option<ChunkSize>,
+    out: &mut O,
+    err: &mut E,
+) -> u8
+    ensures { Sends limit most events.now
+        (device_of O.written O.counts out.old) (device_of O.written O.counts out.new)
+        (device_of E.written E.counts err.old) (device_of E.written E.counts err.new)
+        result }
+{
+    match write_events(alloc, events, limit, most, out) {
+        Ok(()) => SUCCESS,
+        Err(fault) => print_send_fault(err, &fault).status(),
+    }
+}
+
+/// Writes the events as plain RecordIO, or in chunks of `most` bytes.
+fn write_events<O: Sink>(
+    alloc: Global,
+    events: &[Event],
+    limit: Limit,
+    most: Option<ChunkSize>,
+    out: &mut O,
+) -> Result<(), SendFault>
+    ensures ok { OnOk result ((w : List ℕ) × IsConverted limit most events.now w × WroteAll O.written O.counts out.old out.new w) }
+    ensures err { IfErr result (StopsSending O.written O.counts (IsConverted limit most events.now) limit events.now out.old out.new) }
+{
+    match most {
+        Some(most) => write_stream(alloc, out, events, limit, most.get()),
+        None => write_plain(alloc, out, events, limit),
+    }
+}

@@ -1,0 +1,217 @@
+//! `check` and `show`: a stream followed read by read, and what is printed of its events as they come.
+
+ghost use Rattle.std.specs.Prelude.{◌≡◌, ◌≤◌, ◌++◌, ℕ, IfErr, IfOk};
+ghost use Rattle.mes_frame.specs.Written.{Stops};
+ghost use Rattle.mes_stream.specs.Stream.{saturated};
+ghost use Rattle.mes_frame.specs.Devices.{device_of};
+ghost use Rattle.mesosev_stream.specs.Following.{HoldsText, PrintsEvents, SendsText, ShowsFrom, ended_of};
+ghost use Rattle.mesosev_stream.specs.Showing.{Follows, lines_from};
+
+use crate::limits::MAX_READS;
+use crate::line_buffer::LineBuffer;
+use crate::outcome::RunOutcome;
+use crate::print::{out_of_memory, print_outcome};
+use mes_frame::{Limit, Sink, Source, WriteFault};
+use mes_msg::Event;
+use mes_stream::{Consumer, EventReader, Framing, Reading, ReadingStop, ReadsEnd, read_device};
+use std::alloc::Global;
+
+/// What is printed of the events before the line that ends the stream.
+#[derive(Clone, Copy, Debug, PartialEq, Eq)]
+pub enum Detail {
+    /// Nothing: they are counted alone.
+    Counts,
+    /// The lines of each.
+    Lines,
+}
+
+/// Why the lines of events were not printed.
+#[derive(Clone, Copy, Debug, PartialEq, Eq)]
+pub(crate) enum PrintError {
+    /// The output failed.
+    Output(WriteFault),
+    /// Memory was refused.
+    NoMemory,
+}
+
+/// Of how many of the events what is wanted was printed.
+#[derive(Clone, Copy, Debug, PartialEq, Eq)]
+pub(crate) enum PrintProgress {
+    /// Of all, and the event behind them has this number.
+    All(u64),
+    /// Of those before one for whose lines memory was refused.
+    NoMemory,
+}
+
+/// Why a follower wants no more bytes.
+#[derive(Drop)]
+pub(crate) enum FollowStop {
+    /// The reading of the stream has stopped.
+    Reading(ReadingStop),
+    /// The lines of an event were not printed.
+    PrintError(PrintError),
+}
+
+/// Follows a stream of events: it prints what is wanted of the events of each read, the first under the number 1, and holds those
+/// of one read at a time.
+#[derive(Drop)]
+pub(crate) struct Follower {
+    detail: Detail,
+    reading: Reading<EventReader>,
+    events: Vec<Event>,
+    // The lines of one event. Their memory serves for the next one.
+    text: Vec<u8>,
+    lines: LineBuffer,
+    // The number of the next event.
+    number: u64,
+}
+
+impl<O: Sink> Consumer<O> for Follower {
+    type Stop = FollowStop;
+
+    ghost use Rattle.mes_frame.specs.Devices.{device_of};
+    ghost use Rattle.mesosev_stream.specs.Following.{GoesFrom, StopsFrom};
+
+    ghost goes = { λ first out now printed w. GoesFrom first (device_of O.written O.counts out) now (device_of O.written O.counts printed) w };
+
+    ghost stops = { λ first out now printed w piece stop. StopsFrom first (device_of O.written O.counts out) now (device_of O.written O.counts printed) w piece stop };
+
+    fn take(&mut self, piece: &[u8], out: &mut O) -> Result<(), FollowStop> {
+        let fed = self.reading.feed(piece, &mut self.events);
+        match print_events(
+            self.detail,
+            self.events.as_slice(),
+            self.number,
+            &mut self.text,
+            &mut self.lines,
+            out,
+        ) {
+            Ok(PrintProgress::All(next)) => self.number = next,
+            Ok(PrintProgress::NoMemory) => return Err(FollowStop::PrintError(PrintError::NoMemory)),
+            Err(fault) => return Err(FollowStop::PrintError(PrintError::Output(fault))),
+        }
+        self.events.clear();
+        match fed {
+            Ok(()) => Ok(()),
+            Err(stop) => Err(FollowStop::Reading(stop)),
+        }
+    }
+}
+
+/// Reads a stream in at most `max_reads` reads, prints what is wanted of each event before the next read behind the one that ends its
+/// record, and then how many events there were, or the first fault. Behind a failed output no more is read. Holds the events of one
+/// read at a time, and at most `MAX_LINE_BUFFER` bytes of their lines, which go out together; where memory for those is refused, fewer.
+pub fn follow<I: Source, O: Sink>(
+    alloc: Global,
+    detail: Detail,
+    framing: Framing,
+    limit: Limit,
+    max_reads: u64,
+    input: &mut I,
+    out: &mut O,
+) -> RunOutcome
+    requires { max_reads ≤ MAX_READS }
+    ensures { Follows detail framing limit max_reads (device_of I.left I.counts input.old) (device_of I.left I.counts input.new)
+        (device_of O.written O.counts out.old) (device_of O.written O.counts out.new) result }
+{
+    let mut follower = Follower {
+        detail,
+        reading: Reading::new(framing, EventReader::new(alloc), limit),
+        events: Vec::new(alloc),
+        text: Vec::new(alloc),
+        lines: LineBuffer::new(alloc),
+        number: 1,
+    };
+    match ended(read_device(input, max_reads, &mut follower, out)) {
+        Ok(end) => {
+            let events = follower.number.saturating_sub(1);
+            print_outcome(out, events, &follower.reading.outcome(end)).following(
+                follower.lines.sent(),
+            )
+        }
+        Err(PrintError::Output(fault)) => RunOutcome::OutputFailed(fault.sent),
+        Err(PrintError::NoMemory) => out_of_memory(out).following(follower.lines.sent()),
+    }
+}
+
+/// How the reads ended, where the events were shown so far; else why they were not.
+fn ended(end: ReadsEnd<FollowStop>) -> Result<ReadsEnd<ReadingStop>, PrintError>
+    ensures { result ≡ ended_of end }
+{
+    match end {
+        ReadsEnd::Stopped(FollowStop::Reading(stop)) => Ok(ReadsEnd::Stopped(stop)),
+        ReadsEnd::Stopped(FollowStop::PrintError(why)) => Err(why),
+        ReadsEnd::AtEnd => Ok(ReadsEnd::AtEnd),
+        ReadsEnd::Failed => Ok(ReadsEnd::Failed),
+        ReadsEnd::Spent => Ok(ReadsEnd::Spent),
+    }
+}
+
+/// Prints what is wanted of the events, the first under this number.
+fn print_events<O: Sink>(
+    detail: Detail,
+    events: &[Event],
+    first: u64,
+    text: &mut Vec<u8>,
+    lines: &mut LineBuffer,
+    out: &mut O,
+) -> Result<PrintProgress, WriteFault>
+    ensures { (number : ℕ) → first ≡ saturated number → PrintsEvents detail lines.old lines.new
+        (device_of O.written O.counts out.old) (device_of O.written O.counts out.new)
+        number events.now result }
+{
+    match detail {
+        Detail::Counts => Ok(PrintProgress::All(first.saturating_add(events.len() as u64))),
+        Detail::Lines => show_events(events, first, text, lines, out),
+    }
+}
+
+/// Prints the lines of the events, the first under this number.
+fn show_events<O: Sink>(
+    events: &[Event],
+    first: u64,
+    text: &mut Vec<u8>,
+    lines: &mut LineBuffer,
+    out: &mut O,
+) -> Result<PrintProgress, WriteFault>
+    ensures ok { IfOk result (λ shown. (number : ℕ) → first ≡ saturated number → ShowsFrom
+        (SendsText lines.old lines.new (device_of O.written O.counts out.old) (device_of O.written O.counts out.new)) number events.now shown) }
+    ensures err { IfErr result (λ fault. (number : ℕ) → first ≡ saturated number → Stops (O.written out.old) (O.written out.new)
+        (O.counts out.old) (O.counts out.new) (lines.old.held.items ++ lines_from number events.now) lines.old.sent fault) }
+{
+    let shown = match hold_events(events, first, text, lines, out) {
+        Ok(shown) => shown,
+        Err(fault) => return Err(fault),
+    };
+    match lines.flush(out) {
+        Ok(()) => Ok(shown),
+        Err(fault) => Err(fault),
+    }
+}
+
+/// Holds the lines of the events, the first under this number.
+fn hold_events<O: Sink>(
+    events: &[Event],
+    first: u64,
+    text: &mut Vec<u8>,
+    lines: &mut LineBuffer,
+    out: &mut O,
+) -> Result<PrintProgress, WriteFault>
+    ensures ok { IfOk result (λ shown. (number : ℕ) → first ≡ saturated number → ShowsFrom
+        (HoldsText lines.old lines.new (device_of O.written O.counts out.old) (device_of O.written O.counts out.new)) number events.now shown) }
+    ensures err { IfErr result (λ fault. (number : ℕ) → first ≡ saturated number → Stops (O.written out.old) (O.written out.new)
+        (O.counts out.old) (O.counts out.new) (lines.old.held.items ++ lines_from number events.now) lines.old.sent fault) }
+{
+    let mut number = first;
+    for event in events {
+        text.clear();
+        if let Err(_) = event.push_lines(number, text) {
+            return Ok(PrintProgress::NoMemory);
+        }
+        if let Err(fault) = lines.hold(out, text.as_slice()) {
+            return Err(fault);
+        }
+        number = number.saturating_add(1);
+    }
+    Ok(PrintProgress::All(number))
+}

@@ -1,0 +1,102 @@
+//! What the lines of one read's events are gathered in, so that they go out by one write.
+
+ghost use Rattle.std.specs.Prelude.{◌≡◌, ◌≤◌, [], ◌++◌, true, false, length, OnOk, IfOk, IfErr};
+ghost use Rattle.std.specs.Io.KnownBytes.{Appends};
+ghost use Rattle.mes_frame.specs.Counts.{up};
+ghost use Rattle.mes_frame.specs.Write.{CallsFor, NoneFails, StopsWrite};
+ghost use Rattle.mes_frame.specs.Written.{Passes, Stops, WentOut, WrotePart};
+
+use crate::limits::MAX_LINE_BUFFER;
+use mes_frame::{Sink, WriteFault, write_all};
+use std::alloc::Global;
+
+/// Lines that are still to go out, at most `MAX_LINE_BUFFER` bytes of them, and how many bytes went out before them. Its memory grows with
+/// the lines; where that is refused, they go out at once.
+#[derive(Drop)]
+pub(crate) struct LineBuffer {
+    held: Vec<u8>,
+    sent: u64,
+}
+
+impl LineBuffer {
+    /// No line. Takes no memory.
+    pub(crate) fn new(alloc: Global) -> Self
+        ensures held { result.held.items ≡ [] }
+        ensures sent { result.sent ≡ 0 }
+    {
+        LineBuffer {
+            held: Vec::new(alloc),
+            sent: 0,
+        }
+    }
+
+    /// How many bytes went out so far. From 2^64 - 1 on the count stays there.
+    pub(crate) fn sent(&self) -> u64
+        ensures { result ≡ self.now.sent }
+    {
+        self.sent
+    }
+
+    /// Holds these lines behind those that are held. Where there is no room, or no memory, those go out first, and these too, alone, if
+    /// they are more than the buffer has room for.
+    pub(crate) fn hold<O: Sink>(&mut self, out: &mut O, lines: &[u8]) -> Result<(), WriteFault>
+        ensures ok { OnOk result (Passes (O.written out.old) (O.written out.new) (O.counts out.old) (O.counts out.new)
+            (self.old.held.items ++ lines.now) self.new.held.items self.old.sent self.new.sent) }
+        ensures most { OnOk result (length self.new.held.items ≤ MAX_LINE_BUFFER) }
+        ensures err { IfErr result (λ fault. Stops (O.written out.old) (O.written out.new) (O.counts out.old) (O.counts out.new)
+            (self.old.held.items ++ lines.now) self.old.sent fault) }
+    {
+        if self.append(lines) {
+            return Ok(());
+        }
+        self.flush(out)?;
+        if !self.append(lines) {
+            self.sent = write_after(out, lines, self.sent)?;
+        }
+        Ok(())
+    }
+
+    /// Appends these lines, where they have room and memory: whether they have.
+    fn append(&mut self, lines: &[u8]) -> bool
+        ensures held { result ≡ true → self.new.held.items ≡ self.old.held.items ++ lines.now }
+        ensures room { result ≡ true → length self.new.held.items ≤ MAX_LINE_BUFFER }
+        ensures left { result ≡ false → self.new.held.items ≡ self.old.held.items }
+        ensures sent { self.new.sent ≡ self.old.sent }
+    {
+        if MAX_LINE_BUFFER < self.held.len().saturating_add(lines.len()) {
+            return false;
+        }
+        self.held.extend_from_slice(lines).is_ok()
+    }
+
+    /// Writes what is held.
+    pub(crate) fn flush<O: Sink>(&mut self, out: &mut O) -> Result<(), WriteFault>
+        ensures ok { OnOk result (WentOut (O.written out.old) (O.written out.new) (O.counts out.old) (O.counts out.new)
+            self.old.held.items self.old.sent self.new.sent) }
+        ensures ok_held { OnOk result (self.new.held.items ≡ []) }
+        ensures err { IfErr result (λ fault. Stops (O.written out.old) (O.written out.new) (O.counts out.old) (O.counts out.new)
+            self.old.held.items self.old.sent fault) }
+    {
+        self.sent = write_after(out, self.held.as_slice(), self.sent)?;
+        self.held.clear();
+        Ok(())
+    }
+}
+
+/// Writes all of these bytes, behind so many that went out before, and answers how many went out then.
+fn write_after<O: Sink>(out: &mut O, bytes: &[u8], before: u64) -> Result<u64, WriteFault>
+    ensures ok { OnOk result (Appends (O.written out.old) (O.written out.new) bytes.now) }
+    ensures ok_counts { OnOk result (NoneFails (O.counts out.old) (O.counts out.new)) }
+    ensures ok_sent { IfOk result (λ all. all ≡ up before (length bytes.now)) }
+    ensures err { IfErr result (λ fault. WrotePart (O.written out.old) (O.written out.new) bytes.now before fault.sent) }
+    ensures err_counts { IfErr result (λ fault. StopsWrite fault.why (O.counts out.old) (O.counts out.new)) }
+    ensures calls { CallsFor (length bytes.now) (O.counts out.old) (O.counts out.new) }
+{
+    match write_all(out, bytes) {
+        Ok(()) => Ok(before.saturating_add(bytes.len() as u64)),
+        Err(fault) => Err(WriteFault {
+            sent: before.saturating_add(fault.sent),
+            why: fault.why,
+        }),
+    }
+}

@@ -1,0 +1,68 @@
+//! An output that can lose its reader.
+
+ghost use Rattle.std.specs.Prelude.{◌≡◌, ◌≤◌, false, length, IfOk};
+ghost use Rattle.std.specs.Io.KnownBytes.{WriteAppends};
+ghost use Rattle.mes_frame.specs.Counts.{CountsCall};
+ghost use Rattle.mesosev_stream.specs.Outputs.{closed_by, is_closed};
+
+use mes_frame::Sink;
+use std::io;
+use std::io::ErrorKind;
+
+/// A writer that remembers whether a call failed as a closed pipe does, which nobody reads any more.
+#[derive(Drop)]
+pub struct Output<W> {
+    inner: W,
+    closed: bool,
+}
+
+impl<W> Output<W> {
+    /// The output to this writer, which is not closed.
+    pub fn new(inner: W) -> Self
+        ensures inner { result.inner ≡ inner }
+        ensures closed { result.closed ≡ false }
+    {
+        Output {
+            inner,
+            closed: false,
+        }
+    }
+
+    /// Whether it is closed.
+    pub fn is_closed(&self) -> bool
+        ensures { result ≡ self.now.closed }
+    {
+        self.closed
+    }
+}
+
+impl<W: Sink> Sink for Output<W> {
+    ghost written = { λ o. W.written o.inner };
+
+    ghost counts = { λ o. W.counts o.inner };
+
+    fn put(&mut self, bytes: &[u8]) -> io::Result<usize>
+        ensures within { IfOk result (λ n. n ≤ length bytes.now) }
+        ensures bytes { WriteAppends (W.written self.old.inner) (W.written self.new.inner) result bytes.now }
+        ensures counted { CountsCall (W.counts self.old.inner) (W.counts self.new.inner) (length bytes.now) result }
+        ensures closed { self.new.closed ≡ closed_by self.old.closed result }
+    {
+        let answer = self.inner.put(bytes);
+        if let Err(error) = &answer
+            && is_closed_pipe(error.kind())
+        {
+            self.closed = true;
+        }
+        answer
+    }
+}
+
+/// Whether this is how a pipe fails whose reader has gone.
+fn is_closed_pipe(kind: ErrorKind) -> bool
+    ensures { result ≡ is_closed kind }
+{
+    match kind {
+        ErrorKind::BrokenPipe => true,
+        _ => false,
+    }
+}
