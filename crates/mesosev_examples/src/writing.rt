@@ -15,7 +15,7 @@ use std::alloc::Global;
 use std::io::{self, ErrorKind, Write};
 
 /// How many bytes a writer takes before it fails.
-const SUCCESS: usize = 7;
+const TAKEN_BEFORE_FAILURE: usize = 7;
 
 /// The id of the stream.
 const STREAM: &str = "s1";
@@ -26,7 +26,7 @@ const HOST: &str = "127.0.0.1:5050";
 /// A writer that takes so many bytes and then fails.
 #[derive(Drop)]
 struct Failing {
-    taken: ArrayVec<u8, SUCCESS>,
+    taken: ArrayVec<u8, TAKEN_BEFORE_FAILURE>,
 }
 
 impl Write for Failing {
