@@ -3,7 +3,7 @@ use Rattle.std.specs.Prelude.{ℕ, ◌+◌, ◌-◌, ◌^◌, min, List, [], ◌
 use Rattle.std.specs.List.{flat_map}
 use Rattle.mes_model.specs.Offer.{Offer}
 use Rattle.mes_model.specs.OwedKey.{OwedKey}
-use Rattle.mes_msg.specs.Shown.{spaced, or_dash, id_text, uuid_text}
+use Rattle.mes_msg.specs.ShowLines.{spaced, or_dash, id_text, uuid_text}
 use Rattle.mes_session_state.specs.declared.refusal.Refusal.{Refusal}
 use Rattle.mes_session_state.specs.declared.refusal.Refusal.TheVariants.{NotSubscribed, NamedTwice, NoSuchOffer, TwoAgents, WrongAgent, Exceeds, NotOwed, NoMemory}
 use Rattle.mes_session_state.specs.Held.{Held}

@@ -1,7 +1,7 @@
 //! The line that is printed of a refusal. It is written without its LF, and takes no memory.
 ghost use Rattle.std.specs.Prelude.{◌≡◌, ◌+◌, ◌≤◌, ◌++◌, length, decimal};
 ghost use Rattle.arrayvec.specs.ArrayString.{array_string_len};
-ghost use Rattle.mes_msg.specs.Shown.{spaced};
+ghost use Rattle.mes_msg.specs.ShowLines.{spaced};
 ghost use Rattle.mes_session.specs.Printed.{refusal_title, refusal_place, refusal_text};
 
 use arrayvec::ArrayString;

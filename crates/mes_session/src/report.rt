@@ -1,7 +1,7 @@
 //! What is printed of a session: the framework, the offers in hand and the updates that are owed.
 ghost use Rattle.std.specs.Prelude.{◌≡◌, [], ◌∷◌, ◌++◌, codes, decimal, IfOk};
 ghost use Rattle.std.specs.List.{flat_map};
-ghost use Rattle.mes_msg.specs.Shown.{or_dash, id_text};
+ghost use Rattle.mes_msg.specs.ShowLines.{or_dash, id_text};
 ghost use Rattle.mes_session.specs.Printed.{report_line, report_text, hand_line, owed_line};
 
 use crate::session::Session;

@@ -1,7 +1,7 @@
 -- The line that is printed where events could not be sent, without its LF.
 use Rattle.std.specs.Prelude.{ℕ, ◌+◌, List, [], ◌∷◌, ◌++◌, codes, decimal}
 use Rattle.mes_msg.specs.EncodeWhys.{encode_fault_kind_name}
-use Rattle.mes_msg.specs.Shown.{spaced}
+use Rattle.mes_msg.specs.ShowLines.{spaced}
 use Rattle.mes_stream.specs.Lines.{fault_text}
 use Rattle.mes_stream.specs.Stream.{saturated}
 use Rattle.mes_stream.specs.declared.fault.Fault.TheVariants as fault

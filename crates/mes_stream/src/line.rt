@@ -3,7 +3,7 @@
 ghost use Rattle.std.specs.Prelude.{◌≡◌, ◌+◌, ◌≤◌, [], ◌∷◌, ◌++◌, length, decimal, codes};
 ghost use Rattle.arrayvec.specs.ArrayString.{array_string_len};
 ghost use Rattle.mes_model_schema.specs.Paths.{path_text};
-ghost use Rattle.mes_msg.specs.Shown.{spaced};
+ghost use Rattle.mes_msg.specs.ShowLines.{spaced};
 ghost use Rattle.mes_stream.specs.Lines.{fault_text, count_text, details, text_fault_kind_name};
 
 use crate::fault::Fault;

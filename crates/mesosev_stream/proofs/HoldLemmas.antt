@@ -5,7 +5,7 @@ use Rattle.mes_frame.proofs.Parts.{passes_with, passes_then, out_then, stops_the
 use Rattle.mes_frame.specs.Devices.{Device}
 use Rattle.mes_frame.specs.Written.{Stops, WentOut}
 use Rattle.mes_frame.specs.declared.write.WriteFault.{WriteFault}
-use Rattle.mes_msg.specs.Shown.{event_lines}
+use Rattle.mes_msg.specs.ShowLines.{event_lines}
 use Rattle.mes_msg.specs.Event.{Event}
 use Rattle.mes_stream.specs.Stream.{saturated}
 use Rattle.mesosev_stream.specs.Following.{HoldsText, SendsText, ShowsFrom}

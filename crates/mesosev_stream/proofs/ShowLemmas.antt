@@ -5,7 +5,7 @@ use Rattle.std.proofs.lemmas.List.{take-append-le, take_more, drop_more}
 use Rattle.mes_frame.proofs.Parts.{none_then_stops, none_then_none}
 use Rattle.mes_frame.specs.Written.{WentOut, Stops}
 use Rattle.mes_frame.specs.declared.write.WriteFault.{WriteFault}
-use Rattle.mes_msg.specs.Shown.{event_lines}
+use Rattle.mes_msg.specs.ShowLines.{event_lines}
 use Rattle.mes_msg.specs.Event.{Event}
 use Rattle.mes_stream.specs.Stream.{saturated}
 use Rattle.mes_frame.specs.Devices.{Device}

@@ -2,7 +2,7 @@
 use Rattle.std.specs.Prelude.{◌≡◌, ℕ, ◌+◌, ◌≤◌, ◌⊎◌, List, [], ◌∷◌, ◌++◌, length, Result}
 use Rattle.std.specs.Io.KnownBytes.{Consumes}
 use Rattle.mes_msg.specs.Events.{Spells}
-use Rattle.mes_msg.specs.Shown.{event_lines}
+use Rattle.mes_msg.specs.ShowLines.{event_lines}
 use Rattle.mes_msg.specs.Event.{Event}
 use Rattle.mes_frame.specs.Devices.{Device}
 use Rattle.mes_stream.specs.Lines.{fault_text}
