@@ -1,4 +1,4 @@
--- The text of a fixed-point number is the one that writes its units.
+-- Exactly one text writes the units of a fixed-point number.
 use Rattle.std.proofs.Common.{◌≡◌, ℕ, zero, suc, ◌+◌, ◌-◌, ◌*◌, ◌^◌, ◌<◌, ◌≤◌, ◌≢◌, ◌⊎◌, inl, inr, true, false, ◌==◌, List, [], ◌∷◌, ◌++◌, length, refl, sym, ◌∙◌, ap, subst, arith, lit<}
 use Rattle.std.specs.Prelude.{◌/◌, ◌%◌, decimal}
 use Rattle.std.specs.Char.{digit_value}
@@ -21,11 +21,9 @@ use Rattle.mes_fixed.proofs.Texts.{Fraction, left_behind, spread, fraction_is, d
 
 -- ---- the last digit
 
--- it is a zero only where it stands alone
 abbrev ZeroAlone : List ℕ → Type 0
 ZeroAlone ds = (front : List ℕ) → ds ≡ front ++ 48 ∷ [] → front ≡ []
 
--- it is no zero
 abbrev NoZero : List ℕ → Type 0
 NoZero ds = (front : List ℕ) → ds ≡ front ++ 48 ∷ [] → ⊥
 
@@ -46,11 +44,10 @@ more_no_zero d [] some last front e = absurd (omega (arith, some))
 more_no_zero d (b ∷ ds) some last [] e = absurd (cc)
 more_no_zero d (b ∷ ds) some last (c ∷ cs) e = last cs (cc)
 
--- behind another digit it is no zero
 rest_no_zero : (d e : ℕ) (ds : List ℕ) → ZeroAlone (d ∷ e ∷ ds) → NoZero (e ∷ ds)
 rest_no_zero d e ds last front is = let none = last (d ∷ front) (ap (λ (x : List ℕ). d ∷ x) is) in absurd (cc)
 
--- ---- what is written is so
+-- ---- the written text has this form
 
 fraction_no_zero : (k r : ℕ) → 0 < r → r < 10 ^ k → NoZero (fraction_text k r)
 fraction_no_zero zero r some less = absurd (omega arith)
@@ -86,7 +83,7 @@ fraction_alone (suc k) r some less = elim (eqb_tells r 0) [
         subst ZeroAlone (ap (λ (x : List ℕ). (48 + r / 10 ^ k) ∷ x) (sym (cond-true (r % 10 ^ k == 0) [] (fraction_text k (r % 10 ^ k)) e.0))) (one_alone (48 + r / 10 ^ k))
     by_rest (inr e) rest = absurd (e.1 rest)
 
--- the digits of both sides of the point, with a zero for each place that is not written
+-- the digits on both sides of the point, padded with zeros to all places
 joined : (whole ds : List ℕ) (places : ℕ) → length ds ≤ places
     → digits_value 10 (whole ++ ds) * 10 ^ (places - length ds) ≡ digits_value 10 whole * 10 ^ places + digits_value 10 ds * 10 ^ (places - length ds)
 joined whole ds places most =
@@ -130,9 +127,9 @@ text_writes places units low high le = record {
     f : Fraction places r ds
     f = fraction_is places r low below
 
--- ---- nothing else is
+-- ---- no other text has it
 
--- digits below a power, scaled up to it
+-- digits below a power of ten, scaled to its size, stay below it
 scaled_below : (ds : List ℕ) (k : ℕ) → AllDigits 10 ds → length ds ≤ k → digits_value 10 ds * 10 ^ (k - length ds) < 10 ^ k
 scaled_below ds k digits most =
     let power : 10 ^ length ds * 10 ^ (k - length ds) ≡ 10 ^ k = sym (pow-add 10 (length ds) (k - length ds)) ∙ ap (λ (i : ℕ). 10 ^ i) (omega (arith, most)) in
@@ -140,7 +137,6 @@ scaled_below ds k digits most =
     let scaled : suc (digits_value 10 ds) * 10 ^ (k - length ds) ≤ 10 ^ length ds * 10 ^ (k - length ds) = mul-le-mul_right (10 ^ (k - length ds)) (digits_value-lt 10 ds digits) in
     omega (arith, power, one, scaled)
 
--- digits whose last is no zero have a value
 some_value : (ds : List ℕ) → AllDigits 10 ds → 0 < length ds → NoZero ds → 0 < digits_value 10 ds
 some_value [] digits some last = absurd (omega (arith, some))
 some_value (d ∷ []) digits some last =
@@ -151,11 +147,9 @@ some_value (d ∷ e ∷ ds) digits some last =
     let rest = some_value (e ∷ ds) digits.1 (omega arith) (λ front is. last (d ∷ front) (ap (λ (x : List ℕ). d ∷ x) is)) in
     omega (arith, rest, value_cons d (e ∷ ds))
 
--- a digit is the one of its value
 digit_is : (c : ℕ) → digit_value c < 10 → c ≡ 48 + digit_value c
 digit_is c h = omega (arith, digit_value_digit c (digit_from_value c h), digit_from_value c h)
 
--- the last digit that is written
 last_digit : (k r d : ℕ) → d * 10 ^ k ≡ r → (48 + d) ∷ [] ≡ fraction_text (suc k) r
 last_digit k r d e = by_rest (eqb_tells (r % 10 ^ k) 0) where
   one : 0 < 10 ^ k
@@ -176,7 +170,6 @@ last_digit k r d e = by_rest (eqb_tells (r % 10 ^ k) 0) where
       ∙ ap (λ (x : List ℕ). (48 + r / 10 ^ k) ∷ x) (sym (cond-true (r % 10 ^ k == 0) [] (fraction_text k (r % 10 ^ k)) z.0))
   by_rest (inr other) = absurd (other.1 none)
 
--- a digit behind which others are written
 first_digit : (k r d s : ℕ) (ds : List ℕ) → d * 10 ^ k + s ≡ r → s < 10 ^ k → s ≢ 0 → ds ≡ fraction_text k s → (48 + d) ∷ ds ≡ fraction_text (suc k) r
 first_digit k r d s ds e below some is = by_rest (eqb_tells (r % 10 ^ k) 0) where
   first : r / 10 ^ k ≡ d
@@ -233,7 +226,7 @@ fraction_only (suc k) r (d ∷ e ∷ ds) numeral most last counts =
           mul-le-mul_right (10 ^ (k - length (e ∷ ds))) (some_value (e ∷ ds) numeral.1.1 (omega arith) no_zero) in
           omega (arith, one, least, none)
 
--- an int is what is written of its value
+-- an int is the text that is written for its value
 int_only : (ds : List ℕ) → IsInt ds → digits_value 10 ds < 2 ^ 64 → decimal (digits_value 10 ds) ≡ ds
 int_only [] is small = absurd is
 int_only (d ∷ ds) (inl h) small = decimal-digits_value (numerals_by_value (AllDigits 10) tells_digits) (d ∷ ds) (digit_is_value d (omega (arith, h.0)) (omega (arith, h.0)), subst (AllDigits 10) (sym h.1) tt) (omega arith) (λ e. ap (λ (x : List ℕ). length (d ∷ x)) h.1) small

@@ -1,4 +1,4 @@
--- The automaton goes over exactly the texts of the grammar.
+-- The automaton accepts exactly the texts of the grammar.
 use Rattle.std.proofs.Common.{◌≡◌, ℕ, ◌<◌, ◌≤◌, Bool, true, false, List, [], ◌∷◌, ◌++◌, length, Option, Some, None, refl, sym, ◌∙◌, ap, subst, inl, inr, ◌⊎◌, ◌↔◌, arith, if◌then◌else◌}
 use Rattle.std.specs.Option.{option_and_then}
 use Rattle.std.specs.Str.Parse.{AllDigits, IsNumeral}
@@ -39,7 +39,7 @@ IsTail = Then HasFrac IsEnd
 abbrev HasSign : List ℕ → Type 0
 HasSign text = (lowers : Bool) × IsSign lowers text
 
--- what may follow a part
+-- the texts that may follow in a state
 abbrev Following : NumberState → List ℕ → Type 0
 Following AtStart text = IsNumber text
 Following AfterMinus text = Then IsInt IsTail text
@@ -51,7 +51,7 @@ Following AfterExponent text = Then HasSign (IsNumeral 10) text
 Following AfterSign text = IsNumeral 10 text
 Following InExponent text = AllDigits 10 text
 
--- what may follow the part that a letter leads to
+-- the texts that may follow after the next state
 abbrev BehindNext : Option NumberState → List ℕ → Type 0
 BehindNext None text = ⊥
 BehindNext (Some next) text = Following next text
@@ -72,7 +72,6 @@ behind_final InFraction h = no_digits no_end
 behind_final InExponent h = tt
 behind_final _ h = absurd (cc)
 
--- one more digit
 digit_of_nought : (c : ℕ) → c ≡ 48 → digit_value c < 10
 digit_of_nought c e = digit_is_value c (omega arith) (omega arith)
 
@@ -123,7 +122,7 @@ sign_first lowers c text s n = record { front = c ∷ []; back = text; is = refl
 no_sign : (c : ℕ) (text : List ℕ) → digit_value c < 10 → AllDigits 10 text → Then HasSign (IsNumeral 10) (c ∷ text)
 no_sign c text d h = record { front = []; back = c ∷ text; is = refl; first = (false, inl refl); second = (omega arith, (d, h)) }
 
--- what may follow the next part, with the letter before it, may follow this one
+-- a letter before a text that may follow the next state may follow this state
 behind_letter : (part : NumberState) (l : Letter) (c : ℕ) (text : List ℕ) → LetterIs l c → BehindNext (number_next part l) text → Following part (c ∷ text)
 behind_letter AtStart nought c text e h = signed_number false [] (c ∷ text) refl (zero_first c text e h)
 behind_letter AtStart digit c text e h = signed_number false [] (c ∷ text) refl (other_first c text e h)
@@ -165,11 +164,9 @@ ends_behind part (c ∷ text) h =
     let next : BehindNext (number_next part (letter_of c)) text = rw h.1 (ends_behind h.0 text h.2) in
     behind_letter part (letter_of c) c text (letter_is c) next
 
--- the automaton ends only behind a number
 pub number_from_ends : (text : List ℕ) → Ends AtStart text → IsNumber text
 number_from_ends text h = ends_behind AtStart text h
 
--- a text that is gathered is one over which the automaton goes
 pub ends_run : (part : NumberState) (n m : Numeral) (text : List ℕ) → run part n text ≡ Some m → Ends part text
 ends_run part n m [] h = final_some (is_final part) h
   where
@@ -186,14 +183,13 @@ run_from_ends part n (c ∷ text) h =
     let rest = run_from_ends h.0 (gathered h.0 c n) text h.2 in
     (rest.0, run_step part h.0 n c text h.1 ∙ rest.1)
 
--- the automaton goes over each number
 pub ends_from_number : (text : List ℕ) → IsNumber text → Ends AtStart text
 ends_from_number text h = ends_run AtStart blank h.0 text (spelt_run text h.0 h.1)
 
 pub number_ends : (text : List ℕ) → IsNumber text ↔ Ends AtStart text
 number_ends text = (ends_from_number text, number_from_ends text)
 
--- a part behind which no number may end has a zero behind it that makes an end
+-- after a state in which no number may end, a zero ends one
 pub ended_by_zero : (part : NumberState) → is_final part ≡ false → Ends part (48 ∷ [])
 ended_by_zero AtStart h = (AfterZero, refl, refl)
 ended_by_zero AfterMinus h = (AfterZero, refl, refl)
@@ -202,11 +198,10 @@ ended_by_zero AfterExponent h = (InExponent, refl, refl)
 ended_by_zero AfterSign h = (InExponent, refl, refl)
 ended_by_zero _ h = absurd (cc)
 
--- a text has one way to be read
 pub spells_once : (text : List ℕ) (m n : Numeral) → Spells text m → Spells text n → m ≡ n
 spells_once text m n hm hn = let e : Some m ≡ Some n = sym (spelt_run text m hm) ∙ spelt_run text n hn in cc
 
--- what is gathered is what the text spells
+-- the collected parts are the numeral of the text
 pub spelt_from_run : (text : List ℕ) (n : Numeral) → run AtStart blank text ≡ Some n → Spells text n
 spelt_from_run text n h =
     let number = number_from_ends text (ends_run AtStart blank n text h) in
@@ -214,7 +209,7 @@ spelt_from_run text n h =
     let same : number.0 ≡ n = cc in
     subst (λ (m : Numeral). Spells text m) same number.1
 
--- what a loop over the text learns at a byte that leads nowhere, and at the end
+-- for a loop over the text: a byte with no next state, and the end
 pub no_number : (text : List ℕ) (i : ℕ) (part : NumberState) → (Ends AtStart text ↔ Ends part (drop i text)) → i < length text → number_next part (letter_of (get_or text i 0)) ≡ None → IsTrue false ↔ IsNumber text
 no_number text i part h lt none = (λ e. absurd (cc), λ number. absurd (refused (h.0 (ends_from_number text number))))
   where
@@ -229,7 +224,7 @@ end_number text i part b h le e =
     let at_end : Ends AtStart text ↔ (is_final part ≡ true) = subst (λ (rest : List ℕ). Ends AtStart text ↔ Ends part rest) none h in
     (λ t. number_from_ends text (at_end.1 (sym e ∙ t)), λ number. e ∙ at_end.0 (ends_from_number text number))
 
--- and one that gathers the text's parts
+-- for a loop that also collects the parts
 pub stuck_run : (text : List ℕ) (i : ℕ) (part : NumberState) (n : Numeral) → run AtStart blank text ≡ run part n (drop i text) → i < length text → number_next part (letter_of (get_or text i 0)) ≡ None → ¬ (IsNumber text)
 stuck_run text i part n h lt none = λ number.
     let step : run part n (get_or text i 0 ∷ drop (suc i) text) ≡ None = ap (option_and_then (λ (p : NumberState). run p (gathered p (get_or text i 0) n) (drop (suc i) text))) none in

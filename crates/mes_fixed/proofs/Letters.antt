@@ -1,4 +1,4 @@
--- What a letter says of its byte, and the letter that a byte has.
+-- The letter of a byte, and the bytes of a letter.
 use Rattle.std.proofs.Common.{◌≡◌, ℕ, ◌<◌, ◌≤◌, ◌⊎◌, ◌==◌, true, inl, inr, arith, Some}
 use Rattle.std.specs.Prelude.{nat_le, ◌&&◌, ◌||◌}
 use Rattle.std.specs.Char.{digit_value}
@@ -23,7 +23,7 @@ is_digit c h = (grind (arith, nat_tests), grind (arith, nat_tests))
 is_exponent : (c : ℕ) → (c == 101 || c == 69) ≡ true → (c ≡ 101) ⊎ (c ≡ 69)
 is_exponent c h = elim (eqb_tells c 101) [ inl e ↦ inl e.1 | inr e ↦ inr (grind (arith, nat_tests)) ]
 
--- the letter of a byte tells which byte it is
+-- the letter of a byte determines the class of the byte
 pub letter_is : (c : ℕ) → LetterIs (letter_of c) c
 letter_is c =
     cond_both _ _ _ (λ l. LetterIs l c) (λ e. eqb-true c 48 e)
@@ -33,11 +33,9 @@ letter_is c =
     (λ _. cond_both _ _ _ (λ l. LetterIs l c) (λ e. eqb-true c 43 e)
     (λ _. cond_both _ _ _ (λ l. LetterIs l c) (λ e. eqb-true c 45 e) (λ _. tt))))))
 
--- digit1-9
 pub letter_of_digit : (c : ℕ) → 49 ≤ c → c ≤ 57 → letter_of c ≡ digit
 letter_of_digit c low high = grind (arith, nat_tests)
 
--- the part that both kinds of digits lead to
 pub digit_step : (part next : NumberState) (c : ℕ) → digit_value c < 10 → number_next part nought ≡ Some next → number_next part digit ≡ Some next → number_next part (letter_of c) ≡ Some next
 digit_step part next c h z d =
     let r : (48 ≤ c) × (c ≤ 57) = digit_from_value c h in

@@ -1,4 +1,4 @@
--- Facts on what an option holds.
+-- Facts about options.
 use Rattle.std.proofs.Common.{◌≡◌, Bool, false, ◌↔◌, IsTrue, Option, Some, None, sym, subst}
 use Rattle.std.specs.Prelude.{SomeIff, IfSome, IfNone}
 
@@ -18,7 +18,7 @@ pub if_none_map : {X : Type 0} (o : Option X) (P Q : Type 0) → (P → Q) → I
 if_none_map None P Q f h = f h
 if_none_map (Some x) P Q f h = tt
 
--- a test that is false refutes its fact
+-- a fact whose test is false does not hold
 pub refuted : (b : Bool) (P : Type 0) → (IsTrue b ↔ P) → b ≡ false → P → ⊥
 refuted b P h e p = let t = h.1 p in cc
 

@@ -1,4 +1,4 @@
--- Numbers that are written plainly: digits, and a point and digits or none.
+-- Numbers of digits, or of digits with a point and digits after it.
 use Rattle.std.proofs.Common.{◌≡◌, ℕ, suc, ◌+◌, ◌-◌, ◌*◌, ◌^◌, ◌<◌, ◌≤◌, ◌==◌, false, List, [], ◌∷◌, ◌++◌, length, get_or, take, drop, refl, sym, ◌∙◌, ap, subst, arith, add-one, ℤ, length-append, length-drop, take-append-drop}
 use Rattle.std.specs.Char.{digit_value}
 use Rattle.std.specs.Str.Parse.{AllDigits, IsNumeral, digits_value, digits_value_after}
@@ -14,17 +14,15 @@ use Rattle.mes_fixed.proofs.DigitValues.{digits_append}
 use Rattle.mes_fixed.proofs.Letters.{digit_is_value}
 use Rattle.mes_fixed.proofs.Scales.{shift_is, base_is, nearest_iff, whole_iff, one_half_up, power_none}
 
--- digits behind others
 pub after_append : (n : ℕ) (ds es : List ℕ) → digits_value_after 10 n (ds ++ es) ≡ digits_value_after 10 (digits_value_after 10 n ds) es
 after_append n [] es = refl
 after_append n (d ∷ ds) es = after_append (n * 10 + digit_value d) ds es
 
--- digits of which the value is told
+-- digits, and their value v appended to n
 pub record Digits (n : ℕ) (ds : List ℕ) (v : ℕ) : Type 0 where
   pub all : AllDigits 10 ds
   pub value : v ≡ digits_value_after 10 n ds
 
--- one digit more
 pub one_more : (n : ℕ) (ds : List ℕ) (i v w : ℕ) → i < length ds → 48 ≤ get_or ds i 0 → get_or ds i 0 ≤ 57 → Digits n (take i ds) v → w ≡ v * 10 + (get_or ds i 0 - 48) → Digits n (take (i + 1) ds) w
 one_more n ds i v w inside low high before is =
     let c = get_or ds i 0 in
@@ -39,7 +37,7 @@ frac_is : (ds : List ℕ) → IsNumeral 10 ds → IsFrac ds (46 ∷ ds)
 frac_is [] n = absurd (omega (arith, n.0))
 frac_is (d ∷ ds) n = (refl, n.1)
 
--- digits on both sides of a point give so many units
+-- digits on both sides of a point have the value `units`
 pub plain_gives : (places units : ℕ) (whole ds : List ℕ) → places ≤ 6 → IsInt whole → IsNumeral 10 ds → length ds ≤ places → length whole + suc (length ds) ≤ MAX_NUMBER_TEXT → units ≡ digits_value 10 (whole ++ ds) * 10 ^ (places - length ds) → units ≤ MAX_UNITS → Reads (GivesUnits places) (whole ++ (46 ∷ ds)) units
 plain_gives places units whole ds high int numeral short room is le =
     let len : length (whole ++ (46 ∷ ds)) ≡ length whole + suc (length ds) = length-append whole (46 ∷ ds) in
@@ -67,7 +65,6 @@ plain_gives places units whole ds high int numeral short room is le =
       };
     }
 
--- digits alone give their number
 pub digits_give : (v : ℕ) (whole : List ℕ) → IsInt whole → length whole ≤ MAX_NUMBER_TEXT → v ≡ digits_value 10 whole → v < 2 ^ 64 → Reads GivesWhole whole v
 digits_give v whole int room is fits =
     let same : digits_value 10 (whole ++ []) ≡ v = ap (digits_value 10) (append-nil whole) ∙ sym is in
@@ -92,7 +89,7 @@ digits_give v whole int room is fits =
       };
     }
 
--- a text with a point at a place, and the digits on both sides of it
+-- a text with a point at offset `at`, and the digits on both sides of it
 pub units_plain : (places at v w units : ℕ) (text whole rest : List ℕ) → places ≤ 6 → length text ≤ MAX_NUMBER_TEXT → at < length text → get_or text at 0 ≡ 46
     → whole ≡ take at text → rest ≡ drop at text → IsInt whole → v ≡ digits_value_after 10 0 whole
     → false ≡ (length (take (length rest - 1) (drop 1 rest)) == 0) → length (take (length rest - 1) (drop 1 rest)) ≤ places

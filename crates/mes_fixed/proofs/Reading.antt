@@ -1,4 +1,4 @@
--- A number's text gathered into its parts along the automaton.
+-- The parts of a number's text, collected along the automaton.
 use Rattle.std.proofs.Common.{◌≡◌, ℕ, Bool, true, false, List, [], ◌∷◌, ◌++◌, Some, refl, sym, ◌∙◌, ap, append_assoc, inl, inr, arith}
 use Rattle.std.specs.Option.{option_and_then}
 use Rattle.std.specs.Str.Parse.{AllDigits, IsNumeral}
@@ -34,7 +34,6 @@ over_power (d ∷ ds) n h =
     ∙ over_power ds (record n { power = n.power ++ d ∷ [] }) h.1
     ∙ ap (λ (w : List ℕ). Some (record n { power = w })) (append_assoc n.power (d ∷ []) ds)
 
--- the digits of an exponent, behind its e or its sign
 power_run : (part : NumberState) (ds : List ℕ) (n : Numeral) → number_next part nought ≡ Some InExponent → number_next part digit ≡ Some InExponent → n.power ≡ [] → IsNumeral 10 ds → run part n ds ≡ Some (record n { power = ds })
 power_run part [] n z d e h = absurd (omega arith)
 power_run part (c ∷ ds) n z d e h =
@@ -42,7 +41,6 @@ power_run part (c ∷ ds) n z d e h =
     ∙ over_power ds (record n { power = n.power ++ c ∷ [] }) h.1.1
     ∙ ap (λ (w : List ℕ). Some (record n { power = (w ++ c ∷ []) ++ ds })) e
 
--- a sign and the digits of an exponent
 sign_run : (lowers : Bool) (sign ds : List ℕ) (n : Numeral) → n.lowers ≡ false → n.power ≡ [] → IsSign lowers sign → IsNumeral 10 ds → run AfterExponent n (sign ++ ds) ≡ Some (record n { lowers = lowers; power = ds })
 sign_run true sign ds n l e s h =
     ap (λ (w : List ℕ). run AfterExponent n (w ++ ds)) s ∙ power_run AfterSign ds (record n { lowers = true }) refl refl e h
@@ -94,7 +92,7 @@ int_run part negative n frac exp z g i f x = int_by n.whole i
         ∙ over_whole ds (frac ++ exp) (made negative (d ∷ []) [] false []) h.2
         ∙ frac_run InWhole n.fraction frac n.lowers n.power exp (made negative (d ∷ ds) [] false []) refl refl refl refl refl refl f x
 
--- each text of a number is gathered into its parts
+-- the collected parts of a text are those of its numeral
 pub spelt_run : (text : List ℕ) (n : Numeral) → Spells text n → run AtStart blank text ≡ Some n
 spelt_run text n h = ap (run AtStart blank) h.is ∙ sign_by n.negative h.is_minus
   where

@@ -1,4 +1,4 @@
--- What a text gives, from the parts that the code keeps of it.
+-- The value of a text, from the parts that the code collects.
 use Rattle.std.proofs.Common.{◌≡◌, ℕ, suc, ◌+◌, ◌-◌, ◌*◌, ◌^◌, ◌<◌, ◌≤◌, ◌≢◌, inl, inr, Bool, true, false, List, [], ◌∷◌, ◌++◌, length, sym, ◌∙◌, ap, subst, arith, lit<, lit≤, ℤ, pos, negsuc, ◌+ℤ◌, ◌-ℤ◌, ◌↔◌, Ok, Err, Result, length-append}
 use Rattle.std.specs.Prelude.{min, IfOk, IfErr, FitsSigned, IfSome, IfNone, Option, Some, None}
 use Rattle.std.specs.Option.{ok_or}
@@ -49,7 +49,7 @@ few_digits text n places h short le =
     let power : 10 ^ length (n.whole ++ n.fraction) ≤ 10 ^ 64 = pow-le-pow_right {n = 10} (lit< tt) len64 in
     record { few = omega (arith, below, power); following = omega (arith, len, length-append n.whole n.fraction); short = le }
 
--- ---- the kept parts give what the numeral gives
+-- ---- the collected parts have the value of the numeral
 
 multiplied_is : (n : Numeral) (d : Decimal) (places : ℕ) → IsDecimal n d → multiplied d places ≡ mantissa n * 10 ^ (raise n.lowers (min 100 (digits_value 10 n.power)) places - lower n.lowers (min 100 (digits_value 10 n.power)) (length n.fraction))
 multiplied_is n d places h = let v = ap (digits_value 10) h.digits in let x = h.exponent in let f = h.fraction_digits in let l = h.lowers in cc
@@ -57,7 +57,7 @@ multiplied_is n d places h = let v = ap (digits_value 10) h.digits in let x = h.
 divisor_is : (n : Numeral) (d : Decimal) (places : ℕ) → IsDecimal n d → divisor d places ≡ 10 ^ (lower n.lowers (min 100 (digits_value 10 n.power)) (length n.fraction) - raise n.lowers (min 100 (digits_value 10 n.power)) places)
 divisor_is n d places h = let x = h.exponent in let f = h.fraction_digits in let l = h.lowers in cc
 
--- what a numeral and the kept parts of it have in common
+-- the facts that relate a numeral to the parts that represent it
 pub record Stand (n : Numeral) (d : Decimal) (places : ℕ) : Type 0 where
   pub few : AreFew (mantissa n) (length n.fraction) places
   pub kept : IsDecimal n d
@@ -92,7 +92,7 @@ wholes_iff n d v h lt =
       λ r. subst N (sym shift) (whole.1 (cap.1 (sym m ∙ r ∙ w))),
     )
 
--- ---- one answer to a text
+-- ---- a text has one result
 
 pub one_answer : {X : Type 0} (Gives : Numeral → X → Type 0) (Lacks : Numeral → Type 0) → ((n : Numeral) (a b : X) → Gives n a → Gives n b → a ≡ b) → ((n : Numeral) (a : X) → Gives n a → Lacks n → ⊥) → (text : List ℕ) (r : Result X NumFault) → IfOk r (Reads Gives text) → IfErr r (Refuses Lacks text) → (k : X) → Reads Gives text k → r ≡ Ok k
 one_answer {X} Gives Lacks once never text (Ok x) ok err k h =
@@ -121,7 +121,7 @@ units_never places n a h (inr b) = let e = nearest_once (mantissa n) (exponent n
 pub units_only : (places : ℕ) (text : List ℕ) (r : Result ℕ NumFault) → IfOk r (Reads (GivesUnits places) text) → IfErr r (Refuses (LacksUnits places) text) → (k : ℕ) → Reads (GivesUnits places) text k → r ≡ Ok k
 units_only places text r ok err k h = one_answer (GivesUnits places) (LacksUnits places) (units_once places) (units_never places) text r ok err k h
 
--- ---- the answers of `Fixed::read`
+-- ---- the results of `Fixed::read`
 
 represents : (text : List ℕ) (d : Decimal) (places : ℕ) → (h : Reads IsDecimal text d) → places ≤ 6 → Stand h.numeral d places
 represents text d places h le = record { few = few_digits text h.numeral places h.spells h.short le; kept = h.gives }
@@ -173,7 +173,7 @@ units_above places text d u h le half over =
 pub units_huge : (places : ℕ) (text : List ℕ) (d : Decimal) → Reads IsDecimal text d → places ≤ 6 → (u : ℕ) × HalfUp (multiplied d places) (divisor d places) u × (2 ^ 64 ≤ u) → Refuses (LacksUnits places) text Range
 units_huge places text d h le huge = units_above places text d huge.0 h le huge.1 (omega (arith, huge.2))
 
--- ---- the answers of `read_u64`
+-- ---- the results of `read_u64`
 
 whole_once : (m : ℕ) (z : ℤ) (a b : ℕ) → Whole m z a → Whole m z b → a ≡ b
 whole_once m (pos k) a b ha hb = ha ∙ sym hb
@@ -218,7 +218,7 @@ none_whole text d h none v whole = elim (cases_le (2 ^ 64) v) [
 pub whole_lacks : (text : List ℕ) (d : Decimal) → Reads IsDecimal text d → ((v : ℕ) → multiplied d 0 ≡ v * divisor d 0 → 2 ^ 64 ≤ v) → Refuses LacksWhole text Range
 whole_lacks text d h none = (h.short, (h.numeral, h.spells, inr (none_whole text d h none)))
 
--- ---- the answers of `read_i32`
+-- ---- the results of `read_i32`
 
 signed_once : (n : Numeral) (a b : ℤ) → GivesSigned n a → GivesSigned n b → a ≡ b
 signed_once n a b ha hb =
@@ -268,7 +268,7 @@ signed_outside text d v h whole fits outside = (
 
 -- ---- an option as a result
 
--- ok where the option is some, and the fault of the range where it is none
+-- the value if the option is some, and `Range` if it is none
 pub given_ok : {X : Type 0} (Gives : Numeral → X → Type 0) (text : List ℕ) (o : Option X) (r : Result X NumFault) → r ≡ ok_or o Range → IfSome o (Reads Gives text) → IfOk r (Reads Gives text)
 given_ok {X} Gives text None r e h = let Q : Result X NumFault → Type 0 = λ x. IfOk x (Reads Gives text) in subst Q (sym e) tt
 given_ok {X} Gives text (Some x) r e h = let Q : Result X NumFault → Type 0 = λ y. IfOk y (Reads Gives text) in subst Q (sym e) h

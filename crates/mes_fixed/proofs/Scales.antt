@@ -1,4 +1,4 @@
--- Numbers scaled by powers of ten: divided, rounded, and with an exponent that is larger than any that counts.
+-- Numbers scaled by powers of ten: divided, rounded, and with an exponent above the cap.
 use Rattle.std.proofs.Common.{◌≡◌, ℕ, suc, ◌+◌, ◌-◌, ◌*◌, ◌^◌, ◌<◌, ◌≤◌, ◌⊎◌, inl, inr, Bool, true, false, sym, ◌∙◌, ap, subst, arith, lit<, ℤ, pos, negsuc, ◌+ℤ◌, ◌-ℤ◌, ◌↔◌}
 use Rattle.std.specs.Prelude.{min}
 use Rattle.std.specs.Prelude.{◌/◌, ◌%◌}
@@ -9,7 +9,7 @@ use Rattle.std.proofs.Math.Nat.{pow-suc, pow-le-pow_right, mul-le-mul_right}
 use Rattle.mes_fixed.specs.Value.{HalfUp, Nearest, Whole, signed}
 use Rattle.mes_fixed.specs.Decimal.{raise, lower}
 
--- e + places, of an exponent of size x and f digits behind the point
+-- e + places, for an exponent of magnitude x and f digits after the point
 pub shift_is : (lowers : Bool) (x f places : ℕ) → ((signed lowers x -ℤ pos f) +ℤ pos places) ≡ (pos (raise lowers x places) -ℤ pos (lower lowers x f))
 shift_is true x f places = omega (arith, ints)
 shift_is false x f places = omega (arith, ints)
@@ -68,7 +68,7 @@ half_up_zero m w n h g = elim (eqb_tells n 0) [
 zero_half_up : (m w n : ℕ) → 2 * m < w → n ≡ 0 → HalfUp m w n
 zero_half_up m w n h e = subst (HalfUp m w) (sym e) (half_up_below m w 0 m (omega arith) h)
 
--- ---- the definitions in powers of ten that are multiplied and divided by
+-- ---- the definitions, in the powers of ten that multiply and divide
 
 pub cases_le : (a b : ℕ) → (a ≤ b) ⊎ (b < a)
 cases_le a b = elim (eqb_tells (a - b) 0) [ inl e ↦ inl (omega (arith, e.1)) | inr e ↦ inr (omega (arith, e.1)) ]
@@ -116,13 +116,13 @@ whole_iff m up down v = elim (cases_le down up) [
       )
 ]
 
--- ---- exponents that are larger than any that counts
+-- ---- exponents above the cap
 
--- a limit above those of the types
+-- a bound above the limits of all types
 abbrev pub FAR : ℕ
 FAR = 10 ^ 20
 
--- only zero stays below the limit under twenty zeros and more
+-- with twenty zeros or more appended, only zero stays below FAR
 zero_from_far : (m k n : ℕ) → n ≡ m * 10 ^ k → 20 ≤ k → n < FAR → m ≡ 0
 zero_from_far m k n e h lt = elim (eqb_tells m 0) [
   | inl z ↦ z.1
@@ -140,7 +140,7 @@ half_small m len k h lt =
     let power : 10 ^ suc len ≤ 10 ^ k = pow-le-pow_right {n = 10} (lit< tt) lt in
     omega (arith, power, pow-suc 10 len)
 
--- what the digits of a text of at most 64 bytes are, with f of them behind the point
+-- the bounds on m and f that a text of at most 64 bytes has
 pub record AreFew (m f places : ℕ) : Type 0 where
   pub few : m < 10 ^ 64
   pub following : f ≤ 64
@@ -175,7 +175,7 @@ whole_far true m f x y v few hx hy lt h =
     ] in
     times_none m (0 - (f + y)) (omega arith) ∙ e ∙ zero_times v ((f + x) - 0) zero ∙ sym (zero_times v ((f + y) - 0) zero)
 
--- an exponent and its size up to 100 say the same
+-- capping the exponent at 100 does not change the rounded value
 pub half_capped : (lowers : Bool) (m f places x n : ℕ) → AreFew m f places → n < FAR → HalfUp (m * 10 ^ (raise lowers x places - lower lowers x f)) (10 ^ (lower lowers x f - raise lowers x places)) n ↔ HalfUp (m * 10 ^ (raise lowers (min 100 x) places - lower lowers (min 100 x) f)) (10 ^ (lower lowers (min 100 x) f - raise lowers (min 100 x) places)) n
 half_capped lowers m f places x n few lt =
     let P : ℕ → Type 0 = λ y. HalfUp (m * 10 ^ (raise lowers y places - lower lowers y f)) (10 ^ (lower lowers y f - raise lowers y places)) n in

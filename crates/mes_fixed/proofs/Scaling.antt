@@ -1,4 +1,4 @@
--- Digits scaled by powers of ten, as a whole number and what is cut off below it.
+-- Digits scaled by powers of ten: an integer, and the remainder that is dropped.
 use Rattle.std.proofs.Common.{◌≡◌, ℕ, ◌+◌, ◌-◌, ◌*◌, ◌^◌, ◌<◌, ◌≤◌, ◌⊎◌, inl, inr, List, length, take, drop, refl, sym, ◌∙◌, ap, subst, arith, lit<}
 use Rattle.std.specs.Str.Parse.{AllDigits, digits_value}
 use Rattle.std.proofs.Math.Nat.{one-le-pow, mul-le-mul_left, mul-le-mul_right}
@@ -61,7 +61,7 @@ digits_taken ds kept i a e = subst (AllDigits 10) (sym e) (digits_take ds i a)
 pub digits_dropped : (ds kept : List ℕ) (i : ℕ) → AllDigits 10 ds → kept ≡ drop i ds → AllDigits 10 kept
 digits_dropped ds kept i a e = subst (AllDigits 10) (sym e) (digits_drop ds i a)
 
--- ---- rounded, and whole
+-- ---- rounded values and exact integers
 
 pub cut_rounded : (m w : ℕ) (s : Scaled) → IsCut m w s → (s.cut ≡ Nothing) ⊎ (s.cut ≡ BelowHalf) → HalfUp m w s.whole
 cut_rounded m w s h e = half_up_below m w s.whole h.rest h.is (elim e [
@@ -81,7 +81,7 @@ huge_rounded m w h = elim (order (2 * h.rest) w) [
 pub cut_whole : (m w : ℕ) (s : Scaled) → IsCut m w s → s.cut ≡ Nothing → m ≡ s.whole * w
 cut_whole m w s h e = let zero = subst (λ (c : Cut). CutIs c h.rest w) e h.cut in omega (arith, h.is, zero)
 
--- with a rest, no whole number times w is m
+-- if v * w is q * w plus a remainder below w, v is at most q
 multiple_le : (v q w rest : ℕ) → v * w ≡ q * w + rest → rest < w → v ≤ q
 multiple_le v q w rest e h = elim (order q v) [
   | inl lt ↦ let more : (q + 1) * w ≤ v * w = mul-le-mul_right w (omega arith) in absurd (omega (arith, more, e, h))

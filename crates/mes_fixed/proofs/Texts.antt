@@ -1,4 +1,4 @@
--- The text of a fixed-point number, and that it is read back.
+-- The text of a fixed-point number is read back to the number.
 use Rattle.std.proofs.Common.{◌≡◌, ℕ, zero, suc, ◌+◌, ◌-◌, ◌*◌, ◌^◌, ◌<◌, ◌≤◌, ◌≢◌, inl, inr, false, ◌==◌, List, [], ◌∷◌, ◌++◌, length, get_or, refl, sym, ◌∙◌, ap, subst, arith, lit<, ℤ, append_assoc, length-append}
 use Rattle.std.specs.Prelude.{◌/◌, ◌%◌, decimal}
 use Rattle.std.specs.Char.{digit_value}
@@ -21,7 +21,7 @@ use Rattle.mes_fixed.proofs.PlainNumbers.{plain_gives}
 use Rattle.mes_fixed.proofs.DigitValues.{value_append, value_cons}
 use Rattle.mes_fixed.proofs.Scales.{shift_is, nearest_iff, one_half_up, power_none}
 
--- one more digit of a fraction, where something is left behind it
+-- one more digit of a fraction, if more digits follow
 pub fraction_step : (k rest scale : ℕ) (old new all : List ℕ) → old ++ fraction_text (suc k) rest ≡ all → scale ≡ 10 ^ k → new ≡ old ++ (48 + rest / scale) ∷ [] → rest % scale ≢ 0 → new ++ fraction_text k (rest % scale) ≡ all
 fraction_step k rest scale old new all h s n left = elim (eqb_tells (rest % 10 ^ k) 0) [
   | inl e ↦ absurd (left (ap (λ (w : ℕ). rest % w) s ∙ e.1))
@@ -39,7 +39,6 @@ pub record Fraction (k r : ℕ) (ds : List ℕ) : Type 0 where
   pub short : length ds ≤ k
   pub value : digits_value 10 ds * 10 ^ (k - length ds) ≡ r
 
--- one turn of the loop that writes a fraction
 pub fraction_turn : (place rest scale char : ℕ) (old new all : List ℕ) → 0 < place → old ++ fraction_text place rest ≡ all → rest < 10 ^ place → length old + place ≤ 24 → scale ≡ 10 ^ (place - 1) → char ≡ 48 + rest / scale → (char < 128 → new ≡ old ++ char ∷ []) → rest % scale ≢ 0 → (new ++ fraction_text (place - 1) (rest % scale) ≡ all) × (rest % scale < 10 ^ (place - 1)) × (length new + (place - 1) ≤ 24)
 fraction_turn zero rest scale char old new all some h lt room s c push left = absurd (omega arith)
 fraction_turn (suc k) rest scale char old new all some h lt room s c push left =
@@ -169,7 +168,7 @@ pow_above places scale e = let one = one-le-pow places 10 (lit< tt) in omega (ar
 pub rest_below_power : (places scale units : ℕ) → scale ≡ 10 ^ places → units % scale < 10 ^ places
 rest_below_power places scale units e = subst (λ (w : ℕ). units % w < 10 ^ places) (sym e) (mod_below units (10 ^ places) (one-le-pow places 10 (lit< tt)))
 
--- the pieces that are written one behind the other
+-- the pieces are written consecutively
 pub text_is : (places units scale : ℕ) (cleared front whole pointed all : List ℕ) → scale ≡ 10 ^ places → cleared ≡ [] → front ≡ cleared ++ whole → whole ≡ decimal (units / scale) → pointed ≡ front ++ 46 ∷ [] → all ≡ pointed ++ fraction_text places (units % scale) → all ≡ text_of places units
 text_is places units scale cleared front whole pointed all s c f w p a =
     let begun : front ≡ decimal (units / 10 ^ places) = f ∙ ap (λ (x : List ℕ). x ++ whole) c ∙ w ∙ ap (λ (k : ℕ). decimal (units / k)) s in

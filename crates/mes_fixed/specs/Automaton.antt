@@ -1,5 +1,4 @@
--- The automaton that reads a number (RFC 8259 section 6) byte by byte: a table over letters, the
--- classes of bytes that the productions tell apart.
+-- The automaton of numbers (RFC 8259 section 6), as a table over classes of bytes.
 use Rattle.std.specs.Prelude.{◌≡◌, ℕ, Bool, true, false, List, [], ◌∷◌, Option, Some, None, if◌then◌else◌, ◌==◌, nat_le, ◌&&◌, ◌||◌}
 use Rattle.mes_fixed.specs.declared.automaton.NumberState.{NumberState}
 use Rattle.mes_fixed.specs.declared.automaton.NumberState.TheVariants.{AtStart, AfterMinus, AfterZero, InWhole, AfterPoint, InFraction, AfterExponent, AfterSign, InExponent}
@@ -18,7 +17,7 @@ letter_of c =
     else (if c == 45 then dash
     else neither)))))
 
--- the part that is reached from a part by a letter, where a number can go on so
+-- the next state, if a number can continue with the letter
 abbrev pub number_next : NumberState → Letter → Option NumberState
 number_next AtStart nought = Some AfterZero
 number_next AtStart digit = Some InWhole
@@ -54,7 +53,7 @@ number_next InExponent nought = Some InExponent
 number_next InExponent digit = Some InExponent
 number_next InExponent _ = None
 
--- a number may end behind this part
+-- a number may end in this state
 abbrev pub is_final : NumberState → Bool
 is_final AfterZero = true
 is_final InWhole = true
@@ -62,7 +61,7 @@ is_final InFraction = true
 is_final InExponent = true
 is_final _ = false
 
--- the automaton goes from this part over the bytes, and may end there
+-- the automaton accepts the bytes from this state
 abbrev pub Ends : NumberState → List ℕ → Type 0
 Ends part [] = is_final part ≡ true
 Ends part (c ∷ rest) = (next : NumberState) × (number_next part (letter_of c) ≡ Some next) × Ends next rest

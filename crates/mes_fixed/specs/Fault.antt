@@ -1,9 +1,9 @@
--- How a fault is printed.
+-- The texts of the errors.
 use Rattle.std.specs.Prelude.{ℕ, List, codes}
 use Rattle.mes_fixed.specs.declared.fault.NumFault.{NumFault}
 use Rattle.mes_fixed.specs.declared.fault.NumFault.TheVariants.{TooLong, Shape, Range}
 
--- what a fault says
+-- the text of an error
 abbrev pub message : NumFault → List ℕ
 message TooLong = codes "the number's text is too long"
 message Shape = codes "the text is no JSON number"

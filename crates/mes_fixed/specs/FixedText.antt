@@ -1,10 +1,9 @@
--- How a fixed-point number is written, whatever way its digits are found.
+-- The text of a fixed-point number, without an algorithm.
 use Rattle.std.specs.Prelude.{◌≡◌, ℕ, ◌-◌, ◌*◌, ◌^◌, ◌≤◌, List, [], ◌∷◌, ◌++◌, length}
 use Rattle.std.specs.Str.Parse.{IsNumeral, digits_value}
 use Rattle.mes_fixed.specs.Number.{IsInt}
 
--- The text writes so many units of 10^-places: an int of RFC 8259, a point, and 1 to `places` digits, the last of which is a zero only
--- where it stands alone. With a zero for each place that is not written, the digits are those of the units.
+-- the text is `units` units of 10^-places: int "." 1*DIGIT, with no needless trailing zero
 pub record WritesUnits (places units : ℕ) (text : List ℕ) : Type 0 where
   pub whole : List ℕ
   pub fraction : List ℕ

@@ -1,4 +1,4 @@
--- The parts of a number as they are gathered byte by byte along the automaton.
+-- The parts of a number, collected byte by byte along the automaton.
 use Rattle.std.specs.Prelude.{◌≡◌, ℕ, ◌≤◌, Bool, true, false, List, [], ◌∷◌, ◌++◌, ◌==◌, if◌then◌else◌, Option, Some, None}
 use Rattle.std.specs.Option.{option_and_then}
 use Rattle.mes_fixed.specs.declared.automaton.NumberState.{NumberState}
@@ -6,7 +6,7 @@ use Rattle.mes_fixed.specs.declared.automaton.NumberState.TheVariants.{AtStart, 
 use Rattle.mes_fixed.specs.Number.{Numeral}
 use Rattle.mes_fixed.specs.Automaton.{letter_of, number_next, is_final}
 
--- a numeral of these parts
+-- a numeral with these parts
 abbrev pub made : Bool → List ℕ → List ℕ → Bool → List ℕ → Numeral
 made negative whole fraction lowers power = record {
   negative = negative;
@@ -16,11 +16,11 @@ made negative whole fraction lowers power = record {
   power = power;
 }
 
--- before the first byte
+-- no byte yet
 abbrev pub blank : Numeral
 blank = made false [] [] false []
 
--- the parts with one more byte, which led to this part
+-- the parts after one more byte, which led to this state
 abbrev pub gathered : NumberState → ℕ → Numeral → Numeral
 gathered AfterMinus c n = record n { negative = true }
 gathered AfterZero c n = record n { whole = n.whole ++ c ∷ [] }
@@ -30,17 +30,17 @@ gathered AfterSign c n = record n { lowers = c == 45 }
 gathered InExponent c n = record n { power = n.power ++ c ∷ [] }
 gathered _ c n = n
 
--- the parts behind the bytes, where a number ends there
+-- the parts after the bytes, if a number ends there
 abbrev pub run : NumberState → Numeral → List ℕ → Option Numeral
 run part n [] = if is_final part then Some n else None
 run part n (c ∷ rest) = option_and_then (λ next. run next (gathered next c n) rest) (number_next part (letter_of c))
 
--- a digit of the exponent is a digit
+-- if the state is InExponent, the byte is a DIGIT
 abbrev pub IsExponentDigit : NumberState → ℕ → Type 0
 IsExponentDigit InExponent c = (48 ≤ c) × (c ≤ 57)
 IsExponentDigit _ c = Unit {0}
 
--- digits of int come before any of frac
+-- before the point, frac has no digit
 abbrev pub IsBeforePoint : NumberState → Numeral → Type 0
 IsBeforePoint AtStart n = n.fraction ≡ []
 IsBeforePoint AfterMinus n = n.fraction ≡ []

@@ -1,10 +1,9 @@
--- A number as JSON writes it (RFC 8259 section 6). Each production has its ABNF above it; DIGIT is
--- %x30-39 (RFC 5234 appendix B.1), `AllDigits 10` is *DIGIT and `IsNumeral 10` is 1*DIGIT.
+-- The numbers of JSON (RFC 8259 section 6), each production under its ABNF. DIGIT is %x30-39 (RFC
+-- 5234 appendix B.1); `AllDigits 10` is *DIGIT, `IsNumeral 10` is 1*DIGIT.
 use Rattle.std.specs.Prelude.{◌≡◌, ℕ, ◌≤◌, Bool, true, false, ◌⊎◌, List, [], ◌∷◌, ◌++◌}
 use Rattle.std.specs.Str.Parse.{AllDigits, IsNumeral}
 
--- What a number's text has: a minus sign or none, the digits of int, the digits of frac, and whether
--- exp has a minus sign and which digits. A part that isn't there has no digit.
+-- the parts of a number: minus, the digits of int and frac, and the minus and digits of exp
 pub record Numeral : Type 0 where
   pub negative : Bool
   pub whole : List ℕ

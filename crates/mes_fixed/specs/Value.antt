@@ -1,4 +1,4 @@
--- What number a text denotes, and the whole number of units that is nearest to it.
+-- The value of a number's text, and the nearest integer number of units.
 use Rattle.std.specs.Prelude.{◌≡◌, ℕ, suc, ◌+◌, ◌*◌, ◌^◌, ◌<◌, ◌≤◌, ◌≢◌, ◌⊎◌, Bool, true, List, ◌++◌, length, ℤ, pos, negsuc, ◌+ℤ◌, ◌-ℤ◌, neg_ℤ, if◌then◌else◌, FitsSigned}
 use Rattle.std.specs.Str.Parse.{digits_value}
 use Rattle.std.specs.Int.{w32}
@@ -11,81 +11,79 @@ use Rattle.mes_fixed.specs.Number.{Numeral, Spells, IsNumber}
 abbrev pub mantissa : Numeral → ℕ
 mantissa n = digits_value 10 (n.whole ++ n.fraction)
 
--- n, or -n under a minus sign
+-- n, or -n with a minus sign
 abbrev pub signed : Bool → ℕ → ℤ
 signed negative n = if negative then neg_ℤ (pos n) else pos n
 
--- e: the value of exp, less the count of frac's digits. The number is m * 10^e, or -m * 10^e under a
--- minus sign.
+-- e: the value of exp, less the number of frac's digits; the magnitude is m * 10^e
 abbrev pub exponent : Numeral → ℤ
 exponent n = signed n.lowers (digits_value 10 n.power) -ℤ pos (length n.fraction)
 
--- n is the whole number that is nearest to m / w, a half upwards: (2n - 1) w <= 2m < (2n + 1) w
+-- n is the integer nearest to m / w, halves up: (2n - 1) w <= 2m < (2n + 1) w
 pub record HalfUp (m w n : ℕ) : Type 0 where
   pub low : 2 * n * w ≤ 2 * m + w
   pub high : 2 * m < (2 * n + 1) * w
 
--- n is the whole number that is nearest to m * 10^s; `negsuc k` is -(k + 1)
+-- n is the integer nearest to m * 10^s; `negsuc k` is -(k + 1)
 abbrev pub Nearest : ℕ → ℤ → ℕ → Type 0
 Nearest m (pos k) n = n ≡ m * 10 ^ k
 Nearest m (negsuc k) n = HalfUp m (10 ^ suc k) n
 
--- n counts the units of 10^-places that are nearest to m * 10^e
+-- n is the number of units of 10^-places nearest to m * 10^e
 abbrev pub Rounds : ℕ → ℤ → ℕ → ℕ → Type 0
 Rounds m e places n = Nearest m (e +ℤ pos places) n
 
--- m * 10^e is the whole number v
+-- m * 10^e is the integer v
 abbrev pub Whole : ℕ → ℤ → ℕ → Type 0
 Whole m (pos k) v = v ≡ m * 10 ^ k
 Whole m (negsuc k) v = m ≡ v * 10 ^ suc k
 
--- The number is `units` units of 10^-places, rounded: no minus sign stands before a digit other than
--- zero, and they are at most MAX_UNITS.
+-- the number, rounded, is `units` units of 10^-places: not negative, at most MAX_UNITS
 pub record GivesUnits (places : ℕ) (n : Numeral) (units : ℕ) : Type 0 where
   pub unsigned : n.negative ≡ true → mantissa n ≡ 0
   pub rounds : Rounds (mantissa n) (exponent n) places units
   pub fits : units ≤ MAX_UNITS
 
--- The number is the whole number v of 64 bits: no minus sign stands before a digit other than zero.
+-- the number is the unsigned integer v of 64 bits
 pub record GivesWhole (n : Numeral) (v : ℕ) : Type 0 where
   pub unsigned : n.negative ≡ true → mantissa n ≡ 0
   pub whole : Whole (mantissa n) (exponent n) v
   pub fits : v < 2 ^ 64
 
--- The number is the whole number z of 32 bits and a sign.
+-- the number is the signed integer z of 32 bits
 pub record GivesSigned (n : Numeral) (z : ℤ) : Type 0 where
   pub size : ℕ
   pub whole : Whole (mantissa n) (exponent n) size
   pub is : z ≡ signed n.negative size
   pub fits : FitsSigned w32 z
 
--- a minus sign stands before a digit other than zero
+-- the number is negative, and not zero
 abbrev pub IsBelowZero : Numeral → Type 0
 IsBelowZero n = (n.negative ≡ true) × (mantissa n ≢ 0)
 
--- the number has no such units: it is below zero, or rounds to more than MAX_UNITS
+-- the number is negative, or rounds to more than MAX_UNITS
 abbrev pub LacksUnits : ℕ → Numeral → Type 0
 LacksUnits places n =
     IsBelowZero n
     ⊎ ((units : ℕ) × Rounds (mantissa n) (exponent n) places units × (MAX_UNITS < units))
 
--- the number is no whole number of 64 bits: it is below zero, isn't whole or is 2^64 or more
+-- the number is not an unsigned integer of 64 bits
 abbrev pub LacksWhole : Numeral → Type 0
 LacksWhole n = IsBelowZero n ⊎ ((v : ℕ) → Whole (mantissa n) (exponent n) v → 2 ^ 64 ≤ v)
 
--- the number is no whole number of 32 bits and a sign
+-- the number is not a signed integer of 32 bits
 abbrev pub LacksSigned : Numeral → Type 0
 LacksSigned n =
     (size : ℕ) → Whole (mantissa n) (exponent n) size → ¬ (FitsSigned w32 (signed n.negative size))
 
--- a text of at most MAX_NUMBER_TEXT bytes is a number that gives x
+-- a text of at most MAX_NUMBER_TEXT bytes is a number with the value x
 pub record Reads {X : Type 0} (Gives : Numeral → X → Type 0) (text : List ℕ) (x : X) : Type 0 where
   pub short : length text ≤ MAX_NUMBER_TEXT
   pub numeral : Numeral
   pub spells : Spells text numeral
   pub gives : Gives numeral x
 
--- why a text is refused: it is too long, it is no number, or the number lacks a value of the type
+-- the reason why a text is refused: too long, no number, or no value of the type
 abbrev pub Refuses : (Numeral → Type 0) → List ℕ → NumFault → Type 0
 Refuses Lacks text TooLong = MAX_NUMBER_TEXT < length text
 Refuses Lacks text Shape = (length text ≤ MAX_NUMBER_TEXT) × ¬ (IsNumber text)

@@ -1,23 +1,24 @@
-//! The automaton of a JSON number (RFC 8259 section 6), for readers that see one byte at a time.
+//! The automaton of JSON numbers (RFC 8259 section 6), for readers that take one byte at a time.
+//! `decimal` runs it over a text.
 ghost use Rattle.std.specs.Prelude.{◌≡◌, ◌↔◌, IsTrue, IfSome};
 ghost use Rattle.mes_fixed.specs.Automaton.{letter_of, number_next, is_final};
 ghost use Rattle.mes_fixed.specs.Gathering.{IsExponentDigit};
 ghost use Rattle.mes_fixed.specs.Number.{IsNumber};
 
-/// What of a number has been read.
+/// The part of a number that has been read last.
 #[derive(Clone, Copy, Debug, PartialEq, Eq)]
 pub enum NumberState {
     /// Nothing yet.
     AtStart,
     /// The minus sign.
     AfterMinus,
-    /// An integer part that is a zero.
+    /// An integer part that is a single zero.
     AfterZero,
-    /// Digits of an integer part that begins with another digit.
+    /// Digits of an integer part that begins with 1 to 9.
     InWhole,
     /// The decimal point.
     AfterPoint,
-    /// Digits behind the decimal point.
+    /// Digits after the decimal point.
     InFraction,
     /// The `e` or `E`.
     AfterExponent,
@@ -27,7 +28,7 @@ pub enum NumberState {
     InExponent,
 }
 
-/// The state that `byte` leads to, or `None` where no number goes on with it.
+/// Returns the state after `byte`, or `None` if no number continues with `byte`.
 #[inline(always)]
 pub fn next_state(state: NumberState, byte: u8) -> Option<NumberState>
     ensures next { result ≡ number_next state (letter_of byte) }
@@ -53,7 +54,7 @@ pub fn next_state(state: NumberState, byte: u8) -> Option<NumberState>
     }
 }
 
-/// Whether a number may end behind `state`.
+/// Returns whether a number may end in `state`.
 #[inline(always)]
 pub fn may_end(state: NumberState) -> bool
     ensures { result ≡ is_final state }
@@ -67,7 +68,7 @@ pub fn may_end(state: NumberState) -> bool
     )
 }
 
-/// Whether `text` is a JSON number (RFC 8259 section 6), of any length.
+/// Returns whether `text` is a JSON number (RFC 8259 section 6) of any length.
 pub fn is_number(text: &[u8]) -> bool
     ensures { IsTrue result ↔ IsNumber text.now }
 {

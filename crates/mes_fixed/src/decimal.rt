@@ -1,4 +1,5 @@
-//! A number's text taken apart into its digits, and its digits scaled to a whole number.
+//! Splits the text of a number into its parts, and scales its digits to an integer. Digit
+//! arithmetic is in `digits`, the fast path in `plain`.
 ghost use Rattle.std.specs.Prelude.{◌≡◌, ℕ, ◌+◌, ◌*◌, ◌^◌, ◌<◌, ◌≤◌, ◌≢◌, ◌↔◌, true, length, IsTrue, IfSome, IfNone, IfOk, IfErr};
 ghost use Rattle.std.specs.Str.Parse.{AllDigits};
 ghost use Rattle.mes_fixed.specs.declared.limits.TheConstants.{MAX_NUMBER_TEXT, MAX_EXPONENT};
@@ -12,22 +13,22 @@ use arrayvec::ArrayVec;
 /// The parts of a number's text.
 #[derive(Drop)]
 pub struct Decimal {
-    /// Whether a minus sign stands first.
+    /// Whether the number has a minus sign.
     pub negative: bool,
-    /// The digits before and behind the point, joined.
+    /// The digits before and after the point, joined.
     pub digits: ArrayVec<u8, { MAX_NUMBER_TEXT }>,
-    /// How many of them stand behind the point.
+    /// The number of digits after the point.
     pub fraction_digits: usize,
     /// Whether the exponent has a minus sign.
     pub lowers: bool,
-    /// The size of the exponent, at most `MAX_EXPONENT`.
+    /// The magnitude of the exponent, capped at `MAX_EXPONENT`.
     pub exponent: usize,
     ghost room: { length digits.items ≤ MAX_NUMBER_TEXT },
     ghost within: { fraction_digits ≤ length digits.items },
     ghost capped: { exponent ≤ MAX_EXPONENT },
 }
 
-/// A whole number, and what was cut off below it.
+/// A truncated number: the integer, and how the fraction compares with one half.
 #[derive(Clone, Copy)]
 pub struct Scaled {
     pub whole: u64,
@@ -52,7 +53,7 @@ impl Decimal {
         }
     }
 
-    /// Takes a text of at most `MAX_NUMBER_TEXT` bytes apart.
+    /// Splits a text of at most `MAX_NUMBER_TEXT` bytes. Never returns `Range`.
     #[inline(always)]
     pub fn read(text: &[u8]) -> Result<Self, NumFault>
         ensures ok { IfOk result (Reads IsDecimal text.now) }
@@ -77,7 +78,7 @@ impl Decimal {
         }
     }
 
-    /// Takes one more byte, which led to `state`.
+    /// Adds one byte, which led to `state`.
     #[inline(always)]
     fn gather(&mut self, state: NumberState, byte: u8)
         requires room { length self.old.digits.items < MAX_NUMBER_TEXT }
@@ -102,7 +103,7 @@ impl Decimal {
         }
     }
 
-    /// Whether a minus sign stands before a digit other than zero.
+    /// Returns whether the number is negative and not zero.
     pub fn is_below_zero(&self) -> bool
         requires { AllDigits 10 self.now.digits.items }
         ensures { IsTrue result ↔ (self.now.negative ≡ true) × (value self.now ≢ 0) }
@@ -110,7 +111,7 @@ impl Decimal {
         self.negative && !are_zeros(&self.digits)
     }
 
-    /// How many powers of ten the digits are multiplied by.
+    /// Returns the exponent of the power of ten that multiplies the digits.
     fn raised(&self, places: usize) -> usize
         requires { places ≤ 6 }
         ensures { result ≡ raised self.now places }
@@ -122,7 +123,7 @@ impl Decimal {
         }
     }
 
-    /// How many powers of ten the digits are divided by.
+    /// Returns the exponent of the power of ten that divides the digits.
     fn lowered(&self) -> usize
         ensures { result ≡ lowered self.now }
     {
@@ -133,8 +134,8 @@ impl Decimal {
         }
     }
 
-    /// The digits times 10^`places` and the exponent's power, cut to a whole number, or `None` from
-    /// 2^64 on.
+    /// Truncates the magnitude times 10^`places` to an integer. Returns `None` if that is 2^64 or
+    /// more.
     fn scaled(&self, places: usize) -> Option<Scaled>
         requires digits { AllDigits 10 self.now.digits.items }
         requires places { places ≤ 6 }
@@ -160,8 +161,8 @@ impl Decimal {
         })
     }
 
-    /// The whole number nearest to the digits times 10^`places` and the exponent's power, a half
-    /// upwards, or `None` from 2^64 on.
+    /// Rounds the magnitude times 10^`places` to the nearest integer, halves up. Returns `None` if
+    /// that is 2^64 or more.
     pub fn rounded(&self, places: usize) -> Option<u64>
         requires digits { AllDigits 10 self.now.digits.items }
         requires places { places ≤ 6 }
@@ -176,7 +177,7 @@ impl Decimal {
         }
     }
 
-    /// The digits times the exponent's power, where that is a whole number below 2^64.
+    /// Returns the magnitude, if it is an integer below 2^64.
     pub fn whole(&self) -> Option<u64>
         requires { AllDigits 10 self.now.digits.items }
         ensures some { IfSome result (λ v. multiplied self.now 0 ≡ v * divisor self.now 0) }

@@ -1,9 +1,9 @@
-//! Decimal digits, as bytes of ASCII, and what they write.
+//! Decimal ASCII digits and their values.
 ghost use Rattle.std.specs.Prelude.{◌≡◌, ℕ, ◌+◌, ◌*◌, ◌^◌, ◌<◌, ◌≤◌, ◌↔◌, length, IsTrue, IfSome, IfNone};
 ghost use Rattle.std.specs.Str.Parse.{AllDigits, digits_value};
 ghost use Rattle.mes_fixed.specs.Cut.{CutIs};
 
-/// What is cut off below a whole number, beside a half.
+/// How a dropped fraction compares with one half.
 #[derive(Clone, Copy, Debug, PartialEq, Eq)]
 pub enum Cut {
     Nothing,
@@ -11,7 +11,7 @@ pub enum Cut {
     HalfOrMore,
 }
 
-/// The number that `digits` write, or `None` from 2^64 on.
+/// Returns the value of `digits`, or `None` if it is 2^64 or more.
 #[tactic(auto, using(crate::proofs::DigitValues::value_more, crate::proofs::DigitValues::value_more_le, crate::proofs::DigitValues::digit_low))]
 pub fn value_of(digits: &[u8]) -> Option<u64>
     requires { AllDigits 10 digits.now }
@@ -27,7 +27,7 @@ pub fn value_of(digits: &[u8]) -> Option<u64>
     Some(value)
 }
 
-/// The number with this many zeros behind it, or `None` from 2^64 on.
+/// Returns `number` times 10^`zeros`, or `None` if that is 2^64 or more.
 #[tactic(auto, using(crate::proofs::DigitValues::zeros_more, crate::proofs::DigitValues::zeros_more_le))]
 pub fn with_zeros(number: u64, zeros: usize) -> Option<u64>
     ensures some { IfSome result (λ value. value ≡ number * 10 ^ zeros) }
@@ -40,7 +40,7 @@ pub fn with_zeros(number: u64, zeros: usize) -> Option<u64>
     Some(value)
 }
 
-/// Whether each digit is a zero.
+/// Returns whether every digit is a zero.
 pub fn are_zeros(digits: &[u8]) -> bool
     requires { AllDigits 10 digits.now }
     ensures { IsTrue result ↔ (digits_value 10 digits.now ≡ 0) }
@@ -48,7 +48,8 @@ pub fn are_zeros(digits: &[u8]) -> bool
     digits.iter().all(|digit| *digit == b'0')
 }
 
-/// What the digits behind the point are beside a half. With the zeros before them there are `places`.
+/// Compares a fraction of `places` digits with one half. `dropped` are its last digits; the others
+/// are zeros.
 pub fn cut_of(dropped: &[u8], places: usize) -> Cut
     requires digits { AllDigits 10 dropped.now }
     requires some { 0 < places }

@@ -1,17 +1,18 @@
-//! Why a text is refused.
+//! The errors of reading a number.
 ghost use Rattle.std.specs.Prelude.{Some};
 ghost use Rattle.mes_fixed.specs.Fault.{message};
 
 use std::fmt;
 
-/// Why a text is refused as a number of some type. The first that holds is the one that comes.
+/// The reason why a text is not read as a number of some type. If several apply, the first in this
+/// order is returned.
 #[derive(Clone, Copy, Debug, PartialEq, Eq)]
 pub enum NumFault {
-    /// It has more than `MAX_NUMBER_TEXT` bytes.
+    /// The text has more than `MAX_NUMBER_TEXT` bytes.
     TooLong,
-    /// It is no JSON number (RFC 8259 section 6).
+    /// The text is not a JSON number (RFC 8259 section 6).
     Shape,
-    /// It is a number that the type doesn't hold.
+    /// The type cannot represent the number.
     Range,
 }
 

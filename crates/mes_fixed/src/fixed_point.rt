@@ -1,4 +1,4 @@
-//! Decimal numbers of a fixed count of places.
+//! Decimal numbers with a fixed number of places. Integers are in `whole`.
 ghost use Rattle.std.specs.Prelude.{◌≡◌, ℕ, ◌+◌, ◌-◌, ◌^◌, ◌<◌, ◌≤◌, ◌++◌, SomeIff, Some, Ok, IfOk, IfErr};
 ghost use Rattle.arrayvec.specs.ArrayString.{array_string_len};
 ghost use Rattle.mes_fixed.specs.Text.{fraction_text, text_of};
@@ -13,8 +13,8 @@ use itoa::Buffer;
 use std::fmt;
 use std::marker::Model;
 
-/// A count of units of 10^-`P`, at most `MAX_UNITS`. `P` is from 1 to 6. It is ordered by its
-/// units, and printed as it is written.
+/// A non-negative decimal number with `P` places (1 to 6): a count of units of 10^-`P`, at most
+/// `MAX_UNITS`. Ordered by units; printed as [`Fixed::write`] writes it.
 #[derive(Clone, Copy, Debug, PartialEq, Eq, PartialOrd, Ord)]
 pub struct Fixed<const P: u32> {
     units: u64,
@@ -33,14 +33,14 @@ impl<const P: u32> Model for Fixed<P> {
     ghost inverse = { λ n. record { units = n } };
 }
 
-/// A number of three places.
+/// A number with three decimal places.
 pub type Thousandths = Fixed<3>;
 
-/// A number of six places.
+/// A number with six decimal places.
 pub type Micros = Fixed<6>;
 
 impl<const P: u32> Fixed<P> {
-    /// This many units, or `None` above `MAX_UNITS`.
+    /// Returns the number with this count of units, or `None` above `MAX_UNITS`.
     pub fn of_units(units: u64) -> Option<Self>
         requires places { (1 ≤ P) × (P ≤ 6) }
         ensures { SomeIff result (units ≤ MAX_UNITS) units }
@@ -52,7 +52,7 @@ impl<const P: u32> Fixed<P> {
         }
     }
 
-    /// The count of units.
+    /// Returns the count of units.
     pub fn units(&self) -> u64
         ensures value { result ≡ self.now }
         ensures bound { result ≤ MAX_UNITS }
@@ -60,14 +60,14 @@ impl<const P: u32> Fixed<P> {
         self.units
     }
 
-    /// The sum, or `None` above `MAX_UNITS`.
+    /// Returns the sum, or `None` above `MAX_UNITS`.
     pub fn checked_add(self, other: Self) -> Option<Self>
         ensures { SomeIff result (self.entry + other.entry ≤ MAX_UNITS) (self.entry + other.entry) }
     {
         Self::of_units(self.units + other.units)
     }
 
-    /// The difference, or `None` below zero.
+    /// Returns the difference, or `None` below zero.
     pub fn checked_sub(self, other: Self) -> Option<Self>
         ensures { SomeIff result (other.entry ≤ self.entry) (self.entry - other.entry) }
     {
@@ -75,14 +75,15 @@ impl<const P: u32> Fixed<P> {
         Some(Fixed { units })
     }
 
-    /// The number that `text` writes (RFC 8259 section 6), rounded to the nearest unit, a half
-    /// upwards.
+    /// Reads a JSON number (RFC 8259 section 6) and rounds it to the nearest unit, halves up. `-0`
+    /// is 0.
     pub fn read(text: &[u8]) -> Result<Self, NumFault>
         requires places { (1 ≤ P) × (P ≤ 6) }
-        // `Ok`: the text gives these units, and where it gives some, they are the answer.
+        // On success: the rounded number. Every number in range is read.
         ensures ok { IfOk result (Reads (GivesUnits P) text.now) }
         ensures only { (units : ℕ) → Reads (GivesUnits P) text.now units → result ≡ Ok units }
-        // `TooLong`: more than MAX_NUMBER_TEXT bytes; else `Shape`: no number; else `Range`.
+        // `TooLong`: over MAX_NUMBER_TEXT bytes; else `Shape`: no number; else `Range`: negative or
+        // too large.
         ensures fault { IfErr result (Refuses (LacksUnits P) text.now) }
     {
         if let Some(units) = plain_units(text, P as usize) {
@@ -100,11 +101,11 @@ impl<const P: u32> Fixed<P> {
         Self::of_units(units).ok_or(NumFault::Range)
     }
 
-    /// Replaces `text` by the number: the whole part, a point, and 1 to `P` digits without needless
-    /// zeros.
+    /// Replaces `text` with the number: the integer part, a point, and 1 to `P` digits without
+    /// needless trailing zeros, such as `1.5` and `2.0`.
     pub fn write(&self, text: &mut ArrayString<24>)
         ensures text { text.new.bytes ≡ text_of P self.now }
-        // `read` gives the number back.
+        // Reading `text` returns the number again.
         ensures back { Reads (GivesUnits P) text.new.bytes self.now }
     {
         let units = self.units;
@@ -116,7 +117,7 @@ impl<const P: u32> Fixed<P> {
     }
 }
 
-/// Appends the digits behind the point of `rest` units of 10^-`places`, without needless zeros.
+/// Appends the fraction of `rest` units of 10^-`places`, without needless trailing zeros.
 fn push_fraction(text: &mut ArrayString<24>, places: u32, mut rest: u64)
     requires places { (1 ≤ places) × (places ≤ 6) }
     requires rest { rest < 10 ^ places }

@@ -1,5 +1,16 @@
-//! Numbers of JSON texts (RFC 8259 section 6) read exactly: as decimal numbers of a fixed count of
-//! places, and as whole numbers. Nothing here takes memory.
+//! Reads JSON numbers (RFC 8259 section 6) exactly, as fixed-point decimals and as integers.
+//!
+//! No function allocates or computes with floating point. A fixed-point number is rounded once, to
+//! the nearest unit; an integer is never rounded.
+//!
+//! ```ignore
+//! let cpus = Thousandths::read(b"1.5")?; // 1500 units, printed as 1.5
+//! let count = read_u64(b"3e2")?;         // 300
+//! let fault = read_i32(b"0.5");          // Err(NumFault::Range)
+//! ```
+//!
+//! [`NumFault`] lists the errors. Tests are in the crate `mes_fixed_tests`, definitions in
+//! `specs/`.
 #![tactic(auto)]
 
 pub mod automaton;

@@ -1,5 +1,5 @@
-//! Numbers written plainly, as most are: digits, with a point and digits behind them or without, and neither a sign nor an exponent.
-//! Their value is taken as the digits are read. What is written otherwise is left to `Decimal`, which tells every fault.
+//! The fast path for digits with or without a fraction, and with neither sign nor exponent. Any
+//! other text is left to `Decimal`, which also reports all errors.
 ghost use Rattle.std.specs.Prelude.{◌≡◌, ◌≤◌, ◌<◌, ◌^◌, length, slice_index, IsTrue, IfSome};
 ghost use Rattle.std.specs.Str.Parse.{AllDigits, digits_value_after};
 ghost use Rattle.mes_fixed.specs.declared.limits.TheConstants.{MAX_NUMBER_TEXT, MAX_UNITS};
@@ -9,7 +9,7 @@ ghost use Rattle.mes_fixed.specs.Value.{GivesUnits, GivesWhole, Reads};
 use crate::digits::with_zeros;
 use crate::limits::MAX_NUMBER_TEXT;
 
-/// The units of 10^-`places` that a text of digits on both sides of a point writes, of which at most `places` stand behind it; `None` for
+/// Reads digits, a point and at most `places` digits as units of 10^-`places`. Returns `None` for
 /// any other text, and from 2^64 on.
 #[inline(always)]
 pub fn plain_units(text: &[u8], places: usize) -> Option<u64>
@@ -29,7 +29,7 @@ pub fn plain_units(text: &[u8], places: usize) -> Option<u64>
     with_zeros(value, places - fraction.len())
 }
 
-/// The number that a text of digits alone writes; `None` for any other text, and from 2^64 on.
+/// Reads digits only. Returns `None` for any other text, and from 2^64 on.
 #[inline(always)]
 pub fn plain_whole(text: &[u8]) -> Option<u64>
     ensures { IfSome result (λ value. Reads GivesWhole text.now value) }
@@ -40,7 +40,7 @@ pub fn plain_whole(text: &[u8]) -> Option<u64>
     with_digits(0, text)
 }
 
-/// Where the first point of a text stands.
+/// Returns the offset of the first point.
 #[inline(always)]
 fn point_in(text: &[u8]) -> Option<usize>
     ensures { IfSome result (λ at. (at < length text.now) × (slice_index text.now at ≡ 46)) }
@@ -53,7 +53,7 @@ fn point_in(text: &[u8]) -> Option<usize>
     None
 }
 
-/// Whether digits are an int (RFC 8259 section 6): some, and no zero before others.
+/// Returns whether digits are an `int` (RFC 8259 section 6): not empty, no leading zero.
 #[inline(always)]
 fn may_be_int(digits: &[u8]) -> bool
     ensures { IsTrue result → AllDigits 10 digits.now → IsInt digits.now }
@@ -65,7 +65,8 @@ fn may_be_int(digits: &[u8]) -> bool
     }
 }
 
-/// The number that digits write behind those of `value`; `None` where another byte stands among them, and from 2^64 on.
+/// Appends digits to the decimal number `value`. Returns `None` at any other byte, and from 2^64
+/// on.
 #[inline(always)]
 fn with_digits(value: u64, digits: &[u8]) -> Option<u64>
     ensures digits { IfSome result (λ more. AllDigits 10 digits.now × (more ≡ digits_value_after 10 value digits.now)) }

@@ -1,4 +1,5 @@
-//! Whole numbers that a JSON number writes: `3`, `3.0` and `3e0` are 3.
+//! Integers from JSON numbers: `3`, `3.0` and `3e0` are all 3. Decimal numbers are in
+//! `fixed_point`.
 ghost use Rattle.std.specs.Prelude.{◌≡◌, ℕ, ℤ, ◌<◌, ◌^◌, SomeIff, Bool, Ok, IfOk, IfErr, FitsSigned};
 ghost use Rattle.std.specs.Int.{w32};
 ghost use Rattle.mes_fixed.specs.Value.{GivesWhole, LacksWhole, GivesSigned, LacksSigned, Reads, Refuses, signed};
@@ -7,12 +8,13 @@ use crate::decimal::Decimal;
 use crate::fault::NumFault;
 use crate::plain::plain_whole;
 
-/// The whole number that `text` writes (RFC 8259 section 6). `-0` is 0.
+/// Reads an unsigned integer of 64 bits from a JSON number (RFC 8259 section 6). `-0` is 0.
 pub fn read_u64(text: &[u8]) -> Result<u64, NumFault>
-    // `Ok`: the text gives this number, and where it gives one, that is the answer.
+    // On success: the exact value. Every integer in range is read.
     ensures ok { IfOk result (Reads GivesWhole text.now) }
     ensures only { (value : ℕ) → Reads GivesWhole text.now value → result ≡ Ok value }
-    // `TooLong`: more than MAX_NUMBER_TEXT bytes; else `Shape`: no number; else `Range`.
+    // `TooLong`: over MAX_NUMBER_TEXT bytes; else `Shape`: no number; else `Range`: no integer of
+    // 64 bits.
     ensures fault { IfErr result (Refuses LacksWhole text.now) }
 {
     if let Some(value) = plain_whole(text) {
@@ -25,12 +27,13 @@ pub fn read_u64(text: &[u8]) -> Result<u64, NumFault>
     decimal.whole().ok_or(NumFault::Range)
 }
 
-/// The whole number with its sign that `text` writes (RFC 8259 section 6).
+/// Reads a signed integer of 32 bits from a JSON number (RFC 8259 section 6).
 pub fn read_i32(text: &[u8]) -> Result<i32, NumFault>
-    // `Ok`: the text gives this number, and where it gives one, that is the answer.
+    // On success: the exact value. Every integer in range is read.
     ensures ok { IfOk result (Reads GivesSigned text.now) }
     ensures only { (value : ℤ) → Reads GivesSigned text.now value → result ≡ Ok value }
-    // `TooLong`: more than MAX_NUMBER_TEXT bytes; else `Shape`: no number; else `Range`.
+    // `TooLong`: over MAX_NUMBER_TEXT bytes; else `Shape`: no number; else `Range`: no integer of
+    // 32 bits.
     ensures fault { IfErr result (Refuses LacksSigned text.now) }
 {
     let decimal = Decimal::read(text)?;
@@ -40,7 +43,7 @@ pub fn read_i32(text: &[u8]) -> Result<i32, NumFault>
     with_sign(decimal.negative, size).ok_or(NumFault::Range)
 }
 
-/// `size` with its sign, where that has 32 bits.
+/// Applies the sign to `size`, if the result has 32 bits.
 fn with_sign(negative: bool, size: u64) -> Option<i32>
     ensures { SomeIff result (FitsSigned w32 (signed negative size)) (signed negative size) }
 {

@@ -1,4 +1,4 @@
--- The text is a number exactly where what is left goes on from the state to an end.
+-- The text is a number exactly if the automaton accepts the remaining bytes from the current state.
 use Rattle.std.proofs.Common.{◌↔◌, drop}
 use Rattle.mes_fixed.specs.declared.automaton.NumberState.TheVariants.{AtStart}
 use Rattle.mes_fixed.specs.Automaton.{Ends}

@@ -1,4 +1,4 @@
--- The digits so far and those of what is left are the digits of all.
+-- The digits written so far, and those of the remaining units, are all digits of the fraction.
 use Rattle.std.proofs.Common.{◌≡◌, ◌+◌, ◌^◌, ◌<◌, ◌≤◌, ◌++◌, length}
 use Rattle.mes_fixed.specs.Text.{fraction_text}
 use Rattle.mes_fixed.proofs.fixed_point.push_fraction.Given as goal
