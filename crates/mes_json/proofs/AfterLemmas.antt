@@ -1,7 +1,4 @@
--- How a reader goes on behind a value in objects and arrays.
---     object_ends, array_ends                   the last byte
---     name_follows, name_led, item_follows      a comma
---     nothing_follows, no_object, no_array      what is refused
+-- The reader after a value in objects and arrays.
 use Rattle.std.proofs.Common.{◌≡◌, ℕ, ◌+◌, inl, inr, List, [], ◌∷◌, Option, Some, None, Result, OnOk, IfErr, refl, ap, sym, ◌∙◌, subst, arith}
 use Rattle.mes_json.specs.Tree.{Tree, Members}
 use Rattle.mes_json.specs.Tree.Tree.{object, array}
@@ -25,7 +22,6 @@ use Rattle.mes_json.specs.declared.tape.Node.TheVariants.{End}
 use Rattle.mes_json.proofs.NestingLemmas.{outer_last, top_of, top_is}
 use Rattle.mes_json.proofs.ReaderLemmas.{tape_of, view_at, form_at, covered_at, Owes, Moves, moved}
 
--- ---- the last byte
 object_end : (texts b : List ℕ) (n : List Open) (c : ℕ) (s : State) (fs : List Frame) (t : Tree) → s ≡ state fs (m.ReaderState.after t) → n ≡ opens fs → top_of fs ≡ Some Object
     → kind_of c ≡ m.ByteClass.closing → Moves texts b s s c End at.TheVariants.After (outer n)
 object_end texts b n c s [] t is are_open top kind = absurd (cc)
@@ -66,7 +62,6 @@ array_ends old new result c fits is_at inside kind ok err =
     moved old new result c at.TheVariants.After at.TheVariants.After End (outer old.nesting.items) fits is_at (λ l. omega arith) tt
     (array_end _ _ old.nesting.items c _ h.frames h.tree h.is h.are_open (top_is _ h.frames _ h.are_open inside) kind) ok err
 
--- ---- a comma
 is_full : (ms : Members) (k : List ℕ) (t : Tree) → IsFull (with_member ms k t)
 is_full no_members k t = tt
 is_full (member j u ms) k t = tt
@@ -115,7 +110,6 @@ item_follows old c fits is_at inside kind =
     let next : NextItem old.nesting.items (tape_of old) c = next_item old.nesting.items c _ h.frames h.tree h.is h.are_open (top_is _ h.frames _ h.are_open inside) kind in
     (ap (λ (s : State). step MAX_NESTING s c) (view_at old at.TheVariants.After is_at) ∙ next.gives, record { at = next.form; tape = fits.tape; start = fits.start; covered = covered_at old at.TheVariants.After is_at fits })
 
--- ---- what is refused behind a value
 refused_after : (old : Reader) (c : ℕ) (k : m.ByteClass) (fits : Fits old) → (is_at : old.at ≡ at.TheVariants.After) → kind_of c ≡ k
     → ((fs : List Frame) (t : Tree) → old.nesting.items ≡ opens fs → (let none : Option State = None in on_after fs t k ≡ none)) → Refuses MAX_NESTING Byte (state_view old) c
 refused_after old c k fits is_at kind nowhere =
@@ -134,7 +128,7 @@ pub nothing_follows : (old : Reader) (c : ℕ) → Fits old → old.at ≡ at.Th
 nothing_follows old c fits is_at inside kind =
     refused_after old c m.ByteClass.comma fits is_at kind (λ fs t are_open. no_comma fs t (top_is _ fs _ are_open inside))
 
--- what is open there is no object
+-- the innermost open one is not an object
 abbrev pub NoObject : Option Open → Type 0
 NoObject None = Unit {0}
 NoObject (Some Object) = ⊥

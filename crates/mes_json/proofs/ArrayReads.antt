@@ -1,8 +1,4 @@
--- Complete: what the machine does in an array round its items.
---     over_first                              the first item is read as a value behind the open array
---     joined_items                            items, and then others
---     opens_array, close_empty_array, close_last_item
---                                             an array's two ends
+-- Completeness: the machine in an array, around its items.
 use Rattle.std.proofs.Common.{◌≡◌, ℕ, zero, suc, ◌+◌, ◌<◌, inl, inr, true, false, List, [], ◌∷◌, ◌++◌, length, Some, None, option_and_then, if◌then◌else◌, refl, ap, sym, ◌∙◌, subst, arith, lt-ltb}
 use Rattle.mes_json.specs.Tree.{Tree, Items}
 use Rattle.mes_json.specs.Tree.Tree.{null, boolean, number, string, array, object}
@@ -15,8 +11,7 @@ use Rattle.mes_json.specs.Machine.ReaderState.{value, first_item, after}
 use Rattle.mes_json.proofs.Reach.{Follows, Reaches, Leads, leads, by_byte, then_to, over_spaces}
 use Rattle.mes_json.proofs.TokenReads.{number_starts}
 
--- ---- the first item
--- where the first item is due, the byte does what it does at a value behind the open array
+-- at the first item, the byte has the effect that it has at a value in the open array
 abbrev StartsValue : ℕ → Type 0
 StartsValue c = (d : ℕ) (fs : List Frame) → on_first_item d fs (kind_of c) ≡ on_value d (array_frame no_items ∷ fs) (kind_of c)
 
@@ -44,8 +39,7 @@ over_first t d fs room b last h f = λ q g.
     ap (λ (x : List ℕ). ends d (state fs first_item) (x ++ q)) s.2 ∙ ap (option_and_then finish) same
     ∙ sym (ap (λ (x : List ℕ). ends d (state (array_frame no_items ∷ fs) value) (x ++ q)) s.2) ∙ f q g
 
--- ---- items
--- the items ts and then others
+-- the items ts, followed by others
 abbrev pub joined_items : Items → Items → Items
 joined_items no_items others = others
 joined_items (item t ts) others = item t (joined_items ts others)
@@ -62,7 +56,6 @@ pub follows_more_items : (ts : Items) (room : ℕ) (b : List ℕ) → MoreItems 
 follows_more_items no_items room b e q = subst (λ (x : List ℕ). Follows ((x ++ 93 ∷ []) ++ q)) (sym e) (inr (inr (inl refl)))
 follows_more_items (item t ts) room b (rest, e, h) q = subst (λ (x : List ℕ). Follows ((x ++ 93 ∷ []) ++ q)) (sym e) (inr (inl refl))
 
--- ---- an array's two ends
 pub opens_array : (d : ℕ) (fs : List Frame) (room : ℕ) → length fs + suc room ≡ d → step d (state fs value) 91 ≡ Some (state fs first_item)
 opens_array d fs room e =
     let l : length fs < d = omega arith in

@@ -1,7 +1,4 @@
--- Sound: the steps in an array.
---     on_first_item_sound                 where its first item is due
---     array_ready                         an array with the value that was read last
---     array_closes, item_is_due           at the byte behind that value
+-- Soundness: the steps in an array.
 use Rattle.std.proofs.Common.{◌≡◌, ℕ, suc, List, [], ◌∷◌, ◌++◌, Some, refl, ap, sym, ◌∙◌, subst, append_assoc, append-nil}
 use Rattle.mes_json.specs.Tree.{Tree, Items}
 use Rattle.mes_json.specs.Tree.Tree.{array}
@@ -15,7 +12,6 @@ use Rattle.mes_json.specs.Machine.ReaderState.{value, first_item, after}
 use Rattle.mes_json.proofs.Held.{BeforeItem, InArray, HeldStack, Valued, Held}
 use Rattle.mes_json.proofs.SoundLemmas.{some_is, none_some, KindIs, push, array_space, on_value_sound}
 
--- ---- one more item
 more_items : (ts : Items) (t : Tree) (room : ℕ) (b m : List ℕ) → MoreItems ts room b → Spaced (IsValue t room) m → MoreItems (with_item ts t) room (b ++ 44 ∷ m)
 more_items no_items t room b m e h = (m, ap (λ (x : List ℕ). x ++ 44 ∷ m) e, record { first = m; rest = []; is = sym (append-nil m); is_first = h; is_rest = refl })
 more_items (item u ts) t room b m (rest, e, g) h = (
@@ -45,7 +41,6 @@ before_next : (ts : Items) (t : Tree) (room : ℕ) (b : List ℕ) → AreItems (
 before_next no_items t room b h = (b, refl, h)
 before_next (item u ts) t room b h = (b, refl, h)
 
--- ---- where the first item is due
 empty_closes : (fs : List Frame) (d room : ℕ) (b : List ℕ) → InArray (HeldStack d fs) no_items room b → Held d (state fs (after (array no_items))) (b ++ 93 ∷ [])
 empty_closes fs d room b h = (
   suc room,
@@ -60,7 +55,6 @@ empty_closes fs d room b h = (
   },
 )
 
--- an item's first byte is a value's within the array
 pub on_first_item_sound : (d : ℕ) (fs : List Frame) (k : ByteClass) (c : ℕ) (next : State) (b : List ℕ) → KindIs k c → Held d (state fs first_item) b
     → on_first_item d fs k ≡ Some next → Held d next (b ++ c ∷ [])
 on_first_item_sound d fs blank c next b is h e = subst (λ (s : State). Held d s (b ++ c ∷ [])) (some_is e) (h.0, array_space (HeldStack d fs) no_items h.0 b c h.1 is)
@@ -75,8 +69,7 @@ on_first_item_sound d fs comma c next b is h e = none_some e
 on_first_item_sound d fs other c next b is h e = none_some e
 on_first_item_sound d fs (begins x) c next b is h e = on_value_sound d (array_frame no_items ∷ fs) (begins x) c next b is h e
 
--- ---- behind an item
--- an array and the items that it has so far, the last one too
+-- an array with its items so far, and the last one
 pub record ArrayReady (d : ℕ) (fs : List Frame) (ts : Items) (t : Tree) (room : ℕ) (b : List ℕ) : Type 0 where
   pub outer : List ℕ
   pub items : List ℕ

@@ -1,5 +1,4 @@
--- White space between tokens leaves the reader as it is.
---     blanks_taken    a run of it is taken
+-- White space between tokens leaves the state of the reader unchanged.
 use Rattle.std.proofs.Common.{◌≡◌, ℕ, ◌+◌, ◌-◌, ◌≤◌, ◌⊎◌, inl, inr, List, [], ◌∷◌, length, take, drop, Some, option_and_then, refl, ap, sym, ◌∙◌, subst, arith}
 use Rattle.std.proofs.Math.Seq.{take-add}
 use Rattle.std.specs.List.{AllByRecursion}
@@ -15,14 +14,13 @@ use Rattle.mes_json.proofs.RunLemmas.{run_on}
 use Rattle.mes_json.proofs.ReaderLemmas.{part, due, form_at}
 use Rattle.mes_json.proofs.TakenLemmas.{rest_is, rest_length}
 
--- ---- one byte of it
 blank_kind : (c : ℕ) → IsBlank c → kind_of c ≡ m.ByteClass.blank
 blank_kind c (inl e) = ap kind_of e
 blank_kind c (inr (inl e)) = ap kind_of e
 blank_kind c (inr (inr (inl e))) = ap kind_of e
 blank_kind c (inr (inr (inr e))) = ap kind_of e
 
--- it leaves the state at this place as it is
+-- white space leaves the machine's state unchanged in this state of the reader
 abbrev Passes : at.ReaderState → Type 0
 Passes a = (n : List Open) (b : List ℕ) (s : State) (c : ℕ) → IsAt a n s → IsBlank c → step MAX_NESTING (with_read a b s) c ≡ Some (with_read a b s)
 
@@ -50,7 +48,6 @@ passes_after : Passes at.TheVariants.After
 passes_after n b s c h is =
     ap (λ (t : State). step MAX_NESTING t c) h.is ∙ ap (on_after h.frames h.tree) (blank_kind c is) ∙ ap (λ (t : State). Some t) (sym h.is)
 
--- a place between two tokens
 abbrev IsBetween : at.ReaderState → Type 0
 IsBetween a =
     (a ≡ at.TheVariants.Value) ⊎ ((a ≡ at.TheVariants.FirstItem) ⊎ ((a ≡ at.TheVariants.FirstName)
@@ -64,13 +61,11 @@ passes a (inr (inr (inr (inl e)))) = subst Passes (sym e) passes_name
 passes a (inr (inr (inr (inr (inl e))))) = subst Passes (sym e) passes_colon
 passes a (inr (inr (inr (inr (inr e))))) = subst Passes (sym e) passes_after
 
--- ---- a run of it
 over_blanks : (d : ℕ) (s : State) (q : List ℕ) → ((c : ℕ) → IsBlank c → step d s c ≡ Some s) → AllByRecursion IsBlank q → run d s q ≡ Some s
 unfolding run
 over_blanks d s [] passes h = refl
 over_blanks d s (c ∷ q) passes h = ap (option_and_then (λ (next : State). run d next q)) (passes c h.0) ∙ over_blanks d s q passes h.1
 
--- over the bytes behind the place, as they are cut out
 pub blanks_taken : (r : Reader) (b : List ℕ) (from n : ℕ) → Fits r → IsBetween r.at → from ≤ length b
     → n ≤ length (take (length b - from) (drop from b)) → AllByRecursion IsBlank (take n (take (length b - from) (drop from b)))
     → RunsTo r b from (from + n) r

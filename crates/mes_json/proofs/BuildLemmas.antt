@@ -1,11 +1,4 @@
--- One more item, one more member, one more node of a tree in the making.
---     item_joins, member_joins      one more item or member of the innermost array or object
---     name_follows                  the name of the next
---     array_around                  one more array or object within an array
---     array_ends, object_ends       the innermost one ends
---     array_again, object_again     the one around it is the innermost again
---     on_ok                         what follows from what holds where all went well
---     node_taken                    one more node of a tape
+-- One more item, member or node of a tree in construction.
 use Rattle.std.proofs.Common.{◌≡◌, ℕ, ◌+◌, ◌<◌, List, [], ◌∷◌, ◌++◌, length, take, get_or, map, reverse, Option, Some, None, Result, Ok, Err, OnOk, Vec, Global, refl, ap, sym, ◌∙◌, add-one, take-suc}
 use Rattle.std.proofs.lemmas.List.{map-append, reverse-append}
 use Rattle.mes_json.specs.Tree.{Items, Members}
@@ -33,7 +26,6 @@ use Rattle.mes_json.proofs.ViewLemmas.{view-List, view-Map}
 frames_last : (os : List Outer) (o : Outer) → frames_view (os ++ o ∷ []) ≡ frame_view o ∷ frames_view os
 frames_last os o = ap (λ (fs : List Frame). reverse fs) (map-append frame_view os (o ∷ [])) ∙ reverse-append (map frame_view os) (frame_view o ∷ [])
 
--- ---- the last of some, and the others
 last_is : {A : Type 0} (x : A) (xs : List A) (last : A) → last_of x (xs ++ last ∷ []) ≡ last
 last_is x [] last = refl
 last_is x (y ∷ ys) last = last_is y ys last
@@ -55,7 +47,6 @@ all_members : (x : List ℕ × Json) (xs : List (List ℕ × Json))
 all_members x [] = refl
 all_members x (y ∷ ys) = ap (member x.0 (view x.1)) (all_members y ys)
 
--- ---- an array
 array_last : (fs : List Frame) (ts grown : List Json) (json : Json) → grown ≡ ts ++ json ∷ []
     → array_state fs grown ≡ state (array_frame (items_view ts) ∷ fs) (after (view json))
 array_last fs ts grown json is = ap (array_state fs) is ∙ by ts
@@ -73,7 +64,6 @@ array_ended : (fs : List Frame) (ts : List Json) → ended (array_state fs ts) �
 array_ended fs [] = refl
 array_ended fs (x ∷ xs) = ap (λ (is : Items). state fs (after (array is))) (all_items x xs)
 
--- ---- an object
 object_last : (fs : List Frame) (ms grown : List (List ℕ × Json)) (k : List ℕ) (json : Json) → grown ≡ ms ++ (k, json) ∷ []
     → object_state fs grown ≡ state (frame (members_view ms) k ∷ fs) (after (view json))
 object_last fs ms grown k json is = ap (object_state fs) is ∙ by ms
@@ -92,7 +82,6 @@ object_ended : (fs : List Frame) (ms : List (List ℕ × Json)) → ended (objec
 object_ended fs [] = refl
 object_ended fs (x ∷ xs) = ap (λ (is : Members). state fs (after (object is))) (all_members x xs)
 
--- ---- the building
 pub item_joins : (b : TreeBuilder) (ts grown : Vec Json Global) (json : Json) → b.inner ≡ Array ts → grown.items ≡ ts.items ++ json ∷ []
     → array_state (frames_view b.outer.items) grown.items ≡ valued (after (view json)) (value_due (building_view b))
 item_joins b ts grown json was is =
@@ -149,7 +138,6 @@ pub on_ok : {A E : Type 0} (r : Result A E) (P Q : Type 0) → (P → Q) → OnO
 on_ok (Ok u) P Q f h = f h
 on_ok (Err e) P Q f h = tt
 
--- ---- one more node of a tape
 pub node_taken : (texts : List ℕ) (xs : List Node) (x : Node) (n : ℕ) (before s : State) → n < length xs → before ≡ spelled texts (take n xs)
     → s ≡ apply texts (get_or xs n x) before → s ≡ spelled texts (take (n + 1) xs)
 node_taken texts xs x n before s inside was is =

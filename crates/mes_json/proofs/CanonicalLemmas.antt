@@ -1,4 +1,4 @@
--- The canonical text of a tree is a JSON text of it: `canonical_is_text`.
+-- The canonical text of a tree is a JSON text of that tree: `canonical_is_text`.
 use Rattle.std.proofs.Common.{ℕ, zero, suc, ◌≤◌, List, [], ◌∷◌, ◌++◌, refl, sym, arith}
 use Rattle.std.proofs.lemmas.List.{append-nil}
 use Rattle.std.specs.Str.{IsUtf8}
@@ -11,7 +11,7 @@ use Rattle.mes_json.specs.Canonical.{escaped_text, quoted_text, canonical, canon
 use Rattle.mes_json.specs.Writable.{IsWritable, AreWritable, AreWritableMembers}
 use Rattle.mes_json.proofs.EscapedLemmas.{spells}
 
--- with no white space around it
+-- without white space around it
 bare : {It : List ℕ → Type 0} {b : List ℕ} → It b → Spaced It b
 bare {b = b} h = record { before = []; inside = b; after = []; is = sym (append-nil b); spaces_before = tt; has = h; spaces_after = tt }
 

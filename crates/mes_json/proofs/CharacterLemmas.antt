@@ -1,8 +1,4 @@
--- How characters that stand for themselves move the machine.
---     plain_stands, space_stands              plain ones
---     leads_nowhere                           no byte at all
---     two_stand, three_stand, four_stand      one of so many bytes
---     stands_further                          more of them
+-- Runs of the machine over characters without an escape.
 use Rattle.std.proofs.Common.{◌≡◌, ◌≢◌, ℕ, ◌+◌, ◌-◌, ◌<◌, ◌≤◌, Bool, true, List, [], ◌∷◌, ◌++◌, length, take, drop, get_or, Some, option_and_then, if◌then◌else◌, nat_lt, refl, ap, sym, ◌∙◌, subst, arith, append_assoc, append-nil, lt-ltb, take-suc, add-one}
 use Rattle.std.proofs.Math.Seq.{take-add}
 use Rattle.std.proofs.lemmas.Bool.Decides.{nat_tests}
@@ -18,11 +14,10 @@ use Rattle.mes_json.proofs.RunLemmas.{run_on, run_take}
 use Rattle.mes_json.proofs.StringLemmas.{between_reads, within_reads}
 use Rattle.mes_json.proofs.TakenLemmas.{rest_is}
 
--- a byte of a string that is kept as it is, and where it leads within a character
+-- a byte of a string that is kept as it is, and the state after it
 record Follows (from : mid.Utf8State) (c : ℕ) (to : mid.Utf8State) : Type 0 where
   keeps : (fs : List Frame) (p : m.Purpose) (b : List ℕ) → on_quoted fs p (mid_view from) b c ≡ Some (state fs (m.ReaderState.quoted p (mid_view to) (b ++ c ∷ [])))
 
--- ---- plain ones
 where_true : {A : Type 0} (t : Bool) (x y : A) → t ≡ true → (if t then x else y) ≡ x
 where_true t x y is = ap (λ (b : Bool). if b then x else y) is
 
@@ -46,8 +41,7 @@ plain_stands q h = record { runs = λ fs p b. over_plain MAX_NESTING fs p b q h 
 pub space_stands : (b : List ℕ) → 0 < length b → get_or b 0 0 ≡ 0x20 → StandAlone (take 1 b)
 space_stands b inside is = subst StandAlone (sym (take-suc b 0 0 inside)) (plain_stands (get_or b 0 0 ∷ []) ((omega arith, omega arith, omega arith, omega arith), tt))
 
--- ---- one of several bytes
--- a byte behind the first one of a character; the second one of some has a narrower range
+-- a continuation byte; the second byte of some characters has a narrower range
 abbrev pub GoesOn : ℕ → Type 0
 GoesOn c = (0x80 ≤ c) × (c ≤ 0xBF)
 
@@ -66,20 +60,17 @@ leads_on b n from to h inside follows = record {
       ∙ ap (λ (x : List ℕ). s ++ x) (sym (ap (λ (k : ℕ). take k b) (add-one n) ∙ take-suc b n 0 inside)));
 }
 
--- its first byte, which wants so many more
 begins : (b : List ℕ) (more least most : ℕ) → 0 < length b → 0x80 ≤ get_or b 0 0 → lead (get_or b 0 0) ≡ Some (m.Utf8State.within more least most)
     → LeadsTo (take 1 b) (m.Utf8State.within more least most)
 begins b more least most inside high leads =
     leads_on b 0 mid.TheVariants.Between (mid.TheVariants.Within more least most) leads_nowhere inside
     (record { keeps = between_reads (get_or b 0 0) (mid.TheVariants.Within more least most) (omega arith) (omega arith) (omega arith) leads })
 
--- a byte behind that, and where it leads
 within_on : (b : List ℕ) (n more least most : ℕ) (next : mid.Utf8State) → mid_view next ≡ after_byte more → LeadsTo (take n b) (m.Utf8State.within more least most) → n < length b
     → least ≤ get_or b n 0 → get_or b n 0 ≤ most → LeadsTo (take (n + 1) b) (mid_view next)
 within_on b n more least most next after h inside low high =
     leads_on b n (mid.TheVariants.Within more least most) next h inside (record { keeps = within_reads more least most (get_or b n 0) next low high after })
 
--- the last bytes, one, two or three
 one_more : (b : List ℕ) (n least most : ℕ) → LeadsTo (take n b) (m.Utf8State.within 1 least most) → n < length b → least ≤ get_or b n 0 → get_or b n 0 ≤ most
     → StandAlone (take (n + 1) b)
 one_more b n least most h inside low high = within_on b n 1 least most mid.TheVariants.Between refl h inside low high
@@ -94,7 +85,6 @@ three_more : (b : List ℕ) (n least most : ℕ) → LeadsTo (take n b) (m.Utf8S
 three_more b n least most h inside low high on more =
     two_more b (n + 1) 0x80 0xBF (within_on b n 3 least most (mid.TheVariants.Within 2 0x80 0xBF) refl h (omega arith) low high) (omega arith) on.0 on.1 more
 
--- where its first byte leads
 lead_two : (c : ℕ) → 0xC2 ≤ c → c ≤ 0xDF → lead c ≡ Some (m.Utf8State.within 1 0x80 0xBF)
 lead_two c l h = grind (arith, nat_tests)
 
@@ -131,7 +121,6 @@ four_stand b inside low high long above on more last = by (ℕ_discrete (get_or 
     by (no n) (yes e) = from 0x80 0x8F (ap lead e) on.0 (above e)
     by (no n) (no k) = from 0x80 0xBF (lead_four (get_or b 0 0) low high n k) on.0 on.1
 
--- ---- more of them
 on : (b : List ℕ) (place n : ℕ) → StandAlone (take place b) → StandAlone (take n (drop place b)) → StandAlone (take (place + n) b)
 on b place n h k = record {
   runs = λ (fs : List Frame) (p : m.Purpose) (s : List ℕ).

@@ -1,6 +1,4 @@
--- Complete: the machine reads each text by the grammar to its tree.
---     complete_text      it does
---     one_text           so bytes spell one tree at most
+-- Completeness: the machine reads every text of the grammar to its tree.
 use Rattle.std.proofs.Common.{◌≡◌, ℕ, zero, suc, ◌+◌, ◌<◌, inl, inr, List, [], ◌∷◌, ◌++◌, length, Some, None, if◌then◌else◌, refl, ap, sym, ◌∙◌, subst, arith, append_assoc, append-nil, lt-ltb}
 use Rattle.mes_json.specs.Tree.{Tree, Items, Members}
 use Rattle.mes_json.specs.Tree.Tree.{null, boolean, number, string, array, object}
@@ -17,7 +15,6 @@ use Rattle.mes_json.proofs.StringReads.{over_string, over_spaced_name}
 use Rattle.mes_json.proofs.TokenReads.{over_null, over_boolean, over_number}
 use Rattle.mes_json.proofs.ArrayReads.{over_first, joined_items, joined_items_next, follows_more_items, opens_array, close_empty_array, close_last_item}
 
--- ---- blanks round a value
 after_spaces : (d : ℕ) (fs : List Frame) (t : Tree) (b : List ℕ) → IsSpaces b → Reaches d (state fs (after t)) b (state fs (after t))
 after_spaces d fs t b h = over_spaces d _ (λ c e. ap (on_after fs t) e) b h
 
@@ -32,7 +29,6 @@ over_spaced_value : (d : ℕ) (fs : List Frame) (t : Tree) (It : List ℕ → Ty
     → Spaced It b → Leads d (state fs value) b (state fs (after t))
 over_spaced_value d fs t It b over h = over_spaced d (state fs value) fs t It b (λ c e. ap (on_value d fs) e) over h
 
--- ---- members
 over_member : (d : ℕ) (fs : List Frame) (ms : Members) (k : List ℕ) (t : Tree) (It : List ℕ → Type 0) (b : List ℕ)
     → ((x : List ℕ) → It x → Leads d (state (frame ms k ∷ fs) value) x (state (frame ms k ∷ fs) (after t)))
     → IsMember (IsString k) It b → Leads d (state fs (name ms)) b (state (frame ms k ∷ fs) (after t))
@@ -41,7 +37,6 @@ over_member d fs ms k t It b over h =
     (reach_then d _ _ _ h.name (58 ∷ h.value) (over_spaced_name d fs ms k h.name h.is_name)
     (reach_then d _ _ _ (58 ∷ []) h.value (by_byte d _ _ 58 refl) (over_spaced_value d (frame ms k ∷ fs) t It h.value over h.is_value)))
 
--- the members ms and then others
 abbrev pub joined : Members → Members → Members
 joined no_members others = others
 joined (member k t ms) others = member k t (joined ms others)
@@ -58,7 +53,6 @@ follows_more : (ms : Members) (room : ℕ) (b : List ℕ) → MoreMembers ms roo
 follows_more no_members room b e q = subst (λ (x : List ℕ). Follows ((x ++ 125 ∷ []) ++ q)) (sym e) (inr (inr (inr refl)))
 follows_more (member k t ms) room b (rest, e, h) q = subst (λ (x : List ℕ). Follows ((x ++ 125 ∷ []) ++ q)) (sym e) (inr (inl refl))
 
--- ---- an object's two ends
 opens : (d : ℕ) (fs : List Frame) (room : ℕ) → length fs + suc room ≡ d → step d (state fs value) 123 ≡ Some (state fs (name no_members))
 opens d fs room e =
     let l : length fs < d = omega arith in
@@ -74,7 +68,7 @@ close_last d fs so k t b e =
     (subst (λ (ms : Members). Leads d (state (frame so k ∷ fs) (after t)) (125 ∷ []) (state fs (after (object ms)))) (sym (joined_none (with_member so k t)))
     (leads d _ _ (125 ∷ []) (by_byte d _ _ 125 refl)))
 
--- ---- values, under the limit d with so much room
+-- values, under the limit d, with `room` levels left
 mutual
   over_tree : (t : Tree) (d : ℕ) (fs : List Frame) (room : ℕ) (b : List ℕ) → length fs + room ≡ d → IsValue t room b → Leads d (state fs value) b (state fs (after t))
   over_tree null d fs room b l h = leads d _ _ b (subst (λ (x : List ℕ). Reaches d (state fs value) x (state fs (after null))) (sym h) (over_null d fs))
@@ -133,7 +127,6 @@ mutual
       (over_member d fs (with_member so k t) j u (IsValue u room) h.2.first (λ x g. over_tree u d (frame (with_member so k t) j ∷ fs) room x (omega arith) g) h.2.is_first)
       (over_more ms d fs (with_member so k t) j u room h.2.rest l h.2.is_rest))))
 
--- ---- texts
 pub complete_text : (d : ℕ) (b : List ℕ) (t : Tree) → IsText d b t → ends d start b ≡ Some t
 unfolding run
 complete_text d b t h = ap (ends d start) (sym (append-nil b)) ∙ over_spaced_value d [] t (IsValue t d) b (λ x g. over_tree t d [] d x (omega arith) g) h [] tt ∙ ended
@@ -141,7 +134,6 @@ complete_text d b t h = ap (ends d start) (sym (append-nil b)) ∙ over_spaced_v
     ended : ends d (state [] (after t)) [] ≡ Some t
     ended = refl
 
--- bytes spell one tree at most
 pub one_text : (d : ℕ) (b : List ℕ) (t u : Tree) → IsText d b t → IsText d b u → t ≡ u
 one_text d b t u h k =
     let e : ends d start b ≡ Some t = complete_text d b t h in

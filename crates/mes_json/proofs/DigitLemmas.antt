@@ -1,7 +1,4 @@
--- How digits move the reader where they leave a number in its part, all at once.
---     digits_taken         a run of them is taken
---     digit_front_taken    or none of it
---     part_more            the part of a number that one more byte leads to
+-- Runs of the reader over digits that leave a number in the same state.
 use Rattle.std.proofs.Common.{◌≡◌, ℕ, ◌+◌, ◌-◌, ◌<◌, ◌≤◌, ◌==◌, Bool, true, false, List, [], ◌∷◌, ◌++◌, length, take, drop, get_or, take-suc, add-one, Option, Some, None, option_and_then, refl, ap, sym, ◌∙◌, subst, arith, append_assoc, append-nil, ◌⊎◌, inl, inr}
 use Rattle.std.proofs.lemmas.Bool.Decides.{nat_tests}
 use Rattle.std.specs.List.{AllByRecursion}
@@ -18,7 +15,6 @@ use Rattle.mes_json.specs.declared.reader.Reader.{Reader}
 use Rattle.mes_json.proofs.ReaderLemmas.{part}
 use Rattle.mes_json.proofs.TakenLemmas.{runs_over, none_kept}
 
--- ---- the machine's run over them
 is_nought : (c : ℕ) → c == 48 ≡ true → letter_of c ≡ nought
 is_nought c e = grind (arith, nat_tests)
 
@@ -40,7 +36,7 @@ over_digits d fs x b (c ∷ q) keeps h =
     ap (option_and_then (λ (next : State). run d next q)) (ap (on_digits fs x b c) (leads x c keeps h.0)) ∙ over_digits d fs x (b ++ c ∷ []) q keeps h.1
     ∙ ap (λ (n : List ℕ). Some (state fs (m.ReaderState.token (digits x n)))) (append_assoc b (c ∷ []) q)
 
--- ---- the reader's, over the bytes behind the place, as they are cut out
+-- the run of the reader, over the bytes from an offset on
 pub digits_taken : (old new : Reader) (x : NumberState) (b : List ℕ) (from n : ℕ) → Fits old → old.at ≡ at.TheVariants.Digits x → KeepsOn x → from ≤ length b
     → n ≤ length (take (length b - from) (drop from b)) → AllByRecursion IsDigit (take n (take (length b - from) (drop from b)))
     → Keeps old (take n (take (length b - from) (drop from b))) (at.TheVariants.Digits x) new → RunsTo old b from (from + n) new
@@ -53,7 +49,6 @@ digits_taken old new x b from n fits is_at continues_number within few all keeps
     ∙ ap (λ (t : State). Some (with_read there (part old ++ q) t)) (sym h.is))
     keeps
 
--- or none of them is
 pub digit_front_taken : (old new : Reader) (x : NumberState) (b : List ℕ) (from run n : ℕ) → Fits old → old.at ≡ at.TheVariants.Digits x → KeepsOn x → from ≤ length b
     → run ≤ length (take (length b - from) (drop from b)) → AllByRecursion IsDigit (take run (take (length b - from) (drop from b))) → (n ≡ run) ⊎ (n ≡ 0)
     → Keeps old (take n (take (length b - from) (drop from b))) (at.TheVariants.Digits x) new → RunsTo old b from (from + n) new
@@ -63,7 +58,7 @@ digit_front_taken old new x b from run n fits is_at continues_number within few 
 digit_front_taken old new x b from run n fits is_at continues_number within few all (inr none) keeps =
     none_kept old new (at.TheVariants.Digits x) b (take (length b - from) (drop from b)) from n none fits is_at within keeps
 
--- ---- the part of a number behind one more byte
+-- the state of a number after one more byte
 over_more : (x : NumberState) (q : List ℕ) (c : ℕ) → part_after x (q ++ c ∷ []) ≡ option_and_then (λ y. number_next y (letter_of c)) (part_after x q)
 over_more x [] c = by (number_next x (letter_of c))
   where

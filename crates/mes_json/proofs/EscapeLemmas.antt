@@ -1,9 +1,4 @@
--- Escapes: what the machine's step over one of their bytes means by the grammar, and the other way round.
---     escape_sound                     a byte that leads on leads to what the grammar says
---     over_char                        the bytes of a character lead over it
---     escape_closes                    each state within one has an ending
---     char_scalar                      what an escape makes is a character
---     escape_bounds                    what holds of the values in a state
+-- Escapes: the step of the machine over a byte, in terms of the grammar.
 use Rattle.std.proofs.Common.{◌≡◌, ℕ, ◌+◌, ◌*◌, ◌<◌, ◌≤◌, ◌⊎◌, inl, inr, Bool, true, false, if◌then◌else◌, ◌==◌, nat_le, List, [], ◌∷◌, ◌++◌, refl, ap, ◌∙◌, subst, arith, append_assoc, eqb-true}
 use Rattle.std.proofs.lemmas.Bool.{leb-true}
 use Rattle.std.specs.Char.{IsScalar}
@@ -17,7 +12,7 @@ use Rattle.mes_json.proofs.HeldEscape.{InEscape, Digits1, Digits2, Digits3, IsHi
 use Rattle.mes_json.proofs.HexLemmas.{by_range, by_digit, hex_below, hex4_below, scalar_from}
 pub use Rattle.mes_json.proofs.EscapeReads.{over_char, escape_closes}
 
--- what the bytes of an escape are behind a move
+-- the form of the bytes of an escape, after a move
 abbrev pub MoveIs : Move → List ℕ → Type 0
 MoveIs (on e) part = InEscape e part
 MoveIs (makes c) part = IsChar part c
@@ -26,7 +21,6 @@ MoveIs refused part = Unit {0}
 abbrev Following : List ℕ → ℕ → Move → Type 0
 Following part c m = MoveIs m (part ++ c ∷ [])
 
--- ---- one more byte, and one more digit
 put : (front part q : List ℕ) (c : ℕ) → part ≡ front ++ q → part ++ c ∷ [] ≡ front ++ (q ++ c ∷ [])
 put front part q c e = ap (λ b. b ++ c ∷ []) e ∙ append_assoc front q (c ∷ [])
 
@@ -53,7 +47,6 @@ digit_three front part c v x h k =
       value = omega (arith, h.value);
     }
 
--- four digits behind a front
 record Digits4 (front part : List ℕ) (v : ℕ) : Type 0 where
   digits : List ℕ
   is : part ≡ front ++ digits
@@ -82,7 +75,7 @@ digit_four front part c v x h k =
       };
     }
 
--- ---- sound
+-- ---- soundness
 by_equal : {A : Type 0} (P : A → Type 0) (c e : ℕ) (x y : A) → (c ≡ e → P x) → P y → P (if c == e then x else y)
 by_equal P c e x y f k = by (c == e) (λ h. f (eqb-true c e h))
   where
@@ -168,7 +161,6 @@ escape_sound (low2 v w) part c h =
 escape_sound (low3 v w) part c h =
     by_digit (Following part c) c _ tt (λ x k. pair_sound h.0 part c v w x h.1 h.2 h.3 h.4 k)
 
--- ---- what an escape makes is a character
 pub char_scalar : (b : List ℕ) (c : ℕ) → IsChar b c → IsScalar c
 char_scalar b c (unescaped is l q n e) = is
 char_scalar b c (short letter h e) = by letter c h
@@ -185,7 +177,7 @@ char_scalar b c (short letter h e) = by letter c h
 char_scalar b c (escaped digits h is e) = is
 char_scalar b c (pair first second upper lower h k l m l' m' is e) = scalar_from c (inr (omega arith, omega arith))
 
--- ---- the values in a state
+-- the bounds of the values in a state
 digits_two : (front part : List ℕ) (v : ℕ) → Digits2 front part v → v < 256
 digits_two front part v h = omega (arith, h.value, hex_below h.c0 h.v0 h.d0, hex_below h.c1 h.v1 h.d1)
 

@@ -1,6 +1,4 @@
--- The machine's way through an escape.
---     over_char         the bytes of a character, escaped or not, lead over it
---     escape_closes     each state within an escape has an ending
+-- Runs of the machine over an escape.
 use Rattle.std.proofs.Common.{◌≡◌, ℕ, ◌+◌, ◌*◌, ◌<◌, ◌≤◌, ◌⊎◌, inl, inr, if◌then◌else◌, ◌==◌, nat_le, List, [], ◌∷◌, ◌++◌, refl, ap, sym, ◌∙◌, subst, arith, encode_utf8}
 use Rattle.std.proofs.lemmas.Bool.Decides.{nat_tests}
 use Rattle.std.proofs.Math.Utf8.{scalar_cases}
@@ -20,7 +18,6 @@ use Rattle.mes_json.proofs.HexLemmas.{by_range, hex_below, hex_some, two_on, fou
 use Rattle.mes_json.proofs.HeldEscape.{InEscape}
 use Rattle.mes_json.proofs.Utf8Lemmas.{over_unescaped}
 
--- ---- where a digit leads
 hex_to : (c v : ℕ) (f : ℕ → Move) (m : Move) → IsHex c v → f v ≡ m → by_hex (hex_of c) f ≡ m
 hex_to c v f m h e = ap (λ o. by_hex o f) (hex_some c v h) ∙ e
 
@@ -31,14 +28,12 @@ module _ (d : ℕ) (fs : List Frame) (p : Purpose) (w : List ℕ) where
   abbrev following : ℕ → State
   following c = state fs (quoted p between (w ++ encode_utf8 c))
 
-  -- at one byte, and the others behind it
   over_on : (e next : Escape) (last : State) (c : ℕ) (b : List ℕ) → escape_step e c ≡ on next → Reaches d (within_escape next) b last → Reaches d (within_escape e) (c ∷ b) last
   over_on e next last c b h f = then_to d _ _ _ (c ∷ []) b (by_byte d _ _ c (ap (in_escape fs p w) h)) f
 
   over_makes : (e : Escape) (c v : ℕ) → escape_step e c ≡ makes v → Reaches d (within_escape e) (c ∷ []) (following v)
   over_makes e c v h = by_byte d _ _ c (ap (in_escape fs p w) h)
 
-  -- ---- complete
   over_short : (letter c : ℕ) → IsShort letter c → Reaches d (within_escape backslash) (letter ∷ []) (following c)
   over_short _ _ quotation_mark = over_makes backslash 0x22 0x22 refl
   over_short _ _ reverse_solidus = over_makes backslash 0x5C 0x5C refl
@@ -49,7 +44,6 @@ module _ (d : ℕ) (fs : List Frame) (p : Purpose) (w : List ℕ) where
   over_short _ _ carriage_return = over_makes backslash 0x72 0x0D refl
   over_short _ _ tab = over_makes backslash 0x74 0x09 refl
 
-  -- three digits, which don't begin a low surrogate
   over_three : (c0 c1 c2 v0 v1 v2 v : ℕ) (b : List ℕ) (last : State) → IsHex c0 v0 → IsHex c1 v1 → IsHex c2 v2 → (v0 * 16 + v1 < 0xDC) ⊎ (0xE0 ≤ v0 * 16 + v1)
       → v ≡ (v0 * 16 + v1) * 16 + v2 → Reaches d (within_escape (unit3 v)) b last → Reaches d (within_escape unit0) (c0 ∷ c1 ∷ c2 ∷ b) last
   over_three c0 c1 c2 v0 v1 v2 v b last h0 h1 h2 r e f =
@@ -77,7 +71,6 @@ module _ (d : ℕ) (fs : List Frame) (p : Purpose) (w : List ℕ) where
       range (inl k) = inl (omega (arith, h.value))
       range (inr k) = inr (omega (arith, h.value, hex_below h.c2 h.v2 h.d2, hex_below h.c3 h.v3 h.d3))
 
-  -- the first half of a pair
   over_first : (b q : List ℕ) (c : ℕ) (last : State) → IsHex4 b c → 0xD800 ≤ c → c ≤ 0xDBFF → Reaches d (within_escape (high c)) q last
       → Reaches d (within_escape unit0) (b ++ q) last
   over_first b q c last h least most f =
@@ -91,7 +84,6 @@ module _ (d : ℕ) (fs : List Frame) (p : Purpose) (w : List ℕ) where
       sum : v * 16 + h.v3 ≡ c
       sum = omega (arith, h.value)
 
-  -- the second half
   over_second : (first : ℕ) (b : List ℕ) (c : ℕ) → IsHex4 b c → 0xDC00 ≤ c → c ≤ 0xDFFF → Reaches d (within_escape (low0 first)) b (following (pair_of first c))
   over_second first b c h least most =
       subst (λ (u : List ℕ). Reaches d (within_escape (low0 first)) u (following (pair_of first c))) (sym h.is)
@@ -125,11 +117,10 @@ module _ (d : ℕ) (fs : List Frame) (p : Purpose) (w : List ℕ) where
       (over_on (high first) (high_backslash first) _ 92 (117 ∷ b) refl
       (over_on (high_backslash first) (low0 first) _ 117 b refl (over_second first b second k l' m')))
 
-  -- the backslash that begins an escape
   over_backslash : (q : List ℕ) (last : State) → Reaches d (within_escape backslash) q last → Reaches d (state fs (quoted p between w)) (92 ∷ q) last
   over_backslash q last f = then_to d _ _ _ (92 ∷ []) q (by_byte d _ _ 92 refl) f
 
-  -- from between two characters, over a character, escaped or not
+  -- from between characters, over a character with or without an escape
   pub over_char : (b : List ℕ) (c : ℕ) → IsChar b c → Reaches d (state fs (quoted p between w)) b (following c)
   over_char b c (unescaped is l q n e) = over_unescaped d fs p w b c is l q n e
   over_char b c (short letter h e) =
@@ -143,7 +134,6 @@ module _ (d : ℕ) (fs : List Frame) (p : Purpose) (w : List ℕ) where
       (over_backslash (117 ∷ (first ++ 92 ∷ 117 ∷ second)) _
       (over_on backslash unit0 _ 117 (first ++ 92 ∷ 117 ∷ second) refl (over_pair first second upper lower h k l m l' m'))))
 
-  -- ---- each state has an ending
   abbrev Closes : Escape → Type 0
   Closes e = (q : List ℕ) × (c : ℕ) × Reaches d (within_escape e) q (following c)
 
@@ -160,7 +150,7 @@ module _ (d : ℕ) (fs : List Frame) (p : Purpose) (w : List ℕ) where
       by (makes v) h k = (c ∷ [], v, over_makes e c v h)
       by refused h k = absurd k
 
-  -- a 0 for each digit, but D and C for the first two of a low surrogate
+  -- 0 for each digit, but D and C for the first two of a low surrogate
   closes_low3 : (v x : ℕ) → Closes (low3 v x)
   closes_low3 v x = by_move (low3 v x) 48 tt
 
@@ -201,6 +191,5 @@ module _ (d : ℕ) (fs : List Frame) (p : Purpose) (w : List ℕ) where
   closes_any (low2 v x) = closes_low2 v x
   closes_any (low3 v x) = closes_low3 v x
 
-  -- from within an escape, to its end
   pub escape_closes : (e : Escape) (part : List ℕ) → InEscape e part → (q : List ℕ) × (c : ℕ) × Reaches d (within_escape e) q (following c)
   escape_closes e part h = closes_any e

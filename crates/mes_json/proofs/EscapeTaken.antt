@@ -1,8 +1,4 @@
--- How the bytes of an escape move the reader, all at once.
---     inside              the reader within an escape
---     runs_inside         none of them
---     on_taken            one that leads to more of it
---     end_taken           the last one
+-- Runs of the reader over the bytes of an escape.
 use Rattle.std.proofs.Common.{◌≡◌, ℕ, ◌+◌, ◌<◌, List, [], ◌∷◌, length, get_or, Some, Ok, refl, ap, sym, ◌∙◌, subst, append-nil, encode_utf8}
 use Rattle.mes_json.specs.Escape as e
 use Rattle.mes_json.specs.Escape.{escape_step}
@@ -30,14 +26,12 @@ inside p x r = record { at = within p x; nesting = r.nesting; start = r.start; t
 is_inside : (p : purpose.Purpose) (x : escape.Escape) (r : Reader) → r.at ≡ within p x → r ≡ inside p x r
 is_inside p x r is_at = ap (λ (a : at.ReaderState). record { at = a; nesting = r.nesting; start = r.start; text = r.text; nodes = r.nodes }) is_at
 
--- none of them
 pub none_reached : (p : purpose.Purpose) (x : escape.Escape) (r : Reader) → r.at ≡ within p x → Reached r → Reached (inside p x r)
 none_reached p x r is_at h = subst Reached (is_inside p x r is_at) h
 
 pub runs_inside : (p : purpose.Purpose) (x : escape.Escape) (old r : Reader) (b : List ℕ) (from place : ℕ) → r.at ≡ within p x → RunsTo old b from place r → RunsTo old b from place (inside p x r)
 runs_inside p x old r b from place is_at h = subst (RunsTo old b from place) (is_inside p x r is_at) h
 
--- one that leads to more of it
 on_reads : (x next : escape.Escape) (c : ℕ) → e.Move.on (escape_view next) ≡ escape_step (escape_view x) c
     → Reads (mid.TheVariants.Escape x) c [] (mid.TheVariants.Escape next)
 on_reads x next c is = λ fs p b.
@@ -59,7 +53,6 @@ pub on_reached : (p : purpose.Purpose) (x next : escape.Escape) (r : Reader) (c 
 on_reached p x next r c fits reached is =
     reached_over (inside p x r) (inside p next r) (c ∷ []) reached (run_one MAX_NESTING (state_view (inside p x r)) c ∙ (on_step p x next r c fits is).0)
 
--- the last one
 end_step : (p : purpose.Purpose) (x : escape.Escape) (r new : Reader) (c made : ℕ) → Fits (inside p x r) → e.Move.makes made ≡ escape_step (escape_view x) c
     → Keeps r (encode_utf8 made) (at.TheVariants.Quoted p mid.TheVariants.Between) new
     → (step MAX_NESTING (state_view (inside p x r)) c ≡ Some (state_view new)) × Fits new

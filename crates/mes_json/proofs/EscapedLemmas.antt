@@ -1,4 +1,4 @@
--- What is escaped in a string spells the string: `spells`.
+-- The escaped text of a string represents the string: `spells`.
 use Rattle.std.proofs.Common.{◌≡◌, ◌≢◌, ℕ, ◌+◌, ◌/◌, ◌%◌, ◌<◌, ◌≤◌, ◌⊎◌, inl, inr, Bool, true, false, ◌&&◌, List, [], ◌∷◌, ◌++◌, refl, ap, sym, ◌∙◌, subst, arith, encode_utf8, append_assoc}
 use Rattle.std.proofs.lemmas.List.{append-nil}
 use Rattle.std.proofs.lemmas.Bool.Decides.{nat_tests}
@@ -17,14 +17,13 @@ pub escaped-append : (a b : List ℕ) → escaped_text (a ++ b) ≡ escaped_text
 escaped-append [] b = refl
 escaped-append (c ∷ a) b = ap (λ (r : List ℕ). escaped c ++ r) (escaped-append a b) ∙ sym (append_assoc (escaped c) (escaped_text a) (escaped_text b))
 
--- ---- a byte that needs no escape
 pub stays : (c : ℕ) → 32 ≤ c → c ≢ 34 → c ≢ 92 → escaped c ≡ c ∷ []
 stays c l q b = grind (arith, nat_tests)
 
 hex : (v : ℕ) → v < 16 → IsHex (hex_digit v) v
 hex v h = grind (arith, nat_tests)
 
--- ---- a control character with no short form
+-- a control character with no short form
 control : (c : ℕ) → c < 32 → c ≢ 8 → c ≢ 12 → c ≢ 10 → c ≢ 13 → c ≢ 9 → escaped c ≡ 92 ∷ 117 ∷ 48 ∷ 48 ∷ hex_digit (c / 16) ∷ hex_digit (c % 16) ∷ []
 control c h n1 n2 n3 n4 n5 = grind (arith, nat_tests)
 
@@ -46,7 +45,6 @@ four_digits c h = record {
   value = omega arith;
 }
 
--- a byte of one character alone
 one_escaped : (c : ℕ) → IsScalar c → c < 128 → IsChar (escaped c) c
 one_escaped c is low = by (ℕ_discrete c 34) (ℕ_discrete c 92) (ℕ_discrete c 8) (ℕ_discrete c 12) (ℕ_discrete c 10) (ℕ_discrete c 13) (ℕ_discrete c 9) (order c 32)
   where
@@ -65,7 +63,6 @@ one_escaped c is low = by (ℕ_discrete c 34) (ℕ_discrete c 92) (ℕ_discrete 
         by_digits (48 ∷ 48 ∷ hex_digit (c / 16) ∷ hex_digit (c % 16) ∷ []) (four_digits c h) is (control c h n2 n3 n4 n5 n6)
     by (no n0) (no n1) (no n2) (no n3) (no n4) (no n5) (no n6) (inr h) = unescaped is h n0 n1 (stays c h n0 n1 ∙ sym (one c low))
 
--- ---- a character, a string
 byte_stays : (c : ℕ) → 128 ≤ c → escaped c ≡ c ∷ []
 byte_stays c l = stays c (omega arith) (λ e. omega arith) (λ e. omega arith)
 
@@ -107,6 +104,6 @@ all_escaped (c ∷ cs) are =
     some (escaped_text (encode_utf8 c)) (escaped_text (encode_utf8_all cs)) c (encode_utf8_all cs) (char_escaped c h.0) (all_escaped cs h.1)
     (escaped-append (encode_utf8 c) (encode_utf8_all cs)) refl
 
--- the escaped text of a string spells the string
+-- the escaped text of a string represents the string
 pub spells : (s : List ℕ) → IsUtf8 s → IsChars (escaped_text s) s
 spells s is = subst (λ (b : List ℕ). IsChars (escaped_text b) b) is.1.1 (all_escaped is.0 is.1.0)

@@ -1,9 +1,4 @@
--- Where the bytes of a block end that a mask leaves unmarked: at the first one that is marked.
---     front_holds    the bytes before it hold
---     front_stops    it does not
---     front_placed   the same of the block at a place in a slice
---     front_whole    where the mask is 0, the whole block holds
---     front_found    where it is not, its lowest bit is that byte
+-- The bytes of a block before the first one that a mask marks.
 use Rattle.std.proofs.Common.{◌≡◌, ℕ, ◌+◌, ◌*◌, ◌<◌, ◌≤◌, Bool, true, false, cond, not, suc, List, [], ◌∷◌, length, map, take, drop, get_or, refl, ap, subst, sym, ◌∙◌, arith, ◌++◌}
 use Rattle.std.proofs.lemmas.Bool.{not-false}
 use Rattle.std.proofs.lemmas.List.{take-take}
@@ -14,12 +9,11 @@ use Rattle.std.specs.Int.Count.{count_trailing_zeros}
 use Rattle.std.specs.Simd.Lanes.{mask_l}
 use Rattle.std.specs.List.{AllByRecursion, prefix_len}
 
--- a byte is marked just where P does not hold of it
+-- a byte is marked exactly if P does not hold
 pub record Marks (P : ℕ → Type 0) (mark : ℕ → Bool) : Type 0 where
   pub unmarked : (c : ℕ) → mark c ≡ false → P c
   pub marked : (c : ℕ) → mark c ≡ true → P c → ⊥
 
--- ---- a mask of 0
 first_unmarked : (b : Bool) (rest : ℕ) → cond b 1 0 + 2 * rest ≡ 0 → (b ≡ false) × (rest ≡ 0)
 first_unmarked true rest none = absurd (omega arith)
 first_unmarked false rest none = (refl, omega arith)
@@ -30,7 +24,7 @@ none_marked P mark marks (c ∷ xs) none =
     let parts = first_unmarked (mark c) (mask_l (map mark xs)) none in
     (marks.unmarked c parts.0, none_marked P mark marks xs parts.1)
 
--- ---- how many bytes come before the first that is marked
+-- the number of bytes before the first marked one
 abbrev pub front : (ℕ → Bool) → List ℕ → ℕ
 front mark xs = prefix_len (λ c. not (mark c)) xs
 
@@ -50,7 +44,7 @@ front_stops : (P : ℕ → Type 0) (mark : ℕ → Bool) → Marks P mark → (x
 front_stops P mark marks xs inside holds =
     marks.marked (get_or xs (front mark xs) 0) (not-false _ (prefix_len_stops (λ c. not (mark c)) xs 0 inside)) holds
 
--- what so many bytes are in front of the block of w bytes at this place
+-- n is the number of bytes with P at the front of the block of w bytes at offset `place`
 pub record IsFront (P : ℕ → Type 0) (bytes : List ℕ) (place w n : ℕ) : Type 0 where
   pub inside : n ≤ w
   pub holds : AllByRecursion P (take n (drop place bytes))
@@ -72,7 +66,7 @@ front_placed P mark marks bytes place w n room is =
           front_stops P mark marks block first (subst P same holds);
     }
 
--- ---- by the mask of the block at this place
+-- with a mask of 0, P holds for the whole block at offset `place`
 pub front_whole : (P : ℕ → Type 0) (mark : ℕ → Bool) → Marks P mark → (bytes : List ℕ) (place w mask : ℕ) → mask ≡ mask_l (map mark (take w (drop place bytes))) → mask ≡ 0
     → AllByRecursion P (take w (drop place bytes))
 front_whole P mark marks bytes place w mask is none = none_marked P mark marks (take w (drop place bytes)) (sym is ∙ none)
@@ -85,7 +79,6 @@ front_found P mark marks bytes place w mask small room is some =
     front_placed P mark marks bytes place w (count_trailing_zeros 64 mask) room
     (ap (λ (k : ℕ). count_trailing_zeros 64 k) is ∙ trailing_mask_l mark 64 block (omega (arith, small, length-chunk place w bytes room)) found)
 
--- ---- bytes behind bytes
 all_append : (P : ℕ → Type 0) (xs ys : List ℕ) → AllByRecursion P xs → AllByRecursion P ys → AllByRecursion P (xs ++ ys)
 all_append P [] ys before block = block
 all_append P (c ∷ xs) ys before block = (before.0, all_append P xs ys before.1 block)

@@ -1,4 +1,4 @@
--- By the grammar, what the bytes are that a state of the machine has read.
+-- The form, by the grammar, of the bytes that lead to each state of the machine.
 use Rattle.std.proofs.Common.{◌≡◌, ℕ, zero, suc, ◌≤◌, List, [], ◌∷◌, ◌++◌, encode_utf8}
 use Rattle.mes_fixed.specs.Automaton.{Ends}
 use Rattle.mes_fixed.specs.declared.automaton.NumberState.TheVariants.{AtStart}
@@ -16,13 +16,13 @@ use Rattle.mes_json.specs.Machine.Utf8State.{between, within, escape}
 use Rattle.mes_json.proofs.HeldEscape.{InEscape}
 
 -- ---- strings
--- so many bytes, the first from least to most and each other one from 80 to BF
+-- n bytes, the first from least to most, the others from 80 to BF
 abbrev pub Fits : ℕ → ℕ → ℕ → List ℕ → Type 0
 Fits zero least most q = q ≡ []
 Fits (suc n) least most [] = ⊥
 Fits (suc n) least most (c ∷ q) = (least ≤ c) × (c ≤ most) × Fits n 0x80 0xBF q
 
--- part of a character: however it is completed it is one
+-- a part of a character: with any such bytes it is a whole one
 pub record IsPart (n least most : ℕ) (part : List ℕ) : Type 0 where
   pub some : least ≤ most
   pub whole : (q : List ℕ) → Fits n least most q → (c : ℕ) × IsChar (part ++ q) c × (encode_utf8 c ≡ part ++ q)
@@ -33,7 +33,7 @@ PartOf (within zero least most) part = ⊥
 PartOf (within (suc n) least most) part = IsPart (suc n) least most part
 PartOf (escape e) part = InEscape e part
 
--- the bytes of the part that stand in the text as they are
+-- the bytes of the part that are already in the text
 abbrev pub kept : Utf8State → List ℕ → List ℕ
 kept between part = part
 kept (within n least most) part = part
@@ -55,8 +55,7 @@ pub record InQuotes (Outside : List ℕ → Type 0) (m : Utf8State) (s : List �
   pub outside : Outside front
   pub in_string : InString m s inside
 
--- ---- objects; each is said of what stands outside, by the room for nesting there
--- what stands in an object before a member
+-- ---- objects, by the form of the bytes outside and the nesting that is left there
 abbrev pub Before : Members → ℕ → List ℕ → Type 0
 Before no_members room b = b ≡ []
 Before (member k t ms) room b = (front : List ℕ) × (b ≡ front ++ 44 ∷ []) × AreMembers (member k t ms) room front
@@ -70,7 +69,6 @@ pub record InObject (Outside : ℕ → List ℕ → Type 0) (ms : Members) (room
   pub before : Before ms room led
   pub are_spaces : IsSpaces spaces
 
--- and then a name
 pub record Named (Outside : ℕ → List ℕ → Type 0) (ms : Members) (k : List ℕ) (room : ℕ) (b : List ℕ) : Type 0 where
   pub front : List ℕ
   pub inside : List ℕ
@@ -80,7 +78,6 @@ pub record Named (Outside : ℕ → List ℕ → Type 0) (ms : Members) (k : Lis
   pub is_name : IsString k inside
   pub are_spaces : IsSpaces spaces
 
--- and then a colon
 pub record Called (Outside : ℕ → List ℕ → Type 0) (ms : Members) (k : List ℕ) (room : ℕ) (b : List ℕ) : Type 0 where
   pub front : List ℕ
   pub spaces : List ℕ
@@ -89,7 +86,6 @@ pub record Called (Outside : ℕ → List ℕ → Type 0) (ms : Members) (k : Li
   pub are_spaces : IsSpaces spaces
 
 -- ---- arrays
--- what stands in an array before an item
 abbrev pub BeforeItem : Items → ℕ → List ℕ → Type 0
 BeforeItem no_items room b = b ≡ []
 BeforeItem (item t ts) room b = (front : List ℕ) × (b ≡ front ++ 44 ∷ []) × AreItems (item t ts) room front
@@ -103,7 +99,7 @@ pub record InArray (Outside : ℕ → List ℕ → Type 0) (ts : Items) (room : 
   pub before : BeforeItem ts room led
   pub are_spaces : IsSpaces spaces
 
--- what stands before a value in these open objects and arrays, where the value may nest as deep as the room
+-- the bytes before a value in these open objects and arrays; `room` levels of nesting are left
 abbrev pub HeldStack : ℕ → List Frame → ℕ → List ℕ → Type 0
 HeldStack d [] room b = (room ≡ d) × IsSpaces b
 HeldStack d (frame ms k ∷ fs) room b = Called (HeldStack d fs) ms k room b
@@ -119,7 +115,7 @@ pub record Valued (Outside : List ℕ → Type 0) (t : Tree) (room : ℕ) (b : L
   pub are_spaces : IsSpaces spaces
 
 -- ---- literals and numbers
--- what the bytes of one are, by what completes it
+-- the bytes so far of a literal or number, by the bytes that complete it
 abbrev pub HeldToken : Token → List ℕ → Type 0
 HeldToken (literal e rest t) b = (room : ℕ) → IsValue t room (b ++ e ∷ rest)
 HeldToken (digits part n) b = (b ≡ n) × ((q : List ℕ) → Ends part q → Ends AtStart (n ++ q))
@@ -131,7 +127,6 @@ pub record InToken (Outside : List ℕ → Type 0) (x : Token) (b : List ℕ) : 
   pub outside : Outside front
   pub held : HeldToken x inside
 
--- what stands before a string
 abbrev pub HeldFor : ℕ → List Frame → Purpose → ℕ → List ℕ → Type 0
 HeldFor d fs (for_name ms) room b = InObject (HeldStack d fs) ms room b
 HeldFor d fs for_value room b = HeldStack d fs room b

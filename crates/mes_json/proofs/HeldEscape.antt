@@ -1,10 +1,10 @@
--- By the grammar, what the bytes are of an escape that is read in part.
+-- The form, by the grammar, of the bytes so far of an escape.
 use Rattle.std.proofs.Common.{◌≡◌, ℕ, ◌+◌, ◌*◌, ◌<◌, ◌≤◌, ◌⊎◌, List, [], ◌∷◌, ◌++◌}
 use Rattle.mes_json.specs.Grammar.{IsHex, IsHex4}
 use Rattle.mes_json.specs.Escape.{Escape}
 use Rattle.mes_json.specs.Escape.Escape.{backslash, unit0, unit1, unit2, unit3, high, high_backslash, low0, low1, low2, low3}
 
--- so many hexadecimal digits behind a front, with their value
+-- one hexadecimal digit after a prefix, with its value
 pub record Digits1 (front part : List ℕ) (v : ℕ) : Type 0 where
   pub c0 : ℕ
   pub is : part ≡ front ++ c0 ∷ []
@@ -33,7 +33,6 @@ pub record Digits3 (front part : List ℕ) (v : ℕ) : Type 0 where
   pub d2 : IsHex c2 v2
   pub value : v ≡ v0 * 256 + v1 * 16 + v2
 
--- the first half of a surrogate pair
 pub record IsHighUnit (h : ℕ) (part : List ℕ) : Type 0 where
   pub digits : List ℕ
   pub is : part ≡ 92 ∷ 117 ∷ digits

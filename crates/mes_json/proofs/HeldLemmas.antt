@@ -1,6 +1,4 @@
--- What a state of the machine holds, by the bytes that lead to it.
---     bytes, nodes              the two measures
---     bytes_paid, nodes_paid    the bounds
+-- The bounds on the bytes and nodes of a state, by the bytes that lead to it.
 use Rattle.std.proofs.Common.{◌≡◌, ℕ, ◌+◌, ◌≤◌, Bool, List, [], ◌∷◌, length, Some, if◌then◌else◌, ◌==◌, refl, ap, sym, subst, arith, length-append, eqb-true}
 use Rattle.std.proofs.lemmas.Bool.{cond_both}
 use Rattle.mes_json.specs.Inner.{Stand, following, counts, inner_from, inner}
@@ -10,11 +8,9 @@ use Rattle.mes_json.proofs.MeasureLemmas.{Measure, of_state}
 use Rattle.mes_json.proofs.PaidLemmas.{Pays}
 use Rattle.mes_json.proofs.PaidSteps.{spent, paid_run}
 
--- the bytes of texts
 abbrev pub bytes : Measure
 bytes = record { text = λ b. length b; mark = 0 }
 
--- a node for each text and each mark
 abbrev pub nodes : Measure
 nodes = record { text = λ b. 1; mark = 1 }
 

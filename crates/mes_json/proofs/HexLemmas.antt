@@ -1,9 +1,4 @@
--- Hexadecimal digits, and the tests on the values that they make.
---     hex_some, hex_below, by_digit     what the machine takes for a digit is one
---     hex4_below                        four digits
---     by_range, in_range, out_of_range  a test for a range of numbers
---     two_on, four_on, four_makes       where two and four digits lead
---     scalar_from                       the numbers that are characters
+-- Hexadecimal digits, and the tests of their values.
 use Rattle.std.proofs.Common.{◌≡◌, ℕ, ◌-◌, ◌<◌, ◌≤◌, ◌⊎◌, inl, inr, Bool, true, false, ◌&&◌, Some, if◌then◌else◌, nat_le, List, refl, arith}
 use Rattle.std.proofs.lemmas.Bool.{cases_lt}
 use Rattle.std.proofs.lemmas.Bool.Decides.{nat_tests}
@@ -16,7 +11,6 @@ use Rattle.mes_json.specs.Escape.Move.{on, makes, refused}
 pub scalar_from : (c : ℕ) → (c < 0xD800) ⊎ ((0xE000 ≤ c) × (c < 0x11_0000)) → IsScalar c
 scalar_from c h = grind (arith, nat_tests)
 
--- ---- a test for a range
 pub in_range : (l c m : ℕ) → (nat_le l c && nat_le c m) ≡ true → (l ≤ c) × (c ≤ m)
 in_range l c m e = grind (arith, nat_tests)
 
@@ -28,7 +22,7 @@ out_of_range l c m e = by (cases_lt c l) (cases_lt m c)
     by (inr h) (inl k) = inr k
     by (inr h) (inr k) = absurd (grind (arith, nat_tests))
 
--- what holds of both arms, each where the test says so, holds of the whole
+-- a fact that holds for both branches under their conditions holds for the whole
 pub by_range : {A : Type 0} (P : A → Type 0) (l c m : ℕ) (x y : A) → ((l ≤ c) × (c ≤ m) → P x) → ((c < l) ⊎ (m < c) → P y) → P (if nat_le l c && nat_le c m then x else y)
 by_range {A} P l c m x y f g = by (nat_le l c && nat_le c m) (λ e. f (in_range l c m e)) (λ e. g (out_of_range l c m e))
   where
@@ -36,7 +30,6 @@ by_range {A} P l c m x y f g = by (nat_le l c && nat_le c m) (λ e. f (in_range 
     by true h k = h refl
     by false h k = k refl
 
--- ---- a digit
 pub hex_below : (c v : ℕ) → IsHex c v → v < 16
 hex_below c v (inl h) = omega arith
 hex_below c v (inr (inl h)) = omega arith
@@ -47,7 +40,6 @@ hex_some c v (inl h) = let k : c - 48 ≡ v = omega arith in grind (arith, nat_t
 hex_some c v (inr (inl h)) = let k : c - 55 ≡ v = omega arith in grind (arith, nat_tests)
 hex_some c v (inr (inr h)) = let k : c - 87 ≡ v = omega arith in grind (arith, nat_tests)
 
--- what holds where no digit stands, and of each digit, holds
 pub by_digit : (P : Move → Type 0) (c : ℕ) (f : ℕ → Move) → P refused → ((v : ℕ) → IsHex c v → P (f v)) → P (by_hex (hex_of c) f)
 by_digit P c f none some =
     by_range (λ o. P (by_hex o f)) 48 c 57 _ _ (λ h. some (c - 48) (inl (h.0, h.1, omega arith))) (λ _.
@@ -57,7 +49,6 @@ by_digit P c f none some =
 pub hex4_below : (b : List ℕ) (v : ℕ) → IsHex4 b v → v < 0x1_0000
 hex4_below b v h = omega (arith, hex_below h.c0 h.v0 h.d0, hex_below h.c1 h.v1 h.d1, hex_below h.c2 h.v2 h.d2, hex_below h.c3 h.v3 h.d3, h.value)
 
--- ---- where digits lead
 pub two_on : (v : ℕ) → (v < 0xDC) ⊎ (0xE0 ≤ v) → two_digits v ≡ on (unit2 v)
 two_on v h = grind (arith, nat_tests)
 

@@ -1,6 +1,4 @@
--- How many bytes stand inside strings and numbers.
---     inner_grows      of more bytes no fewer
---     inner_within     no more than there are
+-- The number of bytes inside strings and numbers.
 use Rattle.std.proofs.Common.{ℕ, ◌≤◌, Bool, true, false, if◌then◌else◌, ◌==◌, List, [], ◌∷◌, ◌++◌, length, arith}
 use Rattle.mes_json.specs.Inner.{Stand, is_of_number, following, counts, inner_from, inner}
 use Rattle.mes_json.specs.Inner.Stand.{outside, inside, escaped}

@@ -1,6 +1,4 @@
--- Sixteen bytes are looked at together for those that a string has as they are.
---     kept_marks     a byte is marked just where it is not kept
---     mask_is        the mask that the three tests of a block give
+-- Bytes that need no escape, found in a block by one comparison.
 use Rattle.std.proofs.Common.{◌≡◌, ℕ, ◌+◌, ◌%◌, ◌^◌, ◌≤◌, Bool, true, false, cond, ◌||◌, ltb, eqb, List, [], ◌∷◌, length, map, replicate, take, drop, bit_or, refl, ap, sym, ◌∙◌, arith}
 use Rattle.std.proofs.lemmas.Bool.Decides.{nat_tests}
 use Rattle.std.proofs.lemmas.List.{length-map}
@@ -9,15 +7,13 @@ use Rattle.std.specs.Simd.Lanes.{zip2, mask_l, top}
 use Rattle.mes_json.specs.Canonical.{IsKept}
 use Rattle.mes_json.proofs.FrontLemmas.{Marks}
 
--- a lane of a mask
 abbrev lane : Bool → ℕ
 lane b = cond b 255 0
 
--- the three tests of a byte, joined
+-- the three tests of a byte, combined
 abbrev pub marked : ℕ → Bool
 marked c = top 7 (bit_or (bit_or (lane (ltb c 32)) (lane (eqb c 34))) (lane (eqb c 92)))
 
--- the same of the lanes of a block
 abbrev pub marked_lanes : ℕ → List ℕ → List ℕ
 marked_lanes n xs =
     zip2 bit_or
@@ -33,7 +29,6 @@ marks_of_block xs n long small =
     ap (λ (m : ℕ). mask_l (map (top 7) (marked_lanes m xs)) % 2 ^ 64) (sym long) ∙ ap (λ (bs : List Bool). mask_l bs % 2 ^ 64) (by_lanes xs)
     ∙ mask_l-mod (map marked xs) 64 (omega (arith, length-map xs marked))
 
--- ---- a byte is marked by each test alone
 joined : (a b c : Bool) → top 7 (bit_or (bit_or (lane a) (lane b)) (lane c)) ≡ ((a || b) || c)
 joined true true true = refl
 joined true true false = refl
@@ -61,7 +56,7 @@ marked_is_none c is kept =
 pub kept_marks : Marks IsKept marked
 kept_marks = record { unmarked = λ c is. kept_tests c (sym (is_marked c) ∙ is); marked = marked_is_none }
 
--- ---- the mask of the block at this place
+-- the mask of the block at offset `place`
 abbrev pub mask_at : List ℕ → ℕ → ℕ
 mask_at bytes place = mask_l (map (top 7) (marked_lanes 16 (take 16 (drop place bytes)))) % 2 ^ 64
 

@@ -1,4 +1,4 @@
--- How long a canonical text is: of the first n + 1, as of the first n and one more; and of the first n, no longer than of all.
+-- Lengths of canonical texts: of the first n + 1 elements, and of a prefix beside the whole.
 use Rattle.std.proofs.Common.{◌≡◌, ℕ, zero, suc, ◌+◌, ◌-◌, ◌<◌, ◌≤◌, List, [], ◌∷◌, ◌++◌, Vec, Global, length, take, drop, get_or, ap, sym, ◌∙◌, add-one, take-suc, subst, arith}
 use native.Mathlib.Numerals.{unary_clauses}
 use Rattle.std.proofs.Math.Seq.{take-length}
@@ -16,7 +16,6 @@ use Rattle.mes_json.proofs.GrownLemmas.{items_grown, members_grown}
 use Rattle.mes_json.proofs.ViewLemmas.{is_object}
 use Rattle.mes_json.proofs.WriteLemmas.{more_last, more_members_last}
 
--- ---- the bytes of a string
 escaped_last : (s : List ℕ) (c : ℕ) → length (escaped_text (s ++ c ∷ [])) ≡ length (escaped_text s) + length (escaped c)
 escaped_last s c = ap (λ (b : List ℕ). length b) (escaped-append s (c ∷ [])) ∙ length-append (escaped_text s) (escaped c ++ []) ∙ ap (λ (b : List ℕ). length (escaped_text s) + length b) (append-nil (escaped c))
 
@@ -29,7 +28,6 @@ escaped_grows s b n is inside =
     ∙ escaped_last (take n b) (get_or b n 0)
     ∙ ap (λ (x : List ℕ). length (escaped_text (take n x)) + length (escaped (get_or b n 0))) is
 
--- a run that is kept
 pub kept_grows : (s b : List ℕ) (place n : ℕ) → b ≡ s → place ≤ length b → n ≤ length (take (length b - place) (drop place b))
     → AllByRecursion IsKept (take n (take (length b - place) (drop place b)))
     → length (escaped_text (take (place + n) s)) ≡ length (escaped_text (take place s)) + n
@@ -47,14 +45,12 @@ escaped_front [] (suc n) = omega arith
 escaped_front (c ∷ s) (suc n) =
     omega (arith, escaped_front s n, length-append (escaped c) (escaped_text (take n s)), length-append (escaped c) (escaped_text s))
 
--- the first bytes, where all of them are kept, and where they are the first of s
 pub kept_front : (b : List ℕ) (n : ℕ) → n ≤ length b → AllByRecursion IsKept (take n b) → length (escaped_text (take n b)) ≡ n
 kept_front b n inside kept = ap (λ (x : List ℕ). length x) (kept_text (take n b) kept) ∙ length-take-le n b inside
 
 pub front_within : (s b : List ℕ) (n : ℕ) → b ≡ s → length (escaped_text (take n b)) ≤ length (escaped_text s)
 front_within s b n is = subst (λ (x : List ℕ). length (escaped_text (take n b)) ≤ length (escaped_text x)) is (escaped_front b n)
 
--- ---- items
 pub items_grow : (xs : List Json) (x : Json) (n : ℕ) → n < length xs → x ≡ get_or xs n x
     → length (more_items (items_view (take (n + 1) xs))) ≡ length (more_items (items_view (take n xs))) + 1 + length (canonical (view x))
 items_grow xs x n inside is =
@@ -66,7 +62,6 @@ items_front [] (suc n) = omega arith
 items_front (x ∷ xs) (suc n) =
     omega (arith, items_front xs n, length-append (canonical (view x)) (more_items (items_view (take n xs))), length-append (canonical (view x)) (more_items (items_view xs)))
 
--- ---- members
 pub members_grow : (xs : List (List ℕ × Json)) (x : List ℕ × Json) (n : ℕ) → n < length xs → x ≡ get_or xs n x
     → length (more_members (members_view (take (n + 1) xs))) ≡ length (more_members (members_view (take n xs))) + 1 + length (member_text x.0 (view x.1))
 members_grow xs x n inside is =
@@ -78,7 +73,6 @@ members_front [] (suc n) = omega arith
 members_front (x ∷ xs) (suc n) =
     omega (arith, members_front xs n, length-append (member_text x.0 (view x.1)) (more_members (members_view (take n xs))), length-append (member_text x.0 (view x.1)) (more_members (members_view xs)))
 
--- ---- the first, and those behind it
 pub items_split : (xs : List Json) (x : Json) → 1 ≤ length xs → x ≡ get_or xs 0 x
     → length (canonical_items (items_view xs)) ≡ length (canonical (view x)) + length (more_items (items_view (take (length xs - 1) (drop 1 xs))))
 items_split [] x some is = omega (arith, some)
@@ -94,7 +88,6 @@ members_split (z ∷ zs) x y some = simp unary_clauses (
     length-append (member_text z.0 (view z.1)) (more_members (members_view zs))
     ∙ ap (λ (ws : List (List ℕ × Json)). length (member_text z.0 (view z.1)) + length (more_members (members_view ws))) (sym (take-length zs)))
 
--- ---- between braces
 pub object_length : (json : Json) (ms : Vec (List ℕ × Json) Global) → json ≡ Map ms
     → length (canonical (view json)) ≡ length (canonical_members (members_view ms.items)) + 2
 object_length json ms is =

@@ -1,9 +1,4 @@
--- How long the arrays and the objects on a tape are.
---     begun_leaf, begun_open, begun_end, begun_close     one more node: one that opens and closes nothing, one that opens, and an end
---     begun_none                                         what is open is not known any more
---     begun_tells                                        what the nodes tell is so
---     untold_close, untold_tokens, untold_spans          what is seen of the nodes: an end is put, tokens, spans
---     tell_from, spans_from                              the nodes from a place on
+-- The lengths of the arrays and objects on a tape.
 use Rattle.std.proofs.Common.{◌≡◌, ◌≢◌, ℕ, zero, suc, ◌+◌, ◌-◌, List, [], ◌∷◌, ◌++◌, length, drop, map, set, get_or, Option, Some, None, refl, ap, sym, ◌∙◌, subst, arith, append_assoc, length-append}
 use Rattle.std.proofs.lemmas.List.{map-append}
 use Rattle.std.proofs.Math.Seq.{map-set_same, get_or-append_seam, set-append_seam}
@@ -27,8 +22,6 @@ some_none h = none_some (sym h)
 some_same : {a b : ℕ} → Some a ≡ Some b → a ≡ b
 some_same h = cc
 
--- ---- what single nodes tell
--- a node that is a value of its own
 tells_none : (x : Node) (xs : List Node) → reported x ≡ Some 0 → ((texts : List ℕ) → following 0 (tokens_held texts (x ∷ xs)) ≡ tokens_held texts xs) → TellsTruth x xs
 tells_none x xs is one m also =
     let same : 0 ≡ m = some_same (sym is ∙ also) in
@@ -50,7 +43,7 @@ tells_end xs = tells_none End xs refl (λ texts. refl)
 tells_nothing : (x : Node) (xs : List Node) → reported x ≡ None → TellsTruth x xs
 tells_nothing x xs none m is = none_some (sym none ∙ is)
 
--- ---- nodes that are whole
+-- lists of nodes in which nothing stays open
 whole_none : IsWhole []
 whole_none = record { reports = λ ys h. h; passes = λ texts n ts. refl }
 
@@ -75,7 +68,7 @@ leaf_passed End h texts n ts = absurd h
 whole_leaf : (x : Node) → IsLeaf x → IsWhole (x ∷ [])
 whole_leaf x h = record { reports = λ ys more. (tells_leaf x ys h, more); passes = leaf_passed x h }
 
--- an array or an object with what is inside and its end, as tokens
+-- the tokens of the contents of an array or object, and of its end
 abbrev closed_tokens : List ℕ → List Node → List Token → List Token
 closed_tokens texts inner ts = tokens_held texts inner ++ Token.ends ∷ ts
 
@@ -86,7 +79,7 @@ closed_is texts inner ts =
 closed_over : (texts : List ℕ) (inner : List Node) (n : ℕ) (ts : List Token) → IsWhole inner → following (suc (suc n)) (closed_tokens texts inner ts) ≡ following (suc n) ts
 closed_over texts inner n ts whole = whole.passes texts (suc n) (Token.ends ∷ ts)
 
--- the length of an array or an object that ends, where it is told
+-- the stored length of an array or object is correct
 abbrev IsClosedBy : ℕ → List Node → Type 0
 IsClosedBy n inner = n ≢ 0 → n ≡ length inner + 1
 
@@ -117,7 +110,6 @@ tells_object zero inner ys whole known m is = none_some is
 tells_object (suc n) inner ys whole known m is =
     rw (← some_same is) (rest_closed (suc n) (Map (suc n)) inner ys (λ texts us. refl) whole (known (omega arith)))
 
--- what stands inside, and the end, as the nodes behind the first one
 inside_tells : (inner ys : List Node) → IsWhole inner → TellLengths ys → TellLengths ((inner ++ End ∷ []) ++ ys)
 inside_tells inner ys whole more =
     subst TellLengths (sym (append_assoc inner (End ∷ []) ys)) (whole.reports (End ∷ ys) (tells_end ys, more))
@@ -138,7 +130,6 @@ whole_closed n (Map m) inner none whole known = record {
 }
 whole_closed n End inner none whole known = some_none none
 
--- ---- what is open
 begun_more : (places : List ℕ) (xs ys : List Node) → AreBegun places xs → IsWhole ys → AreBegun places (xs ++ ys)
 begun_more [] xs ys h whole = λ zs more. subst TellLengths (sym (append_assoc xs ys zs)) (h (ys ++ zs) (whole.reports zs more))
 begun_more (place ∷ places) xs ys h whole = record {
@@ -168,11 +159,9 @@ pub begun_open : (places : List ℕ) (xs : List Node) (x : Node) → AreBegun pl
 begun_open places xs x h none =
     record { outer = xs; first = x; inner = []; is = refl; begins = refl; unknown = none; whole = whole_none; before = h }
 
--- an end that closes nothing that is known
 pub begun_end : (xs : List Node) → AreBegun [] xs → AreBegun [] (xs ++ End ∷ [])
 begun_end xs h = λ ys more. subst TellLengths (sym (append_assoc xs (End ∷ []) ys)) (h (End ∷ ys) (tells_end ys, more))
 
--- an end that closes the innermost one, which is told how long it is, or nothing
 pub begun_close : (n place : ℕ) (places : List ℕ) (xs : List Node) (d : Node) → AreBegun (place ∷ places) xs → (n ≢ 0 → n ≡ length xs - place)
     → AreBegun places (set xs place (telling n (get_or xs place d)) ++ End ∷ [])
 begun_close n place places xs d h known =
@@ -188,7 +177,6 @@ begun_close n place places xs d h known =
     subst (AreBegun places) (sym put)
     (begun_more places h.outer (telling n h.first ∷ (h.inner ++ End ∷ [])) h.before (whole_closed n h.first h.inner h.unknown h.whole counted))
 
--- ---- lengths that are told, or not
 untold_same : (n : ℕ) (x : Node) → unreported (telling n x) ≡ unreported x
 untold_same n Null = refl
 untold_same n (Bool b) = refl
@@ -199,7 +187,6 @@ untold_same n (list m) = refl
 untold_same n (Map m) = refl
 untold_same n End = refl
 
--- an end, and the length of what it closes
 pub untold_close : (n place : ℕ) (xs : List Node) (d : Node) → map unreported (set xs place (telling n (get_or xs place d)) ++ End ∷ []) ≡ map unreported xs ++ End ∷ []
 untold_close n place xs d =
     map-append unreported (set xs place (telling n (get_or xs place d))) (End ∷ [])
@@ -234,7 +221,6 @@ pub untold_spans : (texts : List ℕ) (xs : List Node) → AllByRecursion (HasSp
 untold_spans texts [] h = tt
 untold_spans texts (x ∷ xs) h = (untold_span texts x h.0, untold_spans texts xs h.1)
 
--- ---- the nodes from a place on
 pub tell_from : (n : ℕ) (xs : List Node) → TellLengths xs → TellLengths (drop n xs)
 tell_from zero xs h = h
 tell_from (suc n) [] h = tt

@@ -1,14 +1,4 @@
--- What a lexer stands for after more bytes, and at their end.
---     state_at, reading_at, faulty_at     what a lexer keeps, seen by its fields
---     reads_none                         no byte was taken
---     goes_on                            the bytes are taken
---     gets_stuck, sticks                 one is refused: in a run, or alone
---     stays_faulty                       and more come
---     counted_fault, faulty_only         it has a fault
---     counted_end                        the bytes end where no text does
---     is_bounded                         what it holds
---     reading_begins, text_begins        what some text goes on from
---     lets_go_of_faults, lets_go_of_all  where it holds nothing
+-- The bytes that a lexer represents, after more bytes and at their end.
 use Rattle.std.proofs.Common.{◌≡◌, ℕ, ◌+◌, ◌-◌, ◌^◌, ◌≤◌, min, List, [], ◌∷◌, ◌++◌, length, take, Option, Some, None, option_map, refl, ap, sym, ◌∙◌, subst, arith, length-append, append-nil}
 use Rattle.std.proofs.lemmas.List.{take-append-le, get_or-append-add, get_or_append_left}
 use Rattle.std.proofs.Math.Seq.{take-append-add}
@@ -38,7 +28,6 @@ use Rattle.mes_json.proofs.OwnedLemmas.{text_owned, nodes_owned}
 use Rattle.mes_json.proofs.ViableLemmas.{begins_from_run}
 use Rattle.mes_json.proofs.ReadLemmas.{stuck_fault, stuck_no_text, ended_fault}
 
--- ---- the fields
 pub state_at : (l : Lexer) (n : ℕ) (k : LexerState) (p : List ℕ) → (n, k) ≡ l → HasLexed l p → Represents n k p
 unfolding HasLexed
 state_at l n k p is h = subst (λ (x : Lexer). HasLexed x p) (sym is) h
@@ -49,12 +38,10 @@ reading_at n k r p at h = subst (λ (x : LexerState). Represents n x p) at h
 pub faulty_at : (n : ℕ) (k : LexerState) (f : TextFault) (p : List ℕ) → k ≡ Faulty f → Represents n k p → IsFaulty f p
 faulty_at n k f p at h = subst (λ (x : LexerState). Represents n x p) at h
 
--- ---- no byte was taken
 pub reads_none : (r : Reader) → Fits r → state_view r ≡ start → IsReading 0 r []
 unfolding run
 reads_none r fits at = record { count = refl; fits = fits; reached = ap (λ (s : State). Some s) (sym at) }
 
--- ---- the bytes are taken
 pub goes_on : (n next : ℕ) (r now : Reader) (p b : List ℕ) → IsReading n r p → next ≡ min (n + length b) (2 ^ 64 - 1) → run MAX_NESTING (state_view r) b ≡ Some (state_view now) → Fits now
     → IsReading next now (p ++ b)
 goes_on n next r now p b h count runs fits = record {
@@ -63,7 +50,6 @@ goes_on n next r now p b h count runs fits = record {
   reached = run_on MAX_NESTING start (state_view r) p b h.reached ∙ runs;
 }
 
--- ---- one is refused
 following : (s : State) (p b : List ℕ) (f : TextFault) → run MAX_NESTING start p ≡ Some s → Stuck s b f → Stuck start (p ++ b) (record { byte = length p + f.byte; why = f.why })
 following s p b f reached stuck = record {
   inside = omega (arith, stuck.inside, length-append p b);
@@ -94,7 +80,6 @@ pub sticks : (n : ℕ) (r : Reader) (p : List ℕ) (c : ℕ) (why : TextFaultKin
     → IsFaulty (record { byte = n; why = why }) (p ++ c ∷ [])
 sticks n r p c why h refuses = gets_stuck n n r p (c ∷ []) _ h (at_once (state_view r) c why refuses) (omega (arith, h.count))
 
--- ---- more bytes come
 still : (p b : List ℕ) (f : TextFault) → Stuck start p f → Stuck start (p ++ b) f
 still p b f stuck = record {
   inside = omega (arith, stuck.inside, length-append p b);
@@ -109,7 +94,6 @@ stays_stuck f p b h = record { exact = h.exact; stuck = still p b h.exact h.stuc
 pub stays_faulty : (n : ℕ) (k : LexerState) (f : TextFault) (p b : List ℕ) → k ≡ Faulty f → Represents n k p → Represents n k (p ++ b)
 stays_faulty n k f p b at h = subst (λ (x : LexerState). Represents n x (p ++ b)) (sym at) (stays_stuck f p b (faulty_at n k f p at h))
 
--- ---- at the end
 pub counted_fault : (f : TextFault) (p : List ℕ) → IsFaulty f p → IsCountedFault MAX_NESTING p f
 counted_fault f p h = record { exact = h.exact; is_fault = stuck_fault p h.exact h.stuck; rounds = h.rounds }
 
@@ -120,7 +104,6 @@ pub counted_end : (n : ℕ) (r : Reader) (p : List ℕ) (found : Option (List To
     → (let none : Option (List Token) = None in found ≡ none) → IsCountedFault MAX_NESTING p (record { byte = n; why = End })
 counted_end n r p found h is none = record { exact = _; is_fault = ended_fault p (state_view r) found h.reached is none; rounds = record { byte = h.count; why = refl } }
 
--- ---- what it owns
 text_kept : (n : ℕ) (k : LexerState) (p : List ℕ) → Represents n k p → text_of k ≤ inner p
 text_kept n (Reading r) p h = text_owned r p h.fits h.reached
 text_kept n (Faulty f) p h = omega arith
@@ -135,15 +118,14 @@ pub is_bounded : (l : Lexer) (p : List ℕ) → HasLexed l p → IsBounded l p
 unfolding HasLexed held nodes_held
 is_bounded l p h = record { texts = text_kept l.0 l.1 p h; nodes = nodes_kept l.0 l.1 p h }
 
--- a byte that no text has there leaves no reader
+-- some text begins with the bytes that a reader has read
 pub reading_begins : (n : ℕ) (r : Reader) (p : List ℕ) → IsReading n r p → Begins MAX_NESTING p
 reading_begins n r p h = begins_from_run MAX_NESTING (state_view r) p h.reached
 
--- nor do the bytes that it takes behind them
 pub front_begins : (n : ℕ) (r : Reader) (p b : List ℕ) (s : State) → IsReading n r p → run MAX_NESTING (state_view r) b ≡ Some s → Begins MAX_NESTING (p ++ b)
 front_begins n r p b s h runs = begins_from_run MAX_NESTING s (p ++ b) (run_on MAX_NESTING start (state_view r) p b h.reached ∙ runs)
 
--- a text begins with itself
+-- some text begins with a text: itself
 pub text_begins : (p : List ℕ) (t : Tree) → IsText MAX_NESTING p t → Begins MAX_NESTING p
 text_begins p t h = ([], t, subst (λ (b : List ℕ). IsText MAX_NESTING b t) (sym (append-nil p)) h)
 

@@ -1,7 +1,5 @@
--- A measure of what a state of the machine holds: so much for each text, and so much for each mark, where a literal is one, and
--- an array or an object begins and ends with one.
---     of_tree, of_frames, of_at, of_state       the measure
---     with_item_adds, with_member_adds          one more at the end
+-- A measure of a state of the machine: an amount for each text, and one for each mark. A literal is
+-- a mark; an array or an object has two, its first and its last byte.
 use Rattle.std.proofs.Common.{◌≡◌, ℕ, ◌+◌, List, [], ◌∷◌, arith}
 use Rattle.mes_json.specs.Tree.{Tree, Items, Members}
 use Rattle.mes_json.specs.Tree.Tree.{null, boolean, number, string, array, object}
@@ -43,7 +41,7 @@ of_frames m [] = 0
 of_frames m (frame ms k ∷ fs) = m.mark + of_members m ms + m.text k + of_frames m fs
 of_frames m (array_frame ts ∷ fs) = m.mark + of_items m ts + of_frames m fs
 
--- how many bytes of an escape are read, of which none is kept yet
+-- the number of bytes of an escape that are read but not kept
 abbrev pub of_escape : Escape → ℕ
 of_escape backslash = 1
 of_escape unit0 = 2

@@ -1,9 +1,4 @@
--- How a token that is expected moves the reader.
---     token_taken         a byte that leads on
---     token_and_more      and what is taken behind it
---     left                none, where nothing has changed but, perhaps, the room
---     any_name_begins     the quotation mark of a name
---     object_opens, object_closes, array_closes
+-- Steps of the reader over expected tokens.
 use Rattle.std.proofs.Common.{◌≡◌, ℕ, ◌+◌, ◌<◌, ◌⊎◌, inl, inr, List, [], ◌∷◌, ◌++◌, length, get_or, Some, Ok, refl, ap, ◌∙◌, arith}
 use Rattle.mes_json.specs.Machine.{step}
 use Rattle.mes_json.specs.Reader.{state_view, innermost, outer, Fits, Begins, Puts, Stays, RunsTo}
@@ -39,7 +34,7 @@ pub any_name_begins : (old new : Reader) → Fits old → (old.at ≡ at.TheVari
 any_name_begins old new fits (inl is_at) begins = name_begins old new fits is_at begins
 any_name_begins old new fits (inr is_at) begins = next_name_begins old new fits is_at begins
 
--- what a token owes that is taken
+-- the contract of a step over a token
 pub record Leads (old : Reader) (c : ℕ) (new : Reader) : Type 0 where
   pub gives : step MAX_NESTING (state_view old) c ≡ Some (state_view new)
   pub fits : Fits new

@@ -1,7 +1,4 @@
--- How a reader goes into objects and arrays, and out of empty ones.
---     outer_last, top_of, top_is                what is innermost
---     entered                                   the first byte
---     first_item_ends, first_name_ends          the last byte, where nothing stands inside
+-- The reader at the first byte of objects and arrays, and at the last byte of empty ones.
 use Rattle.std.proofs.Common.{◌≡◌, ℕ, ◌+◌, ◌-◌, ◌<◌, ◌≤◌, inl, inr, Bool, List, [], ◌∷◌, ◌++◌, length, take, Option, Some, None, Result, Ok, Err, OnOk, IfErr, nat_lt, if◌then◌else◌, refl, ap, sym, ◌∙◌, subst, arith, lt-ltb, length-append}
 use Rattle.std.proofs.lemmas.Bool.Decides.{nat_tests}
 use Rattle.std.proofs.lemmas.Grind.{common_steps}
@@ -31,7 +28,6 @@ use Rattle.mes_json.specs.declared.tape.Node.{Node}
 use Rattle.mes_json.specs.declared.tape.Node.TheVariants.{List as list, Map, End}
 use Rattle.mes_json.proofs.ReaderLemmas.{tape_of, due, view_at, form_at, Owes, Moves, moved}
 
--- ---- what is open
 last_place : (xs : List Open) (x : Open) → length (xs ++ x ∷ []) - 1 ≡ length xs
 last_place xs x = simp length-append (omega arith)
 
@@ -59,11 +55,9 @@ innermost_opens [] = refl
 innermost_opens (frame ms k ∷ fs) = innermost_last (opens fs) Object
 innermost_opens (array_frame ts ∷ fs) = innermost_last (opens fs) Array
 
--- what is known to be innermost is the innermost frame's
 pub top_is : (n : List Open) (fs : List Frame) (o : Option Open) → n ≡ opens fs → innermost n ≡ o → top_of fs ≡ o
 top_is n fs o are_open is = sym (innermost_opens fs) ∙ ap innermost (sym are_open) ∙ is
 
--- ---- the first byte
 abbrev first_at : Open → m.ReaderState
 first_at Object = m.ReaderState.name no_members
 first_at Array = m.ReaderState.first_item
@@ -118,7 +112,7 @@ has_span : (o : Open) (old : Reader) → HasSpan old.text.items (first_node o)
 has_span Object old = tt
 has_span Array old = tt
 
--- at the limit the byte would be taken with one level more
+-- at the limit, the byte would be read with one more level
 too_deep : (o : Open) (old : Reader) (c : ℕ) → Fits old → old.at ≡ at.TheVariants.Value → length old.nesting.items ≡ MAX_NESTING → kind_of c ≡ opening_kind o
     → Refuses MAX_NESTING Depth (state_view old) c
 too_deep o old c fits is_at full kind =
@@ -149,7 +143,6 @@ entered o old new (Err (Refused why)) c fits is_at kind enters =
     (subst (λ (w : TextFaultKind). Stops (Refused w) (state_view old) c) (sym enters.0) (too_deep o old c fits is_at enters.1 kind), tt)
 entered o old new (Err NoMemory) c fits is_at kind enters = (tt, tt)
 
--- ---- the last byte
 pub first_item_ends : {A : Type 0} (old new : Reader) (result : Result A PushError) (c : ℕ) → Fits old → old.at ≡ at.TheVariants.FirstItem
     → kind_of c ≡ m.ByteClass.closing_array → OnOk result (Puts old (outer old.nesting.items) End at.TheVariants.After new)
     → IfErr result (λ e. e ≡ NoMemory) → Owes result (state_view old) c new

@@ -1,9 +1,4 @@
--- The next item and the next member of a place.
---     no_item, next_item                none is left; the first one
---     next_member                       the first member
---     shorter_item, shorter_member      fewer tokens are left
---     counts_first, counts_next         so many items were passed over
---     counts_all, counts_most           all of them, or as many as are counted
+-- The next item or member of a cursor.
 use Rattle.std.proofs.Common.{◌≡◌, ℕ, ◌+◌, ◌<◌, ◌≤◌, min, true, false, List, [], ◌∷◌, ◌++◌, length, drop, Some, None, refl, ap, sym, subst, ◌∙◌, arith, append_assoc}
 use Rattle.mes_json.specs.Tree.{Tree, Items, Members}
 use Rattle.mes_json.specs.Tree.Tree.{null, boolean, number, string, array, object}
@@ -50,7 +45,7 @@ pub shorter_member : (xs value new : List Token) (k : List ℕ) → as_name xs �
 shorter_member [] value new k named here passed = cc
 shorter_member (x ∷ xs) value new k named here passed = let within = behind_within 0 xs in omega (arith, within, ap length (passed ∙ ap (following 0) here))
 
--- so many items were passed over, and the others are these
+-- n items were skipped, and these are the others
 abbrev pub Counted : List Token → List Token → ℕ → Type 0
 Counted xs rest n = (ts : Items) → BeginsItems xs ts → (us : Items) × BeginsItems rest us × (count_of ts ≡ n + count_of us)
 

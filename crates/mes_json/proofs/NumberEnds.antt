@@ -1,7 +1,4 @@
--- A number that ends with the byte behind it.
---     may_end, node_is                                what is known before it
---     number_before_name, number_before_item          a comma
---     number_ends_object, number_ends_array           the end of what is open
+-- A number that ends with the byte after it.
 use Rattle.std.proofs.Common.{◌≡◌, ℕ, true, length, Option, Some, None, Ok, refl, ap, sym, ◌∙◌, subst}
 use Rattle.mes_fixed.specs.Automaton.{letter_of, number_next, is_final}
 use Rattle.mes_fixed.specs.declared.automaton.NumberState.{NumberState}
@@ -15,7 +12,7 @@ use Rattle.mes_json.proofs.TokenLemmas.{number_ends, number_gives}
 use Rattle.mes_json.proofs.AfterLemmas.{name_follows, name_led, item_follows}
 use Rattle.mes_json.proofs.MemberLemmas.{Leads, object_closes, array_closes}
 
--- the reader stands in a number that may end, and the byte c is none of it
+-- the reader is in a number that may end, and the byte c does not continue the number
 pub record MayEnd (old : Reader) (x : NumberState) (c : ℕ) : Type 0 where
   pub fits : Fits old
   pub reached : Reached old
@@ -28,14 +25,13 @@ pub may_end : (old : Reader) (x : NumberState) (c d : ℕ) → Fits old → Reac
 may_end old x c d fits reached is_at final foreign is =
     subst (MayEnd old x) is (record { fits = fits; reached = reached; is_at = is_at; final = final; foreign = foreign })
 
--- the node of that number
 abbrev pub number_node : Reader → Node
 number_node old = Number old.start (length old.text.items)
 
 pub node_is : (old : Reader) (from to : ℕ) → from ≡ old.start → to ≡ length old.text.items → Number from to ≡ number_node old
 node_is old from to begins ends = ap (λ (n : ℕ). Number n to) begins ∙ ap (λ (n : ℕ). Number old.start n) ends
 
--- the byte leads where it leads behind the value
+-- the byte has the same effect as after the value
 following_value : (old mid new : Reader) (x : NumberState) (c : ℕ) → MayEnd old x c → Puts old old.nesting.items (number_node old) at.TheVariants.After mid
     → (Fits mid → Leads mid c new) → Leads old c new
 following_value old mid new x c h puts leads =
@@ -43,14 +39,12 @@ following_value old mid new x c h puts leads =
     let led = leads ends.fits in
     record { gives = number_gives {A = ℕ} old mid (Ok 0) c x (state_view new) ends h.foreign h.final led.gives; fits = led.fits }
 
--- the same reader in another place
 abbrev in_place : at.ReaderState → Reader → Reader
 in_place a r = record { at = a; nesting = r.nesting; start = r.start; text = r.text; nodes = r.nodes }
 
 is_in_place : (a : at.ReaderState) (r : Reader) → r.at ≡ a → r ≡ in_place a r
 is_in_place a r is_at = ap (λ (b : at.ReaderState). in_place b r) is_at
 
--- behind the value, before the comma is taken
 value_put : (old new : Reader) (n : Node) (a : at.ReaderState) → Puts old old.nesting.items n a new → Puts old old.nesting.items n at.TheVariants.After (in_place at.TheVariants.After new)
 value_put old new n a puts = record { at = refl; nodes = puts.nodes; text = puts.text; nesting_is = puts.nesting_is; start = puts.start }
 
@@ -71,7 +65,6 @@ number_before_item old new x h inside puts =
     (λ fits. let follows = item_follows mid 44 fits refl (ap innermost puts.nesting_is ∙ inside) refl in
     subst (Leads mid 44) (sym (is_in_place at.TheVariants.Value new puts.at)) (record { gives = follows.0; fits = follows.1 }))
 
--- both nodes are put at once
 put_at_once : (old : Reader) (n : Node) → Puts old old.nesting.items n at.TheVariants.After (with_value n old)
 put_at_once old n = record { at = refl; nodes = refl; text = refl; nesting_is = refl; start = refl }
 

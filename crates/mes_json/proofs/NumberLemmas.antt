@@ -1,4 +1,4 @@
--- A text that merely is a number is one: `number_had`.
+-- A text that is merely known to be a number is a number: `number_had`.
 use Rattle.std.proofs.Common.{◌≡◌, ℕ, Bool, true, false, List, [], ◌∷◌, Option, Some, None, refl, sym, ◌∙◌, subst}
 use Rattle.std.proofs.Math.Logic.{∥∥₁_elim}
 use Rattle.mes_fixed.specs.declared.automaton.NumberState.{NumberState}
@@ -10,7 +10,6 @@ use Rattle.mes_fixed.proofs.Grammar.{number_from_ends, ends_from_number}
 some_one : {a b : NumberState} → Some a ≡ Some b → a ≡ b
 some_one e = cc
 
--- the automaton answers
 may : (part : NumberState) → Dec (is_final part ≡ true)
 may part = by (is_final part) refl
   where

@@ -1,6 +1,4 @@
--- How the bytes of a number move the reader, all at once.
---     number_taken           those in front of the bytes
---     behind_number_taken    the byte behind it
+-- Runs of the reader over the bytes of a number.
 use Rattle.std.proofs.Common.{◌≡◌, ℕ, ◌+◌, ◌-◌, ◌<◌, ◌≤◌, List, [], ◌∷◌, ◌++◌, length, take, drop, Option, Some, None, option_map, option_and_then, refl, ap, sym, ◌∙◌, arith, append_assoc, append-nil, length-take, lt_irrefl}
 use Rattle.std.proofs.Math.Seq.{take-add}
 use Rattle.mes_fixed.specs.Automaton.{letter_of, number_next}
@@ -19,7 +17,6 @@ use Rattle.mes_json.proofs.RunLemmas.{run_on}
 use Rattle.mes_json.proofs.ReaderLemmas.{due, view_at, form_at, covered_at, begun_fits, begun_view}
 use Rattle.mes_json.proofs.TakenLemmas.{rest_is, within_rest, reached_over}
 
--- ---- the machine's run over them
 over_number : (d : ℕ) (fs : List Frame) (x y : NumberState) (b q : List ℕ) → part_after x q ≡ Some y
     → run d (state fs (m.ReaderState.token (digits x b))) q ≡ Some (state fs (m.ReaderState.token (digits y (b ++ q))))
 unfolding run
@@ -52,7 +49,7 @@ from_value d fs y (c ∷ q) some leads = by (number_next AtStart (letter_of c)) 
 some_taken : (n : ℕ) (xs : List ℕ) → 0 < n → n ≤ length xs → 0 < length (take n xs)
 some_taken n xs some few = simp length-take (omega arith)
 
--- ---- the reader's, over the bytes behind the place, as they are cut out
+-- the run of the reader, over the bytes from an offset on
 pub number_taken : (old new : Reader) (y : NumberState) (b : List ℕ) (from n : ℕ) → Fits old → old.at ≡ at.TheVariants.Value → from ≤ length b
     → n ≤ length (take (length b - from) (drop from b)) → 0 < n → part_after AtStart (take n (take (length b - from) (drop from b))) ≡ Some y
     → Begins old (take n (take (length b - from) (drop from b))) (at.TheVariants.Digits y) new → RunsTo old b from (from + n) new

@@ -1,7 +1,4 @@
--- Sound: the steps in an object.
---     on_name_sound, on_named_sound       where a name is due, and behind it
---     ready                               an object with the value that was read last
---     object_closes, name_is_due          at the byte behind that value
+-- Soundness: the steps in an object.
 use Rattle.std.proofs.Common.{◌≡◌, ℕ, suc, List, [], ◌∷◌, ◌++◌, Some, refl, ap, sym, ◌∙◌, subst, append_assoc, append-nil}
 use Rattle.mes_json.specs.Tree.{Tree, Members}
 use Rattle.mes_json.specs.Tree.Tree.{object}
@@ -15,7 +12,6 @@ use Rattle.mes_json.specs.Machine.ReaderState.{value, name, named, after}
 use Rattle.mes_json.proofs.Held.{Before, InObject, HeldStack, Valued, Held}
 use Rattle.mes_json.proofs.SoundLemmas.{some_is, none_some, KindIs, push, object_space, named_space, quote_starts}
 
--- ---- one more member
 more_members : (ms : Members) (k : List ℕ) (t : Tree) (room : ℕ) (b m : List ℕ) → MoreMembers ms room b → IsMember (IsString k) (IsValue t room) m
     → MoreMembers (with_member ms k t) room (b ++ 44 ∷ m)
 more_members no_members k t room b m e h = (m, ap (λ (x : List ℕ). x ++ 44 ∷ m) e, record { first = m; rest = []; is = sym (append-nil m); is_first = h; is_rest = refl })
@@ -47,7 +43,6 @@ before_next : (ms : Members) (k : List ℕ) (t : Tree) (room : ℕ) (b : List �
 before_next no_members k t room b h = (b, refl, h)
 before_next (member j u ms) k t room b h = (b, refl, h)
 
--- ---- where a name is due
 empty_closes : (fs : List Frame) (d room : ℕ) (b : List ℕ) → InObject (HeldStack d fs) no_members room b → Held d (state fs (after (object no_members))) (b ++ 125 ∷ [])
 empty_closes fs d room b h = (
   suc room,
@@ -81,7 +76,6 @@ on_name_sound d fs ms comma c next b is h e = none_some e
 on_name_sound d fs ms other c next b is h e = none_some e
 on_name_sound d fs ms (begins x) c next b is h e = none_some e
 
--- ---- behind a name
 name_called : (d : ℕ) (fs : List Frame) (ms : Members) (k : List ℕ) (b : List ℕ) → Held d (state fs (named ms k)) b → Held d (state (frame ms k ∷ fs) value) (b ++ 58 ∷ [])
 name_called d fs ms k b h = (h.0, record { front = b; spaces = []; is = refl; name = h.1; are_spaces = tt })
 
@@ -99,8 +93,7 @@ on_named_sound d fs ms k comma c next b is h e = none_some e
 on_named_sound d fs ms k other c next b is h e = none_some e
 on_named_sound d fs ms k (begins x) c next b is h e = none_some e
 
--- ---- behind a member's value
--- an object and the members that it has so far, the last one too
+-- an object with its members so far, and the last one
 pub record Ready (d : ℕ) (fs : List Frame) (ms : Members) (k : List ℕ) (t : Tree) (room : ℕ) (b : List ℕ) : Type 0 where
   pub outer : List ℕ
   pub members : List ℕ

@@ -1,5 +1,4 @@
--- Each list of bytes has a reading: it is a text, or it has a fault.
---     some_reading
+-- Every list of bytes is a text or has a fault.
 use Rattle.std.proofs.Common.{◌≡◌, ℕ, ◌+◌, ◌<◌, ◌⊎◌, inl, inr, List, [], ◌∷◌, ◌++◌, length, take, Option, Some, None, refl, ap, sym, ◌∙◌, subst, arith, append_assoc, append-nil, length-append}
 use Rattle.std.proofs.Math.Seq.{take-append_seam, get_or-append_seam}
 use Rattle.mes_json.specs.Tree.{Tree}
@@ -17,7 +16,6 @@ use Rattle.mes_json.proofs.PlaceLemmas.{refused, ended}
 abbrev pub Reading : ℕ → List ℕ → Type 0
 Reading d b = ((t : Tree) × IsText d b t) ⊎ ((f : TextFault) × IsFault d b f)
 
--- at the end of the bytes
 at_end : (d : ℕ) (b : List ℕ) (s : State) → run d start b ≡ Some s → Reading d b
 at_end d b s e = by (finish s) refl
   where
@@ -25,7 +23,6 @@ at_end d b s e = by (finish s) refl
     by (Some t) f = inl (t, finished d b s t e f)
     by None f = inr (_, ended d b s e f)
 
--- at a byte that the state has no place for
 why_not : (d : ℕ) (s : State) (c : ℕ) → step d s c ≡ None → (why : TextFaultKind) × Refuses d why s c
 why_not d s c stuck = by (step (d + 1) s c) refl
   where

@@ -1,5 +1,4 @@
--- What a reader owns, by what the state that it stands for holds.
---     text_owned, nodes_owned
+-- The bytes and nodes that a reader buffers, by those of its state.
 use Rattle.std.proofs.Common.{◌≡◌, ℕ, ◌+◌, ◌-◌, ◌≤◌, List, [], ◌∷◌, length, drop, Some, refl, ap, arith, length-drop}
 use Rattle.std.proofs.lemmas.Grind.{common_steps}
 use Rattle.std.specs.List.{AllByRecursion}
@@ -18,7 +17,6 @@ use Rattle.mes_json.proofs.MeasureLemmas.{Measure, of_state}
 use Rattle.mes_json.proofs.TapeMeasures.{of_node, of_nodes, value_due_holds, name_due_holds, tape_holds}
 use Rattle.mes_json.proofs.HeldLemmas.{bytes, nodes, bytes_paid, nodes_paid}
 
--- ---- the nodes
 length_of_span : (texts : List ℕ) (from to : ℕ) → IsSpan texts from to → length (span texts from to) ≡ to - from
 length_of_span texts from to h = let forward = h.forward in let inside = h.inside in grind (arith, common_steps)
 
@@ -50,7 +48,6 @@ count_of_nodes : (texts : List ℕ) (xs : List Node) → of_nodes nodes texts xs
 count_of_nodes texts [] = refl
 count_of_nodes texts (x ∷ xs) = omega (arith, one_of_node texts x, count_of_nodes texts xs)
 
--- ---- what is read of a text
 abbrev of_read : Measure → at.ReaderState → List ℕ → ℕ
 of_read m at.TheVariants.Value b = 0
 of_read m at.TheVariants.FirstItem b = 0
@@ -88,7 +85,7 @@ state_holds m r fits =
       view_holds m r.at r.nesting.items (drop r.start r.text.items) (spelled r.text.items r.nodes.items) fits.at,
     )
 
--- the buffer has what the spans have, and what is read
+-- the buffer is covered by the spans and the text that is being read
 all_read : (a : at.ReaderState) (k : ℕ) (b : List ℕ) → k ≤ length b → length b ≤ read_from a k (length b) + of_read bytes a (drop k b)
 all_read at.TheVariants.Value k b h = omega arith
 all_read at.TheVariants.FirstItem k b h = omega arith
@@ -100,7 +97,6 @@ all_read (at.TheVariants.Quoted purpose mid) k b h = omega (arith, length-drop k
 all_read (at.TheVariants.Literal w) k b h = omega arith
 all_read (at.TheVariants.Digits part) k b h = omega (arith, length-drop k b)
 
--- ---- both
 pub text_owned : (r : Reader) (p : List ℕ) → Fits r → run MAX_NESTING start p ≡ Some (state_view r) → length r.text.items ≤ inner p
 text_owned r p fits reached =
     omega (

@@ -1,8 +1,4 @@
--- What each byte may add to what a state of the machine holds. Here: what the steps share.
---     stand_of, IsSound     where the next byte stands, and what holds of each state that is reached
---     Pays, Paid            a cost that covers a measure; a step that it covers
---     stays, foreign        a byte that begins no string
---     Tells, kind_tells     what a kind of byte says of the byte
+-- The bound on the bytes and nodes that each byte adds to a state: the facts that steps share.
 use Rattle.std.proofs.Common.{◌≡◌, ◌≢◌, ℕ, ◌+◌, ◌≤◌, inl, inr, true, false, ◌||◌, List, [], ◌∷◌, ◌++◌, length, Option, Some, None, ◌==◌, refl, ap, sym, ◌∙◌, arith, eqb-true}
 use Rattle.std.specs.List.{AllByRecursion}
 use Rattle.std.proofs.lemmas.Bool.{cond_both, eqb-false}
@@ -25,7 +21,6 @@ use Rattle.mes_json.specs.Machine.State.{state}
 use Rattle.mes_json.proofs.SoundLemmas.{none_some, choose}
 use Rattle.mes_json.proofs.MeasureLemmas.{Measure, of_tree, of_state}
 
--- ---- where the next byte stands
 abbrev pub stand_in_escape : Escape → Stand
 stand_in_escape backslash = escaped
 stand_in_escape unit0 = inside
@@ -56,13 +51,12 @@ stand_at (after t) = outside
 abbrev pub stand_of : State → Stand
 stand_of (state fs a) = stand_at a
 
--- ---- what holds of each state that is reached
--- no quotation mark is due, and the literal is a mark
+-- a literal has no quotation mark, and counts as one mark
 abbrev pub IsSoundToken : Measure → Token → Type 0
 IsSoundToken m (literal e rest t) = (e ≢ 34) × AllByRecursion (λ c. c ≢ 34) rest × (of_tree m t ≡ m.mark)
 IsSoundToken m (digits part n) = Unit {0}
 
--- what is due of a character is above ASCII
+-- the next byte of a character is above ASCII
 abbrev pub IsSoundMid : Utf8State → Type 0
 IsSoundMid between = Unit {0}
 IsSoundMid (within n least most) = 128 ≤ least
@@ -80,8 +74,7 @@ IsSoundAt m (after t) = Unit {0}
 abbrev pub IsSound : Measure → State → Type 0
 IsSound m (state fs a) = IsSoundAt m a
 
--- ---- what is paid
--- what each byte costs covers what it may add
+-- the cost of each byte bounds the increase of the measure
 pub record Pays (m : Measure) (cost : Stand → ℕ → ℕ) : Type 0 where
   pub none : m.text [] ≤ cost outside 34
   pub one : (c : ℕ) → m.text (c ∷ []) ≤ 1
@@ -91,11 +84,11 @@ pub record Pays (m : Measure) (cost : Stand → ℕ → ℕ) : Type 0 where
   pub in_string : (c : ℕ) → c ≢ 34 → 1 ≤ cost inside c
   pub in_escape : (c : ℕ) → 1 ≤ cost escaped c
 
--- the byte c leads from one state to another one, and its cost covers what the second holds more than the first
+-- the byte c leads from s to next, and its cost bounds the increase of the measure
 abbrev pub Paid : Measure → (Stand → ℕ → ℕ) → ℕ → State → State → Type 0
 Paid m cost c s next = (stand_of next ≡ following (stand_of s) c) × (of_state m next ≤ of_state m s + cost (stand_of s) c) × IsSound m next
 
--- ---- a byte that begins no string
+-- a byte that does not begin a string
 pub stays : (c : ℕ) → c ≢ 34 → outside ≡ following outside c
 stays c no_quote = cond_both (c == 34) inside outside (λ x. outside ≡ x) (λ e. absurd (no_quote (eqb-true c 34 e))) (λ _. refl)
 
@@ -117,15 +110,13 @@ letter_counts AfterExponent next neither c is e = none_some e
 letter_counts AfterSign next neither c is e = none_some e
 letter_counts InExponent next neither c is e = none_some e
 
--- a byte that a number goes on with is one of a number
+-- a byte that continues a number is a byte of a number
 pub number_counts : (part next : NumberState) (c : ℕ) → number_next part (letter_of c) ≡ Some next → is_of_number c ≡ true
 number_counts part next c e = letter_counts part next (letter_of c) c (letter_is c) e
 
 pub foreign : (c : ℕ) → is_of_number c ≡ true → c ≢ 34
 foreign c counts is = let no : false ≡ true = ap is_of_number (sym is) ∙ counts in cc
 
--- ---- what a kind of byte says of the byte
--- the token begins with it
 abbrev pub IsBegun : Measure → Token → ℕ → Type 0
 IsBegun m (literal e rest t) c = IsSoundToken m (literal e rest t)
 IsBegun m (digits part n) c = (is_of_number c ≡ true) × (n ≡ c ∷ [])
@@ -142,7 +133,6 @@ Reports m comma c = c ≢ 34
 Reports m other c = c ≢ 34
 Reports m (begins x) c = (c ≢ 34) × IsBegun m x c
 
--- no quotation mark stands in a literal
 null_sound : (m : Measure) → IsSoundToken m (literal 0x75 (0x6C ∷ 0x6C ∷ []) null)
 null_sound m = ((λ q. cc), ((λ q. cc), ((λ q. cc), tt)), refl)
 

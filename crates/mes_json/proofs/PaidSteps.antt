@@ -1,6 +1,4 @@
--- What each byte may add to what a state of the machine holds, and what all of them may.
---     paid_step
---     spent, paid_run
+-- The bound on the bytes and nodes that each byte, and a run of bytes, adds to a state.
 use Rattle.std.proofs.Common.{◌≡◌, ◌≢◌, ℕ, ◌+◌, ◌≤◌, inl, inr, List, [], ◌∷◌, length, Option, Some, None, option_and_then, ◌==◌, nat_lt, refl, ap, sym, ◌∙◌, subst, arith, eqb-true}
 use Rattle.mes_fixed.specs.Automaton.{letter_of, number_next, is_final}
 use Rattle.mes_fixed.specs.declared.automaton.NumberState.{NumberState}
@@ -21,11 +19,9 @@ use Rattle.mes_json.proofs.MeasureLemmas.{Measure, of_state, with_item_adds, wit
 use Rattle.mes_json.proofs.PaidLemmas.{stand_of, IsSound, IsSoundToken, Pays, Paid, stays, number_counts, foreign, IsBegun, Reports, kind_tells}
 use Rattle.mes_json.proofs.PaidStrings.{paid_quoted}
 
--- the state that is reached
 reached : (m : Measure) (cost : Stand → ℕ → ℕ) (c : ℕ) (s next last : State) → Some next ≡ Some last → Paid m cost c s next → Paid m cost c s last
 reached m cost c s next last e = subst (λ (x : State). Paid m cost c s x) (some_is e)
 
--- ---- at a value
 token_paid : (m : Measure) (cost : Stand → ℕ → ℕ) (fs : List Frame) (x : Token) (c : ℕ) → Pays m cost → c ≢ 34 → IsBegun m x c → Paid m cost c (state fs value) (state fs (token x))
 token_paid m cost fs (literal e rest t) c pays n begun = (stays c n, omega arith, begun)
 token_paid m cost fs (digits part b) c pays n begun = (
@@ -58,7 +54,6 @@ on_value_paid m cost d fs comma c next pays n e = none_some e
 on_value_paid m cost d fs other c next pays n e = none_some e
 on_value_paid m cost d fs (begins x) c next pays n e = reached m cost c (state fs value) _ next e (token_paid m cost fs x c pays n.0 n.1)
 
--- an array's first item
 item_paid : (m : Measure) (cost : Stand → ℕ → ℕ) (d : ℕ) (fs : List Frame) (k : ByteClass) (c : ℕ) (next : State) → Pays m cost → Reports m k c
     → on_value d (array_frame no_items ∷ fs) k ≡ Some next → Paid m cost c (state fs first_item) next
 item_paid m cost d fs k c next pays n e =
@@ -77,7 +72,6 @@ on_first_item_paid m cost d fs comma c next pays n e = none_some e
 on_first_item_paid m cost d fs other c next pays n e = none_some e
 on_first_item_paid m cost d fs (begins x) c next pays n e = item_paid m cost d fs (begins x) c next pays n e
 
--- ---- at a name and behind it
 close_empty_paid : (m : Measure) (cost : Stand → ℕ → ℕ) (fs : List Frame) (ms : Members) (c : ℕ) (next : State) → Pays m cost → c ≢ 34 → close_empty fs ms ≡ Some next
     → Paid m cost c (state fs (name ms)) next
 close_empty_paid m cost fs no_members c next pays n e = reached m cost c (state fs (name no_members)) _ next e (stays c n, omega (arith, pays.mark c), tt)
@@ -111,7 +105,6 @@ on_named_paid m cost fs ms b comma c next n e = none_some e
 on_named_paid m cost fs ms b other c next n e = none_some e
 on_named_paid m cost fs ms b (begins x) c next n e = none_some e
 
--- ---- behind a value
 close_object_paid : (m : Measure) (cost : Stand → ℕ → ℕ) (fs : List Frame) (t : Tree) (c : ℕ) (next : State) → Pays m cost → c ≢ 34 → close_object fs t ≡ Some next
     → Paid m cost c (state fs (after t)) next
 close_object_paid m cost [] t c next pays n e = none_some e
@@ -143,7 +136,6 @@ on_after_paid m cost fs t comma c next pays n e = next_of_paid m cost fs t c nex
 on_after_paid m cost fs t other c next pays n e = none_some e
 on_after_paid m cost fs t (begins x) c next pays n e = none_some e
 
--- ---- in a literal or a number
 due_paid : (m : Measure) (cost : Stand → ℕ → ℕ) (fs : List Frame) (a : ℕ) (rest : List ℕ) (t : Tree) (c : ℕ) → Pays m cost → IsSoundToken m (literal a rest t) → c ≢ 34
     → Paid m cost c (state fs (token (literal a rest t))) (state fs (due rest t))
 due_paid m cost fs a [] t c pays sound n = (stays c n, omega (arith, pays.mark c, sound.2), tt)
@@ -169,7 +161,6 @@ on_token_paid m cost fs (literal a rest t) c next pays sound e =
     ]
 on_token_paid m cost fs (digits part b) c next pays sound e = on_digits_paid m cost fs part b c next (number_next part (letter_of c)) pays refl e
 
--- ---- all of them
 pub paid_step : (m : Measure) (cost : Stand → ℕ → ℕ) (d : ℕ) (s next : State) (c : ℕ) → Pays m cost → IsSound m s → step d s c ≡ Some next → Paid m cost c s next
 paid_step m cost d (state fs value) next c pays sound e = on_value_paid m cost d fs (kind_of c) c next pays (kind_tells m c) e
 paid_step m cost d (state fs first_item) next c pays sound e = on_first_item_paid m cost d fs (kind_of c) c next pays (kind_tells m c) e
@@ -179,8 +170,6 @@ paid_step m cost d (state fs (named ms k)) next c pays sound e = on_named_paid m
 paid_step m cost d (state fs (token x)) next c pays sound e = on_token_paid m cost fs x c next pays sound e
 paid_step m cost d (state fs (after t)) next c pays sound e = on_after_paid m cost fs t (kind_of c) c next pays (kind_tells m c) e
 
--- ---- a run
--- what bytes cost
 abbrev pub spent : (Stand → ℕ → ℕ) → Stand → List ℕ → ℕ
 spent cost place [] = 0
 spent cost place (c ∷ b) = cost place c + spent cost (following place c) b

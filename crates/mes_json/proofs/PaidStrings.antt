@@ -1,5 +1,4 @@
--- What each byte of a string may add to what a state of the machine holds.
---     paid_quoted
+-- The bound on the bytes and nodes that each byte of a string adds to a state.
 use Rattle.std.proofs.Common.{◌≡◌, ◌≢◌, ℕ, zero, suc, ◌+◌, ◌*◌, ◌-◌, ◌≤◌, ◌<◌, inl, inr, Bool, true, false, ◌&&◌, List, [], ◌∷◌, ◌++◌, length, Option, Some, None, if◌then◌else◌, ◌==◌, nat_lt, nat_le, refl, ap, sym, ◌∙◌, subst, arith, encode_utf8, eqb-true}
 use Rattle.std.proofs.lemmas.Bool.{cond_both, eqb-false}
 use Rattle.std.proofs.lemmas.Bool.Decides.{nat_tests}
@@ -18,18 +17,16 @@ use Rattle.mes_json.proofs.SoundLemmas.{some_is, none_some, pick}
 use Rattle.mes_json.proofs.MeasureLemmas.{Measure, of_frames, of_purpose, of_escape, of_mid}
 use Rattle.mes_json.proofs.PaidLemmas.{stand_in_escape, stand_in, IsSoundMid, Pays, Paid}
 
--- ---- escapes
--- where the byte c stands, another one stands inside behind it
+-- the byte after c is inside the string
 abbrev Goes : Stand → ℕ → Type 0
 Goes place c = inside ≡ following place c
 
--- a byte inside that is no quotation mark and no backslash
 within_string : (c : ℕ) → c ≢ 34 → c ≢ 92 → Goes inside c
 within_string c q b =
     cond_both (c == 34) outside _ (λ x. inside ≡ x) (λ e. absurd (q (eqb-true c 34 e)))
     (λ _. cond_both (c == 92) escaped inside (λ x. inside ≡ x) (λ e. absurd (b (eqb-true c 92 e))) (λ _. refl))
 
--- what an escape's byte leads to: the byte behind it stands where the machine says, and no more is made than is read
+-- the effect of a byte of an escape: the next position, and no more bytes made than read
 abbrev Leads : Escape → ℕ → Move → Type 0
 Leads e c (on next) = (stand_in_escape next ≡ following (stand_in_escape e) c) × (of_escape next ≤ of_escape e + 1)
 Leads e c (makes v) = (inside ≡ following (stand_in_escape e) c) × (length (encode_utf8 v) ≤ of_escape e + 1)
@@ -53,7 +50,6 @@ short_leads c =
     cond_both (c == 0x72) _ _ P (λ _. (refl, short 0x0D (omega arith))) (λ _.
     cond_both (c == 0x74) _ _ P (λ _. (refl, short 0x09 (omega arith))) (λ _. tt))))))))
 
--- a hexadecimal digit
 hex_tells : (c : ℕ) → (P : Option ℕ → Type 0) → ((x : ℕ) → Goes inside c → P (Some x)) → P None → P (hex_of c)
 hex_tells c P some none =
     cond_both (nat_le 48 c && nat_le c 57) _ _ P (λ e. some (c - 48) (within_string c (λ q. absurd (grind (arith, nat_tests))) (λ b. absurd (grind (arith, nat_tests))))) (λ _.
@@ -82,8 +78,6 @@ escape_leads (low1 h) c = by_digit (low1 h) c _ (λ x g. cond_both (nat_le 12 x)
 escape_leads (low2 h v) c = by_digit (low2 h v) c _ (λ x g. (g, omega arith))
 escape_leads (low3 h v) c = by_digit (low3 h v) c _ (λ x g. (g, long (pair_of h (v * 16 + x)) _ (omega arith)))
 
--- ---- a byte in a string
--- a character's first byte leads into it, or behind it
 IsIn : Option Utf8State → Type 0
 IsIn None = Unit {0}
 IsIn (Some mid) = (stand_in mid ≡ inside) × (of_mid mid ≡ 0) × IsSoundMid mid
@@ -104,7 +98,6 @@ after_byte_in zero = (refl, refl, tt)
 after_byte_in (suc zero) = (refl, refl, tt)
 after_byte_in (suc (suc n)) = (refl, refl, omega arith)
 
--- the byte is kept
 byte_paid : (m : Measure) (cost : Stand → ℕ → ℕ) (fs : List Frame) (p : Purpose) (from to : Utf8State) (s : List ℕ) (c : ℕ) → Pays m cost → stand_in from ≡ inside → of_mid from ≡ 0 → c ≢ 34 → c ≢ 92
     → (stand_in to ≡ inside) × (of_mid to ≡ 0) × IsSoundMid to
     → Paid m cost c (state fs (quoted p from s)) (state fs (quoted p to (s ++ c ∷ [])))
@@ -122,7 +115,6 @@ in_string_paid m cost fs p s c next None pays q b is e = none_some e
 in_string_paid m cost fs p s c next (Some mid) pays q b is e =
     subst (λ (x : State). Paid m cost c (state fs (quoted p between s)) x) (some_is e) (byte_paid m cost fs p between mid s c pays refl refl q b is)
 
--- the string ends
 end_paid : (m : Measure) (cost : Stand → ℕ → ℕ) (fs : List Frame) (p : Purpose) (s : List ℕ) (c : ℕ) → c ≡ 34 → Paid m cost c (state fs (quoted p between s)) (end_string fs p s)
 end_paid m cost fs (for_name ms) s c is = (sym (ap (following inside) is), omega arith, tt)
 end_paid m cost fs for_value s c is = (sym (ap (following inside) is), omega arith, tt)
@@ -131,7 +123,6 @@ backslash_paid : (m : Measure) (cost : Stand → ℕ → ℕ) (fs : List Frame) 
     → Paid m cost c (state fs (quoted p between s)) (state fs (quoted p (escape backslash) s))
 backslash_paid m cost fs p s c pays q is = (sym (ap (following inside) is), omega (arith, pays.in_string c q), tt)
 
--- ---- a byte of an escape
 escape_costs : (m : Measure) (cost : Stand → ℕ → ℕ) (e : Escape) (c : ℕ) → Pays m cost → (stand_in_escape e ≡ inside → c ≢ 34) → 1 ≤ cost (stand_in_escape e) c
 escape_costs m cost backslash c pays q = pays.in_escape c
 escape_costs m cost unit0 c pays q = pays.in_string c (q refl)
@@ -145,7 +136,7 @@ escape_costs m cost (low1 h) c pays q = pays.in_string c (q refl)
 escape_costs m cost (low2 h v) c pays q = pays.in_string c (q refl)
 escape_costs m cost (low3 h v) c pays q = pays.in_string c (q refl)
 
--- behind a quotation mark no byte stands inside a string that stood inside it
+-- a byte inside a string after which the next is inside too is no quotation mark
 no_quote : (c : ℕ) (place next : Stand) → place ≡ inside → (next ≡ outside → ⊥) → next ≡ following place c → c ≢ 34
 no_quote c place next inside_is other goes is = other (goes ∙ ap (λ (x : Stand). following x c) inside_is ∙ ap (following inside) is)
 
@@ -172,7 +163,6 @@ in_escape_paid m cost fs p e s c next (makes v) pays leads is =
     subst (λ (t : State). Paid m cost c (state fs (quoted p (escape e) s)) t) (some_is is) (leads.0, omega (arith, leads.1, paid, pays.more s (encode_utf8 v)), tt)
 in_escape_paid m cost fs p e s c next refused pays leads is = none_some is
 
--- ---- all of them
 pub paid_quoted : (m : Measure) (cost : Stand → ℕ → ℕ) (fs : List Frame) (p : Purpose) (mid : Utf8State) (s : List ℕ) (c : ℕ) (next : State) → Pays m cost → IsSoundMid mid
     → on_quoted fs p mid s c ≡ Some next → Paid m cost c (state fs (quoted p mid s)) next
 paid_quoted m cost fs p between s c next pays sound e =

@@ -1,8 +1,4 @@
--- Passing over a value on a tape.
---     over_value, over_items, over_members     what stands before is passed over
---     over_one, over_last, over_none            one more node, the last one of the value, and no more node
---     held_rest                                 the nodes from a place on
---     behind_within, behind_first               what is left is no more than before, and less, where there was some
+-- Skipping a value on a tape.
 use Rattle.std.proofs.Common.{◌≡◌, ℕ, zero, suc, ◌+◌, ◌-◌, ◌<◌, ◌≤◌, ◌≢◌, List, [], ◌∷◌, ◌++◌, length, take, drop, get_or, refl, ap, sym, ◌∙◌, arith, append_assoc, lit≤, length-drop}
 use Rattle.std.proofs.Math.Nat.{pred-le}
 use Rattle.std.proofs.lemmas.List.{take_all, drop_more, drop_all, drop-map, get_or-map, length-map}
@@ -36,7 +32,6 @@ mutual
   over_members (member m t ms) n rest =
       ap (following (suc n)) (append_assoc (tokens t) (tokens_of_members ms) rest) ∙ over_value t (suc n) (tokens_of_members ms ++ rest) ∙ over_members ms n rest
 
--- the node at i, and those behind it
 pub held_at : (texts : List ℕ) (xs : List Node) (i : ℕ) (x : Node) → i < length xs
     → drop i (tokens_held texts xs) ≡ token_of texts (get_or xs i x) ∷ drop (i + 1) (tokens_held texts xs)
 held_at texts xs i x inside =
@@ -49,7 +44,7 @@ one_more texts xs i x n now inside is =
     ap (following n) (held_at texts xs i x inside)
     ∙ ap (λ (m : ℕ). by_depth m (drop (i + 1) (tokens_held texts xs)) (following m (drop (i + 1) (tokens_held texts xs)))) (sym is)
 
--- no more is open than there are nodes
+-- at most as many levels are open as there are nodes
 pub depth_within : (x : Node) (i n now : ℕ) → n ≤ i → now ≡ depth_after n (token_of [] x) → now ≤ i + 1
 depth_within Null i n now h is = omega arith
 depth_within (Bool b) i n now h is = omega arith
@@ -64,25 +59,23 @@ by_some : (n : ℕ) (xs ys : List Token) → n ≢ 0 → by_depth n xs ys ≡ ys
 by_some zero xs ys some = absurd (some refl)
 by_some (suc n) xs ys some = refl
 
--- one more node leaves nothing open
+-- one more node, after which nothing is open
 pub over_last : (texts : List ℕ) (xs : List Node) (i : ℕ) (x : Node) (n now : ℕ) → i < length xs → now ≡ depth_after n (token_of texts (get_or xs i x)) → now ≡ 0
     → following n (drop i (tokens_held texts xs)) ≡ drop (i + 1) (tokens_held texts xs)
 over_last texts xs i x n now inside is none =
     one_more texts xs i x n now inside is ∙ ap (λ (m : ℕ). by_depth m (drop (i + 1) (tokens_held texts xs)) (following m (drop (i + 1) (tokens_held texts xs)))) none
 
--- one more node, and something is open
+-- one more node, after which something is open
 pub over_one : (texts : List ℕ) (xs : List Node) (i : ℕ) (x : Node) (n now : ℕ) → i < length xs → now ≡ depth_after n (token_of texts (get_or xs i x)) → now ≢ 0
     → following n (drop i (tokens_held texts xs)) ≡ following now (drop (i + 1) (tokens_held texts xs))
 over_one texts xs i x n now inside is some = one_more texts xs i x n now inside is ∙ by_some now _ _ some
 
--- no node is left
 pub over_none : (texts : List ℕ) (xs : List Node) (i n : ℕ) → length xs ≤ i → following n (drop i (tokens_held texts xs)) ≡ drop (length xs) (tokens_held texts xs)
 over_none texts xs i n is =
     let all : drop i (tokens_held texts xs) ≡ [] = drop_all i (tokens_held texts xs) (omega (arith, length-map xs (token_of texts))) in
     let whole : drop (length xs) (tokens_held texts xs) ≡ [] = drop_all (length xs) (tokens_held texts xs) (omega (arith, length-map xs (token_of texts))) in
     ap (following n) all ∙ sym whole
 
--- the nodes from a place on
 pub held_rest : (texts : List ℕ) (xs : List Node) (i : ℕ) → tokens_held texts (take (length xs - i) (drop i xs)) ≡ drop i (tokens_held texts xs)
 held_rest texts xs i = ap (λ (ys : List Node). tokens_held texts ys) (take_all (length xs - i) (drop i xs) (simp length-drop (omega arith))) ∙ sym (drop-map (token_of texts) i xs)
 
@@ -90,12 +83,10 @@ by_depth_within : (n : ℕ) (xs ys : List Token) → length ys ≤ length xs →
 by_depth_within zero xs ys h = omega arith
 by_depth_within (suc n) xs ys h = h
 
--- no more tokens are left than there were
 pub behind_within : (n : ℕ) (xs : List Token) → length (following n xs) ≤ length xs
 behind_within n [] = lit≤ tt
 behind_within n (x ∷ xs) =
     let within = by_depth_within (depth_after n x) xs (following (depth_after n x) xs) (behind_within (depth_after n x) xs) in omega (arith, within)
 
--- and fewer, where there were some
 pub behind_first : (n : ℕ) (x : Token) (xs : List Token) → length (following n (x ∷ xs)) ≤ length xs
 behind_first n x xs = by_depth_within (depth_after n x) xs (following (depth_after n x) xs) (behind_within (depth_after n x) xs)

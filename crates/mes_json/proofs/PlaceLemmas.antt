@@ -1,4 +1,4 @@
--- Where the machine stops, no text goes on: the place of a fault, and its reason.
+-- No text continues where the machine stops: the offset of a fault, and its reason.
 use Rattle.std.proofs.Common.{◌≡◌, ℕ, ◌+◌, ◌<◌, ◌≤◌, List, [], ◌++◌, length, get_or, take, drop, Some, None, option_and_then, refl, ap, sym, ◌∙◌, subst, arith, take-take, take-append-drop}
 use Rattle.std.proofs.Math.Seq.{take-length}
 use Rattle.mes_json.specs.Tree.{Tree}
@@ -17,7 +17,6 @@ use Rattle.mes_json.proofs.CompleteLemmas.{complete_text}
 use Rattle.mes_json.proofs.ViableLemmas.{begins_from_run, none_begins, run_deeper}
 pub use Rattle.mes_json.proofs.StepLemmas.{finished}
 
--- ---- a byte that no state takes
 further_in : (b : List ℕ) (n m : ℕ) → n < m → take (n + 1) b ++ drop (n + 1) (take m b) ≡ take m b
 further_in b n m l =
     let k : n + 1 ≤ m = omega arith in
@@ -32,7 +31,6 @@ reason d b n s End l e h = absurd h
 reason d b n s Depth l e h = (l, begins_from_run (d + 1) h.0 (take (n + 1) b) (run_take (d + 1) start s b n l (run_deeper d start s (take n b) e) ∙ h.1))
 reason d b n s Byte l e h = (l, none_begins (d + 1) (take (n + 1) b) (run_take (d + 1) start s b n l (run_deeper d start s (take n b) e) ∙ h))
 
--- ---- bytes that are no text
 pub finished_only : (d : ℕ) (b : List ℕ) (s : State) (t : Tree) → run d start b ≡ Some s → IsText d b t → finish s ≡ Some t
 finished_only d b s t e h = sym (ap (option_and_then finish) e) ∙ complete_text d b t h
 
@@ -53,7 +51,6 @@ refused d b n s why l e h = record {
   reason = reason d b n s why l e h.reason;
 }
 
--- ---- the bytes end in a state that is no end
 pub ended : (d : ℕ) (b : List ℕ) (s : State) → run d start b ≡ Some s → finish s ≡ None → IsFault d b (record { byte = length b; why = End })
 ended d b s e f = record {
   no_text = no_text_ended d b s e f;
@@ -62,14 +59,10 @@ ended d b s e f = record {
   reason = refl;
 }
 
--- ---- no byte at all
--- the empty list ends before any text does
 pub empty_fault : (d : ℕ) → IsFault d [] (record { byte = 0; why = End })
 unfolding run
 empty_fault d = ended d [] start refl refl
 
--- ---- one reading
--- the place stands within the bytes
 pub place_within : (d : ℕ) (b : List ℕ) (n : ℕ) (why : TextFaultKind) → IsReason d b n why → n ≤ length b
 place_within d b n End reason = omega (arith, reason)
 place_within d b n Depth reason = omega (arith, reason.0)
@@ -95,7 +88,7 @@ same_reason d b n Byte End is at = absurd (omega (arith, is.0, at))
 same_reason d b n Byte Depth is at = absurd (is.1 at.1)
 same_reason d b n Byte Byte is at = refl
 
--- bytes have one fault
+-- bytes have at most one fault
 pub one_fault : (d : ℕ) (b : List ℕ) (f g : TextFault) → IsFault d b f → IsFault d b g → f ≡ g
 one_fault d b f g is other =
     let place = same_place d b f g is other in

@@ -1,10 +1,4 @@
--- How characters of a string that stand for themselves move the reader, all at once.
---     characters_taken    a run of them is taken
---     front_taken         or none of it
---     few_taken           the same of a few in a block
---     string_taken        the quotation mark behind them
---     runs_further        and what is taken behind that
---     colon_taken         a colon
+-- Runs of the reader over characters of a string without an escape.
 use Rattle.std.proofs.Common.{◌≡◌, ℕ, ◌+◌, ◌-◌, ◌<◌, ◌≤◌, List, ◌∷◌, ◌++◌, length, take, drop, Some, Ok, get_or, ap, sym, ◌∙◌, refl, subst, arith, length-drop, ◌⊎◌, inl, inr}
 use Rattle.mes_json.specs.Machine as m
 use Rattle.mes_json.specs.Machine.{Frame, State, step, run}
@@ -25,7 +19,7 @@ use Rattle.mes_json.proofs.StringLemmas.{string_ends}
 abbrev pub inside : purpose.Purpose → at.ReaderState
 inside p = at.TheVariants.Quoted p mid.TheVariants.Between
 
--- bytes of a string between whole characters that add these bytes to it
+-- bytes of a string, between whole characters, that add `made` to the string
 abbrev pub Spells : List ℕ → List ℕ → Type 0
 Spells q made = (fs : List Frame) (p : m.Purpose) (b : List ℕ)
     → run MAX_NESTING (state fs (m.ReaderState.quoted p m.Utf8State.between b)) q ≡ Some (state fs (m.ReaderState.quoted p m.Utf8State.between (b ++ made)))
@@ -41,7 +35,6 @@ spelled_run purpose.TheVariants.Value n b q made s h spells =
     ∙ spells h.frames m.Purpose.for_value b
     ∙ ap (λ (t : State). Some (with_read (inside purpose.TheVariants.Value) (b ++ made) t)) (sym h.is)
 
--- a run over the bytes behind the place, as they are cut out
 pub characters_taken : (old new : Reader) (p : purpose.Purpose) (b : List ℕ) (from n : ℕ) → Fits old → old.at ≡ inside p → from ≤ length b
     → n ≤ length (take (length b - from) (drop from b)) → StandAlone (take n (take (length b - from) (drop from b)))
     → Keeps old (take n (take (length b - from) (drop from b))) (inside p) new → RunsTo old b from (from + n) new
@@ -49,7 +42,6 @@ characters_taken old new p b from n fits is_at within few alone keeps =
     let q = take n (take (length b - from) (drop from b)) in
     runs_over old new (inside p) b from n fits is_at (λ start end last. refl) within few (λ s h. spelled_run p old.nesting.items (part old) q q s h alone.runs) keeps
 
--- or none of it was
 pub front_taken : (old new : Reader) (p : purpose.Purpose) (b : List ℕ) (from run n : ℕ) → Fits old → old.at ≡ inside p → from ≤ length b
     → run ≤ length (take (length b - from) (drop from b)) → StandAlone (take run (take (length b - from) (drop from b))) → (n ≡ run) ⊎ (n ≡ 0)
     → Keeps old (take n (take (length b - from) (drop from b))) (inside p) new → RunsTo old b from (from + n) new
@@ -58,7 +50,6 @@ front_taken old new p b from run n fits is_at within few alone (inl all) keeps =
 front_taken old new p b from run n fits is_at within few alone (inr none) keeps =
     none_kept old new (inside p) b (take (length b - from) (drop from b)) from n none fits is_at within keeps
 
--- a few bytes of a block
 pub few_taken : (old new : Reader) (p : purpose.Purpose) (b : List ℕ) (from n : ℕ) → Fits old → old.at ≡ inside p → n < 16 → from + 16 ≤ length b
     → StandAlone (take n (drop from b)) → Keeps old (take n (take (length b - from) (drop from b))) (inside p) new → RunsTo old b from (from + n) new
 few_taken old new p b from n fits is_at few block alone keeps =
@@ -68,7 +59,6 @@ few_taken old new p b from n fits is_at few block alone keeps =
     characters_taken old new p b from n fits is_at within (subst (λ (x : List ℕ). n ≤ length x) (sym same) enough)
     (subst (λ (x : List ℕ). StandAlone (take n x)) (sym same) alone) keeps
 
--- the quotation mark that ends a string
 pub string_taken : (old new : Reader) (p : purpose.Purpose) (b : List ℕ) (from : ℕ) → Puts old old.nesting.items (string_node p old) (following_string p) new
     → Fits old → Reached old → old.at ≡ inside p → from < length b → get_or b from 0 ≡ 34 → RunsTo old b from (from + 1) new
 string_taken old new p b from puts fits reached is_at more quote =
@@ -84,7 +74,6 @@ runs_further old mid new b from place to h k = record {
   reached = λ r. k.reached (h.reached r);
 }
 
--- ---- a colon
 value_form : (n : List Open) (s : State) → AtColon n s → AtValue n (value_due s)
 value_form n s h = record { frames = frame h.members h.name ∷ h.frames; is = ap value_due h.is; are_open = h.are_open }
 

@@ -1,12 +1,10 @@
--- What bytes do to a state of the machine.
---     Reaches     they lead from one state to another, whatever comes behind them
---     Leads       the same up to the tree in the end, where what comes behind them may follow a value
+-- The effect of bytes on a state of the machine.
 use Rattle.std.proofs.Common.{◌≡◌, ℕ, ◌⊎◌, inl, inr, List, [], ◌∷◌, ◌++◌, Some, option_and_then, refl, ap, ◌∙◌, append_assoc}
 use Rattle.mes_json.specs.Grammar.{IsSpace, IsSpaces}
 use Rattle.mes_json.specs.Machine.{State, kind_of, step, run, finish, ends}
 use Rattle.mes_json.specs.Machine.ByteClass.{blank}
 
--- what may stand behind a value: nothing, a blank, a comma or the end of a list or an object
+-- bytes that may follow a value: none, white space, a comma, or the end of an array or object
 abbrev pub Follows : List ℕ → Type 0
 Follows [] = Unit {0}
 Follows (c ∷ q) = IsSpace c ⊎ (c ≡ 44) ⊎ (c ≡ 93) ⊎ (c ≡ 125)
@@ -20,7 +18,6 @@ Leads d s b last = (q : List ℕ) → Follows q → ends d s (b ++ q) ≡ ends d
 pub leads : (d : ℕ) (s last : State) (b : List ℕ) → Reaches d s b last → Leads d s b last
 leads d s last b f = λ q _. ap (option_and_then finish) (f q)
 
--- ---- one behind the other
 pub reach_none : (d : ℕ) (s : State) → Reaches d s [] s
 reach_none d s = λ q. refl
 
@@ -37,14 +34,13 @@ reach_then d s next last a b f g = λ q h. ap (ends d s) (append_assoc a b q) �
 pub lead_then : (d : ℕ) (s next last : State) (a b : List ℕ) → ((q : List ℕ) → Follows q → Follows (b ++ q)) → Leads d s a next → Leads d next b last → Leads d s (a ++ b) last
 lead_then d s next last a b follow f g = λ q h. ap (ends d s) (append_assoc a b q) ∙ f (b ++ q) (follow q h) ∙ g q h
 
--- ---- blanks
 pub space_kind : (c : ℕ) → IsSpace c → kind_of c ≡ blank
 space_kind c (inl e) = ap kind_of e
 space_kind c (inr (inl e)) = ap kind_of e
 space_kind c (inr (inr (inl e))) = ap kind_of e
 space_kind c (inr (inr (inr e))) = ap kind_of e
 
--- a state that stays the same at a blank stays so over blanks
+-- a state that white space leaves unchanged, after several bytes of white space
 pub over_spaces : (d : ℕ) (s : State) → ((c : ℕ) → kind_of c ≡ blank → step d s c ≡ Some s) → (b : List ℕ) → IsSpaces b → Reaches d s b s
 over_spaces d s same [] h = reach_none d s
 over_spaces d s same (c ∷ b) h = then_to d s s s (c ∷ []) b (by_byte d s s c (same c (space_kind c h.0))) (over_spaces d s same b h.1)

@@ -1,8 +1,4 @@
--- What holds in each state that a run from the start reaches.
---     readable, readable_front, readable_escape               the text of a string is UTF-8
---     number_read                                             a number that may end is one, and ASCII
---     frames_fit                                              no more are open than the limit allows
---     room_for_item, room_for_name, room_in_name, room_for_value      where one more is open than there are frames
+-- Facts about every state that a run from the start reaches.
 use Rattle.std.proofs.Common.{◌≡◌, ℕ, suc, ◌+◌, ◌<◌, ◌≤◌, inl, inr, true, List, [], ◌∷◌, ◌++◌, length, Some, IsUtf8, encode_utf8, sym, ◌∙◌, subst, arith, append-nil}
 use Rattle.std.specs.List.{All}
 use Rattle.std.proofs.lemmas.List.Elements.{All-nil, All-cons}
@@ -32,16 +28,15 @@ use Rattle.mes_json.proofs.TokenSteps.{number_is}
 use Rattle.mes_json.proofs.StringSteps.{string_read}
 use Rattle.mes_json.proofs.StepLemmas.{held_run}
 
--- ---- text
 chars_utf8 : (b s : List ℕ) → IsChars b s → IsUtf8 s
 chars_utf8 b s (none e f) = subst IsUtf8 (sym f) IsUtf8-nil
 chars_utf8 b s (some first rest c others is are e f) = subst IsUtf8 (sym f) (IsUtf8-append (encode_utf8 c) others (IsUtf8-encode c (char_scalar first c is)) (chars_utf8 rest others are))
 
--- between two characters the text of a string is UTF-8
+-- between two characters, the text of a string is UTF-8
 pub readable : (d : ℕ) (p : List ℕ) (fs : List Frame) (purpose : Purpose) (s : List ℕ) → run d start p ≡ Some (state fs (quoted purpose between s)) → IsUtf8 s
 readable d p fs purpose s e = let q = (held_run d (state fs (quoted purpose between s)) p e).1 in chars_utf8 q.inside s (string_read s q.inside q.in_string)
 
--- within a character it is UTF-8 and then what is kept of the part of that character
+-- in a character, the text is UTF-8 and the kept bytes of the part
 pub readable_front : (d : ℕ) (p : List ℕ) (fs : List Frame) (purpose : Purpose) (m : Utf8State) (s : List ℕ) → run d start p ≡ Some (state fs (quoted purpose m s))
     → (front : List ℕ) × (part : List ℕ) × (s ≡ front ++ kept m part) × IsUtf8 front × PartOf m part
 readable_front d p fs purpose m s e =
@@ -49,14 +44,13 @@ readable_front d p fs purpose m s e =
     let h = q.in_string in
     (h.words, h.part, h.text, chars_utf8 h.whole h.words h.chars, h.part_of)
 
--- within an escape it is UTF-8, and the escape's value has its bounds
+-- in an escape, the text is UTF-8, and the escape's value has its bounds
 pub readable_escape : (d : ℕ) (p : List ℕ) (fs : List Frame) (purpose : Purpose) (e : Escape) (s : List ℕ) → run d start p ≡ Some (state fs (quoted purpose (escape e) s))
     → IsUtf8 s × HasBounds e
 readable_escape d p fs purpose e s is =
     let h = (held_run d (state fs (quoted purpose (escape e) s)) p is).1.in_string in
     (subst IsUtf8 (sym (h.text ∙ append-nil h.words)) (chars_utf8 h.whole h.words h.chars), escape_bounds e h.part h.part_of)
 
--- ---- numbers
 -- a byte of a number is ASCII
 letter_ascii : (part next : NumberState) (l : Letter) (c : ℕ) → LetterIs l c → number_next part l ≡ Some next → c < 128
 letter_ascii part next nought c is e = omega arith
@@ -83,7 +77,6 @@ ends_ascii part (c ∷ n) (next, e, h) = All-cons (λ b. b < 128) c n (letter_as
 number_utf8 : (n : List ℕ) → IsNumber n → IsUtf8 n
 number_utf8 n h = IsUtf8-from_ascii n (IsAscii-from_all n (ends_ascii AtStart n ((number_ends n).0 h)))
 
--- a number that may end is one
 pub number_read : (d : ℕ) (p : List ℕ) (fs : List Frame) (part : NumberState) (n : List ℕ) → run d start p ≡ Some (state fs (token (digits part n))) → is_final part ≡ true
     → IsNumber n × IsUtf8 n
 number_read d p fs part n e f =
@@ -91,7 +84,6 @@ number_read d p fs part n e f =
     let is : IsNumber n = number_is part n x.inside x.held f in
     (is, number_utf8 n is)
 
--- ---- open objects and arrays
 in_object : (d : ℕ) (fs : List Frame) (ms : Members) (room : ℕ) (b : List ℕ) → InObject (HeldStack d fs) ms room b → length fs < d
 in_object d fs ms room b h = let e : length fs + suc room ≡ d = room_is fs d (suc room) h.outer h.outside in omega arith
 
@@ -114,15 +106,14 @@ held_fits d fs (named ms k) b h = let l : length fs < d = in_object d fs ms h.0 
 held_fits d fs (token x) b h = on_stack d fs h.0 h.1.front h.1.outside
 held_fits d fs (after t) b h = on_stack d fs h.0 h.1.front h.1.outside
 
--- no more objects and arrays wait for a value than the limit allows
+-- the number of frames is at most the limit
 pub frames_fit : (d : ℕ) (p : List ℕ) (fs : List Frame) (a : ReaderState) → run d start p ≡ Some (state fs a) → length fs ≤ d
 frames_fit d p fs a e = held_fits d fs a p (held_run d (state fs a) p e)
 
--- where an array's first item is due, one more is open than there are frames
+-- at the first item of an array, one more is open than there are frames
 pub room_for_item : (d : ℕ) (p : List ℕ) (fs : List Frame) → run d start p ≡ Some (state fs first_item) → length fs < d
 room_for_item d p fs e = let h = held_run d (state fs first_item) p e in in_array d fs h.0 p h.1
 
--- and where a name is due or read
 pub room_for_name : (d : ℕ) (p : List ℕ) (fs : List Frame) (ms : Members) → run d start p ≡ Some (state fs (name ms)) → length fs < d
 room_for_name d p fs ms e = let h = held_run d (state fs (name ms)) p e in in_object d fs ms h.0 p h.1
 

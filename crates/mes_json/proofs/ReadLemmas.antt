@@ -1,8 +1,4 @@
--- What a reading that stops or comes to the end says of the bytes.
---     stops_at                       the reader stops at a byte
---     stopped_only, stopped_fault    so the bytes are no text, and this is their fault (stuck_no_text, stuck_fault: not for want of memory)
---     tape_read, tape_only           the bytes end, and a tape is found
---     ended_no_text, ended_fault     the bytes end, and none is
+-- The bytes of a run that stops or ends.
 use Rattle.std.proofs.Common.{◌≡◌, ℕ, ◌<◌, List, length, get_or, take, Option, Some, None, option_map, refl, ap, sym, ◌∙◌, subst}
 use Rattle.mes_json.specs.Tree.{Tree}
 use Rattle.mes_json.specs.Grammar.{IsText}
@@ -68,7 +64,7 @@ pub ended_fault : (b : List ℕ) (s : State) (found : Option (List Token)) → r
     → (let none : Option (List Token) = None in found ≡ none) → IsFault MAX_NESTING b (record { byte = length b; why = End })
 ended_fault b s found reached is none = ended MAX_NESTING b s reached (nothing_finished s found is none)
 
--- a reader that begins is at the start
+-- a new reader is in the start state
 pub stopped_at_start : (s : State) (b : List ℕ) (e : fault.ReadFault) → s ≡ start → StopsIn s b e → StopsIn start b e
 stopped_at_start s b e is stops = subst (λ (x : State). StopsIn x b e) is stops
 

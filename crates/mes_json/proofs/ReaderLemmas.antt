@@ -1,10 +1,4 @@
--- How a change of the reader moves the state that it stands for.
---     view_at, form_at      the state, and its form, at a known place
---     covered_at            what the spans have, there
---     Owes, by_result       what a method owes of a result, by its cases
---     Moves, moved          one more node on the tape
---     begun_.., kept_..     a text begins, or grows
---     gives_as              two states from which a byte leads to the same one
+-- The machine's state, before and after a change of the reader.
 use Rattle.std.proofs.Common.{◌≡◌, ℕ, ◌+◌, ◌≤◌, List, ◌++◌, length, drop, Some, Result, Ok, Err, OnOk, IfErr, ap, sym, ◌∙◌, subst, arith, length-append}
 use Rattle.std.proofs.lemmas.Grind.{common_steps}
 use Rattle.std.proofs.lemmas.List.{drop-append-le}
@@ -23,14 +17,14 @@ use Rattle.mes_json.specs.declared.reader.Reader.{Reader}
 use Rattle.mes_json.specs.declared.tape.Node.{Node}
 use Rattle.mes_json.proofs.TapeLemmas.{spelled_last, spanned_last, spelled_grows, tape_last, tape_grows}
 
--- the state of the tape of a reader, and the same at that place
+-- the machine's state after the nodes, with a comma or colon that was read
 abbrev pub tape_of : Reader → State
 tape_of r = spelled r.text.items r.nodes.items
 
 abbrev pub due : at.ReaderState → Reader → State
 due a r = due_at a (tape_of r)
 
--- the bytes of the text that is read
+-- the bytes of the text that is being read
 abbrev pub part : Reader → List ℕ
 part r = drop r.start r.text.items
 
@@ -43,7 +37,6 @@ form_at r a e h = subst (λ (x : at.ReaderState). IsAt x r.nesting.items (due x 
 pub covered_at : (r : Reader) (a : at.ReaderState) → r.at ≡ a → Fits r → read_from a r.start (length r.text.items) ≤ spanned r.nodes.items
 covered_at r a e h = subst (λ (x : at.ReaderState). read_from x r.start (length r.text.items) ≤ spanned r.nodes.items) e h.covered
 
--- ---- one more node
 put_covered : (old new : Reader) (n : List Open) (x : Node) (a : at.ReaderState) → read_from a old.start (length old.text.items) ≤ spanned old.nodes.items + span_length x
     → Puts old n x a new → read_from new.at new.start (length new.text.items) ≤ spanned new.nodes.items
 put_covered old new n x a covers puts =
@@ -79,7 +72,7 @@ put_view old new n x a puts =
     ∙ ap (λ (xs : List Node). with_read a (part old) (due_at a (spelled old.text.items xs))) puts.nodes
     ∙ ap (λ (s : State). with_read a (part old) (due_at a s)) (spelled_last old.text.items start old.nodes.items x)
 
--- what a method owes of a result
+-- the contract of a method for its result
 abbrev pub Owes : {A : Type 0} → Result A PushError → State → ℕ → Reader → Type 0
 Owes result s c new = Gives result s c (state_view new) × OnOk result (Fits new)
 
@@ -89,7 +82,7 @@ pub by_result : {A : Type 0} (result : Result A PushError) (s : State) (c : ℕ)
 by_result (Ok u) s c new Done gives fits ok err = (gives ok, fits ok)
 by_result (Err e) s c new Done gives fits ok err = (subst (λ (stop : PushError). Stops stop s c) (sym err) tt, tt)
 
--- the byte c leads from the state that is shown to the place a, and the tape gets the node x
+-- the byte c leads from the state `shown` to the reader's state a, and the tape gets the node x
 pub record Moves (texts b : List ℕ) (s shown : State) (c : ℕ) (x : Node) (a : at.ReaderState) (n : List Open) : Type 0 where
   pub takes : Takes s x
   pub gives : step MAX_NESTING shown c ≡ Some (with_read a b (due_at a (apply texts x s)))
@@ -106,8 +99,6 @@ moved old new result c from to x n fits is_at covers has moves ok err =
     (λ (puts : Puts old n x to new). put_fits old new n x to fits.tape fits.start (covers (covered_at old from is_at fits)) has moves.takes moves.form puts)
     ok err
 
--- ---- more bytes of text
--- they leave the state of the tape as it is
 grown : (old new : Reader) (b : List ℕ) → Fits old → new.text.items ≡ old.text.items ++ b → new.nodes.items ≡ old.nodes.items → tape_of new ≡ tape_of old
 grown old new b fits text nodes =
     ap (λ (t : List ℕ). spelled t new.nodes.items) text ∙ ap (λ (xs : List Node). spelled (old.text.items ++ b) xs) nodes
@@ -129,7 +120,6 @@ grown_fits old new b to k fits is_at text nodes nesting starts inside covers for
       (subst (λ (xs : List Node). read_from to k (length new.text.items) ≤ spanned xs) (sym nodes) covers));
 }
 
--- a text begins
 pub begun_fits : (old new : Reader) (b : List ℕ) (to : at.ReaderState) → Fits old → Begins old b to new
     → read_from to (length old.text.items) (length new.text.items) ≤ spanned old.nodes.items → IsAt to old.nesting.items (due to old) → Fits new
 begun_fits old new b to fits begins covers form =
@@ -145,11 +135,11 @@ begun_view old new b to fits begins =
     (ap (λ (n : ℕ). drop n new.text.items) begins.start ∙ ap (λ (t : List ℕ). drop (length old.text.items) t) begins.text ∙ behind_all old.text.items b)
     ∙ ap (λ (s : State). with_read to b (due_at to s)) (grown old new b fits begins.text begins.nodes)
 
--- the text that is read grows; another place within it changes neither what is due nor its form
+-- the text that is being read grows; the new state of the reader has the same form
 abbrev pub SameForm : at.ReaderState → at.ReaderState → Type 0
 SameForm from to = (n : List Open) (s : State) → IsAt from n (due_at from s) → IsAt to n (due_at to s)
 
--- and the text that is read still begins where it did
+-- the text that is being read begins at the same offset
 abbrev pub SameText : at.ReaderState → at.ReaderState → Type 0
 SameText from to = (start end last : ℕ) → read_from to start last ≡ read_from from start end
 
@@ -181,7 +171,7 @@ kept old new result c b from to fits is_at same_due same_form same_text leads ok
     (λ (keeps : Keeps old b to new). kept_fits old new b from to fits is_at same_form same_text keeps)
     ok err
 
--- ---- two states from which the byte leads to the same one
+-- two states with the same state after a byte
 is_refusal_as : (why : TextFaultKind) (d : ℕ) (s t : State) (c : ℕ) → step (d + 1) s c ≡ step (d + 1) t c → IsRefusal d why t c → IsRefusal d why s c
 is_refusal_as End d s t c same h = h
 is_refusal_as Depth d s t c same h = (h.0, same ∙ h.1)

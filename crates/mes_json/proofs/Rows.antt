@@ -1,4 +1,4 @@
--- The machine on some texts of objects and arrays, computed.
+-- The machine on examples of objects and arrays, computed.
 use Rattle.std.proofs.Common.{◌≡◌, ℕ, zero, suc, List, [], ◌∷◌, Some, None, refl}
 use Rattle.mes_json.specs.Tree.Tree.{null, number, string, array, object}
 use Rattle.mes_json.specs.Tree.Items.{no_items, item}
@@ -14,13 +14,13 @@ heartbeat : ends 1 start (123 ∷ 34 ∷ 116 ∷ 121 ∷ 112 ∷ 101 ∷ 34 ∷ 
 unfolding run
 heartbeat = refl
 
--- a repeated name stays, in order:  {"a":"b","a":{}}
+-- a repeated name is kept, in order:  {"a":"b","a":{}}
 repeated : ends 2 start (32 ∷ 123 ∷ 34 ∷ 97 ∷ 34 ∷ 58 ∷ 34 ∷ 98 ∷ 34 ∷ 44 ∷ 32 ∷ 34 ∷ 97 ∷ 34 ∷ 9 ∷ 58 ∷ 123 ∷ 125 ∷ 13 ∷ 125 ∷ 10 ∷ [])
     ≡ Some (object (member (97 ∷ []) (string (98 ∷ [])) (member (97 ∷ []) (object no_members) no_members)))
 unfolding run
 repeated = refl
 
--- behind {"a": a value is due, within the object
+-- after {"a": a value is expected, in the object
 value_is_due : run 64 start (123 ∷ 34 ∷ 97 ∷ 34 ∷ 58 ∷ []) ≡ Some (state (frame no_members (97 ∷ []) ∷ []) value)
 unfolding run
 value_is_due = refl
@@ -30,7 +30,7 @@ comma_then_end : run 64 start (123 ∷ 34 ∷ 97 ∷ 34 ∷ 58 ∷ 34 ∷ 98 ∷
 unfolding run
 comma_then_end = refl
 
--- {}x and {}{} stop behind the object; a byte order mark stops at its first byte
+-- {}x and {}{} stop after the object; a byte order mark stops at its first byte
 behind_text : run 64 start (123 ∷ 125 ∷ 120 ∷ []) ≡ None
 unfolding run
 behind_text = refl
@@ -43,7 +43,7 @@ mark : run 64 start (0xEF ∷ []) ≡ None
 unfolding run
 mark = refl
 
--- nothing, blanks and an open object are no whole text
+-- nothing, white space and an open object are no whole text
 nothing : ends 64 start [] ≡ None
 unfolding run
 nothing = refl
@@ -56,7 +56,7 @@ open_object : ends 64 start (123 ∷ []) ≡ None
 unfolding run
 open_object = refl
 
--- an object within an object wants two levels
+-- an object in an object needs two levels
 one_level : run 1 start (123 ∷ 34 ∷ 34 ∷ 58 ∷ 123 ∷ []) ≡ None
 unfolding run
 one_level = refl
@@ -109,7 +109,7 @@ order_of_items : ends 64 start (91 ∷ 49 ∷ 44 ∷ 32 ∷ 50 ∷ 32 ∷ 44 ∷
 unfolding run
 order_of_items = refl
 
--- {"a":[{}]} wants three levels
+-- {"a":[{}]} needs three levels
 mixed : ends 3 start (123 ∷ 34 ∷ 97 ∷ 34 ∷ 58 ∷ 91 ∷ 123 ∷ 125 ∷ 93 ∷ 125 ∷ []) ≡ Some (object (member (97 ∷ []) (array (item (object no_members) no_items)) no_members))
 unfolding run
 mixed = refl

@@ -1,7 +1,4 @@
--- A string is written run by run.
---     kept_text       a run that is kept is written as it is
---     written_more    what is written up to a byte that is escaped, with that byte and the run behind it
---     stops_behind    where that run ends, another byte is escaped
+-- A string is written in runs.
 use Rattle.std.proofs.Common.{◌≡◌, ℕ, ◌+◌, ◌-◌, ◌<◌, ◌≤◌, List, [], ◌∷◌, ◌++◌, length, take, drop, get_or, ap, refl, sym, ◌∙◌, subst, append_assoc, add-one, take-suc, length-drop, arith}
 use Rattle.std.proofs.Math.Seq.{take-add}
 use Rattle.std.proofs.lemmas.List.{append-nil, get_or-drop}
@@ -14,13 +11,12 @@ pub kept_text : (q : List ℕ) → AllByRecursion IsKept q → escaped_text q �
 kept_text [] h = refl
 kept_text (c ∷ q) h = ap (λ (x : List ℕ). x ++ escaped_text q) (stays c h.0.0 h.0.1 h.0.2) ∙ ap (λ (x : List ℕ). c ∷ x) (kept_text q h.1)
 
--- one more byte of a text, escaped
 pub one_more : (b : List ℕ) (n : ℕ) → n < length b → escaped_text (take (n + 1) b) ≡ escaped_text (take n b) ++ escaped (get_or b n 0)
 one_more b n inside =
     ap (λ (m : ℕ). escaped_text (take m b)) (add-one n) ∙ ap escaped_text (take-suc b n 0 inside)
     ∙ escaped-append (take n b) (get_or b n 0 ∷ []) ∙ ap (λ (x : List ℕ). escaped_text (take n b) ++ x) (append-nil (escaped (get_or b n 0)))
 
--- a run that is kept, from this place on
+-- a run that needs no escape, from an offset on
 pub kept_further : (b : List ℕ) (place n : ℕ) → place ≤ length b → AllByRecursion IsKept (take n (take (length b - place) (drop place b)))
     → escaped_text (take (place + n) b) ≡ escaped_text (take place b) ++ take n (drop place b)
 kept_further b place n inside kept =

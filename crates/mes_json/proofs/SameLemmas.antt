@@ -1,4 +1,4 @@
--- Rows of values that stand for the same trees: as many, and alike at each place.
+-- Lists of values with the same trees: equal length, and equal trees at each index.
 use Rattle.std.proofs.Common.{◌≡◌, ℕ, zero, suc, ◌+◌, ◌<◌, Bool, true, false, not, IsTrue, ◌↔◌, List, [], ◌∷◌, ◌++◌, length, take, get_or, refl, ap, sym, ◌∙◌, subst, arith}
 use Rattle.std.specs.Str.{bytes_eq}
 use Rattle.std.proofs.lemmas.Slice.Eq.{bytes_eq-Decides}
@@ -10,7 +10,6 @@ use Rattle.mes_json.specs.View.{view, items_view, members_view}
 use Rattle.mes_json.specs.declared.value.Json.{Json}
 use Rattle.mes_json.proofs.GrownLemmas.{items_grown, one_longer}
 
--- ---- an answer and what it answers
 pub not_true : IsTrue false → ⊥
 not_true h = absurd (cc h)
 
@@ -23,7 +22,6 @@ holds x h e = h.0 e
 pub fails : {P : Type 0} (x : Bool) → (IsTrue x ↔ P) → x ≡ false → P → ⊥
 fails x h e p = not_true (subst IsTrue e (h.1 p))
 
--- ---- items
 abbrev count : Items → ℕ
 count no_items = 0
 count (item t ts) = suc (count ts)
@@ -65,7 +63,6 @@ one_more_item xs ys n x y in_xs in_ys is_x is_y e f =
     ∙ ap (λ (ts : Items). then_item ts (view x)) e ∙ ap (then_item (items_view (take n ys))) f
     ∙ sym (then_item_view (take n ys) y) ∙ ap (λ (zs : List Json). items_view zs) (sym (items_grown ys y n in_ys is_y))
 
--- ---- members
 abbrev members_count : Members → ℕ
 members_count no_members = 0
 members_count (member name t ms) = suc (members_count ms)
@@ -113,7 +110,7 @@ then_member_view : (xs : List (List ℕ × Json)) (x : List ℕ × Json) → mem
 then_member_view [] x = refl
 then_member_view (y ∷ xs) x = ap (member y.0 (view y.1)) (then_member_view xs x)
 
--- names and values alike, each read at the place with a default of its own
+-- equal names and equal values, each read at the index with its own default
 pub one_more_member : (xs ys : List (List ℕ × Json)) (n : ℕ) (x y u v : List ℕ × Json) → n < length xs → n < length ys
     → members_view (take n xs) ≡ members_view (take n ys) → (get_or xs n x).0 ≡ (get_or ys n y).0 → view (get_or xs n u).1 ≡ view (get_or ys n v).1
     → members_view (take (n + 1) xs) ≡ members_view (take (n + 1) ys)
@@ -126,7 +123,6 @@ one_more_member xs ys n x y u v in_xs in_ys e k f =
     ∙ ap (then_member (members_view (take n ys)) (get_or ys n y).0) values
     ∙ sym (then_member_view (take n ys) (get_or ys n y)) ∙ ap (λ (zs : List (List ℕ × Json)). members_view zs) (sym (one_longer ys y n in_ys))
 
--- ---- objects, and names
 abbrev members_in : Tree → Members
 members_in (object ms) = ms
 members_in null = no_members

@@ -1,6 +1,4 @@
--- How a short string moves the reader, from its quotation mark to what stands behind it.
---     text_taken     one that is a value
---     name_taken     a name, and the colon behind it
+-- The reader's run over a short string, from its opening quotation mark to the byte after it.
 use Rattle.std.proofs.Common.{◌≡◌, ℕ, ◌+◌, ◌-◌, ◌<◌, ◌≤◌, ◌⊎◌, inl, inr, List, [], length, take, drop, Some, get_or, refl, ap, sym, ◌∙◌, arith, append-nil}
 use Rattle.mes_json.specs.Machine.{State, step}
 use Rattle.mes_json.specs.Tape.{name_due}
@@ -15,7 +13,6 @@ use Rattle.mes_json.proofs.StringLemmas.{text_begins}
 use Rattle.mes_json.proofs.MemberLemmas.{token_taken, any_name_begins}
 use Rattle.mes_json.proofs.PlainLemmas.{inside, few_taken, string_taken, runs_further, colon_taken}
 
--- behind the first quotation mark
 abbrev begun : purpose.Purpose → Reader → Reader
 begun p r = record r { at = inside p; start = length r.text.items }
 
@@ -45,11 +42,9 @@ name_gives r fits (inr is_at) =
     ∙ ap (λ (s : State). Some (with_read there [] s)) (sym h.is)
     ∙ ap (λ (s : State). Some s) (sym (begun_view r (begun purpose.TheVariants.Name r) [] there fits (begins purpose.TheVariants.Name r)))
 
--- the characters, as they are cut out
 abbrev pub cut : List ℕ → ℕ → ℕ → List ℕ
 cut b from n = take n (take (length b - (from + 1)) (drop (from + 1) b))
 
--- and the last quotation mark
 closed : (p : purpose.Purpose) (old new : Reader) (b : List ℕ) (from n : ℕ) → RunsTo old b from (from + 1) (begun p old) → Reached old
     → n < 16 → from + 1 + 16 ≤ length b → StandAlone (take n (drop (from + 1) b)) → get_or b (from + 1 + n) 0 ≡ 34
     → Puts (within_string p (cut b from n) old) old.nesting.items (string_node p (within_string p (cut b from n) old)) (following_string p) new

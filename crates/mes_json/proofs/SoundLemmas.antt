@@ -1,11 +1,4 @@
--- Sound: a state holds, by the grammar, the bytes that were read to reach it. What the steps share, and a value's first byte.
---     some_is, none_some, pick    an answer of a test
---     KindIs, kind_is             what a kind of byte says of the byte
---     choose                      a kind by a test
---     push, more_spaces           one more byte at the end
---     array_space, object_space, named_space, valued_space    one more blank
---     room_is                     the room for nesting within open objects and arrays
---     on_value_sound              a value's first byte
+-- Soundness: the bytes that lead to a state have its form. Shared facts, and a value's first byte.
 use Rattle.std.proofs.Common.{◌≡◌, ℕ, zero, suc, ◌+◌, ◌<◌, ◌⊎◌, inl, inr, Bool, true, false, ◌||◌, List, [], ◌∷◌, ◌++◌, length, Option, Some, None, if◌then◌else◌, ◌==◌, nat_lt, refl, ap, sym, ◌∙◌, subst, arith, append_assoc, ltb-true, eqb-true}
 use Rattle.std.proofs.lemmas.Bool.Decides.{nat_tests}
 use Rattle.mes_fixed.specs.Automaton.{letter_of, number_next}
@@ -25,7 +18,6 @@ use Rattle.mes_json.specs.Machine.ReaderState.{value, first_item, name, token}
 use Rattle.mes_json.specs.Machine.Utf8State.{between}
 use Rattle.mes_json.proofs.Held.{InQuotes, InObject, InArray, Named, HeldStack, HeldToken, Valued, Held}
 
--- ---- tests
 pub some_is : {A : Type 0} {x y : A} → Some x ≡ Some y → x ≡ y
 some_is e = cc
 
@@ -36,7 +28,7 @@ pub pick : {A : Type 0} (t : Bool) (o u : Option A) (x : A) → (if t then o els
 pick true o u x e = inl (refl, e)
 pick false o u x e = inr (refl, e)
 
--- what a kind of byte says of the byte
+-- the facts about a byte, by its class
 abbrev pub KindIs : ByteClass → ℕ → Type 0
 KindIs blank c = IsSpace c
 KindIs quote c = c ≡ 34
@@ -56,7 +48,6 @@ choose P false k l f g = g refl
 blank_is : (c : ℕ) → (c == 32 || c == 9 || c == 10 || c == 13) ≡ true → IsSpace c
 blank_is c e = grind (arith, nat_tests)
 
--- first by where the byte leads from the start of a number
 kind_unless_is : (c : ℕ) (o : Option NumberState) → number_next AtStart (letter_of c) ≡ o → KindIs (kind_unless c o) c
 kind_unless_is c (Some part) e = (refl, λ q h. (part, e, h))
 kind_unless_is c None e =
@@ -77,7 +68,6 @@ kind_unless_is c None e =
 pub kind_is : (c : ℕ) → KindIs (kind_of c) c
 kind_is c = kind_unless_is c (number_next AtStart (letter_of c)) refl
 
--- ---- one more at the end
 pub push : (b x y : List ℕ) (c : ℕ) → b ≡ x ++ y → b ++ c ∷ [] ≡ x ++ (y ++ c ∷ [])
 push b x y c e = ap (λ (z : List ℕ). z ++ c ∷ []) e ∙ append_assoc x y (c ∷ [])
 
@@ -85,7 +75,6 @@ pub more_spaces : (b : List ℕ) (c : ℕ) → IsSpaces b → IsSpace c → IsSp
 more_spaces [] c h s = (s, tt)
 more_spaces (x ∷ b) c h s = (h.0, more_spaces b c h.1 s)
 
--- ---- one more blank
 pub array_space : (Outside : ℕ → List ℕ → Type 0) (ts : Items) (room : ℕ) (b : List ℕ) (c : ℕ) → InArray Outside ts room b → IsSpace c → InArray Outside ts room (b ++ c ∷ [])
 array_space Outside ts room b c h s = record {
   outer = h.outer;
@@ -137,13 +126,11 @@ stack_space (frame ms k ∷ fs) d room b c h s =
     record { front = h.front; spaces = h.spaces ++ c ∷ []; is = push b h.front (58 ∷ h.spaces) c h.is; name = h.name; are_spaces = more_spaces h.spaces c h.are_spaces s }
 stack_space (array_frame ts ∷ fs) d room b c h s = array_space (HeldStack d fs) ts room b c h s
 
--- ---- room
 pub room_is : (fs : List Frame) (d room : ℕ) (b : List ℕ) → HeldStack d fs room b → length fs + room ≡ d
 room_is [] d room b h = omega (arith, h.0)
 room_is (frame ms k ∷ fs) d room b h = let e : length fs + suc room ≡ d = room_is fs d (suc room) h.name.object.outer h.name.object.outside in omega arith
 room_is (array_frame ts ∷ fs) d room b h = let e : length fs + suc room ≡ d = room_is fs d (suc room) h.outer h.outside in omega arith
 
--- ---- a value's first byte
 pub quote_starts : (Outside : List ℕ → Type 0) (b : List ℕ) → Outside b → InQuotes Outside between [] (b ++ 34 ∷ [])
 quote_starts Outside b h =
     record { front = b; inside = []; is = refl; outside = h; in_string = record { whole = []; part = []; words = []; is = refl; chars = none refl refl; text = refl; part_of = refl } }

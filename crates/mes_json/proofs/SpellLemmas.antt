@@ -1,8 +1,4 @@
--- One more node on a tape, and one more item or member of the value that is put there.
---     node_held, node_spans          a node that has no text
---     text_held, text_spans          a text and its node
---     more_spans                     a text that has no node yet
---     item_put, member_put           one more item or member
+-- One more node on a tape, and one more item or member of the value.
 use Rattle.std.proofs.Common.{◌≡◌, ℕ, ◌+◌, ◌<◌, List, [], ◌∷◌, ◌++◌, length, drop, take, get_or, refl, ap, sym, ◌∙◌, subst, arith, length-append, append_assoc, append-nil}
 use Rattle.std.proofs.lemmas.List.{map-append}
 use Rattle.std.proofs.lemmas.Grind.{common_steps}
@@ -25,7 +21,6 @@ use Rattle.mes_json.proofs.GrownLemmas.{items_grown, members_grown}
 held_last : (texts : List ℕ) (xs : List Node) (x : Node) → tokens_held texts (xs ++ x ∷ []) ≡ tokens_held texts xs ++ token_of texts x ∷ []
 held_last texts xs x = map-append (token_of texts) xs (x ∷ [])
 
--- ---- a node that has no text
 same_token : (texts : List ℕ) (x : Node) → HasNoText x → token_of texts x ≡ token_of [] x
 same_token texts node.Null h = refl
 same_token texts (node.Bool x) h = refl
@@ -56,7 +51,6 @@ pub node_spans : (texts : List ℕ) (xs longer : List Node) (x : Node) → longe
 node_spans texts xs longer x is none spans =
     subst (λ (ys : List Node). AllByRecursion (HasSpan texts) ys) (sym is) (spans_last texts xs x spans (no_span texts x none))
 
--- ---- a text
 pub more_spans : (texts b grown : List ℕ) (xs : List Node) → grown ≡ texts ++ b → AllByRecursion (HasSpan texts) xs → AllByRecursion (HasSpan grown) xs
 more_spans texts b grown xs is spans = subst (λ (t : List ℕ). AllByRecursion (HasSpan t) xs) (sym is) (spans_grow texts b xs spans)
 
@@ -78,7 +72,6 @@ held_grows texts more (x ∷ xs) h =
 behind_all : (a b : List ℕ) → drop (length a) (a ++ b) ≡ b
 behind_all a b = grind (arith, common_steps)
 
--- the span of the bytes behind the others
 new_span : (texts b grown : List ℕ) (from to : ℕ) → grown ≡ texts ++ b → from ≡ length texts → to ≡ length grown → span grown from to ≡ b
 new_span texts b grown from to is begins ends_ =
     ap (λ (n : ℕ). span grown from n) ends_
@@ -92,7 +85,6 @@ is_new_span texts b grown from to is begins ends_ utf8 = record {
   utf8 = subst IsUtf8 (sym (new_span texts b grown from to is begins ends_)) utf8;
 }
 
--- the node x is that of the new span
 pub record PutsText (texts b grown : List ℕ) (xs longer : List Node) (form : Form) (from to : ℕ) (x : Node) : Type 0 where
   pub text : grown ≡ texts ++ b
   pub nodes : longer ≡ xs ++ x ∷ []
@@ -118,7 +110,6 @@ text_spans texts b grown xs longer form from to x h utf8 allowed =
     (h.span_is grown (is_new_span texts b grown from to h.text h.begins h.following utf8)
     (subst (λ (t : List ℕ). IsTextOf form t) (sym (new_span texts b grown from to h.text h.begins h.following)) allowed)))
 
--- ---- one more item or member
 tokens_last_item : (xs : List Json) (x : Json) → tokens_of_items (items_view (xs ++ x ∷ [])) ≡ tokens_of_items (items_view xs) ++ tokens (view x)
 tokens_last_item [] x = append-nil (tokens (view x))
 tokens_last_item (y ∷ ys) x =

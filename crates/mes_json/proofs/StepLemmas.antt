@@ -1,6 +1,4 @@
--- Sound: what follows from a whole step, and from a run.
---     step_sound, held_run        a state that is reached holds what was read
---     finished, text_from_run     a run that may end is over a text, with its tree
+-- Soundness: a whole step, and a run.
 use Rattle.std.proofs.Common.{◌≡◌, ℕ, Bool, true, false, List, [], ◌∷◌, ◌++◌, Option, Some, None, option_and_then, refl, sym, subst, append_assoc, append-nil}
 use Rattle.mes_fixed.specs.Automaton.{is_final}
 use Rattle.mes_json.specs.Tree.{Tree}
@@ -17,7 +15,6 @@ use Rattle.mes_json.proofs.ArraySteps.{on_first_item_sound}
 use Rattle.mes_json.proofs.TokenSteps.{on_after_sound, number_held, on_token_sound}
 use Rattle.mes_json.proofs.StringSteps.{on_quoted_sound}
 
--- ---- steps and runs
 pub step_sound : (d : ℕ) (s next : State) (b : List ℕ) (c : ℕ) → Held d s b → step d s c ≡ Some next → Held d next (b ++ c ∷ [])
 step_sound d (state fs value) next b c h e = on_value_sound d fs (kind_of c) c next b (kind_is c) h e
 step_sound d (state fs first_item) next b c h e = on_first_item_sound d fs (kind_of c) c next b (kind_is c) h e
@@ -40,7 +37,7 @@ held_on d s last a (c ∷ b) h e = by (step d s c) refl e (λ next is f. held_on
 pub held_run : (d : ℕ) (s : State) (b : List ℕ) → run d start b ≡ Some s → Held d s b
 held_run d s b e = held_on d start s [] b (d, (refl, tt)) e
 
--- outside each open object and array, a value with blanks around it is a text
+-- outside all objects and arrays, a value with white space around it is a text
 value_text : (d : ℕ) (b : List ℕ) (t : Tree) → Held d (state [] (after t)) b → IsText d b t
 value_text d b t h = let v = h.1 in
     subst (λ (room : ℕ). IsText room b t) v.outside.0

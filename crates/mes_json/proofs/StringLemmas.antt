@@ -1,8 +1,4 @@
--- How the bytes of a string move the reader.
---     text_begins, name_begins, next_name_begins    the first quotation mark
---     string_ends                                   the last quotation mark
---     string_grows                                  a byte between them, with between_reads, within_reads and escape_reads
---     escape_known                                  what holds of an escape that is read
+-- Steps of the reader over the bytes of a string.
 use Rattle.std.proofs.Common.{◌≡◌, ◌≢◌, ◌==◌, ◌&&◌, nat_le, ℕ, ◌≤◌, List, [], ◌∷◌, ◌++◌, length, drop, Some, None, Result, OnOk, IfErr, nat_lt, if◌then◌else◌, Bool, true, false, refl, ap, sym, ◌∙◌, subst, arith, encode_utf8}
 use Rattle.std.proofs.lemmas.Bool.Decides.{nat_tests}
 use Rattle.std.proofs.lemmas.Grind.{common_steps}
@@ -30,7 +26,6 @@ use Rattle.mes_json.specs.declared.tape.Node.TheVariants.{Text, Name}
 use Rattle.mes_json.proofs.ReachedLemmas.{readable, readable_escape}
 use Rattle.mes_json.proofs.ReaderLemmas.{tape_of, due, part, view_at, form_at, covered_at, Owes, SameForm, moved, begun_fits, kept}
 
--- ---- the first quotation mark
 pub text_begins : (old new : Reader) → Fits old → old.at ≡ at.TheVariants.Value
     → Begins old [] (at.TheVariants.Quoted purpose.TheVariants.Value mid.TheVariants.Between) new → Fits new
 text_begins old new fits is_at begins = begun_fits old new [] _ fits begins (covered_at old at.TheVariants.Value is_at fits) (form_at old at.TheVariants.Value is_at fits)
@@ -52,7 +47,6 @@ next_name_begins old new fits is_at begins =
     let h = form_at old at.TheVariants.Name is_at fits in
     begun_fits old new [] _ fits begins (covered_at old at.TheVariants.Name is_at fits) (record { frames = h.frames; members = h.members; is = h.is; are_open = h.are_open; allowed = tt })
 
--- ---- the last one
 pub part_is_span : (b : List ℕ) (n : ℕ) → n ≤ length b → span b n (length b) ≡ drop n b
 part_is_span b n inside = grind (arith, common_steps)
 
@@ -66,7 +60,7 @@ is_part r fits utf8 = record {
 pub reached_as : (r : Reader) (a : at.ReaderState) (reached : Reached r) → r.at ≡ a → run MAX_NESTING start reached.0 ≡ Some (with_read a (part r) (due a r))
 reached_as r a reached is_at = reached.1 ∙ ap (λ (t : State). Some t) (view_at r a is_at)
 
--- the string that is read, between two characters, is in UTF-8
+-- between two characters, the string so far is UTF-8
 in_name : (s : State) (n : List Open) (b : List ℕ) (p : List ℕ) → AtName (λ _. Unit {0}) n s
     → run MAX_NESTING start p ≡ Some (in_object (λ ms. m.ReaderState.quoted (m.Purpose.for_name ms) m.Utf8State.between b) s) → IsUtf8 b
 in_name s n b p h reached =
@@ -129,8 +123,7 @@ pub string_ends : {A : Type 0} (p : purpose.Purpose) (old new : Reader) (result 
 string_ends purpose.TheVariants.Name old new result c fits reached is_at quote ok err = name_ends old new result c fits reached is_at quote ok err
 string_ends purpose.TheVariants.Value old new result c fits reached is_at quote ok err = text_ends old new result c fits reached is_at quote ok err
 
--- ---- a byte between them
--- the byte c leads from one place in a string to another and makes these bytes of text, whatever the string is read for
+-- the byte c leads from one state in a string to another and adds bytes, for a name or a value
 abbrev pub Reads : mid.Utf8State → ℕ → List ℕ → mid.Utf8State → Type 0
 Reads from c made to = (fs : List Frame) (p : m.Purpose) (b : List ℕ)
     → on_quoted fs p (mid_view from) b c ≡ Some (state fs (m.ReaderState.quoted p (mid_view to) (b ++ made)))
@@ -146,7 +139,6 @@ string_step purpose.TheVariants.Value from to n c made b s reads h =
     ∙ reads h.frames m.Purpose.for_value b
     ∙ ap (λ (t : State). Some (with_read (at.TheVariants.Quoted purpose.TheVariants.Value to) (b ++ made) t)) (sym h.is)
 
--- another place within the string changes neither what is due nor its form
 pub due_in : (p : purpose.Purpose) (from to : mid.Utf8State) (s : State) → due_at (at.TheVariants.Quoted p to) s ≡ due_at (at.TheVariants.Quoted p from) s
 due_in purpose.TheVariants.Name from to s = refl
 due_in purpose.TheVariants.Value from to s = refl
@@ -162,7 +154,7 @@ string_grows p from to made old new result c fits is_at reads ok err =
     kept old new result c made (at.TheVariants.Quoted p from) (at.TheVariants.Quoted p to) fits is_at (due_in p from to) (form_in p from to) (λ start end last. refl)
     (string_step p from to old.nesting.items c made (part old) (due (at.TheVariants.Quoted p from) old) reads) ok err
 
--- between two characters: a byte that is no quotation mark, no backslash and no control character
+-- between two characters: any byte but a quotation mark, a backslash and a control character
 pub between_reads : (c : ℕ) (next : mid.Utf8State) → c ≢ 34 → 32 ≤ c → c ≢ 92 → lead c ≡ Some (mid_view next) → Reads mid.TheVariants.Between c (c ∷ []) next
 between_reads c next no_quote no_control no_backslash leads =
     let one : (c == 34) ≡ false = grind (arith, nat_tests) in
@@ -175,7 +167,6 @@ between_reads c next no_quote no_control no_backslash leads =
     ∙ ap (λ (x : Bool). if x then None else in_string fs p b c (lead c)) three
     ∙ ap (in_string fs p b c) leads
 
--- within a character
 pub within_reads : (more least most c : ℕ) (next : mid.Utf8State) → least ≤ c → c ≤ most → mid_view next ≡ after_byte more
     → Reads (mid.TheVariants.Within more least most) c (c ∷ []) next
 within_reads more least most c next low high after =
@@ -184,12 +175,11 @@ within_reads more least most c next low high after =
     ap (λ (x : Bool). if x then Some (state fs (m.ReaderState.quoted p (after_byte more) (b ++ c ∷ []))) else None) both
     ∙ ap (λ (x : m.Utf8State). Some (state fs (m.ReaderState.quoted p x (b ++ c ∷ [])))) (sym after)
 
--- at the end of an escape
 pub escape_reads : (x : escape.Escape) (c made : ℕ) → e.Move.makes made ≡ escape_step (escape_view x) c
     → Reads (mid.TheVariants.Escape x) c (encode_utf8 made) mid.TheVariants.Between
 escape_reads x c made makes = λ fs p b. ap (in_escape fs p b) (sym makes)
 
--- ---- what holds of an escape that is read
+-- the facts about an escape that is being read
 known_at : (p : purpose.Purpose) (x : escape.Escape) (n : List Open) (b : List ℕ) (q : List ℕ) (s : State) → IsAt (at.TheVariants.Quoted p (mid.TheVariants.Escape x)) n s
     → run MAX_NESTING start q ≡ Some (with_read (at.TheVariants.Quoted p (mid.TheVariants.Escape x)) b s) → HasBounds (escape_view x)
 known_at purpose.TheVariants.Name x n b q s h reached =

@@ -1,6 +1,4 @@
--- Complete: the machine reads a string by the grammar, as a member's name and as a value.
---     over_name, over_string       from its first byte
---     over_spaced_name             a name with blanks round it
+-- Completeness: the machine reads a string of the grammar, as a name and as a value.
 use Rattle.std.proofs.Common.{◌≡◌, ℕ, List, [], ◌∷◌, ◌++◌, refl, ap, sym, ◌∙◌, subst, append_assoc, append-nil, encode_utf8}
 use Rattle.mes_json.specs.Tree.Tree.{string}
 use Rattle.mes_json.specs.Tree.{Members}
@@ -39,7 +37,6 @@ over_string d fs s b h =
     subst (λ (x : List ℕ). Reaches d (state fs value) x (state fs (after (string s)))) (sym h.is)
     (then_to d _ _ _ (34 ∷ []) (h.inside ++ 34 ∷ []) (by_byte d _ _ 34 refl) (over_inside d fs for_value s b h (h.inside ++ 34 ∷ []) h.is))
 
--- ---- blanks round a name
 pub over_spaced_name : (d : ℕ) (fs : List Frame) (ms : Members) (k b : List ℕ) → Spaced (IsString k) b → Reaches d (state fs (name ms)) b (state fs (named ms k))
 over_spaced_name d fs ms k b h =
     subst (λ (x : List ℕ). Reaches d (state fs (name ms)) x (state fs (named ms k))) (sym h.is)

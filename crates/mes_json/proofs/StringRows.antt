@@ -1,4 +1,4 @@
--- The machine on some strings, computed.
+-- The machine on examples of strings, computed.
 use Rattle.std.proofs.Common.{◌≡◌, [], ◌∷◌, Some, None, refl}
 use Rattle.std.specs.Char.{encode_utf8}
 use Rattle.mes_json.specs.Tree.Tree.{string}
@@ -9,7 +9,7 @@ use Rattle.mes_json.specs.Machine.ReaderState.{quoted}
 use Rattle.mes_json.specs.Machine.Utf8State.{within, escape}
 use Rattle.mes_json.specs.Machine.Purpose.{for_value}
 
--- a control byte stops, 7F does not
+-- a control character stops, 7F does not
 control : run 64 start (34 ∷ 31 ∷ []) ≡ None
 unfolding run
 control = refl
@@ -18,7 +18,8 @@ delete : ends 64 start (34 ∷ 127 ∷ 34 ∷ []) ≡ Some (string (127 ∷ []))
 unfolding run
 delete = refl
 
--- C0 stops at once, ED A0 (a surrogate) and F4 90 (past 10FFFF), E0 9F and F0 8F (too long a form) at their second byte, and a part of a character at the quotation mark
+-- C0 stops at once. ED A0 (a surrogate), F4 90 (above 10FFFF), E0 9F and F0 8F (overlong) stop at
+-- their second byte. A part of a character stops at the quotation mark.
 overlong_two : run 64 start (34 ∷ 0xC0 ∷ []) ≡ None
 unfolding run
 overlong_two = refl
@@ -53,12 +54,12 @@ unfolding run encode_utf8
 largest = refl
 
 -- ---- escapes
--- a backslash goes on
+-- after a backslash the machine is in an escape
 in_escape : run 64 start (34 ∷ 92 ∷ []) ≡ Some (state [] (quoted for_value (escape backslash) []))
 unfolding run
 in_escape = refl
 
--- "\uD may begin a surrogate pair or a character; "\uDC could only be a low surrogate that stands alone
+-- "\uD may begin a surrogate pair or a character; "\uDC could only be a lone low surrogate
 high_or_low_digit : run 64 start (34 ∷ 92 ∷ 117 ∷ 68 ∷ []) ≡ Some (state [] (quoted for_value (escape (unit1 13)) []))
 unfolding run
 high_or_low_digit = refl
@@ -67,7 +68,7 @@ low_alone : run 64 start (34 ∷ 92 ∷ 117 ∷ 68 ∷ 67 ∷ []) ≡ None
 unfolding run
 low_alone = refl
 
--- behind "\uD83D a low surrogate is due: an n stops, and so does \uD83D, at its second digit
+-- after "\uD83D a low surrogate is expected: n stops, and so does \uD83D at its second digit
 high_waits : run 64 start (34 ∷ 92 ∷ 117 ∷ 68 ∷ 56 ∷ 51 ∷ 68 ∷ []) ≡ Some (state [] (quoted for_value (escape (high 0xD83D)) []))
 unfolding run
 high_waits = refl
@@ -99,7 +100,7 @@ nul : ends 64 start (34 ∷ 92 ∷ 117 ∷ 48 ∷ 48 ∷ 48 ∷ 48 ∷ 34 ∷ []
 unfolding run encode_utf8
 nul = refl
 
--- the eight short escapes; a \v stops
+-- the eight short escapes; \v stops
 short_ones : ends 64 start (34 ∷ 92 ∷ 34 ∷ 92 ∷ 92 ∷ 92 ∷ 47 ∷ 92 ∷ 98 ∷ 92 ∷ 102 ∷ 92 ∷ 110 ∷ 92 ∷ 114 ∷ 92 ∷ 116 ∷ 34 ∷ []) ≡ Some (string (34 ∷ 92 ∷ 47 ∷ 8 ∷ 12 ∷ 10 ∷ 13 ∷ 9 ∷ []))
 unfolding run encode_utf8
 short_ones = refl

@@ -1,6 +1,4 @@
--- Sound: the steps in a string.
---     more_chars, string_read     the characters that are read so far
---     on_quoted_sound             a byte in a string
+-- Soundness: the steps in a string.
 use Rattle.std.proofs.Common.{◌≡◌, ◌≢◌, ℕ, zero, suc, ◌≤◌, inl, inr, Bool, true, false, ◌&&◌, List, [], ◌∷◌, ◌++◌, Option, Some, None, if◌then◌else◌, ◌==◌, nat_lt, nat_le, refl, ap, sym, ◌∙◌, subst, arith, append_assoc, append-nil, ltb-false, encode_utf8}
 use Rattle.std.proofs.lemmas.Bool.Decides.{nat_tests}
 use Rattle.std.proofs.lemmas.Bool.{eqb-true, eqb-false}
@@ -20,7 +18,6 @@ use Rattle.mes_json.proofs.EscapeLemmas.{MoveIs, escape_sound}
 use Rattle.mes_json.proofs.Utf8Lemmas.{IsRead, first_read, next_read}
 use Rattle.mes_json.proofs.SoundLemmas.{some_is, none_some, pick, push}
 
--- ---- characters
 pub more_chars : (b s last : List ℕ) (c : ℕ) → IsChars b s → IsChar last c → IsChars (b ++ last) (s ++ encode_utf8 c)
 more_chars b s last c (none e f) h =
     some last [] c [] h (none refl refl) (ap (λ (x : List ℕ). x ++ last) e ∙ sym (append-nil last)) (ap (λ (x : List ℕ). x ++ encode_utf8 c) f ∙ sym (append-nil (encode_utf8 c)))
@@ -64,8 +61,6 @@ quotes_grow : (Outside : List ℕ → Type 0) (m n : Utf8State) (s s' b : List �
     → InQuotes Outside n s' (b ++ c ∷ [])
 quotes_grow Outside m n s s' b c q h = record { front = q.front; inside = q.inside ++ c ∷ []; is = push b q.front (34 ∷ q.inside) c q.is; outside = q.outside; in_string = h }
 
--- ---- characters that stand as they are
--- a byte of one leads to no escape
 abbrev IsPlain : Utf8State → Type 0
 IsPlain between = Unit {0}
 IsPlain (within n least most) = Unit {0}
@@ -89,7 +84,6 @@ after_byte_plain zero = tt
 after_byte_plain (suc zero) = tt
 after_byte_plain (suc (suc n)) = tt
 
--- a byte behind whole characters and a part of one
 advance : (m : Utf8State) (s b whole words part : List ℕ) (c : ℕ) → IsPlain m → IsChars whole words → b ≡ whole ++ part → s ≡ words ++ part → IsRead m (part ++ c ∷ [])
     → InString m (s ++ c ∷ []) (b ++ c ∷ [])
 advance between s b whole words part c plain h e f r = record {
@@ -124,7 +118,6 @@ in_string_sound d fs p s b c next h l q n e = by (lead c) refl (lead_plain c) e
     by (Some m) is plain f = subst (λ (x : State). Held d x (b ++ c ∷ [])) (some_is f)
         (h.0, quotes_grow (HeldFor d fs p h.0) between m s (s ++ c ∷ []) b c h.1 (first_byte m s h.1.inside c plain h.1.in_string (first_read c m l q n is)))
 
--- ---- escapes
 escape_starts : (s b : List ℕ) → InString between s b → InString (escape backslash) s (b ++ 92 ∷ [])
 escape_starts s b h = record {
   whole = h.whole;
@@ -159,7 +152,6 @@ in_escape_sound d fs p e s b c next (makes v) h is f = subst (λ (t : State). He
     (h.0, quotes_grow (HeldFor d fs p h.0) (escape e) between s (s ++ encode_utf8 v) b c h.1 (escape_ends e s h.1.inside c v h.1.in_string is))
 in_escape_sound d fs p e s b c next refused h is f = none_some f
 
--- ---- a byte in a string
 pub on_quoted_sound : (d : ℕ) (fs : List Frame) (p : Purpose) (m : Utf8State) (s b : List ℕ) (c : ℕ) (next : State) → Held d (state fs (quoted p m s)) b
     → on_quoted fs p m s c ≡ Some next → Held d next (b ++ c ∷ [])
 on_quoted_sound d fs p between s b c next h e =

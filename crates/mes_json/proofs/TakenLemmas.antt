@@ -1,12 +1,4 @@
--- How bytes of text that leave the place as it is move the reader, all at once.
---     runs_over               a run of them is taken
---     runs_to                 the same, where they make other bytes of text
---     nothing_taken           none of them
---     stays_taken             the same, where the room may have grown
---     none_kept               the same, where some were looked at
---     one_more                and one more byte
---     reached_over            some bytes lead to the state behind a run
---     rest_is, rest_length, within_rest    the bytes behind the place
+-- Runs of the reader over bytes that leave its state as it is.
 use Rattle.std.proofs.Common.{◌≡◌, ℕ, ◌+◌, ◌-◌, ◌<◌, ◌≤◌, List, [], ◌∷◌, ◌++◌, length, take, drop, get_or, Some, refl, ap, sym, ◌∙◌, subst, arith, append-nil, length-drop}
 use Rattle.std.proofs.lemmas.Grind.{common_steps}
 use Rattle.std.proofs.Math.Seq.{take-add}
@@ -19,11 +11,10 @@ use Rattle.mes_json.specs.declared.reader.Reader.{Reader}
 use Rattle.mes_json.proofs.RunLemmas.{run_on, run_one, run_take}
 use Rattle.mes_json.proofs.ReaderLemmas.{due, part, view_at, form_at, SameText, kept_fits, kept_view}
 
--- the bytes q leave this place as it is, behind the bytes b of a text, and add these bytes to it
+-- after the bytes b of a text, the bytes q leave the state as it is and add `made` to the text
 abbrev pub Adds : at.ReaderState → List Open → List ℕ → List ℕ → List ℕ → Type 0
 Adds there n b q made = (s : State) → IsAt there n s → run MAX_NESTING (with_read there b s) q ≡ Some (with_read there (b ++ made) s)
 
--- the same, where they add themselves
 abbrev pub Leaves : at.ReaderState → List Open → List ℕ → List ℕ → Type 0
 Leaves there n b q = Adds there n b q q
 
@@ -37,11 +28,9 @@ over old new there q made fits is_at adds keeps =
 pub reached_over : (old new : Reader) (q : List ℕ) → Reached old → run MAX_NESTING (state_view old) q ≡ Some (state_view new) → Reached new
 reached_over old new q reached runs = (reached.0 ++ q, run_on MAX_NESTING start (state_view old) reached.0 q reached.1 ∙ runs)
 
--- none of them
 pub nothing_taken : (r : Reader) (b : List ℕ) (from : ℕ) → Fits r → from ≤ length b → RunsTo r b from from r
 nothing_taken r b from fits within = record { forward = omega arith; inside = within; fits = fits; runs = λ s e. e; reached = λ r. r }
 
--- nor has anything else changed
 pub stays_taken : (old new : Reader) (b : List ℕ) (from : ℕ) → Fits old → from ≤ length b → Stays old new → RunsTo old b from from new
 stays_taken old new b from fits within h =
     let same : state_view new ≡ state_view old = rw (h.at, h.start, h.text, h.nodes) refl in
@@ -58,7 +47,6 @@ stays_taken old new b from fits within h =
       reached = λ r. (r.0, r.1 ∙ ap (λ (t : State). Some t) (sym same));
     }
 
--- none of some bytes
 pub none_kept : (old new : Reader) (there : at.ReaderState) (b q : List ℕ) (from n : ℕ) → n ≡ 0 → Fits old → old.at ≡ there → from ≤ length b → Keeps old (take n q) there new → RunsTo old b from (from + n) new
 none_kept old new there b q from n none fits is_at within keeps =
     let same : from ≡ from + n = omega (arith, none) in
@@ -102,7 +90,6 @@ rest_length b from n inside within = let l : n ≤ length b - from = subst (λ (
 pub within_rest : (b : List ℕ) (from n : ℕ) → from ≤ length b → n ≤ length (take (length b - from) (drop from b)) → from + n ≤ length b
 within_rest b from n inside few = rest_length b from n inside (subst (λ (x : List ℕ). n ≤ length x) (rest_is b from inside) few)
 
--- the same over the bytes behind the place, as they are cut out
 pub runs_over : (old new : Reader) (there : at.ReaderState) (b : List ℕ) (from n : ℕ) → Fits old → old.at ≡ there → SameText there there → from ≤ length b
     → n ≤ length (take (length b - from) (drop from b)) → Leaves there old.nesting.items (part old) (take n (take (length b - from) (drop from b)))
     → Keeps old (take n (take (length b - from) (drop from b))) there new → RunsTo old b from (from + n) new

@@ -1,6 +1,4 @@
--- A tape with one more node, and over a buffer with more bytes.
---     spelled_last, placed_last, spans_last, spanned_last     one more node
---     span_grows, .._grows                                    more bytes behind the texts
+-- A tape with one more node, and with more bytes of texts.
 use Rattle.std.proofs.Common.{◌≡◌, ℕ, ◌+◌, ◌-◌, ◌≤◌, List, [], ◌∷◌, ◌++◌, length, take, drop, refl, ap, sym, ◌∙◌, subst, arith, length-drop, length-append}
 use Rattle.std.proofs.lemmas.List.{take-append-le, drop-append-le}
 use Rattle.std.specs.List.{AllByRecursion}
@@ -32,7 +30,7 @@ spanned_last (y ∷ xs) x = omega (arith, spanned_last xs x)
 pub tape_last : (texts : List ℕ) (xs : List Node) (x : Node) → IsTape texts xs → HasSpan texts x → Takes (spelled texts xs) x → IsTape texts (xs ++ x ∷ [])
 tape_last texts xs x h has takes = record { spans = spans_last texts xs x h.spans has; placed = placed_last texts start xs x h.placed takes }
 
--- more bytes behind the texts leave each span as it is
+-- more bytes after the texts leave each span as it is
 pub span_grows : (texts more : List ℕ) (from to : ℕ) → from ≤ to → to ≤ length texts → span (texts ++ more) from to ≡ span texts from to
 span_grows texts more from to forward inside =
     let start_inside : from ≤ length texts = omega arith in

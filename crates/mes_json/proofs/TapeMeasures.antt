@@ -1,7 +1,4 @@
--- What the state that a tape stands for holds.
---     of_node, of_nodes     the measure of nodes
---     tape_holds            a tape's state holds as much as its nodes
---     due_holds             and so with the comma or the colon behind it taken
+-- The measure of the state that a tape represents.
 use Rattle.std.proofs.Common.{◌≡◌, ℕ, ◌+◌, inl, inr, List, [], ◌∷◌, refl, ap, arith}
 use Rattle.mes_json.specs.Tree.Members.{no_members}
 use Rattle.mes_json.specs.Machine.{ReaderState, State, start}
@@ -27,7 +24,6 @@ abbrev pub of_nodes : Measure → List ℕ → List Node → ℕ
 of_nodes m texts [] = 0
 of_nodes m texts (x ∷ xs) = of_node m texts x + of_nodes m texts xs
 
--- ---- what is due
 pub value_due_holds : (m : Measure) (s : State) → of_state m (value_due s) ≡ of_state m s
 value_due_holds m (state fs value) = refl
 value_due_holds m (state fs first_item) = omega arith
@@ -50,7 +46,6 @@ name_due_holds m (state [] (after t)) = refl
 name_due_holds m (state (frame ms k ∷ fs) (after t)) = omega (arith, with_member_adds m ms k t)
 name_due_holds m (state (array_frame ts ∷ fs) (after t)) = refl
 
--- ---- one more node
 value_holds : (m : Measure) (s : State) (a : ReaderState) → TakesValue s → of_state m (valued a (value_due s)) ≡ of_state m s + of_at m a
 value_holds m s a h =
     let e = ap (λ (t : State). of_state m (valued a t)) h.1 in
@@ -92,7 +87,6 @@ apply_holds m texts (list n) s h = value_holds m s _ h
 apply_holds m texts (Map n) s h = omega (arith, value_holds m s (name no_members) h)
 apply_holds m texts End s h = end_holds m s h
 
--- ---- all of them
 from_holds : (m : Measure) (texts : List ℕ) (s : State) (xs : List Node) → ArePlaced texts s xs → of_state m (spelled_from texts s xs) ≡ of_state m s + of_nodes m texts xs
 from_holds m texts s [] h = omega arith
 from_holds m texts s (x ∷ xs) h = omega (arith, from_holds m texts (apply texts x s) xs h.1, apply_holds m texts x s h.0)

@@ -1,7 +1,4 @@
--- How the bytes of a literal or a number move the reader.
---     literal_ends                   the last byte of a literal
---     number_begins, number_grows    the bytes of a number
---     number_ends                    the byte behind it
+-- Steps of the reader over the bytes of a literal or a number.
 use Rattle.std.proofs.Common.{◌≡◌, ℕ, arith, List, [], ◌∷◌, ◌++◌, length, true, Bool, Option, Some, None, Result, OnOk, IfErr, if◌then◌else◌, refl, ap, sym, ◌∙◌, subst}
 use Rattle.std.specs.Str.{IsUtf8}
 use Rattle.mes_fixed.specs.Number.{IsNumber}
@@ -27,7 +24,6 @@ use Rattle.mes_json.proofs.ReachedLemmas.{number_read}
 use Rattle.mes_json.proofs.ReaderLemmas.{tape_of, due, part, view_at, form_at, covered_at, put_fits, put_view, Owes, by_result, moved, begun_fits, begun_view, kept, gives_as}
 use Rattle.mes_json.proofs.StringLemmas.{part_is_span, is_part, reached_as}
 
--- ---- a literal
 pub literal_ends : {A : Type 0} (old new : Reader) (result : Result A PushError) (c : ℕ) (w : LiteralState) (x : Node) (t : Tree) → Fits old → old.at ≡ at.TheVariants.Literal w
     → HasSpan old.text.items x → (TakesValue (tape_of old) → Takes (tape_of old) x)
     → apply old.text.items x (tape_of old) ≡ valued (m.ReaderState.after t) (value_due (tape_of old))
@@ -45,7 +41,6 @@ literal_ends old new result c w x t fits is_at has takes applied leads ok err =
     })
     ok err
 
--- ---- the bytes of a number
 pub number_begins : {A : Type 0} (old new : Reader) (result : Result A PushError) (c : ℕ) (x : NumberState) → Fits old → old.at ≡ at.TheVariants.Value
     → kind_of c ≡ m.ByteClass.begins (digits x (c ∷ [])) → OnOk result (Begins old (c ∷ []) (at.TheVariants.Digits x) new)
     → IfErr result (λ e. e ≡ NoMemory) → Owes result (state_view old) c new
@@ -70,8 +65,6 @@ number_grows old new result c x next fits is_at leads ok err =
     ∙ ap (λ (s : State). Some (valued (m.ReaderState.token (digits next (part old ++ c ∷ []))) s)) (sym h.is))
     ok err
 
--- ---- its end
--- the reader in the number and behind it
 pub record EndsNumber (old new : Reader) (x : NumberState) : Type 0 where
   pub frames : List Frame
   pub before : state_view old ≡ state frames (m.ReaderState.token (digits x (part old)))
@@ -106,7 +99,7 @@ foreign : (d : ℕ) (fs : List Frame) (x : NumberState) (n : List ℕ) (c : ℕ)
 foreign d fs x n c leads final =
     ap (on_digits fs x n c) leads ∙ ap (λ (b : Bool). if b then on_after fs (number n) (kind_of c) else None) final
 
--- the byte behind it leads where it leads behind the value
+-- the byte after the number has the same effect as after the value
 pub number_gives : {A : Type 0} (old new : Reader) (result : Result A PushError) (c : ℕ) (x : NumberState) (next : State) → EndsNumber old new x
     → (let none : Option NumberState = None in number_next x (letter_of c) ≡ none) → is_final x ≡ true → Gives result (state_view new) c next → Gives result (state_view old) c next
 number_gives old new result c x next h leads final gives =
@@ -117,6 +110,6 @@ finish_as : (fs : List Frame) (x : NumberState) (n : List ℕ) → is_final x �
 finish_as [] x n final = sym (ap (λ (b : Bool). finish_number b n) final)
 finish_as (f ∷ fs) x n final = refl
 
--- the value behind it is the one that it ends
+-- the tree after the number is the tree at its end
 pub number_finished : (old new : Reader) (x : NumberState) → EndsNumber old new x → is_final x ≡ true → finish (state_view new) ≡ finish (state_view old)
 number_finished old new x h final = ap finish h.following ∙ finish_as h.frames x (part old) final ∙ ap finish (sym h.before)

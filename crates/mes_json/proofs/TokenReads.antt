@@ -1,9 +1,4 @@
--- Complete: the machine reads literals and numbers.
---     over_due                     the rest of a literal
---     over_null, over_boolean      a whole one
---     at_final                     where a number may end, what may follow a value finds it ended
---     over_digits                  the rest of a number
---     number_starts, over_number   a whole one, from its first byte
+-- Completeness: the machine reads literals and numbers.
 use Rattle.std.proofs.Common.{◌≡◌, ℕ, inl, inr, Bool, true, false, List, [], ◌∷◌, ◌++◌, Some, None, option_and_then, if◌then◌else◌, ◌==◌, refl, ap, sym, ◌∙◌, subst, arith, append_assoc, append-nil}
 use Rattle.std.proofs.lemmas.Bool.Decides.{nat_tests}
 use Rattle.mes_fixed.specs.Number.{IsNumber}
@@ -22,7 +17,6 @@ use Rattle.mes_json.specs.Machine.State.{state}
 use Rattle.mes_json.specs.Machine.ReaderState.{value, token, after}
 use Rattle.mes_json.proofs.Reach.{Follows, Reaches, Leads, by_byte, then_to, reach_then}
 
--- ---- literals
 same_byte : (c : ℕ) → (c == c) ≡ true
 same_byte c = grind (arith, nat_tests)
 
@@ -40,7 +34,7 @@ pub over_boolean : (d : ℕ) (fs : List Frame) (x : Bool) → Reaches d (state f
 over_boolean d fs true = then_to d _ _ _ (0x74 ∷ []) (0x72 ∷ 0x75 ∷ 0x65 ∷ []) (by_byte d _ _ 0x74 refl) (over_due d fs 0x72 (0x75 ∷ 0x65 ∷ []) (boolean true))
 over_boolean d fs false = then_to d _ _ _ (0x66 ∷ []) (0x61 ∷ 0x6C ∷ 0x73 ∷ 0x65 ∷ []) (by_byte d _ _ 0x66 refl) (over_due d fs 0x61 (0x6C ∷ 0x73 ∷ 0x65 ∷ []) (boolean false))
 
--- ---- what stands behind a number is no letter of one
+-- a byte that may follow a value does not continue a number
 foreign : (c : ℕ) (q : List ℕ) → Follows (c ∷ q) → letter_of c ≡ neither
 foreign c q (inl (inl e)) = ap letter_of e
 foreign c q (inl (inr (inl e))) = ap letter_of e
@@ -79,14 +73,12 @@ at_final d (f ∷ fs) part n final = by
     by [] h = refl
     by (c ∷ q) h = ap (λ o. option_and_then finish (option_and_then (λ next. run d next q) o)) (foreign_step (f ∷ fs) part n c q final h)
 
--- ---- numbers
 pub over_digits : (d : ℕ) (fs : List Frame) (part : NumberState) (n b : List ℕ) → Ends part b → Leads d (state fs (token (digits part n))) b (state fs (after (number (n ++ b))))
 over_digits d fs part n [] h = subst (λ (x : List ℕ). Leads d (state fs (token (digits part n))) [] (state fs (after (number x)))) (sym (append-nil n)) (at_final d fs part n h)
 over_digits d fs part n (c ∷ b) h =
     subst (λ (x : List ℕ). Leads d (state fs (token (digits part n))) (c ∷ b) (state fs (after (number x)))) (append_assoc n (c ∷ []) b)
     (reach_then d _ _ _ (c ∷ []) b (by_byte d _ _ c (ap (on_digits fs part n c) h.1)) (over_digits d fs h.0 (n ++ c ∷ []) b h.2))
 
--- a number's first byte, and the rest of it
 abbrev pub NumberStarts : List ℕ → Type 0
 NumberStarts b = (part : NumberState) × (c : ℕ) × (rest : List ℕ) × (b ≡ c ∷ rest) × (kind_of c ≡ begins (digits part (c ∷ []))) × Ends part rest
 

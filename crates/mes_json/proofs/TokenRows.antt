@@ -1,4 +1,4 @@
--- The machine on some numbers and literals, computed.
+-- The machine on examples of numbers and literals, computed.
 use Rattle.std.proofs.Common.{◌≡◌, true, false, [], ◌∷◌, Some, None, refl}
 use Rattle.mes_fixed.specs.declared.automaton.NumberState.TheVariants.{InWhole, AfterExponent}
 use Rattle.mes_json.specs.Tree.Tree.{null, boolean, number}
@@ -9,7 +9,7 @@ use Rattle.mes_json.specs.Machine.Frame.{frame}
 use Rattle.mes_json.specs.Machine.ReaderState.{token}
 use Rattle.mes_json.specs.Machine.Token.{digits}
 
--- {"a":1 holds a number that may end, or go on
+-- {"a":1 is in a number, which may end or continue
 in_number : run 64 start (123 ∷ 34 ∷ 97 ∷ 34 ∷ 58 ∷ 49 ∷ []) ≡ Some (state (frame no_members (97 ∷ []) ∷ []) (token (digits InWhole (49 ∷ []))))
 unfolding run
 in_number = refl
@@ -27,7 +27,7 @@ leading_plus : run 64 start (43 ∷ []) ≡ None
 unfolding run
 leading_plus = refl
 
--- 1e, - and 1. are no whole text, and go on
+-- 1e, - and 1. are no whole text, and may continue
 no_power : ends 64 start (49 ∷ 101 ∷ []) ≡ None
 unfolding run
 no_power = refl
@@ -44,7 +44,7 @@ point_last : ends 64 start (49 ∷ 46 ∷ []) ≡ None
 unfolding run
 point_last = refl
 
--- 1 is a whole text, also with a blank behind it; 1x stops at the x
+-- 1 is a whole text, also before white space; 1x stops at the x
 one_digit : ends 64 start (49 ∷ []) ≡ Some (number (49 ∷ []))
 unfolding run
 one_digit = refl
@@ -62,12 +62,12 @@ two_numbers : run 64 start (49 ∷ 32 ∷ 50 ∷ []) ≡ None
 unfolding run
 two_numbers = refl
 
--- -12.50E-07 stays as it is written
+-- -12.50E-07 keeps its text
 whole_number : ends 64 start (45 ∷ 49 ∷ 50 ∷ 46 ∷ 53 ∷ 48 ∷ 69 ∷ 45 ∷ 48 ∷ 55 ∷ []) ≡ Some (number (45 ∷ 49 ∷ 50 ∷ 46 ∷ 53 ∷ 48 ∷ 69 ∷ 45 ∷ 48 ∷ 55 ∷ []))
 unfolding run
 whole_number = refl
 
--- the literals nest nothing; tru is no whole text, and truE, nulL and True stop
+-- literals need no nesting; tru is no whole text; truE, nulL and True stop
 null_whole : ends 0 start (110 ∷ 117 ∷ 108 ∷ 108 ∷ []) ≡ Some null
 unfolding run
 null_whole = refl

@@ -1,7 +1,4 @@
--- Sound: the step behind a value, and the steps in a literal and in a number, which ends at a byte behind it.
---     on_after_sound          behind a value
---     number_held             a number that may end is a value
---     on_token_sound          in a literal or a number
+-- Soundness: the step after a value, and the steps in a literal and in a number.
 use Rattle.std.proofs.Common.{◌≡◌, ℕ, inl, inr, true, List, [], ◌∷◌, ◌++◌, Option, Some, None, ◌==◌, refl, ap, sym, ◌∙◌, subst, append_assoc, append-nil, eqb-true}
 use Rattle.mes_fixed.specs.Number.{IsNumber}
 use Rattle.mes_fixed.specs.Automaton.{letter_of, number_next, is_final, Ends}
@@ -22,7 +19,6 @@ use Rattle.mes_json.proofs.SoundLemmas.{some_is, none_some, pick, KindIs, kind_i
 use Rattle.mes_json.proofs.ObjectSteps.{ready, object_closes, name_is_due}
 use Rattle.mes_json.proofs.ArraySteps.{array_ready, array_closes, item_is_due}
 
--- ---- behind a value
 close_object_sound : (d : ℕ) (fs : List Frame) (t : Tree) (next : State) (b : List ℕ) → Held d (state fs (after t)) b → close_object fs t ≡ Some next → Held d next (b ++ 125 ∷ [])
 close_object_sound d [] t next b h e = none_some e
 close_object_sound d (frame ms k ∷ fs) t next b h e = subst (λ (s : State). Held d s (b ++ 125 ∷ [])) (some_is e) (object_closes d fs ms k t h.0 b (ready d fs ms k t h.0 b h.1))
@@ -51,8 +47,6 @@ on_after_sound d fs t comma c next b is h e = subst (λ (x : ℕ). Held d next (
 on_after_sound d fs t other c next b is h e = none_some e
 on_after_sound d fs t (begins x) c next b is h e = none_some e
 
--- ---- literals
--- the byte that was due is read: it was the last one, or more are due
 literal_goes_on : (d : ℕ) (fs : List Frame) (e : ℕ) (rest : List ℕ) (t : Tree) (b : List ℕ) → Held d (state fs (token (literal e rest t))) b
     → Held d (state fs (due rest t)) (b ++ e ∷ [])
 literal_goes_on d fs e [] t b h = let x = h.1 in (
@@ -78,7 +72,6 @@ literal_goes_on d fs e (a ∷ rest) t b h = let x = h.1 in (
   },
 )
 
--- ---- numbers
 pub number_is : (part : NumberState) (n b : List ℕ) → HeldToken (digits part n) b → is_final part ≡ true → IsNumber n
 number_is part n b h f = (number_ends n).1 (subst (Ends AtStart) (append-nil n) (h.1 [] f))
 

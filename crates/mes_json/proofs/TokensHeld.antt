@@ -1,8 +1,4 @@
--- The tokens that a state of the machine holds, and that a tape holds where its nodes stand where they may.
---     apply_token, fold_tokens       the state behind tokens: what the nodes' spans are does not matter
---     spelled_tokens                 it is the one that the nodes lead to
---     held                           the tokens that a state holds
---     tokens_spelled                 a tape whose value is whole holds the tokens of that value
+-- The tokens of a state of the machine, and of a tape whose nodes are all allowed.
 use Rattle.std.proofs.Common.{◌≡◌, ℕ, List, [], ◌∷◌, ◌++◌, refl, ap, sym, ◌∙◌, inl, inr, append_assoc, append-nil}
 use Rattle.mes_json.specs.Tree.{Tree, Items, Members}
 use Rattle.mes_json.specs.Tree.{Tree as tree}
@@ -19,7 +15,6 @@ use Rattle.mes_json.specs.Cursor.{token_of, tokens_held}
 use Rattle.mes_json.specs.declared.tape.Node.{Node}
 use Rattle.mes_json.specs.declared.tape.Node.TheVariants as node
 
--- ---- the state behind tokens
 abbrev pub apply_token : Token → State → State
 apply_token null s = valued (at.after tree.null) (value_due s)
 apply_token (boolean x) s = valued (at.after (tree.boolean x)) (value_due s)
@@ -52,14 +47,13 @@ spelled_from_tokens texts s (x ∷ xs) =
 pub spelled_tokens : (texts : List ℕ) (xs : List Node) → spelled texts xs ≡ fold_tokens start (tokens_held texts xs)
 spelled_tokens texts xs = spelled_from_tokens texts start xs
 
--- ---- the tokens of a state
--- of the open objects and arrays, the innermost first
+-- the tokens of the open objects and arrays, the innermost first
 abbrev tokens_of_frames : List Frame → List Token
 tokens_of_frames [] = []
 tokens_of_frames (frame ms k ∷ fs) = tokens_of_frames fs ++ (begin_object ∷ tokens_of_members ms ++ name k ∷ [])
 tokens_of_frames (array_frame ts ∷ fs) = tokens_of_frames fs ++ begin_array ∷ tokens_of_items ts
 
--- of the place; what is read of a string, a literal or a number stands on no tape
+-- the tokens of the current part; the text that is being read has none
 abbrev tokens_at : ReaderState → List Token
 tokens_at at.value = []
 tokens_at at.first_item = begin_array ∷ []
@@ -72,7 +66,6 @@ tokens_at (at.after t) = tokens t
 abbrev pub held : State → List Token
 held (state fs a) = tokens_of_frames fs ++ tokens_at a
 
--- ---- one more item, one more member
 tokens_with_item : (ts : Items) (t : Tree) → tokens_of_items (with_item ts t) ≡ tokens_of_items ts ++ tokens t
 tokens_with_item no_items t = append-nil (tokens t)
 tokens_with_item (item u ts) t = ap (λ (x : List Token). tokens u ++ x) (tokens_with_item ts t) ∙ sym (append_assoc (tokens u) (tokens_of_items ts) (tokens t))
@@ -83,7 +76,6 @@ tokens_with_member (member j u ms) k t =
     ap (λ (x : List Token). name j ∷ (tokens u ++ x)) (tokens_with_member ms k t)
     ∙ ap (λ (x : List Token). name j ∷ x) (sym (append_assoc (tokens u) (tokens_of_members ms) (name k ∷ tokens t)))
 
--- the value behind an item, or behind a member's name
 behind_item : (fs : List Frame) (ts : Items) (t : Tree)
     → tokens_of_frames fs ++ begin_array ∷ tokens_of_items (with_item ts t) ≡ (tokens_of_frames fs ++ begin_array ∷ tokens_of_items ts) ++ tokens t
 behind_item fs ts t =
@@ -98,7 +90,7 @@ behind_member fs ms k t =
     (tokens_with_member ms k t ∙ sym (append_assoc (tokens_of_members ms) (name k ∷ []) (tokens t)))
     ∙ sym (append_assoc (tokens_of_frames fs) (begin_object ∷ tokens_of_members ms ++ name k ∷ []) (tokens t))
 
--- ---- a comma or a colon changes nothing
+-- a comma or a colon changes nothing
 held_value_due : (s : State) → held (value_due s) ≡ held s
 held_value_due (state fs at.value) = refl
 held_value_due (state fs at.first_item) = append-nil (tokens_of_frames fs ++ begin_array ∷ [])
@@ -121,7 +113,6 @@ held_name_due (state [] (at.after t)) = refl
 held_name_due (state (frame ms k ∷ fs) (at.after t)) = behind_member fs ms k t
 held_name_due (state (array_frame ts ∷ fs) (at.after t)) = refl
 
--- ---- one more token
 held_valued : (s : State) (fs : List Frame) (a : ReaderState) → value_due s ≡ state fs at.value → held (valued a (value_due s)) ≡ held s ++ tokens_at a
 held_valued s fs a is =
     ap (λ (x : State). held (valued a x)) is
@@ -134,7 +125,6 @@ held_named s fs ms k is =
     ∙ sym (append_assoc (tokens_of_frames fs) (begin_object ∷ tokens_of_members ms) (name k ∷ []))
     ∙ ap (λ (x : List Token). x ++ name k ∷ []) (ap held (sym is) ∙ held_name_due s)
 
--- the innermost one ends where its last member is read whole
 ended_name_due : (s : State) (fs : List Frame) (ms : Members) → name_due s ≡ state fs (at.name ms) → ended s ≡ state fs (at.after (tree.object ms))
 ended_name_due (state gs at.value) fs ms is = cc
 ended_name_due (state gs at.first_item) fs ms is = cc
@@ -172,7 +162,6 @@ held_one_more texts s (node.Map n) (fs, is) = held_valued s fs (at.name no_membe
 held_one_more texts s node.End (inl (fs, ms, is)) = held_ended_object s fs ms is
 held_one_more texts s node.End (inr h) = held_ended_array s h
 
--- ---- all of them
 pub held_all : (texts : List ℕ) (s : State) (xs : List Node) → ArePlaced texts s xs → held (spelled_from texts s xs) ≡ held s ++ tokens_held texts xs
 held_all texts s [] h = sym (append-nil (held s))
 held_all texts s (x ∷ xs) h =

@@ -1,8 +1,4 @@
--- The tokens of a value, where a value is due, lead behind that value.
---     folded_on       tokens in two runs
---     over_value      the tokens of a value
---     whole_stays     a value that is whole stays so, whatever comes
---     finish_begun    so the value with which tokens begin is the one that they lead to
+-- If a value is expected, the tokens of a value lead to the state after it.
 use Rattle.std.proofs.Common.{◌≡◌, ℕ, List, [], ◌∷◌, ◌++◌, Some, refl, ap, sym, ◌∙◌, append_assoc}
 use Rattle.mes_json.specs.Tree.{Tree, Items, Members}
 use Rattle.mes_json.specs.Tree.{Tree as tree}
@@ -25,7 +21,6 @@ pub folded_on : (s : State) (xs ys : List Token) → fold_tokens s (xs ++ ys) �
 folded_on s [] ys = refl
 folded_on s (x ∷ xs) ys = folded_on (apply_token x s) xs ys
 
--- the innermost array ends, and ts are its items
 abbrev IsArrayEnd : State → List Frame → Items → Type 0
 IsArrayEnd s fs ts = ended s ≡ state fs (at.after (tree.array ts))
 
@@ -42,7 +37,6 @@ mutual
       ap (λ (u : State). fold_tokens (valued (at.name no_members) u) (tokens_of_members ms ++ ends ∷ [])) is
       ∙ over_members ms (state fs (at.name no_members)) fs no_members refl refl
 
-  -- behind the items before
   over_items : (ts : Items) (s : State) (fs : List Frame) (before : Items) → value_due s ≡ state (array_frame before ∷ fs) at.value → IsArrayEnd s fs before
       → fold_tokens s (tokens_of_items ts ++ ends ∷ []) ≡ state fs (at.after (tree.array (joined_items before ts)))
   over_items no_items s fs before due end = end ∙ ap (λ (ts : Items). state fs (at.after (tree.array ts))) (sym (joined_items_none before))
@@ -53,7 +47,6 @@ mutual
       ∙ over_items ts (state (array_frame before ∷ fs) (at.after t)) fs (with_item before t) refl refl
       ∙ ap (λ (us : Items). state fs (at.after (tree.array us))) (joined_items_next before t ts)
 
-  -- behind the members before
   over_members : (ms : Members) (s : State) (fs : List Frame) (before : Members) → name_due s ≡ state fs (at.name before)
       → ended s ≡ state fs (at.after (tree.object before))
       → fold_tokens s (tokens_of_members ms ++ ends ∷ []) ≡ state fs (at.after (tree.object (joined before ms)))
@@ -66,7 +59,6 @@ mutual
       ∙ over_members ms (state (frame before k ∷ fs) (at.after t)) fs (with_member before k t) refl refl
       ∙ ap (λ (ns : Members). state fs (at.after (tree.object ns))) (joined_next before k t ms)
 
--- ---- behind a whole value
 whole_stays_one : (t : Tree) (x : Token) → apply_token x (state [] (at.after t)) ≡ state [] (at.after t)
 whole_stays_one t null = refl
 whole_stays_one t (boolean x) = refl

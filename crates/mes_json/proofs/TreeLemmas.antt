@@ -1,7 +1,4 @@
 -- The tree of a value on a tape.
---     whole_behind, found_early      behind a whole value no node changes anything
---     tree_begun, never_none         it is the value with which the tokens begin
---     tree_read, tree_only           of a tape that was read, it is the one that the bytes spell
 use Rattle.std.proofs.Common.{◌≡◌, ℕ, List, [], take, drop, Option, Some, None, option_map, ap, sym, ◌∙◌, subst, append-nil}
 use Rattle.std.proofs.lemmas.List.{map-append, take-append-drop}
 use Rattle.mes_json.specs.Tree.{Tree}
@@ -32,7 +29,6 @@ pub found_early : (texts : List ℕ) (xs : List Node) (n : ℕ) (s : State) (fou
     → (t : Tree) × (s ≡ state [] (after t)) → option_map view found ≡ finish s → option_map view found ≡ finish (spelled texts xs)
 found_early texts xs n s found reached (t, whole) is = is ∙ ap finish (whole ∙ sym (whole_behind texts xs n t (sym reached ∙ whole)))
 
--- the tokens of these nodes, as they are seen from outside
 found_is : (texts : List ℕ) (xs : List Node) (seen : List Token) (found : Option Json) (t : Tree) → tokens_held texts xs ≡ seen
     → option_map view found ≡ finish (spelled texts xs) → BeginsWith seen t → option_map view found ≡ Some t
 found_is texts xs seen found t held is begins = is ∙ finish_begun texts xs t (subst (λ (ys : List Token). BeginsWith ys t) (sym held) begins)
@@ -47,7 +43,6 @@ pub never_none : (texts : List ℕ) (xs : List Node) (seen : List Token) (found 
 never_none texts xs seen found held is none t begins =
     let both : option_map view None ≡ Some t = ap (option_map view) (sym none) ∙ found_is texts xs seen found t held is begins in cc
 
--- ---- of a tape that was read
 abbrev IsTreeOf : List Token → Json → Type 0
 IsTreeOf seen json = (t : Tree) → BeginsWith seen t → view json ≡ t
 

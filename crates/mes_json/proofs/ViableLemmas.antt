@@ -1,6 +1,4 @@
--- Viable: from each state that a run reaches some bytes end the text, so a run over a front means that a text goes on from it.
---     begins_from_run, none_begins      a run over a front, and texts that go on from it
---     step_deeper, run_deeper           a higher limit takes no step away
+-- Viability: every state of a run can be completed, so some text begins with the bytes of a run.
 use Rattle.std.proofs.Common.{◌≡◌, ℕ, zero, suc, ◌+◌, ◌<◌, ◌≤◌, inl, inr, Bool, true, false, List, [], ◌∷◌, ◌++◌, length, Option, Some, None, option_and_then, if◌then◌else◌, nat_lt, refl, ap, sym, ◌∙◌, arith, lt-ltb, ltb-true}
 use Rattle.mes_fixed.specs.Automaton.{is_final}
 use Rattle.mes_fixed.specs.declared.automaton.NumberState.{NumberState}
@@ -28,14 +26,13 @@ use Rattle.mes_json.proofs.StepLemmas.{held_run, text_from_run}
 use Rattle.mes_json.proofs.TokenReads.{over_due, over_digits}
 use Rattle.mes_json.proofs.CompleteLemmas.{complete_text}
 
--- ---- an ending for each state
 abbrev Closes : ℕ → State → Type 0
 Closes d s = (q : List ℕ) × (t : Tree) × (ends d s q ≡ Some t)
 
 closes_by : (d : ℕ) (s next : State) (b : List ℕ) → Reaches d s b next → Closes d next → Closes d s
 closes_by d s next b f h = (b ++ h.0, h.1, ap (option_and_then finish) (f h.0) ∙ h.2)
 
--- one that may follow a value
+-- a completion that may follow a value
 abbrev Continues : ℕ → State → Type 0
 Continues d s = (q : List ℕ) × (t : Tree) × Follows q × (ends d s q ≡ Some t)
 
@@ -67,7 +64,7 @@ name_closes : (d : ℕ) (fs : List Frame) (ms : Members) → Closes d (state fs 
 unfolding run
 name_closes d fs ms = closes_by d _ (state fs (named ms [])) (34 ∷ 34 ∷ []) (λ q. refl) (named_closes d fs ms [])
 
--- a number that may not end here may do so behind a zero
+-- a number that may not end here may end after a zero
 digits_close : (d : ℕ) (fs : List Frame) (part : NumberState) (n : List ℕ) → Closes d (state fs (token (digits part n)))
 digits_close d fs part n = by (is_final part) refl
   where
@@ -108,7 +105,7 @@ closes d (state fs (named ms k)) b h = named_closes d fs ms k
 closes d (state fs (token x)) b h = token_closes d fs x
 closes d (state fs (after t)) b h = after_closes fs d t
 
--- ---- a run over a front, and texts that go on from it
+-- some text begins with the bytes of a run
 pub begins_from_run : (d : ℕ) (s : State) (p : List ℕ) → run d start p ≡ Some s → Begins d p
 begins_from_run d s p e =
     let c = closes d s p (held_run d s p e) in
@@ -120,7 +117,6 @@ none_begins d p e h =
     let g : ends d start (p ++ h.0) ≡ None = ap (option_and_then finish) (run_none d start p h.0 e) in
     none_some (sym g ∙ f)
 
--- ---- a higher limit
 deeper_test : (d : ℕ) (fs : List Frame) (s next : State) → (if nat_lt (length fs) d then Some s else None) ≡ Some next → (if nat_lt (length fs) (d + 1) then Some s else None) ≡ Some next
 deeper_test d fs s next e =
     elim (pick (nat_lt (length fs) d) _ _ next e) [

@@ -1,4 +1,4 @@
--- A value's tree, one level at a time.
+-- The tree of a value, one level at a time.
 use Rattle.std.proofs.Common.{◌≡◌, ℕ, Bool, List, Vec, Global, ap, ◌∙◌, rules}
 use Rattle.mes_json.specs.Tree.{Tree}
 use Rattle.mes_json.specs.Tree.Tree.{null, boolean, number, string, array, object}
@@ -15,14 +15,12 @@ view-List ts = search (rules, the_lemmas)
 pub view-Map : (ms : Vec (List ℕ × Json) Global) → view (Map ms) ≡ object (members_view ms.items)
 view-Map ms = search (rules, the_lemmas)
 
--- a value that is an array of these items, an object of these members
 pub is_array : (json : Json) (ts : Vec Json Global) → json ≡ ListOf ts → view json ≡ array (items_view ts.items)
 is_array json ts is = ap view is ∙ view-List ts
 
 pub is_object : (json : Json) (ms : Vec (List ℕ × Json) Global) → json ≡ Map ms → view json ≡ object (members_view ms.items)
 is_object json ms is = ap view is ∙ view-Map ms
 
--- a value that is a word, a number, a string
 view-Null : view Null ≡ null
 view-Null = search (rules, the_lemmas)
 

@@ -1,6 +1,4 @@
--- Escapes of a string that are taken whole.
---     unit_makes          u and four digits make a character
---     escape_taken        a whole escape moves the reader, all at once
+-- Whole escapes of a string, read in one step.
 use Rattle.std.proofs.Common.{◌≡◌, ℕ, ◌+◌, ◌-◌, ◌*◌, ◌<◌, ◌≤◌, ◌⊎◌, inl, inr, List, [], ◌∷◌, ◌++◌, length, take, drop, get_or, Option, Some, option_and_then, refl, ap, sym, ◌∙◌, subst, arith, encode_utf8, add-one}
 use Rattle.std.proofs.lemmas.List.{drop_more}
 use Rattle.std.proofs.Math.Utf8.{scalar_cases}
@@ -20,7 +18,6 @@ use Rattle.mes_json.proofs.ReaderLemmas.{part}
 use Rattle.mes_json.proofs.TakenLemmas.{rest_is, within_rest, runs_to}
 use Rattle.mes_json.proofs.PlainLemmas.{inside, Spells, spelled_run}
 
--- ---- u and four digits
 made_on : (c v : ℕ) (f : ℕ → e.Move) (next : e.Move) (q : List ℕ) → Some v ≡ hex_of c → f v ≡ next → made_of (by_hex (hex_of c) f) q ≡ made_of next q
 made_on c v f next q is goes = ap (λ (o : Option ℕ). made_of (by_hex o f) q) (sym is) ∙ ap (λ (x : e.Move). made_of x q) goes
 
@@ -57,7 +54,7 @@ unit_makes (c0 ∷ c1 ∷ c2 ∷ c3 ∷ c4 ∷ q) v0 v1 v2 v3 front back long h0
     no_high (inl h) = inl (omega (arith, sum, h))
     no_high (inr h) = inr (omega (arith, sum, h.0))
 
--- ---- the machine's run over an escape
+-- the run of the machine over an escape
 over_made : (fs : List Frame) (p : m.Purpose) (b : List ℕ) (x : e.Move) (q : List ℕ) (made : ℕ) → made_of x q ≡ Some made
     → option_and_then (λ (s : State). run MAX_NESTING s q) (in_escape fs p b x) ≡ Some (state fs (m.ReaderState.quoted p m.Utf8State.between (b ++ encode_utf8 made)))
 unfolding run
@@ -71,7 +68,7 @@ spells_made : (q : List ℕ) (made : ℕ) → made_of (e.Move.on e.Escape.backsl
 unfolding run
 spells_made q made h fs p b = over_made fs p b (e.Move.on e.Escape.backslash) q made h
 
--- ---- the reader's, from the backslash on
+-- the run of the reader, from the backslash on
 front_is : (b : List ℕ) (from n : ℕ) → from < length b → get_or b from 0 ≡ 92
     → 92 ∷ take n (take (length b - (from + 1)) (drop (from + 1) b)) ≡ take (n + 1) (drop from b)
 front_is b from n more backslash =

@@ -1,7 +1,4 @@
--- A reader at the end of its bytes, and the tape that it gives.
---     ends_behind        behind a value
---     tape_found         the tape of the value that is whole
---     tape_spans         its spans
+-- The reader at the end of the bytes, and its tape.
 use Rattle.std.proofs.Common.{◌≡◌, ◌==◌, Bool, true, false, List, [], ◌∷◌, ◌++◌, length, Option, Some, option_map, ap, sym, ◌∙◌, subst, arith}
 use Rattle.std.proofs.lemmas.Grind.{common_steps}
 use Rattle.std.specs.List.{AllByRecursion}

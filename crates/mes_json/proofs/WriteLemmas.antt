@@ -1,4 +1,4 @@
--- What is written stays in front of what is written next; one more item, one more member.
+-- Written bytes stay a prefix of the output; one more item, one more member.
 use Rattle.std.proofs.Common.{◌≡◌, ℕ, ◌+◌, ◌-◌, ◌<◌, ◌≤◌, List, [], ◌∷◌, ◌++◌, length, take, drop, get_or, refl, ap, sym, ◌∙◌, subst, append_assoc, arith, Result, Ok, Err, IfOk}
 use Rattle.std.proofs.lemmas.List.{append-nil, take_all, take_rest}
 use Rattle.std.specs.Str.{IsUtf8}
@@ -19,7 +19,6 @@ pub ok_map : {A E : Type 0} {P Q : A → Type 0} (r : Result A E) → ((x : A) �
 ok_map (Ok x) f h = f x h
 ok_map (Err e) f h = tt
 
--- ---- what is put together
 one_comma : (start so_far text : List ℕ) → ((start ++ so_far) ++ 44 ∷ []) ++ text ≡ start ++ (so_far ++ 44 ∷ text)
 one_comma start so_far text = simp append_assoc refl
 
@@ -28,12 +27,10 @@ pub between : (start inside : List ℕ) (first last : ℕ) (a b new : List ℕ) 
 between start inside first last a b new e f g =
     g ∙ ap (λ (x : List ℕ). x ++ last ∷ []) (f ∙ ap (λ (x : List ℕ). x ++ inside) e) ∙ simp append_assoc refl
 
--- a name, a colon and a text
 pub after_colon : (start name text a b new : List ℕ) → a ≡ start ++ name → b ≡ a ++ 58 ∷ [] → new ≡ b ++ text → new ≡ start ++ (name ++ 58 ∷ text)
 after_colon start name text a b new e f g =
     g ∙ ap (λ (x : List ℕ). x ++ text) (f ∙ ap (λ (x : List ℕ). x ++ 58 ∷ []) e) ∙ simp append_assoc refl
 
--- ---- one more
 pub more_last : (xs : List Json) (x : Json) → more_items (items_view (xs ++ x ∷ [])) ≡ more_items (items_view xs) ++ 44 ∷ canonical (view x)
 more_last [] x = ap (λ (b : List ℕ). 44 ∷ b) (append-nil (canonical (view x)))
 more_last (y ∷ ys) x =
@@ -44,7 +41,6 @@ all_last : (xs : List Json) (x : Json) → AreWritable (items_view xs) → IsWri
 all_last [] x are is = (is, tt)
 all_last (y ∷ ys) x are is = (are.0, all_last ys x are.1 is)
 
--- one more item behind the first n
 pub item_written : (xs : List Json) (x : Json) (n : ℕ) (start out comma new : List ℕ) → n < length xs → x ≡ get_or xs n x
     → out ≡ start ++ more_items (items_view (take n xs)) → comma ≡ out ++ 44 ∷ [] → new ≡ comma ++ canonical (view x)
     → new ≡ start ++ more_items (items_view (take (n + 1) xs))
@@ -59,7 +55,6 @@ pub item_writable : (xs : List Json) (x : Json) (n : ℕ) → n < length xs → 
 item_writable xs x n inside is are one =
     subst (λ (ys : List Json). AreWritable (items_view ys)) (sym (items_grown xs x n inside is)) (all_last (take n xs) x are one)
 
--- ---- the same of members
 abbrev text_of : List ℕ × Json → List ℕ
 text_of m = member_text m.0 (view m.1)
 
@@ -88,7 +83,6 @@ pub member_writable : (xs : List (List ℕ × Json)) (x : List ℕ × Json) (n :
 member_writable xs x n inside is are one =
     subst (λ (ys : List (List ℕ × Json)). AreWritableMembers (members_view ys)) (sym (members_grown xs x n inside is)) (all_members_last (take n xs) x are one)
 
--- ---- the first, and all of the others
 others : {A : Type 0} (xs : List A) (n : ℕ) → length (take (length xs - 1) (drop 1 xs)) ≤ n → take n (take (length xs - 1) (drop 1 xs)) ≡ drop 1 xs
 others xs n all = take_all n _ all ∙ take_rest xs 1
 
@@ -107,7 +101,7 @@ items_writable [] x n is all one are = tt
 items_writable (y ∷ ys) x n is all one are =
     (subst (λ (z : Json). IsWritable (view z)) is one, subst (λ (zs : List Json). AreWritable (items_view zs)) (others (y ∷ ys) n all) are)
 
--- a and b are what `get_or` gives behind the end
+-- a and b are the defaults of `get_or` after the end
 pub members_written : (xs : List (List ℕ × Json)) (a b : List ℕ × Json) (n : ℕ) (start first new : List ℕ) → 1 ≤ length xs
     → length (take (length xs - 1) (drop 1 xs)) ≤ n → first ≡ start ++ member_text (get_or xs 0 a).0 (view (get_or xs 0 b).1)
     → new ≡ first ++ more_members (members_view (take n (take (length xs - 1) (drop 1 xs)))) → new ≡ start ++ canonical_members (members_view xs)
@@ -123,7 +117,6 @@ members_writable [] a b n all one are = tt
 members_writable (y ∷ ys) a b n all one are =
     (one.0, one.1, subst (λ (zs : List (List ℕ × Json)). AreWritableMembers (members_view zs)) (others (y ∷ ys) n all) are)
 
--- ---- what is written of a value, from its tree
 pub tree_written : {A E : Type 0} (r : Result A E) (json : Json) (t : Tree) (start new : List ℕ) → view json ≡ t
     → IfOk r (λ _. new ≡ start ++ canonical t) → IfOk r (λ _. new ≡ start ++ canonical (view json))
 tree_written r json t start new is h = subst (λ (u : Tree). IfOk r (λ _. new ≡ start ++ canonical u)) (sym is) h
@@ -135,7 +128,6 @@ pub always : {A E : Type 0} {P : Type 0} (r : Result A E) → P → IfOk r (λ _
 always (Ok x) p = p
 always (Err e) p = tt
 
--- ---- none at all
 pub extends_itself : (a : List ℕ) → Extends a a
 extends_itself a = extended a a [] (sym (append-nil a))
 

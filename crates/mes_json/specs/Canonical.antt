@@ -1,5 +1,5 @@
--- The canonical text of a tree: no white space, items and members in order, numbers as written; in a string only what has
--- to be escaped is, in its short form where there is one.
+-- The canonical text of a tree: no white space, items and members in order, numbers as written. A
+-- string has only the necessary escapes, each in its shortest form.
 use Rattle.std.specs.Prelude.{◌≢◌, ◌≤◌, ℕ, ◌+◌, ◌/◌, ◌%◌, List, [], ◌∷◌, ◌++◌, if◌then◌else◌, ◌==◌, nat_lt}
 use Rattle.mes_json.specs.Tree.{Tree, Items, Members}
 use Rattle.mes_json.specs.Tree.Tree.{null, boolean, number, string, array, object}
@@ -7,15 +7,15 @@ use Rattle.mes_json.specs.Tree.Items.{no_items, item}
 use Rattle.mes_json.specs.Tree.Members.{no_members, member}
 use Rattle.mes_json.specs.Grammar.{null_text, boolean_text}
 
--- a hexadecimal digit in lower case
+-- HEXDIG in lower case
 abbrev pub hex_digit : ℕ → ℕ
 hex_digit v = if nat_lt v 10 then 48 + v else 87 + v
 
--- a control character as \u00 and two digits
+-- a control character as %x5C %x75 %x30 %x30 2HEXDIG
 abbrev pub by_digits : ℕ → List ℕ
 by_digits c = 92 ∷ 0x75 ∷ 0x30 ∷ 0x30 ∷ hex_digit (c / 16) ∷ hex_digit (c % 16) ∷ []
 
--- A byte of a string's text: \" \\ \b \f \n \r \t, \u00 and two digits for another control character, else as it is.
+-- the byte c in a string: a two-byte escape, \u00 and two digits, or the byte itself
 abbrev pub escaped : ℕ → List ℕ
 escaped c =
     if c == 0x22 then 92 ∷ 0x22 ∷ []
@@ -32,11 +32,11 @@ abbrev pub escaped_text : List ℕ → List ℕ
 escaped_text [] = []
 escaped_text (c ∷ s) = escaped c ++ escaped_text s
 
--- a byte that a string has as it is: unescaped = %x20-21 / %x23-5B / %x5D-10FFFF, and any byte of a character past 7F
+-- a byte of unescaped = %x20-21 / %x23-5B / %x5D-10FFFF, in UTF-8
 abbrev pub IsKept : ℕ → Type 0
 IsKept c = (32 ≤ c) × (c ≢ 34) × (c ≢ 92)
 
--- in quotation marks
+-- quotation-mark *char quotation-mark
 abbrev pub quoted_text : List ℕ → List ℕ
 quoted_text s = 34 ∷ (escaped_text s ++ 34 ∷ [])
 
@@ -53,7 +53,6 @@ abbrev mutual
   canonical_items no_items = []
   canonical_items (item t ts) = canonical t ++ more_items ts
 
-  -- each behind a comma
   pub more_items : Items → List ℕ
   more_items no_items = []
   more_items (item t ts) = 44 ∷ (canonical t ++ more_items ts)

@@ -1,4 +1,4 @@
--- What a place of a tape shows, by the tree that stands there.
+-- The results of a cursor on a tape, by the tree of the value there.
 use Rattle.std.specs.Prelude.{◌≡◌, ℕ, suc, Bool, true, false, List, Option, Some, None, map}
 use Rattle.mes_json.specs.Tree.{Tree, Items, Members}
 use Rattle.mes_json.specs.Tree.Items.{no_items, item}
@@ -8,7 +8,7 @@ use Rattle.mes_json.specs.Tokens.{Token, BeginsWith, BeginsItems, BeginsMembers}
 use Rattle.mes_json.specs.declared.tape.Node.{Node}
 use Rattle.mes_json.specs.declared.tape.Node.TheVariants as node
 
--- the token of a node, over the buffer of texts
+-- the token of a node, with its text from the buffer of texts
 abbrev pub token_of : List ℕ → Node → Token
 token_of texts node.Null = Token.null
 token_of texts (node.Bool x) = Token.boolean x
@@ -22,7 +22,7 @@ token_of texts node.End = Token.ends
 abbrev pub tokens_held : List ℕ → List Node → List Token
 tokens_held texts xs = map (token_of texts) xs
 
--- ---- what a value is
+-- ---- the kind of a value
 
 abbrev pub is_null : Tree → Bool
 is_null Tree.null = true
@@ -76,30 +76,30 @@ abbrev pub count_of : Items → ℕ
 count_of no_items = 0
 count_of (item t ts) = suc (count_of ts)
 
--- ---- what is found
+-- ---- the results of a cursor
 
--- the place is that of the items, where there are some
+-- the result is a cursor at the items, if there are any
 abbrev pub FindsItems : Option (List Token) → Option Items → Type 0
 FindsItems None None = Unit {0}
 FindsItems None (Some ts) = ⊥
 FindsItems (Some xs) None = ⊥
 FindsItems (Some xs) (Some ts) = BeginsItems xs ts
 
--- the place is that of the members, where there are some
+-- the result is a cursor at the members, if there are any
 abbrev pub FindsMembers : Option (List Token) → Option Members → Type 0
 FindsMembers None None = Unit {0}
 FindsMembers None (Some ms) = ⊥
 FindsMembers (Some xs) None = ⊥
 FindsMembers (Some xs) (Some ms) = BeginsMembers xs ms
 
--- the first of the items, and the place of the others; behind the last one the place stays
+-- the first item, and the cursor at the others; None at the end
 abbrev pub NextItem : Items → Option (List Token) → List Token → Type 0
 NextItem no_items None rest = BeginsItems rest no_items
 NextItem no_items (Some x) rest = ⊥
 NextItem (item t ts) None rest = ⊥
 NextItem (item t ts) (Some x) rest = BeginsWith x t × BeginsItems rest ts
 
--- the first of the members, and the place of the others; behind the last one the place stays
+-- the first member, and the cursor at the others; None at the end
 abbrev pub NextMember : Members → Option (List ℕ × List Token) → List Token → Type 0
 NextMember no_members None rest = BeginsMembers rest no_members
 NextMember no_members (Some x) rest = ⊥

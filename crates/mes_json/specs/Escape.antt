@@ -1,8 +1,8 @@
--- The states within an escape (RFC 8259, section 7), one byte at a time. Private clauses alone cite it.
+-- The states within an escape (RFC 8259 section 7), one byte at a time. Cited by private clauses
+-- only.
 use Rattle.std.specs.Prelude.{ℕ, List, [], ◌∷◌, ◌+◌, ◌-◌, ◌*◌, ◌<◌, ◌≤◌, ◌⊎◌, ◌&&◌, Option, Some, None, if◌then◌else◌, ◌==◌, nat_le}
 
--- What is read of an escape: the backslash; the u and so many digits, with their value; the same of the second half of a
--- pair, whose first half is `high`.
+-- the bytes read so far: \, then u and digits with their value; `high` is the first half of a pair
 pub data Escape : Type 0 where
   backslash : Escape
   unit0 : Escape
@@ -10,13 +10,12 @@ pub data Escape : Type 0 where
   high high_backslash low0 low1 : ℕ → Escape
   low2 low3 : ℕ → ℕ → Escape
 
--- where a byte leads: to more of the escape, to its end, or nowhere
+-- the effect of a byte: the escape continues, ends, or is an error
 pub data Move : Type 0 where
   on : Escape → Move
   makes : ℕ → Move
   refused : Move
 
--- the value of a hexadecimal digit
 abbrev pub hex_of : ℕ → Option ℕ
 hex_of c =
     if nat_le 48 c && nat_le c 57 then Some (c - 48)
@@ -28,7 +27,6 @@ abbrev pub by_hex : Option ℕ → (ℕ → Move) → Move
 by_hex None f = refused
 by_hex (Some x) f = f x
 
--- the character of an escape of two bytes
 abbrev pub short_of : ℕ → Move
 short_of c =
     if c == 0x22 then makes 0x22
@@ -41,15 +39,14 @@ short_of c =
     else if c == 0x74 then makes 0x09
     else refused
 
--- two digits: those of a low surrogate, which stands behind a high one alone, lead nowhere
+-- after two digits; a low surrogate cannot come first
 abbrev pub two_digits : ℕ → Move
 two_digits v = if nat_le 0xDC v && nat_le v 0xDF then refused else on (unit2 v)
 
--- four digits
+-- after four digits
 abbrev pub four_digits : ℕ → Move
 four_digits v = if nat_le 0xD800 v && nat_le v 0xDBFF then on (high v) else makes v
 
--- the character of a surrogate pair
 abbrev pub pair_of : ℕ → ℕ → ℕ
 pair_of first second = 0x10000 + (first - 0xD800) * 0x400 + (second - 0xDC00)
 
@@ -66,7 +63,7 @@ escape_step (low1 h) c = by_hex (hex_of c) (λ x. if nat_le 12 x then on (low2 h
 escape_step (low2 h v) c = by_hex (hex_of c) (λ x. on (low3 h (v * 16 + x)))
 escape_step (low3 h v) c = by_hex (hex_of c) (λ x. makes (pair_of h (v * 16 + x)))
 
--- what holds of the values in each state that is reached
+-- the bounds of the values in each state
 abbrev pub HasBounds : Escape → Type 0
 HasBounds backslash = Unit {0}
 HasBounds unit0 = Unit {0}
@@ -80,7 +77,7 @@ HasBounds (low1 h) = (0xD800 ≤ h) × (h ≤ 0xDBFF)
 HasBounds (low2 h v) = (0xD800 ≤ h) × (h ≤ 0xDBFF) × (0xDC ≤ v) × (v ≤ 0xDF)
 HasBounds (low3 h v) = (0xD800 ≤ h) × (h ≤ 0xDBFF) × (0xDC0 ≤ v) × (v ≤ 0xDFF)
 
--- the character that a move and the bytes behind it make, taken one by one, where the last of them ends the escape
+-- the character made by a move and the bytes after it, if the last byte ends the escape
 abbrev pub made_of : Move → List ℕ → Option ℕ
 made_of (on e) [] = None
 made_of (on e) (c ∷ q) = made_of (escape_step e c) q

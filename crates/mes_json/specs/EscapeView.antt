@@ -1,4 +1,4 @@
--- What the escape that is read stands for. Private clauses alone cite it.
+-- The state that the code's escape represents. Cited by private clauses only.
 use Rattle.mes_json.specs.Escape as e
 use Rattle.mes_json.specs.declared.escape.Escape as escape
 use Rattle.mes_json.specs.declared.escape.Move as move

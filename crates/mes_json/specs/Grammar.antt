@@ -1,5 +1,5 @@
--- The grammar of a JSON text (RFC 8259, sections 2 to 8), as a relation between bytes and the tree that they spell, one
--- case for each production. Each production that nests values says how deep they nest at most.
+-- The grammar of a JSON text (RFC 8259 sections 2 to 8), one definition a production. It relates
+-- bytes and the tree that they represent, up to a nesting depth.
 use Rattle.std.specs.Prelude.{◌≡◌, ◌≢◌, ℕ, zero, suc, ◌+◌, ◌-◌, ◌*◌, ◌≤◌, ◌⊎◌, Bool, true, false, List, [], ◌∷◌, ◌++◌, encode_utf8}
 use Rattle.std.specs.List.{AllByRecursion}
 use Rattle.std.specs.Char.{IsScalar}
@@ -54,7 +54,7 @@ pub record IsHex4 (b : List ℕ) (v : ℕ) : Type 0 where
   pub d3 : IsHex c3 v3
   pub value : v ≡ v0 * 4096 + v1 * 256 + v2 * 16 + v3
 
--- what stands behind the escape character, with the character that it stands for: " \ / b f n r t
+-- the letter after escape = %x5C, and its character: " \ / b f n r t
 pub data IsShort : ℕ → ℕ → Type 0 where
   quotation_mark : IsShort 0x22 0x22
   reverse_solidus : IsShort 0x5C 0x5C
@@ -67,7 +67,7 @@ pub data IsShort : ℕ → ℕ → Type 0 where
 
 -- char = unescaped / escape ( short / %x75 4HEXDIG ), with the character's code
 -- unescaped = %x20-21 / %x23-5B / %x5D-10FFFF, as well-formed UTF-8 (section 8.1)
--- A character past FFFF is escaped as the two halves of a surrogate pair (section 7); no half stands alone.
+-- A character above FFFF is escaped as a surrogate pair (section 7); no lone surrogate is a char.
 pub data IsChar : List ℕ → ℕ → Type 0 where
   unescaped : {b : List ℕ} {c : ℕ} → IsScalar c → 32 ≤ c → c ≢ 34 → c ≢ 92 → b ≡ encode_utf8 c → IsChar b c
   short : {b : List ℕ} {c : ℕ} → (letter : ℕ) → IsShort letter c → b ≡ 92 ∷ letter ∷ [] → IsChar b c
@@ -76,7 +76,7 @@ pub data IsChar : List ℕ → ℕ → Type 0 where
       → 0xD800 ≤ high → high ≤ 0xDBFF → 0xDC00 ≤ low → low ≤ 0xDFFF
       → c ≡ 0x10000 + (high - 0xD800) * 0x400 + (low - 0xDC00) → b ≡ 92 ∷ 117 ∷ (first ++ 92 ∷ 117 ∷ second) → IsChar b c
 
--- *char, and the text in UTF-8 that the characters make
+-- *char, and the characters in UTF-8
 pub data IsChars : List ℕ → List ℕ → Type 0 where
   none : {b s : List ℕ} → b ≡ [] → s ≡ [] → IsChars b s
   some : {b s : List ℕ} → (first rest : List ℕ) → (c : ℕ) → (others : List ℕ) → IsChar first c → IsChars rest others
@@ -122,7 +122,7 @@ Led c Rest b = (rest : List ℕ) × (b ≡ c ∷ rest) × Rest rest
 abbrev pub Enclosed : ℕ → (List ℕ → Type 0) → ℕ → List ℕ → Type 0
 Enclosed first Inside last b = (inside : List ℕ) × (b ≡ first ∷ (inside ++ last ∷ [])) × Inside inside
 
--- value = false / null / true / object / array / number / string, nesting at most the number
+-- value = false / null / true / object / array / number / string, with at most d levels of nesting
 -- array = begin-array [ value *( value-separator value ) ] end-array
 -- object = begin-object [ member *( value-separator member ) ] end-object
 abbrev mutual
@@ -153,6 +153,6 @@ abbrev mutual
   MoreMembers (member name t ms) d b =
       Led 44 (Then (IsMember (IsString name) (IsValue t d)) (MoreMembers ms d)) b
 
--- JSON-text = ws value ws, nesting at most the number
+-- JSON-text = ws value ws, with at most d levels of nesting
 abbrev pub IsText : ℕ → List ℕ → Tree → Type 0
 IsText d b t = Spaced (IsValue t d) b

@@ -1,31 +1,31 @@
--- How many bytes of a text stand inside its strings and numbers, by one look at each byte in turn.
+-- The number of bytes inside the strings and numbers of a text, from one pass over the bytes.
 use Rattle.std.specs.Prelude.{ℕ, ◌+◌, Bool, List, [], ◌∷◌, ◌&&◌, ◌||◌, if◌then◌else◌, ◌==◌, nat_le}
 
--- where a byte stands: outside strings, inside one, or inside one behind a backslash
+-- the position of a byte: outside strings, inside one, or after a backslash inside one
 pub data Stand : Type 0 where
   outside inside escaped : Stand
 
--- a digit, or one of + - . e E, which stand in numbers too
+-- a digit, or one of + - . e E
 abbrev pub is_of_number : ℕ → Bool
 is_of_number c = (nat_le 48 c && nat_le c 57) || c == 43 || c == 45 || c == 46 || c == 101 || c == 69
 
--- where the next byte stands: a quotation mark begins a string, and the next one that isn't escaped ends it
+-- the position of the next byte; an unescaped quotation mark begins or ends a string
 abbrev pub following : Stand → ℕ → Stand
 following outside c = if c == 34 then inside else outside
 following inside c = if c == 34 then outside else (if c == 92 then escaped else inside)
 following escaped c = inside
 
--- 1 where the byte counts, else 0: outside strings those of numbers, inside them all but the quotation mark that ends it
+-- 1 for a byte of a number outside strings, or inside a string up to its closing quotation mark
 abbrev pub counts : Stand → ℕ → ℕ
 counts outside c = if is_of_number c then 1 else 0
 counts inside c = if c == 34 then 0 else 1
 counts escaped c = 1
 
--- how many of the bytes count, where the first one stands there
+-- the number of bytes that count, if the first one is at this position
 abbrev pub inner_from : Stand → List ℕ → ℕ
 inner_from place [] = 0
 inner_from place (c ∷ p) = counts place c + inner_from (following place c) p
 
--- how many bytes stand inside strings, and outside them are of numbers
+-- the number of bytes inside strings, and of bytes of numbers outside them
 abbrev pub inner : List ℕ → ℕ
 inner p = inner_from outside p

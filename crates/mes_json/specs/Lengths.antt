@@ -1,4 +1,5 @@
--- How long the arrays and the objects on a tape are, as their first nodes tell it. Private clauses alone cite it.
+-- The lengths of the arrays and objects on a tape, as their first nodes store them. Cited by
+-- private clauses only.
 use Rattle.std.specs.Prelude.{◌≡◌, ℕ, zero, suc, ◌≤◌, List, [], ◌∷◌, ◌++◌, length, drop, Option, Some, None}
 use Rattle.mes_json.specs.Tokens.{Token}
 use Rattle.mes_json.specs.Cursor.{tokens_held}
@@ -10,7 +11,7 @@ abbrev pub unless_zero : ℕ → Option ℕ
 unless_zero zero = None
 unless_zero (suc n) = Some (suc n)
 
--- how many nodes behind this one belong to its value, where it tells that
+-- the number of nodes after this one in its value, if the node stores the number
 abbrev pub reported : Node → Option ℕ
 reported Null = Some 0
 reported (Bool x) = Some 0
@@ -21,21 +22,21 @@ reported (list n) = unless_zero n
 reported (Map n) = unless_zero n
 reported End = Some 0
 
--- before these nodes, the node begins a value that has n of them
+-- the node begins a value that has the first n of the nodes xs
 pub record HasRest (n : ℕ) (x : Node) (xs : List Node) : Type 0 where
   pub inside : n ≤ length xs
   pub ends : (texts : List ℕ) → following 0 (tokens_held texts (x ∷ xs)) ≡ drop n (tokens_held texts xs)
 
--- what the node tells is so
+-- the length stored in the node is correct
 abbrev pub TellsTruth : Node → List Node → Type 0
 TellsTruth x xs = (n : ℕ) → reported x ≡ Some n → HasRest n x xs
 
--- what each node tells is so
+-- the length stored in each node is correct
 abbrev pub TellLengths : List Node → Type 0
 TellLengths [] = Unit {0}
 TellLengths (x ∷ xs) = TellsTruth x xs × TellLengths xs
 
--- the node, where it tells no length
+-- the node without its length
 abbrev pub unreported : Node → Node
 unreported Null = Null
 unreported (Bool x) = Bool x
@@ -46,7 +47,7 @@ unreported (list n) = list 0
 unreported (Map n) = Map 0
 unreported End = End
 
--- the node, where it tells this length
+-- the node with this length
 abbrev pub telling : ℕ → Node → Node
 telling n Null = Null
 telling n (Bool x) = Bool x
@@ -57,7 +58,7 @@ telling n (list m) = list n
 telling n (Map m) = Map n
 telling n End = End
 
--- the node begins and ends no array and no object
+-- the node neither begins nor ends an array or an object
 abbrev pub IsLeaf : Node → Type 0
 IsLeaf Null = Unit {0}
 IsLeaf (Bool x) = Unit {0}
@@ -68,12 +69,12 @@ IsLeaf (list n) = ⊥
 IsLeaf (Map n) = ⊥
 IsLeaf End = ⊥
 
--- what these nodes tell is so whatever stands behind them, and counting what is open passes over them
+-- the stored lengths are correct before any nodes, and nothing stays open
 pub record IsWhole (xs : List Node) : Type 0 where
   pub reports : (ys : List Node) → TellLengths ys → TellLengths (xs ++ ys)
   pub passes : (texts : List ℕ) (n : ℕ) (ts : List Token) → following (suc n) (tokens_held texts xs ++ ts) ≡ following (suc n) ts
 
--- the array or object that begins in this place is open, and tells no length yet; so much is known of the nodes before it
+-- an open array or object begins at `place`, without a length; `Known` holds of the nodes before
 pub record IsBegun (place : ℕ) (Known : List Node → Type 0) (xs : List Node) : Type 0 where
   pub outer : List Node
   pub first : Node
@@ -84,7 +85,7 @@ pub record IsBegun (place : ℕ) (Known : List Node → Type 0) (xs : List Node)
   pub whole : IsWhole inner
   pub before : Known outer
 
--- in these places begin arrays and objects that are open, the innermost first; what all nodes tell is so, whatever stands behind them
+-- open arrays and objects begin at these places, innermost first; all stored lengths are correct
 abbrev pub AreBegun : List ℕ → List Node → Type 0
 AreBegun [] xs = (ys : List Node) → TellLengths ys → TellLengths (xs ++ ys)
 AreBegun (place ∷ places) xs = IsBegun place (AreBegun places) xs

@@ -1,4 +1,4 @@
--- What a lexer stands for, and what it answers.
+-- The bytes that a lexer represents, and its results.
 use Rattle.std.specs.Prelude.{◌≡◌, ℕ, ◌-◌, ◌^◌, ◌≤◌, List, length, min, Some, Result, Ok, Err}
 use Rattle.mes_json.specs.Machine.{start, run}
 use Rattle.mes_json.specs.Place.{IsFault}
@@ -13,45 +13,45 @@ use Rattle.mes_json.specs.declared.lexer.LexerState.{LexerState}
 use Rattle.mes_json.specs.declared.lexer.LexerState.TheVariants.{Reading, Faulty, OutOfMemory}
 use Rattle.mes_json.specs.declared.lexer.Lexer.{Lexer}
 
--- so many bytes, as far as a u64 counts
+-- a number of bytes, capped at 2^64 - 1
 abbrev pub counted : ℕ → ℕ
 counted n = min n (2 ^ 64 - 1)
 
--- the exact fault with its place as far as a u64 counts
+-- the exact fault, with its offset capped at 2^64 - 1
 pub record Rounds (exact f : TextFault) : Type 0 where
   pub byte : f.byte ≡ counted exact.byte
   pub why : f.why ≡ exact.why
 
--- the bytes' fault with its place as far as a u64 counts
+-- the fault of the bytes, with its offset capped at 2^64 - 1
 pub record IsCountedFault (d : ℕ) (b : List ℕ) (f : TextFault) : Type 0 where
   pub exact : TextFault
   pub is_fault : IsFault d b exact
   pub rounds : Rounds exact f
 
--- what a refusal says of the bytes
+-- the meaning of an error for the bytes
 abbrev pub IsLexFault : ℕ → List ℕ → fault.ReadFault → Type 0
 IsLexFault d b (fault.TheVariants.Text f) = IsCountedFault d b f
 IsLexFault d b fault.TheVariants.NoMemory = Unit {0}
 
--- the reader has taken the bytes
+-- the reader has read the bytes
 pub record IsReading (n : ℕ) (r : Reader) (p : List ℕ) : Type 0 where
   pub count : n ≡ counted (length p)
   pub fits : Fits r
   pub reached : run MAX_NESTING start p ≡ Some (state_view r)
 
--- no state takes the byte behind the fault's place
+-- no state continues with the byte at the fault's offset
 pub record IsFaulty (f : TextFault) (p : List ℕ) : Type 0 where
   pub exact : TextFault
   pub stuck : Stuck start p exact
   pub rounds : Rounds exact f
 
--- what the bytes brought a lexer to
+-- the bytes bring a lexer to this count and state
 abbrev pub Represents : ℕ → LexerState → List ℕ → Type 0
 Represents n (Reading r) p = IsReading n r p
 Represents n (Faulty f) p = IsFaulty f p
 Represents n OutOfMemory p = Unit {0}
 
--- these are the bytes that were pushed, in whatever runs they came
+-- p is the bytes pushed, in any runs
 unfoldable pub HasLexed : Lexer → List ℕ → Type 0
 HasLexed l p = Represents l.0 l.1 p
 
@@ -59,47 +59,43 @@ HasLexed l p = Represents l.0 l.1 p
 abbrev pub IsPossible : ℕ × LexerState → Type 0
 IsPossible l = (p : List ℕ) × Represents l.0 l.1 p
 
--- a growth was refused memory
 abbrev pub HasNoMemory : LexerState → Type 0
 HasNoMemory (Reading r) = ⊥
 HasNoMemory (Faulty f) = ⊥
 HasNoMemory OutOfMemory = Unit {0}
 
--- a push wanted memory and had none
+-- an allocation failed in a push
 unfoldable pub IsOutOfMemory : Lexer → Type 0
 IsOutOfMemory l = HasNoMemory l.1
 
--- an error comes exactly where a growth was refused memory, this time or before
+-- an error is returned exactly if an allocation fails now or failed before
 abbrev pub Reports : {A E : Type 0} → Result A E → Lexer → Type 0
 Reports (Ok _) l = IsOutOfMemory l → ⊥
 Reports (Err _) l = IsOutOfMemory l
 
--- how many bytes of texts and numbers are kept
+-- the number of buffered bytes of strings and numbers
 abbrev pub text_of : LexerState → ℕ
 text_of (Reading r) = length r.text.items
 text_of (Faulty f) = 0
 text_of OutOfMemory = 0
 
--- how many nodes are kept
 abbrev pub nodes_of : LexerState → ℕ
 nodes_of (Reading r) = length r.nodes.items
 nodes_of (Faulty f) = 0
 nodes_of OutOfMemory = 0
 
--- how many bytes of texts and numbers the lexer holds: the length of its one buffer of them
+-- the number of buffered bytes of strings and numbers: the length of their buffer
 unfoldable pub held : Lexer → ℕ
 held l = text_of l.1
 
--- how many nodes it holds
 unfoldable pub nodes_held : Lexer → ℕ
 nodes_held l = nodes_of l.1
 
--- what it holds of texts is at most the bytes inside strings and numbers; what it holds of nodes, at most the bytes
+-- at most the bytes inside strings and numbers are buffered, and at most one node a byte
 pub record IsBounded (l : Lexer) (p : List ℕ) : Type 0 where
   pub texts : held l ≤ inner p
   pub nodes : nodes_held l ≤ length p
 
--- it holds nothing
 pub record HoldsNothing (l : Lexer) : Type 0 where
   pub texts : held l ≡ 0
   pub nodes : nodes_held l ≡ 0

@@ -1,5 +1,5 @@
--- The states that a reader of JSON goes through, one byte at a time. Private clauses alone cite it: that it reads just
--- the grammar is proved.
+-- The states of a machine that reads JSON one byte at a time. Cited by private clauses only: the
+-- machine is proved to accept exactly the grammar.
 use Rattle.std.specs.Prelude.{ℕ, zero, suc, ◌&&◌, ◌||◌, Bool, true, false, List, [], ◌∷◌, ◌++◌, length, Option, Some, None, option_and_then, if◌then◌else◌, ◌==◌, nat_lt, nat_le, encode_utf8}
 use Rattle.mes_fixed.specs.Automaton.{letter_of, number_next, is_final}
 use Rattle.mes_fixed.specs.declared.automaton.NumberState.{NumberState}
@@ -12,18 +12,17 @@ use Rattle.mes_json.specs.Escape.{Escape, Move, escape_step}
 use Rattle.mes_json.specs.Escape.Escape.{backslash}
 use Rattle.mes_json.specs.Escape.Move.{on, makes, refused}
 
--- what is read of a literal or a number: the byte that is due of a literal, the ones behind it, and what it means; or the
--- part of a number that its bytes so far lead to
+-- a literal: the next byte, those after it, and its value; or a number: its state and bytes so far
 pub data Token : Type 0 where
   literal : ℕ → List ℕ → Tree → Token
   digits : NumberState → List ℕ → Token
 
--- what a byte is outside a string
+-- the class of a byte outside strings
 pub data ByteClass : Type 0 where
   blank quote opening closing opening_array closing_array colon comma other : ByteClass
   begins : Token → ByteClass
 
--- the kind of a byte, by where it leads from the start of a number
+-- the class of a byte, by the state of a number that begins with the byte
 abbrev pub kind_unless : ℕ → Option NumberState → ByteClass
 kind_unless c (Some part) = begins (digits part (c ∷ []))
 kind_unless c None =
@@ -43,25 +42,23 @@ kind_unless c None =
 abbrev pub kind_of : ℕ → ByteClass
 kind_of c = kind_unless c (number_next AtStart (letter_of c))
 
--- inside a string: between two characters; within one that wants some more bytes, the next from least to most (RFC 3629,
--- section 4); or within an escape
+-- in a string: between characters, in a character (RFC 3629 section 4), or in an escape
 pub data Utf8State : Type 0 where
   between : Utf8State
   within : ℕ → ℕ → ℕ → Utf8State
   escape : Escape → Utf8State
 
--- An object or an array that is still open: an object's members so far, and the name whose value is being read; an array's
--- items so far.
+-- an open object, with its members so far and the name of the next value; or an open array
 pub data Frame : Type 0 where
   frame : Members → List ℕ → Frame
   array_frame : Items → Frame
 
--- what a string is read for: a member's name, after these members, or a value
+-- the purpose of a string: a name after these members, or a value
 pub data Purpose : Type 0 where
   for_name : Members → Purpose
   for_value : Purpose
 
--- what is read next
+-- the part of a text that is expected next
 pub data ReaderState : Type 0 where
   value : ReaderState
   first_item : ReaderState
@@ -71,16 +68,14 @@ pub data ReaderState : Type 0 where
   token : Token → ReaderState
   after : Tree → ReaderState
 
--- the open objects and arrays, the innermost first, and what is read next
+-- the open objects and arrays, the innermost first, and the part that is expected next
 pub data State : Type 0 where
   state : List Frame → ReaderState → State
 
--- the item stands last
 abbrev pub with_item : Items → Tree → Items
 with_item no_items t = item t no_items
 with_item (item u ts) t = item u (with_item ts t)
 
--- the member stands last
 abbrev pub with_member : Members → List ℕ → Tree → Members
 with_member no_members k t = member k t no_members
 with_member (member j u ms) k t = member j u (with_member ms k t)
@@ -88,7 +83,7 @@ with_member (member j u ms) k t = member j u (with_member ms k t)
 abbrev pub start : State
 start = state [] value
 
--- the first byte of a character, as the state behind it (RFC 3629, section 4)
+-- the state after the first byte of a character (RFC 3629 section 4)
 abbrev pub lead : ℕ → Option Utf8State
 lead c =
     if nat_lt c 0x80 then Some between
@@ -102,13 +97,12 @@ lead c =
     else if c == 0xF4 then Some (within 3 0x80 0x8F)
     else None
 
--- behind a byte of a character that wanted so many
+-- the state after a further byte of a character, by the number of bytes that were expected
 abbrev pub after_byte : ℕ → Utf8State
 after_byte zero = between
 after_byte (suc zero) = between
 after_byte (suc (suc n)) = within (suc n) 0x80 0xBF
 
--- at a value's first byte
 abbrev pub on_value : ℕ → List Frame → ByteClass → Option State
 on_value d fs blank = Some (state fs value)
 on_value d fs quote = Some (state fs (quoted for_value between []))
@@ -121,7 +115,7 @@ on_value d fs comma = None
 on_value d fs other = None
 on_value d fs (begins x) = Some (state fs (token x))
 
--- at an array's first item, or its end; the open array goes onto the stack at the item
+-- at the first item of an array, or its end; an item pushes the array onto the stack
 abbrev pub on_first_item : ℕ → List Frame → ByteClass → Option State
 on_first_item d fs blank = Some (state fs first_item)
 on_first_item d fs quote = on_value d (array_frame no_items ∷ fs) quote
@@ -134,12 +128,11 @@ on_first_item d fs comma = None
 on_first_item d fs other = None
 on_first_item d fs (begins x) = on_value d (array_frame no_items ∷ fs) (begins x)
 
--- the object ends where no name is due behind a comma
+-- end-object, if no member and no comma came before
 abbrev pub close_empty : List Frame → Members → Option State
 close_empty fs no_members = Some (state fs (after (object no_members)))
 close_empty fs (member k t ms) = None
 
--- where a member's name is due
 abbrev pub on_name : List Frame → Members → ByteClass → Option State
 on_name fs ms blank = Some (state fs (name ms))
 on_name fs ms quote = Some (state fs (quoted (for_name ms) between []))
@@ -152,7 +145,7 @@ on_name fs ms comma = None
 on_name fs ms other = None
 on_name fs ms (begins x) = None
 
--- behind a member's name; the open object goes onto the stack at the colon
+-- after the name of a member; the colon pushes the object onto the stack
 abbrev pub on_named : List Frame → Members → List ℕ → ByteClass → Option State
 on_named fs ms k blank = Some (state fs (named ms k))
 on_named fs ms k quote = None
@@ -165,25 +158,24 @@ on_named fs ms k comma = None
 on_named fs ms k other = None
 on_named fs ms k (begins x) = None
 
--- the value t ends the member that is read, and with it the innermost object
+-- end-object: t is the value of the last member
 abbrev pub close_object : List Frame → Tree → Option State
 close_object [] t = None
 close_object (frame ms k ∷ fs) t = Some (state fs (after (object (with_member ms k t))))
 close_object (array_frame ts ∷ fs) t = None
 
--- the value t is the last item of the innermost array
+-- end-array: t is the last item
 abbrev pub close_array : List Frame → Tree → Option State
 close_array [] t = None
 close_array (frame ms k ∷ fs) t = None
 close_array (array_frame ts ∷ fs) t = Some (state fs (after (array (with_item ts t))))
 
--- the value t ends the member or is the item that is read, and another follows
+-- value-separator: t is a member's value or an item, and another one follows
 abbrev pub next_of : List Frame → Tree → Option State
 next_of [] t = None
 next_of (frame ms k ∷ fs) t = Some (state fs (name (with_member ms k t)))
 next_of (array_frame ts ∷ fs) t = Some (state (array_frame (with_item ts t) ∷ fs) value)
 
--- behind a value
 abbrev pub on_after : List Frame → Tree → ByteClass → Option State
 on_after fs t blank = Some (state fs (after t))
 on_after fs t quote = None
@@ -196,12 +188,12 @@ on_after fs t comma = next_of fs t
 on_after fs t other = None
 on_after fs t (begins x) = None
 
--- behind a byte of a literal: these are due, or it ends
+-- after a byte of a literal: the bytes that are left, or its end
 abbrev pub due : List ℕ → Tree → ReaderState
 due [] t = after t
 due (e ∷ rest) t = token (literal e rest t)
 
--- in a number, by the part that the byte leads to: a byte that leads nowhere stands behind the number, where that may end
+-- in a number: a byte that continues it, or the byte after a whole number
 abbrev pub on_digits : List Frame → NumberState → List ℕ → ℕ → Option NumberState → Option State
 on_digits fs part n c (Some next) = Some (state fs (token (digits next (n ++ c ∷ []))))
 on_digits fs part n c None = if is_final part then on_after fs (number n) (kind_of c) else None
@@ -210,17 +202,17 @@ abbrev pub on_token : List Frame → Token → ℕ → Option State
 on_token fs (literal e rest t) c = if c == e then Some (state fs (due rest t)) else None
 on_token fs (digits part n) c = on_digits fs part n c (number_next part (letter_of c))
 
--- at the quotation mark that ends a string
+-- at the closing quotation mark of a string
 abbrev pub end_string : List Frame → Purpose → List ℕ → State
 end_string fs (for_name ms) s = state fs (named ms s)
 end_string fs for_value s = state fs (after (string s))
 
--- in a string, behind a byte that begins or goes on with a character
+-- in a string, after a byte of a character
 abbrev pub in_string : List Frame → Purpose → List ℕ → ℕ → Option Utf8State → Option State
 in_string fs p s c None = None
 in_string fs p s c (Some m) = Some (state fs (quoted p m (s ++ c ∷ [])))
 
--- in a string, behind a byte of an escape
+-- in a string, after a byte of an escape
 abbrev pub in_escape : List Frame → Purpose → List ℕ → Move → Option State
 in_escape fs p s (on e) = Some (state fs (quoted p (escape e) s))
 in_escape fs p s (makes c) = Some (state fs (quoted p between (s ++ encode_utf8 c)))
@@ -236,7 +228,7 @@ on_quoted fs p (within n least most) s c =
     if nat_le least c && nat_le c most then Some (state fs (quoted p (after_byte n) (s ++ c ∷ []))) else None
 on_quoted fs p (escape e) s c = in_escape fs p s (escape_step e c)
 
--- the next state, where there is one; the number is the limit of nesting
+-- the next state, if there is one; d is the nesting limit
 abbrev pub step : ℕ → State → ℕ → Option State
 step d (state fs value) c = on_value d fs (kind_of c)
 step d (state fs first_item) c = on_first_item d fs (kind_of c)
@@ -250,12 +242,12 @@ unfoldable pub run : ℕ → State → List ℕ → Option State
 run d s [] = Some s
 run d s (c ∷ q) = option_and_then (λ next. run d next q) (step d s c)
 
--- a number's tree, where it may end
+-- the tree of a number, if the number may end
 abbrev pub finish_number : Bool → List ℕ → Option Tree
 finish_number true n = Some (number n)
 finish_number false n = None
 
--- the tree, where the text may end
+-- the tree, if the text may end
 abbrev pub finish : State → Option Tree
 finish (state [] (after t)) = Some t
 finish (state [] (token (digits part n))) = finish_number (is_final part) n
@@ -267,6 +259,6 @@ finish (state [] (named ms k)) = None
 finish (state [] (token (literal e rest t))) = None
 finish (state (f ∷ fs) a) = None
 
--- the tree that the bytes lead to
+-- the tree of the text that the bytes complete
 abbrev pub ends : ℕ → State → List ℕ → Option Tree
 ends d s q = option_and_then finish (run d s q)

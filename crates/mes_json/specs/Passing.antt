@@ -1,10 +1,10 @@
--- What a cursor meets: an end, a name, and what stands behind a value, found by counting what is open. Private clauses alone
--- cite it.
+-- The steps of a cursor: an end, a name, and the tokens after a value, found by counting what is
+-- open. Cited by private clauses only.
 use Rattle.std.specs.Prelude.{ℕ, zero, suc, pred, Bool, true, false, Option, Some, None, List, [], ◌∷◌}
 use Rattle.mes_json.specs.Tokens.{Token}
 use Rattle.mes_json.specs.Tokens.Token.{null, boolean, number, string, name, begin_array, begin_object, ends}
 
--- how many arrays and objects are open behind a token, where so many are before it
+-- the number of arrays and objects open after a token, from the number before it
 abbrev pub depth_after : ℕ → Token → ℕ
 depth_after n null = n
 depth_after n (boolean x) = n
@@ -15,17 +15,17 @@ depth_after n begin_array = suc n
 depth_after n begin_object = suc n
 depth_after n ends = pred n
 
--- where nothing is open, the first; else the second
+-- xs if nothing is open, otherwise ys
 abbrev pub by_depth : ℕ → List Token → List Token → List Token
 by_depth zero xs ys = xs
 by_depth (suc n) xs ys = ys
 
--- the tokens behind the first one that leaves nothing open, where so many are open before these
+-- the tokens after the first one that leaves nothing open, if n are open before them
 abbrev pub following : ℕ → List Token → List Token
 following n [] = []
 following n (x ∷ xs) = by_depth (depth_after n x) xs (following (depth_after n x) xs)
 
--- an array or an object ends there, or the tape does
+-- the end of an array, of an object or of the tape
 abbrev pub is_end : List Token → Bool
 is_end [] = true
 is_end (null ∷ xs) = false
@@ -37,7 +37,7 @@ is_end (begin_array ∷ xs) = false
 is_end (begin_object ∷ xs) = false
 is_end (ends ∷ xs) = true
 
--- the name of a member that stands there
+-- the name of a member, if one begins here
 abbrev pub as_name : List Token → Option (List ℕ)
 as_name [] = None
 as_name (null ∷ xs) = None

@@ -1,4 +1,4 @@
--- Where bytes that are no JSON text go wrong, and why.
+-- The offset and the reason of the first error in bytes that are not a JSON text.
 use Rattle.std.specs.Prelude.{◌≡◌, ℕ, ◌+◌, ◌<◌, ◌≤◌, List, ◌++◌, length, take}
 use Rattle.mes_json.specs.Tree.{Tree}
 use Rattle.mes_json.specs.Grammar.{IsText}
@@ -8,24 +8,24 @@ use Rattle.mes_json.specs.declared.fault.TextFault.{TextFault}
 use Rattle.mes_json.specs.declared.fault.ReadFault.{ReadFault}
 use Rattle.mes_json.specs.declared.fault.ReadFault.TheVariants.{Text, NoMemory}
 
--- some text that nests at most the number goes on from these bytes
+-- some text with nesting of at most d begins with these bytes
 abbrev pub Begins : ℕ → List ℕ → Type 0
 Begins d p = (q : List ℕ) × (t : Tree) × IsText d (p ++ q) t
 
--- after the first n bytes: the bytes end there, or the next one nests too deep, or no text has it there
+-- after n bytes: the end of the bytes, a byte that nests too deep, or any other byte
 abbrev pub IsReason : ℕ → List ℕ → ℕ → TextFaultKind → Type 0
 IsReason d b n End = n ≡ length b
 IsReason d b n Depth = (n < length b) × Begins (d + 1) (take (n + 1) b)
 IsReason d b n Byte = (n < length b) × (Begins (d + 1) (take (n + 1) b) → ⊥)
 
--- The bytes are no text, and the place is the length of the longest front that some text goes on from.
+-- the bytes are no text; the offset is the length of the longest prefix that some text begins with
 pub record IsFault (d : ℕ) (b : List ℕ) (f : TextFault) : Type 0 where
   pub no_text : (t : Tree) → IsText d b t → ⊥
   pub begins : Begins d (take f.byte b)
   pub longest : (n : ℕ) → f.byte < n → n ≤ length b → Begins d (take n b) → ⊥
   pub reason : IsReason d b f.byte f.why
 
--- what a refusal says of the bytes
+-- the meaning of an error for the bytes
 abbrev pub IsReadFault : ℕ → List ℕ → ReadFault → Type 0
 IsReadFault d b (Text f) = IsFault d b f
 IsReadFault d b NoMemory = Unit {0}

@@ -1,4 +1,4 @@
--- What the reader stands for: a state of the machine. Private clauses alone cite it.
+-- The state of the machine that a reader represents. Cited by private clauses only.
 use Rattle.std.specs.Prelude.{◌≡◌, ◌≢◌, ℕ, ◌+◌, ◌-◌, ◌<◌, ◌≤◌, ◌⊎◌, Bool, true, false, List, [], ◌∷◌, ◌++◌, length, take, drop, Option, Some, None, option_and_then, Result, Ok, Err, slice_get}
 use Rattle.mes_fixed.specs.Automaton.{nought, digit, letter_of, number_next}
 use Rattle.mes_fixed.specs.declared.automaton.NumberState.{NumberState}
@@ -28,7 +28,7 @@ use Rattle.mes_json.specs.declared.push_error.PushError.TheVariants.{Refused, No
 use Rattle.mes_json.specs.declared.reader.Reader.{Reader}
 use Rattle.mes_json.specs.declared.tape.Node as node
 
--- what is due of a literal
+-- the bytes of a literal that are left
 abbrev pub word_view : word.LiteralState → Token
 word_view word.TheVariants.N = literal 0x75 (0x6C ∷ 0x6C ∷ []) null
 word_view word.TheVariants.Nu = literal 0x6C (0x6C ∷ []) null
@@ -46,7 +46,7 @@ said_view (said.TheVariants.More w) = m.ReaderState.token (word_view w)
 said_view said.TheVariants.Null = m.ReaderState.after null
 said_view (said.TheVariants.Bool x) = m.ReaderState.after (boolean x)
 
--- the kind of the byte c
+-- the class of the byte c
 abbrev pub kind_view : ℕ → kind.ByteClass → m.ByteClass
 kind_view c kind.TheVariants.Blank = m.ByteClass.blank
 kind_view c kind.TheVariants.Quote = m.ByteClass.quote
@@ -65,7 +65,7 @@ mid_view mid.TheVariants.Between = m.Utf8State.between
 mid_view (mid.TheVariants.Within more least most) = m.Utf8State.within more least most
 mid_view (mid.TheVariants.Escape e) = m.Utf8State.escape (escape_view e)
 
--- the state of the tape, with the comma or the colon behind it taken
+-- the state of the tape, after a comma or colon that was read
 abbrev pub due_at : at.ReaderState → State → State
 due_at at.TheVariants.Value s = value_due s
 due_at at.TheVariants.FirstItem s = s
@@ -78,7 +78,7 @@ due_at (at.TheVariants.Quoted purpose.TheVariants.Value mid) s = value_due s
 due_at (at.TheVariants.Literal w) s = value_due s
 due_at (at.TheVariants.Digits part) s = value_due s
 
--- that state, with what is read of a string, a literal or a number
+-- the state, with the bytes so far of a string, a literal or a number
 abbrev pub with_read : at.ReaderState → List ℕ → State → State
 with_read at.TheVariants.Value b s = s
 with_read at.TheVariants.FirstItem b s = s
@@ -93,16 +93,16 @@ with_read (at.TheVariants.Quoted purpose.TheVariants.Value mid) b s =
 with_read (at.TheVariants.Literal w) b s = valued (m.ReaderState.token (word_view w)) s
 with_read (at.TheVariants.Digits part) b s = valued (m.ReaderState.token (digits part b)) s
 
--- the state that the reader stands for
+-- the state that the reader represents
 abbrev pub state_view : Reader → State
 state_view r = with_read r.at (drop r.start r.text.items) (due_at r.at (spelled r.text.items r.nodes.items))
 
--- a comma stands before the name
+-- a comma precedes the name
 abbrev pub IsFull : Members → Type 0
 IsFull no_members = ⊥
 IsFull (member k t ms) = Unit {0}
 
--- what is open where these frames are, the innermost last
+-- the open objects and arrays of the frames, the innermost last
 abbrev pub opens : List Frame → List Open
 opens [] = []
 opens (frame ms k ∷ fs) = opens fs ++ Object ∷ []
@@ -112,29 +112,25 @@ opens (array_frame ts ∷ fs) = opens fs ++ Array ∷ []
 abbrev pub innermost : List Open → Option Open
 innermost xs = slice_get xs (length xs - 1)
 
--- the others
+-- all but the innermost one
 abbrev pub outer : List Open → List Open
 outer xs = take (length xs - 1) xs
 
--- a value is read
 pub record AtValue (nesting : List Open) (s : State) : Type 0 where
   pub frames : List Frame
   pub is : s ≡ state frames m.ReaderState.value
   pub are_open : nesting ≡ opens frames
 
--- an array's first item is read
 pub record AtFirstItem (nesting : List Open) (s : State) : Type 0 where
   pub frames : List Frame
   pub is : s ≡ state frames m.ReaderState.first_item
   pub are_open : nesting ≡ opens frames ++ Array ∷ []
 
--- an object's first name is read
 pub record AtFirstName (nesting : List Open) (s : State) : Type 0 where
   pub frames : List Frame
   pub is : s ≡ state frames (m.ReaderState.name no_members)
   pub are_open : nesting ≡ opens frames ++ Object ∷ []
 
--- a name is read
 pub record AtName (Allowed : Members → Type 0) (nesting : List Open) (s : State) : Type 0 where
   pub frames : List Frame
   pub members : Members
@@ -142,7 +138,6 @@ pub record AtName (Allowed : Members → Type 0) (nesting : List Open) (s : Stat
   pub are_open : nesting ≡ opens frames ++ Object ∷ []
   pub allowed : Allowed members
 
--- a colon is due
 pub record AtColon (nesting : List Open) (s : State) : Type 0 where
   pub frames : List Frame
   pub members : Members
@@ -150,14 +145,13 @@ pub record AtColon (nesting : List Open) (s : State) : Type 0 where
   pub is : s ≡ state frames (m.ReaderState.named members name)
   pub are_open : nesting ≡ opens frames ++ Object ∷ []
 
--- a value is read whole
 pub record AfterValue (nesting : List Open) (s : State) : Type 0 where
   pub frames : List Frame
   pub tree : Tree
   pub is : s ≡ state frames (m.ReaderState.after tree)
   pub are_open : nesting ≡ opens frames
 
--- the form of the state at each place
+-- the form of the machine's state in each state of the reader
 abbrev pub IsAt : at.ReaderState → List Open → State → Type 0
 IsAt at.TheVariants.Value nesting s = AtValue nesting s
 IsAt at.TheVariants.FirstItem nesting s = AtFirstItem nesting s
@@ -170,7 +164,7 @@ IsAt (at.TheVariants.Quoted purpose.TheVariants.Value mid) nesting s = AtValue n
 IsAt (at.TheVariants.Literal w) nesting s = AtValue nesting s
 IsAt (at.TheVariants.Digits part) nesting s = AtValue nesting s
 
--- where the text of the string or the number begins that is read, else where the buffer of texts ends
+-- the offset of the string or number that is read, otherwise the end of the buffer of texts
 abbrev pub read_from : at.ReaderState → ℕ → ℕ → ℕ
 read_from at.TheVariants.Value first end = end
 read_from at.TheVariants.FirstItem first end = end
@@ -182,7 +176,7 @@ read_from (at.TheVariants.Quoted purpose mid) first end = first
 read_from (at.TheVariants.Literal w) first end = end
 read_from (at.TheVariants.Digits part) first end = first
 
--- the fields go together; the spans have all of the texts but what is read
+-- the fields are consistent; the spans cover all texts but the one that is read
 pub record Fits (r : Reader) : Type 0 where
   pub at : IsAt r.at r.nesting.items (due_at r.at (spelled r.text.items r.nodes.items))
   pub tape : IsTape r.text.items r.nodes.items
@@ -193,17 +187,17 @@ pub record Fits (r : Reader) : Type 0 where
 abbrev pub Reached : Reader → Type 0
 Reached r = (p : List ℕ) × (run MAX_NESTING start p ≡ Some (state_view r))
 
--- why the byte c is not taken in the state s
+-- the reason why the byte c is not read in the state s
 abbrev pub Stops : PushError → State → ℕ → Type 0
 Stops (Refused why) s c = Refuses MAX_NESTING why s c
 Stops NoMemory s c = Unit {0}
 
--- the byte c leads from the state s to the next one, or why it is not taken
+-- the byte c leads from the state s to the next one, or the reason why it is not read
 abbrev pub Gives : {A : Type 0} → Result A PushError → State → ℕ → State → Type 0
 Gives (Ok _) s c next = step MAX_NESTING s c ≡ Some next
 Gives (Err stop) s c next = Stops stop s c
 
--- the bytes up to one place lead to the old state, those up to another one to the new state
+-- bytes before `from` lead to the old state, and bytes before `to` to the new state
 pub record RunsTo (old : Reader) (b : List ℕ) (from to : ℕ) (new : Reader) : Type 0 where
   pub forward : from ≤ to
   pub inside : to ≤ length b
@@ -211,36 +205,36 @@ pub record RunsTo (old : Reader) (b : List ℕ) (from to : ℕ) (new : Reader) :
   pub runs : (s : State) → run MAX_NESTING s (take from b) ≡ Some (state_view old) → run MAX_NESTING s (take to b) ≡ Some (state_view new)
   pub reached : Reached old → Reached new
 
--- a character that stands for itself in a string and takes no other byte
+-- a character of one byte that a string has without an escape
 abbrev pub IsPlain : ℕ → Type 0
 IsPlain c = (32 ≤ c) × (c < 128) × (c ≢ 34) × (c ≢ 92)
 
--- bytes of a string behind a whole character that are kept as they are, and where they lead within one
+-- bytes that a string has without an escape, after a whole character, and the state after them
 pub record LeadsTo (q : List ℕ) (to : m.Utf8State) : Type 0 where
   pub runs : (fs : List Frame) (p : m.Purpose) (b : List ℕ) → run MAX_NESTING (state fs (m.ReaderState.quoted p m.Utf8State.between b)) q ≡ Some (state fs (m.ReaderState.quoted p to (b ++ q)))
 
--- whole characters of a string that stand for themselves
+-- whole characters that a string has without an escape
 abbrev pub StandAlone : List ℕ → Type 0
 StandAlone q = LeadsTo q m.Utf8State.between
 
--- a digit
+-- DIGIT
 abbrev pub IsDigit : ℕ → Type 0
 IsDigit c = (48 ≤ c) × (c ≤ 57)
 
--- the part of a number that the bytes lead to from this one, where they all go on with it
+-- the state of a number after the bytes, if all of them continue it
 abbrev pub part_after : NumberState → List ℕ → Option NumberState
 part_after x [] = Some x
 part_after x (c ∷ q) = option_and_then (λ next. part_after next q) (number_next x (letter_of c))
 
--- white space
+-- a byte of ws
 abbrev pub IsBlank : ℕ → Type 0
 IsBlank c = (c ≡ 0x20) ⊎ ((c ≡ 0x09) ⊎ ((c ≡ 0x0A) ⊎ (c ≡ 0x0D)))
 
--- a digit leaves a number in this part of it
+-- a DIGIT leaves the number in this state
 abbrev pub KeepsOn : NumberState → Type 0
 KeepsOn x = (number_next x nought ≡ Some x) × (number_next x digit ≡ Some x)
 
--- one more node, the place behind it, and what is open there
+-- one more node, the next state, and the open objects and arrays
 pub record Puts (old : Reader) (nesting : List Open) (x : node.Node) (place : at.ReaderState) (new : Reader) : Type 0 where
   pub at : new.at ≡ place
   pub nodes : new.nodes.items ≡ old.nodes.items ++ x ∷ []
@@ -248,11 +242,11 @@ pub record Puts (old : Reader) (nesting : List Open) (x : node.Node) (place : at
   pub nesting_is : new.nesting.items ≡ nesting
   pub start : new.start ≡ old.start
 
--- the reader behind a value that is one more node
+-- the reader after a value that is one more node
 abbrev pub with_value : node.Node → Reader → Reader
 with_value x r = record r { at = at.TheVariants.After; nodes = record { items = r.nodes.items ++ x ∷ []; room = r.nodes.room } }
 
--- the reader within a string that has begun there and of which these bytes are read
+-- the reader in a string, after these bytes of it
 abbrev pub within_string : purpose.Purpose → List ℕ → Reader → Reader
 within_string p q r = record r {
   at = at.TheVariants.Quoted p mid.TheVariants.Between;
@@ -260,12 +254,12 @@ within_string p q r = record r {
   text = record { items = r.text.items ++ q; room = r.text.room };
 }
 
--- there is memory for a block of sixteen bytes of text and for a node
+-- there is capacity for 16 more bytes of text and one more node
 pub record HasRoom (r : Reader) : Type 0 where
   pub texts : length r.text.items + 16 ≤ r.text.room
   pub nodes : length r.nodes.items < r.nodes.room
 
--- nothing has changed but, perhaps, the room
+-- nothing has changed, except the capacity
 pub record Stays (old new : Reader) : Type 0 where
   pub at : new.at ≡ old.at
   pub text : new.text.items ≡ old.text.items
@@ -273,7 +267,7 @@ pub record Stays (old new : Reader) : Type 0 where
   pub nesting : new.nesting.items ≡ old.nesting.items
   pub start : new.start ≡ old.start
 
--- more bytes of text, and the place behind them
+-- more bytes of text, and the next state
 pub record Keeps (old : Reader) (b : List ℕ) (place : at.ReaderState) (new : Reader) : Type 0 where
   pub at : new.at ≡ place
   pub text : new.text.items ≡ old.text.items ++ b
@@ -289,17 +283,17 @@ pub record Begins (old : Reader) (b : List ℕ) (place : at.ReaderState) (new : 
   pub nesting : new.nesting.items ≡ old.nesting.items
   pub start : new.start ≡ length old.text.items
 
--- why an object or an array is not entered
+-- the reason why an object or an array is not opened
 abbrev pub NotEntered : PushError → List Open → Type 0
 NotEntered (Refused why) nesting = (why ≡ Depth) × (length nesting ≡ MAX_NESTING)
 NotEntered NoMemory nesting = Unit {0}
 
--- an object or an array is entered, or why it is not
+-- an object or an array is opened, or the reason why not
 abbrev pub Enters : {A : Type 0} → Result A PushError → Reader → Open → node.Node → at.ReaderState → Reader → Type 0
 Enters (Ok _) old open_one x place new = (length old.nesting.items < MAX_NESTING) × Puts old (old.nesting.items ++ open_one ∷ []) x place new
 Enters (Err stop) old open_one x place new = NotEntered stop old.nesting.items
 
--- whether the value that is found is whole, and the tape then holds just that
+-- whether the tree is whole; if so, the tape has exactly this tree
 abbrev pub EndsWhole : Bool → Option Tree → Reader → Type 0
 EndsWhole true found r =
     (t : Tree) × (found ≡ Some t) × (spelled r.text.items r.nodes.items ≡ state [] (m.ReaderState.after t)) × IsTape r.text.items r.nodes.items
@@ -310,7 +304,6 @@ abbrev pub string_node : purpose.Purpose → Reader → node.Node
 string_node purpose.TheVariants.Name r = node.TheVariants.Name r.start (length r.text.items)
 string_node purpose.TheVariants.Value r = node.TheVariants.Text r.start (length r.text.items)
 
--- the place behind it
 abbrev pub following_string : purpose.Purpose → at.ReaderState
 following_string purpose.TheVariants.Name = at.TheVariants.Colon
 following_string purpose.TheVariants.Value = at.TheVariants.After

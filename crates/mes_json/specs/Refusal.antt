@@ -1,16 +1,16 @@
--- Why a reader of JSON stops at a byte. Private clauses alone cite it.
+-- The reasons why a reader of JSON stops at a byte. Cited by private clauses only.
 use Rattle.std.specs.Prelude.{◌≡◌, ℕ, ◌+◌, Some, None}
 use Rattle.mes_json.specs.declared.fault.TextFaultKind.{TextFaultKind}
 use Rattle.mes_json.specs.declared.fault.TextFaultKind.TheVariants.{End, Depth, Byte}
 use Rattle.mes_json.specs.Machine.{State, step}
 
--- one more level has a next state, or has none either
+-- with one more level there is a next state (Depth), or none either (Byte)
 abbrev pub IsRefusal : ℕ → TextFaultKind → State → ℕ → Type 0
 IsRefusal d End s c = ⊥
 IsRefusal d Depth s c = (next : State) × (step (d + 1) s c ≡ Some next)
 IsRefusal d Byte s c = step (d + 1) s c ≡ None
 
--- no state is next under the limit d, and one more level has one, or has none either
+-- with the limit d there is no next state, for this reason
 pub record Refuses (d : ℕ) (why : TextFaultKind) (s : State) (c : ℕ) : Type 0 where
   pub stuck : step d s c ≡ None
   pub reason : IsRefusal d why s c

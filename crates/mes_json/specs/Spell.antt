@@ -1,4 +1,4 @@
--- The texts of a tape. Private clauses alone cite it.
+-- The texts of a tape. Cited by private clauses only.
 use Rattle.std.specs.Prelude.{ℕ, List}
 use Rattle.mes_fixed.specs.Number.{IsNumber}
 use Rattle.mes_json.specs.Tokens.{Token}
@@ -8,7 +8,7 @@ use Rattle.mes_json.specs.declared.tape.Node.TheVariants as node
 use Rattle.mes_json.specs.declared.tape.spell.Form.{Form}
 use Rattle.mes_json.specs.declared.tape.spell.Form.TheVariants.{Number, Text, Name}
 
--- the node has no span
+-- the node has no text
 abbrev pub HasNoText : Node → Type 0
 HasNoText node.Null = Unit {0}
 HasNoText (node.Bool x) = Unit {0}
@@ -25,7 +25,7 @@ text_token Number b = token.number b
 text_token Text b = token.string b
 text_token Name b = token.name b
 
--- the text may be that
+-- the text is allowed in this form
 abbrev pub IsTextOf : Form → List ℕ → Type 0
 IsTextOf Number b = IsNumber b
 IsTextOf Text b = Unit {0}

@@ -1,5 +1,5 @@
--- What a tape stands for: the state of the machine that its nodes lead to, over the buffer of their texts. Private clauses
--- alone cite it.
+-- The state of the machine that a tape represents: the state after its nodes, with their texts from
+-- the buffer. Cited by private clauses only.
 use Rattle.std.specs.Prelude.{◌≡◌, ℕ, ◌+◌, ◌-◌, ◌≤◌, ◌⊎◌, List, [], ◌∷◌, length, take, drop}
 use Rattle.std.specs.List.{AllByRecursion}
 use Rattle.std.specs.Str.{IsUtf8}
@@ -15,17 +15,17 @@ use Rattle.mes_json.specs.Machine.State.{state}
 use Rattle.mes_json.specs.declared.tape.Node.{Node}
 use Rattle.mes_json.specs.declared.tape.Node.TheVariants.{Null, Bool, Number, Text, Name, List as list, Map, End}
 
--- the bytes of a span
+-- the bytes between two offsets
 abbrev pub span : List ℕ → ℕ → ℕ → List ℕ
 span texts from to = take (to - from) (drop from texts)
 
--- the value is the next item of the innermost array, and a comma stands behind it
+-- the value is an item of the innermost array, and a comma follows
 abbrev pub item_joined : List Frame → Tree → State
 item_joined [] t = state [] (after t)
 item_joined (frame ms k ∷ fs) t = state (frame ms k ∷ fs) (after t)
 item_joined (array_frame ts ∷ fs) t = state (array_frame (with_item ts t) ∷ fs) value
 
--- where a value may follow: the open object or array goes onto the stack, and its value is due
+-- a value may follow: the open object or array is pushed onto the stack
 abbrev pub value_due : State → State
 value_due (state fs value) = state fs value
 value_due (state fs first_item) = state (array_frame no_items ∷ fs) value
@@ -35,13 +35,13 @@ value_due (state fs (named ms k)) = state (frame ms k ∷ fs) value
 value_due (state fs (token x)) = state fs (token x)
 value_due (state fs (after t)) = item_joined fs t
 
--- the value ends the member that is read
+-- the value ends its member
 abbrev pub member_joined : List Frame → Tree → State
 member_joined [] t = state [] (after t)
 member_joined (frame ms k ∷ fs) t = state fs (name (with_member ms k t))
 member_joined (array_frame ts ∷ fs) t = state (array_frame ts ∷ fs) (after t)
 
--- behind a member's value: a name may follow
+-- after a member's value, a name may follow
 abbrev pub name_due : State → State
 name_due (state fs value) = state fs value
 name_due (state fs first_item) = state fs first_item
@@ -51,7 +51,7 @@ name_due (state fs (named ms k)) = state fs (named ms k)
 name_due (state fs (token x)) = state fs (token x)
 name_due (state fs (after t)) = member_joined fs t
 
--- where a value is due, this is in its place
+-- if a value is expected, the state is replaced
 abbrev pub valued : ReaderState → State → State
 valued a (state fs value) = state fs a
 valued a (state fs first_item) = state fs first_item
@@ -61,7 +61,7 @@ valued a (state fs (named ms k)) = state fs (named ms k)
 valued a (state fs (token x)) = state fs (token x)
 valued a (state fs (after t)) = state fs (after t)
 
--- where a name is due, this is in its place
+-- if a name is expected, the state is replaced
 abbrev pub in_object : (Members → ReaderState) → State → State
 in_object f (state fs value) = state fs value
 in_object f (state fs first_item) = state fs first_item
@@ -87,7 +87,7 @@ ended (state fs (named ms k)) = state fs (named ms k)
 ended (state fs (token x)) = state fs (token x)
 ended (state fs (after t)) = ended_after fs t
 
--- the state behind one more node
+-- the state after one more node
 abbrev pub apply : List ℕ → Node → State → State
 apply texts Null s = valued (after null) (value_due s)
 apply texts (Bool x) s = valued (after (boolean x)) (value_due s)
@@ -98,7 +98,7 @@ apply texts (list n) s = valued first_item (value_due s)
 apply texts (Map n) s = valued (name no_members) (value_due s)
 apply texts End s = ended s
 
--- the state behind nodes
+-- the state after the nodes
 abbrev pub spelled_from : List ℕ → State → List Node → State
 spelled_from texts s [] = s
 spelled_from texts s (x ∷ xs) = spelled_from texts (apply texts x s) xs
@@ -106,18 +106,18 @@ spelled_from texts s (x ∷ xs) = spelled_from texts (apply texts x s) xs
 abbrev pub spelled : List ℕ → List Node → State
 spelled texts xs = spelled_from texts start xs
 
--- the span lies in the buffer and holds a text
+-- the span is within the buffer, and its text is UTF-8
 pub record IsSpan (texts : List ℕ) (from to : ℕ) : Type 0 where
   pub forward : from ≤ to
   pub inside : to ≤ length texts
   pub utf8 : IsUtf8 (span texts from to)
 
--- the span holds a number
+-- the text of the span is a number
 pub record IsNumberSpan (texts : List ℕ) (from to : ℕ) : Type 0 where
   pub span_is : IsSpan texts from to
   pub number_is : IsNumber (span texts from to)
 
--- how many bytes a node's span has
+-- the number of bytes of a node's text
 abbrev pub span_length : Node → ℕ
 span_length Null = 0
 span_length (Bool x) = 0
@@ -128,12 +128,11 @@ span_length (list n) = 0
 span_length (Map n) = 0
 span_length End = 0
 
--- how many bytes the spans of nodes have
 abbrev pub spanned : List Node → ℕ
 spanned [] = 0
 spanned (x ∷ xs) = span_length x + spanned xs
 
--- a node's span is one
+-- the text of a node is valid
 abbrev pub HasSpan : List ℕ → Node → Type 0
 HasSpan texts Null = Unit {0}
 HasSpan texts (Bool x) = Unit {0}
@@ -144,20 +143,18 @@ HasSpan texts (list n) = Unit {0}
 HasSpan texts (Map n) = Unit {0}
 HasSpan texts End = Unit {0}
 
--- a value is due
 abbrev pub TakesValue : State → Type 0
 TakesValue s = (fs : List Frame) × (value_due s ≡ state fs value)
 
--- a name is due
 abbrev pub TakesName : State → Type 0
 TakesName s = (fs : List Frame) × (ms : Members) × (name_due s ≡ state fs (name ms))
 
--- an array's first item is due, or an item is read whole
+-- the first item of an array is expected, or an item is whole
 abbrev pub EndsItems : State → Type 0
 EndsItems s =
     ((fs : List Frame) × (s ≡ state fs first_item)) ⊎ ((ts : Items) × (fs : List Frame) × (t : Tree) × (s ≡ state (array_frame ts ∷ fs) (after t)))
 
--- the node may stand there
+-- the node is allowed in the state
 abbrev pub Takes : State → Node → Type 0
 Takes s Null = TakesValue s
 Takes s (Bool x) = TakesValue s
@@ -168,12 +165,11 @@ Takes s (list n) = TakesValue s
 Takes s (Map n) = TakesValue s
 Takes s End = TakesName s ⊎ EndsItems s
 
--- each node stands where it may
 abbrev pub ArePlaced : List ℕ → State → List Node → Type 0
 ArePlaced texts s [] = Unit {0}
 ArePlaced texts s (x ∷ xs) = Takes s x × ArePlaced texts (apply texts x s) xs
 
--- the spans lie in the buffer, and the nodes stand where they may
+-- the texts are valid, and each node is allowed in its state
 pub record IsTape (texts : List ℕ) (xs : List Node) : Type 0 where
   pub spans : AllByRecursion (HasSpan texts) xs
   pub placed : ArePlaced texts start xs

@@ -1,4 +1,4 @@
--- The bytes of a text, wherever it stands.
+-- The bytes of a text, in either storage.
 use Rattle.std.specs.Prelude.{ℕ, List, string_bytes}
 use Rattle.mes_json.specs.declared.text.Form.{Form}
 use Rattle.mes_json.specs.declared.text.Form.TheVariants.{Short, Long}

@@ -1,18 +1,18 @@
--- What contracts see of a buffer of texts. Private clauses alone cite it.
+-- The view of a buffer of texts in contracts. Cited by private clauses only.
 use Rattle.std.specs.Prelude.{◌≡◌, ℕ, List, [], refl}
 use Rattle.std.specs.Coded.{Coded, code_by, coded×, coded_ℕ, coded_list}
 
--- the bytes of the texts, and how many bytes of memory they have
+-- the bytes, and the capacity
 pub record Texts : Type 0 where
   pub items : List ℕ
   pub room : ℕ
 
--- they are stored as the pair of both
+-- the code of both as a pair
 abbrev pub texts_code : Coded Texts
 texts_code =
     code_by (List ℕ × ℕ) (coded× (coded_list coded_ℕ) coded_ℕ) (λ t. (t.items, t.room)) (λ p. record { items = p.0; room = p.1 }) (λ _. refl)
 
--- no text, and no memory
+-- no bytes, and no capacity
 pub record IsNone (t : Texts) : Type 0 where
   pub items : t.items ≡ []
   pub room : t.room ≡ 0

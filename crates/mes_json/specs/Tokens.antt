@@ -1,5 +1,5 @@
--- A tree as a list of tokens (RFC 8259, section 2): each literal, number and string one, and a member's name one of its own
--- before its value; commas and colons have none. This is what a tape holds in order.
+-- A tree as a list of tokens (RFC 8259 section 2). Each literal, number, string and name has one,
+-- and arrays and objects have two; commas and colons have none. A tape has these tokens in order.
 use Rattle.std.specs.Prelude.{◌≡◌, ℕ, Bool, true, false, List, [], ◌∷◌, ◌++◌, cond, ◌==◌, refl}
 use Rattle.std.specs.Coded.{Coded, code_by, coded×, coded_ℕ, coded_list}
 use Rattle.mes_json.specs.Tree.{Tree, Items, Members}
@@ -45,7 +45,7 @@ BeginsItems xs ts = (rest : List Token) × (xs ≡ tokens_of_items ts ++ ends �
 abbrev pub BeginsMembers : List Token → Members → Type 0
 BeginsMembers xs ms = (rest : List Token) × (xs ≡ tokens_of_members ms ++ ends ∷ rest)
 
--- ---- how the logic stores a token
+-- ---- the code of a token
 
 abbrev token_to_pair : Token → ℕ × List ℕ
 token_to_pair null = (0, [])

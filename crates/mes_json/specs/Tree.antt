@@ -1,5 +1,5 @@
--- A JSON value as a pure tree (RFC 8259, sections 3 to 7). A number is its text as written. An array keeps its items in order,
--- an object its members, repeated ones too; a string is its text in UTF-8, with nothing escaped.
+-- A JSON value as a tree (RFC 8259 sections 3 to 7). A number is its text; a string is its text in
+-- UTF-8 without escapes; items and members are in order, with repeated names.
 use Rattle.std.specs.Prelude.{ℕ, suc, max, Bool, List}
 
 mutual
@@ -19,7 +19,7 @@ mutual
     no_members : Members
     member : List ℕ → Tree → Members → Members
 
--- how deep arrays and objects nest: 0 for any other value, 1 for an empty one of them
+-- the nesting depth: 0 for a scalar, 1 for an empty array or object
 abbrev mutual
   pub depth : Tree → ℕ
   depth null = 0

@@ -1,4 +1,4 @@
--- The tree that a JSON value stands for.
+-- The tree that a JSON value represents.
 use Rattle.std.specs.Prelude.{ℕ, List, [], ◌∷◌, map}
 use Rattle.mes_json.specs.Tree.{Tree, Items, Members}
 use Rattle.mes_json.specs.Tree.Tree.{null, boolean, number, string, array, object}
@@ -17,7 +17,7 @@ abbrev pub members_of : List (List ℕ × Tree) → Members
 members_of [] = no_members
 members_of (m ∷ ms) = member m.0 m.1 (members_of ms)
 
--- one level, with each value inside already seen as its tree
+-- one level, with the values inside replaced by their trees
 abbrev pub view_step : Json-F Tree → Tree
 view_step Json-F.Null = null
 view_step (Json-F.Bool x) = boolean x

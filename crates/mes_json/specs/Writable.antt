@@ -1,4 +1,5 @@
--- Which trees have a JSON text: each string is text in UTF-8, each number is one. Every `Json` stands for such a tree.
+-- The trees that have a JSON text: strings in UTF-8, numbers by the grammar. Every `Json`
+-- represents such a tree.
 use Rattle.std.specs.Prelude.{◌≡◌, ℕ, List, ◌∷◌, ◌++◌}
 use Rattle.std.specs.Str.{IsUtf8}
 use Rattle.mes_fixed.specs.Number.{IsNumber}
@@ -25,11 +26,11 @@ abbrev mutual
   AreWritableMembers no_members = Unit {0}
   AreWritableMembers (member name t ms) = IsUtf8 name × IsWritable t × AreWritableMembers ms
 
--- the bytes still stand there, and some behind them
+-- the old bytes are a prefix of the new ones
 pub record Extends (old new : List ℕ) : Type 0 where
   pub rest : List ℕ
   pub is : new ≡ old ++ rest
 
--- a member's text
+-- the text of a member
 abbrev pub member_text : List ℕ → Tree → List ℕ
 member_text name t = quoted_text name ++ 58 ∷ canonical t

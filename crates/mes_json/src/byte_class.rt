@@ -1,4 +1,4 @@
-//! What a byte is outside a string.
+//! The classes of bytes outside strings.
 ghost use Rattle.std.specs.Prelude.{◌≡◌};
 ghost use Rattle.mes_json.specs.Machine.{kind_of};
 ghost use Rattle.mes_json.specs.Reader.{kind_view};
@@ -6,7 +6,7 @@ ghost use Rattle.mes_json.specs.Reader.{kind_view};
 use crate::literal::LiteralState;
 use mes_fixed::automaton::NumberState;
 
-/// What a byte is outside a string (RFC 8259, sections 2, 3 and 6).
+/// The class of a byte outside a string (RFC 8259 sections 2, 3 and 6).
 #[derive(Clone, Copy)]
 pub(crate) enum ByteClass {
     Blank,
@@ -19,13 +19,12 @@ pub(crate) enum ByteClass {
     Comma,
     /// The first byte of a literal.
     LiteralState(LiteralState),
-    /// The first byte of a number, with the part that it leads to.
+    /// The first byte of a number, with the number's state after it.
     Digits(NumberState),
     Other,
 }
 
 impl ByteClass {
-    /// The kind of a byte.
     #[inline(always)]
     pub(crate) fn of(byte: u8) -> ByteClass
         ensures { kind_view byte result ≡ kind_of byte }

@@ -1,13 +1,15 @@
-//! The characters of a string that stand for themselves.
+//! Scans the characters of a string that are written without an escape. Those of one byte are in
+//! `plain_scan`.
 ghost use Rattle.std.specs.Prelude.{◌↔◌, ◌≤◌, IsTrue, length, take, slice_index};
 ghost use Rattle.mes_json.specs.Reader.{StandAlone};
 
 use crate::plain_scan::plain_run;
 
-/// How many bytes the longest character has.
+/// The maximum number of bytes of a UTF-8 character.
 const LONGEST: usize = 4;
 
-/// How many bytes whole characters that stand for themselves have in front of the slice (RFC 8259, section 7).
+/// Returns the length of a prefix of whole characters without an escape (RFC 8259 section 7), not
+/// always the longest.
 #[inline(always)]
 pub(crate) fn character_run(bytes: &[u8]) -> usize
     ensures inside { result ≤ length bytes.now }
@@ -20,7 +22,7 @@ pub(crate) fn character_run(bytes: &[u8]) -> usize
     further(bytes, plain)
 }
 
-/// Goes on from a place behind such characters. Not inlined, since most strings end at that place.
+/// Continues from offset `from`, after such characters. Not inlined, since most strings end there.
 #[inline(never)]
 fn further(bytes: &[u8], from: usize) -> usize
     requires inside { from ≤ length bytes.now }
@@ -40,8 +42,8 @@ fn further(bytes: &[u8], from: usize) -> usize
     place
 }
 
-/// How many bytes whole characters of several bytes have in front of the slice (RFC 3629, section 4), with a space between two of
-/// them. One is looked at only where the longest would fit, so its bytes need no test of the length; the few behind are left.
+/// Returns the length of a prefix of multi-byte characters (RFC 3629 section 4) with single spaces
+/// between them. Leaves the last three bytes, so that no character needs a check of the length.
 fn wide_run(bytes: &[u8]) -> usize
     ensures inside { result ≤ length bytes.now }
     ensures whole { StandAlone (take result bytes.now) }
@@ -61,7 +63,8 @@ fn wide_run(bytes: &[u8]) -> usize
     place
 }
 
-/// How many bytes the character has that the slice begins with: one of several bytes, or a space ahead of one; 0 for all else.
+/// Returns the length of the first character, if it is a multi-byte character or a space before
+/// one; otherwise 0.
 #[inline(always)]
 fn wide_character(bytes: &[u8]) -> usize
     requires { LONGEST ≤ length bytes.now }
@@ -76,7 +79,7 @@ fn wide_character(bytes: &[u8]) -> usize
     }
 }
 
-/// Takes a space ahead of a character of several bytes: to end the run between two words costs more than to go on.
+/// Accepts a space before a multi-byte character: to end the run between two words would cost more.
 #[inline(always)]
 #[tactic(auto, using(crate::proofs::CharacterLemmas::leads_nowhere, crate::proofs::CharacterLemmas::space_stands))]
 fn space_between(bytes: &[u8]) -> usize
@@ -91,7 +94,6 @@ fn space_between(bytes: &[u8]) -> usize
     }
 }
 
-/// Takes a character of two bytes.
 #[inline(always)]
 #[tactic(auto, using(crate::proofs::CharacterLemmas::leads_nowhere, crate::proofs::CharacterLemmas::two_stand))]
 fn of_two(bytes: &[u8]) -> usize
@@ -103,7 +105,7 @@ fn of_two(bytes: &[u8]) -> usize
     if goes_on(bytes[1]) { 2 } else { 0 }
 }
 
-/// Takes a character of three bytes, unless two would do for it (0xE0) or it is a surrogate (0xED).
+/// Accepts a character of three bytes, unless it is overlong (0xE0) or a surrogate (0xED).
 #[inline(always)]
 #[tactic(auto, using(crate::proofs::CharacterLemmas::leads_nowhere, crate::proofs::CharacterLemmas::three_stand))]
 fn of_three(bytes: &[u8]) -> usize
@@ -122,7 +124,7 @@ fn of_three(bytes: &[u8]) -> usize
     }
 }
 
-/// Takes a character of four bytes, unless three would do for it (0xF0) or it is above the last one (0xF4).
+/// Accepts a character of four bytes, unless it is overlong (0xF0) or above U+10FFFF (0xF4).
 #[inline(always)]
 #[tactic(auto, using(crate::proofs::CharacterLemmas::leads_nowhere, crate::proofs::CharacterLemmas::four_stand))]
 fn of_four(bytes: &[u8]) -> usize
@@ -141,7 +143,7 @@ fn of_four(bytes: &[u8]) -> usize
     }
 }
 
-/// Whether a byte can stand behind the first one of a character.
+/// Returns whether `byte` is a continuation byte.
 #[inline(always)]
 fn goes_on(byte: u8) -> bool
     ensures { IsTrue result ↔ (0x80 ≤ byte) × (byte ≤ 0xBF) }

@@ -1,4 +1,4 @@
-//! A copy of a value.
+//! Copies of values.
 ghost use Rattle.std.specs.Prelude.{◌≡◌, IfOk};
 ghost use Rattle.mes_json.specs.View.{view, items_view, members_view};
 
@@ -8,7 +8,7 @@ use crate::value::Json;
 use std::alloc::Global;
 
 impl Json {
-    /// The same value, in memory of its own. Recurses as deep as the value nests.
+    /// Copies the value into memory of its own. Recurses as deep as the value nests.
     #[cycle(copy)]
     pub fn copy(&self, alloc: Global) -> Result<Json, NoMemory>
         ensures { IfOk result (λ json. view json ≡ view self.now) }

@@ -1,4 +1,4 @@
-//! A value on a tape, read in place: no tree is made, and nothing is copied.
+//! Cursors that read a value on a tape in place, without a tree or a copy.
 ghost use Rattle.std.specs.Prelude.{◌≡◌, ◌<◌, length, drop, min, option_map, OnSome};
 ghost use Rattle.std.specs.List.{AllByRecursion};
 ghost use Rattle.mes_json.specs.Tree.{Tree, Items as items, Members as members};
@@ -17,11 +17,11 @@ use crate::value_kind::ValueKind;
 use std::marker::Model;
 use std::mem;
 
-/// A value on a tape. A contract sees the tokens from its place on.
+/// A value on a tape. In contracts it is the list of tokens from the value on.
 #[derive(Drop)]
 pub struct Element<'a> {
     texts: &'a [u8],
-    /// The nodes from the place on.
+    /// The nodes from the value on.
     nodes: &'a [Node],
 }
 
@@ -43,7 +43,6 @@ impl<'a> Model for Element<'a> {
 }
 
 impl<'a> Element<'a> {
-    /// The place of the first of these nodes.
     pub(crate) fn new(texts: &'a [u8], nodes: &'a [Node]) -> Element<'a>
         requires spans { AllByRecursion (HasSpan texts.now) nodes.now }
         requires lengths { TellLengths nodes.now }
@@ -52,7 +51,7 @@ impl<'a> Element<'a> {
         Element { texts, nodes }
     }
 
-    /// The same place once more.
+    /// Returns a second cursor at the same value.
     pub fn copy(&self) -> Element<'a>
         ensures { result ≡ self.now }
     {
@@ -62,7 +61,7 @@ impl<'a> Element<'a> {
         }
     }
 
-    /// The kind of the value.
+    /// Returns the kind of the value.
     pub fn kind(&self) -> ValueKind
         ensures { (t : Tree) → BeginsWith self.now t → result ≡ kind_of t }
     {
@@ -78,7 +77,7 @@ impl<'a> Element<'a> {
         }
     }
 
-    /// Whether it is the literal `null`.
+    /// Returns whether the value is `null`.
     pub fn is_null(&self) -> bool
         ensures { (t : Tree) → BeginsWith self.now t → result ≡ is_null t }
     {
@@ -88,7 +87,7 @@ impl<'a> Element<'a> {
         }
     }
 
-    /// The truth value, where it is one.
+    /// Returns the boolean, or `None` for any other kind.
     pub fn as_bool(&self) -> Option<bool>
         ensures { (t : Tree) → BeginsWith self.now t → result ≡ as_bool t }
     {
@@ -98,7 +97,7 @@ impl<'a> Element<'a> {
         }
     }
 
-    /// The text of the number as it is written, where it is one.
+    /// Returns the text of the number as written, or `None` for any other kind.
     pub fn as_number(&self) -> Option<&'a str>
         ensures { (t : Tree) → BeginsWith self.now t → option_map (λ n. n.now) result ≡ as_number t }
     {
@@ -108,7 +107,7 @@ impl<'a> Element<'a> {
         }
     }
 
-    /// The text of the string, where it is one.
+    /// Returns the string with its escapes decoded, or `None` for any other kind.
     pub fn as_text(&self) -> Option<&'a str>
         ensures { (t : Tree) → BeginsWith self.now t → option_map (λ s. s.now) result ≡ as_text t }
     {
@@ -118,7 +117,7 @@ impl<'a> Element<'a> {
         }
     }
 
-    /// The items of the array, where it is one.
+    /// Returns the items of the array, or `None` for any other kind.
     pub fn items(&self) -> Option<Items<'a>>
         ensures { (t : Tree) → BeginsWith self.now t → FindsItems result (as_items t) }
     {
@@ -130,7 +129,7 @@ impl<'a> Element<'a> {
         }
     }
 
-    /// The members of the object, where it is one.
+    /// Returns the members of the object, or `None` for any other kind.
     pub fn members(&self) -> Option<Members<'a>>
         ensures { (t : Tree) → BeginsWith self.now t → FindsMembers result (as_members t) }
     {
@@ -142,7 +141,7 @@ impl<'a> Element<'a> {
         }
     }
 
-    /// Whether an array or an object ends there.
+    /// Returns whether an array, an object or the tape ends here.
     fn is_end(&self) -> bool
         ensures { result ≡ is_end self.now }
     {
@@ -152,7 +151,7 @@ impl<'a> Element<'a> {
         }
     }
 
-    /// The member's name, where one stands there.
+    /// Returns the name of the member that begins here, if one does.
     fn name(&self) -> Option<&'a str>
         ensures { option_map (λ n. n.now) result ≡ as_name self.now }
     {
@@ -162,7 +161,7 @@ impl<'a> Element<'a> {
         }
     }
 
-    /// The place behind the value.
+    /// Returns the cursor after the value.
     fn following(&self) -> Element<'a>
         ensures { result ≡ following 0 self.now }
     {
@@ -172,7 +171,7 @@ impl<'a> Element<'a> {
         }
     }
 
-    /// The place behind the first node.
+    /// Returns the cursor after the first node.
     fn inside(&self) -> Element<'a>
         ensures { result ≡ drop 1 self.now }
     {
@@ -184,7 +183,7 @@ impl<'a> Element<'a> {
     }
 }
 
-/// The items of an array in order. A contract sees the tokens from the next one on.
+/// The items of an array, in order. In contracts this is the list of tokens from the next item on.
 #[derive(Drop)]
 pub struct Items<'a> {
     next: Element<'a>,
@@ -202,7 +201,7 @@ impl<'a> Model for Items<'a> {
 }
 
 impl<'a> Items<'a> {
-    /// The next item. Passes over it at once, as over each value on a tape that was read.
+    /// Returns the next item, or `None` at the end. Takes constant time on a tape that was read.
     pub fn next(&mut self) -> Option<Element<'a>>
         ensures item { (ts : items) → BeginsItems self.old ts → NextItem ts result self.new }
         ensures shorter { OnSome result (length self.new < length self.old) }
@@ -214,7 +213,7 @@ impl<'a> Items<'a> {
         Some(mem::replace(&mut self.next, following))
     }
 
-    /// How many items there are, counted up to `most`. Its cost is that of as many calls of `next`.
+    /// Counts the items, up to `most`, at the cost of as many calls of `next`.
     pub fn count(&self, most: usize) -> usize
         ensures { (ts : items) → BeginsItems self.now ts → result ≡ min (count_of ts) most }
     {
@@ -231,7 +230,8 @@ impl<'a> Items<'a> {
     }
 }
 
-/// The members of an object in order, repeated ones too. A contract sees the tokens from the next one on.
+/// The members of an object, in order, with repeated names. In contracts this is the list of tokens
+/// from the next member on.
 #[derive(Drop)]
 pub struct Members<'a> {
     next: Element<'a>,
@@ -249,7 +249,8 @@ impl<'a> Model for Members<'a> {
 }
 
 impl<'a> Members<'a> {
-    /// The next member: its name and its value. Passes over the value at once, as over each value on a tape that was read.
+    /// Returns the next member's name and value, or `None` at the end. Takes constant time on a
+    /// tape that was read.
     pub fn next(&mut self) -> Option<(&'a str, Element<'a>)>
         ensures member { (ms : members) → BeginsMembers self.old ms → NextMember ms (option_map (λ m. (m.0.now, m.1)) result) self.new }
         ensures shorter { OnSome result (length self.new < length self.old) }

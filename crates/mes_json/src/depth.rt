@@ -1,4 +1,4 @@
-//! How deep a value nests.
+//! The nesting depth of values.
 ghost use Rattle.std.specs.Prelude.{◌≡◌, min};
 ghost use Rattle.mes_json.specs.Tree.{depth, depth_of_items, depth_of_members};
 ghost use Rattle.mes_json.specs.View.{view, items_view, members_view};
@@ -7,7 +7,8 @@ use crate::text::Text;
 use crate::value::Json;
 
 impl Json {
-    /// How deep arrays and objects nest: 0 for any other value, 1 for an empty one of them. Recurses as deep.
+    /// Returns the nesting depth of arrays and objects: 0 for any other value, 1 for an empty array
+    /// or object. Recurses as deep as the value nests.
     #[cycle(depth)]
     pub fn depth(&self) -> u64
         ensures { result ≡ min (depth (view self.now)) u64.MAX }

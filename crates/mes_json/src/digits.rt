@@ -1,4 +1,4 @@
-//! The digits of a number.
+//! Scans the digits of numbers.
 ghost use Rattle.std.specs.Prelude.{◌≡◌, ◌↔◌, ◌<◌, ◌≤◌, IsTrue, Some, None, length, take, slice_index};
 ghost use Rattle.std.specs.List.{AllByRecursion};
 ghost use Rattle.mes_fixed.specs.Automaton.{letter_of, number_next};
@@ -7,7 +7,7 @@ ghost use Rattle.mes_fixed.specs.declared.automaton.NumberState.TheVariants.{AtS
 
 use mes_fixed::automaton::{NumberState, next_state};
 
-/// Whether a digit leaves a number in the part that it is in (RFC 8259, section 6).
+/// Returns whether a digit leaves the number in the same state (RFC 8259 section 6).
 pub(crate) fn continues_number(part: NumberState) -> bool
     ensures { IsTrue result ↔ KeepsOn part }
 {
@@ -25,7 +25,7 @@ fn is_digit(byte: u8) -> bool
     byte >= b'0' && byte <= b'9'
 }
 
-/// How many digits the slice begins with.
+/// Returns the number of digits at the front.
 pub(crate) fn digit_run(bytes: &[u8]) -> usize
     ensures inside { result ≤ length bytes.now }
     ensures digits { AllByRecursion IsDigit (take result bytes.now) }
@@ -39,7 +39,8 @@ pub(crate) fn digit_run(bytes: &[u8]) -> usize
     bytes.len()
 }
 
-/// How many bytes of a number the slice begins with, and the part of it that they lead to.
+/// Returns the length of the longest prefix that some number begins with, and the number's state
+/// after it.
 pub(crate) fn number_run(bytes: &[u8]) -> (usize, NumberState)
     ensures inside { result.0 ≤ length bytes.now }
     ensures leads { part_after AtStart (take result.0 bytes.now) ≡ Some result.1 }

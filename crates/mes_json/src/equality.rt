@@ -1,4 +1,4 @@
-//! Whether two values are the same tree.
+//! Equality of values.
 ghost use Rattle.std.specs.Prelude.{◌≡◌, ◌↔◌, IsTrue};
 ghost use Rattle.mes_json.specs.View.{view, items_view, members_view};
 
@@ -6,8 +6,8 @@ use crate::text::Text;
 use crate::value::Json;
 
 impl Json {
-    /// Whether both are the same: items and members in the same order, repeated members too, and numbers written alike.
-    /// Recurses as deep as the values nest.
+    /// Returns whether both values are the same tree: equal order of items and members, with
+    /// repeated names, and numbers with the same text. Recurses as deep as the values nest.
     #[cycle(same)]
     pub fn same(&self, other: &Json) -> bool
         ensures { IsTrue result ↔ (view self.now ≡ view other.now) }

@@ -1,4 +1,4 @@
-//! Where a reader stands within an escape of a string (RFC 8259, section 7).
+//! The states within an escape of a string (RFC 8259 section 7).
 ghost use Rattle.std.specs.Prelude.{◌≡◌, ◌<◌, ◌≤◌, ◌⊎◌, Some, length, take, slice_index, IfSome};
 ghost use Rattle.std.specs.Option.{OnSome};
 ghost use Rattle.mes_json.specs.Escape.{HasBounds, hex_of, short_of, two_digits, four_digits, pair_of, escape_step, made_of};
@@ -6,44 +6,42 @@ ghost use Rattle.mes_json.specs.Escape.Escape.{backslash};
 ghost use Rattle.mes_json.specs.Escape.Move.{on};
 ghost use Rattle.mes_json.specs.EscapeView.{escape_view, move_view};
 
-/// What of an escape is read.
+/// The part of an escape that has been read.
 #[derive(Clone, Copy)]
 pub(crate) enum Escape {
-    /// The backslash.
     Backslash,
     /// `\u`.
     Unit0,
-    /// `\u` and a digit, with its value.
+    /// `\u` and one digit, with its value.
     Unit1(u8),
-    /// `\u` and two digits, with their value: not those of a low surrogate.
+    /// `\u` and two digits, with their value; not those of a low surrogate.
     Unit2(u8),
     /// `\u` and three digits, with their value.
     Unit3(u16),
-    /// A high surrogate.
+    /// The escape of a high surrogate.
     High(u16),
-    /// A high surrogate and a backslash.
+    /// The escape of a high surrogate, and a backslash.
     HighBackslash(u16),
-    /// A high surrogate and `\u`.
+    /// The escape of a high surrogate, and `\u`.
     Low0(u16),
-    /// A high surrogate, `\u` and a digit, which is D.
+    /// The escape of a high surrogate, `\u` and the digit D.
     Low1(u16),
-    /// A high surrogate, `\u` and the first two digits of a low one, with their value.
+    /// The escape of a high surrogate, `\u` and two digits of a low one, with their value.
     Low2 { high: u16, value: u8 },
-    /// A high surrogate, `\u` and the first three digits of a low one, with their value.
+    /// The escape of a high surrogate, `\u` and three digits of a low one, with their value.
     Low3 { high: u16, value: u16 },
 }
 
-/// Where a byte leads in an escape.
+/// The effect of a byte in an escape.
 pub(crate) enum Move {
-    /// To more of it.
+    /// The escape continues.
     On(Escape),
-    /// To its end: it stands for this character.
+    /// The escape ends and represents this character.
     Makes(char),
-    /// Nowhere.
+    /// No escape continues with the byte.
     Refused,
 }
 
-/// The value of a hexadecimal digit.
 fn hex(byte: u8) -> Option<u8>
     ensures value { result ≡ hex_of byte }
     ensures small { IfSome result (λ x. x < 16) }
@@ -56,7 +54,7 @@ fn hex(byte: u8) -> Option<u8>
     }
 }
 
-/// Behind the backslash, where no `u` stands there.
+/// Returns the effect of a byte other than `u` after the backslash.
 fn short(byte: u8) -> Move
     ensures { move_view result ≡ short_of byte }
 {
@@ -71,7 +69,7 @@ fn short(byte: u8) -> Move
     }
 }
 
-/// Behind two digits, with their value.
+/// Returns the effect of the second digit, for the value of both.
 fn two_digits(value: u8) -> Move
     ensures { move_view result ≡ two_digits value }
 {
@@ -81,7 +79,7 @@ fn two_digits(value: u8) -> Move
     }
 }
 
-/// Behind four digits, with their value.
+/// Returns the effect of the fourth digit, for the value of all.
 fn four_digits(value: u16) -> Move
     requires { (value < 0xDC00) ⊎ (0xE000 ≤ value) }
     ensures { move_view result ≡ four_digits value }
@@ -92,7 +90,7 @@ fn four_digits(value: u16) -> Move
     }
 }
 
-/// The character of a surrogate pair.
+/// Returns the character of a surrogate pair.
 fn pair(high: u16, low: u16) -> char
     requires high { (0xD800 ≤ high) × (high ≤ 0xDBFF) }
     requires low { (0xDC00 ≤ low) × (low ≤ 0xDFFF) }
@@ -102,8 +100,8 @@ fn pair(high: u16, low: u16) -> char
     unsafe { char::from_u32_unchecked(code) }
 }
 
-/// The character of a whole escape that the bytes behind its backslash begin with, and how many of them it takes: one letter, or
-/// `u` and four digits of a character that is no surrogate.
+/// Returns the character of a whole escape at the front of `bytes`, which follow the backslash, and
+/// the number of bytes used. Accepts one letter, or `u` and four digits that are no surrogate.
 #[inline(always)]
 pub(crate) fn whole_escape(bytes: &[u8]) -> Option<(char, usize)>
     ensures inside { IfSome result (λ e. e.1 ≤ length bytes.now) }
@@ -121,7 +119,7 @@ pub(crate) fn whole_escape(bytes: &[u8]) -> Option<(char, usize)>
     }
 }
 
-/// The character of `u` and four digits that the bytes begin with, where it is no surrogate.
+/// Returns the character of `u` and four digits at the front of `bytes`, unless it is a surrogate.
 #[inline(always)]
 fn unit(bytes: &[u8]) -> Option<char>
     requires begins { (0 < length bytes.now) × (slice_index bytes.now 0 ≡ 117) }
@@ -137,7 +135,6 @@ fn unit(bytes: &[u8]) -> Option<char>
 }
 
 impl Escape {
-    /// Where the next byte leads.
     #[inline(always)]
     pub(crate) fn step(self, byte: u8) -> Move
         requires { HasBounds (escape_view self) }

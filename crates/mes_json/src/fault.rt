@@ -1,35 +1,35 @@
-//! Why bytes are no JSON text.
+//! The errors of reading.
 ghost use Rattle.std.specs.Prelude.{◌≡◌};
 ghost use Rattle.mes_json.specs.declared.fault.ReadFault.TheVariants.{NoMemory as no_memory};
 
 use crate::memory::{NoMemory, NoMemoryAt};
 
-/// Why no JSON text goes on at a place.
+/// The reason why no JSON text continues at an offset.
 #[derive(Debug, Clone, Copy, PartialEq, Eq)]
 pub enum TextFaultKind {
     /// The bytes end before the text does.
     End,
-    /// The byte opens an array or an object past the nesting limit.
+    /// The byte opens an array or an object above the limit `MAX_NESTING`.
     Depth,
-    /// No text has this byte there.
+    /// No JSON text has this byte at this offset.
     Byte,
 }
 
-/// The first place where bytes are no JSON text.
+/// The first error of bytes that are not a JSON text.
 #[derive(Debug, Clone, Copy, PartialEq, Eq)]
 pub struct TextFault {
-    /// How many bytes stand before it: the length of the longest front that some JSON text goes on from.
+    /// The offset of the error: the length of the longest prefix that some JSON text begins with.
     pub byte: u64,
-    /// Why no text goes on there.
+    /// The reason why no JSON text continues there.
     pub why: TextFaultKind,
 }
 
-/// Why a JSON text was not read.
+/// The reason why a JSON text was not read.
 #[derive(Debug, Clone, Copy, PartialEq, Eq)]
 pub enum ReadFault {
-    /// The bytes are no JSON text.
+    /// The bytes are not a JSON text.
     Text(TextFault),
-    /// A growth was refused memory.
+    /// An allocation failed.
     NoMemory,
 }
 

@@ -1,4 +1,4 @@
-//! How long a value's canonical text is, counted without writing it.
+//! The length of a value's canonical text, without writing the text.
 ghost use Rattle.std.specs.Prelude.{◌≡◌, ◌+◌, ◌<◌, ◌≤◌, length, IfSome, IfNone};
 ghost use Rattle.mes_json.specs.Canonical.{quoted_text, canonical, canonical_items, canonical_members};
 ghost use Rattle.mes_json.specs.View.{view, items_view, members_view};
@@ -9,8 +9,9 @@ use crate::unescaped::kept_run;
 use crate::value::Json;
 use crate::write_string::escaped_length;
 
-/// The length in bytes of the value's canonical text, which `write_text` appends, or `None` where it is more than `most`. Stops
-/// as soon as it is more, and takes no memory. Recurses as deep as the value nests.
+/// Returns the length in bytes of the canonical text that [`crate::write_text`] writes, or `None`
+/// above `most`. Stops as soon as the length exceeds `most`. Does not allocate. Recurses as deep as
+/// the value nests.
 pub fn text_length(json: &Json, most: usize) -> Option<usize>
     ensures some { IfSome result (λ n. (n ≡ length (canonical (view json.now))) × n ≤ most) }
     ensures none { IfNone result (most < length (canonical (view json.now))) }
@@ -19,7 +20,8 @@ pub fn text_length(json: &Json, most: usize) -> Option<usize>
     Some(most - room)
 }
 
-// Each of these is given the room for a text and answers what of it stays free behind the text, or `None` where the text is longer.
+// Each of these functions returns what is left of `room` after a text, or `None` if the text is
+// longer.
 
 #[cycle(length)]
 #[tactic(auto, using(crate::proofs::LengthLemmas::object_length))]

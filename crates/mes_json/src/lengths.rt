@@ -1,11 +1,11 @@
-//! How long the arrays and the objects on a tape are.
+//! The lengths of arrays and objects on a tape, in nodes.
 ghost use Rattle.std.specs.Prelude.{◌≡◌, ◌≢◌};
 ghost use Rattle.mes_json.specs.Lengths.{reported, telling};
 
 use crate::tape::Node;
 
 impl Node {
-    /// How many nodes behind this one belong to its value, where it tells that.
+    /// Returns how many more nodes the value of this node has, if the node stores that.
     #[inline(always)]
     pub(crate) fn reported(self) -> Option<usize>
         ensures { result ≡ reported self }
@@ -22,7 +22,7 @@ impl Node {
         }
     }
 
-    /// Has an array or an object tell that it has so many nodes behind this one.
+    /// Stores in the first node of an array or object how many more nodes there are.
     #[inline(always)]
     pub(crate) fn tell(&mut self, reported: u32)
         ensures { self.new ≡ telling reported self.old }
@@ -35,7 +35,7 @@ impl Node {
     }
 }
 
-/// A length as nodes keep it: 0 where it has no room.
+/// Converts a length to 32 bits, or to 0 if it does not fit.
 #[inline(always)]
 pub(crate) fn kept_length(length: usize) -> u32
     ensures { result ≢ 0 → result ≡ length }

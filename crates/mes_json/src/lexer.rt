@@ -1,5 +1,6 @@
 #![tactic(auto, unfolding(crate::specs::Lexer::HasLexed, crate::specs::Lexer::IsOutOfMemory, crate::specs::Lexer::held))]
-//! Reads a JSON text that comes in pieces.
+//! Reads JSON texts that arrive in pieces. Whole texts are read in `read`; the state machine is in
+//! `reader`.
 ghost use Rattle.std.specs.Prelude.{◌≡◌, ◌≢◌, ◌<◌, ℕ, List, [], ◌∷◌, ◌++◌, length, take, Err, IfOk, IfErr, MatchResult};
 ghost use Rattle.mes_json.specs.Tree.{Tree};
 ghost use Rattle.mes_json.specs.Grammar.{IsText};
@@ -23,30 +24,29 @@ use crate::value::Json;
 use std::alloc::Global;
 use std::marker::Model;
 
-/// How far a text was read.
+/// The progress of a lexer.
 #[derive(Drop)]
 enum LexerState {
-    /// Some text goes on from them.
+    /// Some text begins with the bytes.
     Reading(Reader),
-    /// None does.
+    /// No text begins with the bytes.
     Faulty(TextFault),
-    /// A growth was refused memory.
     OutOfMemory,
 }
 
-/// Reads a JSON text (RFC 8259, section 2) whose bytes come one at a time or in runs, as `read_text` reads it whole. A contract
-/// sees which bytes it stands for, by `HasLexed`.
+/// A reader of one JSON text (RFC 8259 section 2) whose bytes arrive one at a time or in runs.
+/// Results are those of [`crate::read_text`]. In contracts `HasLexed` relates it to the bytes
+/// pushed.
 #[derive(Drop)]
 pub struct Lexer {
     alloc: Global,
-    /// How many bytes were taken before a fault, as far as a u64 counts.
+    /// The number of bytes before an error, saturating at 2^64 - 1.
     count: u64,
     state: LexerState,
 }
 
-// Not inlined, so that taking a byte makes no room for what is let go here.
+// Not inlined, so that the stack frame of `push` has no space for the state dropped here.
 impl LexerState {
-    /// No text goes on from the bytes.
     #[inline(never)]
     fn fail(&mut self, fault: TextFault)
         ensures { self.new ≡ LexerState.Faulty fault }
@@ -54,7 +54,6 @@ impl LexerState {
         *self = LexerState::Faulty(fault);
     }
 
-    /// A growth was refused memory.
     #[inline(never)]
     fn run_out_of_memory(&mut self)
         ensures { self.new ≡ LexerState.OutOfMemory }
@@ -64,7 +63,8 @@ impl LexerState {
 }
 
 impl LexerState {
-    /// The tape of the value that the bytes spell, of which there were so many, or their fault. After it the state is of no use.
+    /// Returns the tape of the value that the `count` bytes represent, or their error. The state
+    /// must be reset afterwards.
     #[inline(always)]
     fn take(&mut self, alloc: Global, count: u64) -> Result<Tape, ReadFault>
         requires { IsPossible (count, self.old) }
@@ -88,7 +88,7 @@ impl LexerState {
         }
     }
 
-    /// The state of a lexer of no byte, in memory that is there. A reader that is there serves again where it stands.
+    /// Resets to an empty lexer in the given memory. An existing reader is reset in place.
     #[inline(always)]
     fn restart(&mut self, alloc: Global, texts: Texts, nodes: Vec<Node>)
         requires texts { texts.items ≡ [] }
@@ -119,7 +119,7 @@ impl Model for Lexer {
 }
 
 impl Lexer {
-    /// A lexer of no byte. Takes no memory.
+    /// Creates an empty lexer. Does not allocate.
     pub fn new(alloc: Global) -> Lexer
         ensures lexed { HasLexed result [] }
         ensures memory { IsOutOfMemory result → ⊥ }
@@ -127,7 +127,8 @@ impl Lexer {
         Lexer::begin(alloc, Reader::new(alloc))
     }
 
-    /// A lexer of no byte in the memory of a tape that is not wanted any more, as far as `MAX_REUSED_CAPACITY` goes. Takes no memory.
+    /// Creates an empty lexer in the memory of `tape`. A buffer above `MAX_REUSED_CAPACITY` bytes
+    /// is freed. Does not allocate.
     pub fn reusing(alloc: Global, tape: Tape) -> Lexer
         ensures lexed { HasLexed result [] }
         ensures memory { IsOutOfMemory result → ⊥ }
@@ -136,7 +137,6 @@ impl Lexer {
         Lexer::begin(alloc, Reader::within(alloc, texts, nodes))
     }
 
-    /// A lexer of no byte, by its reader.
     fn begin(alloc: Global, reader: Reader) -> Lexer
         requires fits { Fits reader }
         requires start { state_view reader ≡ start }
@@ -150,13 +150,14 @@ impl Lexer {
         }
     }
 
-    /// Takes one more byte. Bytes behind a fault are let go.
+    /// Pushes one byte. After an error in the text, bytes are ignored, and [`Lexer::finish`]
+    /// returns the error. Returns `NoMemory` if an allocation fails now or failed before.
     #[inline(never)]
     pub fn push(&mut self, byte: u8) -> Result<(), NoMemory>
         ensures lexed { (p : List ℕ) → HasLexed self.old p → HasLexed self.new (p ++ byte ∷ []) }
         ensures reports { Reports result self.new }
         ensures stays { IsOutOfMemory self.old → IsOutOfMemory self.new }
-        // Behind a fault nothing wants memory.
+        // After an error in the text, no push runs out of memory.
         ensures swallows { (p : List ℕ) → HasLexed self.old p → (Begins MAX_NESTING p → ⊥) → (IsOutOfMemory self.old → ⊥) → IsOutOfMemory self.new → ⊥ }
     {
         match &mut self.state {
@@ -182,17 +183,19 @@ impl Lexer {
         }
     }
 
-    /// Takes the bytes of a run as `push` would in turn, but the plain characters of a string all at once.
+    /// Pushes a run of bytes with the effect of `push` for each, but copies plain characters of a
+    /// string together. Returns `NoMemoryAt` if an allocation fails now or failed before.
     #[inline(always)]
     pub fn push_run(&mut self, bytes: &[u8]) -> Result<(), NoMemoryAt>
         ensures lexed { (p : List ℕ) → HasLexed self.old p → HasLexed self.new (p ++ bytes.now) }
         ensures reports { Reports result self.new }
         ensures stays { IsOutOfMemory self.old → IsOutOfMemory self.new }
-        // Behind a fault nothing wants memory.
+        // After an error in the text, no push runs out of memory.
         ensures swallows { (p : List ℕ) → HasLexed self.old p → (Begins MAX_NESTING p → ⊥) → (IsOutOfMemory self.old → ⊥) → IsOutOfMemory self.new → ⊥ }
-        // Memory was refused for a byte of the run, which `push` could not take; behind a refusal it is so for the first one again.
+        // On error: `taken` is the offset of the first byte not pushed.
         ensures taken { IfErr result (λ refused. 0 < length bytes.now → refused.taken < length bytes.now) }
-        // Those before it were taken, and some text goes on from them.
+        // On the first error: the bytes before `taken` were pushed, and some text begins with all
+        // bytes so far.
         ensures before { (p : List ℕ) → HasLexed self.old p → (IsOutOfMemory self.old → ⊥) → IfErr result (λ refused. Begins MAX_NESTING (p ++ take refused.taken bytes.now)) }
         ensures again { IsOutOfMemory self.old → IfErr result (λ refused. refused.taken ≡ 0) }
     {
@@ -221,10 +224,11 @@ impl Lexer {
         }
     }
 
-    /// How many bytes of texts and numbers the lexer holds, not counting spare room. `lexer_bound` says how many they are at most.
+    /// Returns the number of buffered bytes of strings and numbers, without spare capacity.
+    /// [`crate::lexer_bound`] gives their maximum.
     pub fn held(&self) -> u64
         ensures count { result ≡ held self.now }
-        // None behind a fault or a want of memory.
+        // 0 after an error in the text or a failed allocation.
         ensures fault { (p : List ℕ) → HasLexed self.now p → (Begins MAX_NESTING p → ⊥) → result ≡ 0 }
         ensures memory { IsOutOfMemory self.now → result ≡ 0 }
     {
@@ -235,17 +239,20 @@ impl Lexer {
         }
     }
 
-    /// The tree that the bytes spell, or their fault.
+    /// Ends the text. Returns its tree, or its first error.
     pub fn finish(self) -> Result<Json, ReadFault>
-        // What `Ok` holds: by the grammar, the bytes spell this value, and no text is refused but for want of memory.
+        // On success: the bytes are a JSON text of this value.
         ensures read { (p : List ℕ) → HasLexed self p → IfOk result (λ json. IsText MAX_NESTING p (view json)) }
+        // Every JSON text is read, unless an allocation fails.
         ensures only { (p : List ℕ) → HasLexed self p → (t : Tree) → IsText MAX_NESTING p t
             → MatchResult result (λ json. view json ≡ t) (λ e. e ≡ ReadFault.NoMemory) }
 
-        // What each refusal means: the place is the length of the longest front that some text goes on from, as far as a u64 counts.
+        // On error: the offset of the first error, saturating at 2^64 - 1, and its reason; or
+        // `NoMemory`.
         ensures fault { (p : List ℕ) → HasLexed self p → IfErr result (λ e. IsLexFault MAX_NESTING p e) }
 
-        // A fault is told whatever memory there is; want of memory is answered again.
+        // If no push failed, an error in the text is returned rather than `NoMemory`. After a
+        // failed push, `NoMemory` is returned.
         ensures reported { (p : List ℕ) → HasLexed self p → (Begins MAX_NESTING p → ⊥) → (IsOutOfMemory self → ⊥) → result ≢ Err ReadFault.NoMemory }
         ensures memory { IsOutOfMemory self → result ≡ Err ReadFault.NoMemory }
     {
@@ -254,28 +261,37 @@ impl Lexer {
         Ok(tape.root().to_json(alloc)?)
     }
 
-    /// The tape of the value that the bytes spell, or their fault.
+    /// Ends the text. Returns its tape, or its first error.
     pub fn end(mut self) -> Result<Tape, ReadFault>
-        // What `Ok` holds: by the grammar, the bytes spell the value of these tokens, and no text is refused but for want of memory.
+        // On success: the bytes are a JSON text of the value that has the tape's tokens.
         ensures read { (p : List ℕ) → HasLexed self p → IfOk result (λ tape. (t : Tree) × IsText MAX_NESTING p t × (tape ≡ tokens t)) }
+        // Every JSON text is read, unless an allocation fails.
         ensures only { (p : List ℕ) → HasLexed self p → (t : Tree) → IsText MAX_NESTING p t
             → MatchResult result (λ tape. tape ≡ tokens t) (λ e. e ≡ ReadFault.NoMemory) }
 
-        // What each refusal means, as of `finish`.
+        // On error: as in `finish`.
         ensures fault { (p : List ℕ) → HasLexed self p → IfErr result (λ e. IsLexFault MAX_NESTING p e) }
+        // If no push failed, an error in the text is returned rather than `NoMemory`. After a
+        // failed push, `NoMemory` is returned.
         ensures reported { (p : List ℕ) → HasLexed self p → (Begins MAX_NESTING p → ⊥) → (IsOutOfMemory self → ⊥) → result ≢ Err ReadFault.NoMemory }
         ensures memory { IsOutOfMemory self → result ≡ Err ReadFault.NoMemory }
     {
         self.take()
     }
 
-    /// The same, and the lexer is one of no byte then, so that nothing is moved but the tape. `reuse` gives it the tape's memory again.
+    /// Like [`Lexer::end`], but also resets the lexer in place, so that only the tape moves.
+    /// [`Lexer::reuse`] returns the tape's memory to the lexer.
     #[inline(always)]
     pub fn take(&mut self) -> Result<Tape, ReadFault>
+        // On success: as in `end`.
         ensures read { (p : List ℕ) → HasLexed self.old p → IfOk result (λ tape. (t : Tree) × IsText MAX_NESTING p t × (tape ≡ tokens t)) }
+        // Every JSON text is read, unless an allocation fails.
         ensures only { (p : List ℕ) → HasLexed self.old p → (t : Tree) → IsText MAX_NESTING p t
             → MatchResult result (λ tape. tape ≡ tokens t) (λ e. e ≡ ReadFault.NoMemory) }
+        // On error: as in `finish`.
         ensures fault { (p : List ℕ) → HasLexed self.old p → IfErr result (λ e. IsLexFault MAX_NESTING p e) }
+        // If no push failed, an error in the text is returned rather than `NoMemory`. After a
+        // failed push, `NoMemory` is returned.
         ensures reported { (p : List ℕ) → HasLexed self.old p → (Begins MAX_NESTING p → ⊥) → (IsOutOfMemory self.old → ⊥) → result ≢ Err ReadFault.NoMemory }
         ensures refused { IsOutOfMemory self.old → result ≡ Err ReadFault.NoMemory }
         ensures lexed { HasLexed self.new [] }
@@ -289,7 +305,8 @@ impl Lexer {
         tape
     }
 
-    /// The lexer becomes one of no byte in the memory of a tape that is not wanted any more, as `reusing` makes one. Takes no memory.
+    /// Resets to an empty lexer in the memory of `tape`. A buffer above `MAX_REUSED_CAPACITY` bytes
+    /// is freed. Does not allocate.
     #[inline(always)]
     pub fn reuse(&mut self, tape: Tape)
         ensures lexed { HasLexed self.new [] }

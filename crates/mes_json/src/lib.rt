@@ -1,6 +1,20 @@
 #![tactic(auto)]
-//! JSON texts (RFC 8259) read exactly: the tree that the bytes spell, or the place and the reason of the first fault; and trees
-//! copied, compared and written.
+//! Reads and writes JSON texts (RFC 8259) exactly: numbers keep their text, objects their order and
+//! repeated names.
+//!
+//! [`read_text`] reads a whole text, [`Lexer`] one that arrives in pieces. The result is a tree
+//! ([`Json`]), a flat [`Tape`] that is read in place ([`Element`]), or the offset and reason of the
+//! first error. [`write_text`] writes the canonical text of a tree. A failed allocation is an error
+//! ([`NoMemory`]).
+//!
+//! ```ignore
+//! let json = read_text(alloc, b"{ \"cpus\": 1.50 }")?;
+//! let mut out = Vec::new(alloc);
+//! write_text(&json, &mut out)?; // {"cpus":1.50}
+//! ```
+//!
+//! Tests are in the crate `mes_json_tests`, definitions in `specs/`; `specs/Grammar.antt` is the
+//! RFC's grammar.
 
 mod byte_class;
 mod characters;

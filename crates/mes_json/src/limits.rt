@@ -1,13 +1,15 @@
-//! The limits that this crate keeps to.
+//! The limits of this crate.
 
-/// How deep the arrays and objects of a JSON text may nest (RFC 8259, section 9, lets a reader set this limit).
+/// The maximum nesting depth of arrays and objects in a JSON text. RFC 8259 section 9 permits a
+/// limit.
 pub const MAX_NESTING: usize = 128;
 
-/// How many bytes of texts, and as many of nodes, a lexer takes over from a tape; the memory of a longer one is given back.
+/// The maximum capacity, in bytes, of a buffer that a lexer reuses from a tape: one for texts, one
+/// for nodes. A larger buffer is freed.
 pub const MAX_REUSED_CAPACITY: usize = 16 * 1024 * 1024;
 
-/// How many bytes of texts a tape has room for. A longer one is want of memory.
+/// The maximum total length of a tape's texts, in bytes. Beyond it reading returns `NoMemory`.
 pub const MAX_TEXTS: usize = u32::MAX as usize;
 
-/// How many bytes a text may have that takes no memory of its own.
+/// The maximum length, in bytes, of a text that is stored inline, without an allocation.
 pub const MAX_INLINE_TEXT: usize = 16;

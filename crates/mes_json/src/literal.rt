@@ -1,10 +1,10 @@
-//! What is read of a literal.
+//! The states within a literal.
 ghost use Rattle.std.specs.Prelude.{◌≡◌, List, option_map};
 ghost use Rattle.mes_json.specs.Machine.{Frame, on_token};
 ghost use Rattle.mes_json.specs.Machine.State.{state};
 ghost use Rattle.mes_json.specs.Reader.{word_view, said_view};
 
-/// What is read of `null`, `true` or `false` (RFC 8259, section 3).
+/// The part of `null`, `true` or `false` that has been read (RFC 8259 section 3).
 #[derive(Clone, Copy)]
 pub(crate) enum LiteralState {
     N,
@@ -19,19 +19,16 @@ pub(crate) enum LiteralState {
     Fals,
 }
 
-/// Where a byte leads in a literal.
+/// The effect of a byte in a literal.
 #[derive(Clone, Copy)]
 pub(crate) enum LiteralStep {
-    /// To more of it.
     More(LiteralState),
-    /// To the end of `null`.
     Null,
-    /// To the end of `false` or `true`.
     Bool(bool),
 }
 
 impl LiteralState {
-    /// Where the next byte leads.
+    /// Returns the effect of the next byte, or `None` if the literal has another byte there.
     pub(crate) fn next(self, byte: u8) -> Option<LiteralStep>
         ensures { (fs : List Frame) → on_token fs (word_view self) byte ≡ option_map (λ said. state fs (said_view said)) result }
     {

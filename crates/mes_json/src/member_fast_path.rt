@@ -1,5 +1,5 @@
-//! What usually stands behind a string in an object, taken at once: the value behind a name, the ends of objects and arrays, and the
-//! comma with the next name. A reader that has come to anything else goes on byte by byte.
+//! The reader's fast path after a string in an object: a value, the end of an object or array, a
+//! comma with a name. Any other bytes are read one at a time.
 ghost use Rattle.std.specs.Prelude.{◌≡◌, ◌⊎◌, ◌<◌, ◌≤◌, [], ◌∷◌, ◌++◌, true, false, Some, length, slice_index};
 ghost use Rattle.mes_json.specs.Machine.{step};
 ghost use Rattle.mes_json.specs.Reader.{Fits, Puts, Reached, RunsTo, Stays, innermost, outer, state_view};
@@ -12,8 +12,8 @@ use crate::tape::Node;
 use crate::utf8::Utf8State;
 
 impl Reader {
-    /// Takes from this place what is expected there, token by token, and the strings between. A token that would need memory that is
-    /// refused is left. The result is the place behind what was taken.
+    /// Reads the expected tokens from offset `from` on, and the strings between them. Stops before
+    /// a token for which an allocation fails. Returns the offset after the bytes read.
     pub(crate) fn take_members(&mut self, bytes: &[u8], from: usize) -> usize
         requires inside { from ≤ length bytes.now }
         requires fits { Fits self.old }
@@ -31,7 +31,7 @@ impl Reader {
         place
     }
 
-    /// Takes what is expected at this place, if it stands there, and the member that may begin behind it.
+    /// Reads the expected token at `from`, if it is present, and a member that begins after it.
     #[inline(always)]
     fn take_token(&mut self, bytes: &[u8], from: usize) -> usize
         requires inside { from < length bytes.now }
@@ -47,7 +47,7 @@ impl Reader {
         self.take_member(bytes, following)
     }
 
-    /// Takes a string, the beginning of an object, or a number.
+    /// Reads a string, the first byte of an object, or a number.
     #[inline(always)]
     fn take_value(&mut self, bytes: &[u8], from: usize) -> usize
         requires at { self.old.at ≡ ReaderState.Value }
@@ -64,7 +64,7 @@ impl Reader {
         }
     }
 
-    /// Takes the byte behind a value: a comma, or the end of what is open.
+    /// Reads the byte after a value: a comma, or the end of the innermost object or array.
     #[inline(always)]
     fn take_after(&mut self, bytes: &[u8], from: usize) -> usize
         requires at { self.old.at ≡ ReaderState.After }
@@ -80,7 +80,8 @@ impl Reader {
         }
     }
 
-    /// Takes the name at this place, where one is due and stands there, the colon behind it, and the string behind that.
+    /// Reads a name at `from`, if one is expected and present, its colon, and a string after the
+    /// colon.
     #[inline(always)]
     fn take_member(&mut self, bytes: &[u8], from: usize) -> usize
         requires inside { from ≤ length bytes.now }
@@ -98,7 +99,7 @@ impl Reader {
         }
     }
 
-    /// Takes a name from its quotation mark at this place, and the colon behind it.
+    /// Reads a name from its opening quotation mark at `from`, and its colon.
     #[inline(always)]
     fn take_name(&mut self, bytes: &[u8], from: usize) -> usize
         requires at { (self.old.at ≡ ReaderState.FirstName) ⊎ (self.old.at ≡ ReaderState.Name) }
@@ -117,7 +118,7 @@ impl Reader {
         self.take_any_name(bytes, from)
     }
 
-    /// The same of any name. Not inlined, since most are short.
+    /// Like `take_name`, for any name. Not inlined, since most names are short.
     #[inline(never)]
     fn take_any_name(&mut self, bytes: &[u8], from: usize) -> usize
         requires at { (self.old.at ≡ ReaderState.FirstName) ⊎ (self.old.at ≡ ReaderState.Name) }
@@ -131,7 +132,7 @@ impl Reader {
         self.take_string(Purpose::Name, bytes, from + 1)
     }
 
-    /// Takes the string at this place, where a value is due and it is one.
+    /// Reads the string at `from`, if a value is expected and a string is present.
     #[inline(always)]
     fn take_following_text(&mut self, bytes: &[u8], from: usize) -> usize
         requires inside { from ≤ length bytes.now }
@@ -147,7 +148,7 @@ impl Reader {
         }
     }
 
-    /// Takes a string that is a value from its quotation mark at this place.
+    /// Reads a string that is a value, from its opening quotation mark at `from`.
     #[inline(always)]
     fn take_text(&mut self, bytes: &[u8], from: usize) -> usize
         requires at { self.old.at ≡ ReaderState.Value }
@@ -163,7 +164,7 @@ impl Reader {
         }
     }
 
-    /// The same of any string. Not inlined, since most are short.
+    /// Like `take_text`, for any string. Not inlined, since most strings are short.
     #[inline(never)]
     fn take_any_text(&mut self, bytes: &[u8], from: usize) -> usize
         requires at { self.old.at ≡ ReaderState.Value }
@@ -177,7 +178,8 @@ impl Reader {
         self.take_string(Purpose::Value, bytes, from + 1)
     }
 
-    /// Takes the byte behind a value, where it is a comma, or the end of what is open and there is memory for it.
+    /// Reads the byte after a value, if it is a comma, or ends the innermost object or array and no
+    /// allocation fails.
     #[inline(always)]
     fn enter_following(&mut self, byte: u8) -> bool
         requires at { self.old.at ≡ ReaderState.After }
@@ -202,10 +204,9 @@ impl Reader {
     }
 }
 
-// What one byte does, where it can't be refused: a quotation mark, a comma, and the beginning and the end of what is open, which
-// change nothing where there is no memory for their node.
+// The effects of single bytes that cannot be an error. Without memory for a node, they change
+// nothing.
 impl Reader {
-    /// The quotation mark of a string that is a value.
     #[inline(always)]
     fn begin_text(&mut self)
         requires at { self.old.at ≡ ReaderState.Value }
@@ -217,7 +218,6 @@ impl Reader {
         self.begin(ReaderState::Quoted(Purpose::Value, Utf8State::Between));
     }
 
-    /// The quotation mark of a name.
     #[inline(always)]
     fn begin_name(&mut self)
         requires at { (self.old.at ≡ ReaderState.FirstName) ⊎ (self.old.at ≡ ReaderState.Name) }
@@ -229,7 +229,7 @@ impl Reader {
         self.begin(ReaderState::Quoted(Purpose::Name, Utf8State::Between));
     }
 
-    /// The comma behind a member.
+    /// Reads the comma after a member.
     #[inline(always)]
     fn expect_name(&mut self)
         requires at { self.old.at ≡ ReaderState.After }
@@ -242,7 +242,7 @@ impl Reader {
         self.at = ReaderState::Name;
     }
 
-    /// The comma behind an item.
+    /// Reads the comma after an item.
     #[inline(always)]
     fn expect_item(&mut self)
         requires at { self.old.at ≡ ReaderState.After }
@@ -254,7 +254,6 @@ impl Reader {
         self.at = ReaderState::Value;
     }
 
-    /// The beginning of an object; false where it can't be taken.
     #[inline(always)]
     fn open_object(&mut self) -> bool
         requires at { self.old.at ≡ ReaderState.Value }
@@ -267,7 +266,8 @@ impl Reader {
         self.open()
     }
 
-    /// An object begins; false where no more can be open, or there is no memory for its node.
+    /// Opens an object. Returns false, without a change, at the nesting limit or if an allocation
+    /// fails.
     #[inline(always)]
     fn open(&mut self) -> bool
         ensures room { result ≡ true → length self.old.nesting.items < MAX_NESTING }
@@ -285,7 +285,6 @@ impl Reader {
         true
     }
 
-    /// The end of an object; false where it can't be taken.
     #[inline(always)]
     fn close_object(&mut self) -> bool
         requires at { self.old.at ≡ ReaderState.After }
@@ -298,7 +297,6 @@ impl Reader {
         self.close()
     }
 
-    /// The end of an array; false where it can't be taken.
     #[inline(always)]
     fn close_array(&mut self) -> bool
         requires at { self.old.at ≡ ReaderState.After }
@@ -311,7 +309,8 @@ impl Reader {
         self.close()
     }
 
-    /// The innermost object or array ends behind a value; false where there is no memory for its node.
+    /// Closes the innermost object or array after a value. Returns false, without a change, if an
+    /// allocation fails.
     #[inline(always)]
     fn close(&mut self) -> bool
         requires { self.old.at ≡ ReaderState.After }

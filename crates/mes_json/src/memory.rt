@@ -1,15 +1,15 @@
-//! Want of memory.
+//! The errors of failed allocations.
 
 use std::alloc::{AllocError, AllocFailed};
 
-/// A growth was refused memory.
+/// An allocation failed.
 #[derive(Debug, Clone, Copy, PartialEq, Eq)]
 pub struct NoMemory;
 
-/// Memory was refused for a byte of a run.
+/// An allocation failed at a byte of a run.
 #[derive(Debug, Clone, Copy, PartialEq, Eq)]
 pub struct NoMemoryAt {
-    /// How many bytes of the run were taken before it.
+    /// The number of bytes of the run that were pushed before it.
     pub taken: usize,
 }
 

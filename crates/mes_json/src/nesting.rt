@@ -1,9 +1,9 @@
-//! What is open around the place that a reader has come to.
+//! The objects and arrays around a reader's position.
 
 use std::alloc::Global;
 use std::default::MadeWith;
 
-/// An object or an array that is open.
+/// An open object or array.
 #[derive(Clone, Copy)]
 pub(crate) enum Open {
     Object,

@@ -1,4 +1,4 @@
-//! Nodes that are put one behind the other.
+//! The list of nodes of a tape that is being written. The buffer of its texts is in `texts`.
 ghost use Rattle.std.specs.Prelude.{◌≡◌, ℕ, ◌+◌, ◌-◌, ◌<◌, ◌≤◌, List, [], ◌∷◌, ◌++◌, true, None, length, OnOk, OnErr};
 ghost use Rattle.std.specs.List.{AllByRecursion};
 ghost use Rattle.mes_json.specs.Tape.{HasSpan};
@@ -14,13 +14,13 @@ use std::alloc::Global;
 use std::marker::Model;
 use std::mem;
 
-/// The nodes of a value, one behind the other. Each array and each object among them tells how many nodes it has once its end is put.
-/// A contract sees the nodes without those lengths, and for how many there is memory.
+/// The nodes of a value, in order. Each array and object stores its length once its end is
+/// appended. In contracts this is the nodes without those lengths, and the capacity.
 #[derive(Drop)]
 pub(crate) struct Nodes {
     nodes: Vec<Node>,
-    /// Where the arrays and objects begin that are open, the innermost last. Of more than there is room for, the outer ones are let
-    /// go, and tell no length.
+    /// The indices of open arrays and objects, the innermost last. At overflow the outer ones are
+    /// dropped and get no length.
     begins: ArrayVec<usize, MAX_NESTING>,
 }
 
@@ -37,7 +37,7 @@ impl Model for Nodes {
 }
 
 impl Nodes {
-    /// No node, in memory that is there. Takes none.
+    /// Creates an empty list in the given memory. Does not allocate.
     pub(crate) fn within(nodes: Vec<Node>) -> Nodes
         requires { nodes.items ≡ [] }
         ensures { result.items ≡ [] }
@@ -48,7 +48,7 @@ impl Nodes {
         }
     }
 
-    /// Begins again, in memory that is there.
+    /// Resets to an empty list in the given memory.
     pub(crate) fn restart(&mut self, nodes: Vec<Node>)
         requires { nodes.items ≡ [] }
         ensures { self.new.items ≡ [] }
@@ -57,7 +57,7 @@ impl Nodes {
         self.begins.clear();
     }
 
-    /// The nodes, with their lengths. None is left.
+    /// Returns the nodes with their lengths, and leaves none.
     pub(crate) fn take(&mut self, alloc: Global) -> Vec<Node>
         ensures held { (texts : List ℕ) → tokens_held texts result.items ≡ tokens_held texts self.old.items }
         ensures spans { (texts : List ℕ) → AllByRecursion (HasSpan texts) self.old.items → AllByRecursion (HasSpan texts) result.items }
@@ -68,7 +68,8 @@ impl Nodes {
         mem::replace(&mut self.nodes, Vec::new(alloc))
     }
 
-    /// Puts a node behind the others. Only the growth is out of line, so a node costs a few instructions wherever one is put.
+    /// Appends a node. Only the growth is out of line, so that each inlined append is a few
+    /// instructions.
     #[inline(always)]
     pub(crate) fn put(&mut self, node: Node) -> Result<(), NoMemory>
         requires { unreported node ≡ node }
@@ -82,7 +83,7 @@ impl Nodes {
         Ok(())
     }
 
-    /// Puts two nodes behind the others, or none.
+    /// Appends two nodes, or none if an allocation fails.
     #[inline(always)]
     pub(crate) fn put_both(&mut self, first: Node, second: Node) -> Result<(), NoMemory>
         requires first { unreported first ≡ first }
@@ -98,7 +99,6 @@ impl Nodes {
         Ok(())
     }
 
-    /// How many nodes there are.
     #[inline(always)]
     fn len(&self) -> usize
         ensures count { result ≡ length self.now.items }
@@ -107,7 +107,7 @@ impl Nodes {
         self.nodes.len()
     }
 
-    /// For how many there is memory.
+    /// Returns the capacity, in nodes.
     #[inline(always)]
     fn room(&self) -> usize
         ensures { result ≡ self.now.room }
@@ -115,7 +115,7 @@ impl Nodes {
         self.nodes.capacity()
     }
 
-    /// Makes room for so many more nodes.
+    /// Reserves capacity for `count` more nodes.
     #[cold]
     #[inline(never)]
     fn make_room(&mut self, count: usize) -> Result<(), NoMemory>
@@ -125,7 +125,7 @@ impl Nodes {
         Ok(self.nodes.reserve(count)?)
     }
 
-    /// Puts a node behind the others, where there is room.
+    /// Appends a node within the capacity.
     #[inline(always)]
     fn put_reserved(&mut self, node: Node)
         requires room { length self.old.items < self.old.room }
@@ -140,7 +140,6 @@ impl Nodes {
         }
     }
 
-    /// Whether there is memory for one more.
     #[inline(always)]
     pub(crate) fn has_room(&self) -> bool
         ensures { result ≡ true → length self.now.items < self.now.room }
@@ -148,7 +147,7 @@ impl Nodes {
         self.len() < self.room()
     }
 
-    /// Puts a node that begins and ends no array and no object, where there is memory for it.
+    /// Appends a node other than the first or last of an array or object, within the capacity.
     #[inline(always)]
     pub(crate) fn put_leaf(&mut self, node: Node)
         requires room { length self.old.items < self.old.room }
@@ -159,7 +158,7 @@ impl Nodes {
         self.nodes.push_reserved(node);
     }
 
-    /// An array or an object begins.
+    /// Appends the first node of an array or an object.
     #[inline(always)]
     fn begin(&mut self, node: Node)
         requires room { length self.old.items < self.old.room }
@@ -174,7 +173,8 @@ impl Nodes {
         self.nodes.push_reserved(node);
     }
 
-    /// The innermost array or object ends, and tells how many nodes it has behind its first one.
+    /// Appends the last node of the innermost array or object, and stores the length in its first
+    /// node.
     #[inline(always)]
     fn end(&mut self)
         requires { length self.old.items < self.old.room }

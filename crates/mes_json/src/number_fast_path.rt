@@ -1,4 +1,5 @@
-//! A number taken at once, with the byte behind it. A number that comes in pieces goes on byte by byte.
+//! The reader's fast path for a number and the byte after it. A number that arrives in pieces is
+//! read byte by byte.
 ghost use Rattle.std.specs.Prelude.{◌≡◌, ◌<◌, ◌≤◌, true, false, Some, None, length, take, slice_index};
 ghost use Rattle.mes_fixed.specs.Automaton.{letter_of, number_next, is_final};
 ghost use Rattle.mes_json.specs.Machine.{step};
@@ -15,7 +16,8 @@ use crate::tape::{Node, text_span};
 use mes_fixed::automaton::{NumberState, may_end};
 
 impl Reader {
-    /// Takes a number, as far as it goes in these bytes, and the comma or the end of what is open behind it.
+    /// Reads a number, as far as it reaches in `bytes`, and a comma or the end of the innermost
+    /// object or array after it.
     pub(crate) fn take_number(&mut self, bytes: &[u8], from: usize) -> usize
         requires at { self.old.at ≡ ReaderState.Value }
         requires inside { from < length bytes.now }
@@ -31,7 +33,8 @@ impl Reader {
         self.take_following_number(part, bytes, from + count)
     }
 
-    /// The bytes of a number, up to this part of it; false where there is none, or no memory for them.
+    /// Begins a number with its first `count` bytes. Returns false, without a change, if there are
+    /// none or an allocation fails.
     #[inline(always)]
     fn begin_digits(&mut self, bytes: &[u8], count: usize, part: NumberState) -> bool
         requires { count ≤ length bytes.now }
@@ -48,8 +51,8 @@ impl Reader {
         true
     }
 
-    /// Takes the comma or the end of what is open behind a number. Where another byte stands there, or there is no memory, the
-    /// number goes on.
+    /// Reads a comma, or the end of the innermost object or array, after a number. Leaves the
+    /// number open at any other byte, or if an allocation fails.
     #[inline(always)]
     fn take_following_number(&mut self, part: NumberState, bytes: &[u8], from: usize) -> usize
         requires at { self.old.at ≡ ReaderState.Digits part }
@@ -69,7 +72,8 @@ impl Reader {
         }
     }
 
-    /// Ends a number with the byte behind it, where that is a comma or the end of what is open, and there is memory for the nodes.
+    /// Ends a number with the byte after it, if that is a comma or ends the innermost object or
+    /// array, and no allocation fails.
     #[inline(always)]
     fn end_number_before(&mut self, part: NumberState, byte: u8) -> bool
         requires at { self.old.at ≡ ReaderState.Digits part }
@@ -94,7 +98,7 @@ impl Reader {
         }
     }
 
-    /// Puts the node of a value before a comma; false where there is no memory for it.
+    /// Appends the node of a value before a comma. Returns false if an allocation fails.
     #[inline(always)]
     fn put_before(&mut self, node: Node, at: ReaderState) -> bool
         requires { unreported node ≡ node }
@@ -108,7 +112,8 @@ impl Reader {
         true
     }
 
-    /// Puts the node of the last value of the innermost object or array, which ends; false where there is no memory for both nodes.
+    /// Appends the nodes of the last value, and of the end, of the innermost object or array.
+    /// Returns false if an allocation fails.
     #[inline(always)]
     fn close_following(&mut self, node: Node) -> bool
         requires { unreported node ≡ node }

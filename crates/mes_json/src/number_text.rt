@@ -1,4 +1,4 @@
-//! A number's text.
+//! The text of a number.
 ghost use Rattle.std.specs.Prelude.{◌≡◌, string_bytes, IfOk, IfErr};
 ghost use Rattle.mes_fixed.specs.Number.{IsNumber};
 
@@ -8,8 +8,8 @@ use mes_fixed::is_number;
 use std::alloc::Global;
 use std::marker::Model;
 
-/// A number as a JSON text writes it (RFC 8259, section 6), of any length, that owns its memory. A contract sees it as its
-/// bytes.
+/// A number as written in a JSON text (RFC 8259 section 6), of any length. Owns its memory. In
+/// contracts it is its bytes.
 #[derive(Debug, Drop)]
 pub struct NumText {
     text: Text,
@@ -27,9 +27,11 @@ impl Model for NumText {
 }
 
 impl NumText {
-    /// The number that the text is, or the text again where it is none. Takes no memory.
+    /// Checks that `text` is a number, or returns `text` as the error. Does not allocate.
     pub fn new(text: String) -> Result<NumText, String>
+        // On success: the text is a number, and the result has its bytes.
         ensures ok { IfOk result (λ number. (number ≡ string_bytes text) × IsNumber (string_bytes text)) }
+        // On error: `text` is returned, and is not a number.
         ensures err { IfErr result (λ again. (again ≡ text) × (IsNumber (string_bytes text) → ⊥)) }
     {
         if is_number(text.as_bytes()) {
@@ -41,7 +43,7 @@ impl NumText {
         }
     }
 
-    /// The text of a number. Takes no memory.
+    /// Wraps the text of a number. Does not allocate.
     pub(crate) fn of_text(text: Text) -> NumText
         requires { IsNumber text }
         ensures { result ≡ text }
@@ -49,7 +51,7 @@ impl NumText {
         NumText { text }
     }
 
-    /// The number's text.
+    /// Returns the number's text.
     pub fn as_str(&self) -> &str
         ensures text { result.now ≡ self.now }
         ensures number { IsNumber self.now }
@@ -57,7 +59,7 @@ impl NumText {
         self.text.as_str()
     }
 
-    /// The same number, in memory of its own.
+    /// Copies the number into memory of its own.
     pub fn copy(&self, alloc: Global) -> Result<NumText, NoMemory>
         ensures { IfOk result (λ number. number ≡ self.now) }
     {

@@ -1,17 +1,18 @@
-//! The plain characters of a string.
+//! Scans the plain characters of a string: ASCII without an escape. All characters are in
+//! `characters`.
 ghost use Rattle.std.specs.Prelude.{◌≡◌, ◌↔◌, ◌+◌, ◌<◌, ◌≤◌, IsTrue, length, take, drop, slice_index};
 ghost use Rattle.std.specs.List.{AllByRecursion};
 ghost use Rattle.mes_json.specs.Reader.{IsPlain};
 
 use std::simd::prelude::*;
 
-/// How many bytes are looked at together.
+/// The number of bytes compared in one step.
 pub(crate) const BLOCK: usize = 16;
 
-/// How many of the last bytes, too few for a block, are.
+/// The number of bytes compared in one step when fewer than a block are left.
 const HALF: usize = 8;
 
-/// How many plain characters the slice begins with. A block shows where they end, so most strings need one.
+/// Returns the number of plain characters at the front. Most strings end in the first block.
 pub(crate) fn plain_run(bytes: &[u8]) -> usize
     ensures inside { result ≤ length bytes.now }
     ensures plain { AllByRecursion IsPlain (take result bytes.now) }
@@ -35,7 +36,8 @@ pub(crate) fn plain_run(bytes: &[u8]) -> usize
     run_by_byte(bytes, place + HALF)
 }
 
-/// Goes on from a place behind plain characters to the first byte that is none.
+/// Continues byte by byte from offset `from`. Returns the offset of the first byte that is not
+/// plain.
 fn run_by_byte(bytes: &[u8], from: usize) -> usize
     requires room { from ≤ length bytes.now }
     requires before { AllByRecursion IsPlain (take from bytes.now) }
@@ -51,14 +53,15 @@ fn run_by_byte(bytes: &[u8], from: usize) -> usize
     bytes.len()
 }
 
-/// Whether a byte is a character that stands for itself in a string (RFC 8259, section 7) and takes no other byte.
+/// Returns whether `byte` is a whole character that needs no escape in a string (RFC 8259 section
+/// 7).
 fn is_plain(byte: u8) -> bool
     ensures { IsTrue result ↔ IsPlain byte }
 {
     byte >= 0x20 && byte < 0x80 && byte != b'"' && byte != b'\\'
 }
 
-/// How many plain characters the block at this place begins with.
+/// Returns the number of plain characters at the front of the block at offset `place`.
 #[inline(always)]
 pub(crate) fn first_in_block(bytes: &[u8], place: usize) -> usize
     requires { place + BLOCK ≤ length bytes.now }
@@ -79,7 +82,7 @@ pub(crate) fn first_in_block(bytes: &[u8], place: usize) -> usize
     }
 }
 
-/// How many plain characters the half of a block at this place begins with.
+/// Returns the number of plain characters at the front of the half block at offset `place`.
 #[inline(always)]
 fn first_in_half(bytes: &[u8], place: usize) -> usize
     requires { place + HALF ≤ length bytes.now }

@@ -1,4 +1,4 @@
-//! Why a byte was not taken.
+//! The error of one byte.
 ghost use Rattle.std.specs.Prelude.{◌≡◌};
 ghost use Rattle.mes_json.specs.declared.push_error.PushError.TheVariants.{NoMemory as no_memory};
 
@@ -6,12 +6,11 @@ use crate::fault::TextFaultKind;
 use crate::memory::NoMemory;
 use std::alloc::{AllocError, AllocFailed};
 
-/// Why a byte was not taken.
+/// The reason why a byte was not read.
 #[derive(Clone, Copy)]
 pub(crate) enum PushError {
-    /// No JSON text goes on with it.
+    /// No JSON text continues with the byte.
     Refused(TextFaultKind),
-    /// A growth was refused memory.
     NoMemory,
 }
 

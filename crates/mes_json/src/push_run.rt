@@ -1,4 +1,4 @@
-//! Bytes taken by the reader all at once.
+//! Reads runs of bytes with the reader.
 ghost use Rattle.std.specs.Prelude.{◌≡◌, ◌<◌, Some, IfErr, OnOk, length, take};
 ghost use Rattle.mes_json.specs.Machine.{State, run};
 ghost use Rattle.mes_json.specs.Reader.{Fits, Reached, state_view};
@@ -9,17 +9,17 @@ use crate::limits::MAX_NESTING;
 use crate::push_error::PushError;
 use crate::reader::Reader;
 
-/// Why a run of bytes was not taken whole.
+/// The reason why a run was not read completely.
 #[derive(Clone, Copy)]
 pub(crate) struct RunStop {
-    /// How many bytes of it stand before the one that was not taken.
+    /// The offset in the run of the first byte that was not read.
     pub place: usize,
-    /// Why that one was not.
+    /// The reason why that byte was not read.
     pub stop: PushError,
 }
 
 impl Reader {
-    /// Takes the bytes in turn as `take_bytes` does. The place of a fault counts from the first of them.
+    /// Reads all bytes, as `take_bytes` does. The offset of a fault counts from the first of them.
     pub(crate) fn take_all(&mut self, bytes: &[u8]) -> Result<(), ReadFault>
         requires fits { Fits self.old }
         requires reached { Reached self.old }
@@ -33,8 +33,9 @@ impl Reader {
         }
     }
 
-    /// Takes the bytes in turn, those of a string that need no look each a run at a time: where a run is refused memory, one
-    /// at a time, so an error is that of one byte. After an error the reader holds nothing of use.
+    /// Reads the bytes in order, and runs of plain bytes in one step. If the allocation for a run
+    /// fails, the run is read byte by byte, so that an error belongs to one byte. After an error
+    /// the reader must not be used.
     pub(crate) fn take_bytes(&mut self, bytes: &[u8]) -> Result<(), RunStop>
         requires fits { Fits self.old }
         requires reached { Reached self.old }
@@ -42,7 +43,7 @@ impl Reader {
         ensures fits { OnOk result (Fits self.new) }
         ensures fault { IfErr result (λ e. StopsIn (state_view self.old) bytes.now (fault_at e.place e.stop)) }
         ensures inside { IfErr result (λ e. e.place < length bytes.now) }
-        // The bytes before it were taken.
+        // The bytes before the error were read.
         ensures before { IfErr result (λ e. (s : State) × (run MAX_NESTING (state_view self.old) (take e.place bytes.now) ≡ Some s)) }
     {
         let mut place = 0;
@@ -57,7 +58,6 @@ impl Reader {
 }
 
 impl RunStop {
-    /// The fault of a stop behind so many bytes.
     fn fault(self) -> ReadFault
         ensures { result ≡ fault_at self.place self.stop }
     {

@@ -1,4 +1,4 @@
-//! Reads a whole JSON text.
+//! Reads whole JSON texts. Texts in pieces are read in `lexer`.
 ghost use Rattle.std.specs.Prelude.{◌≡◌, IfOk, IfErr, MatchResult};
 ghost use Rattle.mes_json.specs.Tree.{Tree};
 ghost use Rattle.mes_json.specs.Grammar.{IsText};
@@ -13,29 +13,32 @@ use crate::tape::Tape;
 use crate::value::Json;
 use std::alloc::Global;
 
-/// Reads the one JSON text that the bytes are (RFC 8259, section 2), in which arrays and objects nest at most
-/// `MAX_NESTING` deep. A half of a surrogate pair escaped alone, ill-formed UTF-8 and a byte order mark are no part of one.
+/// Reads `bytes` as one JSON text (RFC 8259 section 2) with at most `MAX_NESTING` levels of arrays
+/// and objects. An escaped lone surrogate, ill-formed UTF-8 and a byte order mark are errors.
 pub fn read_text(alloc: Global, bytes: &[u8]) -> Result<Json, ReadFault>
-    // What `Ok` holds: by the grammar, the bytes spell this value, and no text is refused but for want of memory.
+    // On success: the bytes are a JSON text of this value.
     ensures read { IfOk result (λ json. IsText MAX_NESTING bytes.now (view json)) }
+    // Every JSON text is read, unless an allocation fails.
     ensures only { (t : Tree) → IsText MAX_NESTING bytes.now t
         → MatchResult result (λ json. view json ≡ t) (λ e. e ≡ ReadFault.NoMemory) }
 
-    // What each refusal means: the place is the length of the longest front that some text goes on from.
+    // On error: the offset is the length of the longest prefix that some text begins with; or
+    // `NoMemory`.
     ensures fault { IfErr result (λ e. IsReadFault MAX_NESTING bytes.now e) }
 {
     let tape = read_tape(alloc, bytes)?;
     Ok(tape.root().to_json(alloc)?)
 }
 
-/// Reads it as `read_text` does, and keeps it as a tape, of which no tree is made.
+/// Like [`read_text`], but returns a tape and builds no tree.
 pub fn read_tape(alloc: Global, bytes: &[u8]) -> Result<Tape, ReadFault>
-    // What `Ok` holds: by the grammar, the bytes spell the value of these tokens, and no text is refused but for want of memory.
+    // On success: the bytes are a JSON text of the value that has the tape's tokens.
     ensures read { IfOk result (λ tape. (t : Tree) × IsText MAX_NESTING bytes.now t × (tape ≡ tokens t)) }
+    // Every JSON text is read, unless an allocation fails.
     ensures only { (t : Tree) → IsText MAX_NESTING bytes.now t
         → MatchResult result (λ tape. tape ≡ tokens t) (λ e. e ≡ ReadFault.NoMemory) }
 
-    // What each refusal means, as of `read_text`.
+    // On error: as in `read_text`.
     ensures fault { IfErr result (λ e. IsReadFault MAX_NESTING bytes.now e) }
 {
     let mut reader = Reader::new(alloc);

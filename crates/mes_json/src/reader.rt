@@ -1,4 +1,5 @@
-//! The reader: takes a JSON text a byte at a time and keeps it as a tape.
+//! The reader, which reads a JSON text byte by byte and writes a tape. Its fast paths are in
+//! `short_string`, `member_fast_path` and `number_fast_path`.
 ghost use Rattle.std.specs.Prelude.{◌≡◌, ◌+◌, ◌<◌, ◌≤◌, [], ◌∷◌, length, option_map, slice_index, encode_utf8, IfOk, IfErr, OnOk, OnErr};
 ghost use Rattle.mes_json.specs.declared.push_error.PushError.TheVariants.{NoMemory as no_memory};
 ghost use Rattle.mes_json.specs.Machine.{start, finish};
@@ -27,21 +28,21 @@ use mes_fixed::automaton::{NumberState, may_end, next_state};
 use std::alloc::Global;
 use std::mem;
 
-/// What was read of a JSON text.
+/// The part of a JSON text that has been read.
 #[derive(Drop)]
 pub(crate) struct Reader {
     pub(crate) at: ReaderState,
-    /// What is open, the innermost last.
+    /// The open objects and arrays, the innermost last.
     pub(crate) nesting: ArrayVec<Open, MAX_NESTING, Global>,
-    /// Where the text of the string or the number that is read begins.
+    /// The offset in `text` of the string or number that is read.
     pub(crate) start: usize,
-    /// The texts of the strings and the numbers, one behind the other.
+    /// The texts of the strings and numbers, concatenated.
     pub(crate) text: Texts,
     pub(crate) nodes: Nodes,
 }
 
 impl Reader {
-    /// A reader that has taken no byte. Takes no memory.
+    /// Creates an empty reader. Does not allocate.
     pub(crate) fn new(alloc: Global) -> Reader
         ensures fits { Fits result }
         ensures start { state_view result ≡ start }
@@ -49,7 +50,7 @@ impl Reader {
         Reader::within(alloc, Texts::new(alloc), Vec::new(alloc))
     }
 
-    /// The same, in memory that is there.
+    /// Creates an empty reader in the given memory.
     pub(crate) fn within(alloc: Global, text: Texts, nodes: Vec<Node>) -> Reader
         requires text { text.items ≡ [] }
         requires nodes { nodes.items ≡ [] }
@@ -65,7 +66,7 @@ impl Reader {
         }
     }
 
-    /// Takes a byte. After an error the reader holds nothing of use.
+    /// Reads one byte. After an error the reader must not be used.
     #[inline(always)]
     pub(crate) fn step(&mut self, byte: u8) -> Result<(), PushError>
         requires fits { Fits self.old }
@@ -86,8 +87,9 @@ impl Reader {
         }
     }
 
-    /// Takes what can be taken at once behind this place, whose byte was the last: bytes that need no look each, and the tokens that
-    /// are expected behind them. What would need memory that is refused is left. The result is the place behind what was taken.
+    /// Reads the bytes after `place`, whose byte was read last: a run that needs no check byte by
+    /// byte, and the expected tokens after it. Stops before bytes for which an allocation fails.
+    /// Returns the offset after the bytes read.
     #[inline(always)]
     pub(crate) fn take_run(&mut self, bytes: &[u8], place: usize) -> usize
         requires inside { place < length bytes.now }
@@ -99,8 +101,8 @@ impl Reader {
         self.take_members(bytes, end)
     }
 
-    /// Takes the bytes behind this place, whose byte was the last, that need no look each: characters of a string with the
-    /// quotation mark and the colon that may follow, digits of a number, or white space between tokens.
+    /// Reads the run after `place`: characters of a string with the closing quotation mark and a
+    /// name's colon, digits of a number, or white space.
     #[inline(always)]
     fn take_alike(&mut self, bytes: &[u8], place: usize) -> usize
         requires inside { place < length bytes.now }
@@ -134,7 +136,8 @@ impl Reader {
         }
     }
 
-    /// Takes the characters of a string from this place, the quotation mark behind them, and the colon behind a name.
+    /// Reads the characters of a string from `from` on, the closing quotation mark, and a name's
+    /// colon.
     #[inline(always)]
     pub(crate) fn take_string(&mut self, purpose: Purpose, bytes: &[u8], from: usize) -> usize
         requires at { self.old.at ≡ ReaderState.Quoted purpose Utf8State.Between }
@@ -154,7 +157,7 @@ impl Reader {
         }
     }
 
-    /// Takes the characters of a string from this place that stand for themselves.
+    /// Reads the characters of a string from `from` on that have no escape.
     #[inline(always)]
     fn take_characters(&mut self, purpose: Purpose, bytes: &[u8], from: usize) -> usize
         requires at { self.old.at ≡ ReaderState.Quoted purpose Utf8State.Between }
@@ -167,7 +170,7 @@ impl Reader {
         from + self.text.append_front(rest, character_run(rest))
     }
 
-    /// Takes the quotation mark at this place, which ends the string, and the colon behind a name.
+    /// Reads the closing quotation mark of a string at `from`, and a name's colon.
     #[inline(always)]
     fn take_end(&mut self, purpose: Purpose, bytes: &[u8], from: usize) -> usize
         requires at { self.old.at ≡ ReaderState.Quoted purpose Utf8State.Between }
@@ -183,8 +186,8 @@ impl Reader {
         }
     }
 
-    /// Takes the escapes from this place that are whole, the characters between and behind them, the quotation mark, and the
-    /// colon behind a name. Not inlined, since most strings have no escape.
+    /// Reads whole escapes from `from` on, the characters between and after them, the closing
+    /// quotation mark, and a name's colon. Not inlined, since most strings have no escape.
     #[inline(never)]
     fn take_escapes(&mut self, purpose: Purpose, bytes: &[u8], from: usize) -> usize
         requires at { self.old.at ≡ ReaderState.Quoted purpose Utf8State.Between }
@@ -212,7 +215,8 @@ impl Reader {
         self.take_end(purpose, bytes, place)
     }
 
-    /// Takes the rest of an escape from this place, and what follows it in the string. A byte that leads nowhere is left.
+    /// Reads the rest of an escape from `from` on, and the string after it. Stops before a byte
+    /// that is an error.
     fn take_escape(&mut self, purpose: Purpose, first: Escape, bytes: &[u8], from: usize) -> usize
         requires at { self.old.at ≡ ReaderState.Quoted purpose (Utf8State.Escape first) }
         requires inside { from ≤ length bytes.now }
@@ -242,7 +246,7 @@ impl Reader {
         place
     }
 
-    /// Takes the colon at this place, where one is due.
+    /// Reads the colon at `from`, if one is expected and present.
     #[inline(always)]
     fn take_colon(&mut self, bytes: &[u8], from: usize) -> usize
         requires inside { from ≤ length bytes.now }
@@ -258,14 +262,14 @@ impl Reader {
         }
     }
 
-    /// How many bytes the texts of the strings and the numbers have.
+    /// Returns the number of buffered bytes of strings and numbers.
     pub(crate) fn held(&self) -> u64
         ensures { result ≡ length self.now.text.items }
     {
         self.text.len() as u64
     }
 
-    /// The tape of what was read, where that is a whole value. After it the reader holds nothing of use.
+    /// Returns the tape, if the bytes are a whole value. Afterwards the reader must be reset.
     #[inline(always)]
     pub(crate) fn take_tape(&mut self, alloc: Global) -> Result<Option<Tape>, NoMemory>
         requires fits { Fits self.old }
@@ -281,7 +285,7 @@ impl Reader {
         }
     }
 
-    /// The same of a reader that is not wanted any more.
+    /// Like `take_tape`, but consumes the reader.
     pub(crate) fn into_tape(mut self, alloc: Global) -> Result<Option<Tape>, NoMemory>
         requires fits { Fits self }
         requires reached { Reached self }
@@ -290,7 +294,7 @@ impl Reader {
         self.take_tape(alloc)
     }
 
-    /// Begins again, in memory that is there.
+    /// Resets to an empty reader in the given memory.
     #[inline(always)]
     pub(crate) fn restart(&mut self, text: Texts, nodes: Vec<Node>)
         requires text { text.items ≡ [] }
@@ -305,7 +309,7 @@ impl Reader {
         self.nodes.restart(nodes);
     }
 
-    /// Whether the bytes may end here. A number ends with them.
+    /// Ends an open number. Returns whether the text may end here.
     fn ends(&mut self) -> Result<bool, NoMemory>
         requires fits { Fits self.old }
         requires reached { Reached self.old }
@@ -322,7 +326,7 @@ impl Reader {
     }
 }
 
-// One method for each place, on the byte behind it.
+// One method for each state, which reads the next byte.
 impl Reader {
     #[inline(always)]
     fn value(&mut self, byte: u8) -> Result<(), PushError>
@@ -548,9 +552,8 @@ impl Reader {
     }
 }
 
-// What is open.
+// The open objects and arrays.
 impl Reader {
-    /// The innermost object or array that is open.
     #[inline(always)]
     pub(crate) fn innermost(&self) -> Option<Open>
         ensures { result ≡ innermost self.now.nesting.items }
@@ -558,7 +561,6 @@ impl Reader {
         self.nesting.as_slice().last().copied()
     }
 
-    /// An object or an array begins.
     #[inline(always)]
     fn enter(&mut self, open_one: Open, node: Node, at: ReaderState) -> Result<(), PushError>
         requires { unreported node ≡ node }
@@ -571,7 +573,6 @@ impl Reader {
         self.put(node, at)
     }
 
-    /// The innermost object or array ends.
     #[inline(always)]
     fn leave(&mut self) -> Result<(), PushError>
         ensures ok { OnOk result (Puts self.old (outer self.old.nesting.items) Node.End ReaderState.After self.new) }
@@ -582,9 +583,9 @@ impl Reader {
     }
 }
 
-// What the methods do to the tape.
+// Changes of the tape.
 impl Reader {
-    /// The text of a string or a number begins.
+    /// Begins the text of a string or a number.
     #[inline(always)]
     pub(crate) fn begin(&mut self, at: ReaderState)
         ensures { Begins self.old [] at self.new }
@@ -593,7 +594,6 @@ impl Reader {
         self.at = at;
     }
 
-    /// The string that is read ends.
     #[inline(always)]
     fn end_string(&mut self, purpose: Purpose) -> Result<(), PushError>
         requires { self.old.start ≤ length self.old.text.items }
@@ -603,7 +603,7 @@ impl Reader {
         Ok(self.close_string(purpose)?)
     }
 
-    /// The same, where no byte can be refused.
+    /// Like `end_string`, with `NoMemory` as the only error.
     #[inline(always)]
     fn close_string(&mut self, purpose: Purpose) -> Result<(), NoMemory>
         requires { self.old.start ≤ length self.old.text.items }
@@ -624,7 +624,7 @@ impl Reader {
         Ok(())
     }
 
-    /// A number begins with a byte that leads to this part of it.
+    /// Begins a number with its first byte.
     fn begin_number(&mut self, byte: u8, part: NumberState) -> Result<(), PushError>
         ensures ok { OnOk result (Begins self.old (byte ∷ []) (ReaderState.Digits part) self.new) }
         ensures err { IfErr result (λ e. e ≡ no_memory) }
@@ -633,7 +633,6 @@ impl Reader {
         self.keep(byte, ReaderState::Digits(part))
     }
 
-    /// The number that is read ends.
     pub(crate) fn end_number(&mut self) -> Result<(), NoMemory>
         requires { self.old.start ≤ length self.old.text.items }
         ensures ok { OnOk result (Puts self.old self.old.nesting.items (Node.Number self.old.start (length self.old.text.items)) ReaderState.After self.new) }
@@ -645,7 +644,7 @@ impl Reader {
         Ok(())
     }
 
-    /// A byte of the string or the number that is read.
+    /// Appends a byte to the string or number.
     #[inline(always)]
     fn keep(&mut self, byte: u8, at: ReaderState) -> Result<(), PushError>
         ensures ok { OnOk result (Keeps self.old (byte ∷ []) at self.new) }
@@ -656,7 +655,7 @@ impl Reader {
         Ok(())
     }
 
-    /// A character of the string that is read.
+    /// Appends a character to the string.
     #[inline(always)]
     fn keep_character(&mut self, character: char, at: ReaderState) -> Result<(), PushError>
         ensures ok { OnOk result (Keeps self.old (encode_utf8 character) at self.new) }
@@ -665,7 +664,7 @@ impl Reader {
         Ok(self.append_character(character, at)?)
     }
 
-    /// The same, where no byte can be refused.
+    /// Like `keep_character`, with `NoMemory` as the only error.
     #[inline(always)]
     fn append_character(&mut self, character: char, at: ReaderState) -> Result<(), NoMemory>
         ensures ok { OnOk result (Keeps self.old (encode_utf8 character) at self.new) }
@@ -683,7 +682,6 @@ impl Reader {
         Ok(())
     }
 
-    /// The next node.
     #[inline(always)]
     fn put(&mut self, node: Node, at: ReaderState) -> Result<(), PushError>
         requires { unreported node ≡ node }

@@ -1,4 +1,5 @@
-//! Short strings, taken at once: a block of bytes holds all their characters and the quotation mark behind them.
+//! The reader's fast path for short strings: one block of bytes has all characters and the closing
+//! quotation mark.
 ghost use Rattle.std.specs.Prelude.{◌≡◌, ◌⊎◌, ◌+◌, ◌<◌, ◌≤◌, true, false, length, take, drop, slice_index, IfSome};
 ghost use Rattle.mes_json.specs.Reader.{Fits, HasRoom, Puts, Reached, RunsTo, StandAlone, Stays, string_node, within_string};
 
@@ -8,8 +9,9 @@ use crate::reader_state::{Purpose, ReaderState};
 use crate::tape::{Node, text_span};
 
 impl Reader {
-    /// How many characters a string has whose rest begins at this place, where they are plain, the block of bytes there holds them and
-    /// the quotation mark behind them, and there is memory for the block and for a node.
+    /// Returns the number of characters of a short string that continues at `from`. All are plain,
+    /// and the block at `from` includes the closing quotation mark. Returns `None` for any other
+    /// string, or without capacity for a block and a node.
     #[inline(always)]
     pub(crate) fn short_run(&self, bytes: &[u8], from: usize) -> Option<usize>
         requires { from ≤ length bytes.now }
@@ -28,7 +30,8 @@ impl Reader {
         Some(count)
     }
 
-    /// Takes a string of so many characters that is a value, from its quotation mark at this place, or leaves it.
+    /// Reads a string of `count` characters that is a value, from its opening quotation mark at
+    /// `from`. Reads nothing if the texts would exceed `MAX_TEXTS`.
     #[inline(always)]
     pub(crate) fn take_short_text(&mut self, bytes: &[u8], from: usize, count: usize) -> usize
         requires at { self.old.at ≡ ReaderState.Value }
@@ -54,7 +57,7 @@ impl Reader {
         }
     }
 
-    /// The same of a name and the colon behind it.
+    /// Like `take_short_text`, for a name and its colon.
     #[inline(always)]
     pub(crate) fn take_short_name(&mut self, bytes: &[u8], from: usize, count: usize) -> usize
         requires at { (self.old.at ≡ ReaderState.FirstName) ⊎ (self.old.at ≡ ReaderState.Name) }
@@ -77,8 +80,8 @@ impl Reader {
         }
     }
 
-    /// Puts the node of a string of so many of the bytes, and keeps these; the place behind it is told. False where the texts would be
-    /// more than nodes can tell.
+    /// Appends a string of the first `count` bytes, and its node. Returns false, without a change,
+    /// if the texts would exceed `MAX_TEXTS`.
     #[inline(always)]
     fn put_short(&mut self, purpose: Purpose, bytes: &[u8], count: usize, at: ReaderState) -> bool
         requires few { count < BLOCK }

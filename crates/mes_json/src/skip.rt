@@ -1,4 +1,4 @@
-//! Passing over a value on a tape.
+//! Skips values on a tape.
 ghost use Rattle.std.specs.Prelude.{◌≡◌, ◌<◌, ◌≤◌, ℕ, List, length, drop, slice_index_or};
 ghost use Rattle.mes_json.specs.Cursor.{token_of, tokens_held};
 ghost use Rattle.mes_json.specs.Passing.{depth_after, following};
@@ -7,14 +7,14 @@ ghost use Rattle.mes_json.specs.declared.tape.Node.TheVariants.{End};
 
 use crate::tape::Node;
 
-/// The first node, or an end where there is none.
+/// Returns the first node, or an end if there is none.
 pub(crate) fn first(nodes: &[Node]) -> Node
     ensures { result ≡ slice_index_or nodes.now 0 End }
 {
     nodes.first().copied().unwrap_or(Node::End)
 }
 
-/// The nodes behind the value that the first node begins.
+/// Returns the nodes after the value that begins with the first node.
 pub(crate) fn following_value(nodes: &[Node]) -> &[Node]
     requires { TellLengths nodes.now }
     ensures held { (texts : List ℕ) → tokens_held texts result.now ≡ following 0 (tokens_held texts nodes.now) }
@@ -23,7 +23,7 @@ pub(crate) fn following_value(nodes: &[Node]) -> &[Node]
     &nodes[nodes_of_value(nodes)..]
 }
 
-/// How many nodes the value has that the first one begins.
+/// Returns the number of nodes of the value that begins with the first node.
 #[inline(always)]
 fn nodes_of_value(nodes: &[Node]) -> usize
     requires { TellLengths nodes.now }
@@ -39,7 +39,7 @@ fn nodes_of_value(nodes: &[Node]) -> usize
     }
 }
 
-/// The same, by counting up to the node that leaves nothing open.
+/// Like `nodes_of_value`, but counts to the node after which nothing is open.
 fn count_nodes(nodes: &[Node]) -> usize
     ensures following { (texts : List ℕ) → following 0 (tokens_held texts nodes.now) ≡ drop result (tokens_held texts nodes.now) }
     ensures inside { result ≤ length nodes.now }
@@ -54,7 +54,7 @@ fn count_nodes(nodes: &[Node]) -> usize
     nodes.len()
 }
 
-/// How many arrays and objects are open behind the node, where so many are before it.
+/// Returns the number of arrays and objects open after the node, if `depth` are open before it.
 fn depth_after(depth: usize, node: Node) -> usize
     requires { depth < usize.MAX }
     ensures { (texts : List ℕ) → result ≡ depth_after depth (token_of texts node) }

@@ -1,4 +1,5 @@
-//! The tape: a JSON value as one flat list of nodes over one buffer of texts.
+//! The tape: a JSON value as one flat list of nodes over one buffer of texts. `reader` and
+//! `tape/spell` write it; `cursor` reads it.
 ghost use Rattle.std.specs.Prelude.{◌≡◌, ◌*◌, ◌<◌, ◌≤◌, [], vec_capacity, IfOk, IfErr};
 ghost use Rattle.std.specs.List.{AllByRecursion};
 ghost use Rattle.mes_json.specs.Tape.{span, IsSpan, HasSpan};
@@ -15,36 +16,35 @@ use std::alloc::Global;
 use std::marker::Model;
 use std::{mem, str};
 
-/// A node of the tape, of `NODE_SIZE` bytes. A span is the bytes of the buffer of texts from `from` up to but not including `to`.
+/// A node of the tape, of `NODE_SIZE` bytes. `from` and `to` are the offsets of its text in the
+/// buffer of texts.
 #[derive(Clone, Copy)]
 pub(crate) enum Node {
-    /// The literal `null`.
     Null,
-    /// The literal `false` or `true`.
     Bool(bool),
-    /// A number's text.
     Number { from: u32, to: u32 },
     /// A string's text.
     Text { from: u32, to: u32 },
     /// The name of the member whose value follows.
     Name { from: u32, to: u32 },
-    /// An array's items follow: so many nodes up to its end, or 0 where that is not told.
+    /// The first node of an array, with the number of nodes after it through its end, or 0 if
+    /// unknown.
     List { length: u32 },
-    /// An object's members follow: so many nodes up to its end, or 0 where that is not told.
+    /// The first node of an object, with the number of nodes after it through its end, or 0 if
+    /// unknown.
     Map { length: u32 },
-    /// The innermost array or object ends.
+    /// The last node of the innermost array or object.
     End,
 }
 
-/// How many bytes a node has.
 pub(crate) const NODE_SIZE: usize = mem::size_of::<Node>();
 
 const _: () = prove!(NODE_SIZE == 12);
 
-/// A JSON value that was read whole, in two runs of memory and not a tree. A contract sees it as its tokens.
+/// A whole JSON value in two buffers instead of a tree. In contracts it is its list of tokens.
 #[derive(Drop)]
 pub struct Tape {
-    /// The texts of the strings and the numbers, one behind the other.
+    /// The texts of the strings and numbers, concatenated.
     texts: Texts,
     nodes: Vec<Node>,
 }
@@ -68,7 +68,6 @@ impl Model for Tape {
 }
 
 impl Tape {
-    /// The tape of these nodes.
     pub(crate) fn new(texts: Texts, nodes: Vec<Node>) -> Tape
         requires spans { AllByRecursion (HasSpan texts.items) nodes.items }
         requires reported { TellLengths nodes.items }
@@ -77,7 +76,7 @@ impl Tape {
         Tape { texts, nodes }
     }
 
-    /// The value, read in place.
+    /// Returns a cursor at the value.
     pub fn root(&self) -> Element<'_>
         ensures { result ≡ self.now }
     {
@@ -86,7 +85,8 @@ impl Tape {
 }
 
 impl Tape {
-    /// The memory of the tape, emptied; of each vector that has room for more than `MAX_REUSED_CAPACITY` bytes it is given back. Takes no memory.
+    /// Returns the tape's buffers, emptied. A buffer with a capacity of more than
+    /// `MAX_REUSED_CAPACITY` bytes is freed. Does not allocate.
     #[inline(always)]
     pub(crate) fn into_room(self, alloc: Global) -> (Texts, Vec<Node>)
         ensures texts { result.0.items ≡ [] }
@@ -103,7 +103,7 @@ impl Tape {
     }
 }
 
-/// The memory of a vector, emptied. Where it has room for more elements than so many, it is given back.
+/// Returns the emptied vector, or a new one if its capacity exceeds `most` elements.
 #[inline(always)]
 fn emptied<T: Drop>(alloc: Global, mut room: Vec<T>, most: usize) -> Vec<T>
     ensures items { result.items ≡ [] }
@@ -117,7 +117,7 @@ fn emptied<T: Drop>(alloc: Global, mut room: Vec<T>, most: usize) -> Vec<T>
     room
 }
 
-/// A place of the buffer of texts, as nodes keep it; want of memory where the buffer has more than `MAX_TEXTS` bytes.
+/// Converts an offset in the buffer of texts to 32 bits. Returns `NoMemory` above `MAX_TEXTS`.
 pub(crate) fn text_place(place: usize) -> Result<u32, NoMemory>
     ensures ok { IfOk result (λ kept. kept ≡ place) }
     ensures err { IfErr result (λ _. MAX_TEXTS < place) }
@@ -128,7 +128,7 @@ pub(crate) fn text_place(place: usize) -> Result<u32, NoMemory>
     Ok(place as u32)
 }
 
-/// Where a text begins and ends, as nodes keep it; want of memory where the buffer has more than `MAX_TEXTS` bytes up to its end.
+/// Converts the offsets of a text to 32 bits. Returns `NoMemory` if `to` is above `MAX_TEXTS`.
 #[inline(always)]
 pub(crate) fn text_span(from: usize, to: usize) -> Result<(u32, u32), NoMemory>
     requires { from ≤ to }
@@ -138,7 +138,7 @@ pub(crate) fn text_span(from: usize, to: usize) -> Result<(u32, u32), NoMemory>
     Ok((from as u32, to))
 }
 
-/// The text of a span.
+/// Returns the text between two offsets.
 pub(crate) fn span_text(texts: &[u8], from: u32, to: u32) -> &str
     requires { IsSpan texts.now from to }
     ensures { result.now ≡ span texts.now from to }

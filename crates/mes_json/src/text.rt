@@ -1,4 +1,4 @@
-//! A text in well-formed UTF-8.
+//! Texts in well-formed UTF-8.
 ghost use Rattle.std.specs.Prelude.{◌≡◌, ◌<◌, ◌≤◌, length, string_bytes, IfOk, IfErr, bytes_eq};
 
 use crate::limits::MAX_INLINE_TEXT;
@@ -8,17 +8,17 @@ use std::alloc::Global;
 use std::hash::{Hash, Hasher};
 use std::marker::Model;
 
-/// A text in well-formed UTF-8 (RFC 3629). One of at most `MAX_INLINE_TEXT` bytes, as most names and roles are, takes no memory
-/// when it is copied or read; any other owns its memory. A contract sees it as its bytes.
+/// A text in well-formed UTF-8 (RFC 3629). With at most `MAX_INLINE_TEXT` bytes, as most names and
+/// roles have, it is read and copied without an allocation. In contracts it is its bytes.
 #[derive(Debug, Drop)]
 pub struct Text {
     form: Form,
 }
 
-/// Where a text stands.
+/// The storage of a text.
 #[derive(Debug, Drop)]
 enum Form {
-    /// In the value itself.
+    /// Inline.
     Short(ArrayString<MAX_INLINE_TEXT>),
     /// In memory of its own.
     Long(String),
@@ -37,7 +37,7 @@ impl Model for Text {
 }
 
 impl Text {
-    /// The text of a string, in the string's memory. Takes no memory.
+    /// Wraps a string, in the string's memory. Does not allocate.
     pub fn new(string: String) -> Text
         ensures { result ≡ string_bytes string }
     {
@@ -46,7 +46,7 @@ impl Text {
         }
     }
 
-    /// A text of these bytes; takes memory only where they are more than `MAX_INLINE_TEXT`.
+    /// Copies `text`. Allocates only above `MAX_INLINE_TEXT` bytes.
     pub fn of(alloc: Global, text: &str) -> Result<Text, NoMemory>
         ensures ok { IfOk result (λ same. same ≡ text.now) }
         ensures err { IfErr result (λ _. MAX_INLINE_TEXT < length text.now) }
@@ -58,7 +58,7 @@ impl Text {
         Ok(Text { form })
     }
 
-    /// The text, borrowed.
+    /// Borrows the text.
     pub fn as_str(&self) -> &str
         ensures { result.now ≡ self.now }
     {
@@ -68,7 +68,7 @@ impl Text {
         }
     }
 
-    /// The text as a string; takes memory only where it has none of its own.
+    /// Converts the text to a string. Allocates only if the text is stored inline.
     pub fn into_string(self, alloc: Global) -> Result<String, NoMemory>
         ensures ok { IfOk result (λ string. string_bytes string ≡ self) }
         ensures err { IfErr result (λ _. length self ≤ MAX_INLINE_TEXT) }
@@ -80,7 +80,7 @@ impl Text {
         }
     }
 
-    /// A text of the same bytes, as of `of`.
+    /// Copies the text, as [`Text::of`] does.
     pub fn copy(&self, alloc: Global) -> Result<Text, NoMemory>
         ensures ok { IfOk result (λ text. text ≡ self.now) }
         ensures err { IfErr result (λ _. MAX_INLINE_TEXT < length self.now) }

@@ -1,4 +1,5 @@
-//! The buffer of texts: what was read of strings and numbers, one behind the other.
+//! The buffer of a tape's texts: the contents of strings and numbers, concatenated. The nodes are
+//! in `nodes`.
 ghost use Rattle.std.specs.Prelude.{◌≡◌, ◌+◌, ◌⊎◌, ◌≤◌, [], ◌∷◌, ◌++◌, true, length, take, OnOk, OnErr};
 ghost use Rattle.mes_json.specs.Texts.{IsNone};
 
@@ -8,9 +9,8 @@ use std::alloc::Global;
 use std::marker::Model;
 use std::simd::prelude::*;
 
-/// Texts, one behind the other, of strings and numbers that were read. The vector has their bytes and no other: what room there is
-/// behind them is capacity. A short text goes there as a whole block, in one store of a fixed size, and the rest of the block is
-/// cut off again. A contract sees the texts and how many bytes of memory they have.
+/// A buffer of concatenated texts. A short text is copied as a whole block, in one store of a fixed
+/// size, and the buffer is truncated to the text. In contracts this is the bytes and the capacity.
 #[derive(Drop)]
 pub(crate) struct Texts {
     bytes: Vec<u8>,
@@ -28,7 +28,7 @@ impl Model for Texts {
 }
 
 impl Texts {
-    /// No text. Takes no memory.
+    /// Creates an empty buffer. Does not allocate.
     pub(crate) fn new(alloc: Global) -> Texts
         ensures { IsNone result }
     {
@@ -37,7 +37,6 @@ impl Texts {
         }
     }
 
-    /// How many bytes the texts have.
     #[inline(always)]
     pub(crate) fn len(&self) -> usize
         ensures { result ≡ length self.now.items }
@@ -45,7 +44,7 @@ impl Texts {
         self.bytes.len()
     }
 
-    /// How many bytes the texts have with so many more, for which there is memory.
+    /// Returns the length with `count` more bytes, which are within the capacity.
     #[inline(always)]
     pub(crate) fn end_following(&self, count: usize) -> usize
         requires { length self.now.items + count ≤ self.now.room }
@@ -54,14 +53,13 @@ impl Texts {
         self.bytes.len() + count
     }
 
-    /// How many bytes of memory they have.
+    /// Returns the capacity in bytes.
     pub(crate) fn room(&self) -> usize
         ensures { result ≡ self.now.room }
     {
         self.bytes.capacity()
     }
 
-    /// The texts.
     #[inline(always)]
     pub(crate) fn as_slice(&self) -> &[u8]
         ensures { result.now ≡ self.now.items }
@@ -69,7 +67,7 @@ impl Texts {
         self.bytes.as_slice()
     }
 
-    /// Lets the texts go, and keeps the memory.
+    /// Removes all bytes and retains the capacity.
     pub(crate) fn clear(&mut self)
         ensures items { self.new.items ≡ [] }
         ensures room { self.new.room ≡ self.old.room }
@@ -77,7 +75,7 @@ impl Texts {
         self.bytes.clear();
     }
 
-    /// Appends a byte. Without memory for it the texts stay.
+    /// Appends a byte. Changes nothing if an allocation fails.
     #[inline(always)]
     pub(crate) fn push(&mut self, byte: u8) -> Result<(), NoMemory>
         ensures ok { OnOk result (self.new.items ≡ self.old.items ++ byte ∷ []) }
@@ -86,7 +84,7 @@ impl Texts {
         Ok(self.bytes.push(byte)?)
     }
 
-    /// Appends bytes. Without memory for them the texts stay.
+    /// Appends bytes. Changes nothing if an allocation fails.
     pub(crate) fn extend_from_slice(&mut self, bytes: &[u8]) -> Result<(), NoMemory>
         ensures ok { OnOk result (self.new.items ≡ self.old.items ++ bytes.now) }
         ensures err { OnErr result (self.new.items ≡ self.old.items) }
@@ -94,8 +92,8 @@ impl Texts {
         Ok(self.bytes.extend_from_slice(bytes)?)
     }
 
-    /// Appends so many bytes of a slice, or none where that growth is refused memory: how many. The few of most texts go as a whole
-    /// block, of which the rest does not count.
+    /// Appends the first `count` of `bytes` and returns `count`, or returns 0 if an allocation
+    /// fails. A short text is copied as a whole block.
     #[inline(always)]
     pub(crate) fn append_front(&mut self, bytes: &[u8], count: usize) -> usize
         requires { count ≤ length bytes.now }
@@ -109,7 +107,7 @@ impl Texts {
         count
     }
 
-    /// Whether there is memory for a block behind the texts.
+    /// Returns whether there is capacity for one more block.
     #[inline(always)]
     pub(crate) fn has_block(&self) -> bool
         ensures { result ≡ true → length self.now.items + BLOCK ≤ self.now.room }
@@ -117,7 +115,8 @@ impl Texts {
         self.bytes.capacity() - self.bytes.len() >= BLOCK
     }
 
-    /// Appends so many bytes of the block that a slice begins with, by one store, where there is memory for the block.
+    /// Appends the first `count` bytes of the block at the front of `bytes`, in one store, within
+    /// the capacity.
     #[inline(always)]
     pub(crate) fn append_block(&mut self, bytes: &[u8], count: usize)
         requires few { count ≤ BLOCK }
@@ -132,7 +131,7 @@ impl Texts {
         }
     }
 
-    /// The same, whatever their number. Not inlined, since most texts are short.
+    /// Like `append_front`, for any `count`. Not inlined, since most texts are short.
     #[inline(never)]
     fn append_any(&mut self, bytes: &[u8], count: usize) -> usize
         requires { count ≤ length bytes.now }
@@ -145,7 +144,7 @@ impl Texts {
         }
     }
 
-    /// The memory of the texts, emptied. Where it has more than so many bytes, it is given back.
+    /// Returns the emptied buffer, or a new one if its capacity exceeds `most` bytes.
     #[inline(always)]
     pub(crate) fn emptied(mut self, alloc: Global, most: usize) -> Texts
         ensures items { result.items ≡ [] }

@@ -1,4 +1,4 @@
-//! The tree that a tape spells.
+//! Builds the tree of a tape. `tape/spell` does the reverse.
 ghost use Rattle.std.specs.Prelude.{◌≡◌, [], ◌∷◌, option_map, IsTrue, IfOk, OnOk};
 ghost use Rattle.std.specs.List.{AllByRecursion};
 ghost use Rattle.mes_json.specs.Tree.{Tree};
@@ -17,8 +17,8 @@ use crate::value::Json;
 use std::alloc::Global;
 use std::mem;
 
-/// The value with which the nodes begin, where they begin with a whole one; the others are not read. Takes a stack in the heap,
-/// and does not recurse.
+/// Returns the value that the nodes begin with, if it is whole; later nodes are ignored. Uses a
+/// stack on the heap, and does not recurse.
 pub(crate) fn to_json(alloc: Global, texts: &[u8], nodes: &[Node]) -> Result<Option<Json>, NoMemory>
     requires { AllByRecursion (HasSpan texts.now) nodes.now }
     ensures { IfOk result (λ json. option_map view json ≡ finish (spelled texts.now nodes.now)) }
@@ -36,39 +36,38 @@ pub(crate) fn to_json(alloc: Global, texts: &[u8], nodes: &[Node]) -> Result<Opt
     Ok(building.finish())
 }
 
-/// An object or an array around the innermost one that is open.
+/// An open object or array around the innermost one.
 #[derive(Drop)]
 enum Outer {
-    /// An object's members so far, and the name of the one that is built.
+    /// The members so far of an object, and the name of the member whose value is next.
     Object(Vec<(Text, Json)>, Text),
-    /// An array's items so far.
+    /// The items so far of an array.
     Array(Vec<Json>),
 }
 
-/// The innermost object or array that is open, with all that is built of it.
+/// The innermost open object or array, with the contents so far.
 #[derive(Drop)]
 enum Inner {
-    /// Nothing is open, and nothing is built.
+    /// No node has been added.
     Nothing,
-    /// Nothing is open: the value is whole.
+    /// The value is whole, and nothing is open.
     Whole(Json),
-    /// An object's members so far, and the name of the next where that is read.
+    /// The members so far of an object, and the name of the next one, if it has been added.
     Object(Vec<(Text, Json)>, Option<Text>),
-    /// An array's items so far.
+    /// The items so far of an array.
     Array(Vec<Json>),
 }
 
-/// The value that some nodes have spelled so far.
+/// A tree in construction.
 #[derive(Drop)]
 struct TreeBuilder {
-    /// What is open around the innermost object or array, from the outside.
+    /// The open objects and arrays around the innermost one, the outermost first.
     outer: Vec<Outer>,
     inner: Inner,
 }
 
-// What a node does where it is due; elsewhere nothing.
+// The effect of a node in its place; in any other place it has none.
 impl TreeBuilder {
-    /// One more node.
     fn apply(&mut self, alloc: Global, texts: &[u8], node: Node) -> Result<(), NoMemory>
         requires { HasSpan texts.now node }
         ensures { OnOk result (building_view self.new ≡ apply texts.now node (building_view self.old)) }
@@ -95,7 +94,6 @@ impl TreeBuilder {
         }
     }
 
-    /// A value that is read whole goes to the others.
     fn whole(&mut self, json: Json) -> Result<(), NoMemory>
         ensures { OnOk result (building_view self.new ≡ valued (after (view json)) (value_due (building_view self.old))) }
     {
@@ -111,7 +109,6 @@ impl TreeBuilder {
         Ok(())
     }
 
-    /// A member's name.
     fn named(&mut self, name: Text)
         ensures { building_view self.new ≡ in_object (λ ms. named ms name) (name_due (building_view self.old)) }
     {
@@ -126,7 +123,7 @@ impl TreeBuilder {
         }
     }
 
-    /// An object or an array begins: the one around it goes onto the stack.
+    /// Opens an object or an array, and pushes the one around it onto the stack.
     fn open(&mut self, alloc: Global, opened: Inner) -> Result<(), NoMemory>
         ensures { OnOk result ((a : at) → Opens opened a → building_view self.new ≡ valued a (value_due (building_view self.old))) }
     {
@@ -136,14 +133,15 @@ impl TreeBuilder {
                 Some(name) => self.outer.push(Outer::Object(members, name))?,
                 None => self.inner = Inner::Object(members, None),
             },
-            // Nothing is open around it. The list is empty already; a new one says so without an invariant.
+            // Nothing is open around it. The list is already empty; a new one states this without
+            // an invariant.
             Inner::Nothing => self.outer = Vec::new(alloc),
             Inner::Whole(json) => self.inner = Inner::Whole(json),
         }
         Ok(())
     }
 
-    /// The innermost object or array ends, in no more memory than its members or items take.
+    /// Closes the innermost object or array, and shrinks its vector to its contents.
     fn ended(&mut self) -> Result<(), NoMemory>
         ensures { OnOk result (building_view self.new ≡ ended (building_view self.old)) }
     {
@@ -170,7 +168,8 @@ impl TreeBuilder {
         }
     }
 
-    /// The value of the innermost object or array goes to the others of the one around it, which is the innermost again.
+    /// Adds the value of the closed object or array to the one around it, which becomes the
+    /// innermost.
     fn close(&mut self, json: Json) -> Result<(), NoMemory>
         ensures { OnOk result (building_view self.new ≡ state (frames_view self.old.outer.items) (after (view json))) }
     {
@@ -194,7 +193,6 @@ impl TreeBuilder {
         matches!(&self.inner, Inner::Whole(_))
     }
 
-    /// The value, where it is whole.
     fn finish(self) -> Option<Json>
         ensures { option_map view result ≡ finish (building_view self) }
     {
@@ -209,7 +207,7 @@ impl TreeBuilder {
     }
 }
 
-/// The text of a span.
+/// Copies the text between two offsets.
 fn text_of(alloc: Global, texts: &[u8], from: u32, to: u32) -> Result<Text, NoMemory>
     requires { IsSpan texts.now from to }
     ensures { IfOk result (λ text. text ≡ span texts.now from to) }
@@ -217,7 +215,6 @@ fn text_of(alloc: Global, texts: &[u8], from: u32, to: u32) -> Result<Text, NoMe
     Text::of(alloc, span_text(texts, from, to))
 }
 
-/// The number of a span.
 fn number_of(alloc: Global, texts: &[u8], from: u32, to: u32) -> Result<NumText, NoMemory>
     requires { IsNumberSpan texts.now from to }
     ensures { IfOk result (λ number. number ≡ span texts.now from to) }

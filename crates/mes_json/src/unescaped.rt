@@ -1,4 +1,4 @@
-//! The bytes of a string's text that are written as they are.
+//! Scans the bytes of a text that a JSON string has without an escape.
 ghost use Rattle.std.specs.Prelude.{◌≡◌, ◌↔◌, ◌+◌, ◌<◌, ◌≤◌, IsTrue, length, take, drop, slice_index};
 ghost use Rattle.std.specs.List.{AllByRecursion};
 ghost use Rattle.mes_json.specs.Canonical.{IsKept};
@@ -7,8 +7,8 @@ use crate::plain_scan::BLOCK;
 use crate::write_string::is_escaped;
 use std::simd::prelude::*;
 
-/// How many bytes the slice begins with that a string has as they are: all but control characters, the quotation mark and the
-/// reverse solidus (RFC 8259, section 7).
+/// Returns the number of bytes at the front that need no escape: all but control characters, `"`
+/// and `\` (RFC 8259 section 7).
 pub(crate) fn kept_run(bytes: &[u8]) -> usize
     ensures inside { result ≤ length bytes.now }
     ensures kept { AllByRecursion IsKept (take result bytes.now) }
@@ -25,7 +25,8 @@ pub(crate) fn kept_run(bytes: &[u8]) -> usize
     kept_by_byte(bytes, place)
 }
 
-/// Goes on from a place behind such bytes to the first one that is none.
+/// Continues byte by byte from offset `from`. Returns the offset of the first byte that needs an
+/// escape.
 fn kept_by_byte(bytes: &[u8], from: usize) -> usize
     requires room { from ≤ length bytes.now }
     requires before { AllByRecursion IsKept (take from bytes.now) }
@@ -41,14 +42,14 @@ fn kept_by_byte(bytes: &[u8], from: usize) -> usize
     bytes.len()
 }
 
-/// Whether a string has the byte as it is.
+/// Returns whether `byte` needs no escape.
 fn is_kept(byte: u8) -> bool
     ensures { IsTrue result ↔ IsKept byte }
 {
     !is_escaped(byte)
 }
 
-/// How many such bytes the block at this place begins with.
+/// Returns the number of bytes at the front of the block at offset `place` that need no escape.
 fn kept_in_block(bytes: &[u8], place: usize) -> usize
     requires { place + BLOCK ≤ length bytes.now }
     ensures inside { result ≤ BLOCK }

@@ -1,23 +1,25 @@
-//! Where a reader of a string stands between and within characters (RFC 3629, section 4; RFC 8259, section 7).
+//! The states between and within the characters of a string (RFC 3629 section 4, RFC 8259 section
+//! 7).
 ghost use Rattle.std.specs.Prelude.{◌≡◌, ◌≤◌, option_map};
 ghost use Rattle.mes_json.specs.Machine.{lead, after_byte};
 ghost use Rattle.mes_json.specs.Reader.{mid_view};
 
 use crate::escape::Escape;
 
-/// What of a character is read.
+/// The part of a character that has been read.
 #[derive(Clone, Copy)]
 pub(crate) enum Utf8State {
     /// Nothing: a character may begin.
     Between,
-    /// Some of it: `more` bytes are due, the next one from `least` to `most`.
+    /// A part: `more` bytes are expected, the next one from `least` to `most`.
     Within { more: u8, least: u8, most: u8 },
-    /// Some of an escape.
+    /// A part of an escape.
     Escape(Escape),
 }
 
 impl Utf8State {
-    /// Where the first byte of a character leads.
+    /// Returns the state after the first byte of a character, or `None` if no character begins with
+    /// it.
     #[inline(always)]
     pub(crate) fn lead(byte: u8) -> Option<Utf8State>
         ensures { option_map mid_view result ≡ lead byte }
@@ -36,7 +38,7 @@ impl Utf8State {
         Some(Utf8State::Within { more, least, most })
     }
 
-    /// Where a byte leads in a character that `more` bytes were due of.
+    /// Returns the state after a further byte of a character; `more` bytes were expected before it.
     #[inline(always)]
     pub(crate) fn after(more: u8) -> Utf8State
         ensures { mid_view result ≡ after_byte more }

@@ -1,21 +1,21 @@
-//! A JSON value.
+//! JSON values as trees.
 
 use crate::number_text::NumText;
 use crate::text::Text;
 
-/// A JSON value (RFC 8259, section 3).
+/// A JSON value (RFC 8259 section 3).
 #[derive(Debug, Drop)]
 pub enum Json {
     /// The literal `null`.
     Null,
     /// The literal `false` or `true`.
     Bool(bool),
-    /// A number as it is written (section 6).
+    /// A number, as written (section 6).
     Num(NumText),
-    /// A string, with nothing escaped (section 7).
+    /// A string, with its escapes decoded (section 7).
     Text(Text),
-    /// An array's items in order (section 5).
+    /// The items of an array, in order (section 5).
     List(Vec<Json>),
-    /// An object's members in order, repeated names kept (section 4).
+    /// The members of an object, in order, with repeated names (section 4).
     Map(Vec<(Text, Json)>),
 }

@@ -1,6 +1,6 @@
-//! What kinds of values there are.
+//! The kinds of JSON values.
 
-/// The kind of a JSON value (RFC 8259, section 3).
+/// The kind of a JSON value (RFC 8259 section 3).
 #[derive(Clone, Copy, Debug, PartialEq, Eq)]
 pub enum ValueKind {
     /// The literal `null`.

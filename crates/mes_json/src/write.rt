@@ -1,4 +1,5 @@
-//! Writes a value as the one canonical text of it.
+//! Writes the canonical text of a value. Strings are in `write_string`; `length` computes the
+//! length alone.
 ghost use Rattle.std.specs.Prelude.{◌≡◌, ℕ, ◌≤◌, ◌++◌, IfOk, IfErr, OnOk};
 ghost use Rattle.std.specs.Str.{IsUtf8};
 ghost use Rattle.mes_json.specs.Tree.{depth};
@@ -12,14 +13,15 @@ use crate::text::Text;
 use crate::value::Json;
 use crate::write_string::{append, write_quoted};
 
-/// Appends the value's canonical text: no white space, members in order, numbers as written, and in strings only what has to
-/// be escaped is. Recurses as deep as the value nests.
+/// Appends the canonical text: no white space, members in order, numbers as written, and only the
+/// necessary escapes. Changes nothing if an allocation fails. Recurses as deep as the value nests.
 pub fn write_text(json: &Json, out: &mut Vec<u8>) -> Result<(), NoMemory>
     ensures written { IfOk result (λ _. out.new.items ≡ out.old.items ++ canonical (view json.now)) }
     ensures unchanged { IfErr result (λ _. out.new.items ≡ out.old.items) }
     ensures writable { OnOk result (IsWritable (view json.now)) }
 
-    // It is a JSON text of the value, at any nesting limit that the value keeps to.
+    // The canonical text is a JSON text of the value, at any nesting limit that the value does not
+    // exceed.
     ensures text { IfOk result (λ _. (d : ℕ) → depth (view json.now) ≤ d → IsText d (canonical (view json.now)) (view json.now)) }
 {
     let before = out.len();

@@ -1,4 +1,4 @@
-//! Writes a string in quotation marks.
+//! Writes strings.
 ghost use Rattle.std.specs.Prelude.{◌≡◌, ◌<◌, [], ◌∷◌, ◌++◌, ◌==◌, ◌||◌, length, nat_lt, IsTrue, IfSome, IfNone, IfOk, IfErr};
 ghost use Rattle.std.specs.Str.{IsUtf8};
 ghost use Rattle.mes_json.specs.Canonical.{hex_digit, by_digits, escaped, escaped_text, quoted_text};
@@ -8,9 +8,8 @@ use crate::memory::NoMemory;
 use crate::text::Text;
 use crate::unescaped::kept_run;
 
-/// Appends the text as a JSON string: in quotation marks, with what has to be escaped in its shortest form.
-///
-/// Errors: `NoMemory` where a growth was refused; the bytes are as before then.
+/// Appends `text` as a JSON string with only the necessary escapes, each in its shortest form.
+/// Changes nothing if an allocation fails.
 pub fn write_str(text: &str, out: &mut Vec<u8>) -> Result<(), NoMemory>
     ensures written { IfOk result (λ _. out.new.items ≡ out.old.items ++ quoted_text text.now) }
     ensures unchanged { IfErr result (λ _. out.new.items ≡ out.old.items) }
@@ -25,7 +24,7 @@ pub fn write_str(text: &str, out: &mut Vec<u8>) -> Result<(), NoMemory>
     }
 }
 
-/// Appends the text in quotation marks; where memory is refused, a front of it.
+/// Appends `text` as a JSON string, or a prefix of the string if an allocation fails.
 pub(crate) fn write_quoted(text: &Text, out: &mut Vec<u8>) -> Result<(), NoMemory>
     ensures written { IfOk result (λ _. out.new.items ≡ out.old.items ++ quoted_text text.now) }
     ensures utf8 { IfOk result (λ _. IsUtf8 text.now) }
@@ -34,7 +33,7 @@ pub(crate) fn write_quoted(text: &Text, out: &mut Vec<u8>) -> Result<(), NoMemor
     write_between_marks(text.as_str().as_bytes(), out)
 }
 
-/// Appends the bytes of a string in quotation marks; where memory is refused, a front of them.
+/// Appends the bytes of a text as a JSON string, or a prefix of the string if an allocation fails.
 fn write_between_marks(bytes: &[u8], out: &mut Vec<u8>) -> Result<(), NoMemory>
     ensures written { IfOk result (λ _. out.new.items ≡ out.old.items ++ quoted_text bytes.now) }
     ensures front { Extends out.old.items out.new.items }
@@ -44,7 +43,7 @@ fn write_between_marks(bytes: &[u8], out: &mut Vec<u8>) -> Result<(), NoMemory>
     append(b"\"", out)
 }
 
-/// Appends the bytes of a string, run by run of those that stay as they are.
+/// Appends the bytes of a text, with escapes; bytes without an escape are appended in runs.
 fn write_escaped(bytes: &[u8], out: &mut Vec<u8>) -> Result<(), NoMemory>
     ensures written { IfOk result (λ _. out.new.items ≡ out.old.items ++ escaped_text bytes.now) }
     ensures front { Extends out.old.items out.new.items }
@@ -61,7 +60,7 @@ fn write_escaped(bytes: &[u8], out: &mut Vec<u8>) -> Result<(), NoMemory>
     Ok(())
 }
 
-/// Whether the byte may not stand as it is in a string (RFC 8259, section 7).
+/// Returns whether `byte` needs an escape in a string (RFC 8259 section 7).
 pub(crate) fn is_escaped(byte: u8) -> bool
     ensures { result ≡ (nat_lt byte 0x20 || byte == 0x22 || byte == 0x5C) }
 {
@@ -89,7 +88,7 @@ fn write_escape(byte: u8, out: &mut Vec<u8>) -> Result<(), NoMemory>
     }
 }
 
-/// The letter behind the reverse solidus in an escaped byte's short form, where it has one.
+/// Returns the letter after the backslash in the short escape of a byte, if there is one.
 fn short_form(byte: u8) -> Option<u8>
     requires { IsTrue (nat_lt byte 0x20 || byte == 0x22 || byte == 0x5C) }
     ensures some { IfSome result (λ letter. escaped byte ≡ 92 ∷ letter ∷ []) }
@@ -106,7 +105,7 @@ fn short_form(byte: u8) -> Option<u8>
     }
 }
 
-/// How many bytes the byte takes in a string.
+/// Returns the number of bytes that represent `byte` in a string.
 pub(crate) fn escaped_length(byte: u8) -> usize
     ensures { result ≡ length (escaped byte) }
 {
@@ -119,7 +118,7 @@ pub(crate) fn escaped_length(byte: u8) -> usize
     }
 }
 
-/// The lower-case hexadecimal digit of a value below 16.
+/// Returns the lower-case hexadecimal digit of a value below 16.
 pub fn hex_digit(value: u8) -> u8
     requires { value < 16 }
     ensures { result ≡ hex_digit value }
@@ -131,7 +130,6 @@ pub fn hex_digit(value: u8) -> u8
     }
 }
 
-/// Appends bytes.
 pub(crate) fn append(bytes: &[u8], out: &mut Vec<u8>) -> Result<(), NoMemory>
     ensures written { IfOk result (λ _. out.new.items ≡ out.old.items ++ bytes.now) }
     ensures front { Extends out.old.items out.new.items }

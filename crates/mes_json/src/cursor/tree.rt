@@ -11,7 +11,7 @@ use crate::value::Json;
 use std::alloc::Global;
 
 impl Element<'_> {
-    /// The value as a tree in memory of its own; where none is whole, `null`.
+    /// Copies the value to a tree with memory of its own. Returns `null` if the value is not whole.
     pub fn to_json(&self, alloc: Global) -> Result<Json, NoMemory>
         ensures { (t : Tree) → BeginsWith self.now t → IfOk result (λ json. view json ≡ t) }
     {

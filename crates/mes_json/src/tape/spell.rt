@@ -1,4 +1,4 @@
-//! The tape of a value that is a tree.
+//! Builds the tape of a tree. `tree_builder` does the reverse.
 ghost use Rattle.std.specs.Prelude.{◌≡◌, ℕ, List, [], ◌∷◌, ◌++◌, IfOk, OnOk};
 ghost use Rattle.mes_json.specs.Tokens.{tokens, tokens_of_items, tokens_of_members};
 ghost use Rattle.mes_json.specs.Tape.{span, IsSpan, HasSpan};
@@ -16,19 +16,16 @@ use crate::value::Json;
 use std::alloc::Global;
 use std::marker::Model;
 
-/// What a text on the tape is.
+/// The kind of a text on the tape.
 #[derive(Clone, Copy)]
 enum Form {
-    /// A number.
     Number,
-    /// A string.
     Text,
-    /// A member's name.
     Name,
 }
 
 impl Form {
-    /// The node of the text of a span.
+    /// Returns the node of a text between two offsets.
     fn node(self, from: u32, to: u32) -> Node
         ensures unreported { unreported result ≡ result }
         ensures token { (texts : List ℕ) → token_of texts result ≡ text_token self (span texts from to) }
@@ -43,7 +40,7 @@ impl Form {
 }
 
 impl Tape {
-    /// The tape of the value. Recurses as deep as the value nests.
+    /// Creates the tape of a tree. Recurses as deep as the tree nests.
     pub fn of_json(alloc: Global, json: &Json) -> Result<Tape, NoMemory>
         ensures { IfOk result (λ tape. tape ≡ tokens (view json.now)) }
     {
@@ -56,7 +53,7 @@ impl Tape {
     }
 }
 
-/// A tape that is laid. A contract sees it as its tokens.
+/// A tape in construction. In contracts it is its list of tokens.
 #[derive(Drop)]
 struct Spelling {
     texts: Texts,
@@ -80,7 +77,6 @@ impl Model for Spelling {
 }
 
 impl Spelling {
-    /// The tape, whole.
     fn into_tape(mut self, alloc: Global) -> Tape
         ensures { result ≡ self }
     {
@@ -131,7 +127,7 @@ impl Spelling {
         Ok(())
     }
 
-    /// One more node, which has no text.
+    /// Appends a node without a text.
     fn put(&mut self, node: Node) -> Result<(), NoMemory>
         requires text { HasNoText node }
         requires unreported { unreported node ≡ node }
@@ -141,7 +137,7 @@ impl Spelling {
         Ok(())
     }
 
-    /// One more text, and its node.
+    /// Appends a text and its node.
     fn put_text(&mut self, form: Form, text: &str) -> Result<(), NoMemory>
         requires { IsTextOf form text.now }
         ensures { OnOk result (self.new ≡ self.old ++ text_token form text.now ∷ []) }

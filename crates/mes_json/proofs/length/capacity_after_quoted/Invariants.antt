@@ -2,7 +2,7 @@ use Rattle.std.proofs.Common.{◌≡◌, ◌+◌, ◌-◌, ◌≤◌, length, ta
 use Rattle.mes_json.specs.Canonical.{escaped_text}
 use Rattle.mes_json.proofs.length.capacity_after_quoted.Given as goal
 
--- what is free, what is counted, and the two quotation marks are the room
+-- the free room, the counted bytes and the two quotation marks make up the room
 abbrev pub invariant-loop-place : goal.invariant-loop-place
 invariant-loop-place l = (l.place ≤ length l.bytes) × (l.free + length (escaped_text (take l.place l.bytes)) + 2 ≡ l.fn.room)
 

@@ -9,7 +9,7 @@ use Rattle.mes_json.proofs.ViewLemmas.{is_null, is_boolean, is_number, is_string
 use Rattle.mes_json.proofs.WriteLemmas.{extended, extends_then, ok_map, between, item_written, item_writable, member_written, member_writable, items_written, items_writable, members_written, members_writable, tree_written, tree_writable, always, after_colon, extends_itself, no_items_written, no_items_writable, no_members_written, no_members_writable}
 use Rattle.mes_json.proofs.write.+write.Goals as goal
 
--- Every `ensures` is answered, though `search` finds most of them: it takes long over these goals.
+-- Every `ensures` has a proof here, though `search` finds most of them: it is slow on these goals.
 
 -- ---- write_value
 pub write_value-returns-in-Null : goal.write_value-returns-in-Null

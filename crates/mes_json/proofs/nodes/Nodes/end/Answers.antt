@@ -7,7 +7,6 @@ use Rattle.mes_json.proofs.LengthsLemmas.{begun_close, begun_end, untold_close}
 use Rattle.mes_json.proofs.nodes.Nodes.end.Goals as goal
 use Rattle.mes_json.proofs.nodes.Nodes.end.Goals.{in-Some, in_default}
 
--- the innermost place first
 innermost_first : (xs ys : List ℕ) (x : ℕ) → xs ≡ ys ++ x ∷ [] → reverse xs ≡ x ∷ reverse ys
 innermost_first xs ys x is = ap (λ (us : List ℕ). reverse us) is ∙ reverse-append ys (x ∷ [])
 
