@@ -1,4 +1,4 @@
-//! Rows whose values come from outside: from RFC 8259, and from exact rational arithmetic.
+//! Numbers whose expected values come from RFC 8259 and from exact rational arithmetic.
 use arrayvec::ArrayString;
 use mes_fixed::automaton::{NumberState, may_end, next_state};
 use mes_fixed::{Fixed, MAX_UNITS, Micros, NumFault, Thousandths, is_number, read_i32, read_u64};
@@ -7,7 +7,7 @@ use std::fmt::Display;
 use std::process::Abort;
 use std::test::Fail;
 
-/// The number, or `L`, `S`, `R` for a text that is too long, has no number's shape, or is out of range.
+/// Prints the number, or `L` (too long), `S` (not a number) or `R` (out of range).
 fn word_of<T: Display>(alloc: Global, answer: Result<T, NumFault>) -> Result<String, AllocError>
 where
     T: Drop,
@@ -20,7 +20,6 @@ where
     }
 }
 
-/// Whether that is the word of the answer.
 fn is_word<T: Display>(
     alloc: Global,
     answer: Result<T, NumFault>,
@@ -32,12 +31,11 @@ where
     Ok(word_of(alloc, answer)?.as_str() == word)
 }
 
-/// The units of an answer.
 fn units_of<const P: u32>(answer: Result<Fixed<P>, NumFault>) -> Result<u64, NumFault> {
     answer.map(|number| number.units())
 }
 
-/// Texts, and the thousandths that they are, a half rounded up.
+/// Texts and their thousandths, rounded, halves up.
 const THOUSANDTHS: [(&str, &str); 10] = [
     ("1.0005", "1001"),
     ("1.0004999", "1000"),
@@ -60,7 +58,8 @@ fn reads_thousandths(rt: HostRuntime) -> Result<(), Fail> {
     Ok(())
 }
 
-/// Whether the number of these units is written so over what stands in the text, and displayed so.
+/// Returns whether the number of `units` is written, over the old `text`, and displayed as
+/// `written`.
 fn is_written(
     alloc: Global,
     units: u64,
@@ -118,7 +117,7 @@ fn knows_the_shape_of_a_number(rt: HostRuntime) {
     assert!(rt; may_end(NumberState::AfterZero));
 }
 
-/// What the text is as each of the four numbers that are read of a text is just what the words say.
+/// Reads `text` as each of the four types, and compares the results with `words`.
 fn expect_words<R: Abort + AllocGlobal>(rt: &R, text: &str, words: [&str; 4]) -> Result<(), Fail> {
     let alloc = rt.alloc();
     let bytes = text.as_bytes();
@@ -150,7 +149,8 @@ fn agrees_with_exact_rationals(rt: HostRuntime) -> Result<(), Fail> {
     Ok(())
 }
 
-/// A line is a text and what it gives as thousandths, as micros (each in units), as `u64` and as `i32`.
+/// One text a line, with its value as thousandths and as micros (both in units), as `u64` and as
+/// `i32`.
 const ROWS: &str = "-41937913.69006026773 R R R R
 -49213.8487452 R R R R
 763009903949.693849373964 763009903949694 763009903949693849 R R

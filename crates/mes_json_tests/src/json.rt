@@ -1,4 +1,4 @@
-//! Texts with their trees, and bytes with the place and the reason of their fault, by the grammar of RFC 8259.
+//! Texts with their trees, and bytes with the offset and reason of their error, by RFC 8259.
 
 mod cursor;
 mod faults;

@@ -1,4 +1,5 @@
-//! Tests of numbers and JSON texts by the public calls of `mes_fixed` and `mes_json`: rows of the standards and of exact arithmetic.
+//! Tests of the public functions of `mes_fixed` and `mes_json`. Expected values come from the
+//! standards and from exact arithmetic.
 #![tactic(auto)]
 
 #[cfg(test)]

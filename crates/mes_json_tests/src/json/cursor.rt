@@ -1,12 +1,12 @@
-//! Values on a tape, read in place: what each kind shows, and items and members in order, what nests passed over.
+//! Values on a tape, read in place: each kind, and items and members in order, with nested values
+//! skipped.
 use mes_json::{Element, Items, Members, ValueKind, read_tape};
 use std::process::Abort;
 use std::test::Fail;
 
-/// What a value shows: its kind in a word, and the text of a truth, a number or a text.
+/// The content of a value: its kind in a word, and the text of a boolean, a number or a string.
 type PrintProgress = (&'static str, &'static str);
 
-/// The word of a kind.
 fn word_of(kind: ValueKind) -> &'static str {
     match kind {
         ValueKind::Null => "null",
@@ -18,7 +18,7 @@ fn word_of(kind: ValueKind) -> &'static str {
     }
 }
 
-/// Which of the calls that look at a value give something, one for each kind.
+/// Returns which of the six accessors return a value.
 fn calls(element: &Element<'_>) -> [bool; 6] {
     [
         element.is_null(),
@@ -30,12 +30,12 @@ fn calls(element: &Element<'_>) -> [bool; 6] {
     ]
 }
 
-/// Which of them does for the kind of this word.
+/// Returns which accessor must, for the kind in this word.
 fn call_of(word: &str) -> [bool; 6] {
     ["null", "truth", "number", "text", "list", "map"].map(|kind| kind == word)
 }
 
-/// The text that a value gives, if it gives one.
+/// Returns the text of a value, or an empty one.
 fn given<'a>(element: &Element<'a>) -> &'a str {
     match element.as_bool() {
         Some(true) => "true",
@@ -44,13 +44,12 @@ fn given<'a>(element: &Element<'a>) -> &'a str {
     }
 }
 
-/// Whether the value shows just that.
+/// Returns whether the value has this content.
 fn shows(element: &Element<'_>, shown: &PrintProgress) -> bool {
     let (word, text) = *shown;
     word_of(element.kind()) == word && calls(element) == call_of(word) && given(element) == text
 }
 
-/// These items are left, and no more.
 fn expect_items<R: Abort>(rt: &R, mut items: Items<'_>, expected: &[PrintProgress]) {
     for shown in expected {
         let item = items.next().expect(rt, "an item");
@@ -60,7 +59,6 @@ fn expect_items<R: Abort>(rt: &R, mut items: Items<'_>, expected: &[PrintProgres
     assert!(rt; items.next().is_none());
 }
 
-/// These members are left, and no more.
 fn expect_members<R: Abort>(rt: &R, mut members: Members<'_>, expected: &[(&str, PrintProgress)]) {
     for (name, shown) in expected {
         let (found, value) = members.next().expect(rt, "a member");
@@ -148,7 +146,7 @@ fn goes_over_nothing(rt: HostRuntime) -> Result<(), Fail> {
     Ok(())
 }
 
-/// Texts of arrays, and how many items each has, at most four of which are counted.
+/// Texts of arrays, and their number of items, counted up to four.
 const COUNTED: [(&[u8], usize); 4] = [
     (b"[]", 0),
     (b"[[]]", 1),
@@ -156,7 +154,8 @@ const COUNTED: [(&[u8], usize); 4] = [
     (b"[1, 2, 3, 4, 5]", 4),
 ];
 
-/// How many items are counted up to four and up to none, and whether there is a first one then.
+/// Returns the number of items counted up to four and up to zero, and whether a first one is left
+/// afterwards.
 fn counts(mut items: Items<'_>) -> (usize, usize, bool) {
     (items.count(4), items.count(0), items.next().is_some())
 }

@@ -1,11 +1,11 @@
-//! Bytes that are no JSON text, with the place and the reason: each state of the reader at a byte that it has no place for, and
-//! at the end.
+//! Bytes that are not a JSON text, with the offset and reason of the error. Every state of the
+//! reader meets a byte that it refuses, and the end.
 
 use mes_json::{MAX_NESTING, ReadFault, TextFault, TextFaultKind, read_text};
 use std::process::Abort;
 use std::test::Fail;
 
-// Each text has the place of its fault, a byte that no text has there.
+// Checks that each text has a byte at this offset that is an error.
 fn expect_bytes<R: Abort + AllocGlobal>(rt: &R, faults: &[(&[u8], u64)]) {
     for (bytes, byte) in faults {
         let fault = TextFault {
@@ -20,7 +20,7 @@ fn expect_bytes<R: Abort + AllocGlobal>(rt: &R, faults: &[(&[u8], u64)]) {
     }
 }
 
-// Each text ends too soon.
+// Checks that each text ends too early.
 fn expect_ends<R: Abort + AllocGlobal>(rt: &R, texts: &[&[u8]]) {
     for bytes in texts {
         let fault = TextFault {
@@ -166,7 +166,7 @@ const CHARACTERS_BYTES: [(&[u8], u64); 30] = [
     (b"\"\xf4\x8f\xc0", 3),
     (b"\"\xf0\x90\x80\x7f", 4),
     (b"\"\xf4\x8f\xbf\xc0", 4),
-    // Behind the string.
+    // After the string.
     (b"\"a\"b", 3),
     (b"\"a\"\"", 3),
 ];
@@ -207,10 +207,10 @@ const ESCAPES_BYTES: [(&[u8], u64); 24] = [
     (b"\"\\u000:", 6),
     (b"\"\\u000@", 6),
     (b"\"\\u000`", 6),
-    // The second half of a pair stands alone: its second digit shows it.
+    // A lone low surrogate: detected at its second digit.
     (b"\"\\udc00", 4),
     (b"\"\\uDF", 4),
-    // The second half does not follow.
+    // No low surrogate follows.
     (b"\"\\ud800x", 7),
     (b"\"\\ud800\"", 7),
     (b"\"\\udbff\\n", 8),
@@ -296,7 +296,7 @@ fn arrays(rt: HostRuntime) {
     expect_bytes(&rt, &ARRAYS_BYTES);
 }
 
-// So many times the front, and then the bytes.
+// Returns `front`, repeated, followed by the bytes.
 fn nested<R: Abort + AllocGlobal>(
     rt: &R,
     front: &[u8],

@@ -1,11 +1,12 @@
-//! Texts that come in pieces are read as whole ones are: each front of each, by the byte and in every cut into two runs.
+//! Texts in pieces are read like whole ones: every prefix of each, byte by byte and in every cut
+//! into two runs.
 
 use mes_json::{Json, Lexer, MAX_NESTING, ReadFault, TextFault, TextFaultKind, read_text};
 use std::alloc::Global;
 use std::process::Abort;
 use std::test::Fail;
 
-/// Whether two readings are one tree or one fault.
+/// Returns whether two results are the same tree or the same error.
 pub(super) fn same(one: &Result<Json, ReadFault>, other: &Result<Json, ReadFault>) -> bool {
     match one {
         Ok(one) => match other {
@@ -19,7 +20,6 @@ pub(super) fn same(one: &Result<Json, ReadFault>, other: &Result<Json, ReadFault
     }
 }
 
-/// Pushes bytes one by one.
 fn push_bytes(lexer: &mut Lexer, bytes: &[u8]) -> Result<(), ReadFault> {
     for byte in bytes {
         lexer.push(*byte)?;
@@ -27,7 +27,6 @@ fn push_bytes(lexer: &mut Lexer, bytes: &[u8]) -> Result<(), ReadFault> {
     Ok(())
 }
 
-/// Pushes runs, one behind the other.
 fn push_runs(lexer: &mut Lexer, runs: &[&[u8]]) -> Result<(), ReadFault> {
     for run in runs {
         lexer.push_run(run)?;
@@ -47,17 +46,14 @@ fn read_by_runs(alloc: Global, runs: &[&[u8]]) -> Result<Json, ReadFault> {
     lexer.finish()
 }
 
-/// Whether the bytes, pushed one by one, are read so.
 fn is_same_by_bytes(alloc: Global, bytes: &[u8], whole: &Result<Json, ReadFault>) -> bool {
     same(&read_by_bytes(alloc, bytes), whole)
 }
 
-/// Whether these runs are read so.
 fn is_same_by_runs(alloc: Global, runs: &[&[u8]], whole: &Result<Json, ReadFault>) -> bool {
     same(&read_by_runs(alloc, runs), whole)
 }
 
-/// Whether the text is read so in each cut into two runs.
 fn is_same_by_cuts(alloc: Global, text: &[u8], whole: &Result<Json, ReadFault>) -> bool {
     let mut alike = true;
     for cut in 0..text.len() + 1 {
@@ -66,13 +62,14 @@ fn is_same_by_cuts(alloc: Global, text: &[u8], whole: &Result<Json, ReadFault>) 
     alike
 }
 
-/// Whether the text is read alike as a whole, by its bytes and in each cut into two runs.
+/// Returns whether the text has the same result as a whole, byte by byte, and in every cut into two
+/// runs.
 fn is_read_alike(alloc: Global, text: &[u8]) -> bool {
     let whole = read_text(alloc, text);
     is_same_by_bytes(alloc, text, &whole) && is_same_by_cuts(alloc, text, &whole)
 }
 
-/// Each front of the text is read alike, however it comes.
+/// Checks that every prefix of the text has the same result in all of these ways.
 pub(super) fn expect_same<R: Abort + AllocGlobal>(rt: &R, text: &[u8]) {
     for end in 0..text.len() + 1 {
         assert!(rt;
@@ -123,8 +120,9 @@ fn reads_deep_pieces_as_the_whole(rt: HostRuntime) -> Result<(), Fail> {
     Ok(())
 }
 
-/// Bytes, and how many bytes of texts and numbers stand behind them in memory: the decoded characters of strings, names too, and the
-/// bytes of numbers; nothing of an escape before its last byte, and nothing behind a fault.
+/// Bytes, and the number of text bytes buffered after them: decoded characters of strings and
+/// names, and bytes of numbers. An escape counts after its last byte; after an error nothing is
+/// buffered.
 const HELD: [(&[u8], u64); 22] = [
     (b"", 0),
     (b" [ ", 0),
@@ -150,14 +148,14 @@ const HELD: [(&[u8], u64); 22] = [
     (b"[\"abc\",12x \"more\"", 0),
 ];
 
-/// How many bytes are held behind bytes that are pushed one by one.
+/// Returns the number of bytes buffered after the bytes are pushed one by one.
 fn held_by_bytes(alloc: Global, bytes: &[u8]) -> Result<u64, ReadFault> {
     let mut lexer = Lexer::new(alloc);
     push_bytes(&mut lexer, bytes)?;
     Ok(lexer.held())
 }
 
-/// The same behind one run of them.
+/// Returns the number of bytes buffered after the bytes are pushed as one run.
 fn held_by_run(alloc: Global, bytes: &[u8]) -> Result<u64, ReadFault> {
     let mut lexer = Lexer::new(alloc);
     lexer.push_run(bytes)?;
@@ -176,7 +174,7 @@ fn holds_texts_and_numbers(rt: HostRuntime) -> Result<(), Fail> {
     Ok(())
 }
 
-/// Pushes a text with a fault, and more behind it by the byte and by the run, the last of which is empty.
+/// Pushes a text with an error, and then more bytes and runs; the last run is empty.
 fn push_behind_a_fault(lexer: &mut Lexer) -> Result<(), ReadFault> {
     push_runs(lexer, &[b"[1"])?;
     push_bytes(lexer, b"x]")?;

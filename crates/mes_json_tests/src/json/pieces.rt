@@ -1,4 +1,5 @@
-//! Texts of the scheduler API that come in pieces: each front of each, by the byte, in every cut into two and in runs of any length.
+//! Texts of the scheduler API in pieces. Every prefix is read byte by byte, in every cut into two
+//! runs, and in runs of any length.
 
 use super::lexer::{expect_same, same};
 use mes_json::{Json, Lexer, ReadFault, read_text};
@@ -26,7 +27,7 @@ fn reads_messages_in_pieces(rt: HostRuntime) {
     }
 }
 
-/// The next of the numbers that choose where to cut: a linear congruence.
+/// Returns the next pseudo-random number for the choice of cuts (linear congruential).
 fn following(seed: u64) -> u64 {
     seed.wrapping_mul(6_364_136_223_846_793_005)
         .wrapping_add(1_442_695_040_888_963_407)
@@ -52,12 +53,11 @@ fn read_by_any_runs(alloc: Global, text: &[u8], seed: u64) -> Result<Json, ReadF
     lexer.finish()
 }
 
-/// Whether the text is read so in the runs that this number chooses.
 fn is_same(alloc: Global, text: &[u8], seed: u64, whole: &Result<Json, ReadFault>) -> bool {
     same(&read_by_any_runs(alloc, text, seed), whole)
 }
 
-/// Whether the text is read as a whole and in a hundred choices of runs alike.
+/// Returns whether the text has the same result as a whole and in a hundred choices of runs.
 fn is_same_by_any_runs(alloc: Global, text: &[u8]) -> bool {
     let whole = read_text(alloc, text);
     let mut alike = true;

@@ -1,4 +1,4 @@
-//! Strings about as long as the blocks that are looked at together, with each kind of end, and white space between tokens.
+//! Strings of about the length of a block, with each kind of end, and white space between tokens.
 
 use super::values::is_same;
 use mes_json::{Json, ReadFault, Text, TextFault, TextFaultKind, read_text};
@@ -6,7 +6,7 @@ use std::alloc::Global;
 use std::process::Abort;
 use std::test::Fail;
 
-// A hundred plain characters: each that there is, and some again.
+// A hundred plain characters: every one that exists, and some twice.
 const PLAIN: [u8; 100] =
     *b" !#$%&'()*+,-./0123456789:;<=>?@ABCDEFGHIJKLMNOPQRSTUVWXYZ[]^_`abcdefghijklmnopqrstuvwxyz{|}~\x7f[{,:}]";
 
@@ -18,7 +18,7 @@ fn joined(alloc: Global, parts: &[&[u8]]) -> Result<Vec<u8>, Fail> {
     Ok(bytes)
 }
 
-/// Whether the bytes are these parts, one behind the other.
+/// Returns whether the bytes are the concatenated parts.
 fn are_joined(bytes: &[u8], parts: &[&[u8]]) -> bool {
     let mut rest = bytes;
     for part in parts {
@@ -30,7 +30,7 @@ fn are_joined(bytes: &[u8], parts: &[&[u8]]) -> bool {
     rest.is_empty()
 }
 
-/// Whether the bytes spell the string of these characters.
+/// Returns whether the bytes are a text of the string of these characters.
 fn spells(alloc: Global, bytes: &[u8], characters: &[&[u8]]) -> bool {
     match &read_text(alloc, bytes) {
         Ok(Json::Text(text)) => are_joined(text.as_str().as_bytes(), characters),
@@ -38,7 +38,7 @@ fn spells(alloc: Global, bytes: &[u8], characters: &[&[u8]]) -> bool {
     }
 }
 
-/// Whether the parts spell the string of these characters.
+/// Returns whether the concatenated parts are a text of the string of these characters.
 pub(super) fn are_spelled(
     alloc: Global,
     parts: &[&[u8]],
@@ -60,7 +60,7 @@ fn reads_strings_of_each_length(rt: HostRuntime) -> Result<(), Fail> {
     Ok(())
 }
 
-// What stands in a string behind plain characters, and what it spells.
+// The bytes after plain characters in a string, and the characters that they represent.
 const ENDS: [(&[u8], &[u8]); 6] = [
     (b"\\\"", b"\""),
     (b"\\\\", b"\\"),
@@ -85,7 +85,7 @@ fn reads_each_end_of_a_run(rt: HostRuntime) -> Result<(), Fail> {
     Ok(())
 }
 
-/// Whether the parts are an object whose first member has this name and this text.
+/// Returns whether the parts are an object whose first member has this name and this string.
 fn begins_with(
     alloc: Global,
     parts: &[&[u8]],
@@ -96,7 +96,6 @@ fn begins_with(
     Ok(is_member(alloc, &bytes, wanted, characters))
 }
 
-/// Whether the bytes are an object whose first member has this name and this text.
 fn is_member(alloc: Global, bytes: &[u8], wanted: &[&[u8]], characters: &[&[u8]]) -> bool {
     match &read_text(alloc, bytes) {
         Ok(Json::Map(members)) => is_first(members.as_slice(), wanted, characters),
@@ -104,7 +103,6 @@ fn is_member(alloc: Global, bytes: &[u8], wanted: &[&[u8]], characters: &[&[u8]]
     }
 }
 
-/// Whether the first of the members has this name and this text.
 fn is_first(members: &[(Text, Json)], wanted: &[&[u8]], characters: &[&[u8]]) -> bool {
     match members {
         [(name, Json::Text(text)), ..] => {
@@ -115,10 +113,10 @@ fn is_first(members: &[(Text, Json)], wanted: &[&[u8]], characters: &[&[u8]]) ->
     }
 }
 
-// What stands between a name and its value.
+// The bytes between a name and its value.
 const COLONS: [&[u8]; 3] = [b":", b" :", b": "];
 
-// What stands behind the first member.
+// The bytes after the first member.
 const BEHIND: [&[u8]; 4] = [
     b"}",
     b" , \"c\" : 1 }",
@@ -158,7 +156,7 @@ fn reads_each_end_of_a_run_in_a_member(rt: HostRuntime) -> Result<(), Fail> {
     Ok(())
 }
 
-/// Whether the bytes are refused for the byte at this place.
+/// Returns whether the byte at this offset is an error.
 fn is_refused(alloc: Global, bytes: &[u8], byte: u64) -> bool {
     let fault = TextFault {
         byte,
@@ -171,7 +169,7 @@ fn expect_fault<R: Abort + AllocGlobal>(rt: &R, bytes: &[u8], byte: u64) {
     assert!(rt; is_refused(rt.alloc(), bytes, byte), "{bytes:?} at {byte}");
 }
 
-// Bytes that no string has behind plain characters.
+// Bytes that are errors after plain characters of a string.
 const FAULTS: [&[u8]; 6] = [b"\x00", b"\n", b"\x1f", b"\x80", b"\xc1", b"\xff"];
 
 #[test]
@@ -186,7 +184,7 @@ fn stops_a_run_at_a_fault(rt: HostRuntime) -> Result<(), Fail> {
     Ok(())
 }
 
-// A text with each place between two tokens.
+// A text as its tokens, with every kind of position between two tokens.
 const TOKENS: [&[u8]; 27] = [
     b"{", b"\"a\"", b":", b"[", b"1", b",", b"-2.5e3", b",", b"true", b",", b"null", b",",
     b"\"b c\"", b",", b"[", b"]", b",", b"{", b"}", b",", b"0", b"]", b",", b"\"b\"", b":",
@@ -203,7 +201,6 @@ const BLANKS: [&[u8]; 7] = [
     &[b'\n'; 17],
 ];
 
-/// The tokens with the blank around each.
 fn spaced(alloc: Global, blank: &[u8]) -> Result<Vec<u8>, Fail> {
     let mut bytes = joined(alloc, &[blank])?;
     for &token in &TOKENS {
@@ -213,7 +210,7 @@ fn spaced(alloc: Global, blank: &[u8]) -> Result<Vec<u8>, Fail> {
     Ok(bytes)
 }
 
-/// Whether the tokens are read with the blank around each as they are without one.
+/// Returns whether the tokens with `blank` around each have the same value as without.
 fn is_read_close(alloc: Global, blank: &[u8]) -> Result<bool, Fail> {
     let wide = spaced(alloc, blank)?;
     let close = spaced(alloc, b"")?;
@@ -228,7 +225,7 @@ fn passes_over_white_space(rt: HostRuntime) -> Result<(), Fail> {
     Ok(())
 }
 
-// Bytes that are no white space, and that no token begins with.
+// Bytes that are neither white space nor the first byte of a token.
 const OTHERS: [&[u8]; 6] = [b"\x00", b"\x0b", b"\x0c", b"\x1f", b"\x7f", b"\xa0"];
 
 fn expect_no_other<R: Abort + AllocGlobal>(rt: &R, front: &[u8]) -> Result<(), Fail> {
@@ -249,7 +246,7 @@ fn passes_over_no_other_byte(rt: HostRuntime) -> Result<(), Fail> {
     Ok(())
 }
 
-// White space within a literal or a number.
+// White space inside a literal or a number, and the offset of the error.
 const WITHIN: [(&[u8], u64); 6] = [
     (b"t rue", 1),
     (b"nul l", 3),

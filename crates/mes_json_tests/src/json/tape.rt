@@ -1,11 +1,11 @@
-//! Tapes: a value in place, the tree of it, and memory used again.
+//! Tapes: values read in place, their trees, and reused memory.
 
 use super::values::written;
 use mes_json::{Lexer, ReadFault, Tape, TextFault, TextFaultKind, read_tape, read_text};
 use std::alloc::Global;
 use std::test::Fail;
 
-/// Texts, and each as it is written anew: no blanks, the least escapes.
+/// Texts, and their canonical texts.
 const WRITTEN: [(&[u8], &[u8]); 12] = [
     (b"null", b"null"),
     (b" true\r\n", b"true"),
@@ -27,7 +27,7 @@ const WRITTEN: [(&[u8], &[u8]); 12] = [
     (b"[0, \"0\", {\"0\":0}, true]", b"[0,\"0\",{\"0\":0},true]"),
 ];
 
-/// The place and the reason of the fault of bytes that are no text.
+/// Bytes that are not a text, and the offset and reason of their error.
 const FAULTY: [(&[u8], u64, TextFaultKind); 7] = [
     (b"", 0, TextFaultKind::End),
     (b"[1", 2, TextFaultKind::End),
@@ -38,7 +38,7 @@ const FAULTY: [(&[u8], u64, TextFaultKind); 7] = [
     (b"1 2", 2, TextFaultKind::Byte),
 ];
 
-/// Whether the value of the tape is written so.
+/// Returns whether the canonical text of the tape's value is `wanted`.
 fn is_written(alloc: Global, tape: &Tape, wanted: &[u8]) -> Result<bool, Fail> {
     let json = tape.root().to_json(alloc)?;
     let out = written(alloc, &json)?;
@@ -51,13 +51,11 @@ fn lexed(lexer: Lexer, bytes: &[u8]) -> Result<Tape, ReadFault> {
     lexer.end()
 }
 
-/// The tape of the tree that the text spells.
 fn tape_of_tree(alloc: Global, text: &[u8]) -> Result<Tape, Fail> {
     let json = read_text(alloc, text)?;
     Ok(Tape::of_json(alloc, &json)?)
 }
 
-/// Whether the value of the tape, which is dropped, is written so.
 fn is_read_so(alloc: Global, tape: Tape, wanted: &[u8]) -> Result<bool, Fail> {
     let same = is_written(alloc, &tape, wanted);
     drop(tape);
@@ -76,7 +74,7 @@ fn holds_the_value(rt: HostRuntime) -> Result<(), Fail> {
     Ok(())
 }
 
-/// The faults of the bytes: as a text that is there, and as one that comes.
+/// Returns the error of the bytes, read as a whole and in pieces.
 fn faults(alloc: Global, bytes: &[u8]) -> [Option<ReadFault>; 2] {
     [
         read_tape(alloc, bytes).err(),
@@ -92,7 +90,8 @@ fn tells_the_fault(rt: HostRuntime) {
     }
 }
 
-/// The tape of a text, in the memory of an older one, once its value is written so.
+/// Reads a text in the memory of an older tape. Returns its tape, if the canonical text is
+/// `wanted`.
 fn read_on(alloc: Global, older: Tape, text: &[u8], wanted: &[u8]) -> Result<Tape, Fail> {
     let tape = lexed(Lexer::reusing(alloc, older), text)?;
     if is_written(alloc, &tape, wanted)? {
@@ -111,7 +110,7 @@ fn reads_on_in_the_memory_of_a_tape(rt: HostRuntime) -> Result<(), Fail> {
     Ok(())
 }
 
-/// The tape of an array that is longer than the memory of a tape that is kept.
+/// Returns the tape of an array whose memory exceeds the limit of reuse.
 fn long_tape(alloc: Global) -> Result<Tape, Fail> {
     let mut text = Vec::new(alloc);
     text.push(b'[')?;

@@ -1,4 +1,4 @@
-//! JSON texts with the trees that they spell.
+//! JSON texts and their trees.
 
 use super::runs::are_spelled;
 use super::values::written;
@@ -7,7 +7,8 @@ use std::alloc::Global;
 use std::process::Abort;
 use std::test::Fail;
 
-/// Whether the value is what these words say: its kind, and its truth, its digits, its characters or how many items or members it has.
+/// Returns whether the value has this kind and content: its boolean, digits or characters, or its
+/// number of items or members.
 fn is_told(json: &Json, kind: &str, what: &str) -> bool {
     match json {
         Json::Null => kind == "null",
@@ -19,7 +20,6 @@ fn is_told(json: &Json, kind: &str, what: &str) -> bool {
     }
 }
 
-/// The item or member in this place.
 fn child(json: &Json, at: usize) -> Option<&Json> {
     match json {
         Json::List(items) => items.get(at),
@@ -28,7 +28,7 @@ fn child(json: &Json, at: usize) -> Option<&Json> {
     }
 }
 
-/// The value that the places, between dots, lead to, each inside the one before; `-` is the whole.
+/// Returns the value at a path of indices, separated by dots; `-` is the whole value.
 fn value_at<'a>(json: &'a Json, places: &str) -> Option<&'a Json> {
     let mut value = json;
     if places != "-" {
@@ -52,7 +52,7 @@ const ORDERED: &[u8] = br#" {"a" : {"b":"c"} , "a":"d", "0":[ ] } "#;
 
 const SPACED: &[u8] = b"\t{ \"a\"\n:\r{ } , \"b\" : \"\" }\n";
 
-// The places that lead to a value in a text, and what the value is.
+// Paths into a text, and the value at each.
 const IN_LISTED: &str = "- => list 8
 0 => null
 1 => truth true
@@ -78,7 +78,7 @@ const IN_SPACED: &str = "- => map 2
 1 => text
 ";
 
-/// Whether the places lead to such a value in what the text spells.
+/// Returns whether the value at a path in the text is the given one.
 fn is_at(alloc: Global, text: &[u8], places: &str, kind: &str, what: &str) -> bool {
     match &read_text(alloc, text) {
         Ok(json) => value_at(json, places).is_some_and(|value| is_told(value, kind, what)),
@@ -86,7 +86,7 @@ fn is_at(alloc: Global, text: &[u8], places: &str, kind: &str, what: &str) -> bo
     }
 }
 
-/// Each row has places that lead to such a value in what the text spells.
+/// Checks each row: a path into the text, and the value there.
 fn expect_values<R: Abort + AllocGlobal>(rt: &R, text: &[u8], rows: &str) -> Result<(), Fail> {
     for row in rows.lines() {
         let (places, reported) = row.split_once(" => ").ok_or("places and a value")?;
@@ -112,7 +112,7 @@ fn reads_each_value(rt: HostRuntime) -> Result<(), Fail> {
     expect_values(&rt, SPACED, IN_SPACED)
 }
 
-// A text, the places that lead to an object, and the name of a member in a place of it.
+// A text, the path of an object, and the name of a member at an index.
 const NAMES: [(&[u8], &str, usize, &str); 9] = [
     (br#"{"type":"HEARTBEAT"}"#, "-", 0, "type"),
     (ORDERED, "-", 0, "a"),
@@ -121,12 +121,12 @@ const NAMES: [(&[u8], &str, usize, &str); 9] = [
     (ORDERED, "-", 2, "0"),
     (LISTED, "7.1", 0, "b"),
     (SPACED, "-", 1, "b"),
-    // A name with escapes is the text that they stand for.
+    // A name with escapes has the characters that they represent.
     (br#"{"\u0061\/":"","a/":""}"#, "-", 0, "a/"),
     (br#"{"\u0061\/":"","a/":""}"#, "-", 1, "a/"),
 ];
 
-/// Whether the places lead to an object in what the text spells, with a member of that name in this place.
+/// Returns whether the object at a path in the text has a member of this name at this index.
 fn is_named(alloc: Global, text: &[u8], places: &str, at: usize, name: &str) -> bool {
     match &read_text(alloc, text) {
         Ok(json) => value_at(json, places).is_some_and(|object| name_at(object, at) == Some(name)),
@@ -160,7 +160,7 @@ const NUMBERS: [&str; 13] = [
     "123456789012345678901234567890.123456789012345678901234567890",
 ];
 
-// What may stand before and behind a number, and the places that lead to it.
+// The bytes before and after a number, and the path of the number.
 const AROUND: [(&[u8], &[u8], &str); 4] = [
     (b"", b"", "-"),
     (b" [", b" , 7] ", "0"),
@@ -168,7 +168,7 @@ const AROUND: [(&[u8], &[u8], &str); 4] = [
     (b"{\"a\":", b"}", "0"),
 ];
 
-/// Whether the number is read as it is written, with this before and behind it.
+/// Returns whether the number keeps its text, with these bytes before and after.
 fn is_kept(alloc: Global, digits: &str, front: &[u8], end: &[u8], places: &str) -> bool {
     match &[front, digits.as_bytes(), end].concat(alloc) {
         Ok(text) => is_at(alloc, text, places, "number", digits),
@@ -203,11 +203,11 @@ const ESCAPES: [(&[u8], &str); 12] = [
     (br#""\uDbFf\uDfFf!""#, "\u{10ffff}!"),
 ];
 
-// The first and the last character of each row of RFC 3629, section 4.
+// The first and last character of each row of RFC 3629 section 4.
 const CHARACTERS: &str =
     "\u{20}\u{7f}\u{80}\u{7ff}\u{800}\u{fff}\u{1000}\u{cfff}\u{d000}\u{d7ff}\u{e000}\u{ffff}\u{10000}\u{3ffff}\u{40000}\u{fffff}\u{100000}\u{10ffff}";
 
-/// Whether the string of the characters, none of which needs an escape, is read as them.
+/// Returns whether the characters, which need no escape, are read unchanged as a string.
 fn is_read(alloc: Global, characters: &str) -> Result<bool, Fail> {
     let text = format!(in alloc; "\"{characters}\"")?;
     Ok(is_at(alloc, text.as_bytes(), "-", "text", characters))
@@ -222,7 +222,6 @@ fn reads_characters_and_escapes(rt: HostRuntime) -> Result<(), Fail> {
     Ok(())
 }
 
-/// The bytes, so many times.
 fn times(alloc: Global, count: usize, bytes: &[u8]) -> Result<Vec<u8>, Fail> {
     let mut all = Vec::new(alloc);
     for _ in 0..count {
@@ -233,7 +232,8 @@ fn times(alloc: Global, count: usize, bytes: &[u8]) -> Result<Vec<u8>, Fail> {
 
 #[test]
 fn reads_long_texts(rt: HostRuntime) -> Result<(), Fail> {
-    // Longer than any buffer begins, with a character of two bytes and an escape in the middle.
+    // Longer than the initial capacity of any buffer, with a character of two bytes and an escape
+    // in the middle.
     let expected = times(rt.alloc(), 1000, "plain text, \u{e9}\n".as_bytes())?;
     let written = times(rt.alloc(), 1000, "plain text, \u{e9}\\n".as_bytes())?;
     let parts = [b"\"", written.as_slice(), b"\""];
@@ -241,7 +241,8 @@ fn reads_long_texts(rt: HostRuntime) -> Result<(), Fail> {
     Ok(())
 }
 
-// As deep as the limit: the first of these once less than the limit, the second, the third as often as the limit.
+// At the nesting limit: the first part is repeated `MAX_NESTING` - 1 times, the second is used
+// once, and the third is repeated `MAX_NESTING` times.
 const DEEP: [(&[u8], &[u8], &[u8]); 2] = [(b"[", b"[", b"]"), (b"{\"a\":", b"{", b"}")];
 
 fn deep(alloc: Global, front: &[u8], inner: &[u8], end: &[u8]) -> Result<Vec<u8>, Fail> {
@@ -250,7 +251,7 @@ fn deep(alloc: Global, front: &[u8], inner: &[u8], end: &[u8]) -> Result<Vec<u8>
     Ok([&fronts, inner, &ends].concat(alloc)?)
 }
 
-/// Whether the text is written as it is read, and nests as deep as the limit.
+/// Returns whether the text is its own canonical text, and nests to the limit.
 fn is_deepest(alloc: Global, text: &[u8]) -> Result<bool, Fail> {
     let json = read_text(alloc, text)?;
     let out = written(alloc, &json)?;
@@ -266,7 +267,7 @@ fn reads_as_deep_as_the_limit(rt: HostRuntime) -> Result<(), Fail> {
     Ok(())
 }
 
-/// Whether a text of the characters and a copy of it have them, as texts and as strings.
+/// Returns whether a text of the characters, and its copy, have them.
 fn is_kept_as_text(alloc: Global, characters: &str) -> Result<bool, Fail> {
     let text = Text::of(alloc, characters)?;
     let copy = text.copy(alloc)?;
@@ -274,7 +275,7 @@ fn is_kept_as_text(alloc: Global, characters: &str) -> Result<bool, Fail> {
     Ok(is_same && copy.into_string(alloc)?.as_str() == characters)
 }
 
-/// The same of the text of a string.
+/// Like `is_kept_as_text`, for the text of a `String`.
 fn is_kept_as_string(alloc: Global, characters: &str) -> Result<bool, Fail> {
     let text = Text::new(String::from_str(alloc, characters)?);
     let is_same = text == Text::of(alloc, characters)?;

@@ -1,17 +1,16 @@
-//! Values copied, measured, compared and written: texts by the grammar of RFC 8259.
+//! Values copied, measured, compared and written, by the grammar of RFC 8259.
 
 use mes_json::{Json, MAX_NESTING, NumText, Text, read_text, text_length, write_str, write_text};
 use std::alloc::Global;
 use std::test::Fail;
 
-/// The value's text.
 pub(super) fn written(alloc: Global, json: &Json) -> Result<Vec<u8>, Fail> {
     let mut out = Vec::new(alloc);
     write_text(json, &mut out)?;
     Ok(out)
 }
 
-/// Whether the digits are a number, which is kept as it is written.
+/// Returns whether the digits are a number that keeps its text.
 fn is_number(alloc: Global, digits: &str) -> Result<bool, Fail> {
     match &NumText::new(String::from_str(alloc, digits)?) {
         Ok(number) => Ok(number.as_str() == digits),
@@ -19,7 +18,7 @@ fn is_number(alloc: Global, digits: &str) -> Result<bool, Fail> {
     }
 }
 
-/// Whether the digits are none, and are given back.
+/// Returns whether the digits are not a number, and are returned.
 fn is_given_back(alloc: Global, digits: &str) -> Result<bool, Fail> {
     match &NumText::new(String::from_str(alloc, digits)?) {
         Ok(_) => Ok(false),
@@ -38,13 +37,12 @@ fn takes_numbers_only(rt: HostRuntime) -> Result<(), Fail> {
     Ok(())
 }
 
-/// The number of these digits.
 fn number(alloc: Global, digits: &str) -> Result<NumText, Fail> {
     let number = NumText::new(String::from_str(alloc, digits)?).ok();
     Ok(number.ok_or("a number")?)
 }
 
-/// Whether a copy of the number is the same, with these digits.
+/// Returns whether a copy of the number is equal, with these digits.
 fn is_copied(alloc: Global, number: &NumText, digits: &str) -> Result<bool, Fail> {
     let copy = number.copy(alloc)?;
     Ok(copy == *number && copy.as_str() == digits)
@@ -57,7 +55,7 @@ fn copies_a_number(rt: HostRuntime) -> Result<(), Fail> {
     Ok(())
 }
 
-// Canonical texts of values that all differ, and how deep arrays and objects nest in each.
+// Canonical texts of different values, and their nesting depths.
 const VALUES: [(&str, u64); 24] = [
     ("null", 0),
     ("false", 0),
@@ -79,14 +77,15 @@ const VALUES: [(&str, u64); 24] = [
     ("{\"a\":null,\"a\":null}", 1),
     ("{\"a\":null,\"b\":null}", 1),
     ("{\"b\":null,\"a\":null}", 1),
-    // One place differs in each.
+    // These differ in one place each.
     (r#"{"list":[null,true,1,"a\n"],"b":[false],"b":{}}"#, 2),
     (r#"{"list":[null,true,1.0,"a\n"],"b":[false],"b":{}}"#, 2),
     (r#"{"list":[null,true,1,"a\n"],"B":[false],"b":{}}"#, 2),
     (r#"{"list":[null,true,1,"a\n"],"b":[true],"b":{}}"#, 2),
 ];
 
-/// Whether the text is so long: told at that limit and at the highest, refused at each limit below.
+/// Returns whether `text_length` returns `length` at that limit and at the highest, and `None` at
+/// every limit below.
 fn is_long(json: &Json, length: usize) -> bool {
     for most in 0..length {
         if text_length(json, most).is_some() {
@@ -96,13 +95,14 @@ fn is_long(json: &Json, length: usize) -> bool {
     text_length(json, length) == Some(length) && text_length(json, usize::MAX) == Some(length)
 }
 
-/// Whether the value is written so, and told to be so long.
+/// Returns whether the canonical text is `wanted`, and its length is reported.
 fn is_written(alloc: Global, json: &Json, wanted: &[u8]) -> Result<bool, Fail> {
     let out = written(alloc, json)?;
     Ok(out.as_slice() == wanted && is_long(json, wanted.len()))
 }
 
-/// Whether the value nests so deep, and is written as it is read and told to be so long.
+/// Returns whether the value nests to `depth`, and `text` is its canonical text, with its length
+/// reported.
 fn is_deep(alloc: Global, text: &str, depth: u64) -> Result<bool, Fail> {
     let json = read_text(alloc, text.as_bytes())?;
     Ok(json.depth() == depth && is_written(alloc, &json, text.as_bytes())?)
@@ -116,7 +116,7 @@ fn writes_and_measures_each_kind(rt: HostRuntime) -> Result<(), Fail> {
     Ok(())
 }
 
-/// A copy of the value, which is the same.
+/// Returns a copy of the value, if it is equal.
 fn copy_of(alloc: Global, json: &Json) -> Result<Json, Fail> {
     let copy = json.copy(alloc)?;
     if json.same(&copy) {
@@ -126,7 +126,7 @@ fn copy_of(alloc: Global, json: &Json) -> Result<Json, Fail> {
     }
 }
 
-/// A copy of the value that the bytes spell; the value itself is gone.
+/// Returns a copy of the value of the bytes, and drops the value.
 fn copied(alloc: Global, bytes: &[u8]) -> Result<Json, Fail> {
     let json = read_text(alloc, bytes)?;
     let copy = copy_of(alloc, &json);
@@ -134,7 +134,8 @@ fn copied(alloc: Global, bytes: &[u8]) -> Result<Json, Fail> {
     copy
 }
 
-/// Whether the value that the bytes spell has a copy that nests so deep, and is written so.
+/// Returns whether a copy of the value of the bytes nests to `depth` and has the same canonical
+/// text.
 fn has_copy(alloc: Global, bytes: &[u8], depth: u64) -> Result<bool, Fail> {
     let copy = copied(alloc, bytes)?;
     let deep = copy.depth() == depth;
@@ -162,7 +163,7 @@ fn tells_values_apart(rt: HostRuntime) -> Result<(), Fail> {
     Ok(())
 }
 
-/// Writes a value and texts behind what is there.
+/// Appends a value, `null` and a string.
 fn write_after(json: &Json, out: &mut Vec<u8>) -> Result<(), Fail> {
     write_text(json, out)?;
     write_text(&Json::Null, out)?;
@@ -170,7 +171,7 @@ fn write_after(json: &Json, out: &mut Vec<u8>) -> Result<(), Fail> {
     Ok(())
 }
 
-/// Writes the value that the bytes spell, and texts, behind what is there.
+/// Appends the value of the bytes, `null` and a string.
 fn write_read(alloc: Global, bytes: &[u8], out: &mut Vec<u8>) -> Result<(), Fail> {
     let json = read_text(alloc, bytes)?;
     let answer = write_after(&json, out);
@@ -186,7 +187,7 @@ fn writes_behind_what_is_there(rt: HostRuntime) -> Result<(), Fail> {
     Ok(())
 }
 
-// Characters, and how they stand in a string (RFC 8259, section 7).
+// Characters, and their text in a string (RFC 8259 section 7).
 const ESCAPES: [(&str, &[u8]); 15] = [
     ("\"", b"\"\\\"\""),
     ("\\", b"\"\\\\\""),
@@ -209,20 +210,17 @@ fn text(alloc: Global, characters: &str) -> Result<Text, Fail> {
     Ok(Text::new(String::from_str(alloc, characters)?))
 }
 
-/// This member alone.
 fn single(alloc: Global, member: (Text, Json)) -> Result<Vec<(Text, Json)>, Fail> {
     let mut members = Vec::new(alloc);
     members.push(member)?;
     Ok(members)
 }
 
-/// An object with one member, which is null.
 fn named(alloc: Global, name: &str) -> Result<Json, Fail> {
     let member = (text(alloc, name)?, Json::Null);
     Ok(Json::Map(single(alloc, member)?))
 }
 
-/// Whether a string of these characters is written so.
 fn is_escaped(alloc: Global, characters: &str, wanted: &[u8]) -> Result<bool, Fail> {
     let json = Json::Text(text(alloc, characters)?);
     let same = is_written(alloc, &json, wanted);
@@ -241,7 +239,7 @@ fn escapes_what_has_to_be(rt: HostRuntime) -> Result<(), Fail> {
     Ok(())
 }
 
-/// Whether an object with one member of this name, which is null, is written so.
+/// Returns whether an object with one member of this name is written as `wanted`.
 fn is_name_escaped(alloc: Global, name: &str, wanted: &[u8]) -> Result<bool, Fail> {
     let json = named(alloc, name)?;
     let same = is_written(alloc, &json, wanted);
@@ -262,7 +260,6 @@ fn escapes_names_alike(rt: HostRuntime) -> Result<(), Fail> {
     Ok(())
 }
 
-/// `[[..]]`, so many arrays deep.
 fn nested(alloc: Global, depth: usize) -> Result<Vec<u8>, Fail> {
     let mut bytes = Vec::new(alloc);
     bytes.resize(depth, b'[')?;
@@ -270,7 +267,7 @@ fn nested(alloc: Global, depth: usize) -> Result<Vec<u8>, Fail> {
     Ok(bytes)
 }
 
-/// Whether the two spell the same.
+/// Returns whether both texts have the same value.
 pub(super) fn is_same(alloc: Global, one: &[u8], other: &[u8]) -> Result<bool, Fail> {
     let one = read_text(alloc, one)?;
     let other = read_text(alloc, other)?;
