@@ -1,4 +1,5 @@
--- Each byte behind a part of a chunked body has an answer: it goes on, ends a chunk or the body, or shows a fault.
+-- Every byte after a part of a chunked body has a result: it continues the part, ends a chunk or
+-- the body, or is an error.
 use Rattle.std.proofs.Common.{◌≡◌, ◌≢◌, ℕ, ◌+◌, ◌-◌, ◌*◌, ◌^◌, ◌<◌, ◌≤◌, ◌⊎◌, true, false, List, [], ◌∷◌, ◌++◌, length, refl, ap, sym, ◌∙◌, inl, inr, subst, append_assoc, arith, length-append}
 use Rattle.std.proofs.lemmas.Bool.{cases_eq, cases_lt}
 use Rattle.std.proofs.lemmas.List.{append-nil}
@@ -16,7 +17,7 @@ use Rattle.mes_frame.specs.declared.chunk.ChunkOut.{ChunkOut}
 use Rattle.mes_frame.specs.declared.chunk.ChunkOut.TheVariants as out
 use Rattle.mes_frame.proofs.Chunks.{digit_kept, digit_too_large, size_shows, size_ends, extension_begins, extension_kept, trailer_kept, trailer_ends, body_ends}
 
--- an answer to the byte b behind a part, and the place that it leads to
+-- a result for the byte b after a part, and the next phase
 pub record Answer (x d : List ℕ) (b : ℕ) : Type 0 where
   pub phase : Phase
   pub answer : ChunkOut
@@ -25,7 +26,6 @@ pub record Answer (x d : List ℕ) (b : ℕ) : Type 0 where
 quietly : (p : Phase) (x d : List ℕ) (b : ℕ) → PhaseRepresents p (x ++ b ∷ []) d → Answer x d b
 quietly p x d b represents = record { phase = p; answer = out.Quiet; steps = inl represents }
 
--- the same where the byte is known
 quietly_at : (p : Phase) (x d : List ℕ) (b c : ℕ) → b ≡ c → PhaseRepresents p (x ++ c ∷ []) d → Answer x d b
 quietly_at p x d b c is represents = subst (Answer x d) (sym is) (quietly p x d c represents)
 
@@ -59,7 +59,6 @@ byte_or_not b = elim (cases_eq b 9) [
   ]
 ]
 
--- a byte that is no digit, and no CR behind one
 no_digit : (count size b : ℕ) (x d : List ℕ) → PhaseRepresents (Size count size) x d → count < MAX_CHUNK_LINE → 16 ≤ digit_value b → (0 < count → b ≡ 13 → ⊥) → Answer x d b
 no_digit count size b x d represents room other cr = elim (cases_lt 0 count) [
   | inl some ↦ elim (begins_or_not b) [
@@ -139,7 +138,6 @@ behind_line size b x d (l, part, value) = elim (cases_eq b 10) [
   | inr other ↦ shows BadChunkLine x d b (inr (inr (l, part, other)))
 ]
 
--- a byte of data
 data_push : (l : Line) (left b : ℕ) (x d : List ℕ) → InData l left x d → 0 < left → InData l (left - 1) (x ++ b ∷ []) (d ++ b ∷ [])
 data_push l left b x d part more =
     let len = length-append d (b ∷ []) in
@@ -182,7 +180,6 @@ behind_data_cr b x d (l, part) = elim (cases_eq b 10) [
   | inr other ↦ shows BadChunkEnd x d b (inr (inl (l, part, other)))
 ]
 
--- where a trailer line may begin
 behind_trailers : (used b : ℕ) (x d : List ℕ) → PhaseRepresents (Trailer used false) x d → Answer x d b
 behind_trailers used b x d (l, ts, t, part, len, none) = elim (cases_eq b 13) [
   | inl cr ↦
@@ -198,7 +195,6 @@ behind_trailers used b x d (l, ts, t, part, len, none) = elim (cases_eq b 13) [
   ]
 ]
 
--- within a trailer line
 behind_trailer : (used b : ℕ) (x d : List ℕ) → PhaseRepresents (Trailer used true) x d → Answer x d b
 behind_trailer used b x d (l, ts, t, part, len, some) = elim (cases_lt used MAX_TRAILERS) [
   | inl room ↦ elim (cases_eq b 13) [

@@ -1,4 +1,5 @@
--- A byte that shows a fault behind a part of a chunked body fails a run with that fault.
+-- A byte at which a fault is detected after a part of a chunked body makes a run fail with that
+-- fault.
 use Rattle.std.proofs.Common.{◌≡◌, ℕ, ◌+◌, ◌<◌, ◌⊎◌, true, false, List, [], ◌∷◌, length, refl, ap, sym, inl, inr, subst, arith}
 use Rattle.std.proofs.lemmas.Int.Digits.{digits_value_push}
 use Rattle.std.specs.Str.Parse.{digits_value}
@@ -14,7 +15,7 @@ use Rattle.mes_frame.specs.declared.chunk.Phase.TheVariants.{Size, Extension, Li
 use Rattle.mes_frame.proofs.ChunkRun.{fail, after}
 use Rattle.mes_frame.proofs.ChunkBytes.{at_large, at_long_size, at_bad_first, at_bad_size, at_long_rest, at_bad_rest, at_bad_line, at_bad_data, at_bad_chunk, at_bare_first, at_bare, at_long_first, at_long, at_long_end, at_bad_end, at_no_end}
 
--- the place that stands for the part fails at the byte b
+-- the phase that represents the part fails at the byte b
 pub record Breaks (x d : List ℕ) (b : ℕ) (fault : FrameFault) : Type 0 where
   pub phase : Phase
   pub represents : PhaseRepresents phase x d
@@ -58,7 +59,6 @@ large_chunk x d b (part, room, digit, over) =
       step = at_large (length x) (digits_value 16 x) b digit room (omega arith);
     }
 
--- a LF within the trailer lines
 bad_trailer : (l : Line) (ts : List (List ℕ)) (t x d : List ℕ) (b : ℕ) → InTrailer l ts t x d → b ≡ 10 → (t ≡ []) ⊎ (length (trailers_bytes ts) + length t < MAX_TRAILERS) → Breaks x d b BadChunkEnd
 bad_trailer l ts [] x d b part lf room = record {
   phase = Trailer (length (trailers_bytes ts) + 0) false;
@@ -93,7 +93,6 @@ bad_end x d b shows = elim shows [
   ]
 ]
 
--- a byte past the limit within a trailer line
 long_trailer : (l : Line) (ts : List (List ℕ)) (t x d : List ℕ) (b : ℕ) → InTrailer l ts t x d → length (trailers_bytes ts) + length t ≡ MAX_TRAILERS → (t ≡ [] → IsPlain b) → Breaks x d b TrailersTooLong
 long_trailer l ts [] x d b part full plain = record {
   phase = Trailer (length (trailers_bytes ts) + 0) false;

@@ -1,4 +1,4 @@
--- What one byte is to a run over a chunked body, at each place.
+-- The effect of one byte on a run over a chunked body, in each phase.
 use Rattle.std.proofs.Common.{◌≡◌, ℕ, ◌+◌, ◌-◌, ◌*◌, ◌^◌, ◌<◌, ◌≤◌, ◌≢◌, Bool, true, false, refl, ap, subst, arith}
 use Rattle.std.proofs.lemmas.Bool.Decides.{nat_tests}
 use Rattle.std.specs.Char.{digit_value}
@@ -30,7 +30,6 @@ byte_not b h = grind (arith, nat_tests)
 pub begins_no_digit : (b : ℕ) → BeginsExtension b → 16 ≤ digit_value b
 begins_no_digit b h = grind (arith, nat_tests)
 
--- the bytes of a chunk's size
 pub at_digit : (count size b : ℕ) → digit_value b < 16 → count < MAX_CHUNK_LINE → size * 16 + digit_value b < 2 ^ 64 → after (Size count size) b ≡ quiet (Size (count + 1) (size * 16 + digit_value b))
 unfolding after
 at_digit count size b digit room fits = let cr : b ≡ 13 → digit_value b ≡ 36 = λ e. ap digit_value e in grind (arith, nat_tests)
@@ -63,7 +62,6 @@ pub at_bad_size : (count size b : ℕ) → count < MAX_CHUNK_LINE → 16 ≤ dig
 unfolding after
 at_bad_size count size b room no_digit bare no_end = let is = begins_not b bare in grind (arith, nat_tests)
 
--- the rest of its line
 pub at_rest : (count size b : ℕ) → count < MAX_CHUNK_LINE → IsExtensionByte b → after (Extension count size) b ≡ quiet (Extension (count + 1) size)
 unfolding after
 at_rest count size b room byte =
@@ -83,7 +81,6 @@ pub at_bad_rest : (count size b : ℕ) → count < MAX_CHUNK_LINE → (IsExtensi
 unfolding after
 at_bad_rest count size b room bare no_end = let is = byte_not b bare in grind (arith, nat_tests)
 
--- the end of its line
 pub at_line : (size : ℕ) → 0 < size → after (LineEnd size) 10 ≡ quiet (Data size)
 unfolding after
 at_line size some = grind (arith, nat_tests)
@@ -96,7 +93,6 @@ pub at_bad_line : (size b : ℕ) → b ≢ 10 → after (LineEnd size) b ≡ fai
 unfolding after
 at_bad_line size b other = grind (arith, nat_tests)
 
--- its data
 pub at_data : (left b : ℕ) → 0 < left → ◌≡◌ {A = Phase × ChunkOut} (after (Data left) b) (Data (left - 1), out.Byte)
 unfolding after
 at_data left b some = grind (arith, nat_tests)
@@ -117,7 +113,6 @@ pub at_bad_chunk : (b : ℕ) → b ≢ 10 → after DataEnd b ≡ fail BadChunkE
 unfolding after
 at_bad_chunk b other = grind (arith, nat_tests)
 
--- the trailer lines
 pub at_trailer : (used b : ℕ) (begun : Bool) → used < MAX_TRAILERS → IsPlain b → after (Trailer used begun) b ≡ quiet (Trailer (used + 1) true)
 unfolding after
 at_trailer used b begun room plain = grind (arith, nat_tests)
@@ -158,7 +153,6 @@ pub at_bad_end : (used b : ℕ) → used < MAX_TRAILERS → b ≢ 10 → after (
 unfolding after
 at_bad_end used b room other = grind (arith, nat_tests)
 
--- the end
 pub at_end : ◌≡◌ {A = Phase × ChunkOut} (after End 10) (Closed, out.Closed)
 unfolding after
 at_end = refl

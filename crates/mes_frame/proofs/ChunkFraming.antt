@@ -1,4 +1,4 @@
--- The bytes of the framing of a chunked body, one behind the other.
+-- Consecutive bytes of the framing of a chunked body.
 use Rattle.std.proofs.Common.{◌≡◌, ℕ, ◌+◌, ◌-◌, ◌*◌, ◌^◌, ◌<◌, ◌≤◌, List, [], ◌∷◌, ◌++◌, length, take, get_or, suc, refl, sym, ◌∙◌, ap, subst, append-nil, append_assoc, arith, inl, inr}
 use Rattle.std.proofs.lemmas.List.{take_more}
 use Rattle.std.proofs.lemmas.Bool.{cases_lt}
@@ -13,7 +13,6 @@ use Rattle.mes_frame.specs.declared.chunk.ChunkState.{ChunkState}
 use Rattle.mes_frame.proofs.ChunkParts.{open_of, lift}
 use Rattle.mes_frame.proofs.Chunks.{digit_kept, size_ends, data_begins, data_ends, chunk_ends}
 
--- none were taken
 pub framing_first : (s : ChunkState) (w body piece : List ℕ) → ChunkRepresents s w body → PassesFraming s w body piece 0
 framing_first s w body piece represents = (
   rw (append-nil w) represents,
@@ -22,7 +21,6 @@ framing_first s w body piece represents = (
       subst (λ (m : ℕ). IsOpen (w ++ take m piece) body) zero (rw (append-nil w) (open_of s w body represents)),
 )
 
--- one byte more
 pub framing_next : (old new : ChunkState) (w body piece : List ℕ) (count : ℕ) → count < length piece
     → ChunkRepresents new ((w ++ take count piece) ++ get_or piece count 0 ∷ []) body → PassesFraming old w body piece count → PassesFraming new w body piece (count + 1)
 framing_next old new w body piece count inside represents (before, opens) =
@@ -39,7 +37,7 @@ framing_next old new w body piece count inside represents (before, opens) =
           ],
     )
 
--- a byte that goes on from one place to another
+-- a byte that leads from one phase to another
 on_to : (p q : Phase) (w body piece : List ℕ) (count b : ℕ) → count < length piece → get_or piece count 0 ≡ b
     → ((x d : List ℕ) → PhaseRepresents p x d → GoesOn q (x ++ b ∷ []) d) → PassesFraming (state_at p) w body piece count → PassesFraming (state_at q) w body piece (count + 1)
 unfolding ChunkRepresents
@@ -48,14 +46,12 @@ on_to p q w body piece count b inside is goes passes =
     framing_next (state_at p) (state_at q) w body piece count inside
     (lift p q (w ++ take count piece) body (get_or piece count 0) out.Quiet represents (rw is (goes represents.part represents.represents represents.is))) passes
 
--- a digit of a size
 pub digit_passes : (w body piece : List ℕ) (at count size digit : ℕ) → at < length piece → count < 15 → digit_value (get_or piece at 0) ≡ digit → digit < 16 → size * 16 + digit < 2 ^ 64
     → PassesFraming (state_at (Size count size)) w body piece at → PassesFraming (state_at (Size (count + 1) (size * 16 + digit))) w body piece (at + 1)
 digit_passes w body piece at count size digit inside few is small fits passes =
     on_to (Size count size) (Size (count + 1) (size * 16 + digit)) w body piece at (get_or piece at 0) inside refl
     (λ x d represents. inl (digit_kept count size digit (get_or piece at 0) x d represents (omega arith) is small fits)) passes
 
--- the CRLF of a line with a size alone
 pub line_passes : (w body piece : List ℕ) (at count size : ℕ) → at + 2 ≤ length piece → 0 < count → 0 < size → get_or piece at 0 ≡ 13 → get_or piece (at + 1) 0 ≡ 10
     → PassesFraming (state_at (Size count size)) w body piece at → PassesFraming (state_at (Data size)) w body piece (at + 2)
 line_passes w body piece at count size inside digits some cr lf passes =
@@ -64,7 +60,6 @@ line_passes w body piece at count size inside digits some cr lf passes =
     subst (λ (n : ℕ). PassesFraming (state_at (Data size)) w body piece n) two
     (on_to (LineEnd size) (Data size) w body piece (at + 1) 10 (omega (arith, inside)) lf (λ x d represents. inl (data_begins size x d represents some)) line)
 
--- the CRLF behind a chunk's data
 pub end_passes : (w body piece : List ℕ) → 2 ≤ length piece → get_or piece 0 0 ≡ 13 → get_or piece 1 0 ≡ 10
     → ChunkRepresents (state_at (Data 0)) w body → PassesFraming (state_at (Size 0 0)) w body piece 2
 end_passes w body piece inside cr lf represents =
@@ -117,7 +112,6 @@ digit_more piece start at size digit so_far inside few is small =
           (digit_passes w body piece at (at - start) size digit inside (omega arith) is small (omega (arith, fits)) (so_far.passes w body passes));
     }
 
--- a size that isn't zero has a digit
 pub has_digit : (piece : List ℕ) (start at size : ℕ) → SizeSoFar piece start at size → 0 < size → 0 < at - start
 has_digit piece start at size so_far some = elim (cases_lt 0 (at - start)) [
   | inl is ↦ is

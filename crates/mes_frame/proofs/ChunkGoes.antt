@@ -1,4 +1,4 @@
--- What the parts of a chunked body are to a run: each runs from one place to another.
+-- The runs over the parts of a chunked body, each from one phase to another.
 use Rattle.std.proofs.Common.{◌≡◌, ℕ, ◌+◌, ◌*◌, ◌^◌, ◌<◌, ◌≤◌, true, false, List, [], ◌∷◌, ◌++◌, length, refl, ap, ap₂, sym, ◌∙◌, append_assoc, arith, length-append}
 use Rattle.std.proofs.lemmas.List.{append-nil}
 use Rattle.std.specs.Char.{digit_value}
@@ -35,7 +35,6 @@ goes_extension (b ∷ x) count size end some more is len short =
 goes_size : (l : Line) → IsLine l → Goes start l.size (Size (length l.size) (size_of l)) []
 goes_size l line = let short = line.short in goes_digits l.size 0 0 (length l.size) (size_of l) line.hex (omega arith) (omega arith) refl line.fits
 
--- a line with an extension, before its CR
 pub goes_extended : (l : Line) (end : ℕ) → IsLine l → 0 < length l.extension → end ≡ length (line_bytes l) → Goes start (line_bytes l) (Extension end (size_of l)) []
 goes_extended l end line some is =
     let len = length-append l.size l.extension in
@@ -43,7 +42,6 @@ goes_extended l end line some is =
     quiet_behind _ _ _ l.size l.extension [] (goes_size l line)
     (goes_extension l.extension (length l.size) (size_of l) end line.some some line.extension (omega arith) (omega arith))
 
--- a line before its CR
 record LineStands (l : Line) : Type 0 where
   phase : Phase
   goes : Goes start (line_bytes l) phase []
@@ -63,7 +61,6 @@ line_stands_by l (b ∷ x) same line =
       step = at_rest_end (length (line_bytes l)) (size_of l);
     }
 
--- a line, its CR, and what stands behind
 pub goes_line : (l : Line) (q : Phase) (y d : List ℕ) → IsLine l → Goes (LineEnd (size_of l)) y q d → Goes start (line_bytes l ++ (13 ∷ y)) q d
 goes_line l q y d line goes =
     let represents = line_stands_by l l.extension refl line in
@@ -73,13 +70,11 @@ goes_bytes : (d : List ℕ) (size left : ℕ) → size ≡ length d + left → G
 goes_bytes [] size left sum = stays _ _ (ap Data (omega arith))
 goes_bytes (b ∷ d) size left sum = by_data _ _ _ b d d (at_data size b (omega arith)) (goes_bytes d _ left (omega arith))
 
--- a line and data, and what stands behind
 pub goes_data : (l : Line) (left : ℕ) (q : Phase) (d y : List ℕ) → IsLine l → size_of l ≡ length d + left → 0 < size_of l → Goes (Data left) y q [] → Goes start (line_bytes l ++ (13 ∷ 10 ∷ (d ++ y))) q d
 goes_data l left q d y line size some goes =
     goes_line l q (10 ∷ (d ++ y)) d line
     (by_quiet _ _ _ 10 (d ++ y) d (at_line (size_of l) some) (quiet_behind _ _ _ d y d (goes_bytes d (size_of l) left size) goes))
 
--- a chunk's data is whole, and what stands behind
 pub goes_whole_data : (c : Chunk) (q : Phase) (y : List ℕ) → IsChunk c → Goes DataEnd y q [] → Goes start (line_bytes c.line ++ (13 ∷ 10 ∷ (c.bytes ++ 13 ∷ y))) q c.bytes
 goes_whole_data c q y chunk goes =
     let size = chunk.size in
@@ -98,13 +93,11 @@ goes_plain [] used end plain len short = stays _ _ (ap (λ (n : ℕ). Trailer n 
 goes_plain (b ∷ t) used end plain len short =
     by_quiet _ _ _ b t [] (at_trailer used b true (omega arith) plain.0) (goes_plain t (used + 1) end plain.1 (omega arith) short)
 
--- some bytes of a trailer line
 pub goes_begun : (t : List ℕ) (used end : ℕ) → 0 < length t → AllByRecursion IsPlain t → end ≡ used + length t → end ≤ MAX_TRAILERS → Goes (Trailer used false) t (Trailer end true) []
 goes_begun [] used end some plain len short = absurd (omega arith)
 goes_begun (b ∷ t) used end some plain len short =
     by_quiet _ _ _ b t [] (at_trailer used b false (omega arith) plain.0) (goes_plain t (used + 1) end plain.1 (omega arith) short)
 
--- a trailer line and its CR
 pub goes_trailer_cr : (t : List ℕ) (used end : ℕ) → IsTrailer t → end ≡ used + length t + 1 → end ≤ MAX_TRAILERS → Goes (Trailer used false) (t ++ 13 ∷ []) (TrailerEnd end) []
 goes_trailer_cr t used end trailer len short =
     let phase : used + length t + 1 ≡ end = sym len in
@@ -125,7 +118,6 @@ goes_trailers (t ∷ ts) used end each len short =
     quiet_behind _ _ _ (trailer_bytes t) (trailers_bytes ts) [] (goes_trailer t used (used + length t + 2) each.0 refl (omega arith))
     (goes_trailers ts (used + length t + 2) end each.1 (omega arith) short)
 
--- the last chunk's line and trailer lines
 pub goes_ending : (l : Line) (ts : List (List ℕ)) (end : ℕ) → IsEnding l ts → end ≡ length (trailers_bytes ts) → Goes start (ending l ts) (Trailer end false) []
 goes_ending l ts end ends is =
     let short = ends.short in

@@ -1,4 +1,5 @@
--- From a part of a chunked body to the whole: what a step says of a part, it says of the body. And a state's body is open.
+-- From a part of a chunked body to the whole body: a result for the part is a result for the body.
+-- The body of a state is open.
 use Rattle.std.proofs.Common.{◌≡◌, ℕ, ◌-◌, ◌≤◌, List, [], ◌∷◌, ◌++◌, length, take, refl, ap, sym, ◌∙◌, inl, inr, append_assoc, arith, length-append}
 use Rattle.std.proofs.lemmas.Grind.{common_steps, flat_map-append}
 use Rattle.std.proofs.lemmas.List.{append-nil, flat_map_more}
@@ -12,7 +13,7 @@ use Rattle.mes_frame.specs.declared.chunk.ChunkOut as out
 use Rattle.mes_frame.specs.declared.chunk.ChunkState.{ChunkState}
 use Rattle.mes_frame.proofs.Chunks.{all_push, all_append}
 
--- the same chunks, and other bytes behind them
+-- the same chunks, with more bytes after them
 pub following : {P Q : List ℕ → List ℕ → Type 0} (w body p q : List ℕ) (at : After P w body) → Q (at.part ++ p) (at.represents ++ q) → After Q (w ++ p) (body ++ q)
 following w body p q at is = record {
   chunks = at.chunks;
@@ -24,7 +25,6 @@ following w body p q at is = record {
   content = ap (λ (y : List ℕ). y ++ q) at.content ∙ append_assoc (data_of at.chunks) at.represents q;
 }
 
--- another word on the same part
 pub within : {P Q : List ℕ → List ℕ → Type 0} (w body : List ℕ) (at : After P w body) → Q at.part at.represents → After Q w body
 within w body at is = record {
   chunks = at.chunks;
@@ -36,7 +36,6 @@ within w body at is = record {
   content = at.content;
 }
 
--- a chunk ends with the byte b
 ends_chunk : (old new : Phase) (w body : List ℕ) (b : ℕ) (at : After (PhaseRepresents old) w body) → (c : Chunk) → IsChunk c → at.part ++ b ∷ [] ≡ chunk_bytes c → at.represents ≡ c.bytes → PhaseRepresents new [] [] → After (PhaseRepresents new) (w ++ b ∷ []) body
 ends_chunk old new w body b at c chunk spelt content start = record {
   chunks = at.chunks ++ c ∷ [];
@@ -63,7 +62,6 @@ goes_on old new w body b at (inl is) = record {
 }
 goes_on old new w body b at (inr (c, chunk, spelt, content, start)) = ends_chunk old new w body b at c chunk spelt content start
 
--- chunks before a whole body
 prepend : (cs : List Chunk) (x d : List ℕ) → AllByRecursion IsChunk cs → IsChunked x d → IsChunked (chunks_bytes cs ++ x) (data_of cs ++ d)
 prepend cs x d each whole =
     let tail = ending whole.last whole.trailers ++ 13 ∷ 10 ∷ [] in record {
@@ -83,7 +81,7 @@ whole_of old w body b at whole =
     ap (λ (y : List ℕ). y ++ b ∷ []) at.spelt ∙ append_assoc (chunks_bytes at.chunks) at.part (b ∷ []) in
     rw (spelt, at.content) (prepend at.chunks (at.part ++ b ∷ []) at.represents at.each whole)
 
--- what a step says behind the part, it says behind the whole
+-- the result of a step after the part holds after the whole
 pub lift : (old new : Phase) (w body : List ℕ) (b : ℕ) (answer : out.ChunkOut) (at : After (PhaseRepresents old) w body) → PhaseSteps new at.part at.represents b answer → ChunkSteps (record { phase = new }) w body b answer
 unfolding ChunkRepresents
 lift old new w body b out.TheVariants.Quiet at steps = goes_on old new w body b at steps
@@ -103,7 +101,7 @@ part_of End x d represents = inr (inr (inr (inr (inr (inr (inr represents))))))
 part_of Closed x d represents = absurd represents
 part_of (Failed fault) x d represents = absurd represents
 
--- what a state stands for is open
+-- the bytes that a state represents are an open body
 pub open_of : (s : ChunkState) (w body : List ℕ) → ChunkRepresents s w body → IsOpen w body
 unfolding ChunkRepresents
 open_of s w body represents = within w body represents (part_of s.phase represents.part represents.represents represents.is)
@@ -112,7 +110,6 @@ nothing_more : (P : List ℕ → List ℕ → Type 0) (x d p : List ℕ) → len
 nothing_more P x d [] none is = rw (append-nil x, append-nil d) is
 nothing_more P x d (b ∷ p) none is = absurd (omega arith)
 
--- a run of data
 data_run : (l : Line) (left : ℕ) (x d p : List ℕ) → InData l left x d → length p ≤ left → InData l (left - length p) (x ++ p) (d ++ p)
 data_run l left x d p old fits =
     let len = length-append d p in
@@ -135,7 +132,7 @@ run_at End x d p represents fits = nothing_more IsPart x d p fits (part_of End x
 run_at Closed x d p represents fits = absurd represents
 run_at (Failed fault) x d p represents fits = absurd represents
 
--- each front of a run of data is open
+-- every prefix of a run of data leaves an open body
 pub fronts_of : (s : ChunkState) (w body p : List ℕ) (k count : ℕ) → count ≤ remaining_of s → length p ≡ count → k ≤ count → ChunkRepresents s w body → IsOpen (w ++ take k p) (body ++ take k p)
 unfolding ChunkRepresents
 fronts_of s w body p k count room len front represents =
@@ -154,7 +151,7 @@ no_room End other = refl
 no_room Closed other = refl
 no_room (Failed fault) other = refl
 
--- outside the data there is no room, and so no run
+-- outside the data, no data byte comes next
 pub no_room_of : (s : ChunkState) → ((left : ℕ) → s.phase ≡ Data left → ⊥) → remaining_of s ≡ 0
 no_room_of s other = no_room s.phase other
 

@@ -1,5 +1,5 @@
--- The reader of chunked bodies as a function on lists. Gives `run`, what is left of a run at the end of bytes, and `Goes`: from one
--- place to another over these bytes, with their data.
+-- The decoder of chunked bodies as a function on lists. `run` is the outcome at the end of the
+-- bytes; `Goes` is a run from one phase to another over bytes with data.
 use Rattle.std.proofs.Common.{◌≡◌, ℕ, ◌+◌, ◌-◌, ◌*◌, ◌^◌, Bool, true, false, cond, nat_lt, nat_le, ◌==◌, ◌&&◌, ◌||◌, not, List, [], ◌∷◌, ◌++◌, refl, ap, ap₂, sym, ◌∙◌, subst, append_assoc}
 use Rattle.std.proofs.lemmas.List.{append-nil}
 use Rattle.std.specs.Char.{digit_value}
@@ -26,7 +26,7 @@ begins_extension b = (b == 59) || ((b == 32) || (b == 9))
 unfoldable pub is_extension_byte : ℕ → Bool
 is_extension_byte b = (b == 9) || (nat_le 32 b && (not (b == 127) && nat_lt b 256))
 
--- the place behind one more byte, and what the byte was
+-- the phase after one more byte, and the byte's role
 unfoldable pub after : Phase → ℕ → Phase × ChunkOut
 after (Size count size) b =
     cond ((b == 13) && nat_lt 0 count) (quiet (LineEnd size))
@@ -55,7 +55,7 @@ after (Failed fault) b = fail fault
 
 pub data Outcome : Type 0 where
   Represents : (phase : Phase) (body : List ℕ) → Outcome
-  -- `over` are the bytes behind the end
+  -- `over` are the bytes after the end
   Ended : (how : ChunkOut) (body over : List ℕ) → Outcome
 
 go : (Phase → List ℕ → Outcome) → Phase → ChunkOut → List ℕ → ℕ → List ℕ → Outcome
@@ -64,7 +64,7 @@ go next p out.Byte body b w = next p (body ++ b ∷ [])
 go next p out.Closed body b w = Ended out.Closed body w
 go next p (out.Fault f) body b w = Ended (out.Fault f) body w
 
--- the bytes taken from that place on, behind that data
+-- the outcome of the bytes from a phase on, after the data `body`
 pub run : List ℕ → Phase → List ℕ → Outcome
 run [] p body = Represents p body
 run (b ∷ w) p body = go (run w) (after p b).0 (after p b).1 body b w

@@ -1,4 +1,5 @@
--- Each byte behind an open chunked body has an answer, so each list of bytes reads in some way. What a state stands for hasn't ended.
+-- Every byte after an open chunked body has a result, so every list of bytes has a reading. The
+-- bytes that a state represents have not ended.
 use Rattle.std.proofs.Common.{◌≡◌, ℕ, None, List, [], ◌∷◌, ◌++◌, refl, subst, append_assoc, arith}
 use Rattle.std.proofs.lemmas.List.{append-nil}
 use Rattle.mes_frame.specs.ChunkReading.{ChunkReading, Begins, Whole, Broken, ReadsChunks}
@@ -11,7 +12,6 @@ use Rattle.mes_frame.specs.declared.chunk.ChunkOut.TheVariants as out
 use Rattle.mes_frame.proofs.ChunkParts.{lift, open_of}
 use Rattle.mes_frame.proofs.ChunkAnswers.{answer_at}
 
--- each byte has an answer
 record Next (w body : List ℕ) (b : ℕ) : Type 0 where
   state : ChunkState
   answer : ChunkOut
@@ -29,7 +29,7 @@ Read w = (reading : ChunkReading) × ReadsChunks w reading
 seam : (w rest : List ℕ) (b : ℕ) → Read ((w ++ b ∷ []) ++ rest) → Read (w ++ b ∷ rest)
 seam w rest b read = subst Read (append_assoc w (b ∷ []) rest) read
 
--- what the answer to the byte b says of all bytes, where the bytes behind it read in some way
+-- from the result for the byte b to all bytes, if the bytes after b have a reading
 read_next : (w body rest : List ℕ) (b : ℕ) (s : ChunkState) (answer : ChunkOut) → ChunkSteps s w body b answer → ((more : List ℕ) → ChunkRepresents s (w ++ b ∷ []) more → Read ((w ++ b ∷ []) ++ rest)) → Read (w ++ b ∷ rest)
 unfolding Read
 read_next w body rest b s out.Quiet steps read = seam w rest b (read body steps)
@@ -56,7 +56,6 @@ none_stands = record {
   content = refl;
 }
 
--- each list of bytes reads in some way
 pub some_reading : (w : List ℕ) → (reading : ChunkReading) × ReadsChunks w reading
 unfolding Read
 some_reading w = read_on w [] [] (record { phase = Size 0 0 }) none_stands
@@ -73,7 +72,7 @@ no_end_at End x d represents = refl
 no_end_at Closed x d represents = absurd represents
 no_end_at (Failed fault) x d represents = absurd represents
 
--- a state that stands for some bytes has answered no end and no fault
+-- a state that represents bytes has returned no end and no fault
 pub no_end_of : (s : ChunkState) (w body : List ℕ) → ChunkRepresents s w body → end_of s ≡ None
 unfolding ChunkRepresents
 no_end_of s w body at = no_end_at s.phase at.part at.represents at.is

@@ -1,4 +1,4 @@
--- Bodies cut into pieces, and what is written of them piece by piece.
+-- Bodies in pieces, and the bytes written for them piece by piece.
 use Rattle.std.proofs.Common.{◌≡◌, ℕ, zero, suc, ◌<◌, ◌≤◌, min, true, false, ◌==◌, List, [], ◌∷◌, ◌++◌, Option, Result, Ok, Err, OnOk, IfErr, MatchResult, length, take, drop, refl, ap, sym, ◌∙◌, subst, append_assoc, arith, length-drop}
 use Rattle.std.proofs.lemmas.Bool.Decides.{nat_tests}
 use Rattle.std.proofs.lemmas.Grind.{common_steps, flat_map-append}
@@ -12,7 +12,6 @@ use Rattle.mes_frame.specs.declared.counts.Counts.{Counts}
 use Rattle.mes_frame.specs.declared.write.WriteFault.{WriteFault}
 use Rattle.mes_frame.proofs.Parts.{all_held, passes_with, passes_then, out_then, stops_then, stops_long, front_of}
 
--- each body is cut in some way
 some_cut_of : (k most : ℕ) (body : List ℕ) → 0 < most → length body ≤ k → (ps : List (List ℕ)) × IsCut most body ps
 some_cut_of k most [] some within = ([], refl)
 some_cut_of zero most (c ∷ cs) some within = absurd (omega arith)
@@ -25,11 +24,10 @@ some_cut_of (suc k) most (c ∷ cs) some within =
 pub some_cut : (most : ℕ) (body : List ℕ) → 0 < most → (ps : List (List ℕ)) × IsCut most body ps
 some_cut most body some = some_cut_of (length body) most body some (omega arith)
 
--- the last chunk
 last : List ℕ
 last = 48 ∷ 13 ∷ 10 ∷ 13 ∷ 10 ∷ []
 
--- `rest` is left of the body, and the chunks before it went out, but for what is held
+-- `rest` is left of the body; the chunks before it are written or buffered
 pub record Chunking (most : ℕ) (body rest : List ℕ) (before after : Option (List ℕ)) (old new : Counts) (held : List ℕ) (sent : ℕ) : Type 0 where
   pub pieces : List (List ℕ)
   pub front : (qs : List (List ℕ)) → IsCut most rest qs → IsCut most body (pieces ++ qs)
@@ -38,7 +36,6 @@ pub record Chunking (most : ℕ) (body rest : List ℕ) (before after : Option (
 pub begins : (most : ℕ) (body : List ℕ) (a : Option (List ℕ)) (counts : Counts) (held : List ℕ) (sent : ℕ) → held ≡ [] → sent ≡ 0 → Chunking most body body a a counts counts held sent
 begins most body a counts held sent none zero-sent = record { pieces = []; front = λ qs cut. cut; out = rw zero-sent (all_held a counts [] held 0 none) }
 
--- what the test of the rest tells
 pub some_left : (rest : List ℕ) → false ≡ (length rest == 0) → 0 < length rest
 some_left [] test = absurd (cc)
 some_left (c ∷ cs) test = omega arith
@@ -47,7 +44,7 @@ pub none_left : (rest : List ℕ) → true ≡ (length rest == 0) → rest ≡ [
 none_left [] test = refl
 none_left (c ∷ cs) test = absurd (grind (arith, nat_tests))
 
--- the next piece, and what is left behind it
+-- the next piece, and the rest after it
 pub record Splits (most : ℕ) (rest p more : List ℕ) : Type 0 where
   pub some : 0 < length p
   pub front : p ≡ take most rest
@@ -70,7 +67,6 @@ cut_more most rest p more qs split cut = (split.some, split.front, subst (λ (s 
 chunks_more : (ps : List (List ℕ)) (p : List ℕ) → flat_map piece_bytes (ps ++ p ∷ []) ≡ flat_map piece_bytes ps ++ piece_bytes p
 chunks_more ps p = flat_map-append piece_bytes ps (p ∷ []) ∙ ap (λ (s : List ℕ). flat_map piece_bytes ps ++ s) (append-nil (piece_bytes p))
 
--- one chunk more is behind them
 pub goes_on : (most : ℕ) (body rest p more : List ℕ) (a b c : Option (List ℕ)) (old mid new : Counts) (held kept : List ℕ) (sent all : ℕ) → Splits most rest p more → Chunking most body rest a b old mid held sent → Passes b c mid new (held ++ piece_bytes p) kept sent all → Chunking most body more a c old new kept all
 goes_on most body rest p more a b c old mid new held kept sent all split so one = record {
   pieces = so.pieces ++ p ∷ [];
@@ -78,12 +74,11 @@ goes_on most body rest p more a b c old mid new held kept sent all split so one 
   out = rw (chunks_more so.pieces p) (passes_then _ _ _ _ _ _ _ _ _ _ _ _ (passes_with _ _ _ _ _ _ (piece_bytes p) _ _ so.out) one);
 }
 
--- what is written in all, and how it begins
+-- `front` is a prefix of all bytes to write
 pub record Framed (most : ℕ) (body front : List ℕ) : Type 0 where
   pub rest : List ℕ
   pub is : IsFrames body most (front ++ rest)
 
--- where nothing is left
 ends : (most : ℕ) (body rest : List ℕ) (a b : Option (List ℕ)) (old new : Counts) (held : List ℕ) (sent : ℕ) (so : Chunking most body rest a b old new held sent) → rest ≡ [] → IsFrames body most (flat_map piece_bytes so.pieces ++ last)
 unfolding last
 ends most body rest a b old new held sent so none = record {
@@ -100,7 +95,6 @@ frames_spelt ps qs p s =
     ap (λ (x : List ℕ). x ++ s) (flat_map-append piece_bytes ps (p ∷ qs)) ∙ append_assoc chunks (piece_bytes p ++ following) s ∙ ap (λ (x : List ℕ). chunks ++ x) (append_assoc (piece_bytes p) following s) in
     append_assoc chunks (piece_bytes p) (following ++ s) ∙ sym parts
 
--- where there is a next chunk
 frames_more : (most : ℕ) (body rest p more : List ℕ) (a b : Option (List ℕ)) (old new : Counts) (held : List ℕ) (sent : ℕ) → 0 < most → Splits most rest p more → (so : Chunking most body rest a b old new held sent) → Framed most body (flat_map piece_bytes so.pieces ++ piece_bytes p)
 unfolding last
 frames_more most body rest p more a b old new held sent some split so =
@@ -112,7 +106,7 @@ frames_more most body rest p more a b old new held sent some split so =
       is = record { pieces = so.pieces ++ p ∷ qs.0; cut = so.front (p ∷ qs.0) (cut_more most rest p more qs.0 split qs.1); spelt = spelt };
     }
 
--- how the writing of a body in chunks ended
+-- the outcome of writing a body in chunks
 pub record Ended (most : ℕ) (body : List ℕ) (a b : Option (List ℕ)) (old new : Counts) (r : Result (Unit {0}) WriteFault) : Type 0 where
   pub w : List ℕ
   pub is : IsFrames body most w
@@ -130,14 +124,12 @@ pub ended_calls : (most : ℕ) (body : List ℕ) (a b : Option (List ℕ)) (old 
 ended_calls most body a b old new (Ok x) so = (so.w, so.is, so.end.1.calls)
 ended_calls most body a b old new (Err f) so = (so.w, so.is, so.end.calls)
 
--- in a chunk
 pub chunk_stops : (most : ℕ) (body rest p more : List ℕ) (a b c : Option (List ℕ)) (old mid new : Counts) (held : List ℕ) (sent : ℕ) (f : WriteFault) → 0 < most → Splits most rest p more → Chunking most body rest a b old mid held sent → Stops b c mid new (held ++ piece_bytes p) sent f → Ended most body a c old new (Err f)
 chunk_stops most body rest p more a b c old mid new held sent f some split so stop =
     let framed = frames_more most body rest p more a b old mid held sent some split so in
     let following = stops_then _ _ _ _ _ _ _ _ _ _ _ (passes_with _ _ _ _ _ _ (piece_bytes p) _ _ so.out) stop in
     record { w = (flat_map piece_bytes so.pieces ++ piece_bytes p) ++ framed.rest; is = framed.is; end = stops_long _ _ _ _ _ framed.rest _ _ following }
 
--- at the last chunk
 pub last_stops : (most : ℕ) (body rest : List ℕ) (a b c : Option (List ℕ)) (old mid new : Counts) (held : List ℕ) (sent : ℕ) (f : WriteFault) → rest ≡ [] → Chunking most body rest a b old mid held sent → Stops b c mid new (held ++ 48 ∷ 13 ∷ 10 ∷ 13 ∷ 10 ∷ []) sent f → Ended most body a c old new (Err f)
 unfolding last
 last_stops most body rest a b c old mid new held sent f none so stop = record {
@@ -146,7 +138,7 @@ last_stops most body rest a b c old mid new held sent f none so stop = record {
   end = stops_then _ _ _ _ _ _ _ _ _ _ _ (passes_with _ _ _ _ _ _ last _ _ so.out) stop;
 }
 
--- or with it, where what is held is written
+-- the last chunk, and the buffered bytes with it
 pub flush_ends : (most : ℕ) (body rest : List ℕ) (a b c d : Option (List ℕ)) (old mid late new : Counts) (held kept : List ℕ) (sent some all : ℕ) (r : Result (Unit {0}) WriteFault) → rest ≡ [] → Chunking most body rest a b old mid held sent → Passes b c mid late (held ++ 48 ∷ 13 ∷ 10 ∷ 13 ∷ 10 ∷ []) kept sent some → OnOk r (WentOut c d late new kept some all) → IfErr r (λ f. Stops c d late new kept some f) → Ended most body a d old new r
 unfolding last
 flush_ends most body rest a b c d old mid late new held kept sent some all (Ok x) none so passed out stop =

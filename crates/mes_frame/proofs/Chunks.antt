@@ -1,4 +1,4 @@
--- How the parts of a chunked body grow by a byte: a chunk's line, its data, the trailer lines, and the ends of each.
+-- The parts of a chunked body, extended by one byte.
 use Rattle.std.proofs.Common.{◌≡◌, ℕ, Bool, true, false, ◌+◌, ◌-◌, ◌*◌, ◌^◌, ◌<◌, ◌≤◌, List, [], ◌∷◌, ◌++◌, length, refl, ap, sym, ◌∙◌, inl, inr, append_assoc, arith, length-append}
 use Rattle.std.proofs.lemmas.Int.Digits.{digits_push, digits_value_push}
 use Rattle.std.proofs.lemmas.List.{append-nil, flat_map_more}
@@ -11,7 +11,6 @@ use Rattle.mes_frame.specs.ChunkState.{PhaseRepresents, GoesOn}
 use Rattle.mes_frame.specs.declared.chunk.Phase.TheVariants.{Size, Extension, LineEnd, Data, DataEnd, Trailer, TrailerEnd, End}
 use Rattle.mes_frame.specs.declared.limits.TheConstants.{MAX_CHUNK_LINE, MAX_TRAILERS}
 
--- one element more
 pub all_push : {X : Type 0} (P : X → Type 0) (xs : List X) (x : X) → AllByRecursion P xs → P x → AllByRecursion P (xs ++ x ∷ [])
 all_push P [] x all is = (is, tt)
 all_push P (y ∷ ys) x all is = (all.0, all_push P ys x all.1 is)
@@ -20,7 +19,6 @@ pub all_append : {X : Type 0} (P : X → Type 0) (xs ys : List X) → AllByRecur
 all_append P [] ys first second = second
 all_append P (x ∷ xs) ys first second = (first.0, all_append P xs ys first.1 second)
 
--- a digit more
 pub digit_kept : (count size digit b : ℕ) (x d : List ℕ) → PhaseRepresents (Size count size) x d → count < MAX_CHUNK_LINE → digit_value b ≡ digit → digit < 16 → size * 16 + digit < 2 ^ 64 → PhaseRepresents (Size (count + 1) (size * 16 + digit)) (x ++ b ∷ []) d
 digit_kept count size digit b x d represents room is small fits =
     let len = length-append x (b ∷ []) in
@@ -33,17 +31,14 @@ digit_kept count size digit b x d represents room is small fits =
     } in
     (kept, omega arith, omega arith)
 
--- a digit too many for 64 bits
 pub digit_too_large : (count size digit b : ℕ) (x d : List ℕ) → PhaseRepresents (Size count size) x d → count < MAX_CHUNK_LINE → digit_value b ≡ digit → digit < 16 → 2 ^ 64 ≤ size * 16 + digit → ShowsLargeChunk x d b
 digit_too_large count size digit b x d represents room is small large =
     let sum = digits_value_push 16 x b in
     (represents.0, omega arith, omega arith, omega arith)
 
--- a byte that goes on with no line
 pub size_shows : (count size b : ℕ) (x d : List ℕ) → PhaseRepresents (Size count size) x d → count < MAX_CHUNK_LINE → 16 ≤ digit_value b → (0 < count → BeginsExtension b → ⊥) → (0 < count → b ≡ 13 → ⊥) → ShowsBadLine x d b
 size_shows count size b x d represents room other begins cr = inl (represents.0, omega arith, (other, λ some. (begins (omega arith), cr (omega arith))))
 
--- digits are a line
 size_line : (x d : List ℕ) → InSize x d → 0 < length x → IsLine (record { size = x; extension = [] })
 size_line x d in_size some = record {
   some = some;
@@ -53,7 +48,6 @@ size_line x d in_size some = record {
   short = let short = in_size.short in omega arith;
 }
 
--- the CR behind the digits
 pub size_ends : (count size : ℕ) (x d : List ℕ) → PhaseRepresents (Size count size) x d → 0 < count → PhaseRepresents (LineEnd size) (x ++ 13 ∷ []) d
 size_ends count size x d represents some =
     let l : Line = record { size = x; extension = [] } in
@@ -64,7 +58,6 @@ size_ends count size x d represents some =
     } in
     (l, after, represents.2)
 
--- an extension's first byte
 pub extension_begins : (count size b : ℕ) (x d : List ℕ) → PhaseRepresents (Size count size) x d → 0 < count → count < MAX_CHUNK_LINE → BeginsExtension b → PhaseRepresents (Extension (count + 1) size) (x ++ b ∷ []) d
 extension_begins count size b x d represents some room begins =
     let len = length-append x (b ∷ []) in
@@ -83,7 +76,6 @@ extension_push : (e : List ℕ) (b : ℕ) → IsExtension e → 0 < length e →
 extension_push [] b extension some is = absurd (omega arith)
 extension_push (a ∷ e) b extension some is = (extension.0, all_push IsExtensionByte e b extension.1 is)
 
--- more of an extension
 pub extension_kept : (count size b : ℕ) (x d : List ℕ) → PhaseRepresents (Extension count size) x d → count < MAX_CHUNK_LINE → IsExtensionByte b → PhaseRepresents (Extension (count + 1) size) (x ++ b ∷ []) d
 extension_kept count size b x d (l, old, count-is, size-is) room is =
     let len = length-append x (b ∷ []) in
@@ -106,7 +98,6 @@ extension_kept count size b x d (l, old, count-is, size-is) room is =
     } in
     (longer, within, omega arith, size-is)
 
--- the CR behind an extension
 pub extension_ends : (count size : ℕ) (x d : List ℕ) → PhaseRepresents (Extension count size) x d → PhaseRepresents (LineEnd size) (x ++ 13 ∷ []) d
 extension_ends count size x d (l, old, count-is, size-is) =
     let after : AfterLine l (x ++ 13 ∷ []) d = record {
@@ -116,7 +107,6 @@ extension_ends count size x d (l, old, count-is, size-is) =
     } in
     (l, after, size-is)
 
--- the LF of the line of a chunk with data
 pub data_begins : (size : ℕ) (x d : List ℕ) → PhaseRepresents (LineEnd size) x d → 0 < size → PhaseRepresents (Data size) (x ++ 10 ∷ []) d
 data_begins size x d (l, old, size-is) some =
     let none = ap length old.empty in
@@ -128,7 +118,6 @@ data_begins size x d (l, old, size-is) some =
     } in
     (l, begun)
 
--- a byte of data
 pub data_kept : (left b : ℕ) (x d : List ℕ) → PhaseRepresents (Data left) x d → 0 < left → PhaseRepresents (Data (left - 1)) (x ++ b ∷ []) (d ++ b ∷ [])
 data_kept left b x d (l, old) some =
     let len = length-append d (b ∷ []) in
@@ -141,7 +130,6 @@ data_kept left b x d (l, old) some =
     } in
     (l, more)
 
--- the CR behind the data
 pub data_ends : (x d : List ℕ) → PhaseRepresents (Data 0) x d → PhaseRepresents DataEnd (x ++ 13 ∷ []) d
 data_ends x d (l, old) =
     let size = old.size in
@@ -153,13 +141,11 @@ data_ends x d (l, old) =
     } in
     (l, after)
 
--- before a chunk's first byte
 pub size_begins : PhaseRepresents (Size 0 0) [] []
 size_begins =
     let none : InSize [] [] = record { hex = tt; fits = omega arith; short = omega arith; empty = refl } in
     (none, refl, refl)
 
--- the LF behind the data
 pub chunk_ends : (x d : List ℕ) → PhaseRepresents DataEnd x d → GoesOn (Size 0 0) (x ++ 10 ∷ []) d
 chunk_ends x d (l, old) =
     let c : Chunk = record { line = l; bytes = d } in
@@ -168,7 +154,6 @@ chunk_ends x d (l, old) =
     ∙ ap (λ (y : List ℕ). line_bytes l ++ (13 ∷ 10 ∷ y)) (append_assoc d (13 ∷ []) (10 ∷ []))) in
     inr (c, old.chunk, spelt, refl, size_begins)
 
--- the LF of the last chunk's line
 pub trailers_begin : (x d : List ℕ) → PhaseRepresents (LineEnd 0) x d → PhaseRepresents (Trailer 0 false) (x ++ 10 ∷ []) d
 trailers_begin x d (l, old, size-is) =
     let ends : IsEnding l [] = record { line = old.line; zero_size = sym size-is; each = tt; short = omega arith } in
@@ -181,7 +166,6 @@ trailers_begin x d (l, old, size-is) =
     } in
     (l, [], [], begun, refl, refl)
 
--- a byte of a trailer line
 pub trailer_kept : (used b : ℕ) (begun : Bool) (x d : List ℕ) → PhaseRepresents (Trailer used begun) x d → used < MAX_TRAILERS → IsPlain b → PhaseRepresents (Trailer (used + 1) true) (x ++ b ∷ []) d
 trailer_kept used b begun x d (l, ts, t, old, used-is, begun-is) room plain =
     let len = length-append t (b ∷ []) in
@@ -194,7 +178,6 @@ trailer_kept used b begun x d (l, ts, t, old, used-is, begun-is) room plain =
     } in
     (l, ts, t ++ b ∷ [], within, omega arith, omega arith)
 
--- the CR of a trailer line
 pub trailer_returns : (used : ℕ) (x d : List ℕ) → PhaseRepresents (Trailer used true) x d → used < MAX_TRAILERS → PhaseRepresents (TrailerEnd (used + 1)) (x ++ 13 ∷ []) d
 trailer_returns used x d (l, ts, t, old, used-is, begun-is) room =
     let after : AfterTrailer l ts t (x ++ 13 ∷ []) d = record {
@@ -211,7 +194,6 @@ ending_push l ts t =
     append_assoc (line_bytes l) (13 ∷ 10 ∷ trailers_bytes ts) (trailer_bytes t)
     ∙ ap (λ (y : List ℕ). line_bytes l ++ y) (flat_map_more trailer_bytes (13 ∷ 10 ∷ []) ts t)
 
--- the LF of a trailer line
 pub trailer_ends : (used : ℕ) (x d : List ℕ) → PhaseRepresents (TrailerEnd used) x d → used < MAX_TRAILERS → PhaseRepresents (Trailer (used + 1) false) (x ++ 10 ∷ []) d
 trailer_ends used x d (l, ts, t, old, used-is) room =
     let len = length-append t (13 ∷ 10 ∷ []) in
@@ -234,7 +216,6 @@ trailer_ends used x d (l, ts, t, old, used-is) room =
     } in
     (l, ts ++ t ∷ [], [], within, omega arith, refl)
 
--- the CR of the empty line
 pub ending_returns : (used : ℕ) (x d : List ℕ) → PhaseRepresents (Trailer used false) x d → PhaseRepresents End (x ++ 13 ∷ []) d
 ending_returns used x d (l, ts, t, old, used-is, none) =
     let after : AfterEnding l ts (x ++ 13 ∷ []) d = record {
@@ -244,7 +225,6 @@ ending_returns used x d (l, ts, t, old, used-is, none) =
     } in
     (l, ts, after)
 
--- the LF of the empty line
 pub body_ends : (l : Line) (ts : List (List ℕ)) (x d : List ℕ) → AfterEnding l ts x d → IsChunked (x ++ 10 ∷ []) d
 body_ends l ts x d after = record {
   chunks = [];

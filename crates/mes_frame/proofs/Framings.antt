@@ -1,4 +1,4 @@
--- What is written for a body is one list of bytes, and is read back as that body; so for records.
+-- The bytes written for a body are unique, and are read back as that body; likewise for records.
 use Rattle.std.proofs.Common.{◌≡◌, ℕ, zero, suc, ◌+◌, ◌/◌, ◌%◌, ◌^◌, ◌<◌, ◌≤◌, Bool, true, false, cond, ◌==◌, List, [], ◌∷◌, ◌++◌, length, take, drop, map, refl, ap, sym, ◌∙◌, arith, take-append-drop}
 use Rattle.std.proofs.lemmas.Fmt.{digits_is_IsNumeral, decimal_is_IsNumeral, length-decimal-le}
 use Rattle.std.proofs.lemmas.List.{append-nil, length-take}
@@ -16,7 +16,7 @@ no_piece most body p none some front =
     let empty : length body ≡ 0 = ap length none in
     omega arith
 
--- a body is cut in one way
+-- the pieces of a body are unique
 one_cut : (most : ℕ) (body : List ℕ) (ps qs : List (List ℕ)) → IsCut most body ps → IsCut most body qs → ps ≡ qs
 one_cut most body [] [] cut other = refl
 one_cut most body [] (q ∷ qs) cut other = absurd (no_piece most body q cut other.0 other.1)
@@ -26,13 +26,11 @@ one_cut most body (p ∷ ps) (q ∷ qs) cut other =
     let first : p ≡ q = cut.1 ∙ sym other.1 in
     cc
 
--- it is framed in one way
 pub framing_is_unique : (body w v : List ℕ) (most : ℕ) → IsFrames body most w → IsFrames body most v → w ≡ v
 framing_is_unique body w v most framed other =
     let same = one_cut most body framed.pieces other.pieces framed.cut other.cut in
     framed.spelt ∙ ap (λ (ps : List (List ℕ)). flat_map piece_bytes ps ++ (48 ∷ 13 ∷ 10 ∷ 13 ∷ 10 ∷ [])) same ∙ sym other.spelt
 
--- and in some way
 pub some_framing : (body : List ℕ) (most : ℕ) → 1 ≤ most → (w : List ℕ) × IsFrames body most w
 some_framing body most some =
     let cut = some_cut most body some in
@@ -53,7 +51,6 @@ few_digits : (n : ℕ) → length (digits 16 false n) ≤ 64
 unfolding digits
 few_digits n = few_onto 64 n []
 
--- the chunk that is written of a piece
 chunk_of : List ℕ → Chunk
 chunk_of p = record { line = record { size = digits 16 false (length p); extension = [] }; bytes = p }
 
@@ -68,7 +65,6 @@ is_chunk p some small =
       some = some;
     }
 
--- the last chunk
 zero_line : Line
 zero_line = record { size = 48 ∷ []; extension = [] }
 
@@ -102,7 +98,7 @@ content most body [] cut = cut
 content most body (p ∷ ps) cut =
     sym (take-append-drop most body) ∙ ap (λ (s : List ℕ). s ++ drop most body) (sym cut.1) ∙ ap (λ (s : List ℕ). p ++ s) (content most (drop most body) ps cut.2)
 
--- what is written is a chunked body with that data
+-- the written bytes are a chunked body with the same data
 pub framing_is_chunked : (body w : List ℕ) (most : ℕ) → most < 2 ^ 64 → IsFrames body most w → IsChunked w body
 unfolding zero_line
 framing_is_chunked body w most small framed = record {
@@ -115,7 +111,6 @@ framing_is_chunked body w most small framed = record {
   content = content most body framed.pieces framed.cut;
 }
 
--- a written record is one, with that data
 pub written_is_record : (r : List ℕ) (limit : ℕ) → length r < 2 ^ 64 → length r ≤ limit → IsRecord (record_bytes r) r limit
 written_is_record r limit small within =
     let numeral = decimal_is_IsNumeral (length r) small in

@@ -1,4 +1,5 @@
--- Each list of bytes reads as a chunked body in at most one way: its run tells which. A state is determined by what it stands for.
+-- Every list of bytes has at most one reading as a chunked body, which its run determines. The
+-- bytes determine the state.
 use Rattle.std.proofs.Common.{◌≡◌, ℕ, ◌-◌, List, [], ◌∷◌, ◌++◌, length, take, get_or, refl, ap, ap₂, sym, ◌∙◌, subst, append_assoc, arith}
 use Rattle.std.proofs.lemmas.Grind.{common_steps}
 use Rattle.mes_frame.specs.Chunk.{trailers_bytes, ending, chunks_bytes, data_of, IsChunked}
@@ -17,7 +18,7 @@ use Rattle.mes_frame.proofs.ChunkGoes.{goes_chunks, goes_ending}
 use Rattle.mes_frame.proofs.ChunkPhases.{place_reaches, at_place}
 use Rattle.mes_frame.proofs.ChunkBreaks.{breaks}
 
--- whole chunks and then a part run to where the part runs
+-- a run over whole chunks and a part ends where a run over the part ends
 goes_after : (P : List ℕ → List ℕ → Type 0) (p : Phase) (w body : List ℕ) (at : After P w body) → Goes start at.part p at.represents → Goes start w p body
 goes_after P p w body at goes =
     goes_as _ _ w (chunks_bytes at.chunks ++ at.part) body (data_of at.chunks ++ at.represents) at.spelt at.content
@@ -50,7 +51,7 @@ whole_run w over body whole =
     let seam : w ++ over ≡ front ++ 10 ∷ over = ap (λ (y : List ℕ). y ++ over) whole.spelt ∙ simp append_assoc in
     ap (λ (y : List ℕ). run y start []) seam ∙ run_ends _ front body over 10 goes at_end
 
--- what the outcome of a run over w says of w
+-- the reading of w, by the outcome of a run over w
 reading_of : List ℕ → Outcome → ChunkReading
 reading_of w (Represents phase body) = Begins body
 reading_of w (Ended out.Quiet body over) = Begins body
@@ -88,11 +89,10 @@ reads_so w (Whole front body) (rest, spelt, whole) =
 reads_so w (Broken front byte body fault) (rest, spelt, shows) =
     subst (λ (v : List ℕ). Broken front byte body fault ≡ reading_of v (run v start [])) (sym spelt) (read_broken front rest body byte fault shows)
 
--- no list of bytes reads in two ways
 pub one_reading : (w : List ℕ) (reading other : ChunkReading) → ReadsChunks w reading → ReadsChunks w other → reading ≡ other
 one_reading w reading other reads too = reads_so w reading reads ∙ sym (reads_so w other too)
 
--- two states that stand for the same bytes are one
+-- two states that represent the same bytes are equal
 pub one_state : (s t : ChunkState) (w body other : List ℕ) → ChunkRepresents s w body → ChunkRepresents t w other → (s ≡ t) × (body ≡ other)
 one_state s t w body other first second =
     let same : Represents s.phase body ≡ Represents t.phase other = sym (state_run s w body first) ∙ state_run t w other second in

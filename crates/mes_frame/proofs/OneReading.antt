@@ -1,4 +1,5 @@
--- Each list of bytes reads in one way: its digits end in one place, and what stands there decides.
+-- Every list of bytes has exactly one reading: the end of its digits, and the byte there,
+-- determine which.
 use Rattle.std.proofs.Common.{◌≡◌, ℕ, ◌-◌, ◌<◌, ◌≤◌, ◌⊎◌, false, cond, nat_lt, nat_le, ◌==◌, ◌&&◌, max, List, [], ◌∷◌, ◌++◌, length, take, drop, refl, ap, sym, ◌∙◌, inl, inr, subst, append_assoc, arith, length-append, take-append-drop}
 use Rattle.std.proofs.lemmas.Bool.{cases_eq, cases_lt, lt-ltb, le-ltb, le-leb, lt-leb, ne_eqb, and_left, and_right}
 use Rattle.std.proofs.lemmas.Grind.{common_steps}
@@ -10,7 +11,7 @@ use Rattle.mes_frame.specs.RecordReading.{RecordReading, ReadsRecord, Begins, Wh
 use Rattle.mes_frame.specs.declared.fault.FrameFault.{FrameFault}
 use Rattle.mes_frame.specs.declared.fault.FrameFault.TheVariants.{BadChunkLine, ChunkLineTooLong, ChunkTooLarge, BadChunkEnd, TrailersTooLong, BadSizeLine, SizeLineTooLong, RecordTooLarge}
 
--- the digits x stop before `rest`: at the end, at a byte that is no digit, or because there are n of them
+-- the digits x end before `rest`: at the end, at another byte, or because there are n of them
 abbrev pub Stops : ℕ → List ℕ → List ℕ → Type 0
 Stops n x [] = Unit {0}
 Stops n x (c ∷ s) = (10 ≤ digit_value c) ⊎ (length x ≡ n)
@@ -22,7 +23,7 @@ stops_tail n c x (d ∷ s) stops = elim stops [ inl h ↦ inl h | inr h ↦ inr 
 goes_on : (n d : ℕ) (s : List ℕ) → Stops n [] (d ∷ s) → digit_value d < 10 → 0 < n → ⊥
 goes_on n d s stops digit some = elim stops [ inl h ↦ omega arith | inr h ↦ omega arith ]
 
--- the digits at the front are found in one way
+-- the digits at the front are unique
 pub one_split : (n : ℕ) (x y rest other : List ℕ) → AllDigits 10 x → AllDigits 10 y → length x ≤ n → length y ≤ n → Stops n x rest → Stops n y other → x ++ rest ≡ y ++ other → (x ≡ y) × (rest ≡ other)
 one_split n [] [] rest other digits more few less stops ends same = (refl, same)
 one_split n [] (d ∷ y) rest other digits more few less stops ends same =
@@ -36,14 +37,14 @@ one_split n (c ∷ x) (d ∷ y) rest other digits more few less stops ends same 
     let front : x ≡ y = one.0 in
     (cc, one.1)
 
--- what the bytes behind the LF of the size line x make
+-- the bytes after the LF of the size line x
 after_line : ℕ → List ℕ → List ℕ → RecordReading
 after_line limit x s =
     let size = digits_value 10 x in
     cond (nat_lt limit size) (Broken x 10 RecordTooLarge)
     (cond (nat_le size (length s)) (Whole (x ++ 10 ∷ take size s) (take size s)) (Begins s))
 
--- what the bytes behind the digits x make
+-- the bytes after the digits x
 after_digits : ℕ → List ℕ → List ℕ → RecordReading
 after_digits limit x [] = Begins []
 after_digits limit x (c ∷ s) =
@@ -147,11 +148,9 @@ same_found limit w reading other f g =
     let one = one_split 20 f.x g.x f.rest g.rest f.digits g.digits f.few g.few f.stops g.stops (sym f.whole ∙ g.whole) in
     f.is ∙ ap (λ (y : List ℕ). after_digits limit y f.rest) one.0 ∙ ap (after_digits limit g.x) one.1 ∙ sym g.is
 
--- no list of bytes reads in two ways
 pub one_reading : (limit : ℕ) (w : List ℕ) (reading other : RecordReading) → ReadsRecord limit w reading → ReadsRecord limit w other → reading ≡ other
 one_reading limit w reading other reads too = same_found limit w reading other (found limit w reading reads) (found limit w other too)
 
--- bytes begin with one record at most, under any two limits
 pub record_is_unique : (f r s g q t : List ℕ) (l m : ℕ) → IsRecord f r l → IsRecord g q m → f ++ s ≡ g ++ t → (f ≡ g) × (r ≡ q) × (s ≡ t)
 record_is_unique f r s g q t l m first second same =
     let short = first.within in
@@ -175,7 +174,7 @@ stops_more : (n c : ℕ) (x rest : List ℕ) → 0 < n → Stops (n - 1) x rest 
 stops_more n c x [] some stops = tt
 stops_more n c x (d ∷ s) some stops = elim stops [ inl h ↦ inl h | inr h ↦ inr (omega arith) ]
 
--- the digits at the front are found
+-- the digits at the front exist
 split : (n : ℕ) (w : List ℕ) → Split n w
 split n [] = record { x = []; rest = []; digits = tt; few = omega arith; whole = refl; stops = tt }
 split n (c ∷ w) =
@@ -235,7 +234,6 @@ read_rest limit x (c ∷ s) begun stops =
       | inr other ↦ read_other limit c x s begun other
     ]
 
--- each list of bytes reads in some way
 pub some_reading : (limit : ℕ) (w : List ℕ) → (reading : RecordReading) × ReadsRecord limit w reading
 unfolding Read
 some_reading limit w =

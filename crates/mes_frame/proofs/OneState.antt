@@ -1,4 +1,4 @@
--- A state is determined by its limit and by what it stands for.
+-- The limit and the bytes read determine the state.
 use Rattle.std.proofs.Common.{◌≡◌, ℕ, List, [], ◌∷◌, length, ap, ap₂, sym, ◌∙◌, inl, subst, arith}
 use Rattle.std.proofs.lemmas.List.{append-nil}
 use Rattle.std.specs.Str.Parse.{digits_value}

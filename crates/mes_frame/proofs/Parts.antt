@@ -1,4 +1,4 @@
--- Writes in parts: what went out and what was counted by two of them, one behind the other.
+-- Writes in parts: the bytes written, and the counts, of two consecutive writes.
 use Rattle.std.proofs.Common.{◌≡◌, ℕ, true, false, Result, Ok, Err, is_ok, OnOk, OnErr, ◌+◌, ◌<◌, List, [], ◌++◌, Option, length, take, refl, sym, ap, subst, ◌∙◌, arith, append_assoc, length-append}
 use Rattle.std.proofs.KnownBytes.{Appends-nil, Appends-trans}
 use Rattle.std.proofs.lemmas.Grind.{common_steps}
@@ -16,7 +16,7 @@ use Rattle.mes_frame.specs.declared.write.WriteFaultKind.TheVariants.{Device, Ze
 pub calls_more : (n k : ℕ) (old mid new : Counts) → CallsFor n old mid → CallsFor k mid new → CallsFor (n + k) old new
 calls_more n k old mid new first second = (omega arith, omega arith)
 
--- what a write of n bytes that stops may call, one of more bytes may
+-- the bound on the calls for n bytes holds for more bytes
 pub calls_short : (n k : ℕ) (old new : Counts) → 0 < n → CallsFor n old new → CallsFor (n + k) old new
 calls_short n k old new some calls = (omega arith, omega arith)
 
@@ -27,7 +27,6 @@ none_then_stops Zero old mid new good stops = (omega arith, omega arith)
 pub none_then_none : (old mid new : Counts) → NoneFails old mid → NoneFails mid new → NoneFails old new
 none_then_none old mid new good more = (omega arith, omega arith)
 
--- two parts went out
 pub both_out : (a b c : Option (List ℕ)) (old mid new : Counts) (v w : List ℕ) (sent some all : ℕ) → WentOut a b old mid v sent some → WentOut b c mid new w some all → WentOut a c old new (v ++ w) sent all
 both_out a b c old mid new v w sent some all first second =
     let len = length-append v w in
@@ -47,7 +46,7 @@ take_behind v w n = take-append-add v w n
 take_before : (v w : List ℕ) (n : ℕ) → n < length v → take n (v ++ w) ≡ take n v
 take_before v w n short = grind (arith, common_steps)
 
--- one part went out, and the next one stopped
+-- one part was written, and the next one stopped
 pub stops_behind : (a b c : Option (List ℕ)) (old mid : Counts) (v w : List ℕ) (sent some told-last : ℕ) → WentOut a b old mid v sent some → WrotePart b c w some told-last → WrotePart a c (v ++ w) sent told-last
 stops_behind a b c old mid v w sent some told-last first second =
     let len = length-append v w in
@@ -61,7 +60,6 @@ stops_behind a b c old mid v w sent some told-last first second =
       sent_is = omega arith;
     }
 
--- a part stopped, and no other was written
 pub stops_before : (a b : Option (List ℕ)) (v w : List ℕ) (sent told-last : ℕ) → WrotePart a b v sent told-last → WrotePart a b (v ++ w) sent told-last
 stops_before a b v w sent told-last front =
     let len = length-append v w in
@@ -73,15 +71,13 @@ stops_before a b v w sent told-last front =
       sent_is = front.sent_is;
     }
 
--- what a part says that went out
 pub part_out : (a b : Option (List ℕ)) (old new : Counts) (w : List ℕ) (sent all : ℕ) → Appends a b w → NoneFails old new → all ≡ up sent (length w) → CallsFor (length w) old new → WentOut a b old new w sent all
 part_out a b old new w sent all out good count calls = record { out = out; good = good; count = count; calls = calls }
 
--- with nothing before it
 pub front_of : (a b : Option (List ℕ)) (w : List ℕ) (sent : ℕ) → WrotePart a b w 0 sent → WroteFront a b w sent
 front_of a b w sent part = record { n = part.n; short = part.short; out = part.out; sent_is = let is = part.sent_is in omega arith }
 
--- what a call says of an answer that it gave, by the test of that answer
+-- from a result and its test to the fact about success
 pub of_ok : {T E P : Type 0} (r : Result T E) → is_ok r ≡ true → OnOk r P → P
 of_ok (Ok x) test holds = holds
 of_ok (Err e) test holds = absurd (cc)
@@ -90,7 +86,6 @@ pub of_err : {T E P : Type 0} (r : Result T E) → is_ok r ≡ false → OnErr r
 of_err (Ok x) test holds = absurd (cc)
 of_err (Err e) test holds = holds
 
--- all is held
 pub all_held : (a : Option (List ℕ)) (counts : Counts) (w held : List ℕ) (sent : ℕ) → held ≡ w → Passes a a counts counts w held sent sent
 all_held a counts w held sent same = record {
   front = [];
@@ -98,11 +93,10 @@ all_held a counts w held sent same = record {
   out = record { out = Appends-nil a; good = (refl, refl); count = omega arith; calls = (omega arith, omega arith) };
 }
 
--- none is held
 pub none_held : (a b : Option (List ℕ)) (old new : Counts) (w held : List ℕ) (sent all : ℕ) → held ≡ [] → WentOut a b old new w sent all → Passes a b old new w held sent all
 none_held a b old new w held sent all none out = record { front = w; spelt = sym (append-nil w) ∙ ap (λ (s : List ℕ). w ++ s) (sym none); out = out }
 
--- p behind it is held too
+-- p is buffered after the others
 pub passes_with : (a b : Option (List ℕ)) (old new : Counts) (w held p : List ℕ) (sent all : ℕ) → Passes a b old new w held sent all → Passes a b old new (w ++ p) (held ++ p) sent all
 passes_with a b old new w held p sent all first = record {
   front = first.front;
@@ -110,7 +104,7 @@ passes_with a b old new w held p sent all first = record {
   out = first.out;
 }
 
--- of what is held a front goes out
+-- a prefix of the buffered bytes is written
 pub passes_then : (a b c : Option (List ℕ)) (old mid new : Counts) (w held kept : List ℕ) (sent some all : ℕ) → Passes a b old mid w held sent some → Passes b c mid new held kept some all → Passes a c old new w kept sent all
 passes_then a b c old mid new w held kept sent some all first second = record {
   front = first.front ++ second.front;
@@ -118,12 +112,10 @@ passes_then a b c old mid new w held kept sent some all first second = record {
   out = both_out a b c old mid new first.front second.front sent some all first.out second.out;
 }
 
--- or all of it
 pub out_then : (a b c : Option (List ℕ)) (old mid new : Counts) (w held : List ℕ) (sent some all : ℕ) → Passes a b old mid w held sent some → WentOut b c mid new held some all → WentOut a c old new w sent all
 out_then a b c old mid new w held sent some all first second =
     subst (λ (s : List ℕ). WentOut a c old new s sent all) (sym first.spelt) (both_out a b c old mid new first.front held sent some all first.out second)
 
--- one part went out, and the write of the next one stopped
 pub out_stops : (a b c : Option (List ℕ)) (old mid new : Counts) (v w : List ℕ) (sent some : ℕ) (f : WriteFault) → WentOut a b old mid v sent some → Stops b c mid new w some f → Stops a c old new (v ++ w) sent f
 out_stops a b c old mid new v w sent some f first second =
     let len = length-append v w in
@@ -134,12 +126,11 @@ out_stops a b c old mid new v w sent some f first second =
       calls = subst (λ (n : ℕ). CallsFor n old new) (sym len) both;
     }
 
--- or the write of what is held stops
 pub stops_then : (a b c : Option (List ℕ)) (old mid new : Counts) (w held : List ℕ) (sent some : ℕ) (f : WriteFault) → Passes a b old mid w held sent some → Stops b c mid new held some f → Stops a c old new w sent f
 stops_then a b c old mid new w held sent some f first second =
     subst (λ (s : List ℕ). Stops a c old new s sent f) (sym first.spelt) (out_stops a b c old mid new first.front held sent some f first.out second)
 
--- so does that of more bytes
+-- a write that stopped also stopped within more bytes
 pub stops_long : (a b : Option (List ℕ)) (old new : Counts) (v w : List ℕ) (sent : ℕ) (f : WriteFault) → Stops a b old new v sent f → Stops a b old new (v ++ w) sent f
 stops_long a b old new v w sent f first =
     let len = length-append v w in
@@ -150,6 +141,5 @@ stops_long a b old new v w sent f first =
       calls = subst (λ (n : ℕ). CallsFor n old new) (sym len) (calls_short (length v) (length w) old new (omega arith) first.calls);
     }
 
--- what a part says that stopped
 pub part_stops : (a b : Option (List ℕ)) (old new : Counts) (w : List ℕ) (sent : ℕ) (f : WriteFault) → WrotePart a b w sent f.sent → StopsWrite f.why old new → CallsFor (length w) old new → Stops a b old new w sent f
 part_stops a b old new w sent f part why calls = record { part = part; why = why; calls = calls }

@@ -1,4 +1,4 @@
--- How the bytes of a record grow, and what a state of their reader stands for.
+-- A record's bytes, extended, and the bytes that a state of the decoder represents.
 use Rattle.std.proofs.Common.{◌≡◌, ℕ, None, ◌+◌, ◌-◌, ◌*◌, ◌^◌, ◌<◌, ◌≤◌, min, List, [], ◌∷◌, ◌++◌, length, take, refl, ap, sym, ◌∙◌, inl, inr, append_assoc, arith, length-append}
 use Rattle.std.proofs.lemmas.Bool.Decides.{nat_tests}
 use Rattle.std.proofs.lemmas.Grind.{common_steps}
@@ -29,7 +29,7 @@ digit_kept digits value times digit new b x r kept room decimal times-is digit-i
       empty = kept.empty;
     }
 
--- a run of data that does not reach the record's end
+-- a run of data that ends before the record
 pub data_goes_on : (x r p : List ℕ) (left limit : ℕ) → DataBegun x r left limit → length p < left → DataBegun (x ++ p) (r ++ p) (left - length p) limit
 data_goes_on x r p left limit begun short =
     let len = length-append r p in
@@ -48,7 +48,7 @@ data_some x r left limit begun empty =
     let same : length {A = ℕ} [] ≡ length (begun.size ++ 10 ∷ r) = ap length (sym empty ∙ begun.spelt) in
     omega arith
 
--- within the data something has begun
+-- in the data, a record has begun
 pub begun_in_data : (s : RecordState) (x r : List ℕ) (left : ℕ) → s.phase ≡ Data left → RecordStands s x r → x ≡ [] → ⊥
 unfolding RecordStands
 begun_in_data s x r left at represents = data_some x r left s.limit (rw at at represents)
@@ -63,7 +63,7 @@ front_at (Size digits value) limit x r p k represents within front = absurd (ome
 front_at (Data left) limit x r p k represents within front = data_front x r p k left limit represents within front
 front_at (Failed fault) limit x r p k represents within front = absurd represents
 
--- each front of a run of data has begun
+-- every prefix of a run of data leaves an unfinished record
 pub front_of : (s : RecordState) (x r p : List ℕ) (k count : ℕ) → count ≤ remaining_of s → length p ≡ count → k < count → RecordStands s x r → Begun (x ++ take k p) (r ++ take k p) (limit_of s)
 unfolding RecordStands
 front_of s x r p k count within len front represents = front_at s.phase s.limit x r p k represents (omega arith) (omega arith)
@@ -73,7 +73,7 @@ begun_at (Size digits value) limit x r represents = inl (represents.begun, repre
 begun_at (Data left) limit x r represents = inr (left, represents)
 begun_at (Failed fault) limit x r represents = absurd represents
 
--- what a state stands for has begun
+-- the bytes that a state represents are an unfinished record
 pub begun_of : (s : RecordState) (x r : List ℕ) → RecordStands s x r → Begun x r (limit_of s)
 unfolding RecordStands
 begun_of s x r represents = begun_at s.phase s.limit x r represents
@@ -83,7 +83,7 @@ room_begun (Size digits value) limit x r represents some = absurd (omega arith)
 room_begun (Data left) limit x r represents some = represents
 room_begun (Failed fault) limit x r represents some = absurd represents
 
--- where there is room for data, so many bytes of them are to come
+-- `remaining_of` is the number of data bytes to come
 pub begun_room : (s : RecordState) (x r : List ℕ) → RecordStands s x r → 0 < remaining_of s → DataBegun x r (remaining_of s) (limit_of s)
 unfolding RecordStands
 begun_room s x r represents some = room_begun s.phase s.limit x r represents some
@@ -93,7 +93,7 @@ no_fault_at (Size digits value) limit x r represents = refl
 no_fault_at (Data left) limit x r represents = refl
 no_fault_at (Failed fault) limit x r represents = absurd represents
 
--- a state that stands for some bytes has shown no fault
+-- a state that represents bytes has returned no fault
 pub no_fault_of : (s : RecordState) (x r : List ℕ) → RecordStands s x r → fault_of s ≡ None
 unfolding RecordStands
 no_fault_of s x r represents = no_fault_at s.phase s.limit x r represents

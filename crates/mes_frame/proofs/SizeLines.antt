@@ -5,11 +5,11 @@ use Rattle.std.proofs.lemmas.List.{drop-set, drop-set-add, take_rest}
 use Rattle.std.proofs.Math.Nat.{pow-suc, div-lt_iff_lt-mul}
 use Rattle.std.specs.Fmt.{digits, digits_onto, digit_glyph}
 
--- at most k hexadecimal digits of n, and behind them what stands already
+-- at most k hexadecimal digits of n, before the bytes acc
 pub hex_onto : ℕ → ℕ → List ℕ → List ℕ
 hex_onto k n acc = digits_onto k 16 false n acc
 
--- the digits from `start` on are written, and `rest` is left to write
+-- the digits from `start` on are written, and the digits of `rest` are not
 pub record LineSoFar (size start rest : ℕ) (buffer : List ℕ) : Type 0 where
   pub within : start ≤ 16
   pub some : 0 < start
@@ -21,7 +21,7 @@ append_by : (t : Bool) (k n g : ℕ) (acc s : List ℕ) → digits_onto k 16 fal
 append_by true k n g acc s more = refl
 append_by false k n g acc s more = more
 
--- what stands behind the digits stays there
+-- the bytes after the digits are unchanged
 onto_append : (k n : ℕ) (acc s : List ℕ) → digits_onto k 16 false n (acc ++ s) ≡ digits_onto k 16 false n acc ++ s
 onto_append zero n acc s = refl
 onto_append (suc k) n acc s =
@@ -47,7 +47,7 @@ some_left : (n k : ℕ) → n < 16 ^ k → (n ≡ 0 → ⊥) → 0 < k
 some_left n zero small not = absurd (omega arith)
 some_left n (suc k) small not = omega arith
 
--- a digit written at k stands before the bytes behind it
+-- a digit written at offset k, and the bytes after it
 digit_before : (k digit g : ℕ) (buffer : List ℕ) → k < length buffer → digit ≡ g → drop k (slice_set buffer k digit) ≡ g ∷ drop (suc k) buffer
 digit_before k digit g buffer within is =
     let next : k + 1 ≡ suc k = omega arith in
@@ -89,7 +89,6 @@ goes_on size k rest digit buffer so not is =
       is = ap (hex_onto (k + 48) (rest / 16)) before ∙ sym (onto_more (k + 48) rest (drop (suc k) buffer) not) ∙ ap (λ (n : ℕ). hex_onto n rest (drop (suc k) buffer)) (sym fuel) ∙ so.is;
     }
 
--- one digit more
 pub line_goes_on : (size start rest digit : ℕ) (buffer : List ℕ) → LineSoFar size start rest buffer → (rest / 16 ≡ 0 → ⊥) → digit ≡ digit_glyph false (rest % 16) → LineSoFar size (start - 1) (rest / 16) (slice_set buffer (start - 1) digit)
 line_goes_on size zero rest digit buffer so not is = absurd (omega (arith, so.some))
 line_goes_on size (suc k) rest digit buffer so not is =
@@ -107,14 +106,13 @@ ends size k rest digit buffer so none is =
     ap (λ (n : ℕ). take (n - k) (drop k (slice_set buffer k digit))) (sym whole) ∙ take_rest (slice_set buffer k digit) k ∙ before
     ∙ sym (onto_last (k + 48) rest (drop (suc k) buffer) none) ∙ ap (λ (n : ℕ). hex_onto n rest (drop (suc k) buffer)) (sym fuel) ∙ so.is
 
--- the first digit
 pub line_ends : (size start rest digit : ℕ) (buffer : List ℕ) → LineSoFar size start rest buffer → rest / 16 ≡ 0 → digit ≡ digit_glyph false (rest % 16) → take (18 - (start - 1)) (drop (start - 1) (slice_set buffer (start - 1) digit)) ≡ digits 16 false size ++ 13 ∷ 10 ∷ []
 line_ends size zero rest digit buffer so none is = absurd (omega (arith, so.some))
 line_ends size (suc k) rest digit buffer so none is =
     let same : suc k - 1 ≡ k = omega arith in
     rw same (ends size k rest digit buffer so none is)
 
--- the digits of a record's size, and the LF that stood behind them
+-- the digits of a record's size, and the LF after them
 pub record_line_is : (size start : ℕ) (old new : List ℕ) → length old ≡ 21 → length new ≡ 21 → drop start new ≡ digits 10 false size ++ drop 20 (slice_set old 20 10) → take (21 - start) (drop start new) ≡ digits 10 false size ++ 10 ∷ []
 record_line_is size start old new len kept is =
     let end : drop 21 old ≡ [] = drop_of_length-le old {i = 21} (omega arith) in

@@ -1,4 +1,4 @@
--- What a run of calls of a writer has written and counted.
+-- The bytes and counts of consecutive calls of a writer.
 use Rattle.std.proofs.Common.{◌≡◌, ℕ, ◌+◌, ◌-◌, ◌<◌, ◌≤◌, List, Option, Ok, true, false, length, take, drop, take-add, ◌∙◌, ap, arith, nat_lt, ◌==◌, length-drop}
 use Rattle.std.proofs.KnownBytes.{Appends-trans}
 use Rattle.std.proofs.lemmas.Bool.Decides.{nat_tests}
@@ -8,7 +8,7 @@ use Rattle.mes_frame.specs.Counts.{up, CountsCall}
 use Rattle.mes_frame.specs.Write.{NoneFails, CallsFor}
 use Rattle.mes_frame.specs.declared.counts.Counts.{Counts}
 
--- by calls none of which failed or took nothing, the first `sent` bytes went out
+-- the first `sent` bytes were written, and no call failed or wrote nothing
 pub record Wrote (before after : Option (List ℕ)) (old new : Counts) (bytes : List ℕ) (sent : ℕ) : Type 0 where
   pub within : sent ≤ length bytes
   pub out : Appends before after (take sent bytes)
@@ -23,7 +23,6 @@ counts_taken old mid new sent len count good calls some taken (called, failed, i
     let idle-is : new.idle ≡ mid.idle = rw (asked, moved) at idle in
     ((failed ∙ good.0, idle-is ∙ good.1), (omega arith, omega arith))
 
--- one call more that took `count` bytes of the rest
 pub wrote_more : (a b c : Option (List ℕ)) (old mid new : Counts) (bytes : List ℕ) (sent count : ℕ) → Wrote a b old mid bytes sent → sent < length bytes → (count ≡ 0 → ⊥) → let rest = take (length bytes - sent) (drop sent bytes) in count ≤ length rest → Appends b c (take count rest) → CountsCall {E = Unit {0}} mid new (length rest) (Ok count) → Wrote a c old new bytes (sent + count)
 wrote_more a b c old mid new bytes sent count wrote some taken within appended counted =
     let rest : take (length bytes - sent) (drop sent bytes) ≡ drop sent bytes = take_rest bytes sent in

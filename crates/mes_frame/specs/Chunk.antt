@@ -9,12 +9,12 @@ use Rattle.std.specs.List.{AllByRecursion, flat_map}
 use Rattle.std.specs.Str.Parse.{AllDigits, digits_value}
 use Rattle.mes_frame.specs.declared.limits.TheConstants.{MAX_CHUNK_LINE, MAX_TRAILERS}
 
--- a chunk-size, and what stands behind it before the CRLF
+-- chunk-size, and the rest of the line before its CRLF
 pub record Line : Type 0 where
   pub size : List ℕ
   pub extension : List ℕ
 
--- [ chunk-ext ], or white space: what begins with ";", SP or HTAB and holds HTAB, SP, VCHAR and obs-text alone
+-- [ chunk-ext ] or white space: begins with ";", SP or HTAB, then HTAB, SP, VCHAR and obs-text only
 abbrev pub BeginsExtension : ℕ → Type 0
 BeginsExtension b = (b ≡ 59) ⊎ (b ≡ 32) ⊎ (b ≡ 9)
 
@@ -31,7 +31,7 @@ line_bytes l = l.size ++ l.extension
 abbrev pub size_of : Line → ℕ
 size_of l = digits_value 16 l.size
 
--- chunk-size [ chunk-ext ], of a size that fits 64 bits, within the limit of a line
+-- chunk-size [ chunk-ext ], with a size of 64 bits and at most MAX_CHUNK_LINE bytes
 pub record IsLine (l : Line) : Type 0 where
   pub some : 0 < length l.size
   pub hex : AllDigits 16 l.size
@@ -56,7 +56,7 @@ pub record IsChunk (c : Chunk) : Type 0 where
 abbrev pub IsPlain : ℕ → Type 0
 IsPlain b = (b ≢ 13) × (b ≢ 10)
 
--- a trailer line: here any bytes but CR and LF, one at least
+-- a trailer line: any bytes but CR and LF, one at least
 abbrev pub IsTrailer : List ℕ → Type 0
 IsTrailer t = (0 < length t) × AllByRecursion IsPlain t
 
@@ -83,7 +83,7 @@ chunks_bytes cs = flat_map chunk_bytes cs
 abbrev pub data_of : List Chunk → List ℕ
 data_of cs = flat_map (λ c. c.bytes) cs
 
--- w is a whole chunked body, and `body` the data of its chunks, joined
+-- w is a chunked-body, and `body` its chunk-data, joined
 pub record IsChunked (w body : List ℕ) : Type 0 where
   pub chunks : List Chunk
   pub last : Line

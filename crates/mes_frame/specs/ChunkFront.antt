@@ -1,44 +1,44 @@
--- What stands of a chunked body that has not ended: whole chunks, and then a part of one more chunk or of what ends the body.
+-- A chunked body that has not ended: whole chunks, then a part of a chunk or of the body's end. Of
+-- each part, x is the bytes so far and d the data so far.
 use Rattle.std.specs.Prelude.{◌≡◌, ℕ, ◌+◌, ◌^◌, ◌<◌, ◌≤◌, ◌⊎◌, List, [], ◌∷◌, ◌++◌, length}
 use Rattle.std.specs.List.{AllByRecursion}
 use Rattle.std.specs.Str.Parse.{AllDigits, digits_value}
 use Rattle.mes_frame.specs.Chunk.{Line, IsLine, line_bytes, size_of, Chunk, IsChunk, IsPlain, IsTrailer, trailers_bytes, ending, IsEnding, chunks_bytes, data_of}
 use Rattle.mes_frame.specs.declared.limits.TheConstants.{MAX_CHUNK_LINE, MAX_TRAILERS}
 
--- In each part x is what stands of it, and d its data so far.
--- digits of a chunk-size, also none yet
+-- in chunk-size, also before its first digit
 pub record InSize (x d : List ℕ) : Type 0 where
   pub hex : AllDigits 16 x
   pub fits : digits_value 16 x < 2 ^ 64
   pub short : length x ≤ MAX_CHUNK_LINE
   pub empty : d ≡ []
 
--- a line behind its size
+-- in chunk-ext
 pub record InExtension (l : Line) (x d : List ℕ) : Type 0 where
   pub line : IsLine l
   pub some : 0 < length l.extension
   pub spelt : x ≡ line_bytes l
   pub empty : d ≡ []
 
--- a line and its CR
+-- after the CR of a chunk's line
 pub record AfterLine (l : Line) (x d : List ℕ) : Type 0 where
   pub line : IsLine l
   pub spelt : x ≡ line_bytes l ++ 13 ∷ []
   pub empty : d ≡ []
 
--- a line of a size that isn't zero, and data, of which `left` bytes more are to come
+-- in chunk-data, with `left` bytes to come
 pub record InData (l : Line) (left : ℕ) (x d : List ℕ) : Type 0 where
   pub line : IsLine l
   pub spelt : x ≡ line_bytes l ++ (13 ∷ 10 ∷ d)
   pub size : size_of l ≡ length d + left
   pub some : 0 < size_of l
 
--- the data is whole, and its CR stands
+-- after the CR that follows chunk-data
 pub record AfterData (l : Line) (x d : List ℕ) : Type 0 where
   pub chunk : IsChunk (record { line = l; bytes = d })
   pub spelt : x ≡ line_bytes l ++ (13 ∷ 10 ∷ (d ++ 13 ∷ []))
 
--- the last chunk's line, trailer lines, and t of one more, also nothing yet
+-- after last-chunk and the trailer lines ts, in the bytes t of another line, perhaps none
 pub record InTrailer (l : Line) (ts : List (List ℕ)) (t x d : List ℕ) : Type 0 where
   pub ends : IsEnding l ts
   pub plain : AllByRecursion IsPlain t
@@ -46,7 +46,7 @@ pub record InTrailer (l : Line) (ts : List (List ℕ)) (t x d : List ℕ) : Type
   pub spelt : x ≡ ending l ts ++ t
   pub empty : d ≡ []
 
--- and the CR behind that trailer line
+-- after the CR of the trailer line t
 pub record AfterTrailer (l : Line) (ts : List (List ℕ)) (t x d : List ℕ) : Type 0 where
   pub ends : IsEnding l ts
   pub is_trailer : IsTrailer t
@@ -54,7 +54,7 @@ pub record AfterTrailer (l : Line) (ts : List (List ℕ)) (t x d : List ℕ) : T
   pub spelt : x ≡ ending l ts ++ (t ++ 13 ∷ [])
   pub empty : d ≡ []
 
--- the CR of the empty line that ends the body
+-- after the CR of the empty line
 pub record AfterEnding (l : Line) (ts : List (List ℕ)) (x d : List ℕ) : Type 0 where
   pub ends : IsEnding l ts
   pub spelt : x ≡ ending l ts ++ 13 ∷ []
@@ -71,7 +71,7 @@ IsPart x d =
     ⊎ ((l : Line) × (ts : List (List ℕ)) × (t : List ℕ) × AfterTrailer l ts t x d)
     ⊎ ((l : Line) × (ts : List (List ℕ)) × AfterEnding l ts x d)
 
--- w is whole chunks and then a part for which P holds, and `body` the data that stands in w
+-- w is whole chunks and a part for which P holds, and `body` is all data in w
 pub record After (P : List ℕ → List ℕ → Type 0) (w body : List ℕ) : Type 0 where
   pub chunks : List Chunk
   pub each : AllByRecursion IsChunk chunks
@@ -81,6 +81,6 @@ pub record After (P : List ℕ → List ℕ → Type 0) (w body : List ℕ) : Ty
   pub spelt : w ≡ chunks_bytes chunks ++ part
   pub content : body ≡ data_of chunks ++ represents
 
--- w has begun a chunked body and not ended it
+-- w is an open body: begun, and not ended
 abbrev pub IsOpen : List ℕ → List ℕ → Type 0
 IsOpen w body = After IsPart w body

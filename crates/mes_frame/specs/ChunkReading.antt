@@ -1,4 +1,4 @@
--- What any bytes are to a reader of chunked bodies.
+-- The readings of bytes as a chunked body.
 use Rattle.std.specs.Prelude.{◌≡◌, ℕ, List, ◌∷◌, ◌++◌}
 use Rattle.mes_frame.specs.Chunk.{IsChunked}
 use Rattle.mes_frame.specs.ChunkFront.{IsOpen}
@@ -6,14 +6,14 @@ use Rattle.mes_frame.specs.ChunkFaults.{ChunkShows}
 use Rattle.mes_frame.specs.declared.fault.FrameFault.{FrameFault}
 
 pub data ChunkReading : Type 0 where
-  -- a body that has not ended, with the data so far
+  -- an open body, with the data so far
   Begins : (body : List ℕ) → ChunkReading
   -- `front` is a whole body
   Whole : (front body : List ℕ) → ChunkReading
-  -- `front`, with the data so far, and then the byte that shows a fault
+  -- `front` is an open body, with the data so far, and the fault is detected at the byte after it
   Broken : (front : List ℕ) (byte : ℕ) (body : List ℕ) (fault : FrameFault) → ChunkReading
 
--- the bytes w read so
+-- w has this reading
 abbrev pub ReadsChunks : List ℕ → ChunkReading → Type 0
 ReadsChunks w (Begins body) = IsOpen w body
 ReadsChunks w (Whole front body) = (rest : List ℕ) × (w ≡ front ++ rest) × IsChunked front body

@@ -1,16 +1,16 @@
--- What a device keeps count of.
+-- The counts of a device's calls.
 use Rattle.std.specs.Prelude.{◌≡◌, ℕ, ◌+◌, ◌-◌, ◌^◌, Bool, min, max, nat_lt, ◌==◌, ◌&&◌, if◌then◌else◌, Result, Ok, Err}
 use Rattle.mes_frame.specs.declared.counts.Counts.{Counts}
 
--- a count of n after k more: it stays at 2^64 - 1 once it is there
+-- a count n, increased by k; it saturates at 2^64 - 1
 abbrev pub up : ℕ → ℕ → ℕ
 up n k = max n (min (n + k) (2 ^ 64 - 1))
 
--- a count of n after a call that it may count
+-- a count n, increased by 1 if b
 abbrev pub up_if : Bool → ℕ → ℕ
 up_if b n = if b then up n 1 else n
 
--- how a call with a buffer of `len` bytes and an answer change the counts
+-- the change of the counts at a call with a buffer of `len` bytes and its result
 abbrev pub CountsCall : {E : Type 0} → Counts → Counts → ℕ → Result ℕ E → Type 0
 CountsCall old new len (Ok moved) =
     (new.calls ≡ up_if (nat_lt 0 len) old.calls)
@@ -21,6 +21,6 @@ CountsCall old new len (Err e) =
     × (new.failures ≡ up old.failures 1)
     × (new.idle ≡ old.idle)
 
--- the counts of a device that no one has called
+-- the counts before the first call
 abbrev pub no_calls : Counts
 no_calls = record { calls = 0; failures = 0; idle = 0 }

@@ -1,12 +1,12 @@
--- What a device tells.
+-- The observable state of a device.
 use Rattle.std.specs.Prelude.{ℕ, Option, List}
 use Rattle.mes_frame.specs.declared.counts.Counts.{Counts}
 
--- its bytes, those left to read or those written, where it tells them, and its counts
+-- its bytes (left to read, or written), if it determines them, and its counts
 pub record Device : Type 0 where
   pub bytes : Option (List ℕ)
   pub counts : Counts
 
--- what this one tells
+-- the observable state of d
 abbrev pub device_of : {D : Type 0} → (D → Option (List ℕ)) → (D → Counts) → D → Device
 device_of bytes counts d = record { bytes = bytes d; counts = counts d }

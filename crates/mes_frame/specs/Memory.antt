@@ -1,4 +1,4 @@
--- What the devices over memory give and take.
+-- The effects of the devices over memory.
 use Rattle.std.specs.Prelude.{◌≡◌, ℕ, ◌-◌, ◌<◌, min, max, List, [], Option, Some, Result, Ok, Err, length}
 use Rattle.mes_frame.specs.Counts.{no_calls}
 use Rattle.mes_frame.specs.declared.counts.Counts.{Counts}
@@ -7,35 +7,35 @@ use Rattle.mes_frame.specs.declared.memory_sink.MemorySink.{MemorySink}
 use Rattle.mes_frame.specs.declared.memory_sink.MemoryStop.{MemoryStop}
 use Rattle.mes_frame.specs.declared.memory_sink.MemoryStop.TheVariants.{Fails, TakesNone}
 
--- the bytes that the reader has left
+-- the bytes left to read
 abbrev pub left_of : MemorySource → Option (List ℕ)
 left_of s = Some s.bytes.now
 
 abbrev pub reads_of : MemorySource → Counts
 reads_of s = s.counts
 
--- a reader of these bytes, at most `most` by one call, that fails after `good` of them
+-- a reader of `bytes`, at most `most` a call, that fails after `good` of them
 pub record SourceIs (bytes : List ℕ) (most good : ℕ) (s : MemorySource) : Type 0 where
   pub left : left_of s ≡ Some bytes
   pub most_is : s.most ≡ most
   pub good_is : s.good ≡ good
   pub counts : reads_of s ≡ no_calls
 
--- a call with room for so many bytes gives as many as may be, one at least, and fails only where the good bytes are used up
+-- a call returns as many bytes as it may, at least one; it fails exactly if no good bytes are left
 abbrev pub SourceGives : {E : Type 0} → MemorySource → MemorySource → ℕ → Result ℕ E → Type 0
 SourceGives old new room (Ok n) =
     (0 < old.good) × (n ≡ min (min (max old.most 1) old.good) (min room (length old.bytes.now)))
     × (new.most ≡ old.most) × (new.good ≡ old.good - n)
 SourceGives old new room (Err e) = (old.good ≡ 0) × (new.most ≡ old.most) × (new.good ≡ old.good)
 
--- the bytes that the writer has taken
+-- the bytes written
 abbrev pub written_of : MemorySink → Option (List ℕ)
 written_of s = Some s.bytes.items
 
 abbrev pub writes_of : MemorySink → Counts
 writes_of s = s.counts
 
--- a writer with nothing written, that takes at most `most` bytes by one call, and stops after `good`
+-- a writer that has written nothing, takes at most `most` bytes a call, and stops after `good`
 pub record SinkIs (most good : ℕ) (stop : MemoryStop) (s : MemorySink) : Type 0 where
   pub written : written_of s ≡ Some []
   pub most_is : s.most ≡ most
@@ -43,8 +43,7 @@ pub record SinkIs (most good : ℕ) (stop : MemoryStop) (s : MemorySink) : Type 
   pub stop_is : s.stop ≡ stop
   pub counts : writes_of s ≡ no_calls
 
--- a call with n bytes takes as many as may be, and fails where the good bytes are used up and the writer fails then;
--- for want of memory it may fail too, but only where it would have taken some
+-- takes as many bytes as it may; fails after the good bytes if `stop` is Fails, or out of memory
 abbrev pub SinkTakes : {E : Type 0} → MemorySink → MemorySink → ℕ → Result ℕ E → Type 0
 SinkTakes old new n (Ok taken) =
     (taken ≡ min (min old.most old.good) n) × (old.good ≡ 0 → old.stop ≡ TakesNone)

@@ -1,6 +1,6 @@
 -- RecordIO, the framing of Mesos event streams:
 --     record      = record-size LF record-data
---     record-size = 1*20DIGIT     ; the number of bytes of record-data, in decimal; leading zeros are allowed
+--     record-size = 1*20DIGIT     ; the number of bytes of record-data; leading zeros are allowed
 --     record-data = *OCTET
 use Rattle.std.specs.Prelude.{◌≡◌, ℕ, ◌+◌, ◌<◌, ◌≤◌, ◌⊎◌, List, [], ◌∷◌, ◌++◌, length}
 use Rattle.std.specs.Char.{digit_value}
@@ -9,7 +9,7 @@ use Rattle.mes_frame.specs.declared.fault.FrameFault.{FrameFault}
 use Rattle.mes_frame.specs.declared.fault.FrameFault.TheVariants.{BadChunkLine, ChunkLineTooLong, ChunkTooLarge, BadChunkEnd, TrailersTooLong, BadSizeLine, SizeLineTooLong, RecordTooLarge}
 use Rattle.mes_frame.specs.declared.limits.TheConstants.{MAX_SIZE_DIGITS}
 
--- 0 to 20 digits: a front of a record-size
+-- 0 to 20 digits: a prefix of record-size
 pub record SizeBegun (x : List ℕ) : Type 0 where
   pub digits : AllDigits 10 x
   pub few : length x ≤ MAX_SIZE_DIGITS
@@ -27,7 +27,7 @@ pub record IsRecord (b r : List ℕ) (limit : ℕ) : Type 0 where
   pub value : digits_value 10 size ≡ length r
   pub within : length r ≤ limit
 
--- x is the front of a record: its size line, which is within the limit, and the data r, of which `left` bytes more are to come
+-- x is a size line within the limit and the data r, with `left` bytes to come
 pub record DataBegun (x r : List ℕ) (left limit : ℕ) : Type 0 where
   pub size : List ℕ
   pub is_size : IsSize size
@@ -36,17 +36,17 @@ pub record DataBegun (x r : List ℕ) (left limit : ℕ) : Type 0 where
   pub within : digits_value 10 size ≤ limit
   pub some : 0 < left
 
--- x is what stands of a record that has not ended, and r is its data so far; no byte at all is such an x
+-- x is an unfinished record, perhaps empty, and r is its data so far
 abbrev pub Begun : List ℕ → List ℕ → ℕ → Type 0
 Begun x r limit = (SizeBegun x × (r ≡ [])) ⊎ ((left : ℕ) × DataBegun x r left limit)
 
--- behind x the byte b shows the fault
+-- after x, the fault is detected at the byte b
 abbrev pub SizeShows : List ℕ → ℕ → ℕ → FrameFault → Type 0
--- F7: a byte that is no digit, save a LF after a digit
+-- F7: neither a digit, nor a LF after a digit
 SizeShows x b limit BadSizeLine = SizeBegun x × (10 ≤ digit_value b) × (b ≡ 10 → x ≡ [])
--- F8: a 21st digit
+-- F8: the 21st digit
 SizeShows x b limit SizeLineTooLong = SizeBegun x × (length x ≡ MAX_SIZE_DIGITS) × (digit_value b < 10)
--- F9: the LF of a size line whose value is above the limit
+-- F9: the LF of a size line whose value exceeds the limit
 SizeShows x b limit RecordTooLarge = IsSize x × (b ≡ 10) × (limit < digits_value 10 x)
 -- F1 to F5 are faults of chunked bodies
 SizeShows x b limit BadChunkLine = ⊥

@@ -1,4 +1,4 @@
--- What a state of the reader of records stands for.
+-- The bytes that a state of the decoder of records represents.
 use Rattle.std.specs.Prelude.{◌≡◌, ℕ, ◌-◌, ◌^◌, ◌<◌, min, Bool, true, false, List, [], ◌∷◌, ◌++◌, length, Option, None, Some}
 use Rattle.std.specs.Str.Parse.{digits_value}
 use Rattle.mes_frame.specs.Record.{SizeBegun, DataBegun, IsRecord, SizeShows}
@@ -9,52 +9,50 @@ use Rattle.mes_frame.specs.declared.record.RecordOut.{RecordOut}
 use Rattle.mes_frame.specs.declared.record.RecordOut.TheVariants.{Quiet, Empty, Byte, Fault}
 use Rattle.mes_frame.specs.declared.record.RecordState.{RecordState}
 
--- the most bytes that it lets a record have
+-- the maximum number of bytes of a record's data
 abbrev pub limit_of : RecordState → ℕ
 limit_of s = s.limit
 
--- the fault, at a place that is behind one
+-- the fault of a phase after a fault
 abbrev pub fault_at : Phase → Option FrameFault
 fault_at (Size digits value) = None
 fault_at (Data left) = None
 fault_at (Failed fault) = Some fault
 
--- the fault that the state answers from now on
+-- the fault that every further step returns
 abbrev pub fault_of : RecordState → Option FrameFault
 fault_of s = fault_at s.phase
 
--- the bytes of data that are expected next
+-- the number of data bytes that come next
 abbrev pub remaining_at : Phase → ℕ
 remaining_at (Size digits value) = 0
 remaining_at (Data left) = left
 remaining_at (Failed fault) = 0
 
--- how many of the next bytes are data of the record
 abbrev pub remaining_of : RecordState → ℕ
 remaining_of s = remaining_at s.phase
 
--- what is kept of the digits x: their number, and their value up to 2^32 - 1
+-- for the digits x: their number, and their value capped at 2^32 - 1
 pub record SizeKept (digits value : ℕ) (x r : List ℕ) : Type 0 where
   pub begun : SizeBegun x
   pub count : digits ≡ length x
   pub capped : value ≡ min (digits_value 10 x) (2 ^ 32 - 1)
   pub empty : r ≡ []
 
--- what the place says of the front x of a record with the data r
+-- the phase represents the unfinished record x with the data r
 abbrev pub PhaseRepresents : Phase → ℕ → List ℕ → List ℕ → Type 0
 PhaseRepresents (Size digits value) limit x r = SizeKept digits value x r
 PhaseRepresents (Data left) limit x r = DataBegun x r left limit
 PhaseRepresents (Failed fault) limit x r = ⊥
 
--- since the last record's end the state has taken x, the front of a record, with the data r
+-- the state represents x, the bytes since the last record, with the data r
 unfoldable pub RecordStands : RecordState → List ℕ → List ℕ → Type 0
 RecordStands s x r = PhaseRepresents s.phase s.limit x r
 
--- the state at a place, with a limit
 abbrev pub state_at : ℕ → Phase → RecordState
 state_at limit phase = record { limit = limit; phase = phase }
 
--- what an answer to the byte b says of a state that stood for x with the data r, and of the new state
+-- the result for the byte b after x with the data r, and the new state
 abbrev pub RecordSteps : RecordState → List ℕ → List ℕ → ℕ → RecordOut → Type 0
 RecordSteps new x r b Quiet = RecordStands new (x ++ b ∷ []) r × (r ≡ [])
 RecordSteps new x r b Empty = IsRecord (x ++ b ∷ []) r (limit_of new) × (r ≡ []) × RecordStands new [] []
@@ -62,14 +60,14 @@ RecordSteps new x r b (Byte false) = RecordStands new (x ++ b ∷ []) (r ++ b �
 RecordSteps new x r b (Byte true) = IsRecord (x ++ b ∷ []) (r ++ b ∷ []) (limit_of new) × RecordStands new [] []
 RecordSteps new x r b (Fault fault) = SizeShows x b (limit_of new) fault × (fault_of new ≡ Some fault)
 
--- a byte is data exactly where there is room for it
+-- a byte is data exactly if `room` was not 0
 abbrev pub OutWith : ℕ → RecordOut → Type 0
 OutWith room Quiet = room ≡ 0
 OutWith room Empty = room ≡ 0
 OutWith room (Byte last) = 0 < room
 OutWith room (Fault fault) = room ≡ 0
 
--- the same of a run p of data, and of the answer whether the record ended with it
+-- the result for a run p of data after x with the data r: whether the record ended
 abbrev pub RecordPasses : RecordState → List ℕ → List ℕ → List ℕ → Bool → Type 0
 RecordPasses new x r p false = RecordStands new (x ++ p) (r ++ p)
 RecordPasses new x r p true = IsRecord (x ++ p) (r ++ p) (limit_of new) × RecordStands new [] []

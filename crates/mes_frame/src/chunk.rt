@@ -1,4 +1,5 @@
-//! The reader of chunked bodies: a machine that is given one byte after the other.
+//! The decoder of chunked bodies (RFC 9112 section 7.1), as a state machine over bytes. The encoder
+//! is in `chunk_writer`, the grammar in `specs/Chunk.antt`.
 #![tactic(auto, unfolding(crate::specs::ChunkState::ChunkRepresents))]
 
 ghost use Rattle.std.specs.Prelude.{◌≡◌, ℕ, ◌+◌, ◌<◌, ◌≤◌, List, [], ◌++◌, length, take, IfSome};
@@ -9,37 +10,37 @@ ghost use Rattle.mes_frame.specs.ChunkState.{PhaseRepresents, PhaseSteps, ChunkR
 use crate::fault::FrameFault;
 use crate::limits::{MAX_CHUNK_LINE, MAX_PLAIN_LINE, MAX_TRAILERS};
 
-/// What a byte was to the reader of chunked bodies.
+/// The role of one byte in a chunked body.
 #[derive(Clone, Copy, Debug, PartialEq, Eq)]
 pub enum ChunkOut {
     /// A byte of the framing.
     Quiet,
-    /// A byte of the body.
+    /// A byte of the body's data.
     Byte,
     /// The LF that ends the body.
     Closed,
-    /// The byte that shows the fault.
+    /// The byte at which the error is detected.
     Fault(FrameFault),
 }
 
-// What is expected next.
+// The decoder's position in the framing.
 #[derive(Clone, Copy, Debug)]
 enum Phase {
-    // A chunk's size, of which so many digits stand, with their value.
+    // In a chunk's size, after `count` digits with the value `size`.
     Size { count: u16, size: u64 },
-    // More of its line, of which so many bytes stand.
+    // In the rest of a chunk's line, after `count` bytes of the line.
     Extension { count: u16, size: u64 },
-    // The LF of its line.
+    // After the CR of a chunk's line.
     LineEnd { size: u64 },
-    // So many bytes of data, and then their CR.
+    // In a chunk's data, with `left` bytes to come and then a CR.
     Data { left: u64 },
-    // The LF behind the data.
+    // After the CR that follows a chunk's data.
     DataEnd,
-    // Trailer lines, of which so many bytes stand; `begun`: within a line.
+    // In the trailer lines, after `used` bytes of them; `begun`: inside a line.
     Trailer { used: u16, begun: bool },
-    // The LF of a trailer line.
+    // After the CR of a trailer line.
     TrailerEnd { used: u16 },
-    // The LF of the empty line.
+    // After the CR of the empty line.
     End,
     Closed,
     Failed(FrameFault),
@@ -47,30 +48,32 @@ enum Phase {
 
 const START: Phase = Phase::Size { count: 0, size: 0 };
 
-/// Where the reader of chunked bodies stands.
+/// The state of a decoder of one chunked body (RFC 9112 section 7.1).
 #[derive(Clone, Copy, Debug)]
 pub struct ChunkState {
     phase: Phase,
 }
 
 impl ChunkState {
-    /// The reader before the first byte.
+    /// Creates a decoder that has read no byte.
     pub fn new() -> ChunkState
         ensures { ChunkRepresents result [] [] }
     {
         ChunkState { phase: START }
     }
 
-    /// Takes one more byte and answers what it was. A fault is answered at the first byte that shows it.
+    /// Reads one byte and returns its role. A fault is returned at the first byte at which it is
+    /// detected.
     pub fn step(&mut self, byte: u8) -> ChunkOut
-        // What each answer means, and when each fault comes, behind w with the data `body`.
+        // Given the bytes w so far and their data `body`: what each result means, and when each
+        // fault occurs.
         ensures steps { (w body : List ℕ) → ChunkRepresents self.old w body
             → ChunkSteps self.new w body byte result }
 
-        // A byte is data exactly where there is room for it.
+        // The byte is data exactly if `room` was not 0.
         ensures data { OutWith (remaining_of self.old) result }
 
-        // After the body's end or a fault each later step answers the same again.
+        // After the end or a fault, every step returns the same result and changes nothing.
         ensures again { IfSome (end_of self.old) (λ out. (result ≡ out) × (self.new ≡ self.old)) }
     {
         let (phase, out) = self.phase.after(byte);
@@ -78,13 +81,14 @@ impl ChunkState {
         out
     }
 
-    /// Takes at once what usually stands at the front of a piece before the data of the next chunk: the end of the chunk before, where
-    /// one has begun, and a line that is a short size alone. Answers how many bytes these are; where anything else stands there, 0.
+    /// Reads the usual framing before a chunk's data: the previous chunk's CRLF, if any, and a line
+    /// with a short size and no extension. Returns the number of bytes read. If `piece` begins with
+    /// anything else, returns 0 and changes nothing.
     #[inline(always)]
     pub fn next_chunk(&mut self, piece: &[u8]) -> usize
-        // Behind w with the data `body`. Each front of them is open.
+        // The bytes read are framing, without data; every prefix of them is an open body.
         ensures passes { (w body : List ℕ) → ChunkRepresents self.old w body → PassesFraming self.new w body piece.now result }
-        // The next byte is one of data.
+        // If any byte was read, the next one is data.
         ensures ahead { 0 < result → 0 < remaining_of self.new }
         ensures none { result ≡ 0 → self.new ≡ self.old }
         ensures within { result ≤ length piece.now }
@@ -99,7 +103,7 @@ impl ChunkState {
         line.end
     }
 
-    /// How many of the next bytes are data of the body: 0 in the framing, after the end and after a fault.
+    /// Returns how many of the next bytes are data: 0 in the framing, at the end and after a fault.
     pub fn room(&self) -> u64
         ensures { result ≡ remaining_of self.now }
     {
@@ -109,19 +113,20 @@ impl ChunkState {
         }
     }
 
-    /// Takes the next `count` bytes at once, all of them data. They do what as many steps do.
+    /// Skips the next `count` bytes, all of them data, with the effect of `count` steps. `count` is
+    /// at most [`ChunkState::room`].
     pub fn pass(&mut self, count: u64)
         requires room { count ≤ remaining_of self.old }
-        // Behind w with the data `body`, for a run p of so many bytes.
+        // The skipped bytes p are added to the bytes w and to the data.
         ensures passes { (w body p : List ℕ) → length p ≡ count → ChunkRepresents self.old w body
             → ChunkRepresents self.new (w ++ p) (body ++ p) }
 
-        // Each front of the run is open.
+        // Every prefix of the skipped bytes leaves an open body.
         ensures fronts { (w body p : List ℕ) (k : ℕ) → length p ≡ count → k ≤ count
             → ChunkRepresents self.old w body → IsOpen (w ++ take k p) (body ++ take k p) }
         ensures room { remaining_of self.new + count ≡ remaining_of self.old }
 
-        // The end of the body, or a fault, is kept.
+        // The end of the body, or a fault, is unchanged.
         ensures end { end_of self.new ≡ end_of self.old }
     {
         if let Phase::Data { left } = self.phase {
@@ -139,7 +144,7 @@ impl Default for ChunkState {
 }
 
 impl Phase {
-    // Where a chunk's line begins in a piece, at its front or behind the end of the chunk before.
+    // Returns the offset in `piece` at which a chunk's line begins: 0, or 2 after a CRLF.
     #[inline(always)]
     fn line_start(self, piece: &[u8]) -> Option<usize>
         ensures passes { IfSome result (λ start. (w body : List ℕ) → ChunkRepresents (state_at self) w body → PassesFraming (state_at (Phase.Size 0 0)) w body piece.now start) }
@@ -158,7 +163,7 @@ impl Phase {
         }
     }
 
-    // Where the reader stands after one more byte, and what the byte was.
+    // Returns the phase after one more byte, and the byte's role.
     fn after(self, byte: u8) -> (Phase, ChunkOut)
         ensures steps { (x d : List ℕ) → PhaseRepresents self x d → PhaseSteps result.0 x d byte result.1 }
         ensures data { OutWith (remaining_at self) result.1 }
@@ -179,14 +184,15 @@ impl Phase {
     }
 }
 
-// A line in a piece that is a size alone: where it ends, and the size.
+// A chunk's line without an extension: the offset after its CRLF, and the size.
 #[derive(Clone, Copy)]
 struct PlainLine {
     end: usize,
     size: u64,
 }
 
-// The line that begins there in a piece, where it is the size alone of a chunk with data and its digits stand in the first bytes.
+// Reads a chunk's line at `start` that has no extension and a size above 0, with all digits before
+// offset `MAX_PLAIN_LINE`.
 #[inline(always)]
 fn plain_line(piece: &[u8], start: usize) -> Option<PlainLine>
     requires { start ≤ length piece.now }
@@ -211,7 +217,6 @@ fn plain_line(piece: &[u8], start: usize) -> Option<PlainLine>
     }
 }
 
-// The value of a digit of a size.
 #[inline(always)]
 fn digit_of(byte: u8) -> Option<u8>
     ensures { IfSome result (λ digit. (digit_value byte ≡ digit) × (digit < 16)) }
@@ -224,7 +229,6 @@ fn digit_of(byte: u8) -> Option<u8>
     }
 }
 
-// In a chunk's size.
 fn after_size(count: u16, size: u64, byte: u8) -> (Phase, ChunkOut)
     ensures steps { (x d : List ℕ) → PhaseRepresents (Phase.Size count size) x d → PhaseSteps result.0 x d byte result.1 }
     ensures data { OutWith 0 result.1 }
@@ -250,7 +254,7 @@ fn after_size(count: u16, size: u64, byte: u8) -> (Phase, ChunkOut)
     }
 }
 
-// At a digit of a chunk's size, with its value, where its line may have one more byte.
+// The next phase at a digit of a chunk's size, in a line with room for one more byte.
 fn after_digit(count: u16, size: u64, byte: u8, digit: u8) -> (Phase, ChunkOut)
     requires digit { (digit_value byte ≡ digit) × (digit < 16) }
     requires room { count < MAX_CHUNK_LINE }
@@ -267,7 +271,6 @@ fn after_digit(count: u16, size: u64, byte: u8, digit: u8) -> (Phase, ChunkOut)
     (phase, ChunkOut::Quiet)
 }
 
-// In the rest of a chunk's line.
 fn after_extension(count: u16, size: u64, byte: u8) -> (Phase, ChunkOut)
     ensures steps { (x d : List ℕ) → PhaseRepresents (Phase.Extension count size) x d → PhaseSteps result.0 x d byte result.1 }
     ensures data { OutWith 0 result.1 }
@@ -290,7 +293,6 @@ fn after_extension(count: u16, size: u64, byte: u8) -> (Phase, ChunkOut)
     }
 }
 
-// Behind the CR of a chunk's line.
 fn after_line(size: u64, byte: u8) -> (Phase, ChunkOut)
     ensures steps { (x d : List ℕ) → PhaseRepresents (Phase.LineEnd size) x d → PhaseSteps result.0 x d byte result.1 }
     ensures data { OutWith 0 result.1 }
@@ -310,7 +312,6 @@ fn after_line(size: u64, byte: u8) -> (Phase, ChunkOut)
     (Phase::Data { left: size }, ChunkOut::Quiet)
 }
 
-// In a chunk's data, whatever the byte is, and at the CR behind it.
 fn after_data(left: u64, byte: u8) -> (Phase, ChunkOut)
     ensures steps { (x d : List ℕ) → PhaseRepresents (Phase.Data left) x d → PhaseSteps result.0 x d byte result.1 }
     ensures data { OutWith left result.1 }
@@ -324,7 +325,6 @@ fn after_data(left: u64, byte: u8) -> (Phase, ChunkOut)
     (Phase::DataEnd, ChunkOut::Quiet)
 }
 
-// Behind the CR of a chunk's data.
 fn after_data_cr(byte: u8) -> (Phase, ChunkOut)
     ensures steps { (x d : List ℕ) → PhaseRepresents Phase.DataEnd x d → PhaseSteps result.0 x d byte result.1 }
     ensures data { OutWith 0 result.1 }
@@ -335,7 +335,6 @@ fn after_data_cr(byte: u8) -> (Phase, ChunkOut)
     (START, ChunkOut::Quiet)
 }
 
-// In the trailer lines.
 fn after_trailer(used: u16, begun: bool, byte: u8) -> (Phase, ChunkOut)
     ensures steps { (x d : List ℕ) → PhaseRepresents (Phase.Trailer used begun) x d → PhaseSteps result.0 x d byte result.1 }
     ensures data { OutWith 0 result.1 }
@@ -356,7 +355,6 @@ fn after_trailer(used: u16, begun: bool, byte: u8) -> (Phase, ChunkOut)
     }
 }
 
-// Behind the CR of a trailer line.
 fn after_trailer_cr(used: u16, byte: u8) -> (Phase, ChunkOut)
     ensures steps { (x d : List ℕ) → PhaseRepresents (Phase.TrailerEnd used) x d → PhaseSteps result.0 x d byte result.1 }
     ensures data { OutWith 0 result.1 }
@@ -376,7 +374,6 @@ fn after_trailer_cr(used: u16, byte: u8) -> (Phase, ChunkOut)
     )
 }
 
-// Behind the CR of the empty line.
 fn after_end_cr(byte: u8) -> (Phase, ChunkOut)
     ensures steps { (x d : List ℕ) → PhaseRepresents Phase.End x d → PhaseSteps result.0 x d byte result.1 }
     ensures data { OutWith 0 result.1 }
@@ -387,7 +384,7 @@ fn after_end_cr(byte: u8) -> (Phase, ChunkOut)
     (Phase::Closed, ChunkOut::Closed)
 }
 
-// At a byte that shows a fault, and at each byte after it.
+// The phase and result at a fault, and at every byte after it.
 fn fail(fault: FrameFault) -> (Phase, ChunkOut)
     ensures phase { result.0 ≡ Phase.Failed fault }
     ensures answer { result.1 ≡ ChunkOut.Fault fault }

@@ -1,4 +1,4 @@
-//! What small chunks are gathered in, so that they go out by few writes.
+//! The buffer that gathers small chunks into few writes.
 ghost use Rattle.std.specs.Prelude.{◌≡◌, [], ◌++◌, OnOk, IfErr};
 ghost use Rattle.mes_frame.specs.Written.{WentOut, Passes, Stops};
 
@@ -8,7 +8,7 @@ use crate::part_writer::write_part;
 use crate::write::WriteFault;
 use arrayvec::ArrayVec;
 
-/// Bytes that are still to go out, and how many went out before them.
+/// Buffered bytes, and the number of bytes written before them.
 #[derive(Drop)]
 pub(crate) struct ChunkBuffer {
     held: ArrayVec<u8, { CHUNK_BUFFER_SIZE }>,
@@ -26,8 +26,8 @@ impl ChunkBuffer {
         }
     }
 
-    // Holds these bytes behind those that are held. Where there is no room those go out first, and these too if they are
-    // more than the buffer has room for.
+    // Appends `bytes` to the buffer. If they do not fit, writes the buffered bytes first, and then
+    // `bytes` too if they exceed the whole buffer.
     pub(crate) fn hold<W: Sink>(&mut self, writer: &mut W, bytes: &[u8]) -> Result<(), WriteFault>
         ensures ok { OnOk result (Passes (W.written writer.old) (W.written writer.new) (W.counts writer.old) (W.counts writer.new)
             (self.old.held.items ++ bytes.now) self.new.held.items self.old.sent self.new.sent) }
@@ -44,7 +44,6 @@ impl ChunkBuffer {
         Ok(())
     }
 
-    // Writes what is held.
     pub(crate) fn flush<W: Sink>(&mut self, writer: &mut W) -> Result<(), WriteFault>
         ensures ok { OnOk result (WentOut (W.written writer.old) (W.written writer.new) (W.counts writer.old) (W.counts writer.new)
             self.old.held.items self.old.sent self.new.sent) }

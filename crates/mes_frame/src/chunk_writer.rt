@@ -1,4 +1,5 @@
-//! Writing chunked bodies.
+//! The encoder of chunked bodies (RFC 9112 section 7.1). The decoder is in `chunk`, the buffer in
+//! `chunk_buffer`.
 ghost use Rattle.std.specs.Prelude.{ℕ, ◌≤◌, ◌++◌, List, length, OnOk, IfErr};
 ghost use Rattle.std.specs.Io.KnownBytes.{Appends};
 ghost use Rattle.mes_frame.specs.Frames.{piece_bytes, IsFrames};
@@ -11,24 +12,25 @@ use crate::limits::{MAX_CHUNK, MIN_CHUNK};
 use crate::size_line::{MAX_CHUNK_LINE_WRITTEN, chunk_line};
 use crate::write::WriteFault;
 
-/// Writes a chunked body with this data: chunks of `most` bytes, the last one with what is left, each size in lower-case
-/// hexadecimal digits without leading zeros, and then the last chunk, `0`, without trailer lines. What goes out is gathered in a
-/// buffer of `CHUNK_BUFFER_SIZE` bytes, which is written when it is full; a chunk's data of more bytes than that are written as they
-/// stand. It takes no memory.
+/// Writes `body` as a chunked body (RFC 9112 section 7.1). Chunks have `most` bytes, and a shorter
+/// one has the remainder; the last chunk is `0`, without trailers. Sizes are lower-case hexadecimal
+/// without leading zeros.
+/// Does not allocate: small chunks are gathered in a buffer of `CHUNK_BUFFER_SIZE` bytes, and data
+/// that exceed the buffer are written directly. `most` is from `MIN_CHUNK` to `MAX_CHUNK`.
 pub fn write_chunked<W: Sink>(writer: &mut W, body: &[u8], most: u32) -> Result<(), WriteFault>
     requires least { MIN_CHUNK ≤ most }
     requires greatest { most ≤ MAX_CHUNK }
-    // Ok: the whole chunked body went out, and no call failed or took none.
+    // On success: the whole body was written, and no call failed or wrote nothing.
     ensures ok { OnOk result ((w : List ℕ) × IsFrames body.now most w × Appends (W.written writer.old) (W.written writer.new) w) }
     ensures ok_counts { OnOk result (NoneFails (W.counts writer.old) (W.counts writer.new)) }
 
-    // Else the first `sent` bytes of it went out and no more, and just one call did what `why` says. From 2^64 - 1 bytes on
-    // `sent` stays there.
+    // On error: exactly the first `sent` bytes were written (`sent` saturates at 2^64 - 1), and one
+    // call failed as `why` says.
     ensures err { IfErr result (λ f. (w : List ℕ) × IsFrames body.now most w
         × WroteFront (W.written writer.old) (W.written writer.new) w f.sent) }
     ensures err_counts { IfErr result (λ f. StopsWrite f.why (W.counts writer.old) (W.counts writer.new)) }
 
-    // There are no more calls than bytes, and one at least.
+    // At least one call was made, and at most one for each byte.
     ensures calls { (w : List ℕ) × IsFrames body.now most w × CallsFor (length w) (W.counts writer.old) (W.counts writer.new) }
 {
     let mut buffer = ChunkBuffer::new();
@@ -42,7 +44,7 @@ pub fn write_chunked<W: Sink>(writer: &mut W, body: &[u8], most: u32) -> Result<
     buffer.flush(writer)
 }
 
-// Writes a chunk with this data by way of the buffer, behind what that holds.
+// Writes one chunk through the buffer.
 fn write_piece<W: Sink>(
     writer: &mut W,
     piece: &[u8],

@@ -1,22 +1,22 @@
-//! What a device keeps count of.
+//! The counts of a device's calls.
 ghost use Rattle.std.specs.Prelude.{length};
 ghost use Rattle.mes_frame.specs.Counts.{CountsCall};
 
 use std::io;
 
-/// How often a device was called, and how often to no effect. A count stays at 2^64 - 1 once it is there.
+/// The numbers of a device's calls, and of those without effect. Each saturates at 2^64 - 1.
 #[derive(Clone, Copy, Debug, Default, PartialEq, Eq)]
 pub struct Counts {
-    /// Calls with a buffer that wasn't empty.
+    /// Calls with a non-empty buffer.
     pub calls: u64,
     /// Calls that failed.
     pub failures: u64,
-    /// Calls that succeeded and moved no byte of a buffer that wasn't empty: for a reader, its end.
+    /// Calls that succeeded but moved no byte of a non-empty buffer. For a reader, this is the end.
     pub idle: u64,
 }
 
 impl Counts {
-    /// Counts a call that was given a buffer of `len` bytes and answered `answer`.
+    /// Counts a call with a buffer of `len` bytes that returned `answer`.
     pub(crate) fn count(&mut self, len: usize, answer: &io::Result<usize>)
         ensures { CountsCall self.old self.new len answer.now }
     {

@@ -1,4 +1,5 @@
-//! Where bytes come from and where they go: a reader and a writer of one call each.
+//! Readers and writers of bytes, each with one method. Implementations: [`crate::FromStd`],
+//! [`crate::MemorySource`], [`crate::MemorySink`].
 ghost use Rattle.std.specs.Prelude.{ℕ, ◌≤◌, List, length, Option, IfOk};
 ghost use Rattle.std.specs.Io.KnownBytes.{ReadConsumes, WriteAppends};
 ghost use Rattle.mes_frame.specs.Counts.{CountsCall};
@@ -6,30 +7,31 @@ ghost use Rattle.mes_frame.specs.declared.counts.Counts.{Counts};
 
 use std::io;
 
-/// A reader of bytes.
+/// A reader of bytes that counts its calls.
 pub trait Source {
-    /// The bytes that are left to read, where the device tells them.
+    /// The bytes that are left to read, if the device determines them.
     ghost left: { Self → Option (List ℕ) };
 
-    /// What the device has counted so far.
+    /// The counts so far.
     ghost counts: { Self → Counts };
 
-    /// Reads bytes to the front of `buffer` and answers how many. 0 of a buffer that isn't empty means the end.
+    /// Reads bytes to the front of `buffer` and returns their number. 0 for a non-empty buffer
+    /// means the end.
     fn fetch(&mut self, buffer: &mut [u8]) -> io::Result<usize>
         ensures within { IfOk result (λ n. n ≤ length buffer.new) }
         ensures bytes { ReadConsumes (left self.old) (left self.new) result buffer.new }
         ensures counted { CountsCall (counts self.old) (counts self.new) (length buffer.old) result };
 }
 
-/// A writer of bytes.
+/// A writer of bytes that counts its calls.
 pub trait Sink {
-    /// The bytes that were written so far, where the device tells them.
+    /// The bytes written so far, if the device determines them.
     ghost written: { Self → Option (List ℕ) };
 
-    /// What the device has counted so far.
+    /// The counts so far.
     ghost counts: { Self → Counts };
 
-    /// Takes bytes from the front of `bytes` and answers how many.
+    /// Writes a prefix of `bytes` and returns its length.
     fn put(&mut self, bytes: &[u8]) -> io::Result<usize>
         ensures within { IfOk result (λ n. n ≤ length bytes.now) }
         ensures bytes { WriteAppends (written self.old) (written self.new) result bytes.now }

@@ -1,22 +1,26 @@
-//! Why bytes are no stream of records, or no chunked body.
+//! The errors of framing.
 
-/// The first byte that nothing well framed has in its place shows one of these.
+/// The reason why bytes are not records or not a chunked body, detected at the first byte that
+/// cannot continue them.
 #[derive(Clone, Copy, Debug, PartialEq, Eq)]
 pub enum FrameFault {
-    /// F1: in a chunk's line, the first byte that no line has there, a LF without CR among them.
+    /// F1: a byte that a chunk's line cannot contain at this position, such as a LF without CR.
     BadChunkLine,
-    /// F2: in a chunk's line, the byte past its limit, where neither it nor one before it is a CR. It stands before F1 and F3.
+    /// F2: the byte after `MAX_CHUNK_LINE` bytes of a chunk's line, if neither it nor an earlier
+    /// byte is a CR. Takes precedence over F1 and F3.
     ChunkLineTooLong,
-    /// F3: the digit that makes a chunk's size pass 2^64 - 1.
+    /// F3: the digit at which a chunk's size exceeds 2^64 - 1.
     ChunkTooLarge,
-    /// F4: a byte other than CR, LF behind a chunk's data; behind the last chunk, a LF without CR or a CR without LF.
+    /// F4: a byte other than CR LF after a chunk's data; after the last chunk, a LF without CR or a
+    /// CR without LF.
     BadChunkEnd,
-    /// F5: the byte past the limit of trailer lines. It stands before F4.
+    /// F5: the byte after `MAX_TRAILERS` bytes of trailer lines with their CRLFs. Takes precedence
+    /// over F4.
     TrailersTooLong,
-    /// F7: in a size line, a byte that is no digit, save a LF after a digit.
+    /// F7: in a size line, a byte that is neither a digit nor a LF after a digit.
     BadSizeLine,
     /// F8: the 21st digit of a size line.
     SizeLineTooLong,
-    /// F9: the LF of a size line whose value is above the limit.
+    /// F9: the LF of a size line whose value exceeds the limit.
     RecordTooLarge,
 }

@@ -1,4 +1,20 @@
-//! The framing of a Mesos event stream: the records of RecordIO, and the devices that bytes come from and go to.
+//! Framing of a Mesos event stream: RecordIO records and HTTP chunked bodies (RFC 9112 section
+//! 7.1).
+//!
+//! [`RecordState`] and [`ChunkState`] decode one byte at a time, and skip runs of data in one call.
+//! They do not allocate, and report an error at the first byte that cannot continue the input.
+//! [`write_record`] and [`write_chunked`] encode, and report how many bytes were written if a write
+//! fails.
+//!
+//! ```ignore
+//! let mut state = RecordState::new(Limit::USUAL);
+//! for byte in b"2\n{}" {
+//!     let out = state.step(*byte); // Quiet, Quiet, then Byte { last: false }, Byte { last: true }
+//! }
+//! ```
+//!
+//! [`Source`] and [`Sink`] are the devices that bytes come from and go to. Tests are in the crate
+//! `mes_frame_tests`, definitions in `specs/`.
 #![tactic(auto)]
 
 mod chunk;

@@ -1,11 +1,11 @@
-//! How many bytes a record may have.
+//! The limit on a record's size.
 ghost use Rattle.std.specs.Prelude.{◌≡◌, ◌≤◌};
 ghost use Rattle.std.specs.Option.{SomeIff};
 
 use crate::limits::{DEFAULT_RECORD_LIMIT, MAX_RECORD_LIMIT, MIN_RECORD_LIMIT};
 use std::marker::Model;
 
-/// The most bytes that the data of one record may have: `MIN_RECORD_LIMIT` to `MAX_RECORD_LIMIT`.
+/// The maximum number of bytes of one record's data, from `MIN_RECORD_LIMIT` to `MAX_RECORD_LIMIT`.
 #[derive(Clone, Copy, Debug, PartialEq, Eq)]
 pub struct Limit {
     bytes: u32,
@@ -24,23 +24,23 @@ impl Model for Limit {
     ghost inverse = { λ n. record { bytes = n } };
 }
 
-// The two limits that have a name are those numbers.
+// The named limits are these numbers.
 const _: () = prove!(
     Limit::USUAL.bytes == DEFAULT_RECORD_LIMIT && Limit::LARGEST.bytes == MAX_RECORD_LIMIT
 );
 
 impl Limit {
-    /// The limit that serves where nobody chose one.
+    /// The default limit, `DEFAULT_RECORD_LIMIT`.
     pub const USUAL: Limit = Limit {
         bytes: DEFAULT_RECORD_LIMIT,
     };
 
-    /// The largest limit.
+    /// The largest limit, `MAX_RECORD_LIMIT`.
     pub const LARGEST: Limit = Limit {
         bytes: MAX_RECORD_LIMIT,
     };
 
-    /// A limit of so many bytes, if a limit may be that.
+    /// Creates a limit of `bytes` bytes, or returns `None` out of range.
     pub fn new(bytes: u32) -> Option<Limit>
         ensures { SomeIff result ((MIN_RECORD_LIMIT ≤ bytes) × (bytes ≤ MAX_RECORD_LIMIT)) bytes }
     {
@@ -51,7 +51,7 @@ impl Limit {
         }
     }
 
-    /// The limit as a number of bytes.
+    /// Returns the limit in bytes.
     pub fn get(self) -> u32
         ensures { result ≡ self }
     {

@@ -1,7 +1,7 @@
-//! The limits of records and of chunked bodies. A number that a text names too, as one of `--help` does, is a macro that
-//! hands it on, as a literal, to another: `max_record_limit!(concat "up to ")` is the text.
+//! Limits of records and chunked bodies. A limit that a text also names, such as `--help`, is a
+//! macro. It passes its literal to another macro: `max_record_limit!(concat "up to ")` is a text.
 
-/// Hands on the record limit where nobody chose one, in bytes: 4 MiB.
+/// Passes the default record limit, 4 MiB, to a macro.
 #[macro_export]
 macro_rules! default_record_limit {
     ($reported:ident $($front:literal)?) => {
@@ -9,7 +9,7 @@ macro_rules! default_record_limit {
     };
 }
 
-/// Hands on the largest record limit, in bytes: 64 MiB.
+/// Passes the largest record limit, 64 MiB, to a macro.
 #[macro_export]
 macro_rules! max_record_limit {
     ($reported:ident $($front:literal)?) => {
@@ -17,7 +17,7 @@ macro_rules! max_record_limit {
     };
 }
 
-/// Hands on the most bytes of a chunk that is written: 16 MiB.
+/// Passes the maximum size of a written chunk, 16 MiB, to a macro.
 #[macro_export]
 macro_rules! max_chunk {
     ($reported:ident $($front:literal)?) => {
@@ -25,40 +25,41 @@ macro_rules! max_chunk {
     };
 }
 
-/// The number that a limit's macro hands on.
+/// Expands to the number that a limit's macro passes.
 macro_rules! number {
     ($number:literal) => {
         $number
     };
 }
 
-/// The least record limit, in bytes.
+/// The smallest record limit, in bytes.
 pub const MIN_RECORD_LIMIT: u32 = 1;
 
-/// The record limit where nobody chose one, in bytes: 4 MiB.
+/// The default record limit, in bytes: 4 MiB.
 pub const DEFAULT_RECORD_LIMIT: u32 = default_record_limit!(number);
 
 /// The largest record limit, in bytes: 64 MiB.
 pub const MAX_RECORD_LIMIT: u32 = max_record_limit!(number);
 
-/// The most digits of a record's size line: as many as the largest number of 64 bits has, `18446744073709551615`.
+/// The maximum number of digits of a size line: those of `18446744073709551615`, the largest number
+/// of 64 bits.
 pub const MAX_SIZE_DIGITS: u8 = 20;
 
-/// The most bytes of a chunk's line before its CRLF, of a chunked body that is read.
+/// The maximum number of bytes of a chunk's line that is read, without its CRLF.
 pub const MAX_CHUNK_LINE: u16 = 256;
 
-/// The most bytes of all trailer lines with their CRLFs; the empty line that ends the body is not counted.
+/// The maximum number of bytes of all trailer lines with their CRLFs, without the final empty line.
 pub const MAX_TRAILERS: u16 = 4096;
 
-/// The least bytes of a chunk that is written.
+/// The smallest chunk size for writing, in bytes.
 pub const MIN_CHUNK: u32 = 1;
 
-/// The most bytes of a chunk that is written: 16 MiB.
+/// The largest chunk size for writing, in bytes: 16 MiB.
 pub const MAX_CHUNK: u32 = max_chunk!(number);
 
-/// The bytes of the buffer in which chunks are gathered before they are written.
+/// The size of the buffer that gathers chunks for writing, in bytes.
 pub const CHUNK_BUFFER_SIZE: usize = 8192;
 
-/// How many bytes the end of a chunk and the digits of the next size have at most where they are taken at once: a size of so many digits
-/// fits 64 bits.
+/// The length of the prefix in which [`crate::ChunkState::next_chunk`] expects the digits of a
+/// size. A size of 15 digits fits in 64 bits.
 pub(crate) const MAX_PLAIN_LINE: usize = 15;

@@ -1,4 +1,5 @@
-//! A writer into memory, which can be slow, can stop and can fail: what a test of a writer's caller needs.
+//! A writer into memory for tests, which can be slow, can stop and can fail. The reader is in
+//! `memory_source`.
 ghost use Rattle.std.specs.Prelude.{◌≡◌, ◌≤◌, length, Some, IfOk};
 ghost use Rattle.std.specs.Io.KnownBytes.{WriteAppends};
 ghost use Rattle.mes_frame.specs.Counts.{CountsCall};
@@ -9,16 +10,16 @@ use crate::device::Sink;
 use std::alloc::Global;
 use std::io;
 
-/// What a writer into memory does once it has taken its good bytes.
+/// The way in which a [`MemorySink`] stops after its `good` bytes.
 #[derive(Clone, Copy, Debug, PartialEq, Eq)]
 pub enum MemoryStop {
     /// Each call fails.
     Fails,
-    /// Each call takes no byte.
+    /// Each call writes nothing.
     TakesNone,
 }
 
-/// A writer into memory. Where memory runs out, the call fails.
+/// A writer into memory. A call fails if an allocation fails.
 #[derive(Drop)]
 pub struct MemorySink {
     bytes: Vec<u8>,
@@ -29,14 +30,14 @@ pub struct MemorySink {
 }
 
 impl MemorySink {
-    /// A writer that takes at most `most` bytes by one call.
+    /// Creates a writer that takes at most `most` bytes a call.
     pub fn new(alloc: Global, most: usize) -> Self
         ensures { SinkIs most usize.MAX MemoryStop.TakesNone result }
     {
         MemorySink::stopping_after(alloc, most, usize::MAX, MemoryStop::TakesNone)
     }
 
-    /// The same, but once it has taken `good` bytes it does what `stop` says.
+    /// Like [`MemorySink::new`], but after `good` bytes each call does what `stop` says.
     pub fn stopping_after(alloc: Global, most: usize, good: usize, stop: MemoryStop) -> Self
         ensures { SinkIs most good stop result }
     {
@@ -49,14 +50,14 @@ impl MemorySink {
         }
     }
 
-    /// How often the device was called so far, and how often to no effect.
+    /// Returns the counts of calls.
     pub fn counts(&self) -> Counts
         ensures { result ≡ writes_of self.now }
     {
         self.counts
     }
 
-    /// The bytes that were written.
+    /// Returns the bytes written.
     pub fn bytes(&self) -> &[u8]
         ensures { written_of self.now ≡ Some result.now }
     {

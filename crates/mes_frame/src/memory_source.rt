@@ -1,4 +1,5 @@
-//! A reader of bytes in memory, which can be slow and can fail: what a test of a reader's caller needs.
+//! A reader of bytes in memory for tests, which can be slow and can fail. The writer is in
+//! `memory_sink`.
 ghost use Rattle.std.specs.Prelude.{◌≡◌, ◌≤◌, length, IfOk};
 ghost use Rattle.std.specs.Io.KnownBytes.{ReadConsumes};
 ghost use Rattle.mes_frame.specs.Counts.{CountsCall};
@@ -18,14 +19,14 @@ pub struct MemorySource<'a> {
 }
 
 impl<'a> MemorySource<'a> {
-    /// A reader that gives `bytes`, at most `most` of them by one call, but one at least, and then its end.
+    /// Creates a reader of `bytes` that returns at most `most` bytes a call, or 1 if `most` is 0.
     pub fn new(bytes: &'a [u8], most: usize) -> Self
         ensures { SourceIs bytes.now most usize.MAX result }
     {
         MemorySource::failing_after(bytes, most, usize::MAX)
     }
 
-    /// The same, but once it has given `good` bytes, each call fails.
+    /// Like [`MemorySource::new`], but after `good` bytes each call fails.
     pub fn failing_after(bytes: &'a [u8], most: usize, good: usize) -> Self
         ensures { SourceIs bytes.now most good result }
     {
@@ -37,7 +38,7 @@ impl<'a> MemorySource<'a> {
         }
     }
 
-    /// How often the device was called so far, and how often to no effect.
+    /// Returns the counts of calls.
     pub fn counts(&self) -> Counts
         ensures { result ≡ reads_of self.now }
     {

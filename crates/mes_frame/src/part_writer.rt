@@ -1,4 +1,4 @@
-//! Writing what is written in parts, and how many bytes went out by all of them.
+//! Writes that consist of parts, with one count of bytes written. Each part is written by `write`.
 ghost use Rattle.std.specs.Prelude.{◌≡◌, length, IfOk, OnOk, IfErr};
 ghost use Rattle.std.specs.Io.KnownBytes.{Appends};
 ghost use Rattle.mes_frame.specs.Counts.{up};
@@ -8,7 +8,7 @@ ghost use Rattle.mes_frame.specs.Written.{WrotePart};
 use crate::device::Sink;
 use crate::write::{WriteFault, write_all};
 
-// Writes all of `bytes`, behind `sent` bytes that went out before, and answers how many went out then.
+// Writes all of `bytes`, after `sent` bytes of earlier parts. Returns the new count.
 pub(crate) fn write_part<W: Sink>(
     writer: &mut W,
     bytes: &[u8],

@@ -1,4 +1,5 @@
-//! The reader of records: a machine that is given one byte after the other.
+//! The decoder of RecordIO records, as a state machine over bytes. The encoder is in
+//! `record_writer`, the grammar in `specs/Record.antt`.
 #![tactic(auto, unfolding(crate::specs::RecordState::RecordStands))]
 
 ghost use Rattle.std.specs.Prelude.{◌≡◌, ℕ, ◌+◌, ◌<◌, ◌≤◌, ◌↔◌, List, [], ◌++◌, length, take, false, IsTrue, IsSome, IfSome};
@@ -10,20 +11,20 @@ use crate::fault::FrameFault;
 use crate::limit::Limit;
 use crate::limits::MAX_SIZE_DIGITS;
 
-/// What a byte was to the reader of records.
+/// The role of one byte in a stream of records.
 #[derive(Clone, Copy, Debug, PartialEq, Eq)]
 pub enum RecordOut {
-    /// A byte of the size line.
+    /// A byte of a size line.
     Quiet,
-    /// The LF of a size of zero: a record without data has ended.
+    /// The LF of a size line of value 0, which is a whole record without data.
     Empty,
-    /// A byte of the record's data; the record ends with its last.
+    /// A byte of a record's data; `last`: the record ends with it.
     Byte { last: bool },
-    /// The byte that shows the fault.
+    /// The byte at which the error is detected.
     Fault(FrameFault),
 }
 
-// What is expected next. The value of a size line stays at 2^32 - 1 once it is there, which is above every limit.
+// The decoder's position. A size saturates at 2^32 - 1, which exceeds every limit.
 #[derive(Clone, Copy, Debug)]
 enum Phase {
     Size { digits: u8, value: u32 },
@@ -36,7 +37,7 @@ const START: Phase = Phase::Size {
     value: 0,
 };
 
-/// Where the reader of records stands.
+/// The state of a decoder of consecutive records.
 #[derive(Clone, Copy, Debug)]
 pub struct RecordState {
     limit: Limit,
@@ -44,7 +45,7 @@ pub struct RecordState {
 }
 
 impl RecordState {
-    /// The reader before the first byte.
+    /// Creates a decoder that has read no byte.
     pub fn new(limit: Limit) -> RecordState
         ensures represents { RecordStands result [] [] }
         ensures limit { limit_of result ≡ limit }
@@ -55,20 +56,22 @@ impl RecordState {
         }
     }
 
-    /// Takes one more byte and answers what it was. A fault is answered at the first byte that shows it.
+    /// Reads one byte and returns its role. A fault is returned at the first byte at which it is
+    /// detected.
     pub fn step(&mut self, byte: u8) -> RecordOut
-        // What each answer means, and when each fault comes, behind x with the data r.
+        // Given the bytes x of the current record and its data r: what each result means, and when
+        // each fault occurs.
         ensures steps { (x r : List ℕ) → RecordStands self.old x r
             → RecordSteps self.new x r byte result }
 
-        // A byte is data exactly where there is room for it.
+        // The byte is data exactly if `room` was not 0.
         ensures data { (x r : List ℕ) → RecordStands self.old x r → OutWith (remaining_of self.old) result }
 
-        // After a fault each later step answers the same again.
+        // After a fault, every step returns the same fault and changes nothing.
         ensures again { IfSome (fault_of self.old)
             (λ f. (result ≡ RecordOut.Fault f) × (self.new ≡ self.old)) }
 
-        // What stays the same.
+        // The limit is unchanged.
         ensures limit { limit_of self.new ≡ limit_of self.old }
     {
         let (phase, out) = self.phase.after(byte, self.limit);
@@ -76,8 +79,9 @@ impl RecordState {
         out
     }
 
-    /// No record has begun; after a fault that is false.
+    /// Returns whether no byte of the next record has been read. False after a fault.
     pub fn between(&self) -> bool
+        // True exactly if x, the bytes of the current record so far, is empty.
         ensures represents { (x r : List ℕ) → RecordStands self.now x r → (IsTrue result ↔ (x ≡ [])) }
         ensures failed { IsSome (fault_of self.now) → result ≡ false }
     {
@@ -88,11 +92,14 @@ impl RecordState {
         }
     }
 
-    /// How many of the next bytes are data of the record: 0 in a size line and after a fault.
+    /// Returns how many of the next bytes are data of the record: 0 in a size line and after a
+    /// fault.
     pub fn room(&self) -> usize
         ensures value { result ≡ remaining_of self.now }
+        // Not 0: the current record needs exactly `result` more bytes of data.
         ensures some { (x r : List ℕ) → RecordStands self.now x r → 0 < result
             → DataBegun x r result (limit_of self.now) }
+        // 0: at most a part of a size line has been read.
         ensures none { (x r : List ℕ) → RecordStands self.now x r → result ≡ 0
             → SizeBegun x × (r ≡ []) }
     {
@@ -103,21 +110,21 @@ impl RecordState {
         }
     }
 
-    /// Takes the next `count` bytes at once, all of them data of the record, and answers whether the record
-    /// ended with them. They do what as many steps do; none change nothing.
+    /// Skips the next `count` bytes, all of them data, with the effect of `count` steps. Returns
+    /// whether the record ended. `count` is at most [`RecordState::room`].
     pub fn pass(&mut self, count: usize) -> bool
         requires room { count ≤ remaining_of self.old }
-        // What the answer means, behind x with the data r, for a run p of so many bytes.
+        // The skipped bytes p are added to the record's bytes x and to its data r.
         ensures passes { (x r p : List ℕ) → length p ≡ count → RecordStands self.old x r
             → RecordPasses self.new x r p result }
 
-        // Each front of the run has begun and not ended.
+        // Every shorter prefix of the skipped bytes leaves an unfinished record.
         ensures fronts { (x r p : List ℕ) (k : ℕ) → length p ≡ count → k < count
             → RecordStands self.old x r → Begun (x ++ take k p) (r ++ take k p) (limit_of self.old) }
         ensures room { remaining_of self.new + count ≡ remaining_of self.old }
         ensures none { count ≡ 0 → (result ≡ false) × (self.new ≡ self.old) }
 
-        // What stays the same.
+        // The limit is unchanged.
         ensures limit { limit_of self.new ≡ limit_of self.old }
     {
         if count == 0 {
@@ -140,7 +147,7 @@ impl RecordState {
 }
 
 impl Phase {
-    // Where the reader stands after one more byte, and what the byte was.
+    // Returns the phase after one more byte, and the byte's role.
     fn after(self, byte: u8, limit: Limit) -> (Phase, RecordOut)
         ensures steps { (x r : List ℕ) → PhaseRepresents self limit x r
             → RecordSteps (state_at limit result.0) x r byte result.1 }
@@ -155,7 +162,6 @@ impl Phase {
     }
 }
 
-// In a size line.
 fn after_size(digits: u8, value: u32, byte: u8, limit: Limit) -> (Phase, RecordOut)
     ensures steps { (x r : List ℕ) → SizeKept digits value x r
         → RecordSteps (state_at limit result.0) x r byte result.1 }
@@ -168,7 +174,6 @@ fn after_size(digits: u8, value: u32, byte: u8, limit: Limit) -> (Phase, RecordO
     }
 }
 
-// At a digit of a size line.
 fn after_digit(digits: u8, value: u32, byte: u8) -> (Phase, RecordOut)
     requires { digit_value byte < 10 }
     ensures steps { (x r : List ℕ) (limit : ℕ) → SizeKept digits value x r
@@ -186,7 +191,6 @@ fn after_digit(digits: u8, value: u32, byte: u8) -> (Phase, RecordOut)
     (phase, RecordOut::Quiet)
 }
 
-// At the LF of a size line.
 fn after_size_line(digits: u8, value: u32, limit: Limit) -> (Phase, RecordOut)
     ensures steps { (x r : List ℕ) → SizeKept digits value x r
         → RecordSteps (state_at limit result.0) x r 10 result.1 }
@@ -204,7 +208,6 @@ fn after_size_line(digits: u8, value: u32, limit: Limit) -> (Phase, RecordOut)
     (Phase::Data { left: value }, RecordOut::Quiet)
 }
 
-// At a byte of the data, whatever it is.
 fn after_data(left: u32) -> (Phase, RecordOut)
     ensures steps { (x r : List ℕ) (limit byte : ℕ) → DataBegun x r left limit
         → RecordSteps (state_at limit result.0) x r byte result.1 }
@@ -219,7 +222,7 @@ fn after_data(left: u32) -> (Phase, RecordOut)
     )
 }
 
-// At a byte that shows a fault, and at each byte after it.
+// The phase and result at a fault, and at every byte after it.
 fn fail(fault: FrameFault) -> (Phase, RecordOut)
     ensures phase { result.0 ≡ Phase.Failed fault }
     ensures answer { result.1 ≡ RecordOut.Fault fault }

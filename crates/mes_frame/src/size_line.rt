@@ -1,16 +1,16 @@
-//! The size lines that are written, each in a buffer for the largest.
+//! Writes size lines, each into the end of a buffer for the longest.
 ghost use Rattle.std.specs.Prelude.{◌≡◌, ◌<◌, false, [], ◌∷◌, ◌++◌, decimal};
 ghost use Rattle.std.specs.Fmt.{digits, digit_glyph};
 
 use itoa::write_digits;
 
-/// The longest size line of a record: 20 digits and LF.
+/// The length of a record's longest size line: 20 digits and LF.
 pub(crate) const MAX_RECORD_LINE: usize = 21;
 
-/// The longest line of a chunk: 16 digits and CRLF.
+/// The length of a chunk's longest line: 16 digits and CRLF.
 pub(crate) const MAX_CHUNK_LINE_WRITTEN: usize = 18;
 
-// The size line of a record of so many bytes.
+// Returns the size line of a record of `size` bytes.
 pub(crate) fn record_line(size: u64, buffer: &mut [u8; MAX_RECORD_LINE]) -> &[u8]
     ensures { result.now ≡ decimal size ++ 10 ∷ [] }
 {
@@ -19,7 +19,7 @@ pub(crate) fn record_line(size: u64, buffer: &mut [u8; MAX_RECORD_LINE]) -> &[u8
     &buffer[start..]
 }
 
-// The line of a chunk of so many bytes, in lower case.
+// Returns the line of a chunk of `size` bytes, in lower case.
 pub(crate) fn chunk_line(size: u64, buffer: &mut [u8; MAX_CHUNK_LINE_WRITTEN]) -> &[u8]
     ensures { result.now ≡ digits 16 false size ++ 13 ∷ 10 ∷ [] }
 {

@@ -1,4 +1,4 @@
-//! Rust's readers and writers as devices.
+//! Adapters that make readers and writers of `std::io` devices.
 ghost use Rattle.std.specs.Prelude.{◌≡◌};
 ghost use Rattle.mes_frame.specs.Counts.{no_calls};
 ghost use Rattle.mes_frame.specs.StdDevice.{inner_of, counts_of};
@@ -8,7 +8,7 @@ use crate::device::{Sink, Source};
 use std::io;
 use std::io::{Read, Write};
 
-/// A reader or writer of std, with counts.
+/// A reader or writer of `std::io`, with counts of its calls.
 #[derive(Drop)]
 pub struct FromStd<T> {
     inner: T,
@@ -16,7 +16,7 @@ pub struct FromStd<T> {
 }
 
 impl<T> FromStd<T> {
-    /// The device over `inner`, with all counts at 0.
+    /// Wraps `inner`, with all counts at 0.
     pub fn new(inner: T) -> Self
         ensures inner { inner_of result ≡ inner }
         ensures counts { counts_of result ≡ no_calls }
@@ -27,7 +27,7 @@ impl<T> FromStd<T> {
         }
     }
 
-    /// How often the device was called so far, and how often to no effect.
+    /// Returns the counts of calls.
     pub fn counts(&self) -> Counts
         ensures { result ≡ counts_of self.now }
     {

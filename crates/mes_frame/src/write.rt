@@ -1,38 +1,38 @@
-//! Writing all of some bytes.
+//! Writes that repeat calls until all bytes are written.
 ghost use Rattle.std.specs.Prelude.{◌≡◌, ◌<◌, length, take, OnOk, IfErr};
 ghost use Rattle.std.specs.Io.KnownBytes.{Appends};
 ghost use Rattle.mes_frame.specs.Write.{NoneFails, CallsFor, StopsWrite};
 
 use crate::device::Sink;
 
-/// Why a writer stopped before all bytes were out.
+/// The reason why a write stopped.
 #[derive(Clone, Copy, Debug, PartialEq, Eq)]
 pub enum WriteFaultKind {
-    /// The device failed; an interruption is a failure too.
+    /// A call failed. An interruption is a failure too.
     Device,
-    /// The device took no byte, though it was given some.
+    /// A call with bytes to write wrote nothing.
     Zero,
 }
 
-/// A write that stopped short: exactly the first `sent` bytes went out.
+/// A write that stopped: exactly the first `sent` bytes were written.
 #[derive(Clone, Copy, Debug, PartialEq, Eq)]
 pub struct WriteFault {
     pub sent: u64,
     pub why: WriteFaultKind,
 }
 
-/// Writes all of `bytes`, by as many calls as the writer needs.
+/// Writes all of `bytes`, in as many calls as needed.
 pub fn write_all<W: Sink>(writer: &mut W, bytes: &[u8]) -> Result<(), WriteFault>
-    // Ok: all bytes went out, and no call failed or took none.
+    // On success: all bytes were written, and no call failed or wrote nothing.
     ensures ok { OnOk result (Appends (W.written writer.old) (W.written writer.new) bytes.now) }
     ensures ok_counts { OnOk result (NoneFails (W.counts writer.old) (W.counts writer.new)) }
 
-    // Else the first `sent` went out and no more, and just one call did what `why` says.
+    // On error: exactly the first `sent` bytes were written, and one call failed as `why` says.
     ensures err { IfErr result (λ f. (f.sent < length bytes.now)
         × Appends (W.written writer.old) (W.written writer.new) (take f.sent bytes.now)) }
     ensures err_counts { IfErr result (λ f. StopsWrite f.why (W.counts writer.old) (W.counts writer.new)) }
 
-    // There are no more calls than bytes, and one at least unless there is nothing to write.
+    // At most one call was made for each byte, and at least one unless `bytes` is empty.
     ensures calls { CallsFor (length bytes.now) (W.counts writer.old) (W.counts writer.new) }
 {
     let mut sent = 0;

@@ -2,7 +2,7 @@ use Rattle.std.proofs.Common.{◌-◌, length}
 use Rattle.mes_frame.proofs.Writes.{Wrote}
 use Rattle.mes_frame.proofs.write.write_all.Given as goal
 
--- the bytes below `sent` are out
+-- the bytes before `sent` are written
 abbrev pub invariant-loop-sent : goal.invariant-loop-sent
 invariant-loop-sent g l = Wrote (g.W.Sink.written l.fn.writer) (g.W.Sink.written l.writer) (g.W.Sink.counts l.fn.writer) (g.W.Sink.counts l.writer) l.bytes l.sent
 
