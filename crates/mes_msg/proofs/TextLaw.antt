@@ -1,4 +1,4 @@
--- Bytes are a JSON text of one value, or of none for one reason, and not both.
+-- Bytes are a JSON text of one value or have one fault, and not both.
 use Rattle.std.proofs.Common.{◌≡◌, ◌≢◌, ℕ, ◌⊎◌, inl, inr, List, [], sym, ◌∙◌, ap, refl, subst, Result, Ok, Err}
 use Rattle.mes_model_schema.specs.Tree.{Tree}
 use Rattle.mes_model_schema.specs.Grammar.{IsText}

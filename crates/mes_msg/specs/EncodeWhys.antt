@@ -1,4 +1,4 @@
--- How the reason is printed why no record can hold a message.
+-- The printed name of the reason for which no record can hold a message.
 use Rattle.std.specs.Prelude.{ℕ, List, codes}
 use Rattle.mes_msg.specs.declared.send_fault.EncodeFaultKind.{EncodeFaultKind}
 use Rattle.mes_msg.specs.declared.send_fault.EncodeFaultKind.TheVariants.{TooDeep, TooLarge}

@@ -1,21 +1,21 @@
-//! Why messages were not sent, or not to the end.
+//! The faults of sending messages. `mes_frame::WriteFault` is the writer's part of them.
 
 ghost use Rattle.std.specs.Prelude.{◌≡◌, ◌≤◌, length};
 ghost use Rattle.mes_msg.specs.EncodeWhys.{encode_fault_kind_name};
 
 use mes_frame::WriteFault;
 
-/// Why no record of the limit can hold a message.
+/// The reason for which no record within the limit can hold a message.
 #[derive(Clone, Copy, Debug, PartialEq, Eq)]
 pub enum EncodeFaultKind {
-    /// Its canonical text would nest deeper than a JSON text may.
+    /// The canonical text nests deeper than `MAX_NESTING`.
     TooDeep,
-    /// It nests no deeper, but its canonical text has more bytes than the limit.
+    /// The nesting is allowed, but the canonical text has more bytes than the limit.
     TooLarge,
 }
 
 impl EncodeFaultKind {
-    /// The name, as it is printed.
+    /// Returns the printed name.
     pub fn name(self) -> &'static str
         ensures text { result.now ≡ encode_fault_kind_name self }
         ensures bound { length result.now ≤ 8 }
@@ -27,19 +27,19 @@ impl EncodeFaultKind {
     }
 }
 
-/// Why messages, events or calls, were not sent, or not to the end.
+/// The reason for which some of the messages (events or calls) were not sent.
 #[derive(Clone, Copy, Debug, PartialEq, Eq)]
 pub enum SendFault {
-    /// No record of the limit can hold one of the messages. Nothing was written.
+    /// No record within the limit can hold one of the messages. Nothing was written.
     Encode {
-        /// The place of the first such message, from 0.
+        /// The index of the first such message, from 0.
         index: usize,
-        /// Why no record can hold it.
+        /// The reason.
         why: EncodeFaultKind,
     },
-    /// A growth was refused memory. Nothing was written.
+    /// An allocation failed. Nothing was written.
     NoMemory,
-    /// The writer stopped before all was out.
+    /// The writer stopped before all bytes were written.
     Write(WriteFault),
 }
 
