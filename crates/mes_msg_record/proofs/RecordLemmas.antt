@@ -14,11 +14,10 @@ use Rattle.mes_msg_record.specs.RecordFaults.{of_part}
 use Rattle.mes_msg_record.specs.Texts.{IsFaultOf}
 use Rattle.mes_msg_record.specs.declared.record.RecordFault.TheVariants.{NoMemory}
 
--- a tape begins with the tree that it is of
 pub begins : (xs : List Token) (t : Tree) → xs ≡ tokens t → BeginsWith xs t
 begins xs t is = ([], is ∙ sym (append-nil (tokens t)))
 
--- what is read of a value's tree is that value, or there was no memory
+-- reading a value's tree returns the value, or an allocation failed
 pub read_only : {V : Type 0} {steps : ℕ} (k : Kind V) → Lawful k steps → (at : List Place) (t : Tree) (v : V) (fault : PartFault)
     → k.Reads t v → Gives {V = V} (k.read at t) (Err fault) → of_part fault ≡ NoMemory
 read_only k lawful at t v (part.Field f) reads gives = let e = lawful.complete at t v reads in absurd (cc)
@@ -27,7 +26,6 @@ read_only k lawful at t v part.NoMemory reads gives = refl
 pub read_same : {V : Type 0} {steps : ℕ} (k : Kind V) → Lawful k steps → (at : List Place) (t : Tree) (v got : V) → k.Reads t v → k.read at t ≡ Ok got → got ≡ v
 read_same k lawful at t v got reads gives = let e = lawful.complete at t v reads in cc
 
--- why the text of a tree is of no such value
 pub refused_by : {V : Type 0} (k : Kind V) (b : List ℕ) (at : List Place) (t : Tree) (fault : PartFault)
     → at ≡ [] → IsText MAX_NESTING b t → Gives {V = V} (k.read at t) (Err fault) → IsFaultOf k b (of_part fault)
 refused_by k b at t (part.Field f) root is gives = (t, is, subst (λ (p : List Place). k.read p t ≡ Err f) root gives)

@@ -1,4 +1,4 @@
--- The body of MESSAGE, as a table (scheduler.proto, `Event.Message` and `Call.Message`): ! must be there.
+-- The body of MESSAGE as a table of members (scheduler.proto, `Event.Message` and `Call.Message`).
 use Rattle.std.specs.Prelude.{codes}
 use Rattle.std.proofs.Common.{refl}
 use Rattle.mes_model_schema.specs.Binary.{base64_bytes}
@@ -8,7 +8,7 @@ use Rattle.mes_model_schema.specs.Layouts.{Layout, needs, no_more, ◌⨾⨾◌,
 use Rattle.mes_model_resource.specs.Ids.{id, lawful_id}
 use Rattle.mes_msg_record.specs.declared.message.Message.{Message}
 
--- agent_id !, executor_id !, data !
+-- MESSAGE has agent_id, executor_id and data
 abbrev pub message_body_layout : Layout Message
 message_body_layout =
     laid_out (

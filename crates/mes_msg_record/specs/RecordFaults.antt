@@ -1,4 +1,4 @@
--- Why a record was refused, from why its text or its fields were.
+-- The fault of a record, from the fault of its text or of its fields.
 use Rattle.mes_model_schema.specs.ReadFault.{ReadFault}
 use Rattle.mes_model_schema.specs.ReadFault.TheVariants as read
 use Rattle.mes_model_schema.specs.declared.part.PartFault.{PartFault}

@@ -1,4 +1,4 @@
-//! The canonical text of a value.
+//! The canonical text of a value. `record.rt` reads one back.
 ghost use Rattle.std.specs.Prelude.{◌≡◌, IfOk, IfErr, OnOk, MatchResult};
 ghost use Rattle.mes_msg_record.specs.Texts.{IsTextOf, canonical_of, Fits, IsRefusalOf};
 
@@ -7,14 +7,14 @@ use mes_model_schema::Part;
 use mes_model_schema::json::{MAX_NESTING, NoMemory};
 use std::alloc::Global;
 
-/// Why an event or a call has no canonical text that a record can hold.
+/// The reason for which an event or a call has no canonical text within the limit.
 #[derive(Debug, Drop)]
 pub enum EncodeFault {
-    /// Its objects and arrays nest deeper than `MAX_NESTING`.
+    /// The objects and arrays nest deeper than `MAX_NESTING`.
     TooDeep,
-    /// It nests no deeper, but has more bytes than the limit.
+    /// The nesting is allowed, but the text has more bytes than the limit.
     TooLarge,
-    /// A growth was refused memory.
+    /// An allocation failed.
     NoMemory,
 }
 
@@ -29,7 +29,8 @@ impl From<NoMemory> for EncodeFault {
     }
 }
 
-/// The canonical text of a value, an event's or a call's: it nests at most `MAX_NESTING` deep and has at most `limit` bytes.
+/// Returns the canonical text of an event or a call. The text nests at most `MAX_NESTING` deep and
+/// has at most `limit` bytes.
 pub fn canonical_bytes<T: Part>(
     value: &T,
     alloc: Global,
@@ -38,6 +39,7 @@ pub fn canonical_bytes<T: Part>(
     ensures text { IfOk result (λ text. text.items ≡ canonical_of T.kind value.now) }
     ensures fits { IfOk result (λ _. Fits T.kind value.now limit) }
     ensures again { IfOk result (λ text. IsTextOf T.kind text.items value.now) }
+    // If the value fits, the only error is a failed allocation.
     ensures only { Fits T.kind value.now limit → MatchResult result (λ text. text.items ≡ canonical_of T.kind value.now) (λ e. e ≡ EncodeFault.NoMemory) }
     ensures err { IfErr result (IsRefusalOf T.kind value.now limit) }
 {
@@ -46,7 +48,8 @@ pub fn canonical_bytes<T: Part>(
     Ok(text)
 }
 
-/// The same into memory that may have been used: what stood in `text` goes. After a refusal what stands there is of no use.
+/// Like [`canonical_bytes`], but replaces the contents of `text` and reuses its memory. After an
+/// error the contents of `text` are unspecified.
 pub fn canonical_into<T: Part>(
     value: &T,
     alloc: Global,
@@ -56,6 +59,7 @@ pub fn canonical_into<T: Part>(
     ensures text { OnOk result (text.new.items ≡ canonical_of T.kind value.now) }
     ensures fits { OnOk result (Fits T.kind value.now limit) }
     ensures again { OnOk result (IsTextOf T.kind text.new.items value.now) }
+    // If the value fits, the only error is a failed allocation.
     ensures only { Fits T.kind value.now limit → MatchResult result (λ _. text.new.items ≡ canonical_of T.kind value.now) (λ e. e ≡ EncodeFault.NoMemory) }
     ensures err { IfErr result (IsRefusalOf T.kind value.now limit) }
 {

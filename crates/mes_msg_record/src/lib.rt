@@ -1,6 +1,14 @@
 #![tactic(auto)]
-//! What events and calls of the Apache Mesos v1 scheduler API both need: a value read from the bytes of a record, its canonical
-//! text, why there is none, and the body of MESSAGE.
+//! What the events and calls of the Apache Mesos v1 scheduler API have in common.
+//!
+//! - `record`: reads a value from the bytes of a record.
+//! - `canon`: writes the canonical text of a value, or returns the reason for which there is none.
+//! - `message`: the body of MESSAGE, which is both an event and a call.
+//!
+//!     let event: Event = read_bytes(alloc, bytes)?;
+//!     let text = canonical_bytes(&event, alloc, Limit::USUAL)?;
+//!
+//! Programs use the crate `mes_msg`, which re-exports this one. The tests are in `mes_msg_tests`.
 
 mod canon;
 mod message;

@@ -1,4 +1,4 @@
-//! The body of MESSAGE, of an event and of a call.
+//! The body of MESSAGE, as an event and as a call. The table is in specs/Messages.antt.
 
 use mes_model_resource::Id;
 use mes_model_schema::json::{self, Element, NoMemory};
@@ -8,19 +8,18 @@ use mes_model_schema::{
 };
 use std::alloc::Global;
 
-/// Bytes that an executor sends to the framework (scheduler.proto, `Event.Message`), or the framework to an executor
-/// (`Call.Message`).
+/// Bytes from an executor to the framework (scheduler.proto, `Event.Message`) or from the framework
+/// to an executor (`Call.Message`).
 #[derive(Debug, Drop)]
 pub struct Message {
     /// The executor's agent.
     pub agent_id: Id,
     /// The executor.
     pub executor_id: Id,
-    /// The bytes, which only the framework can read.
+    /// The bytes, which Mesos does not interpret. In JSON they are the base64 member `data`.
     pub payload: Bytes,
 }
 
-/// The names of the rows of the body of MESSAGE, in the order of the table.
 const MESSAGE_NAMES: [&str; 3] = ["agent_id", "executor_id", "data"];
 
 type MessageRows = Rows3<RequiredRow<Id>, RequiredRow<Id>, RequiredRow<Bytes>>;
@@ -35,7 +34,6 @@ impl ConstructFrom<<MessageRows as RowList>::Values> for Message {
     }
 }
 
-/// What the rows of the body of MESSAGE hold.
 macro_rules! message_rows {
     ($of:ident) => {
         pairs!(

@@ -1,4 +1,4 @@
-//! A value read from the bytes of a record.
+//! A value read from the bytes of a record. `canon.rt` writes one.
 ghost use Rattle.std.specs.Prelude.{◌≡◌, ◌≤◌, IfOk, IfErr, MatchResult};
 ghost use Rattle.mes_msg_record.specs.Texts.{IsTextOf, IsFaultOf};
 
@@ -6,14 +6,14 @@ use mes_model_schema::json::{ReadFault, TextFault, read_tape};
 use mes_model_schema::{BoxedFault, MAX_PATH_STEPS, Part, PartFault, PathBuilder};
 use std::alloc::Global;
 
-/// Why the bytes of a record spell no event, or no call.
+/// The reason for which the bytes of a record are not an event or not a call.
 #[derive(Debug, Drop)]
 pub enum RecordFault {
-    /// They are no JSON text.
+    /// The bytes are not a JSON text (RFC 8259), or nest deeper than `MAX_NESTING`.
     Text(TextFault),
-    /// The JSON text is of no event, or of no call.
+    /// The JSON text is not an event or not a call. The fault has the path and the reason.
     Field(BoxedFault),
-    /// A growth was refused memory.
+    /// An allocation failed.
     NoMemory,
 }
 
@@ -45,10 +45,11 @@ impl From<PartFault> for RecordFault {
     }
 }
 
-/// The value that the bytes of a record spell: an event, or a call. It is read from a tape, of which no tree is made.
+/// Reads the event or the call in the bytes of a record, without building a JSON tree.
 pub fn read_bytes<T: Part>(alloc: Global, bytes: &[u8]) -> Result<T, RecordFault>
     requires { T.STEPS ≤ MAX_PATH_STEPS }
     ensures ok { IfOk result (IsTextOf T.kind bytes.now) }
+    // If the bytes are a JSON text of a value, only a failed allocation can prevent its return.
     ensures only { (v : T) → IsTextOf T.kind bytes.now v → MatchResult result (λ r. r ≡ v) (λ e. e ≡ RecordFault.NoMemory) }
     ensures err { IfErr result (IsFaultOf T.kind bytes.now) }
 {
