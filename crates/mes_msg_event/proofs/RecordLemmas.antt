@@ -1,4 +1,4 @@
--- Why a record was refused.
+-- The fault of a record.
 use Rattle.std.proofs.Common.{◌≡◌, ℕ, List, []}
 use Rattle.std.specs.Prelude.{Err}
 use Rattle.mes_model_schema.specs.Tree.{Tree}
@@ -12,7 +12,6 @@ use Rattle.mes_msg_record.proofs.RecordLemmas.{refused_by}
 use Rattle.mes_msg_event.specs.Events.{event, IsRecordFault}
 use Rattle.mes_msg_event.specs.declared.event.Event.{Event}
 
--- why the text of a tree spells no event
 pub refused : (b : List ℕ) (at : List Place) (t : Tree) (fault : PartFault) → at ≡ [] → IsText MAX_NESTING b t → Gives {V = Event} (event.read at t) (Err fault)
     → IsRecordFault b (of_part fault)
 refused b at t fault root is gives = refused_by event b at t fault root is gives

@@ -1,4 +1,4 @@
--- Words put behind one another.
+-- Consecutive words of a line.
 use Rattle.std.specs.Prelude.{◌≡◌, ℕ, List, [], ◌∷◌, ◌++◌, codes, Result, Ok, Err, IfOk}
 use Rattle.std.proofs.Common.{append_assoc, append-nil, refl}
 use Rattle.mes_msg_event.specs.ShowLines.{spaced}

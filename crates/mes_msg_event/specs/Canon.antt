@@ -1,4 +1,4 @@
--- The canonical text of an event, and why it is not given.
+-- The canonical text of an event, and the reason for which there is none.
 use Rattle.std.specs.Prelude.{ℕ, List}
 use Rattle.mes_msg_event.specs.Events.{event}
 use Rattle.mes_msg_record.specs.Texts.{canonical_of, Fits, IsRefusalOf}
@@ -9,10 +9,10 @@ use Rattle.mes_msg_record.specs.declared.canon.EncodeFault.{EncodeFault}
 abbrev pub canonical_text : Event → List ℕ
 canonical_text ev = canonical_of event ev
 
--- it nests no deeper than a JSON text may, and a record of this limit can hold it
+-- the event nests at most MAX_NESTING deep, and a record of this limit can hold it
 abbrev pub IsGood : Event → ℕ → Type 0
 IsGood ev limit = Fits event ev limit
 
--- why it is not given; want of memory says nothing of the event
+-- the reason for which there is no text; a failed allocation states nothing about the event
 abbrev pub IsEncodeFault : Event → ℕ → EncodeFault → Type 0
 IsEncodeFault ev limit f = IsRefusalOf event ev limit f

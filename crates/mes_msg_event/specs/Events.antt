@@ -1,4 +1,4 @@
--- The events of the scheduler API (scheduler.proto, `Event`) in their JSON form.
+-- The events of the scheduler API in JSON as a table of members (scheduler.proto, `Event`).
 use Rattle.std.specs.Prelude.{◌≡◌, ◌⊎◌, ℕ, List, [], ◌∷◌, codes}
 use Rattle.std.proofs.Common.{inl, inr, refl}
 use Rattle.mes_model_schema.specs.Kinds.{Kind, Lawful, Returns}
@@ -23,7 +23,7 @@ use Rattle.mes_msg_record.specs.declared.record.RecordFault.{RecordFault}
 use Rattle.mes_msg_event_body.specs.EventNames.{event_names}
 use Rattle.mes_msg_record.specs.Texts.{IsTextOf, IsFaultOf}
 
--- an event by its type
+-- the body of an event, by its type
 abbrev pub Body : Type 0
 Body = Subscribed ⊎ List Offer ⊎ Rescind ⊎ Update ⊎ Message ⊎ Failure ⊎ ErrorBody ⊎ Unit {0} ⊎ List ℕ
 
@@ -49,7 +49,7 @@ from_event (of.Error v) = inr (inr (inr (inr (inr (inr (inl v))))))
 from_event of.Heartbeat = inr (inr (inr (inr (inr (inr (inr (inl tt)))))))
 from_event (of.Other name) = inr (inr (inr (inr (inr (inr (inr (inr name)))))))
 
--- type !, and by it the one row of its body; another type is kept by its name, and no further member is read
+-- an event has type and the body of that type; of another type only the name is read
 abbrev pub event_rows : Table Event
 event_rows =
     mapped (typed (
@@ -72,7 +72,7 @@ event_rows =
     )
     )) to_event from_event
 
--- the names of their members
+-- the names of an event's members
 abbrev pub event_members : List (List ℕ)
 event_members =
     codes "type" ∷ codes "subscribed" ∷ codes "offers" ∷ codes "rescind" ∷ codes "update" ∷ codes "message" ∷ codes "failure" ∷ codes "error" ∷ []
@@ -86,7 +86,7 @@ event = message event_rows
 abbrev pub Spells : List ℕ → Event → Type 0
 Spells b ev = IsTextOf event b ev
 
--- why the bytes spell no event; want of memory says nothing of them
+-- the fault of bytes that are not an event; a failed allocation states nothing about them
 abbrev pub IsRecordFault : List ℕ → RecordFault → Type 0
 IsRecordFault b f = IsFaultOf event b f
 

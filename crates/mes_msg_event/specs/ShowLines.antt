@@ -1,4 +1,4 @@
--- The lines that are printed of an event. A text is printed as its canonical JSON text, a whole number in decimal.
+-- The printed lines of an event: texts as canonical JSON, whole numbers in decimal.
 use Rattle.std.specs.Prelude.{ℕ, ◌/◌, ◌%◌, Option, Some, None, List, [], ◌∷◌, ◌++◌, if◌then◌else◌, ◌==◌, length, codes, decimal}
 use Rattle.std.specs.List.{flat_map}
 use Rattle.std.specs.Fmt.{signed_decimal}
@@ -12,24 +12,24 @@ use Rattle.mes_msg_event_body.specs.TaskStatus.{TaskStatus}
 use Rattle.mes_msg_event.specs.declared.event.Event.{Event}
 use Rattle.mes_msg_event.specs.declared.event.Event.TheVariants.{Subscribed, Offers, Rescind, Update, Message, Failure, Error, Heartbeat, Other}
 
--- words behind others, each after a space
+-- words, each after a space
 abbrev pub spaced : List (List ℕ) → List ℕ
 spaced words = flat_map (λ word. codes " " ++ word) words
 
--- two lower-case digits for each byte
+-- two lower-case hexadecimal digits for each byte
 abbrev pub hex_pairs : List ℕ → List ℕ
 hex_pairs bytes = flat_map (λ byte. hex_digit (byte / 16) ∷ hex_digit (byte % 16) ∷ []) bytes
 
--- the bytes of a uuid: 16 of them in the hyphenated lower-case form
+-- a UUID: 16 bytes in the hyphenated lower-case form, others in hexadecimal
 abbrev pub uuid_text : List ℕ → List ℕ
 uuid_text bytes = if length bytes == 16 then hyphenated_text lower bytes else codes "hex:" ++ hex_pairs bytes
 
--- a value that may be absent
+-- a value, or `-` if it is absent
 abbrev pub or_dash : {T : Type 0} → (T → List ℕ) → Option T → List ℕ
 or_dash text None = codes "-"
 or_dash text (Some value) = text value
 
--- seconds, held in millionths
+-- seconds, given in millionths
 unfoldable pub seconds_text : ℕ → List ℕ
 seconds_text units = text_of 6 units
 
@@ -56,13 +56,13 @@ event_words (Error body) = codes "ERROR" ∷ quoted_text body.message ∷ []
 event_words Heartbeat = codes "HEARTBEAT" ∷ []
 event_words (Other name) = codes "OTHER" ∷ quoted_text name ∷ []
 
--- `  "O1" "A1" "h" 0`: two spaces, the offer, its agent, the host, and how many resources
+-- `  "O1" "A1" "h" 0`: the offer, its agent, its host and its number of resources
 abbrev pub offer_line : Offer → List ℕ
 offer_line offer =
     codes " " ++ spaced (id_text offer.id ∷ id_text offer.agent_id ∷ quoted_text offer.hostname ∷ decimal (length offer.resources) ∷ [])
     ++ codes "\n"
 
--- behind the line of an OFFERS one for each offer
+-- after the line of an OFFERS, one line for each offer
 abbrev pub more_lines : Event → List ℕ
 more_lines (Subscribed body) = []
 more_lines (Offers offers) = flat_map offer_line offers

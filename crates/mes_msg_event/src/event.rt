@@ -1,4 +1,4 @@
-//! An event of the scheduler API.
+//! An event of the scheduler API. The bodies are in the crate `mes_msg_event_body`.
 ghost use Rattle.std.specs.Prelude.{◌≡◌, [], ◌∷◌, ◌++◌, IfErr, IfOk, OnOk};
 ghost use Rattle.mes_model_schema.specs.Tree.Tree.{string};
 ghost use Rattle.mes_model_schema.specs.Appended.{AppendsMembers};
@@ -25,25 +25,24 @@ use std::alloc::Global;
 pub enum Event {
     /// SUBSCRIBED: the framework is subscribed.
     Subscribed(Subscribed),
-    /// OFFERS: offers of resources.
+    /// OFFERS: resources are offered.
     Offers(List<Offer>),
     /// RESCIND: an offer is no longer valid.
     Rescind(Rescind),
     /// UPDATE: the state of a task.
     Update(Update),
-    /// MESSAGE: bytes that an executor sends to the framework.
+    /// MESSAGE: bytes from an executor to the framework.
     Message(Message),
     /// FAILURE: an agent or an executor is lost.
     Failure(Failure),
-    /// ERROR: the master refuses the framework and says why.
+    /// ERROR: the master refuses the framework and gives a reason.
     Error(ErrorBody),
     /// HEARTBEAT: the connection is alive.
     Heartbeat,
-    /// An event of another type, whose body is dropped.
+    /// An event of any other type. Its body is dropped.
     Other(OtherName),
 }
 
-/// The names of an event's members, in the order of the table.
 const EVENT_MEMBERS: [&str; 8] = [
     "type",
     "subscribed",
@@ -183,7 +182,7 @@ impl Part for Event {
     }
 }
 
-/// Appends the row `type` and the row of a body.
+/// Appends the members `type` and `name`, the body.
 fn put_body<T: Part>(
     members: &mut Vec<(Text, json::Json)>,
     alloc: Global,
@@ -199,7 +198,7 @@ fn put_body<T: Part>(
     put(members, alloc, name, body)
 }
 
-/// Appends the row `type` of OFFERS and its body.
+/// Appends the members `type` and `offers` of OFFERS.
 fn put_offers(
     members: &mut Vec<(Text, json::Json)>,
     alloc: Global,
@@ -216,7 +215,8 @@ fn put_offers(
     Ok(())
 }
 
-/// Appends the texts of the row `type` of OFFERS and of its body, and tells how deep the body nests.
+/// Appends the text of the members `type` and `offers`, and returns the nesting depth of the
+/// deeper.
 #[tactic(auto, using(mes_model_schema::proofs::AppendLemmas::both_members))]
 fn append_offers(alloc: Global, list: &List<Offer>, out: &mut Vec<u8>) -> Result<u64, NoMemory>
     ensures members { IfOk result (λ deep. AppendsMembers out.old.items (event_rows.members (Event.Offers list.now)) out.new.items deep) }

@@ -9,7 +9,9 @@ ghost use Rattle.mes_model_schema.specs.declared.field.FieldFault.{FieldFault};
 ghost use Rattle.mes_msg_event.specs.Events.{event};
 ghost use Rattle.mes_msg_event.specs.FirstFaults.{OfEvent};
 
-/// An event has just these faults: it is no object; or the row `type` has the fault; or the row of its type has it.
+/// Proves that the first fault of an event is one of three. The value is not an object, its member
+/// `type` has a fault, or the body of its type has one.
 pub fn event_breaks()
+    // A tree at a path has a fault if and only if it is the first in the order of the table.
     ensures { (at : List Place) (t : Tree) (f : FieldFault) → Breaks event at t f ↔ OfMessage OfEvent at t f }
 {}

@@ -1,4 +1,5 @@
-//! The words of a printed line, of an event and of what is told of one elsewhere: each is appended behind a space.
+//! The fields of a printed line of an event (`show.rt`) or of a report: each is appended after a
+//! space.
 
 ghost use Rattle.std.specs.Prelude.{◌≡◌, ◌++◌, codes, decimal, IfOk};
 ghost use Rattle.std.specs.Fmt.{signed_decimal};
@@ -22,7 +23,7 @@ pub fn put_word(word: &str, line: &mut Vec<u8>) -> Result<(), NoMemory>
     Ok(())
 }
 
-/// Appends a space and a text as canonical JSON text, with its quotation marks.
+/// Appends a space and a text as canonical JSON, in quotation marks.
 pub(crate) fn put_text(text: &str, line: &mut Vec<u8>) -> Result<(), NoMemory>
     ensures { IfOk result (λ _. line.new.items ≡ line.old.items ++ (codes " " ++ quoted_text text.now)) }
 {
@@ -37,7 +38,7 @@ pub fn put_id(id: &Id, line: &mut Vec<u8>) -> Result<(), NoMemory>
     put_text(id.value.as_str(), line)
 }
 
-/// Appends a space and an identifier, or `-` where there is none.
+/// Appends a space and an identifier, or `-` if there is none.
 pub(crate) fn put_some_id(id: &Option<Id>, line: &mut Vec<u8>) -> Result<(), NoMemory>
     ensures { IfOk result (λ _. line.new.items ≡ line.old.items ++ (codes " " ++ or_dash id_text id.now)) }
 {
@@ -54,7 +55,7 @@ pub fn put_number(number: u64, line: &mut Vec<u8>) -> Result<(), NoMemory>
     put_word(Buffer::new().format(number), line)
 }
 
-/// Appends a space and a whole number with its sign, or `-` where there is none.
+/// Appends a space and a signed whole number, or `-` if there is none.
 pub(crate) fn put_some_signed(number: Option<i32>, line: &mut Vec<u8>) -> Result<(), NoMemory>
     ensures { IfOk result (λ _. line.new.items ≡ line.old.items ++ (codes " " ++ or_dash signed_decimal number)) }
 {
@@ -64,7 +65,7 @@ pub(crate) fn put_some_signed(number: Option<i32>, line: &mut Vec<u8>) -> Result
     }
 }
 
-/// Appends a space and seconds, or `-` where there are none.
+/// Appends a space and a number of seconds, or `-` if there is none.
 #[tactic(auto, unfolding(crate::specs::ShowLines::seconds_text))]
 pub(crate) fn put_some_seconds(seconds: &Option<Micros>, line: &mut Vec<u8>) -> Result<(), NoMemory>
     ensures { IfOk result (λ _. line.new.items ≡ line.old.items ++ (codes " " ++ or_dash seconds_text seconds.now)) }
@@ -79,7 +80,7 @@ pub(crate) fn put_some_seconds(seconds: &Option<Micros>, line: &mut Vec<u8>) -> 
     }
 }
 
-/// Appends a space and a uuid, or `-` where there is none.
+/// Appends a space and a UUID, or `-` if there is none.
 pub(crate) fn put_some_uuid(uuid: &Option<Bytes>, line: &mut Vec<u8>) -> Result<(), NoMemory>
     ensures { IfOk result (λ _. line.new.items ≡ line.old.items ++ (codes " " ++ or_dash uuid_text uuid.now)) }
 {
@@ -89,8 +90,10 @@ pub(crate) fn put_some_uuid(uuid: &Option<Bytes>, line: &mut Vec<u8>) -> Result<
     }
 }
 
-/// Appends a space and a uuid: 16 bytes in the hyphenated form, others as `hex:` and two digits for each.
+/// Appends a space and a UUID. 16 bytes have the hyphenated form; any other number of bytes is
+/// `hex:` and two digits a byte.
 pub fn put_uuid(bytes: &[u8], line: &mut Vec<u8>) -> Result<(), NoMemory>
+    // On success: the hyphenated form of 16 bytes, else hexadecimal digits.
     ensures { IfOk result (λ _. line.new.items ≡ line.old.items ++ (codes " " ++ uuid_text bytes.now)) }
 {
     match Uuid::from_slice(bytes) {
@@ -105,7 +108,7 @@ pub fn put_uuid(bytes: &[u8], line: &mut Vec<u8>) -> Result<(), NoMemory>
     }
 }
 
-/// Appends two lower-case digits for each byte.
+/// Appends two lower-case hexadecimal digits for each byte.
 fn put_hex_pairs(bytes: &[u8], line: &mut Vec<u8>) -> Result<(), NoMemory>
     ensures { IfOk result (λ _. line.new.items ≡ line.old.items ++ hex_pairs bytes.now) }
 {

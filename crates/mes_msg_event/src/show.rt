@@ -1,4 +1,4 @@
-//! The lines that are printed of an event.
+//! The printed lines of an event. `line_fields.rt` writes their fields.
 
 ghost use Rattle.std.specs.Prelude.{◌≡◌, ◌++◌, IfOk};
 ghost use Rattle.std.specs.List.{flat_map};
@@ -15,10 +15,10 @@ use mes_msg_event_body::{Offer, TaskStatus};
 use std::alloc::Global;
 
 impl Event {
-    /// The lines that are printed of the event under this number, each with its LF: one, and behind an OFFERS one more for
-    /// each offer.
+    /// Returns the printed lines of the event with this number, each with its LF. There is one
+    /// line; OFFERS has one more for each offer.
     ///
-    /// Errors: `NoMemory` where a growth was refused.
+    /// Errors: `NoMemory` if an allocation fails.
     pub fn show_lines(&self, alloc: Global, number: u64) -> Result<Vec<u8>, NoMemory>
         ensures { IfOk result (λ lines. lines.items ≡ event_lines number self.now) }
     {
@@ -27,10 +27,12 @@ impl Event {
         Ok(lines)
     }
 
-    /// Appends these lines to memory that is kept, so that none is asked for where it has room.
+    /// Like [`Event::show_lines`], but appends to `lines` and allocates only if its capacity is too
+    /// small.
     ///
-    /// Errors: `NoMemory` where a growth was refused; a part of the lines may have been appended then.
+    /// Errors: `NoMemory` if an allocation fails; part of the lines may then have been appended.
     pub fn push_lines(&self, number: u64, lines: &mut Vec<u8>) -> Result<(), NoMemory>
+        // On success: exactly the lines of the event are appended.
         ensures { IfOk result (λ _. lines.new.items ≡ lines.old.items ++ event_lines number self.now) }
     {
         lines.extend_from_slice(Buffer::new().format(number).as_bytes())?;
@@ -43,7 +45,6 @@ impl Event {
     }
 }
 
-/// Appends the event's type and what is told of it.
 fn put_event(event: &Event, line: &mut Vec<u8>) -> Result<(), NoMemory>
     ensures { IfOk result (λ _. line.new.items ≡ line.old.items ++ spaced (event_words event.now)) }
 {
@@ -86,7 +87,6 @@ fn put_event(event: &Event, line: &mut Vec<u8>) -> Result<(), NoMemory>
     }
 }
 
-/// Appends what is told of an UPDATE.
 fn put_update(status: &TaskStatus, line: &mut Vec<u8>) -> Result<(), NoMemory>
     ensures { IfOk result (λ _. line.new.items ≡ line.old.items ++ spaced (update_words status.now)) }
 {
@@ -96,7 +96,6 @@ fn put_update(status: &TaskStatus, line: &mut Vec<u8>) -> Result<(), NoMemory>
     put_some_uuid(&status.uuid, line)
 }
 
-/// Appends a line for each offer.
 fn put_offers(offers: &[Offer], lines: &mut Vec<u8>) -> Result<(), NoMemory>
     ensures { IfOk result (λ _. lines.new.items ≡ lines.old.items ++ flat_map offer_line offers.now) }
 {
@@ -106,7 +105,6 @@ fn put_offers(offers: &[Offer], lines: &mut Vec<u8>) -> Result<(), NoMemory>
     Ok(())
 }
 
-/// Appends the line of an offer, with its LF.
 fn put_offer(offer: &Offer, lines: &mut Vec<u8>) -> Result<(), NoMemory>
     ensures { IfOk result (λ _. lines.new.items ≡ lines.old.items ++ offer_line offer.now) }
 {
