@@ -1,10 +1,9 @@
--- The types of events, and any other.
+-- The names of event types.
 use Rattle.std.proofs.Common.{◌≢◌, ℕ, List, refl, sym}
 use Rattle.std.specs.Prelude.{codes}
 use Rattle.mes_model_schema.specs.NameLaws.{names_differ}
 use Rattle.mes_msg_event_body.specs.EventNames.{IsOther}
 
--- a name that differs from each of them is of another event
 pub is_other : (n : List ℕ) → n ≢ codes "SUBSCRIBED" → n ≢ codes "OFFERS" → n ≢ codes "RESCIND" → n ≢ codes "UPDATE" → n ≢ codes "MESSAGE"
     → n ≢ codes "FAILURE" → n ≢ codes "ERROR" → n ≢ codes "HEARTBEAT" → IsOther n
 is_other n subscribed offers rescind update message failure error heartbeat =

@@ -1,4 +1,4 @@
--- The bodies of events, as tables (scheduler.proto, `Event`): ! must be there, ? may be there.
+-- The bodies of events as tables of members (scheduler.proto, `Event`).
 use Rattle.std.specs.Prelude.{codes}
 use Rattle.std.proofs.Common.{refl}
 use Rattle.mes_model_schema.specs.Kinds.{Kind, Lawful, Returns}
@@ -15,7 +15,7 @@ use Rattle.mes_msg_event_body.specs.declared.bodies.Update.{Update}
 use Rattle.mes_msg_event_body.specs.declared.bodies.Failure.{Failure}
 use Rattle.mes_msg_event_body.specs.declared.bodies.ErrorBody.{ErrorBody}
 
--- framework_id !, heartbeat_interval_seconds ?, in millionths
+-- SUBSCRIBED has framework_id, and optionally heartbeat_interval_seconds (in millionths)
 abbrev pub subscribed_layout : Layout Subscribed
 subscribed_layout =
     laid_out (
@@ -35,7 +35,7 @@ pub subscribed_back : (v : Subscribed) → subscribed_layout.rows.table.Back (su
 unfolding subscribed
 subscribed_back v back = returns_kind subscribed_layout refl v back
 
--- offer_id !
+-- RESCIND has offer_id
 abbrev pub rescind_layout : Layout Rescind
 rescind_layout =
     laid_out (
@@ -54,7 +54,7 @@ pub rescind_back : (v : Rescind) → rescind_layout.rows.table.Back (rescind_lay
 unfolding rescind
 rescind_back v back = returns_kind rescind_layout refl v back
 
--- status !
+-- UPDATE has status
 abbrev pub update_layout : Layout Update
 update_layout =
     laid_out (
@@ -73,7 +73,7 @@ pub update_back : (v : Update) → update_layout.rows.table.Back (update_layout.
 unfolding update
 update_back v back = returns_kind update_layout refl v back
 
--- agent_id ?, executor_id ?, status ?
+-- FAILURE has optionally agent_id, executor_id and status
 abbrev pub failure_layout : Layout Failure
 failure_layout =
     laid_out (
@@ -94,7 +94,7 @@ pub failure_back : (v : Failure) → failure_layout.rows.table.Back (failure_lay
 unfolding failure
 failure_back v back = returns_kind failure_layout refl v back
 
--- message !
+-- ERROR has message
 abbrev pub error_body_layout : Layout ErrorBody
 error_body_layout =
     laid_out (

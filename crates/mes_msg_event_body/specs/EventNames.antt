@@ -7,6 +7,6 @@ abbrev pub event_names : List (List ℕ)
 event_names =
     codes "SUBSCRIBED" ∷ codes "OFFERS" ∷ codes "RESCIND" ∷ codes "UPDATE" ∷ codes "MESSAGE" ∷ codes "FAILURE" ∷ codes "ERROR" ∷ codes "HEARTBEAT" ∷ []
 
--- a type that is none of them
+-- any other type
 abbrev pub IsOther : List ℕ → Type 0
 IsOther name = is_in name event_names ≡ false

@@ -1,4 +1,4 @@
--- The body of OFFERS: an object with the offers, or the offers alone; it is written as the object.
+-- The body of OFFERS: an object with the offers, or the list alone. It is written as the object.
 use Rattle.std.specs.Prelude.{List, codes}
 use Rattle.mes_model_schema.specs.Kinds.{Kind, Lawful, Returns}
 use Rattle.mes_model_schema.specs.Rows.{ReturnsEach}
@@ -7,7 +7,7 @@ use Rattle.mes_model_schema.specs.EitherListLaws.{lawful_either_list, either_lis
 use Rattle.mes_model_offer.specs.Offers.{offer, lawful_offer}
 use Rattle.mes_model_offer.specs.declared.offer.Offer.{Offer}
 
--- offers *
+-- OFFERS has the list offers
 unfoldable pub offers : Kind (List Offer)
 offers = either_list (codes "offers") offer
 

@@ -1,4 +1,5 @@
-//! The bodies of events, each with the rows of its table.
+//! The bodies of events, except MESSAGE (crate `mes_msg_record`) and OFFERS (`offers.rt`). The
+//! tables are in specs/Bodies.antt.
 
 use mes_model_resource::Id;
 use mes_model_schema::fixed::Micros;
@@ -10,16 +11,15 @@ use mes_model_schema::{
 use mes_model_task::TaskStatus;
 use std::alloc::Global;
 
-/// The framework is subscribed (scheduler.proto, `Event.Subscribed`).
+/// The body of SUBSCRIBED (scheduler.proto, `Event.Subscribed`): the framework is subscribed.
 #[derive(Debug, Drop)]
 pub struct Subscribed {
     /// The framework's identifier.
     pub framework_id: Id,
-    /// How long the master waits between two heartbeats, in seconds.
+    /// The master's interval between two heartbeats, in seconds with six decimal places.
     pub heartbeat_interval_seconds: Option<Micros>,
 }
 
-/// The names of the rows of the body of SUBSCRIBED, in the order of the table.
 const SUBSCRIBED_NAMES: [&str; 2] = ["framework_id", "heartbeat_interval_seconds"];
 
 type SubscribedRows = Rows2<RequiredRow<Id>, OptionalRow<Micros>>;
@@ -34,7 +34,6 @@ impl ConstructFrom<<SubscribedRows as RowList>::Values> for Subscribed {
     }
 }
 
-/// What the rows of the body of SUBSCRIBED hold.
 macro_rules! subscribed_rows {
     ($of:ident) => {
         pairs!(
@@ -80,14 +79,13 @@ impl Part for Subscribed {
     }
 }
 
-/// An offer is no longer valid (`Event.Rescind`).
+/// The body of RESCIND (`Event.Rescind`): an offer is no longer valid.
 #[derive(Debug, Drop)]
 pub struct Rescind {
     /// The offer.
     pub offer_id: Id,
 }
 
-/// The names of the rows of the body of RESCIND, in the order of the table.
 const RESCIND_NAMES: [&str; 1] = ["offer_id"];
 
 type RescindRows = Rows1<RequiredRow<Id>>;
@@ -102,7 +100,6 @@ impl ConstructFrom<<RescindRows as RowList>::Values> for Rescind {
     }
 }
 
-/// What the rows of the body of RESCIND hold.
 macro_rules! rescind_rows {
     ($of:ident) => {
         pairs!(RequiredRowRef(&$of.offer_id))
@@ -145,14 +142,13 @@ impl Part for Rescind {
     }
 }
 
-/// The state of a task (`Event.Update`).
+/// The body of UPDATE (`Event.Update`): the state of a task.
 #[derive(Debug, Drop)]
 pub struct Update {
-    /// The state, with what is known of it. It stands in memory of its own, so that an event is small.
+    /// The state and its details. They are boxed, so that an event is small.
     pub status: Boxed<TaskStatus>,
 }
 
-/// The names of the rows of the body of UPDATE, in the order of the table.
 const UPDATE_NAMES: [&str; 1] = ["status"];
 
 type UpdateRows = Rows1<RequiredRow<Boxed<TaskStatus>>>;
@@ -167,7 +163,6 @@ impl ConstructFrom<<UpdateRows as RowList>::Values> for Update {
     }
 }
 
-/// What the rows of the body of UPDATE hold.
 macro_rules! update_rows {
     ($of:ident) => {
         pairs!(RequiredRowRef(&$of.status))
@@ -210,18 +205,17 @@ impl Part for Update {
     }
 }
 
-/// An agent or an executor is lost (`Event.Failure`).
+/// The body of FAILURE (`Event.Failure`): an agent or an executor is lost.
 #[derive(Debug, Drop)]
 pub struct Failure {
     /// The agent.
     pub agent_id: Option<Id>,
-    /// The executor, where only that is lost.
+    /// The executor, if only the executor is lost.
     pub executor_id: Option<Id>,
-    /// What the executor exited with.
+    /// The exit status of the executor.
     pub status: Option<i32>,
 }
 
-/// The names of the rows of the body of FAILURE, in the order of the table.
 const FAILURE_NAMES: [&str; 3] = ["agent_id", "executor_id", "status"];
 
 type FailureRows = Rows3<OptionalRow<Id>, OptionalRow<Id>, OptionalRow<i32>>;
@@ -236,7 +230,6 @@ impl ConstructFrom<<FailureRows as RowList>::Values> for Failure {
     }
 }
 
-/// What the rows of the body of FAILURE hold.
 macro_rules! failure_rows {
     ($of:ident) => {
         pairs!(
@@ -283,14 +276,13 @@ impl Part for Failure {
     }
 }
 
-/// The master refuses the framework, which it no longer serves (`Event.Error`).
+/// The body of ERROR (`Event.Error`): the master no longer serves the framework.
 #[derive(Debug, Drop)]
 pub struct ErrorBody {
-    /// Why.
+    /// The reason.
     pub message: Text,
 }
 
-/// The names of the rows of the body of ERROR, in the order of the table.
 const ERROR_BODY_NAMES: [&str; 1] = ["message"];
 
 type ErrorBodyRows = Rows1<RequiredRow<Text>>;
@@ -305,7 +297,6 @@ impl ConstructFrom<<ErrorBodyRows as RowList>::Values> for ErrorBody {
     }
 }
 
-/// What the rows of the body of ERROR hold.
 macro_rules! error_body_rows {
     ($of:ident) => {
         pairs!(RequiredRowRef(&$of.message))

@@ -1,6 +1,16 @@
 #![tactic(auto)]
-//! The bodies of the events of the Apache Mesos v1 scheduler API in their JSON form: each is read from a place of a tape, copied, and
-//! written as a tree; and the name of an event whose body is not read.
+//! The bodies of the events of the Apache Mesos v1 scheduler API in JSON.
+//!
+//! - `bodies`: SUBSCRIBED, RESCIND, UPDATE, FAILURE and ERROR.
+//! - `offers`: OFFERS.
+//! - `other_name`: the name of an event type whose body is not read.
+//!
+//! Each body is read from a token tape, copied, and written as a JSON tree or as text. The crate
+//! `mes_msg_event` reads whole events; the body of MESSAGE is in `mes_msg_record`.
+//!
+//!     let body = Subscribed::read_from(alloc, &tape.root(), &PathBuilder::new())?;
+//!
+//! Programs use the crate `mes_msg`. The tests are in `mes_msg_tests`.
 
 mod bodies;
 mod offers;

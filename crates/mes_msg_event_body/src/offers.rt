@@ -1,4 +1,4 @@
-//! The body of OFFERS.
+//! The body of OFFERS. The other bodies are in `bodies.rt`.
 ghost use Rattle.std.specs.Prelude.{◌≡◌, IfOk, OnOk};
 ghost use Rattle.mes_model_schema.specs.View.{view};
 ghost use Rattle.mes_model_schema.specs.Appended.{Appends};
@@ -14,7 +14,8 @@ use mes_model_schema::{
 use std::alloc::Global;
 use std::marker::Model;
 
-/// The offers of the body of OFFERS, which is read in two forms. A contract sees the list of them.
+/// The body of OFFERS: an object with the member `offers`, or the list alone. In contracts its
+/// value is the list.
 #[derive(Debug, Drop)]
 pub struct Offers {
     offers: List<Offer>,
@@ -34,7 +35,7 @@ impl Model for Offers {
 }
 
 impl Offers {
-    /// The offers.
+    /// Returns the offers.
     pub fn into_list(self) -> List<Offer>
         ensures { result ≡ self }
     {
@@ -77,11 +78,11 @@ impl Part for Offers {
     }
 }
 
-/// What the body of OFFERS is written as.
+/// Returns the JSON tree of the body of OFFERS, in the object form.
 #[tactic(auto, using(crate::specs::Offers::offers_back), unfolding(crate::specs::Offers::offers))]
 pub fn offers_tree(alloc: Global, list: &List<Offer>) -> Result<json::Json, NoMemory>
     ensures tree { IfOk result (λ t. view t ≡ offers.tree list.now) }
-    // It is read back.
+    // On success: the tree reads back to the same offers.
     ensures back { OnOk result (Returns offers list.now) }
 {
     let mut members = Vec::new(alloc);
@@ -89,11 +90,12 @@ pub fn offers_tree(alloc: Global, list: &List<Offer>) -> Result<json::Json, NoMe
     Ok(whole_object(members))
 }
 
-/// Appends the text of the body of OFFERS, and tells how deep it nests.
+/// Appends the text of the body of OFFERS and returns its nesting depth.
 #[tactic(auto, using(crate::specs::Offers::offers_back), unfolding(crate::specs::Offers::offers))]
 pub fn offers_text(alloc: Global, list: &List<Offer>, out: &mut Vec<u8>) -> Result<u64, NoMemory>
+    // On success: the text of the tree is appended, and the depth is returned.
     ensures text { IfOk result (λ deep. Appends out.old.items (offers.tree list.now) out.new.items deep) }
-    // It is read back.
+    // On success: the text reads back to the same offers.
     ensures back { OnOk result (Returns offers list.now) }
 {
     let start = out.len();

@@ -1,4 +1,4 @@
-//! The name of an event that is none of those that are read.
+//! The name of an event type whose body is not read.
 ghost use Rattle.std.specs.Prelude.{◌≡◌, IfOk, IfErr};
 ghost use Rattle.mes_model_schema.specs.Fields.{is_in};
 ghost use Rattle.mes_msg_event_body.specs.EventNames.{event_names, IsOther};
@@ -7,7 +7,8 @@ use mes_model_schema::json::{NoMemory, Text};
 use std::alloc::Global;
 use std::marker::Model;
 
-/// The type of an event whose body is dropped: any text but the eight types that are read. A contract sees it as its bytes.
+/// The type of an event whose body is dropped: any text except the eight types that are read. In
+/// contracts its value is its bytes.
 #[derive(Debug, Drop)]
 pub struct OtherName {
     name: Text,
@@ -25,7 +26,8 @@ impl Model for OtherName {
 }
 
 impl OtherName {
-    /// The name of another event, or the text again where it is one of the eight types that are read. Takes no memory.
+    /// Returns the name, or the text unchanged if it is one of the eight types that are read. Does
+    /// not allocate.
     pub fn new(name: Text) -> Result<OtherName, Text>
         ensures ok { IfOk result (λ other. (other ≡ name) × IsOther name) }
         ensures err { IfErr result (λ again. (again ≡ name) × (IsOther name → ⊥)) }
@@ -37,7 +39,7 @@ impl OtherName {
         }
     }
 
-    /// The name of an event of this type, which is none of those that are read.
+    /// Copies the name of an event type, which must not be one of the eight types that are read.
     pub fn of_type(alloc: Global, name: &str) -> Result<OtherName, NoMemory>
         requires { IsOther name.now }
         ensures { IfOk result (λ other. other ≡ name.now) }
@@ -46,7 +48,7 @@ impl OtherName {
         Ok(OtherName { name })
     }
 
-    /// The name, as a text.
+    /// Returns the name as a text.
     pub fn text(&self) -> &Text
         ensures text { result.now ≡ self.now }
         ensures other { IsOther self.now }
@@ -54,7 +56,7 @@ impl OtherName {
         &self.name
     }
 
-    /// The name.
+    /// Returns the name as a string slice.
     pub fn as_str(&self) -> &str
         ensures text { result.now ≡ self.now }
         ensures other { IsOther self.now }
@@ -62,7 +64,7 @@ impl OtherName {
         self.name.as_str()
     }
 
-    /// The name, in the memory that it owned.
+    /// Returns the name in its own memory, without a copy.
     pub fn into_text(self) -> Text
         ensures { result ≡ self }
     {
@@ -70,7 +72,7 @@ impl OtherName {
         name
     }
 
-    /// The same name, in memory of its own.
+    /// Returns a copy of the name.
     pub fn copy(&self, alloc: Global) -> Result<OtherName, NoMemory>
         ensures { IfOk result (λ other. other ≡ self.now) }
     {
@@ -79,7 +81,7 @@ impl OtherName {
     }
 }
 
-/// Whether events of this type are read with their bodies.
+/// Returns whether events of this type are read with their bodies.
 fn is_read(name: &str) -> bool
     ensures { result ≡ is_in name.now event_names }
 {
