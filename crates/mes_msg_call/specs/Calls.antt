@@ -1,4 +1,4 @@
--- The calls of the scheduler API (scheduler.proto, `Call`) in their JSON form.
+-- The calls of the scheduler API in JSON as a table of members (scheduler.proto, `Call`).
 use Rattle.std.specs.Prelude.{◌≡◌, ◌⊎◌, ℕ, ◌+◌, max, List, [], ◌∷◌, Option, None, codes}
 use Rattle.std.proofs.Common.{inl, inr, refl}
 use Rattle.mes_model_schema.specs.Kinds.{Kind, Lawful, Returns}
@@ -24,15 +24,15 @@ use Rattle.mes_msg_call_body.specs.declared.call_bodies.Shutdown.{Shutdown}
 use Rattle.mes_msg_call.specs.declared.call.Call.{Call}
 use Rattle.mes_msg_call.specs.declared.call.Call.TheVariants as of
 
--- framework_id !, and the row of a body !
+-- a call with framework_id and a body
 abbrev pub with_body : {V : Type 0} → List ℕ → Kind V → Table (Id × V)
 with_body n k = need (codes "framework_id") id ⨾ need n k
 
--- framework_id !; a body is left out
+-- a call with framework_id, and without a body
 abbrev pub without_body : List ℕ → Table (Id × Option ⊥)
 without_body n = need (codes "framework_id") id ⨾ maybe n left_out
 
--- a call by its type
+-- the fields of a call, by its type
 abbrev pub CallRows : Type 0
 CallRows = (Option Id × Subscribe) ⊎ (Id × Accept) ⊎ (Id × Decline) ⊎ (Id × Option ⊥) ⊎ (Id × Kill) ⊎ (Id × Acknowledge) ⊎ (Id × Reconcile) ⊎ Id ⊎ (Id × Option ⊥) ⊎ (Id × Shutdown) ⊎ (Id × Message) ⊎ ⊥
 
@@ -63,7 +63,7 @@ from_call (of.Suppress framework) = inr (inr (inr (inr (inr (inr (inr (inr (inl 
 from_call (of.Shutdown framework body) = inr (inr (inr (inr (inr (inr (inr (inr (inr (inl (framework, body))))))))))
 from_call (of.Message framework body) = inr (inr (inr (inr (inr (inr (inr (inr (inr (inr (inl (framework, body)))))))))))
 
--- type !, and by it framework_id, ? under SUBSCRIBE and else !, and the one row of its body; another type is left out
+-- a call has type, framework_id (optional in SUBSCRIBE) and its body; other types are refused
 abbrev pub call_rows : Table Call
 call_rows =
     mapped (typed (
@@ -92,7 +92,7 @@ call_rows =
     )
     )) to_call from_call
 
--- the names of their members
+-- the names of a call's members
 abbrev pub call_members : List (List ℕ)
 call_members =
     codes "type" ∷ codes "framework_id" ∷ codes "subscribe" ∷ codes "accept" ∷ codes "decline" ∷ codes "revive" ∷ codes "kill" ∷ codes "acknowledge" ∷ codes "reconcile"
@@ -116,7 +116,7 @@ to_from_call (of.Suppress framework) = refl
 to_from_call (of.Shutdown framework body) = refl
 to_from_call (of.Message framework body) = refl
 
--- the body is the deeper row, or as deep as the other
+-- the body nests at least as deep as framework_id
 lawful_with_body : {V : Type 0} {n : List ℕ} {k : Kind V} {steps : ℕ} → Lawful k steps → LawfulTable (with_body n k) (max 2 (1 + steps))
 lawful_with_body lawful = lawful_both (lawful_need lawful_id) (lawful_need lawful)
 

@@ -1,4 +1,4 @@
--- The first fault of a call, as its table is written.
+-- The first fault of a call, in the order of its table.
 use Rattle.std.specs.Prelude.{ℕ, List, codes}
 use Rattle.mes_model_schema.specs.Kinds.{Kind}
 use Rattle.mes_model_schema.specs.Leaves.{left_out}
@@ -9,15 +9,15 @@ use Rattle.mes_model_resource.specs.Ids.{id}
 use Rattle.mes_msg_record.specs.Messages.{message_body}
 use Rattle.mes_msg_call_body.specs.CallBodies.{subscribe, accept, decline, kill, acknowledge, reconcile, shutdown}
 
--- framework_id !, and the row of a body !
+-- a call with framework_id and a body
 abbrev pub WithBody : {V : Type 0} → List ℕ → Kind V → OfRows
 WithBody n k = NeedThen (codes "framework_id") id (NeedBreaks k n)
 
--- framework_id !; a body is left out
+-- a call with framework_id, and without a body
 abbrev pub WithoutBody : List ℕ → OfRows
 WithoutBody n = NeedThen (codes "framework_id") id (OptionalBreaks left_out n)
 
--- type !, and by it framework_id, ? under SUBSCRIBE and else !, and the one row of its body; another type is left out
+-- a call has type, framework_id (optional in SUBSCRIBE) and its body; other types are refused
 abbrev pub OfCall : OfRows
 OfCall =
     ByType (

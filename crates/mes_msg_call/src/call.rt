@@ -1,4 +1,4 @@
-//! A call of the scheduler API.
+//! A call of the scheduler API. The bodies are in the crate `mes_msg_call_body`.
 ghost use Rattle.std.specs.Prelude.{◌≡◌, ◌+◌, ◌≤◌, [], ◌∷◌, ◌++◌, None, Ok, Err, length, codes, IfOk, IfErr, OnOk, MatchResult};
 ghost use Rattle.mes_model_schema.specs.Tree.{Members};
 ghost use Rattle.mes_model_schema.specs.Tree.Tree.{string};
@@ -28,83 +28,82 @@ use mes_msg_call_body::{Accept, Acknowledge, Decline, Kill, Reconcile, Shutdown,
 use mes_msg_record::{EncodeFault, Message, RecordFault, canonical_bytes, read_bytes};
 use std::alloc::Global;
 
-/// A call of the scheduler API (scheduler.proto, `Call`), from the framework that it names.
+/// A call of the scheduler API (scheduler.proto, `Call`) with the framework that sends it.
 #[derive(Debug, Drop)]
 pub enum Call {
-    /// SUBSCRIBE: the framework subscribes, or does so again.
+    /// SUBSCRIBE: the framework subscribes or resubscribes.
     Subscribe {
-        /// The framework, where it has subscribed before.
+        /// The framework, if it has subscribed before.
         framework_id: Option<Id>,
-        /// What it tells of itself.
+        /// The description of the framework.
         body: Subscribe,
     },
-    /// ACCEPT: offers are accepted.
+    /// ACCEPT: accepts offers.
     Accept {
         /// The framework.
         framework_id: Id,
-        /// The offers, and what is done with them.
+        /// The offers, and the operations on them.
         body: Accept,
     },
-    /// DECLINE: offers are declined.
+    /// DECLINE: declines offers.
     Decline {
         /// The framework.
         framework_id: Id,
         /// The offers.
         body: Decline,
     },
-    /// REVIVE: the framework wants offers again, also of what it declined.
+    /// REVIVE: asks for offers again, also of declined resources.
     Revive {
         /// The framework.
         framework_id: Id,
     },
-    /// KILL: a task is to be killed.
+    /// KILL: kills a task.
     Kill {
         /// The framework.
         framework_id: Id,
         /// The task.
         body: Kill,
     },
-    /// ACKNOWLEDGE: a status of a task is acknowledged.
+    /// ACKNOWLEDGE: acknowledges a status update of a task.
     Acknowledge {
         /// The framework.
         framework_id: Id,
-        /// The status.
+        /// The status update.
         body: Acknowledge,
     },
-    /// RECONCILE: the states of tasks are asked for.
+    /// RECONCILE: asks for the states of tasks.
     Reconcile {
         /// The framework.
         framework_id: Id,
         /// The tasks.
         body: Reconcile,
     },
-    /// TEARDOWN: the framework ends, and its tasks with it.
+    /// TEARDOWN: ends the framework and its tasks.
     Teardown {
         /// The framework.
         framework_id: Id,
     },
-    /// SUPPRESS: the framework wants no offers, until it revives them.
+    /// SUPPRESS: stops offers until the next REVIVE.
     Suppress {
         /// The framework.
         framework_id: Id,
     },
-    /// SHUTDOWN: an executor is to end, and its tasks with it.
+    /// SHUTDOWN: ends an executor and its tasks.
     Shutdown {
         /// The framework.
         framework_id: Id,
         /// The executor.
         body: Shutdown,
     },
-    /// MESSAGE: bytes for an executor of the framework.
+    /// MESSAGE: sends bytes to an executor of the framework.
     Message {
         /// The framework.
         framework_id: Id,
-        /// The executor, and the bytes.
+        /// The executor and the bytes.
         body: Message,
     },
 }
 
-/// The names of a call's members, in the order of the table.
 const CALL_MEMBERS: [&str; 12] = [
     "type",
     "framework_id",
@@ -121,19 +120,21 @@ const CALL_MEMBERS: [&str; 12] = [
 ];
 
 impl Call {
-    /// The call that the bytes of a record, or of a request, spell. It is read from a tape, of which no tree is made.
+    /// Reads the call in the bytes of a record or of a request, without building a JSON tree.
     pub fn read_record(alloc: Global, bytes: &[u8]) -> Result<Call, RecordFault>
-        // Ok: the bytes are a JSON text of the call.
+        // On success: the bytes are a JSON text of the call.
         ensures ok { IfOk result (IsTextOf call bytes.now) }
+        // If the bytes are a JSON text of a call, only a failed allocation can prevent its return.
         ensures only { (c : Call) → IsTextOf call bytes.now c → MatchResult result (λ r. r ≡ c) (λ e. e ≡ RecordFault.NoMemory) }
 
-        // Err: they are no JSON text, or one of no call, and where.
+        // Each error: the bytes are not a JSON text, or not a call, with the place of the first
+        // fault.
         ensures err { IfErr result (IsFaultOf call bytes.now) }
     {
         read_bytes(alloc, bytes)
     }
 
-    /// The call that a JSON value stands for.
+    /// Reads the call that a JSON value represents.
     pub fn of_tree(alloc: Global, json: &json::Json) -> Result<Call, PartFault>
         ensures ok { IfOk result (call.Reads (view json.now)) }
         ensures only { (c : Call) → call.Reads (view json.now) c → Gives (Ok c) result }
@@ -142,16 +143,18 @@ impl Call {
         read_part(alloc, json, &Path::new())
     }
 
-    /// The call's canonical text: no white space, members in the order of the tables, none that is absent, unset or empty. It
-    /// nests at most `MAX_NESTING` deep and has at most `limit` bytes.
+    /// Returns the canonical text of the call. It has no white space, its members are in the order
+    /// of the tables, and absent, unset or empty ones are left out. It nests at most `MAX_NESTING`
+    /// deep and has at most `limit` bytes.
     pub fn canon(&self, alloc: Global, limit: Limit) -> Result<Vec<u8>, EncodeFault>
-        // Ok: this text, which a record of the limit can hold, and in which the call is read again.
+        // On success: the canonical text, which fits the limit and reads back to the same call.
         ensures text { IfOk result (λ text. text.items ≡ canonical_of call self.now) }
         ensures good { IfOk result (λ _. Fits call self.now limit) }
         ensures spells { IfOk result (λ text. IsTextOf call text.items self.now) }
+        // If the call fits, the only error is a failed allocation.
         ensures only { Fits call self.now limit → MatchResult result (λ text. text.items ≡ canonical_of call self.now) (λ e. e ≡ EncodeFault.NoMemory) }
 
-        // Err: too deep, or else too large.
+        // Each error: nested too deep, else too large, or an allocation failed.
         ensures err { IfErr result (IsRefusalOf call self.now limit) }
     {
         canonical_bytes(self, alloc, limit)
@@ -392,7 +395,7 @@ impl Part for Call {
     }
 }
 
-/// The framework that calls, and the body of this name.
+/// Reads the framework and the required body `name`.
 fn read_call<T: Part>(
     alloc: Global,
     framework: &Found<'_>,
@@ -411,7 +414,7 @@ fn read_call<T: Part>(
     Ok((framework_id, body))
 }
 
-/// The framework that calls; a body of this name is left out.
+/// Reads the framework. A body `name` is not supported, so it must be absent or `null`.
 fn read_bare(
     alloc: Global,
     framework: &Found<'_>,
@@ -431,7 +434,7 @@ fn read_bare(
     Ok(framework_id)
 }
 
-/// Appends the row `type` and the one of the framework.
+/// Appends the members `type` and `framework_id`.
 fn put_head(
     members: &mut Vec<(Text, json::Json)>,
     alloc: Global,
@@ -447,7 +450,7 @@ fn put_head(
     put(members, alloc, "framework_id", framework_id)
 }
 
-/// Appends the row `type`, the one of the framework and the one of a body.
+/// Appends the members `type`, `framework_id` and `name`, the body.
 fn put_call<T: Part>(
     members: &mut Vec<(Text, json::Json)>,
     alloc: Global,
@@ -466,7 +469,7 @@ fn put_call<T: Part>(
     put(members, alloc, name, body)
 }
 
-/// Appends the texts of the rows of a SUBSCRIBE, and tells how deep the deepest value nests.
+/// Appends the text of the members of a SUBSCRIBE and returns the nesting depth of the deepest.
 #[tactic(auto, using(mes_model_schema::proofs::AppendLemmas::both_members))]
 fn append_subscribe(
     alloc: Global,
@@ -484,7 +487,7 @@ fn append_subscribe(
     Ok(deeper(deeper(kind, framework), rest))
 }
 
-/// Appends the texts of the row `type` and of the one of the framework.
+/// Appends the text of the members `type` and `framework_id`.
 #[tactic(auto, using(mes_model_schema::proofs::AppendLemmas::both_members))]
 fn append_head(
     alloc: Global,
@@ -499,7 +502,7 @@ fn append_head(
     write_case_text(alloc, kind, "framework_id", framework_id, out)
 }
 
-/// Appends the texts of the row `type`, of the one of the framework and of the one of a body.
+/// Appends the text of the members `type`, `framework_id` and `name`, the body.
 #[tactic(auto, using(mes_model_schema::proofs::AppendLemmas::both_members))]
 fn append_call<T: Part>(
     alloc: Global,

@@ -9,8 +9,9 @@ ghost use Rattle.mes_model_schema.specs.declared.field.FieldFault.{FieldFault};
 ghost use Rattle.mes_msg_call.specs.Calls.{call};
 ghost use Rattle.mes_msg_call.specs.FirstFaults.{OfCall};
 
-/// A call has just these faults: it is no object; or the row `type` has the fault; or a row of its type has it, and every row before that
-/// one is read.
+/// Proves that the first fault of a call is one of three. The value is not an object, or its member
+/// `type` has a fault, or a later member has one. All members before the faulty one are read.
 pub fn call_breaks()
+    // A tree at a path has a fault if and only if it is the first in the order of the table.
     ensures { (at : List Place) (t : Tree) (f : FieldFault) → Breaks call at t f ↔ OfMessage OfCall at t f }
 {}
