@@ -1,4 +1,4 @@
--- The bodies of calls, as tables (scheduler.proto, `Call`): ! must be there, ? may be there, * is a list.
+-- The bodies of calls as tables of members (scheduler.proto, `Call`).
 use Rattle.std.specs.Prelude.{codes}
 use Rattle.std.proofs.Common.{refl}
 use Rattle.mes_model_schema.specs.Binary.{base64_bytes}
@@ -18,7 +18,7 @@ use Rattle.mes_msg_call_body.specs.declared.call_bodies.Acknowledge.{Acknowledge
 use Rattle.mes_msg_call_body.specs.declared.call_bodies.Reconcile.{Reconcile}
 use Rattle.mes_msg_call_body.specs.declared.call_bodies.Shutdown.{Shutdown}
 
--- framework_info !
+-- SUBSCRIBE has framework_info
 abbrev pub subscribe_layout : Layout Subscribe
 subscribe_layout =
     laid_out (
@@ -37,7 +37,7 @@ pub subscribe_back : (v : Subscribe) → subscribe_layout.rows.table.Back (subsc
 unfolding subscribe
 subscribe_back v back = returns_kind subscribe_layout refl v back
 
--- offer_ids *, operations *, filters ?
+-- ACCEPT has the lists offer_ids and operations, and optionally filters
 abbrev pub accept_layout : Layout Accept
 accept_layout =
     laid_out (
@@ -58,7 +58,7 @@ pub accept_back : (v : Accept) → accept_layout.rows.table.Back (accept_layout.
 unfolding accept
 accept_back v back = returns_kind accept_layout refl v back
 
--- offer_ids *, filters ?
+-- DECLINE has the list offer_ids, and optionally filters
 abbrev pub decline_layout : Layout Decline
 decline_layout =
     laid_out (
@@ -78,7 +78,7 @@ pub decline_back : (v : Decline) → decline_layout.rows.table.Back (decline_lay
 unfolding decline
 decline_back v back = returns_kind decline_layout refl v back
 
--- task_id !, agent_id ?
+-- KILL has task_id, and optionally agent_id
 abbrev pub kill_layout : Layout Kill
 kill_layout =
     laid_out (
@@ -98,7 +98,7 @@ pub kill_back : (v : Kill) → kill_layout.rows.table.Back (kill_layout.from v) 
 unfolding kill
 kill_back v back = returns_kind kill_layout refl v back
 
--- agent_id !, task_id !, uuid !
+-- ACKNOWLEDGE has agent_id, task_id and uuid
 abbrev pub acknowledge_layout : Layout Acknowledge
 acknowledge_layout =
     laid_out (
@@ -119,7 +119,7 @@ pub acknowledge_back : (v : Acknowledge) → acknowledge_layout.rows.table.Back 
 unfolding acknowledge
 acknowledge_back v back = returns_kind acknowledge_layout refl v back
 
--- tasks *
+-- RECONCILE has the list tasks
 abbrev pub reconcile_layout : Layout Reconcile
 reconcile_layout =
     laid_out (
@@ -138,7 +138,7 @@ pub reconcile_back : (v : Reconcile) → reconcile_layout.rows.table.Back (recon
 unfolding reconcile
 reconcile_back v back = returns_kind reconcile_layout refl v back
 
--- executor_id !, agent_id !
+-- SHUTDOWN has executor_id and agent_id
 abbrev pub shutdown_layout : Layout Shutdown
 shutdown_layout =
     laid_out (

@@ -1,4 +1,4 @@
--- What is done with accepted offers, as tables (mesos.proto, `Offer.Operation`): ! must be there, * is a list.
+-- Operations on accepted offers as tables of members (mesos.proto, `Offer.Operation`).
 use Rattle.std.specs.Prelude.{◌≡◌, ◌⊎◌, ℕ, List, [], ◌∷◌, codes}
 use Rattle.std.proofs.Common.{inl, inr, refl}
 use Rattle.mes_model_schema.specs.Kinds.{Kind, Lawful, Returns}
@@ -14,7 +14,7 @@ use Rattle.mes_model.specs.TaskInfo.{TaskInfo}
 use Rattle.mes_msg_call_body.specs.declared.operation.Operation.{Operation}
 use Rattle.mes_msg_call_body.specs.declared.operation.Operation.TheVariants as of
 
--- task_infos *
+-- LAUNCH has the list task_infos
 abbrev pub launch_layout : Layout (List TaskInfo)
 launch_layout =
     laid_out (
@@ -33,7 +33,7 @@ pub launch_back : (v : List TaskInfo) → launch_layout.rows.table.Back (launch_
 unfolding launch
 launch_back v back = returns_kind launch_layout refl v back
 
--- an operation by its type
+-- an operation, from the fields of its type
 abbrev pub to_operation : List TaskInfo ⊎ ⊥ → Operation
 to_operation (inl tasks) = of.Launch tasks
 to_operation (inr v) = absurd v
@@ -41,7 +41,7 @@ to_operation (inr v) = absurd v
 abbrev pub from_operation : Operation → List TaskInfo ⊎ ⊥
 from_operation (of.Launch tasks) = inl tasks
 
--- type !, and under LAUNCH launch !; another type is left out
+-- an operation has type and, for LAUNCH, launch; other types are refused
 abbrev pub operation_rows : Table Operation
 operation_rows =
     mapped (typed (
@@ -50,7 +50,7 @@ operation_rows =
     )
     )) to_operation from_operation
 
--- the names of their members
+-- the names of an operation's members
 abbrev pub operation_members : List (List ℕ)
 operation_members = codes "type" ∷ codes "launch" ∷ []
 

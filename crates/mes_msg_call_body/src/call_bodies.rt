@@ -1,4 +1,5 @@
-//! The bodies of calls, each with the rows of its table.
+//! The bodies of calls, except MESSAGE (crate `mes_msg_record`). The tables are in
+//! specs/CallBodies.antt.
 
 use crate::operation::Operation;
 use mes_model::{Filters, FrameworkInfo, Id, TaskRef};
@@ -10,14 +11,13 @@ use mes_model_schema::{
 };
 use std::alloc::Global;
 
-/// A framework subscribes (scheduler.proto, `Call.Subscribe`).
+/// The body of SUBSCRIBE (scheduler.proto, `Call.Subscribe`).
 #[derive(Debug, Drop)]
 pub struct Subscribe {
-    /// What the framework tells of itself.
+    /// The description of the framework.
     pub framework_info: FrameworkInfo,
 }
 
-/// The names of the rows of the body of SUBSCRIBE, in the order of the table.
 const SUBSCRIBE_NAMES: [&str; 1] = ["framework_info"];
 
 type SubscribeRows = Rows1<RequiredRow<FrameworkInfo>>;
@@ -32,7 +32,6 @@ impl ConstructFrom<<SubscribeRows as RowList>::Values> for Subscribe {
     }
 }
 
-/// What the rows of the body of SUBSCRIBE hold.
 macro_rules! subscribe_rows {
     ($of:ident) => {
         pairs!(RequiredRowRef(&$of.framework_info))
@@ -75,18 +74,17 @@ impl Part for Subscribe {
     }
 }
 
-/// Offers are accepted (`Call.Accept`).
+/// The body of ACCEPT (`Call.Accept`).
 #[derive(Debug, Drop)]
 pub struct Accept {
-    /// The offers.
+    /// The accepted offers.
     pub offer_ids: List<Id>,
-    /// What is done with them, in order.
+    /// The operations on their resources, in order.
     pub operations: List<Operation>,
-    /// When the framework wants what is left of them again.
+    /// When unused resources of the offers may be offered again.
     pub filters: Option<Filters>,
 }
 
-/// The names of the rows of the body of ACCEPT, in the order of the table.
 const ACCEPT_NAMES: [&str; 3] = ["offer_ids", "operations", "filters"];
 
 type AcceptRows = Rows3<RepeatedRow<Id>, RepeatedRow<Operation>, OptionalRow<Filters>>;
@@ -101,7 +99,6 @@ impl ConstructFrom<<AcceptRows as RowList>::Values> for Accept {
     }
 }
 
-/// What the rows of the body of ACCEPT hold.
 macro_rules! accept_rows {
     ($of:ident) => {
         pairs!(
@@ -148,16 +145,15 @@ impl Part for Accept {
     }
 }
 
-/// Offers are declined (`Call.Decline`).
+/// The body of DECLINE (`Call.Decline`).
 #[derive(Debug, Drop)]
 pub struct Decline {
-    /// The offers.
+    /// The declined offers.
     pub offer_ids: List<Id>,
-    /// When the framework wants their resources again.
+    /// When their resources may be offered again.
     pub filters: Option<Filters>,
 }
 
-/// The names of the rows of the body of DECLINE, in the order of the table.
 const DECLINE_NAMES: [&str; 2] = ["offer_ids", "filters"];
 
 type DeclineRows = Rows2<RepeatedRow<Id>, OptionalRow<Filters>>;
@@ -172,7 +168,6 @@ impl ConstructFrom<<DeclineRows as RowList>::Values> for Decline {
     }
 }
 
-/// What the rows of the body of DECLINE hold.
 macro_rules! decline_rows {
     ($of:ident) => {
         pairs!(
@@ -218,16 +213,15 @@ impl Part for Decline {
     }
 }
 
-/// A task is to be killed (`Call.Kill`).
+/// The body of KILL (`Call.Kill`).
 #[derive(Debug, Drop)]
 pub struct Kill {
-    /// The task.
+    /// The task to kill.
     pub task_id: Id,
-    /// The agent that it runs on, where that is known.
+    /// The task's agent, if known.
     pub agent_id: Option<Id>,
 }
 
-/// The names of the rows of the body of KILL, in the order of the table.
 const KILL_NAMES: [&str; 2] = ["task_id", "agent_id"];
 
 type KillRows = Rows2<RequiredRow<Id>, OptionalRow<Id>>;
@@ -242,7 +236,6 @@ impl ConstructFrom<<KillRows as RowList>::Values> for Kill {
     }
 }
 
-/// What the rows of the body of KILL hold.
 macro_rules! kill_rows {
     ($of:ident) => {
         pairs!(
@@ -288,18 +281,17 @@ impl Part for Kill {
     }
 }
 
-/// A status of a task is acknowledged (`Call.Acknowledge`).
+/// The body of ACKNOWLEDGE (`Call.Acknowledge`): which status update is acknowledged.
 #[derive(Debug, Drop)]
 pub struct Acknowledge {
-    /// The agent that the status came from.
+    /// The agent that sent the status update.
     pub agent_id: Id,
     /// The task.
     pub task_id: Id,
-    /// The status's unique identifier.
+    /// The unique identifier of the status update.
     pub uuid: Bytes,
 }
 
-/// The names of the rows of the body of ACKNOWLEDGE, in the order of the table.
 const ACKNOWLEDGE_NAMES: [&str; 3] = ["agent_id", "task_id", "uuid"];
 
 type AcknowledgeRows = Rows3<RequiredRow<Id>, RequiredRow<Id>, RequiredRow<Bytes>>;
@@ -314,7 +306,6 @@ impl ConstructFrom<<AcknowledgeRows as RowList>::Values> for Acknowledge {
     }
 }
 
-/// What the rows of the body of ACKNOWLEDGE hold.
 macro_rules! acknowledge_rows {
     ($of:ident) => {
         pairs!(
@@ -361,14 +352,13 @@ impl Part for Acknowledge {
     }
 }
 
-/// The states of tasks are asked for (`Call.Reconcile`).
+/// The body of RECONCILE (`Call.Reconcile`).
 #[derive(Debug, Drop)]
 pub struct Reconcile {
-    /// The tasks; none asks for all that the framework has.
+    /// The tasks whose states are asked for. An empty list asks for all tasks of the framework.
     pub tasks: List<TaskRef>,
 }
 
-/// The names of the rows of the body of RECONCILE, in the order of the table.
 const RECONCILE_NAMES: [&str; 1] = ["tasks"];
 
 type ReconcileRows = Rows1<RepeatedRow<TaskRef>>;
@@ -383,7 +373,6 @@ impl ConstructFrom<<ReconcileRows as RowList>::Values> for Reconcile {
     }
 }
 
-/// What the rows of the body of RECONCILE hold.
 macro_rules! reconcile_rows {
     ($of:ident) => {
         pairs!(&$of.tasks)
@@ -426,16 +415,15 @@ impl Part for Reconcile {
     }
 }
 
-/// An executor is to end (`Call.Shutdown`).
+/// The body of SHUTDOWN (`Call.Shutdown`).
 #[derive(Debug, Drop)]
 pub struct Shutdown {
-    /// The executor.
+    /// The executor to shut down.
     pub executor_id: Id,
     /// The executor's agent.
     pub agent_id: Id,
 }
 
-/// The names of the rows of the body of SHUTDOWN, in the order of the table.
 const SHUTDOWN_NAMES: [&str; 2] = ["executor_id", "agent_id"];
 
 type ShutdownRows = Rows2<RequiredRow<Id>, RequiredRow<Id>>;
@@ -450,7 +438,6 @@ impl ConstructFrom<<ShutdownRows as RowList>::Values> for Shutdown {
     }
 }
 
-/// What the rows of the body of SHUTDOWN hold.
 macro_rules! shutdown_rows {
     ($of:ident) => {
         pairs!(RequiredRowRef(&$of.executor_id), RequiredRowRef(&$of.agent_id))

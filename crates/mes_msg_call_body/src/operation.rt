@@ -1,4 +1,4 @@
-//! What is done with offers that are accepted.
+//! The operations on accepted offers. They are part of ACCEPT in `call_bodies.rt`.
 ghost use Rattle.std.specs.Prelude.{◌≡◌, IfOk, OnOk};
 ghost use Rattle.mes_model_schema.specs.View.{view};
 ghost use Rattle.mes_model_schema.specs.Appended.{Appends, AppendsMembers};
@@ -16,17 +16,17 @@ use mes_model_schema::{
 use std::alloc::Global;
 use std::marker::Model;
 
-/// What is done with the offers that a call accepts (mesos.proto, `Offer.Operation`).
+/// An operation on accepted offers (mesos.proto, `Offer.Operation`). A type other than LAUNCH is
+/// refused as `LeftOut`.
 #[derive(Debug, Drop)]
 pub enum Operation {
-    /// LAUNCH: tasks are launched on the resources of the offers.
+    /// LAUNCH: launches tasks on the resources of the offers.
     Launch {
         /// The tasks.
         task_infos: List<TaskInfo>,
     },
 }
 
-/// The names of an operation's members, in the order of the table.
 const OPERATION_MEMBERS: [&str; 2] = ["type", "launch"];
 
 impl Choice for Operation {
@@ -124,7 +124,7 @@ impl Part for Operation {
     }
 }
 
-/// The body of LAUNCH. A contract sees the list of its tasks.
+/// The body of LAUNCH. In contracts its value is the list of tasks.
 #[derive(Debug, Drop)]
 struct Launch {
     task_infos: List<TaskInfo>,
@@ -144,7 +144,6 @@ impl Model for Launch {
 }
 
 impl Launch {
-    /// The tasks.
     fn into_list(self) -> List<TaskInfo>
         ensures { result ≡ self }
     {
@@ -152,7 +151,6 @@ impl Launch {
     }
 }
 
-/// The names of the rows of a launch, in the order of the table.
 const LAUNCH_NAMES: [&str; 1] = ["task_infos"];
 
 type LaunchRows = Rows1<RepeatedRow<TaskInfo>>;
@@ -201,17 +199,17 @@ impl Part for Launch {
     }
 }
 
-/// What the body of LAUNCH is written as.
 #[tactic(auto, using(crate::specs::Operations::launch_back), unfolding(crate::specs::Operations::launch))]
 fn launch_tree(alloc: Global, task_infos: &List<TaskInfo>) -> Result<json::Json, NoMemory>
     ensures tree { IfOk result (λ t. view t ≡ launch.tree task_infos.now) }
-    // It is read back.
+    // On success: the tree reads back to the same tasks.
     ensures back { OnOk result (Returns launch task_infos.now) }
 {
     message_tree(alloc, &LAUNCH_NAMES, &pairs!(task_infos))
 }
 
-/// Appends the texts of the row `type` of LAUNCH and of its body, and tells how deep the body nests.
+/// Appends the text of the members `type` and `launch`, and returns the nesting depth of the
+/// deeper.
 #[tactic(auto, using(mes_model_schema::proofs::AppendLemmas::both_members))]
 fn append_launch(
     alloc: Global,
@@ -227,7 +225,7 @@ fn append_launch(
     Ok(deeper(first, second))
 }
 
-/// Appends the text of the body of LAUNCH, and tells how deep it nests.
+/// Appends the text of the body of LAUNCH and returns its nesting depth.
 #[tactic(auto, using(crate::specs::Operations::launch_back), unfolding(crate::specs::Operations::launch))]
 fn launch_text(
     alloc: Global,
@@ -235,7 +233,7 @@ fn launch_text(
     out: &mut Vec<u8>,
 ) -> Result<u64, NoMemory>
     ensures text { IfOk result (λ deep. Appends out.old.items (launch.tree task_infos.now) out.new.items deep) }
-    // It is read back.
+    // On success: the text reads back to the same tasks.
     ensures back { OnOk result (Returns launch task_infos.now) }
 {
     message_text(alloc, &LAUNCH_NAMES, &pairs!(task_infos), out)
