@@ -1,4 +1,4 @@
--- What one more entry leaves, and that it can be told of a history in one way alone.
+-- The state after one more entry, and that a history has only one state.
 use Rattle.std.proofs.Common.{◌≡◌, ℕ, Bool, true, false, not, cond, if◌then◌else◌, ◌&&◌, ◌||◌, Option, Some, None, List, [], ◌∷◌, ◌++◌, reverse, slice_get, refl, sym, ◌∙◌, ap, subst, append_assoc, append-nil}
 use Rattle.std.specs.List.{list_any, filter_map, fold, take_while, cons_option}
 use Rattle.std.specs.Option.{option_or}
@@ -18,7 +18,7 @@ use Rattle.mes_session.specs.Kept.{after_last}
 use Rattle.mes_session.specs.History.{subscribed_by, subscribes, breaks, framework_after, connected_after, offers_of, takes_offer, owed_by, acknowledges, Represents, at_first, after}
 use Rattle.mes_session.proofs.KeptLemmas.{IsKept-nil, IsKept-push, IsKept-unique}
 
--- ---- names and keys are one where they look alike
+-- ---- names and keys are equal if they compare equal
 
 pub name-exact : (a b : List ℕ) → bytes_eq a b ≡ true → a ≡ b
 name-exact a b e = (bytes_eq-Decides a b).0 e
@@ -43,7 +43,7 @@ key-exact k l e =
 pub key-self : (k : OwedKey) → same_key k k ≡ true
 key-self k = rw (name-self k.agent.value, name-self k.task.value, name-self k.uuid) refl
 
--- ---- what takes something away brings nothing
+-- ---- an entry that removes a key brings nothing of it
 
 pub hand-idle : (name : List ℕ) (e : Entry) → takes_offer name e ≡ true → offers_of e ≡ []
 hand-idle name (Heard (heard.Subscribed s)) t = refl
@@ -96,7 +96,7 @@ connected-push h e = ap (list_any subscribes) (after_last-push breaks h e) ∙ g
     go true = refl
     go false = list_any-append subscribes (after_last breaks h) (e ∷ []) ∙ tail (list_any subscribes (after_last breaks h)) (subscribes e)
 
--- ---- what is held
+-- ---- the state
 
 pub Represents-nil : Represents [] at_first
 Represents-nil = record {
@@ -122,7 +122,6 @@ Represents-unique h s t a b =
     let o : s.owed ≡ t.owed = IsKept-unique same_key (λ (k : OwedKey). k) key-exact key-self owed_by acknowledges owed-idle h s.owed t.owed a.owed b.owed in
     λ i. record { framework = f i; connected = c i; hand = g i; owed = o i }
 
--- one more after another
 fold-represents : (h more : List Entry) (s : Held) → Represents h s → Represents (h ++ more) (fold after s more)
 fold-represents h [] s represents = subst (λ (es : List Entry). Represents es s) (sym (append-nil h)) represents
 fold-represents h (e ∷ more) s represents =

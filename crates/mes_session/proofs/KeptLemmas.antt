@@ -1,4 +1,4 @@
--- One more entry, and what it leaves of the items kept.
+-- The retained items after one more entry.
 use Rattle.std.proofs.Common.{◌≡◌, ℕ, zero, suc, ◌+◌, ◌-◌, ◌≤◌, ◌<◌, Bool, true, false, not, cond, if◌then◌else◌, ◌⊎◌, inl, inr, Option, Some, None, List, [], ◌∷◌, ◌++◌, length, reverse, refl, sym, ◌∙◌, ap, subst, arith, append_assoc, append-nil, length-append, take, drop}
 use Rattle.std.specs.List.{AllPairs, find, position_or_len, filter, fold, prefix_len, take_while, slice_index_or}
 use Rattle.std.specs.Option.{option_or}
@@ -67,7 +67,7 @@ module _ {X : Type 0} where
             (λ i j d h k. p (suc i) (suc j) d (omega arith) (omega arith)),
       )
 
--- ---- the first that passes, and where it is
+-- ---- the first that passes, and its index
 
 module _ {X : Type 0} (p : X → Bool) where
   none-parts : (xs ys : List X) → find p (xs ++ ys) ≡ None → (find p xs ≡ None) × (find p ys ≡ None)
@@ -127,7 +127,7 @@ module _ {X : Type 0} (p : X → Bool) where
       go false n t = absurd (cc)
   at-none (x ∷ xs) e (suc i) d h t = at-none xs (none-parts (x ∷ []) xs e).1 i d (omega arith) t
 
--- ---- items put in and left out
+-- ---- items that are added and removed
 
 module _ {K X : Type 0} (same : K → K → Bool) (key : X → K) (exact : (a b : K) → same a b ≡ true → a ≡ b) (self : (a : K) → same a a ≡ true) where
   pub find-put : (k : K) (x : X) (xs : List X) → find (λ y. same k (key y)) (put same key xs x) ≡ cond (same k (key x)) (Some x) (find (λ y. same k (key y)) xs)
@@ -195,7 +195,7 @@ module _ {K X : Type 0} (same : K → K → Bool) (key : X → K) (exact : (a b 
           )
       go false e f rest = (omega (arith, old), subst (λ (m : ℕ). Up (λ (z : X). later (key z)) (m + 1) (n + 1) (put same key ys x)) (sym old) (rest f))
 
-  -- ---- what was brought and not taken away, key by key, and the items left of it
+  -- ---- what was brought and not removed, key by key, and the items left of it
 
   pub record At (run : K → List X) (before : K → ℕ) (n : ℕ) (xs : List X) : Type 0 where
     pub sums : (k : K) → before k + length (run k) ≡ n
@@ -263,7 +263,7 @@ module _ {E X K : Type 0} (same : K → K → Bool) (key : X → K) (exact : (a 
   brought-push : (h : List E) (e : E) → brought brings (h ++ e ∷ []) ≡ brought brings h ++ brings e
   brought-push h e = flat_map-append brings h (e ∷ []) ∙ ap (λ (ys : List X). brought brings h ++ ys) (append-nil (brings e))
 
-  -- what an entry that takes the key away leaves is nothing, else it adds what it brings
+  -- an entry that removes the key leaves nothing of it, another adds its items
   pub kept-push : (h : List E) (e : E) (k : K) → cond (takes k e) [] (since same key brings takes h k) ++ brings e ≡ since same key brings takes (h ++ e ∷ []) k
   kept-push h e k =
       go (takes k e) refl
@@ -314,7 +314,7 @@ module _ {E X K : Type 0} (same : K → K → Bool) (key : X → K) (exact : (a 
   pub IsKept-nil : IsKept same key brings takes [] []
   IsKept-nil = record { found = λ k. refl; order = λ i j d h w. absurd (omega arith) }
 
-  -- what an entry takes away goes, and then what it brings comes
+  -- an entry first removes items and then adds its own
   pub IsKept-push : (h : List E) (e : E) (xs : List X) → IsKept same key brings takes h xs
       → IsKept same key brings takes (h ++ e ∷ []) (fold (put same key) (filter (λ x. not (takes (key x) e)) xs) (brings e))
   unfolding HistoryAt
@@ -331,7 +331,7 @@ module _ {E X K : Type 0} (same : K → K → Bool) (key : X → K) (exact : (a 
       (λ k. omega (arith, added.sums k, ap (length {A = X}) (kept-push h e k)))
       more added)
 
-  -- ---- one list alone is kept of a history
+  -- ---- a history has only one list of retained items
 
   find-low : (place : K → ℕ) (high : ℕ) (k : K) (z : X) (low : ℕ) (xs : List X) → Up (λ x. place (key x)) low high xs → find (λ x. same k (key x)) xs ≡ Some z → low ≤ place k
   find-low place high k z low [] u e = absurd (cc)

@@ -1,4 +1,4 @@
--- A key has a value exactly where an entry brings it and no later one takes it away: so in hand, and owed, in a sentence.
+-- A key has a value if and only if an entry brings it and no later entry removes it.
 use Rattle.std.proofs.Common.{◌≡◌, ℕ, zero, suc, ◌<◌, Bool, true, false, ◌||◌, cond, ◌⊎◌, inl, inr, ◌↔◌, Option, Some, None, is_some, List, [], ◌∷◌, ◌++◌, length, reverse, slice_get, refl, sym, ◌∙◌, ap, subst, arith, length-append}
 use Rattle.std.specs.List.{find, list_any}
 use Rattle.std.specs.Option.{option_or}
@@ -148,7 +148,7 @@ module _ {E X K : Type 0} (same : K → K → Bool) (key : X → K) (exact : (a 
   pub value-left : (h : List E) → Left h
   value-left h = subst Left (reverse-reverse h) (left-reversed (reverse h))
 
--- ---- in hand, and owed
+-- ---- outstanding offers and unacknowledged updates
 
 pub in-hand : (h : List Entry) (held : Held) (name : List ℕ) → Represents h held → is_some (offer_in held.hand name) ≡ true ↔ ((i : ℕ) × IsOfferedBy h name i)
 in-hand h held name represents =

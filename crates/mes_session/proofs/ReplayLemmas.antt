@@ -1,4 +1,4 @@
--- Histories entry by entry: what is legal so far, and where it stops.
+-- Histories entry by entry: what is legal so far, and where the replay stops.
 use Rattle.std.proofs.Common.{◌≡◌, ℕ, zero, suc, ◌+◌, ◌<◌, ◌≤◌, ◌⊎◌, inl, inr, Some, List, [], ◌∷◌, ◌++◌, length, take, slice_get, refl, sym, ◌∙◌, ap, subst, arith, add-one, get_or}
 use Rattle.mes_msg.specs.Call.{Call}
 use Rattle.mes_msg.specs.declared.entry.Entry.{Entry}
@@ -11,7 +11,6 @@ use Rattle.mes_session.specs.Making.{Passes, IsTurnedAway}
 use Rattle.mes_session.proofs.HistoryLemmas.{Represents-push, Represents-unique}
 
 module _ {X : Type 0} where
-  -- an entry of a list with one more behind is one of the list, or the last
   get-push : (xs : List X) (y : X) (i : ℕ) (x : X) → slice_get (xs ++ y ∷ []) i ≡ Some x
       → ((slice_get xs i ≡ Some x) × (take i (xs ++ y ∷ []) ≡ take i xs)) ⊎ ((y ≡ x) × (take i (xs ++ y ∷ []) ≡ xs))
   get-push [] y zero x e = inr ((let d : Some y ≡ Some x = e in cc), refl)
@@ -32,7 +31,7 @@ module _ {X : Type 0} where
   get-is (y ∷ ys) zero x h e = ap Some (sym e)
   get-is (y ∷ ys) (suc i) x h e = get-is ys i x (omega arith) e
 
--- what stands so far of a history
+-- the state after the first entries of a history
 pub record DecodeStatus (h : List Entry) (s : Held) : Type 0 where
   pub legal : IsLegal h
   pub represents : Represents h s
@@ -67,7 +66,6 @@ pub refused-once : ((held : Held) (call : Call) (fault other : Refusal) → IsRe
 refused-once once h call fault other a b =
     once a.0 call fault other a.2 (subst (λ (s : Held). IsRefused s call other) (Represents-unique h b.0 a.0 b.1 a.1) b.2)
 
--- all was taken
 take-past : {X : Type 0} (xs : List X) (n : ℕ) → length xs ≤ n → take n xs ≡ xs
 take-past [] zero h = refl
 take-past [] (suc n) h = refl

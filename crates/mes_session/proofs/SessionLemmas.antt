@@ -1,4 +1,4 @@
--- What an entry of each kind leaves, and what a session stands for then.
+-- The state and the histories after an entry of each kind.
 use Rattle.std.proofs.Common.{Result, Ok, Err, IfOk, IfErr, OnOk, ◌≡◌, ℕ, Bool, true, false, not, inl, inr, Option, Some, None, IfSome, List, [], ◌∷◌, ◌++◌, refl, sym, ◌∙◌, ap, subst, is_some, IsTrue, ◌↔◌}
 use Rattle.std.specs.List.{filter, fold}
 use Rattle.std.specs.Option.{option_or, option_to_list}
@@ -32,7 +32,7 @@ use Rattle.mes_session_calls.specs.Made.{subscribe_call}
 use Rattle.mes_session.specs.Making.{Applied, Made, NotMade}
 use Rattle.mes_session.proofs.HistoryLemmas.{Represents-push}
 
--- ---- all stay, or none
+-- ---- a filter that passes all, or none
 
 module _ {X : Type 0} where
   filter-all : (xs : List X) → filter (λ x. true) xs ≡ xs
@@ -102,7 +102,7 @@ unowing-next s b owes same never = go (owed_key_of b.status) refl
     go None k = unowed-next s b None refl k
     go (Some key) k = let owed : Owes b.status = ap is_some (sym k) in let answered : owes ≡ true = same.1 owed in absurd (cc)
 
--- ---- an event that neither brings nor takes anything
+-- ---- an event that neither adds nor removes anything
 
 untouched : (s : Held) → (let t : Held = record { framework = s.framework; connected = s.connected; hand = filter (λ o. true) s.hand; owed = filter (λ k. true) s.owed } in s ≡ t)
 untouched s = same_held s.framework s.connected (sym (filter-all s.hand)) (sym (filter-all s.owed))
@@ -179,7 +179,7 @@ idle-next s (of.Suppress f) x y z = untouched s
 idle-next s (of.Shutdown f b) x y z = untouched s
 idle-next s (of.Message f b) x y z = untouched s
 
--- ---- what is stood for
+-- ---- histories
 
 pub next-represents : (s t : Held) (e : Entry) → t ≡ after s e → StandsNext e s t
 next-represents s t e same h represents = subst (λ (u : Held). Represents (h ++ e ∷ []) u) (sym same) (Represents-push h s e represents)
@@ -191,7 +191,7 @@ pub applied_at : (held s t : Held) (call : Call) (answer : Option Refusal) → h
 applied_at held s t call answer same none answers next =
     applied s t call (subst (λ (u : Held). Answers u call None) same (subst (λ (o : Option Refusal). Answers held call o) none answers)) next
 
--- ---- a SUBSCRIBE of the framework that is known is never refused
+-- ---- a SUBSCRIBE of the known framework is never refused
 
 subscribe-fits : (s : Held) (info : FrameworkInfo) (fault : Refusal) → IsFaulty s (subscribe_call s.framework info) fault → ⊥
 subscribe-fits s info NotSubscribed f =
@@ -211,7 +211,6 @@ subscribe-answers s info = subscribe-fits s info
 
 -- ---- calls made and not made
 
--- a call that is made is the copy
 copied-is : {E : Type 0} (P : Call → Type 0) (copied : Result Call E) (call : Call) → copied ≡ Ok call → IfOk copied P → P call
 copied-is {E = E} P copied call e h = let Q : Result Call E → Type 0 = λ r. IfOk r P in subst Q e h
 

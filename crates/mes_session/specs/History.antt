@@ -1,4 +1,4 @@
--- What a framework holds after what it has heard and said (scheduler.proto, `Event` and `Call`).
+-- The state of a framework after a history of events and calls (scheduler.proto, `Event`, `Call`).
 use Rattle.std.specs.Prelude.{◌≡◌, ◌<◌, ℕ, Bool, true, false, not, if◌then◌else◌, fold, filter, filter_map, reverse, take, slice_get, List, [], ◌∷◌, ◌++◌, length, Option, Some, None}
 use Rattle.std.specs.List.{list_any}
 use Rattle.std.specs.Option.{option_or, option_to_list}
@@ -39,18 +39,18 @@ breaks _ = false
 abbrev pub framework_after : List Entry → Option Id
 framework_after h = slice_get (filter_map subscribed_by (reverse h)) 0
 
--- the stream stands where a SUBSCRIBED was heard since it last broke
+-- connected: a SUBSCRIBED was received since the stream was last disconnected
 abbrev pub connected_after : List Entry → Bool
 connected_after h = list_any subscribes (after_last breaks h)
 
--- ---- the offers in hand
+-- ---- outstanding offers
 
 -- OFFERS brings offers
 abbrev pub offers_of : Entry → List Offer
 offers_of (Heard (heard.Offers offers)) = offers
 offers_of _ = []
 
--- An offer is taken out by a RESCIND of it, by an ACCEPT or a DECLINE that names it, and with all others by a SUBSCRIBED and a break.
+-- RESCIND, ACCEPT and DECLINE remove the offers they name; SUBSCRIBED and a disconnect remove all
 abbrev pub takes_offer : List ℕ → Entry → Bool
 takes_offer name (Heard (heard.Subscribed s)) = true
 takes_offer name (Heard (heard.Rescind r)) = bytes_eq r.offer_id.value name
@@ -61,14 +61,14 @@ takes_offer _ _ = false
 abbrev pub IsHand : List Entry → List Offer → Type 0
 IsHand h hand = IsKept bytes_eq name_of offers_of takes_offer h hand
 
--- ---- the updates that are owed
+-- ---- unacknowledged updates
 
--- an UPDATE whose status owes an acknowledgement brings its key
+-- an UPDATE whose status requires an acknowledgement adds its key
 abbrev pub owed_by : Entry → List OwedKey
 owed_by (Heard (heard.Update u)) = option_to_list (owed_key_of u.status)
 owed_by _ = []
 
--- an ACKNOWLEDGE takes its key away, and nothing else does
+-- only an ACKNOWLEDGE removes its key
 abbrev pub is_key : OwedKey → Option OwedKey → Bool
 is_key key None = false
 is_key key (Some k) = same_key k key
@@ -80,20 +80,20 @@ acknowledges _ _ = false
 abbrev pub IsOwed : List Entry → List OwedKey → Type 0
 IsOwed h owed = IsKept same_key (λ (key : OwedKey). key) owed_by acknowledges h owed
 
--- ---- what is held
+-- ---- the state
 
--- this is what a framework with this history holds
+-- the state of a framework with this history
 pub record Represents (h : List Entry) (s : Held) : Type 0 where
   pub framework : s.framework ≡ framework_after h
   pub connected : s.connected ≡ connected_after h
   pub hand : IsHand h s.hand
   pub owed : IsOwed h s.owed
 
--- before anything was heard
+-- the state before any entry
 abbrev pub at_first : Held
 at_first = record { framework = None; connected = false; hand = []; owed = [] }
 
--- One more entry, each alike: what it takes away goes, and then what it brings comes.
+-- the state after one more entry, which first removes items and then adds its own
 abbrev pub after : Held → Entry → Held
 after s e = record {
   framework = option_or (subscribed_by e) s.framework;
@@ -102,42 +102,42 @@ after s e = record {
   owed = fold (put same_key (λ (key : OwedKey). key)) (filter (λ key. not (acknowledges key e)) s.owed) (owed_by e);
 }
 
--- it stands for each history that it stood for, and this entry behind it
+-- each history of the old state, with this entry after it, is a history of the new state
 abbrev pub StandsNext : Entry → Held → Held → Type 0
 StandsNext e s t = (h : List Entry) → Represents h s → Represents (h ++ e ∷ []) t
 
--- an OFFERS at i brings the offer, and no entry behind takes it out
+-- an OFFERS at index i brings the offer, and no later entry removes it
 abbrev pub IsOfferedBy : List Entry → List ℕ → ℕ → Type 0
 IsOfferedBy h name i = IsLeftBy bytes_eq name_of offers_of takes_offer h name i
 
--- an UPDATE at i owes the key, and no ACKNOWLEDGE of it stands behind
+-- an UPDATE at index i adds the key, and no later ACKNOWLEDGE removes it
 abbrev pub IsOwedBy : List Entry → OwedKey → ℕ → Type 0
 IsOwedBy h key i = IsLeftBy same_key (λ (k : OwedKey). k) owed_by acknowledges h key i
 
--- ---- what is refused
+-- ---- refusals
 
--- a call is refused after a history by what is held then
+-- a call is refused in the state after the history
 abbrev pub RefusedAfter : List Entry → Call → Refusal → Type 0
 RefusedAfter h call fault = (s : Held) × Represents h s × IsRefused s call fault
 
--- no call of it is refused after the entries in front
+-- no call of the history is refused after the entries before it
 abbrev pub IsLegal : List Entry → Type 0
 IsLegal h = (i : ℕ) (call : Call) (fault : Refusal) → slice_get h i ≡ Some (Said call) → RefusedAfter (take i h) call fault → ⊥
 
--- An event takes memory where something of it is kept: the framework of a SUBSCRIBED, offers, the key that an UPDATE owes.
+-- SUBSCRIBED, an OFFERS that is not empty, and an UPDATE that requires an acknowledgement allocate
 abbrev pub NeedsMemory : Event → Type 0
 NeedsMemory (heard.Subscribed s) = Unit {0}
 NeedsMemory (heard.Offers offers) = 0 < length offers
 NeedsMemory (heard.Update u) = Owes u.status
 NeedsMemory _ = ⊥
 
--- An entry that is not taken after a history: a call that is refused, as it is told; or an event that needs memory, where that is.
+-- an entry that is refused: a call with a fault, or an event for which an allocation failed
 abbrev pub IsStopped : List Entry → Entry → Refusal → Type 0
 IsStopped h (Heard event) reported = (reported ≡ NoMemory) × NeedsMemory event
 IsStopped h (Said call) reported = (fault : Refusal) × (reported ≡ as_reported fault) × RefusedAfter h call fault
 IsStopped h Broken reported = ⊥
 
--- the entries in front are legal, and this one is not taken
+-- the entries before index i are legal, and the entry at i is refused
 pub record StopsAt (h : List Entry) (i : ℕ) (reported : Refusal) : Type 0 where
   pub front : IsLegal (take i h)
   pub entry : Entry

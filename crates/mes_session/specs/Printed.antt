@@ -1,4 +1,4 @@
--- What is printed of a session, and of what stopped a replay.
+-- The printed report of a session, and the printed refusal that stops a replay.
 use Rattle.std.specs.Prelude.{ℕ, ◌+◌, ◌-◌, ◌^◌, min, List, [], ◌∷◌, ◌++◌, codes, decimal}
 use Rattle.std.specs.List.{flat_map}
 use Rattle.mes_model.specs.Offer.{Offer}
@@ -10,7 +10,7 @@ use Rattle.mes_session_state.specs.Held.{Held}
 
 -- ---- a report
 
--- `entries 3`, and with an LF
+-- `entries 3`, with an LF
 abbrev pub report_line : List ℕ → List (List ℕ) → List ℕ
 report_line first words = first ++ spaced words ++ codes "\n"
 
@@ -22,7 +22,7 @@ hand_line offer = report_line (codes "hand") (id_text offer.id ∷ [])
 abbrev pub owed_line : OwedKey → List ℕ
 owed_line key = report_line (codes "owed") (id_text key.agent ∷ id_text key.task ∷ uuid_text key.uuid ∷ [])
 
--- how many entries led to it, the framework or `-`, each offer in hand, each update that is owed
+-- the number of entries, the framework or `-`, each outstanding offer, each unacknowledged update
 abbrev pub report_text : ℕ → Held → List ℕ
 report_text entries held =
     report_line (codes "entries") (decimal entries ∷ []) ++ report_line (codes "framework") (or_dash id_text held.framework ∷ [])
@@ -30,7 +30,7 @@ report_text entries held =
 
 -- ---- a refusal
 
--- its number and name
+-- the number and the name of a refusal
 abbrev pub refusal_title : Refusal → List ℕ
 refusal_title NotSubscribed = codes "S1 NotSubscribed"
 refusal_title NamedTwice = codes "S2 NamedTwice"
@@ -41,7 +41,7 @@ refusal_title (Exceeds task resource) = codes "S6 Exceeds"
 refusal_title NotOwed = codes "S7 NotOwed"
 refusal_title NoMemory = codes "S8 NoMemory"
 
--- the words that say where in the call
+-- the words for the place in the call
 abbrev pub refusal_place : Refusal → List (List ℕ)
 refusal_place NotSubscribed = []
 refusal_place NamedTwice = []
@@ -52,7 +52,7 @@ refusal_place (Exceeds task resource) = codes "task" ∷ decimal task ∷ codes 
 refusal_place NotOwed = []
 refusal_place NoMemory = []
 
--- `refused S6 Exceeds record 4 task 0 resource 0`, behind three entries; from 2^64 - 1 on the number stays there
+-- `refused S6 Exceeds record 4 task 0 resource 0`, after 3 entries; the number is at most 2^64 - 1
 abbrev pub refusal_text : Refusal → ℕ → List ℕ
 refusal_text refusal before =
     codes "refused" ++ spaced (refusal_title refusal ∷ codes "record" ∷ decimal (min (before + 1) (2 ^ 64 - 1)) ∷ refusal_place refusal)

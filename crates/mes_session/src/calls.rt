@@ -1,5 +1,6 @@
-//! The calls that a session makes. Each looks first whether the call may be said, and copies then, so that want of memory never hides
-//! S1 to S7; what it answers with was said.
+//! Methods that make calls. Each first checks S1 to S7 of [`Refusal`] and then copies its
+//! arguments, so that S8 (out of memory) never hides another reason. A returned call is already
+//! applied to the session.
 ghost use Rattle.std.specs.Prelude.{◌≡◌, Some, Ok, Err, IfOk, IfErr, OnErr, IsSome, option_copied};
 ghost use Rattle.mes_model.specs.Id.{Id as IdValue};
 ghost use Rattle.mes_msg.specs.declared.entry.Entry.TheVariants.{Said};
@@ -19,8 +20,8 @@ use mes_session_calls::{
 use mes_session_state::Refusal;
 
 impl Session {
-    /// The framework subscribes, or does so again: where a framework is known, the call names it, also in what it tells of itself; else
-    /// it names the framework that is told there, if one is. S8 alone.
+    /// Makes the SUBSCRIBE of a framework. The call and its `FrameworkInfo` name the known
+    /// framework; if none is known, the id in `info`. The only error is out of memory (S8).
     pub fn subscribe(&mut self, info: &FrameworkInfo) -> Result<Call, Refusal>
         ensures call { IfOk result (λ call. call ≡ subscribe_call self.old.framework info.now) }
         ensures ok { IfOk result (λ call. Applied self.old call self.new) }
@@ -31,14 +32,17 @@ impl Session {
         self.say(call)
     }
 
-    /// Accepts offers, and launches tasks on them: no tasks give no operation, else there is one LAUNCH. S1 to S6, and then S8.
+    /// Makes an ACCEPT with one LAUNCH of `tasks`, or with no operation if `tasks` is empty.
+    /// Errors: S1 to S6 of [`Refusal`], else out of memory (S8).
     pub fn accept(
         &mut self,
         ids: &[Id],
         tasks: &[TaskInfo],
         filters: Option<&Filters>,
     ) -> Result<Call, Refusal>
+        // On success: the ACCEPT of these arguments; it is applied.
         ensures ok { IfOk result (λ call. Made (λ framework. accept_call framework ids.now tasks.now (option_copied filters.entry)) self.old self.new call) }
+        // Each error: the first reason against the call; the session is unchanged.
         ensures err { IfErr result (λ refusal. NotMade (λ framework. accept_call framework ids.now tasks.now (option_copied filters.entry)) self.old self.new refusal) }
     {
         if let Some(refusal) = self.standing().refusal_of_accept(ids, tasks) {
@@ -48,9 +52,12 @@ impl Session {
         self.say(call)
     }
 
-    /// Declines offers, which may be of several agents. S1 to S3, and then S8.
+    /// Makes a DECLINE; the offers may be of several agents. Errors: S1 to S3 of [`Refusal`], else
+    /// out of memory (S8).
     pub fn decline(&mut self, ids: &[Id], filters: Option<&Filters>) -> Result<Call, Refusal>
+        // On success: the DECLINE of these arguments; it is applied.
         ensures ok { IfOk result (λ call. Made (λ framework. decline_call framework ids.now (option_copied filters.entry)) self.old self.new call) }
+        // Each error: the first reason against the call; the session is unchanged.
         ensures err { IfErr result (λ refusal. NotMade (λ framework. decline_call framework ids.now (option_copied filters.entry)) self.old self.new refusal) }
     {
         if let Some(refusal) = self.standing().refusal_of_decline(ids) {
@@ -60,9 +67,11 @@ impl Session {
         self.say(call)
     }
 
-    /// Wants offers again. S1, and then S8.
+    /// Makes a REVIVE. Errors: not subscribed (S1), else out of memory (S8).
     pub fn revive(&mut self) -> Result<Call, Refusal>
+        // On success: the REVIVE of the framework; it is applied.
         ensures ok { IfOk result (λ call. Made (λ framework. Call.Revive framework) self.old self.new call) }
+        // Each error: the first reason against the call; the session is unchanged.
         ensures err { IfErr result (λ refusal. NotMade (λ framework. Call.Revive framework) self.old self.new refusal) }
     {
         if let Some(refusal) = self.standing().refusal_of_plain() {
@@ -72,9 +81,12 @@ impl Session {
         self.say(call)
     }
 
-    /// Kills a task, on an agent where one is told. S1, and then S8.
+    /// Makes a KILL of a task, with its agent if given. Errors: not subscribed (S1), else out of
+    /// memory (S8).
     pub fn kill(&mut self, task: &Id, agent: Option<&Id>) -> Result<Call, Refusal>
+        // On success: the KILL of these arguments; it is applied.
         ensures ok { IfOk result (λ call. Made (λ framework. kill_call framework task.now (option_copied agent.entry)) self.old self.new call) }
+        // Each error: the first reason against the call; the session is unchanged.
         ensures err { IfErr result (λ refusal. NotMade (λ framework. kill_call framework task.now (option_copied agent.entry)) self.old self.new refusal) }
     {
         if let Some(refusal) = self.standing().refusal_of_plain() {
@@ -84,9 +96,12 @@ impl Session {
         self.say(call)
     }
 
-    /// Acknowledges an update that is owed. S1, S7, and then S8.
+    /// Makes the ACKNOWLEDGE of an unacknowledged update. Errors: not subscribed (S1), no such
+    /// update (S7), else out of memory (S8).
     pub fn acknowledge(&mut self, key: &OwedKey) -> Result<Call, Refusal>
+        // On success: the ACKNOWLEDGE of the key; it is applied.
         ensures ok { IfOk result (λ call. Made (λ framework. acknowledge_call framework key.now) self.old self.new call) }
+        // Each error: the first reason against the call; the session is unchanged.
         ensures err { IfErr result (λ refusal. NotMade (λ framework. acknowledge_call framework key.now) self.old self.new refusal) }
     {
         if let Some(refusal) = self.standing().refusal_of_acknowledge(key) {
@@ -96,9 +111,12 @@ impl Session {
         self.say(call)
     }
 
-    /// Asks for the states of tasks, or of all where none are told; a task may stand twice. S1, and then S8.
+    /// Makes a RECONCILE of `tasks`, or of all tasks if `tasks` is empty. Repeated tasks are
+    /// allowed. Errors: not subscribed (S1), else out of memory (S8).
     pub fn reconcile(&mut self, tasks: &[TaskRef]) -> Result<Call, Refusal>
+        // On success: the RECONCILE of these tasks; it is applied.
         ensures ok { IfOk result (λ call. Made (λ framework. reconcile_call framework tasks.now) self.old self.new call) }
+        // Each error: the first reason against the call; the session is unchanged.
         ensures err { IfErr result (λ refusal. NotMade (λ framework. reconcile_call framework tasks.now) self.old self.new refusal) }
     {
         if let Some(refusal) = self.standing().refusal_of_plain() {
@@ -108,9 +126,11 @@ impl Session {
         self.say(call)
     }
 
-    /// Ends the framework. S1, and then S8.
+    /// Makes a TEARDOWN. Errors: not subscribed (S1), else out of memory (S8).
     pub fn teardown(&mut self) -> Result<Call, Refusal>
+        // On success: the TEARDOWN of the framework; it is applied.
         ensures ok { IfOk result (λ call. Made (λ framework. Call.Teardown framework) self.old self.new call) }
+        // Each error: the first reason against the call; the session is unchanged.
         ensures err { IfErr result (λ refusal. NotMade (λ framework. Call.Teardown framework) self.old self.new refusal) }
     {
         if let Some(refusal) = self.standing().refusal_of_plain() {
@@ -120,9 +140,11 @@ impl Session {
         self.say(call)
     }
 
-    /// Wants no more offers, until they are revived. S1, and then S8.
+    /// Makes a SUPPRESS. Errors: not subscribed (S1), else out of memory (S8).
     pub fn suppress(&mut self) -> Result<Call, Refusal>
+        // On success: the SUPPRESS of the framework; it is applied.
         ensures ok { IfOk result (λ call. Made (λ framework. Call.Suppress framework) self.old self.new call) }
+        // Each error: the first reason against the call; the session is unchanged.
         ensures err { IfErr result (λ refusal. NotMade (λ framework. Call.Suppress framework) self.old self.new refusal) }
     {
         if let Some(refusal) = self.standing().refusal_of_plain() {
@@ -132,9 +154,11 @@ impl Session {
         self.say(call)
     }
 
-    /// Shuts an executor down. S1, and then S8.
+    /// Makes a SHUTDOWN of an executor. Errors: not subscribed (S1), else out of memory (S8).
     pub fn shutdown(&mut self, executor: &Id, agent: &Id) -> Result<Call, Refusal>
+        // On success: the SHUTDOWN of these arguments; it is applied.
         ensures ok { IfOk result (λ call. Made (λ framework. shutdown_call framework executor.now agent.now) self.old self.new call) }
+        // Each error: the first reason against the call; the session is unchanged.
         ensures err { IfErr result (λ refusal. NotMade (λ framework. shutdown_call framework executor.now agent.now) self.old self.new refusal) }
     {
         if let Some(refusal) = self.standing().refusal_of_plain() {
@@ -144,9 +168,12 @@ impl Session {
         self.say(call)
     }
 
-    /// Sends bytes to an executor. S1, and then S8.
+    /// Makes a MESSAGE of bytes to an executor. Errors: not subscribed (S1), else out of memory
+    /// (S8).
     pub fn message(&mut self, agent: &Id, executor: &Id, data: &[u8]) -> Result<Call, Refusal>
+        // On success: the MESSAGE of these arguments; it is applied.
         ensures ok { IfOk result (λ call. Made (λ framework. message_call framework agent.now executor.now «data».now) self.old self.new call) }
+        // Each error: the first reason against the call; the session is unchanged.
         ensures err { IfErr result (λ refusal. NotMade (λ framework. message_call framework agent.now executor.now «data».now) self.old self.new refusal) }
     {
         if let Some(refusal) = self.standing().refusal_of_plain() {
@@ -156,7 +183,6 @@ impl Session {
         self.say(call)
     }
 
-    /// The framework, where it is known.
     fn own(&self) -> &Id
         requires { IsSome self.now.framework }
         ensures { self.now.framework ≡ Some result.now }
@@ -164,7 +190,7 @@ impl Session {
         self.framework.as_ref().unwrap()
     }
 
-    /// Says a call that may be said, once it is made.
+    /// Applies a call that is allowed and could be made.
     fn say(&mut self, call: Result<Call, NoMemory>) -> Result<Call, Refusal>
         ensures ok { IfOk result (λ made. (call ≡ Ok made) × (self.new ≡ after self.old (Said made))) }
         ensures err { IfErr result (λ refusal. (refusal ≡ Refusal.NoMemory) × (self.new ≡ self.old)) }

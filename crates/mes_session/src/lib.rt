@@ -1,6 +1,15 @@
 #![tactic(auto)]
-//! The session of a framework with its master: which offers it has in hand, which updates it owes an acknowledgement, and which calls
-//! it may make. It gives on what reads and writes the log of a session, so that one name has all of it.
+//! The session of a framework with its master: its outstanding offers, its unacknowledged updates,
+//! and the calls that it may make.
+//!
+//!     let mut session = Session::new(rt.alloc());
+//!     session.heard(&event)?;
+//!     let call = session.accept(&[offer_id], &[task], None)?;
+//!
+//! The contracts promise the state that the history of events and calls leads to, and for each
+//! refused call the first reason. The crate `mes_session_state` checks calls, `mes_session_calls`
+//! builds them, and `mes_session_log` reads and writes logs; its functions are re-exported here.
+//! The tests are in the crate `mes_session_tests`.
 
 mod calls;
 mod line;

@@ -1,4 +1,4 @@
-//! The line that is printed of a refusal. It is written without its LF, and takes no memory.
+//! The printed line of a refusal, without its LF. Nothing here allocates.
 ghost use Rattle.std.specs.Prelude.{◌≡◌, ◌+◌, ◌≤◌, ◌++◌, length, decimal};
 ghost use Rattle.arrayvec.specs.ArrayString.{array_string_len};
 ghost use Rattle.mes_msg.specs.ShowLines.{spaced};
@@ -8,11 +8,11 @@ use arrayvec::ArrayString;
 use itoa::Buffer;
 use mes_session_state::Refusal;
 
-/// The room for a refusal's line, in bytes: for three numbers of 20 digits and the words between.
+/// The capacity of a refusal's line in bytes: three numbers of 20 digits and the words.
 pub const MAX_REFUSAL_LINE: usize = 160;
 
-/// Writes in place of the text the line of a refusal behind so many entries, the one that was refused not among them; the entries are
-/// numbered from 1, and from 2^64 - 1 on the number stays there.
+/// Replaces `line` with the line of a refusal after `before` accepted entries. The line has the
+/// number of the refused entry, from 1 to at most 2^64 - 1.
 pub fn refusal_line(refusal: &Refusal, before: u64, line: &mut ArrayString<MAX_REFUSAL_LINE>)
     ensures { line.new.bytes ≡ refusal_text refusal.now before }
 {
@@ -23,7 +23,7 @@ pub fn refusal_line(refusal: &Refusal, before: u64, line: &mut ArrayString<MAX_R
     push_place(line, refusal);
 }
 
-/// The number and the name, as they are printed.
+/// Returns the number and the name of a refusal as they are printed.
 fn title(refusal: &Refusal) -> &'static str
     ensures text { result.now ≡ refusal_title refusal.now }
     ensures bound { length result.now ≤ 16 }
@@ -40,7 +40,7 @@ fn title(refusal: &Refusal) -> &'static str
     }
 }
 
-/// Appends where in the call it is, if the refusal says so.
+/// Appends the place in the call, if the refusal has one.
 fn push_place(line: &mut ArrayString<MAX_REFUSAL_LINE>, refusal: &Refusal)
     requires { array_string_len line.old + 56 ≤ MAX_REFUSAL_LINE }
     ensures { line.new.bytes ≡ line.old.bytes ++ spaced (refusal_place refusal.now) }
@@ -56,7 +56,7 @@ fn push_place(line: &mut ArrayString<MAX_REFUSAL_LINE>, refusal: &Refusal)
     }
 }
 
-/// Appends a word with its spaces, and the number in decimal.
+/// Appends a word with its spaces and a number in decimal.
 fn push_number(line: &mut ArrayString<MAX_REFUSAL_LINE>, word: &str, number: u64)
     requires { array_string_len line.old + length word.now + 20 ≤ MAX_REFUSAL_LINE }
     ensures text { line.new.bytes ≡ line.old.bytes ++ (word.now ++ decimal number) }

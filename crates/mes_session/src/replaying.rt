@@ -1,4 +1,4 @@
-//! Histories heard and said again.
+//! Replaying a history of entries.
 ghost use Rattle.std.specs.Prelude.{IfOk, IfErr};
 ghost use Rattle.mes_session.specs.History.{Represents, IsLegal, StopsAt};
 
@@ -7,14 +7,14 @@ use mes_msg::Entry;
 use mes_session_state::Refusal;
 use std::alloc::Global;
 
-/// The session that a history leads to; or the number of entries in front of the first call that is refused, and why it is. S8 comes at
-/// an event that needs memory, where that is refused.
+/// Replays a history and returns its session. On error returns the index of the first refused
+/// entry, from 0, and the reason. S8 is the reason at an event for which an allocation fails.
 pub fn replay(alloc: Global, entries: &[Entry]) -> Result<Session, (usize, Refusal)>
-    // Ok: no call is refused, and the session stands for the history.
+    // On success: no call is refused, and the session is that of the history.
     ensures legal { IfOk result (λ _. IsLegal entries.now) }
     ensures represents { IfOk result (λ session. Represents entries.now session) }
 
-    // Err: the first call that is refused; or an event that needs memory, where that was refused and no call in front is.
+    // Each error: the first refused call, or an earlier event for which an allocation failed.
     ensures err { IfErr result (λ stop. StopsAt entries.now stop.0 stop.1) }
 {
     let mut session = Session::new(alloc);

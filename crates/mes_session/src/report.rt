@@ -1,4 +1,4 @@
-//! What is printed of a session: the framework, the offers in hand and the updates that are owed.
+//! The printed report of a session.
 ghost use Rattle.std.specs.Prelude.{◌≡◌, [], ◌∷◌, ◌++◌, codes, decimal, IfOk};
 ghost use Rattle.std.specs.List.{flat_map};
 ghost use Rattle.mes_msg.specs.ShowLines.{or_dash, id_text};
@@ -10,10 +10,13 @@ use mes_model::{Id, Offer, OwedKey};
 use mes_msg_event::{put_id, put_number, put_uuid, put_word};
 
 impl Session {
-    /// The lines that are printed of the session behind so many entries, each with its LF: the count of entries; the framework, or `-`;
-    /// each offer in hand; and each update that is owed, with its agent, its task and its uuid.
+    /// Returns the report of the session after `entries` entries. Its lines, each with its LF, are:
+    /// - the number of entries;
+    /// - the framework, or `-`;
+    /// - each outstanding offer;
+    /// - each unacknowledged update with its agent, its task and its UUID.
     ///
-    /// Errors: `NoMemory` where a growth was refused.
+    /// Errors: `NoMemory` if an allocation fails.
     pub fn report(&self, entries: u64) -> Result<Vec<u8>, NoMemory>
         ensures { IfOk result (λ lines. lines.items ≡ report_text entries self.now) }
     {
@@ -26,7 +29,6 @@ impl Session {
     }
 }
 
-/// Appends the line of how many entries there were.
 fn put_entries(entries: u64, lines: &mut Vec<u8>) -> Result<(), NoMemory>
     ensures { IfOk result (λ _. lines.new.items ≡ lines.old.items ++ report_line (codes "entries") (decimal entries ∷ [])) }
 {
@@ -36,7 +38,6 @@ fn put_entries(entries: u64, lines: &mut Vec<u8>) -> Result<(), NoMemory>
     Ok(())
 }
 
-/// Appends the line of the framework.
 fn put_framework(framework: &Option<Id>, lines: &mut Vec<u8>) -> Result<(), NoMemory>
     ensures { IfOk result (λ _. lines.new.items ≡ lines.old.items ++ report_line (codes "framework") (or_dash id_text framework.now ∷ [])) }
 {
@@ -49,7 +50,6 @@ fn put_framework(framework: &Option<Id>, lines: &mut Vec<u8>) -> Result<(), NoMe
     Ok(())
 }
 
-/// Appends a line for each offer in hand.
 fn put_hand(session: &Session, lines: &mut Vec<u8>) -> Result<(), NoMemory>
     ensures { IfOk result (λ _. lines.new.items ≡ lines.old.items ++ flat_map hand_line session.now.hand) }
 {
@@ -61,7 +61,6 @@ fn put_hand(session: &Session, lines: &mut Vec<u8>) -> Result<(), NoMemory>
     Ok(())
 }
 
-/// Appends the line of an offer in hand.
 fn put_offer(offer: &Offer, lines: &mut Vec<u8>) -> Result<(), NoMemory>
     ensures { IfOk result (λ _. lines.new.items ≡ lines.old.items ++ hand_line offer.now) }
 {
@@ -71,7 +70,6 @@ fn put_offer(offer: &Offer, lines: &mut Vec<u8>) -> Result<(), NoMemory>
     Ok(())
 }
 
-/// Appends a line for each update that is owed.
 fn put_owed(session: &Session, lines: &mut Vec<u8>) -> Result<(), NoMemory>
     ensures { IfOk result (λ _. lines.new.items ≡ lines.old.items ++ flat_map owed_line session.now.owed) }
 {
@@ -83,7 +81,6 @@ fn put_owed(session: &Session, lines: &mut Vec<u8>) -> Result<(), NoMemory>
     Ok(())
 }
 
-/// Appends the line of an update that is owed.
 fn put_key(key: &OwedKey, lines: &mut Vec<u8>) -> Result<(), NoMemory>
     ensures { IfOk result (λ _. lines.new.items ≡ lines.old.items ++ owed_line key.now) }
 {

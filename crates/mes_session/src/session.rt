@@ -1,4 +1,4 @@
-//! What a framework holds of what it has heard and said.
+//! The state of a session. The methods that make calls are in `calls.rt`.
 ghost use Rattle.std.specs.Prelude.{◌≡◌, ◌<◌, None, Some, [], length, slice_get, option_copied, OnOk, OnErr, IfErr};
 ghost use Rattle.mes_msg.specs.declared.entry.Entry.TheVariants.{Heard, Said, Broken};
 ghost use Rattle.mes_session_state.specs.Held.{offer_in};
@@ -15,8 +15,9 @@ use mes_session_state::{CallCheck, OutstandingOffers, PendingAcknowledgements, R
 use std::alloc::Global;
 use std::marker::Model;
 
-/// The session of a framework with its master. A contract sees it as `Held`: the framework, whether its stream stands, the offers in
-/// hand and the updates that are owed. It stands for each history of entries that leads to these, and keeps none.
+/// The session of a framework with its master. In contracts its value is `Held`: the framework,
+/// whether the stream is connected, the outstanding offers and the unacknowledged updates. It does
+/// not retain the history.
 #[derive(Drop)]
 pub struct Session {
     pub(crate) alloc: Global,
@@ -39,7 +40,7 @@ impl Model for Session {
 }
 
 impl Session {
-    /// A session that has heard and said nothing. It takes memory from `alloc` when it hears and says, and none now.
+    /// Returns a session without a history. It allocates from `alloc` later, but not now.
     pub fn new(alloc: Global) -> Session
         ensures is { result ≡ at_first }
         ensures represents { Represents [] result }
@@ -53,66 +54,69 @@ impl Session {
         }
     }
 
-    /// The framework that the last SUBSCRIBED named. Takes no memory, as all that only looks.
+    /// Returns the framework of the last SUBSCRIBED. Neither this nor another getter allocates.
     pub fn framework(&self) -> Option<&Id>
         ensures { option_copied result ≡ self.now.framework }
     {
         self.framework.as_ref()
     }
 
-    /// Whether a SUBSCRIBED was heard since the stream last broke.
+    /// Returns whether a SUBSCRIBED was received since the stream was last disconnected.
     pub fn connected(&self) -> bool
         ensures { result ≡ self.now.connected }
     {
         self.connected
     }
 
-    /// How many offers are in hand.
+    /// Returns the number of outstanding offers.
     pub fn hand_len(&self) -> usize
         ensures { result ≡ length self.now.hand }
     {
         self.hand.len()
     }
 
-    /// The offer in hand at an index, by the order in which they came.
+    /// Returns the outstanding offer at an index, in the order of arrival.
     pub fn hand_at(&self, index: usize) -> Option<&Offer>
         ensures { option_copied result ≡ slice_get self.now.hand index }
     {
         self.hand.at(index)
     }
 
-    /// The offer in hand of an identifier. The time that it takes does not grow with the hand.
+    /// Returns the outstanding offer with this identifier, in a time independent of their number.
     pub fn offer(&self, id: &str) -> Option<&Offer>
         ensures { option_copied result ≡ offer_in self.now.hand id.now }
     {
         self.hand.get(id)
     }
 
-    /// How many updates are owed an acknowledgement.
+    /// Returns the number of unacknowledged updates.
     pub fn owed_len(&self) -> usize
         ensures { result ≡ length self.now.owed }
     {
         self.owed.len()
     }
 
-    /// The key of the update at an index that is owed, by the order in which they came.
+    /// Returns the key of the unacknowledged update at an index, in the order of arrival.
     pub fn owed_at(&self, index: usize) -> Option<&OwedKey>
         ensures { option_copied result ≡ slice_get self.now.owed index }
     {
         self.owed.at(index)
     }
 
-    /// Hears an event. SUBSCRIBED sets the framework and empties the hand; OFFERS brings its offers, of two with one identifier the
-    /// last; RESCIND takes an offer out, if it is there; UPDATE owes its key, where its status owes one.
+    /// Applies an event received from the master:
+    /// - SUBSCRIBED sets the framework and clears the outstanding offers;
+    /// - OFFERS adds its offers; if one identifier occurs twice, the later offer wins;
+    /// - RESCIND removes the offer, if it is outstanding;
+    /// - UPDATE records its key, if its status requires an acknowledgement.
     ///
-    /// S8 alone is answered, where memory is refused: then nothing has changed. Only SUBSCRIBED, OFFERS with offers and an UPDATE that
-    /// owes an acknowledgement take memory.
+    /// Errors: S8 (out of memory); the session is then unchanged. Only SUBSCRIBED, an OFFERS that
+    /// is not empty, and an UPDATE that requires an acknowledgement allocate.
     pub fn heard(&mut self, event: &Event) -> Result<(), Refusal>
-        // Ok: it is as the event leaves it.
+        // On success: the state after the event.
         ensures next { OnOk result (self.new ≡ after self.old (Heard event.now)) }
         ensures represents { OnOk result (StandsNext (Heard event.now) self.old self.new) }
 
-        // Err: want of memory, of an event that needs it.
+        // Each error: an allocation failed for an event that needs one.
         ensures err { IfErr result (λ refusal. refusal ≡ Refusal.NoMemory) }
         ensures needs { OnErr result (NeedsMemory event.now) }
         ensures same { OnErr result (self.new ≡ self.old) }
@@ -121,13 +125,14 @@ impl Session {
         Ok(())
     }
 
-    /// Says a call, if it may be said: an ACCEPT and a DECLINE take their offers out of the hand, an ACKNOWLEDGE its key from what is
-    /// owed. S1 to S7, the first that is so; S8 is never answered. Takes no memory.
+    /// Applies a call that is sent to the master. ACCEPT and DECLINE remove their offers;
+    /// ACKNOWLEDGE removes its key. Does not allocate. Errors: the first of S1 to S7 that applies,
+    /// never S8; the session is then unchanged.
     pub fn said(&mut self, call: &Call) -> Result<(), Refusal>
-        // Ok: nothing is to be said against it, and it is as the call leaves it.
+        // On success: the call is allowed and applied.
         ensures ok { OnOk result (Applied self.old call.now self.new) }
 
-        // Err: the first that is to be said against it.
+        // Each error: the first reason against the call.
         ensures err { IfErr result (λ refusal. Answers self.old call.now (Some refusal)) }
         ensures same { OnErr result (self.new ≡ self.old) }
     {
@@ -138,8 +143,9 @@ impl Session {
         Ok(())
     }
 
-    /// The stream has broken: no offer is in hand any more, and calls but SUBSCRIBE wait for the next SUBSCRIBED. The framework and the
-    /// updates that are owed stay. Takes no memory.
+    /// Records that the stream is disconnected: no offer is outstanding, and only SUBSCRIBE is
+    /// allowed until the next SUBSCRIBED. The framework and the unacknowledged updates stay. Does
+    /// not allocate.
     pub fn broken(&mut self)
         ensures next { self.new ≡ after self.old Broken }
         ensures represents { StandsNext Broken self.old self.new }
@@ -148,7 +154,7 @@ impl Session {
         self.hand.clear();
     }
 
-    /// What it holds, for calls to be looked at.
+    /// Borrows the state to check calls against it.
     pub(crate) fn standing(&self) -> CallCheck<'_>
         ensures { result ≡ self.now }
     {
@@ -160,7 +166,6 @@ impl Session {
         )
     }
 
-    /// Hears an event.
     fn apply_event(&mut self, event: &Event) -> Result<(), NoMemory>
         ensures next { OnOk result (self.new ≡ after self.old (Heard event.now)) }
         ensures needs { OnErr result (NeedsMemory event.now) }
@@ -182,7 +187,6 @@ impl Session {
         }
     }
 
-    /// Hears a SUBSCRIBED.
     fn subscribed(&mut self, body: &Subscribed) -> Result<(), NoMemory>
         ensures next { OnOk result (self.new ≡ after self.old (Heard (Event.Subscribed body.now))) }
         ensures same { OnErr result (self.new ≡ self.old) }
@@ -194,7 +198,6 @@ impl Session {
         Ok(())
     }
 
-    /// Hears an OFFERS.
     fn offered(&mut self, offers: &List<Offer>) -> Result<(), NoMemory>
         ensures next { OnOk result (self.new ≡ after self.old (Heard (Event.Offers offers.now))) }
         ensures needs { OnErr result (0 < length offers.now) }
@@ -203,14 +206,12 @@ impl Session {
         self.hand.add(self.alloc, offers.as_slice())
     }
 
-    /// Hears a RESCIND.
     fn rescinded(&mut self, body: &Rescind)
         ensures { self.new ≡ after self.old (Heard (Event.Rescind body.now)) }
     {
         self.hand.remove(body.offer_id.value.as_str());
     }
 
-    /// Hears an UPDATE.
     fn updated(&mut self, body: &Update) -> Result<(), NoMemory>
         ensures next { OnOk result (self.new ≡ after self.old (Heard (Event.Update body.now))) }
         ensures needs { OnErr result (Owes body.now.status) }
@@ -226,7 +227,7 @@ impl Session {
         }
     }
 
-    /// What a call takes away goes.
+    /// Removes the offers or the key that a call names.
     pub(crate) fn apply(&mut self, call: &Call)
         ensures { self.new ≡ after self.old (Said call.now) }
     {
@@ -241,7 +242,7 @@ impl Session {
         }
     }
 
-    /// One more entry.
+    /// Applies an entry of a history.
     pub(crate) fn apply_entry(&mut self, entry: &Entry) -> Result<(), Refusal>
         ensures next { OnOk result (self.new ≡ after self.old entry.now) }
         ensures err { IfErr result (λ refusal. IsTurnedAway self.old entry.now refusal) }

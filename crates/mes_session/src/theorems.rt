@@ -1,4 +1,4 @@
-//! Laws of the definitions that the contracts cite: functions that do nothing, with the law as their contract.
+//! Theorems about the definitions that the contracts use, stated as contracts of empty functions.
 ghost use Rattle.std.specs.Prelude.{◌≡◌, ◌↔◌, ℕ, true, List, is_some};
 ghost use Rattle.mes_model.specs.OwedKey.{OwedKey};
 ghost use Rattle.mes_msg.specs.Call.{Call};
@@ -10,19 +10,24 @@ ghost use Rattle.mes_session.specs.History.{Represents, IsOfferedBy, IsOwedBy, R
 use crate::line::MAX_REFUSAL_LINE;
 use mes_session_state::refusal_laws;
 
-/// Each history leads to exactly one state, and a call is refused after it for at most one reason. An offer is in hand exactly where an
-/// entry brings it and none behind takes it out; an update is owed exactly where an entry owes it and none behind acknowledges it.
+/// Proves that each history leads to exactly one state, and that a call is refused for at most one
+/// reason. Also proves which offers are outstanding and which updates are unacknowledged.
 pub fn session_laws()
     ensures some { (h : List Entry) → (held : Held) × Represents h held }
+    // A history has at most one state.
     ensures one { (h : List Entry) (held other : Held) → Represents h held → Represents h other → held ≡ other }
+    // After a history, a call has at most one reason to be refused.
     ensures refused { (h : List Entry) (call : Call) (fault other : Refusal) → RefusedAfter h call fault → RefusedAfter h call other → fault ≡ other }
+    // An offer is outstanding if and only if an entry brought it and no later entry removed it.
     ensures hand { (h : List Entry) (held : Held) (name : List ℕ) → Represents h held → is_some (offer_in held.hand name) ≡ true ↔ ((i : ℕ) × IsOfferedBy h name i) }
+    // An update is unacknowledged if and only if an entry required it and no later entry
+    // acknowledged it.
     ensures owed { (h : List Entry) (held : Held) (key : OwedKey) → Represents h held → is_owed key held.owed ≡ true ↔ ((i : ℕ) × IsOwedBy h key i) }
 {
     refusal_laws();
 }
 
-/// How long the line of a refusal is.
+/// Proves that `MAX_REFUSAL_LINE` is 160.
 pub fn session_limits()
     ensures { MAX_REFUSAL_LINE ≡ 160 }
 {}

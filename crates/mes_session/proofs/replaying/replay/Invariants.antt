@@ -2,6 +2,6 @@ use Rattle.std.proofs.Common.{take}
 use Rattle.mes_session.proofs.ReplayLemmas.{DecodeStatus}
 use Rattle.mes_session.proofs.replaying.replay.Given as goal
 
--- what was taken so far is legal, and the session stands for it
+-- the entries so far are legal, and the session is theirs
 abbrev pub invariant-loop-index : goal.invariant-loop-index
 invariant-loop-index l = DecodeStatus (take l.index l.entries) l.session
