@@ -1,4 +1,4 @@
--- What the comparison of a batch of tasks with those behind them shows.
+-- The comparison of a batch of tasks with the later tasks.
 use Rattle.std.proofs.Common.{◌≡◌, ℕ, zero, suc, ◌+◌, ◌-◌, ◌≤◌, ◌<◌, Bool, true, false, ◌||◌, inl, inr, Some, List, [], ◌∷◌, ◌++◌, length, take, drop, get_or, slice_get, refl, sym, ◌∙◌, ap, length-drop, arith}
 use Rattle.std.specs.List.{list_any}
 use Rattle.std.proofs.lemmas.List.{take-append-drop, take-append-le, drop-drop}
@@ -24,7 +24,6 @@ use Rattle.mes_session_fit.proofs.ListLemmas.{or-cases, any-flat_map, any-at, ge
 -- ---- lists
 
 module _ {X : Type 0} where
-  -- what is so of those so far, and of one more
   pub one-more : (test : ℕ → X → Bool) (old new : ℕ → Bool) (xs : List X) (i : ℕ) (x : X) → i < length xs → x ≡ get_or xs i x
       → ((n : ℕ) → old n ≡ true → new n ≡ true) → ((n : ℕ) → list_any (test n) (take i xs) ≡ true → old n ≡ true) → ((n : ℕ) → test n x ≡ true → new n ≡ true)
       → (n : ℕ) → list_any (test n) (take (i + 1) xs) ≡ true → new n ≡ true
@@ -65,14 +64,13 @@ or-false : (a b : Bool) → (a || b) ≡ false → (a ≡ false) × (b ≡ false
 or-false true b e = absurd (cc)
 or-false false b e = (refl, e)
 
--- what no resource has, none of a key has
 no-piece : (k : Key) (x : ℕ) (rs : List Resource) → has_point x rs ≡ false → has_piece k (point x) rs ≡ false
 no-piece k x [] e = refl
 no-piece k x (r ∷ rs) e =
     let parts : (piece_in (point x) r.value ≡ false) × (has_point x rs ≡ false) = or-false _ _ e in
     or-none _ _ (and_right _ _ parts.0) (no-piece k x rs parts.1)
 
--- ---- a batch and what stands behind it
+-- ---- a batch and the tasks after it
 
 module _ {G : Type 0} (of : G → List TaskInfo) (os : List G) (at : ℕ) (o : G) (within : at < length os) (is : o ≡ get_or os at o) (tasks : List TaskInfo) (are : tasks ≡ of o) where
   following-batch : (end : ℕ) → end ≤ length (of o) → (test : Resource → Bool)
@@ -82,7 +80,7 @@ module _ {G : Type 0} (of : G → List TaskInfo) (os : List G) (at : ℕ) (o : G
       ∙ asked-parts test (drop end (of o)) (launched of (drop (at + 1) os))
       ∙ ap (λ (ts : List TaskInfo). list_any test (asked (drop end ts)) || list_any test (asked (launched of (drop (at + 1) os)))) (sym are)
 
-  -- the points of a batch were compared with those of its group behind it, and with those of the groups behind
+  -- the points of a batch are in no later task of its group and in no later group
   free-following : (es : List Ends) (first count : ℕ) → first + count ≤ length (of o)
       → ((x : ℕ) → has_point x (asked (take count (drop first tasks))) ≡ true → in_ends x es ≡ true)
       → Apart (λ x. in_ends x es) (λ x. has_point x (asked (drop (first + count) tasks)))
@@ -112,7 +110,6 @@ module _ {G : Type 0} (of : G → List TaskInfo) (os : List G) (at : ℕ) (o : G
             i t from_i to_i (ap (λ (ts : List TaskInfo). slice_get ts i) (are ∙ sym (same group e)) ∙ at_i);
       }
 
-  -- what stands behind a task of a batch: the rest of the batch, and what stands behind it
   pub following-task : (t end : ℕ) → t < end → end ≤ length (of o) → (test : Resource → Bool)
       → list_any test (asked (drop (place of os at t + 1) (launched of os))) ≡ (list_any test (asked (take (end - (t + 1)) (drop (t + 1) tasks))) || list_any test (asked (drop (place of os at end) (launched of os))))
   following-task t end less inside test =
@@ -127,7 +124,7 @@ module _ {G : Type 0} (of : G → List TaskInfo) (os : List G) (at : ℕ) (o : G
       ∙ ap (λ n. take (end - (t + 1)) (drop (t + 1) tasks) ++ drop n (launched of os)) sum)
       ∙ asked-parts test (take (end - (t + 1)) (drop (t + 1) tasks)) (drop (place of os at end) (launched of os))
 
--- a point is looked for in the batch alone, where none behind it has one of the value's
+-- a search for a point ends with the batch, if no later task has it
 pub meets-near : (v : ResourceValue) (g : Ranges) (k : Key) (near following all : List Resource) (b : Bool) → v ≡ OfRanges g
     → ((test : Resource → Bool) → list_any test all ≡ (list_any test near || list_any test following)) → Apart (λ x. piece_in (point x) v) (λ x. has_point x following)
     → Meets (λ p. piece_in p v) (λ p. has_piece k p near) b → Meets (λ p. piece_in p v) (λ p. has_piece k p all) b
@@ -137,7 +134,6 @@ meets-near v g k near following all false is parts free m = λ p e. elim p as (�
   | item n ↦ λ has. (let none : piece_in (item n) v ≡ false = rw is refl in absurd (cc))
 ] e
 
--- a point of a resource is one of its task
 pub resource-free : (rs qs : List Resource) (j : ℕ) (r : Resource) → qs ≡ rs → j < length rs → r ≡ get_or qs j r → (x : ℕ) → piece_in (point x) r.value ≡ true → has_point x rs ≡ true
 resource-free rs qs j r are within is x e =
     any-at (λ (q : Resource). piece_in (point x) q.value) rs j r (get-at rs j r within (is ∙ ap (λ (ps : List Resource). get_or ps j r) are)) e

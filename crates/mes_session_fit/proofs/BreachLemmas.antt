@@ -1,4 +1,4 @@
--- What the steps of the search for the first breach show.
+-- The steps of the search for the first breach.
 use Rattle.std.proofs.Common.{◌≡◌, ℕ, ◌+◌, ◌≤◌, ◌<◌, Bool, true, false, ◌||◌, ◌⊎◌, inl, inr, ◌↔◌, IsTrue, Some, List, ◌++◌, length, take, drop, get_or, slice_get, min, refl, sym, ◌∙◌, ap, subst, arith}
 use Rattle.std.specs.List.{list_any}
 use Rattle.std.proofs.Math.Seq.{take-length}
@@ -16,7 +16,7 @@ use Rattle.mes_session_fit.proofs.FitsLemmas.{or-left, breaks-over, breaks-lost,
 use Rattle.mes_session_fit.proofs.LaunchedLemmas.{take-place, drop-place}
 use Rattle.mes_session_fit.proofs.ListLemmas.{get-at}
 
--- ---- before and behind a task
+-- ---- before and after a task
 
 or-skip : (a b : Bool) → a ≡ false → (a || b) ≡ b
 or-skip a b e = rw e refl
@@ -88,7 +88,6 @@ pub ahead-of : (offers : List Offer) (tasks : List TaskInfo) (i j : ℕ) → Non
 ahead-of offers tasks i j before here k l (inl less) b = before k l less b
 ahead-of offers tasks i j before here k l (inr same) b = here l same.1 (subst (λ (n : ℕ). BreaksAt offers tasks n l) same.0 b)
 
--- a breach at a task is at one of its resources
 breach-inside : (offers : List Offer) (tasks : List TaskInfo) (i l : ℕ) (t : TaskInfo) → slice_get tasks i ≡ Some t → BreaksAt offers tasks i l → l < length t.resources
 breach-inside offers tasks i l t is b =
     let same : b.task ≡ t = (let e : Some b.task ≡ Some t = sym b.task_at ∙ is in cc) in

@@ -1,4 +1,4 @@
--- When tasks fit, and which resource is the first that doesn't.
+-- When tasks fit, and which resource is the first that does not.
 use Rattle.std.proofs.Common.{◌≡◌, ℕ, ◌+◌, ◌≤◌, ◌<◌, Bool, true, false, ◌&&◌, ◌||◌, not, ◌⊎◌, inl, inr, Some, List, [], ◌∷◌, ◌++◌, take, drop, slice_get, refl, sym, ◌∙◌, ap, subst, arith}
 use Rattle.std.specs.List.{list_any}
 use Rattle.std.specs.List.Sorted.{IsPermutation}
@@ -59,7 +59,6 @@ of-own r = (keys_agree-Decides (key_of r) (key_of r)).1 refl
 pub of-key : (k : Key) (r : Resource) → is_of k r ≡ true → k ≡ key_of r
 of-key k r e = (keys_agree-Decides k (key_of r)).0 e
 
--- a piece of a resource is one under its key
 pub own-piece : (p : Piece) (r : Resource) → piece_in p r.value ≡ true → piece_of (key_of r) p r ≡ true
 own-piece p r e = and-true _ _ (of-own r) e
 
@@ -86,7 +85,6 @@ asked-at test tasks i j t r e f passes =
 
 -- ---- amounts
 
--- where there is some of a key, there is a resource of it
 pub some-of : (k : Key) (rs : List Resource) → 0 < amount k rs → list_any (is_of k) rs ≡ true
 some-of k [] h = absurd (omega arith)
 some-of k (r ∷ rs) h = elim (either (is_of k r)) [
@@ -97,7 +95,6 @@ some-of k (r ∷ rs) h = elim (either (is_of k r)) [
       or-right _ _ (some-of k rs (omega (arith, none, all))))
 ]
 
--- and where there is none, there is no amount
 pub none-of : (k : Key) (rs : List Resource) → list_any (is_of k) rs ≡ false → amount k rs ≡ 0
 none-of k rs e = elim (leb_tells (amount k rs) 0) [
   | inl none ↦ omega (arith, none.1)
@@ -109,7 +106,6 @@ no-thousandths (Scalar n) none = absurd (none refl)
 no-thousandths (Ranges g) none = refl
 no-thousandths (Set n) none = refl
 
--- under a key of another type there is no amount
 pub no-amount : (r : Resource) → (type_of r.value ≡ scalar → ⊥) → (rs : List Resource) → amount (key_of r) rs ≡ 0
 no-amount r none [] = refl
 no-amount r none (q ∷ rs) =
@@ -119,7 +115,7 @@ no-amount r none (q ∷ rs) =
     ] in
     sum_by-cons (amount_of (key_of r)) q rs ∙ omega (arith, here, no-amount r none rs)
 
--- ---- the law
+-- ---- the rule
 
 pub no-breach : (offers : List Offer) (tasks : List TaskInfo) → Fits offers tasks → (i j : ℕ) → BreaksAt offers tasks i j → ⊥
 no-breach offers tasks f i j b = elim b.breaks [
@@ -203,7 +199,7 @@ others-parts test i tasks =
     ap (list_any test) (flat_map-append (λ (t : TaskInfo). t.resources) (take i tasks) (drop (i + 1) tasks))
     ∙ list_any-append test (asked (take i tasks)) (asked (drop (i + 1) tasks))
 
--- ---- whether a resource breaks the rule, where none ahead of it does
+-- ---- whether a resource breaks the rule, if no earlier one does
 
 module _ (offers : List Offer) (tasks : List TaskInfo) (i j : ℕ) (t : TaskInfo) (r : Resource) (is_task : slice_get tasks i ≡ Some t) (is_resource : slice_get t.resources j ≡ Some r) where
   abbrev at : Breaks offers tasks (others i tasks) r → BreaksAt offers tasks i j
@@ -215,7 +211,6 @@ module _ (offers : List Offer) (tasks : List TaskInfo) (i j : ℕ) (t : TaskInfo
   pub breaks-lost : (p : Piece) → piece_in p r.value ≡ true → has_piece (key_of r) p (offered offers) ≡ false → BreaksAt offers tasks i j
   breaks-lost p e none = at (inr (p, e, not-offered _ _ none))
 
-  -- a piece that a task behind takes too
   pub breaks-following : (p : Piece) → piece_in p r.value ≡ true → has_piece (key_of r) p (asked (drop (i + 1) tasks)) ≡ true → BreaksAt offers tasks i j
   breaks-following p e taken =
       let all : has_piece (key_of r) p (asked (others i tasks)) ≡ true = others-parts (piece_of (key_of r) p) i tasks ∙ or-right _ _ taken in
@@ -229,7 +224,6 @@ module _ (offers : List Offer) (tasks : List TaskInfo) (i j : ℕ) (t : TaskInfo
       let over : amount (key_of q) (offered offers) < amount (key_of q) (asked tasks) = subst (λ (k : Key). amount k (offered offers) < amount k (asked tasks)) same h in
       absurd (ahead m l before (record { task = s; resource = q; task_at = e; resource_at = f; breaks = inl over }))
 
-  -- the amount of a key that stands ahead was looked at there
   pub key-ahead : list_any (is_of (key_of r)) (asked (take i tasks) ++ take j t.resources) ≡ true → amount (key_of r) (asked tasks) ≤ amount (key_of r) (offered offers)
   key-ahead e = elim (or-cases _ _ (sym (list_any-append (is_of (key_of r)) (asked (take i tasks)) (take j t.resources)) ∙ e)) [
     | inl front ↦ (
@@ -242,7 +236,6 @@ module _ (offers : List Offer) (tasks : List TaskInfo) (i j : ℕ) (t : TaskInfo
         within-ahead (key_of r) refl i f.index t f.value (inr (refl, there.0)) is_task there.1 (of-key (key_of r) f.value f.passes) (le-or-lt _ _))
   ]
 
-  -- the pieces of the task's own resources ahead are offered
   pub own-offered : (p : Piece) → has_piece (key_of r) p (take j t.resources) ≡ true → has_piece (key_of r) p (offered offers) ≡ true
   own-offered p e = elim (either (has_piece (key_of r) p (offered offers))) [
     | inl holds ↦ holds
@@ -254,7 +247,6 @@ module _ (offers : List Offer) (tasks : List TaskInfo) (i j : ℕ) (t : TaskInfo
         absurd (ahead i f.index (inr (refl, there.0)) (breaks-lost offers tasks i f.index t f.value is_task there.1 p parts.1 lost)))
   ]
 
-  -- no task before takes a piece of the resource
   front-free : (p : Piece) → piece_in p r.value ≡ true → has_piece (key_of r) p (asked (take i tasks)) ≡ false
   front-free p e = elim (either (has_piece (key_of r) p (asked (take i tasks)))) [
     | inr fails ↦ fails

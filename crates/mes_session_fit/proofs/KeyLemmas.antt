@@ -1,4 +1,4 @@
--- Two keys agree exactly where they are one.
+-- Two keys agree if and only if they are equal.
 use Rattle.std.proofs.Common.{◌≡◌, Bool, true, false, ◌&&◌, refl, ap, subst}
 use Rattle.std.specs.Bool.{Decides}
 use Rattle.std.proofs.lemmas.Bool.Decides.{Decides-eqb}

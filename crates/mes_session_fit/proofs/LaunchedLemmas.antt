@@ -1,4 +1,4 @@
--- Where a task of a group stands among all tasks, and what stands before and behind it. Of a group `of` tells the tasks.
+-- The index of a group's task among all tasks, and the tasks before and after it.
 use Rattle.std.proofs.Common.{◌≡◌, ℕ, zero, suc, ◌+◌, ◌≤◌, ◌<◌, Some, List, [], ◌∷◌, ◌++◌, length, take, drop, get_or, slice_get, refl, sym, ◌∙◌, ap, add-one, append_assoc, length-append, arith}
 use Rattle.std.specs.List.{flat_map}
 use Rattle.std.proofs.Math.Nat.{suc-add, zero-add}
@@ -9,11 +9,9 @@ use Rattle.mes_session_fit.specs.Fits.{asked}
 use Rattle.mes_session_fit.specs.Launched.{launched, place}
 use Rattle.mes_session_fit.proofs.ListLemmas.{flat_map-flat_map}
 
--- the resources of all tasks, by groups
 pub by-group : {G : Type 0} (of : G → List TaskInfo) (os : List G) → asked (launched of os) ≡ flat_map (λ o. asked (of o)) os
 by-group of os = flat_map-flat_map (λ (t : TaskInfo). t.resources) of os
 
--- before a group, its tasks, and behind it
 split-suc : {G : Type 0} (of : G → List TaskInfo) (os : List G) (at : ℕ) (o : G) → at < length os → o ≡ get_or os at o → launched of os ≡ launched of (take at os) ++ (of o ++ launched of (drop (suc at) os))
 split-suc of [] at o h e = absurd (omega arith)
 split-suc {G = G} of (p ∷ os) zero o h e = ap (λ (q : G). of q ++ launched of os) (sym e)
@@ -45,34 +43,29 @@ take-suc-launched of (p ∷ os) (suc at) o h e =
     ∙ sym (append_assoc (of p) (launched of (take at os)) (of o))
 
 module _ {G : Type 0} (of : G → List TaskInfo) (os : List G) (at : ℕ) (o : G) (within : at < length os) (is : o ≡ get_or os at o) where
-  -- the tasks before one
   pub take-place : (t : ℕ) → t ≤ length (of o) → take (place of os at t) (launched of os) ≡ launched of (take at os) ++ take t (of o)
   take-place t h =
       ap (take (place of os at t)) (split of os at o within is)
       ∙ take-append-add (launched of (take at os)) (of o ++ launched of (drop (at + 1) os)) t
       ∙ ap (λ (ts : List TaskInfo). launched of (take at os) ++ ts) (take-append-le t (of o) (launched of (drop (at + 1) os)) h)
 
-  -- those from one on
   pub drop-from : (t : ℕ) → t ≤ length (of o) → drop (place of os at t) (launched of os) ≡ drop t (of o) ++ launched of (drop (at + 1) os)
   drop-from t h =
       ap (drop (place of os at t)) (split of os at o within is)
       ∙ drop-append-add (launched of (take at os)) (of o ++ launched of (drop (at + 1) os)) t
       ∙ drop-append-le t (of o) (launched of (drop (at + 1) os)) h
 
-  -- those behind it
   pub drop-place : (t : ℕ) → t < length (of o) → drop (place of os at t + 1) (launched of os) ≡ drop (t + 1) (of o) ++ launched of (drop (at + 1) os)
   drop-place t h =
       let sum : place of os at t + 1 ≡ place of os at (t + 1) = omega arith in
       ap (λ n. drop n (launched of os)) sum ∙ drop-from (t + 1) (omega arith)
 
-  -- the task itself
   pub get-place : (t : ℕ) (x : TaskInfo) → t < length (of o) → x ≡ get_or (of o) t x → slice_get (launched of os) (place of os at t) ≡ Some x
   get-place t x h e =
       ap (λ (ts : List TaskInfo). slice_get ts (place of os at t)) (split of os at o within is)
       ∙ get-right (launched of (take at os)) (of o ++ launched of (drop (at + 1) os)) t
       ∙ get-left (of o) (launched of (drop (at + 1) os)) t x h e
 
-  -- the first of the next group
   pub next-place : place of os (at + 1) 0 ≡ place of os at (length (of o))
   next-place =
       let more : length (launched of (take (at + 1) os)) ≡ length (launched of (take at os)) + length (of o) =

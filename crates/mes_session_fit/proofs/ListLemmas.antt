@@ -10,7 +10,6 @@ or-cases true b e = inl refl
 or-cases false b e = inr e
 
 module _ {X Y : Type 0} where
-  -- what passes in a part passes in the whole
   pub any-flat_map : (p : Y → Bool) (f : X → List Y) (xs : List X) → list_any p (flat_map f xs) ≡ list_any (λ x. list_any p (f x)) xs
   any-flat_map p f [] = refl
   any-flat_map p f (x ∷ xs) = list_any-append p (f x) (flat_map f xs) ∙ ap (λ b. list_any p (f x) || b) (any-flat_map p f xs)
@@ -26,7 +25,6 @@ module _ {X Y Z : Type 0} where
   flat_map-flat_map g f (x ∷ xs) = flat_map-append g (f x) (flat_map f xs) ∙ ap (λ (zs : List Z). flat_map g (f x) ++ zs) (flat_map-flat_map g f xs)
 
 module _ {X : Type 0} where
-  -- the element that a list has at an index, and what it passes
   pub record Found (p : X → Bool) (xs : List X) : Type 0 where
     pub index : ℕ
     pub value : X
@@ -45,14 +43,12 @@ module _ {X : Type 0} where
   any-at p (y ∷ ys) zero x e t = let s : y ≡ x = cc in rw (s, t) refl
   any-at p (y ∷ ys) (suc i) x e t = rw (any-at p ys i x e t) (grind arith)
 
-  -- where a part of the front is
   pub get-take : (xs : List X) (n i : ℕ) (x : X) → slice_get (take n xs) i ≡ Some x → (i < n) × (slice_get xs i ≡ Some x)
   get-take xs zero i x e = absurd (cc)
   get-take [] (suc n) i x e = absurd (cc)
   get-take (y ∷ ys) (suc n) zero x e = (omega arith, e)
   get-take (y ∷ ys) (suc n) (suc i) x e = let r : (i < n) × (slice_get ys i ≡ Some x) = get-take ys n i x e in (omega arith, r.1)
 
-  -- what stands behind is in the rest
   pub get-drop : (xs : List X) (n i : ℕ) (x : X) → n ≤ i → slice_get xs i ≡ Some x → (j : ℕ) × (slice_get (drop n xs) j ≡ Some x)
   get-drop xs zero i x h e = (i, e)
   get-drop [] (suc n) i x h e = absurd (cc)

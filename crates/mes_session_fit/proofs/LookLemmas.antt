@@ -1,4 +1,4 @@
--- What the searches find: in one of several lists, and in a value of one type.
+-- Searches in one of several lists, and in a value of one type.
 use Rattle.std.proofs.Common.{◌≡◌, ℕ, ◌+◌, ◌≤◌, ◌<◌, Bool, true, false, ◌||◌, ◌⊎◌, inl, inr, Option, Some, None, List, length, take, get_or, max, IfSome, refl, sym, ◌∙◌, ap, arith}
 use Rattle.std.specs.List.{list_any, flat_map}
 use Rattle.std.specs.Str.{bytes_eq}
@@ -49,7 +49,6 @@ module _ {X Y : Type 0} (p : Y → Bool) (f : X → List Y) (xs : List X) (i : �
 pub item-in : (ns : List (List ℕ)) (i : ℕ) (n : List ℕ) → i < length ns → n ≡ get_or ns i n → in_items n ns ≡ true
 item-in ns i n within is = list_any_at (bytes_eq n) ns i n within ((bytes_eq-Decides n (get_or ns i n)).1 is)
 
--- what holds of the items so far and of one more
 pub items-more : (holds : List ℕ → Bool) (b : Bool) (ns : List (List ℕ)) (i : ℕ) (n : List ℕ) → i < length ns → n ≡ get_or ns i n
     → ((m : List ℕ) → in_items m (take i ns) ≡ true → holds m ≡ b) → holds n ≡ b → (m : List ℕ) → in_items m (take (i + 1) ns) ≡ true → holds m ≡ b
 items-more holds b ns i n within is so_far here m e = elim (or-cases _ _ (sym (list_any_more (bytes_eq m) ns i n within) ∙ e)) [

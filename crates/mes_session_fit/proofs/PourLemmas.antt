@@ -1,4 +1,4 @@
--- What is left of an amount while it is poured out.
+-- The remaining amount while it is taken.
 use Rattle.std.proofs.Common.{◌≡◌, ℕ, zero, suc, ◌+◌, ◌≤◌, ◌<◌, Some, List, [], ◌∷◌, ◌++◌, length, take, drop, get_or, slice_get, Bool, true, false, not, IsTrue, IsFalse, ◌↔◌, refl, sym, ◌∙◌, ap, add-one, arith}
 use Rattle.std.specs.List.{list_any, flat_map, sum_by}
 use Rattle.std.proofs.lemmas.Option.{slice_get_within}
@@ -42,14 +42,12 @@ pub from-past : (os : List Offer) (offer resource : ℕ) → length os ≤ offer
 from-past os offer resource h = ap (from resource) (drop-past os offer h)
 
 module _ (k : Key) (os : List Offer) (offer resource : ℕ) (o : Offer) (is : slice_get os offer ≡ Some o) where
-  -- an offer of which no resource is left
   from-next : length o.resources ≤ resource → from resource (drop offer os) ≡ from 0 (drop (offer + 1) os)
   from-next h =
       ap (from resource) (drop-at os offer o is)
       ∙ ap (λ (rs : List Resource). rs ++ offered (drop (offer + 1) os)) (drop-past o.resources resource h)
       ∙ sym (from-start (drop (offer + 1) os))
 
-  -- the next of its resources
   from-one : (r : Resource) → resource < length o.resources → r ≡ get_or o.resources resource r → from resource (drop offer os) ≡ r ∷ from (resource + 1) (drop offer os)
   from-one r h e =
       ap (from resource) (drop-at os offer o is)
@@ -68,7 +66,6 @@ module _ (k : Key) (os : List Offer) (offer resource : ℕ) (o : Offer) (is : sl
   pub one-less : (r : Resource) → resource < length o.resources → r ≡ get_or o.resources resource r → length (from (resource + 1) (drop offer os)) + length (drop offer os) < length (from resource (drop offer os)) + length (drop offer os)
   one-less r h e = omega (arith, ap (length {A = Resource}) (from-one r h e))
 
--- What is taken so far, with one more that is more than is left, is more than there was.
 pub sum-more : {X : Type 0} (f : X → ℕ) (xs : List X) (i : ℕ) (x : X) → i < length xs → x ≡ get_or xs i x → sum_by f (take i xs) + f x ≤ sum_by f xs
 sum-more f [] i x h e = absurd (omega arith)
 sum-more f (y ∷ ys) zero x h e = omega (arith, sum_by-cons f y ys, ap f e)
@@ -80,7 +77,7 @@ parts-more {X = X} g f xs i x h e = omega (arith, sum-more (λ (z : X). sum_by g
 asked-both : (k : Key) (ts us : List TaskInfo) → amount k (asked (ts ++ us)) ≡ amount k (asked ts) + amount k (asked us)
 asked-both k ts us = ap (amount k) (flat_map-append (λ (t : TaskInfo). t.resources) ts us) ∙ sum_by-append (amount_of k) (asked ts) (asked us)
 
--- Where the tasks before one have nothing of a key, all have what it and those behind it have.
+-- if no earlier task has the key, its amount is that of this task and the later ones
 pub amount-from : {G : Type 0} (of : G → List TaskInfo) (os : List G) (at : ℕ) (o : G) → at < length os → o ≡ get_or os at o → (t : ℕ) (tasks : List TaskInfo) → tasks ≡ of o → t ≤ length (of o)
     → (k : Key) → list_any (is_of k) (asked (take (place of os at t) (launched of os))) ≡ false
     → amount k (asked (launched of os)) ≡ amount k (asked (drop t tasks)) + amount k (asked (launched of (drop (at + 1) os)))
@@ -98,7 +95,7 @@ amount-from of os at o within is t tasks are inside k none =
       none-of k (asked (take (place of os at t) (launched of os))) none,
     )
 
--- What is taken as long as there is enough: more was asked for exactly where it failed.
+-- taking fails if and only if the request exceeds the amount
 pub taken-all : (taken : Bool) (has wanted : ℕ) → (IsTrue taken → wanted ≤ has) → (IsFalse taken → has < wanted) → IsTrue (not taken) ↔ has < wanted
 taken-all true has wanted enough short = (λ e. absurd (cc), λ h. absurd (omega (arith, enough refl)))
 taken-all false has wanted enough short = (λ e. short refl, λ h. refl)

@@ -1,5 +1,5 @@
--- Whether tasks fit the offers that they are launched on, and where they don't (mesos.proto, `Resource`, `Value`, `Offer.Operation.Launch`).
--- Resources are compared under their key, whichever offer or task they stand in.
+-- Whether launched tasks fit their offers (mesos.proto, `Resource`, `Value`, `Offer.Operation`).
+-- Resources of one key are compared, of whichever offer or task they are.
 use Rattle.std.specs.Prelude.{◌≡◌, ◌⊎◌, ℕ, ◌+◌, ◌<◌, ◌≤◌, Bool, true, false, ◌&&◌, not, if◌then◌else◌, nat_le, List, ◌++◌, take, drop, slice_get, Some}
 use Rattle.std.specs.List.{list_any, flat_map, sum_by}
 use Rattle.std.specs.Str.{bytes_eq}
@@ -11,9 +11,9 @@ use Rattle.mes_model.specs.Offer.{Offer}
 use Rattle.mes_model.specs.TaskInfo.{TaskInfo}
 use Rattle.mes_session_fit.specs.Keys.{Key, key_of, is_of}
 
--- ---- what a value holds
+-- ---- what a value contains
 
--- SCALAR: so many thousandths
+-- SCALAR: an amount in thousandths
 abbrev pub thousandths_in : ResourceValue → ℕ
 thousandths_in (Scalar v) = v.value
 thousandths_in (Ranges v) = 0
@@ -24,7 +24,7 @@ pub data Piece : Type 0 where
   point : ℕ → Piece
   item : List ℕ → Piece
 
--- both ends of a range are in it; one whose last number is below its first has no point
+-- both ends of a range are in it; it is empty if its last number is below its first
 abbrev pub in_range : ℕ → Range → Bool
 in_range x g = nat_le g.first x && nat_le x g.last
 
@@ -42,7 +42,7 @@ piece_in (item n) (Scalar v) = false
 piece_in (item n) (Ranges v) = false
 piece_in (item n) (Set v) = in_items n v.item
 
--- ---- what resources hold under a key
+-- ---- what resources of a key contain
 
 abbrev pub amount_of : Key → Resource → ℕ
 amount_of k r = if is_of k r then thousandths_in r.value else 0
@@ -64,29 +64,28 @@ offered offers = flat_map (λ o. o.resources) offers
 abbrev pub asked : List TaskInfo → List Resource
 asked tasks = flat_map (λ t. t.resources) tasks
 
--- all tasks but the one at i
+-- all tasks except the one at index i
 abbrev pub others : ℕ → List TaskInfo → List TaskInfo
 others i tasks = take i tasks ++ drop (i + 1) tasks
 
--- an offer has the piece, and none of the other tasks
+-- an offer has the piece, and no other task takes it
 abbrev pub is_free : Key → Piece → List Offer → List TaskInfo → Bool
 is_free k p offers rest = has_piece k p (offered offers) && not (has_piece k p (asked rest))
 
--- The tasks together take no more of anything than the offers have, and each point and each item that one of them takes is offered and
--- is no other's.
+-- the tasks take at most the offered amount of each key, and each piece is offered and taken once
 pub record Fits (offers : List Offer) (tasks : List TaskInfo) : Type 0 where
   pub amounts : (k : Key) → amount k (asked tasks) ≤ amount k (offered offers)
   pub pieces : (i : ℕ) (t : TaskInfo) → slice_get tasks i ≡ Some t → (k : Key) (p : Piece) → has_piece k p t.resources ≡ true → is_free k p offers (others i tasks) ≡ true
 
--- ---- where they don't fit
+-- ---- a resource that does not fit
 
--- the tasks take too much of what the resource is, or a piece of it isn't free for its task
+-- too much of its key is taken, or a piece of it is not offered or is another task's too
 abbrev pub Breaks : List Offer → List TaskInfo → List TaskInfo → Resource → Type 0
 Breaks offers tasks rest r =
     (amount (key_of r) (offered offers) < amount (key_of r) (asked tasks))
     ⊎ ((p : Piece) × (piece_in p r.value ≡ true) × (is_free (key_of r) p offers rest ≡ false))
 
--- the resource at j of the task at i
+-- the resource at index j of the task at index i does not fit
 pub record BreaksAt (offers : List Offer) (tasks : List TaskInfo) (i j : ℕ) : Type 0 where
   pub task : TaskInfo
   pub resource : Resource
@@ -94,15 +93,15 @@ pub record BreaksAt (offers : List Offer) (tasks : List TaskInfo) (i j : ℕ) : 
   pub resource_at : slice_get task.resources j ≡ Some resource
   pub breaks : Breaks offers tasks (others i tasks) resource
 
--- by tasks, and then by resources
+-- the order of resources: by task, then by position in the task
 abbrev pub ComesBefore : ℕ → ℕ → ℕ → ℕ → Type 0
 ComesBefore k l i j = (k < i) ⊎ ((k ≡ i) × (l < j))
 
--- none ahead of the resource at j of the task at i breaks the rule
+-- every earlier resource fits
 abbrev pub NoneAhead : List Offer → List TaskInfo → ℕ → ℕ → Type 0
 NoneAhead offers tasks i j = (k l : ℕ) → ComesBefore k l i j → BreaksAt offers tasks k l → ⊥
 
--- none of a task before i
+-- every resource of a task before index i fits
 abbrev pub NoneBefore : List Offer → List TaskInfo → ℕ → Type 0
 NoneBefore offers tasks i = (k l : ℕ) → k < i → BreaksAt offers tasks k l → ⊥
 

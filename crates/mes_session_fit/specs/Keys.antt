@@ -1,5 +1,5 @@
--- The key of a resource: what two resources must have alike for the one to stand for the other. It is all that mesos.proto says of a
--- resource, its type among it, but its value and the role that it is allocated to, which tasks often leave out.
+-- The key of a resource: its type and all its members except value and allocation_info, which tasks
+-- often leave out. Only resources of one key are compared.
 use Rattle.std.specs.Prelude.{◌≡◌, ℕ, zero, suc, Bool, true, false, ◌==◌, ◌&&◌, List, Option, unwrap_or, codes, refl}
 use Rattle.std.specs.Coded.{Coded, code_by, coded×, coded_ℕ, coded_bool, coded_list, coded_option}
 use base.Stored.{Gv, gnil, gnum, gcons}
@@ -34,7 +34,7 @@ pub record Key : Type 0 where
   pub shared : Bool
   pub provider_id : Option Id
 
--- a resource without a role is one of the role `*`
+-- a resource without a role has the role `*`
 abbrev pub key_of : Resource → Key
 key_of r = record {
   name = r.name;
@@ -48,7 +48,7 @@ key_of r = record {
   provider_id = r.provider_id;
 }
 
--- ---- whether two keys are one, as a truth value: by what the logic stores of them
+-- ---- equality of keys as a truth value, by their stored form
 
 abbrev pub type_number : ValueType → ℕ
 type_number scalar = 0
@@ -105,17 +105,17 @@ key_code =
       provider_id = p.1.1.1.1.1.1.1.1;
     }) (λ _. refl)
 
--- whether two stored values are one
+-- whether two stored values are equal
 abbrev pub same_stored : Gv → Gv → Bool
 same_stored gnil gnil = true
 same_stored (gnum m) (gnum n) = m == n
 same_stored (gcons a b) (gcons c d) = same_stored a c && same_stored b d
 same_stored _ _ = false
 
--- whether two keys are one key
+-- whether two keys are equal
 unfoldable pub keys_agree : Key → Key → Bool
 keys_agree j k = same_stored (key_code.code j) (key_code.code k)
 
--- whether a resource is of a key
+-- whether a resource has a key
 abbrev pub is_of : Key → Resource → Bool
 is_of k r = keys_agree k (key_of r)

@@ -1,4 +1,4 @@
--- The tasks of groups that are launched together, such as the operations of a call. Of any kind of group `tasks` tells the tasks of one.
+-- The tasks of groups that are launched together, such as the operations of a call.
 use Rattle.std.specs.Prelude.{◌≡◌, ℕ, ◌+◌, ◌<◌, List, length, get_or, take, min}
 use Rattle.std.specs.List.{flat_map}
 use Rattle.mes_model.specs.TaskInfo.{TaskInfo}
@@ -9,19 +9,19 @@ use Rattle.mes_msg.specs.Operation.TheVariants as of
 abbrev pub launched_by : Operation → List TaskInfo
 launched_by (of.Launch tasks) = tasks
 
--- those of all groups, in order
+-- the tasks of all groups, in order
 abbrev pub launched : {G : Type 0} → (G → List TaskInfo) → List G → List TaskInfo
 launched tasks groups = flat_map tasks groups
 
--- where the task at t of the group at g stands among all
+-- the index among all tasks of the task at t of the group at g
 abbrev pub place : {G : Type 0} → (G → List TaskInfo) → List G → ℕ → ℕ → ℕ
 place tasks groups g t = length (launched tasks (take g groups)) + t
 
--- there is a group at `at`, and a task at `task` of it
+-- the group at `at` exists, and its task at `task`
 pub record IsInRange {G : Type 0} (tasks : G → List TaskInfo) (groups : List G) (at task : ℕ) : Type 0 where
   pub group_within : at < length groups
   pub task_within : (group : G) → group ≡ get_or groups at group → task < length (tasks group)
 
--- A count of tasks as an index: from 2^64 - 1 on it stays there. No machine holds so many.
+-- a number of tasks as an index, which is at most 2^64 - 1
 abbrev pub as_index : ℕ → ℕ
 as_index n = min n 18446744073709551615

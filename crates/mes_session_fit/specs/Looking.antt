@@ -1,21 +1,21 @@
--- What the answers of the searches mean, of any two tests.
+-- The meaning of the results of the searches, for any two tests.
 use Rattle.std.specs.Prelude.{◌≡◌, ℕ, ◌≤◌, Bool, true, false, Option, Some, None, max}
 
--- whether what passes the one may pass the other
+-- whether something passes both tests
 abbrev pub Meets : {X : Type 0} → (X → Bool) → (X → Bool) → Bool → Type 0
 Meets {X = X} p q true = (x : X) × (p x ≡ true) × (q x ≡ true)
 Meets {X = X} p q false = (x : X) → p x ≡ true → q x ≡ false
 
--- whether the other lacks something that passes the one
+-- whether something passes the first test and not the second
 abbrev pub Lacks : {X : Type 0} → (X → Bool) → (X → Bool) → Bool → Type 0
 Lacks {X = X} p q true = (x : X) × (p x ≡ true) × (q x ≡ false)
 Lacks {X = X} p q false = (x : X) → p x ≡ true → q x ≡ true
 
--- all numbers from one to another pass
+-- all numbers from `at` to `end` pass the test
 abbrev pub AllFrom : (ℕ → Bool) → ℕ → ℕ → Type 0
 AllFrom has at end = (x : ℕ) → at ≤ x → x ≤ end → has x ≡ true
 
--- how far the numbers pass that begin with this one, or none where it doesn't pass itself
+-- the numbers from this one to the end pass; without an end, this one does not pass
 abbrev pub Reaches : (ℕ → Bool) → ℕ → Option ℕ → Type 0
 Reaches has at None = has at ≡ false
 Reaches has at (Some end) = (at ≤ end) × AllFrom has at end

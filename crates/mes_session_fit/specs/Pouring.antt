@@ -1,4 +1,4 @@
--- What offers still have of a key, while it is poured out.
+-- The remaining amount of a key in the offers, while tasks take from it.
 use Rattle.std.specs.Prelude.{ℕ, ◌+◌, List, [], ◌∷◌, ◌++◌, length, drop}
 use Rattle.mes_model.specs.Resource.{Resource}
 use Rattle.mes_model.specs.Offer.{Offer}
@@ -6,15 +6,15 @@ use Rattle.mes_session_fit.specs.Keys.{Key}
 use Rattle.mes_session_fit.specs.Fits.{amount, offered}
 use Rattle.mes_session_fit.specs.declared.supply.Supply.{Supply}
 
--- the resources from one of the first offer on
+-- the resources from an index of the first offer on
 abbrev pub from : ℕ → List Offer → List Resource
 from resource [] = []
 from resource (o ∷ os) = drop resource o.resources ++ offered os
 
--- what is left
+-- the remaining amount
 abbrev pub rest : Key → List Offer → Supply → ℕ
 rest k offers s = s.left + amount k (from s.resource (drop s.offer offers))
 
--- how many offers and resources are still to be looked at
+-- the number of offers and resources that are not yet visited
 abbrev pub steps : List Offer → Supply → ℕ
 steps offers s = length (from s.resource (drop s.offer offers)) + length (drop s.offer offers)

@@ -1,5 +1,5 @@
-//! Tasks whose points are compared at once with those of all tasks behind them: for one task at a time, each of those would be
-//! looked up again.
+//! Batches of tasks whose points (numbers in ranges) are compared with those of all later tasks in
+//! one pass. Without batches each task would need its own pass.
 ghost use Rattle.std.specs.Prelude.{◌≡◌, ◌≤◌, ◌<◌, ℕ, true, take, length, IsTrue};
 ghost use Rattle.mes_session_fit.specs.Fits.{in_range, in_ranges, piece_in, asked};
 ghost use Rattle.mes_session_fit.specs.Fits.Piece.{point};
@@ -10,31 +10,30 @@ use crate::task_group::TaskGroup;
 use arrayvec::ArrayVec;
 use mes_model::{Range, Resource, ResourceValue, TaskInfo};
 
-/// How many ranges are compared at once.
+/// The maximum number of ranges in a batch.
 const RANGES_AT_ONCE: usize = 128;
 
-/// The ends of a range.
 #[derive(Clone, Copy, Default)]
 struct Ends {
     first: u64,
     last: u64,
 }
 
-/// The ranges of the tasks of a batch, whatever their keys.
+/// The ranges of the tasks of a batch, of all keys.
 type Taken = ArrayVec<Ends, RANGES_AT_ONCE>;
 
-/// Tasks of a group that follow one another.
+/// Consecutive tasks of a group.
 #[derive(Clone, Copy)]
 pub(crate) struct Batch {
-    /// The first of them.
+    /// The index of the first task.
     pub first: usize,
-    /// The first behind them.
+    /// The index after the last task.
     pub end: usize,
-    /// Whether no task behind them has a point of theirs. Where it is false, that isn't known.
+    /// Whether no later task has a point of the batch; `false` if unknown.
     pub apart: bool,
 }
 
-/// Adds ranges; false where there is no room for all.
+/// Adds ranges; returns `false` if some do not fit.
 fn add_ranges(taken: &mut Taken, ranges: &[Range]) -> bool
     ensures kept { (x : ℕ) → in_ends x taken.old.items ≡ true → in_ends x taken.new.items ≡ true }
     ensures added { IsTrue result → (x : ℕ) → in_ranges x ranges.now ≡ true → in_ends x taken.new.items ≡ true }
@@ -51,7 +50,6 @@ fn add_ranges(taken: &mut Taken, ranges: &[Range]) -> bool
     true
 }
 
-/// Adds the ranges of a value; false where there is no room for all.
 fn add_value(taken: &mut Taken, value: &ResourceValue) -> bool
     ensures kept { (x : ℕ) → in_ends x taken.old.items ≡ true → in_ends x taken.new.items ≡ true }
     ensures added { IsTrue result → (x : ℕ) → piece_in (point x) value.now ≡ true → in_ends x taken.new.items ≡ true }
@@ -62,7 +60,6 @@ fn add_value(taken: &mut Taken, value: &ResourceValue) -> bool
     }
 }
 
-/// Adds the ranges of resources; false where there is no room for all.
 fn add_resources(taken: &mut Taken, resources: &[Resource]) -> bool
     ensures kept { (x : ℕ) → in_ends x taken.old.items ≡ true → in_ends x taken.new.items ≡ true }
     ensures added { IsTrue result → (x : ℕ) → has_point x resources.now ≡ true → in_ends x taken.new.items ≡ true }
@@ -75,7 +72,7 @@ fn add_resources(taken: &mut Taken, resources: &[Resource]) -> bool
     true
 }
 
-/// Adds the ranges of tasks, up to the first task that there is no room for, and tells how many tasks there was room for.
+/// Adds the ranges of tasks up to the first task that does not fit, and returns the number added.
 fn add_tasks(taken: &mut Taken, tasks: &[TaskInfo]) -> usize
     ensures within { result ≤ length tasks.now }
     ensures added { (x : ℕ) → has_point x (asked (take result tasks.now)) ≡ true → in_ends x taken.new.items ≡ true }
@@ -88,7 +85,7 @@ fn add_tasks(taken: &mut Taken, tasks: &[TaskInfo]) -> usize
     tasks.len()
 }
 
-/// Whether a range has none of the points.
+/// Returns whether a range has none of the points.
 fn range_is_apart(taken: &[Ends], range: &Range) -> bool
     ensures { IsTrue result → Apart (λ x. in_ends x taken.now) (λ x. in_range x range.now) }
 {
@@ -100,7 +97,6 @@ fn range_is_apart(taken: &[Ends], range: &Range) -> bool
     true
 }
 
-/// Whether ranges have none of the points.
 fn ranges_are_apart(taken: &[Ends], ranges: &[Range]) -> bool
     ensures { IsTrue result → Apart (λ x. in_ends x taken.now) (λ x. in_ranges x ranges.now) }
 {
@@ -112,7 +108,6 @@ fn ranges_are_apart(taken: &[Ends], ranges: &[Range]) -> bool
     true
 }
 
-/// Whether a value has none of the points.
 fn value_is_apart(taken: &[Ends], value: &ResourceValue) -> bool
     ensures { IsTrue result → Apart (λ x. in_ends x taken.now) (λ x. piece_in (point x) value.now) }
 {
@@ -122,7 +117,6 @@ fn value_is_apart(taken: &[Ends], value: &ResourceValue) -> bool
     }
 }
 
-/// Whether resources have none of the points.
 fn resources_are_apart(taken: &[Ends], resources: &[Resource]) -> bool
     ensures { IsTrue result → Apart (λ x. in_ends x taken.now) (λ x. has_point x resources.now) }
 {
@@ -134,7 +128,6 @@ fn resources_are_apart(taken: &[Ends], resources: &[Resource]) -> bool
     true
 }
 
-/// Whether tasks have none of the points.
 fn tasks_are_apart(taken: &[Ends], tasks: &[TaskInfo]) -> bool
     ensures { IsTrue result → Apart (λ x. in_ends x taken.now) (λ x. has_point x (asked tasks.now)) }
 {
@@ -146,7 +139,6 @@ fn tasks_are_apart(taken: &[Ends], tasks: &[TaskInfo]) -> bool
     true
 }
 
-/// Whether the tasks of groups have none of the points.
 fn groups_are_apart<L: TaskGroup>(taken: &[Ends], launches: &[L]) -> bool
     ensures { IsTrue result → Apart (λ x. in_ends x taken.now) (λ x. has_point x (asked (launched L.tasks launches.now))) }
 {
@@ -158,7 +150,8 @@ fn groups_are_apart<L: TaskGroup>(taken: &[Ends], launches: &[L]) -> bool
     true
 }
 
-/// The batch from a task on: as many tasks as there is room for. A task that has too many ranges is one by itself, and not compared.
+/// Returns the batch that begins at a task, as long as fits. A task with too many ranges is a batch
+/// of its own and is not compared.
 fn batch_from<L: TaskGroup>(launches: &[L], at: usize, first: usize) -> Batch
     requires { IsInRange L.tasks launches.now at first }
     ensures first { result.first ≡ first }
@@ -182,7 +175,7 @@ fn batch_from<L: TaskGroup>(launches: &[L], at: usize, first: usize) -> Batch
     Batch { first, end, apart }
 }
 
-/// The batch that a task is in, where it isn't before this one.
+/// Returns the batch of a task: `batch` if the task is in it, or else the next one.
 pub(crate) fn batch_of<L: TaskGroup>(launches: &[L], at: usize, task: usize, batch: Batch) -> Batch
     requires is_index { IsInRange L.tasks launches.now at task }
     requires begun { batch.first ≤ task }

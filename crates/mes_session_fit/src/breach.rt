@@ -1,4 +1,5 @@
-//! The first resource that doesn't fit.
+//! The first resource that does not fit. The checks are in `supply.rt`, `unoffered.rt` and
+//! `other_tasks.rt`.
 ghost use Rattle.std.specs.Prelude.{◌≡◌, ◌+◌, ◌<◌, ◌≤◌, ◌⊎◌, ◌↔◌, ◌++◌, ℕ, take, length, slice_get, get_or, Some, true, IsTrue, IsFalse, IfSome, IfNone};
 ghost use Rattle.std.specs.List.{list_any};
 ghost use Rattle.mes_session_fit.specs.Keys.{key_of, is_of};
@@ -14,16 +15,17 @@ use crate::task_group::TaskGroup;
 use crate::unoffered::is_unoffered;
 use mes_model::{Resource, ResourceValue, TaskInfo};
 
-/// Where tasks don't fit their offers: a resource that breaks the rule.
+/// The resource that does not fit the offers.
 #[derive(Clone, Copy, Debug, PartialEq, Eq)]
 pub struct Breach {
-    /// The task, counted over all that are launched.
+    /// The index of the task among all launched tasks, from 0.
     pub task: usize,
-    /// The resource among those of the task.
+    /// The index of the resource in the task, from 0.
     pub resource: usize,
 }
 
-/// Whether the tasks take more of what this resource is than the offers have. A key that stands before was looked at there.
+/// Returns whether the tasks take more of the resource's key than the offers have. An earlier
+/// resource of the key was already checked.
 fn exceeds_first_time<O: OfferList, L: TaskGroup>(
     offers: &O,
     launches: &[L],
@@ -47,7 +49,7 @@ fn exceeds_first_time<O: OfferList, L: TaskGroup>(
     }
 }
 
-/// Whether a resource of a task breaks the rule, where none before it does.
+/// Returns whether a resource of a task does not fit, if all earlier ones do.
 fn breaks<O: OfferList, L: TaskGroup>(
     offers: &O,
     near: &mut usize,
@@ -79,7 +81,7 @@ fn breaks<O: OfferList, L: TaskGroup>(
     meets_another(launches, at, index, resource, batch)
 }
 
-/// The first resource of a task that breaks the rule, where no task before it has one.
+/// Returns the first resource of a task that does not fit, if all earlier tasks fit.
 fn breach_of_task<O: OfferList, L: TaskGroup>(
     offers: &O,
     near: &mut usize,
@@ -106,7 +108,7 @@ fn breach_of_task<O: OfferList, L: TaskGroup>(
     None
 }
 
-/// The first task of a group that has a breach, and the resource, where no group before it has one.
+/// Returns the first task of a group with a resource that does not fit, if all earlier groups fit.
 fn breach_of_group<O: OfferList, L: TaskGroup>(
     offers: &O,
     near: &mut usize,
@@ -141,13 +143,15 @@ fn breach_of_group<O: OfferList, L: TaskGroup>(
     None
 }
 
-/// The first resource, by tasks and then resources, that breaks the rule, where the tasks that are launched don't fit the offers: the
-/// tasks of operations, or of slices, as `&[tasks]` for those of one. They are counted over all of these, up to 2^64 - 1. Offers in a
-/// slice are passed as `&offers.as_slice()`.
+/// Returns the first resource of the launched tasks that does not fit the offers, or `None` if all
+/// fit. `launches` are operations or slices of tasks; for one slice pass `&[tasks]`. For offers in
+/// a slice pass `&offers.as_slice()`.
 ///
-/// Takes no memory, and forms no sums: what is asked for is taken from what the offers still have. With A resources, ranges and items
-/// of the tasks and O of the offers it makes at most of the order of (A + O)² comparisons of numbers, items and keys.
+/// The task's index saturates at 2^64 - 1. Does not allocate, and does not add amounts, so nothing
+/// overflows. The time is O((A + O)²), where A and O count the resources, ranges and set items of
+/// the tasks and of the offers.
 pub fn first_breach<O: OfferList, L: TaskGroup>(offers: &O, launches: &[L]) -> Option<Breach>
+    // On `Some`: the first resource that does not fit.
     ensures some { IfSome result (λ b. (i : ℕ) × (b.task ≡ as_index i) × IsFirstBreach (O.offers offers.now) (launched L.tasks launches.now) i b.resource) }
     ensures none { IfNone result (Fits (O.offers offers.now) (launched L.tasks launches.now)) }
 {

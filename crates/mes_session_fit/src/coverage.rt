@@ -1,4 +1,4 @@
-//! How far ranges reach: from a point on, to the end of a range that holds it.
+//! How far ranges cover consecutive numbers from a point on. Used by `unoffered.rt`.
 ghost use Rattle.std.specs.Prelude.{◌≡◌, ◌≤◌, ℕ, true, false, Some, IfSome};
 ghost use Rattle.mes_session_fit.specs.Keys.{key_of};
 ghost use Rattle.mes_session_fit.specs.Fits.{in_ranges, piece_of, has_piece, offered};
@@ -9,10 +9,9 @@ use crate::key::same_key;
 use crate::offer_list::OfferList;
 use mes_model::{Range, Resource, ResourceValue};
 
-/// How many offers on each side of the near one are looked at before all.
+/// The number of offers on each side of the last match that are searched first.
 const NEAR_OFFERS: usize = 8;
 
-/// The farther of two ends.
 pub(crate) fn farther_end(end: Option<u64>, other: Option<u64>) -> Option<u64>
     ensures { result ≡ farther end other }
 {
@@ -25,7 +24,6 @@ pub(crate) fn farther_end(end: Option<u64>, other: Option<u64>) -> Option<u64>
     }
 }
 
-/// Whether an end is as far as wanted.
 fn is_far(end: Option<u64>, wanted: u64) -> bool
     ensures { end ≡ None → result ≡ false }
 {
@@ -35,7 +33,8 @@ fn is_far(end: Option<u64>, wanted: u64) -> bool
     }
 }
 
-/// How far ranges reach from a point on: to the last end of those that hold it, or to the first that is as far as wanted.
+/// Returns the largest end of the ranges that contain `at`, or the first such end that is at least
+/// `wanted`.
 pub(crate) fn range_reach(ranges: &[Range], at: u64, wanted: u64) -> Option<u64>
     ensures { Reaches (λ x. in_ranges x ranges.now) at result }
 {
@@ -51,7 +50,7 @@ pub(crate) fn range_reach(ranges: &[Range], at: u64, wanted: u64) -> Option<u64>
     reach
 }
 
-/// How far a resource reaches under a key.
+/// Like [`range_reach`], but for a resource of the key.
 fn value_reach(resource: &Resource, key: &Resource, at: u64, wanted: u64) -> Option<u64>
     ensures { Reaches (λ x. piece_of (key_of key.now) (point x) resource.now) at result }
 {
@@ -64,7 +63,7 @@ fn value_reach(resource: &Resource, key: &Resource, at: u64, wanted: u64) -> Opt
     None
 }
 
-/// How far resources reach under a key.
+/// Like [`range_reach`], but for the resources of the key.
 pub(crate) fn resource_reach(
     resources: &[Resource],
     key: &Resource,
@@ -84,7 +83,8 @@ pub(crate) fn resource_reach(
     reach
 }
 
-/// How far one of the offers beside a place reaches under a key, where that is as far as wanted. Its place is kept.
+/// Like [`range_reach`], but for the offers beside `near`; returns only an end of at least `wanted`
+/// and stores the offer's index in `near`.
 fn last_coverage<O: OfferList>(
     offers: &O,
     near: &mut usize,
@@ -106,7 +106,7 @@ fn last_coverage<O: OfferList>(
     None
 }
 
-/// How far offers reach under a key. The offer that reaches as far as wanted is kept as the near one.
+/// Like [`range_reach`], but for all offers; stores the index of the offer that reaches `wanted`.
 fn coverage<O: OfferList>(
     offers: &O,
     near: &mut usize,
@@ -128,7 +128,8 @@ fn coverage<O: OfferList>(
     reach
 }
 
-/// How far offers reach under a key. Those beside the near one are looked at first: ranges in order are offered in order, mostly.
+/// Like [`range_reach`], but for the offers. Those beside `near` are searched first, because
+/// consecutive ranges usually are in consecutive offers.
 pub(crate) fn offer_reach<O: OfferList>(
     offers: &O,
     near: &mut usize,

@@ -1,4 +1,4 @@
-//! The key under which resources are compared.
+//! The key of a resource. Only resources of one key are compared.
 ghost use Rattle.std.specs.Prelude.{◌≡◌, ◌-◌, ◌↔◌, IsTrue, codes, unwrap_or, length, slice_get};
 ghost use Rattle.std.specs.Str.{bytes_eq};
 ghost use Rattle.mes_session_fit.specs.Keys.{key_of, keys_agree, type_of};
@@ -6,10 +6,11 @@ ghost use Rattle.mes_session_fit.specs.Keys.{key_of, keys_agree, type_of};
 use mes_json::Text;
 use mes_model::{Boxed, Id, Kept, Label, Labels, Reservation, Resource, ResourceValue};
 
-/// The role of a resource that names none.
+/// The role of a resource without one.
 const ANY_ROLE: &str = "*";
 
-/// Whether both are of one key: all that they tell is alike, but the value and the allocation. The name is compared first, and of it the last byte.
+/// Returns whether two resources have one key: they agree in all but value and allocation. The name
+/// is compared first, beginning with its last byte.
 pub(crate) fn same_key(resource: &Resource, other: &Resource) -> bool
     ensures { result ≡ keys_agree (key_of resource.now) (key_of other.now) }
 {
@@ -33,21 +34,21 @@ fn is_same_key(resource: &Resource, other: &Resource) -> bool
         )
 }
 
-/// Whether both are one text.
 pub(crate) fn same_text(text: &Text, other: &Text) -> bool
     ensures { result ≡ bytes_eq text.now other.now }
 {
     is_same_text(text, other)
 }
 
-/// Whether both are one text. Items and names often differ at their end alone, so the last bytes are compared first.
+/// Returns whether two texts are equal. Last bytes are compared first, because names often differ
+/// only there.
 fn is_same_text(text: &Text, other: &Text) -> bool
     ensures { IsTrue result ↔ text.now ≡ other.now }
 {
     last_byte(text) == last_byte(other) && text == other
 }
 
-/// The last byte of a text, or 0 where it has none.
+/// Returns the last byte of a text, or 0 if it is empty.
 fn last_byte(text: &Text) -> u8
     ensures { result ≡ unwrap_or (slice_get text.now (length text.now - 1)) 0 }
 {
@@ -57,7 +58,6 @@ fn last_byte(text: &Text) -> u8
     }
 }
 
-/// Whether both are of one type.
 fn same_type(value: &ResourceValue, other: &ResourceValue) -> bool
     ensures { IsTrue result ↔ type_of value.now ≡ type_of other.now }
 {
@@ -68,7 +68,7 @@ fn same_type(value: &ResourceValue, other: &ResourceValue) -> bool
     }
 }
 
-/// The role, also of a resource that names none.
+/// Returns the role, or `*` if there is none.
 fn role_of(role: &Option<Text>) -> &str
     ensures { result.now ≡ unwrap_or role.now (codes "*") }
 {
@@ -78,14 +78,12 @@ fn role_of(role: &Option<Text>) -> &str
     }
 }
 
-/// Whether both are one role.
 fn same_role(role: &Option<Text>, other: &Option<Text>) -> bool
     ensures { IsTrue result ↔ unwrap_or role.now (codes "*") ≡ unwrap_or other.now (codes "*") }
 {
     role_of(role) == role_of(other)
 }
 
-/// Whether both are of one provider, or of none.
 fn same_provider(provider: &Option<Boxed<Id>>, other: &Option<Boxed<Id>>) -> bool
     ensures { IsTrue result ↔ provider.now ≡ other.now }
 {
@@ -98,7 +96,6 @@ fn same_provider(provider: &Option<Boxed<Id>>, other: &Option<Boxed<Id>>) -> boo
     }
 }
 
-/// Whether both are one disk: no object, or one object.
 fn same_disk(disk: &Option<Boxed<Kept>>, other: &Option<Boxed<Kept>>) -> bool
     ensures { IsTrue result ↔ disk.now ≡ other.now }
 {
@@ -111,14 +108,14 @@ fn same_disk(disk: &Option<Boxed<Kept>>, other: &Option<Boxed<Kept>>) -> bool
     }
 }
 
-/// Whether both are one object, as trees.
+/// Returns whether two objects are equal as JSON trees.
 fn same_kept(disk: &Kept, other: &Kept) -> bool
     ensures { IsTrue result ↔ disk.now ≡ other.now }
 {
     disk.get().same(other.get())
 }
 
-/// Whether both are reserved alike, in the older form.
+/// Returns whether two reservations in the older form are equal or both absent.
 fn same_reserved(
     reservation: &Option<Boxed<Reservation>>,
     other: &Option<Boxed<Reservation>>,
@@ -134,7 +131,6 @@ fn same_reserved(
     }
 }
 
-/// Whether both are the same reservations in the same order.
 fn same_reservations(reservations: &[Reservation], others: &[Reservation]) -> bool
     ensures { IsTrue result ↔ reservations.now ≡ others.now }
 {
@@ -149,7 +145,6 @@ fn same_reservations(reservations: &[Reservation], others: &[Reservation]) -> bo
     true
 }
 
-/// Whether both are one reservation.
 fn same_reservation(reservation: &Reservation, other: &Reservation) -> bool
     ensures { IsTrue result ↔ reservation.now ≡ other.now }
 {
@@ -159,7 +154,6 @@ fn same_reservation(reservation: &Reservation, other: &Reservation) -> bool
         && same_labels(&reservation.labels, &other.labels)
 }
 
-/// Whether both are the same labels, or none.
 fn same_labels(labels: &Option<Labels>, other: &Option<Labels>) -> bool
     ensures { IsTrue result ↔ labels.now ≡ other.now }
 {
@@ -172,7 +166,6 @@ fn same_labels(labels: &Option<Labels>, other: &Option<Labels>) -> bool
     }
 }
 
-/// Whether both are the same labels in the same order.
 fn same_label_lists(labels: &[Label], others: &[Label]) -> bool
     ensures { IsTrue result ↔ labels.now ≡ others.now }
 {
@@ -187,7 +180,6 @@ fn same_label_lists(labels: &[Label], others: &[Label]) -> bool
     true
 }
 
-/// Whether both are one label.
 fn same_label(label: &Label, other: &Label) -> bool
     ensures { IsTrue result ↔ label.now ≡ other.now }
 {

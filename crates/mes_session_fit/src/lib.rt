@@ -1,5 +1,15 @@
 #![tactic(auto)]
 //! Whether tasks fit the offers that they are launched on (mesos.proto, `Offer.Operation.Launch`).
+//!
+//!     let breach = first_breach(&offers.as_slice(), operations);
+//!
+//! Scalar amounts are compared as sums by key. Each point of a range and each item of a set must be
+//! offered, and only one task may take it. The contract promises the first resource that does not
+//! fit.
+//!
+//! `breach` has the search, `key` the key of a resource, and `supply`, `unoffered`, `other_tasks`
+//! the three checks. The crate `mes_session_state` uses it for S6. The tests are in
+//! `mes_session_fit_tests`.
 
 mod batch;
 mod breach;

@@ -1,19 +1,19 @@
-//! Offers in order, wherever they are kept.
+//! A list of offers in any container.
 ghost use Rattle.std.specs.Prelude.{◌≡◌, ◌<◌, List, length, slice_get, Some};
 ghost use Rattle.mes_model.specs.Offer.{Offer as OfferValue};
 
 use mes_model::Offer;
 
-/// Offers in order, wherever they are kept: a slice of them, or those of a map that a call names.
+/// A list of offers: a slice, or the offers of a map that a call names.
 pub trait OfferList {
     /// The offers.
     ghost offers: { Self → List OfferValue };
 
-    /// How many there are.
+    /// Returns the number of offers.
     fn count(&self) -> usize
         ensures { result ≡ length (offers self.now) };
 
-    /// One of them.
+    /// Returns the offer at an index.
     fn at(&self, index: usize) -> &Offer
         requires { index < length (offers self.now) }
         ensures { slice_get (offers self.now) index ≡ Some result.now };

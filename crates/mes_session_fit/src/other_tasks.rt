@@ -1,4 +1,4 @@
-//! What stands around a resource: the tasks before its own, and those behind.
+//! Searches in the tasks before and after a resource's own.
 ghost use Rattle.std.specs.Prelude.{◌≡◌, ◌+◌, ◌<◌, ◌++◌, drop, take, IsTrue};
 ghost use Rattle.std.specs.List.{list_any};
 ghost use Rattle.mes_session_fit.specs.Keys.{key_of, is_of};
@@ -14,14 +14,13 @@ use crate::shared::{groups_meet, tasks_meet};
 use crate::task_group::TaskGroup;
 use mes_model::{Resource, ResourceValue, TaskInfo};
 
-/// Whether one of the resources is of the key.
+/// Returns whether one of the resources has the key.
 pub(crate) fn resources_have_key(resources: &[Resource], key: &Resource) -> bool
     ensures { result ≡ list_any (is_of (key_of key.now)) resources.now }
 {
     resources.iter().any(|resource| same_key(key, resource))
 }
 
-/// Whether a resource of the tasks is of the key.
 fn tasks_have_key(tasks: &[TaskInfo], key: &Resource) -> bool
     ensures { result ≡ list_any (is_of (key_of key.now)) (asked tasks.now) }
 {
@@ -33,7 +32,6 @@ fn tasks_have_key(tasks: &[TaskInfo], key: &Resource) -> bool
     false
 }
 
-/// Whether a resource of the groups' tasks is of the key.
 fn groups_have_key<L: TaskGroup>(launches: &[L], key: &Resource) -> bool
     ensures { result ≡ list_any (is_of (key_of key.now)) (asked (launched L.tasks launches.now)) }
 {
@@ -45,7 +43,7 @@ fn groups_have_key<L: TaskGroup>(launches: &[L], key: &Resource) -> bool
     false
 }
 
-/// Whether a resource of the tasks before one is of the key.
+/// Returns whether a resource of an earlier task has the key.
 pub(crate) fn has_key_before<L: TaskGroup>(
     launches: &[L],
     at: usize,
@@ -59,7 +57,7 @@ pub(crate) fn has_key_before<L: TaskGroup>(
     groups_have_key(&launches[..at], key) || tasks_have_key(&tasks[..task], key)
 }
 
-/// Whether a task behind one takes a piece of this resource.
+/// Returns whether a later task takes a piece of this resource.
 fn overlaps_later<L: TaskGroup>(launches: &[L], at: usize, task: usize, resource: &Resource) -> bool
     requires { IsInRange L.tasks launches.now at task }
     ensures { Meets (λ p. piece_in p resource.now.value) (λ p. has_piece (key_of resource.now) p (asked (drop (place L.tasks launches.now at task + 1) (launched L.tasks launches.now)))) result }
@@ -71,8 +69,8 @@ fn overlaps_later<L: TaskGroup>(launches: &[L], at: usize, task: usize, resource
     tasks_meet(resource, &tasks[task + 1..]) || groups_meet(resource, &launches[at + 1..])
 }
 
-/// Whether a task behind one takes a piece of this resource, where the task is one of a batch: where that stands apart, points are
-/// looked for in the batch alone.
+/// Like [`overlaps_later`], but for a task of a batch. If no task after the batch has its points,
+/// only the batch is searched for points.
 pub(crate) fn meets_another<L: TaskGroup>(
     launches: &[L],
     at: usize,

@@ -1,4 +1,4 @@
-//! Pieces that several tasks take.
+//! Pieces that several tasks take. A piece is a point of a range or an item of a set.
 ghost use Rattle.std.specs.Prelude.{◌≡◌, ℕ, List};
 ghost use Rattle.std.specs.List.{list_any};
 ghost use Rattle.mes_session_fit.specs.Keys.{key_of, is_of};
@@ -11,14 +11,12 @@ use crate::task_group::TaskGroup;
 use mes_json::Text;
 use mes_model::{Range, Resource, ResourceValue, TaskInfo};
 
-/// Whether an item stands among others.
 pub(crate) fn has_item(items: &[Text], item: &Text) -> bool
     ensures { result ≡ in_items item.now items.now }
 {
     items.iter().any(|other| same_text(item, other))
 }
 
-/// Whether items stand among others.
 fn items_meet(items: &[Text], others: &[Text]) -> bool
     ensures { Meets (λ n. in_items n items.now) (λ n. in_items n others.now) result }
 {
@@ -30,7 +28,7 @@ fn items_meet(items: &[Text], others: &[Text]) -> bool
     false
 }
 
-/// Whether a range and others have a point in common.
+/// Returns whether a range and a list of ranges have a point in common.
 fn range_meets(range: &Range, others: &[Range]) -> bool
     ensures { Meets (λ x. in_range x range.now) (λ x. in_ranges x others.now) result }
 {
@@ -43,7 +41,6 @@ fn range_meets(range: &Range, others: &[Range]) -> bool
     false
 }
 
-/// Whether ranges and others have a point in common.
 fn ranges_meet(ranges: &[Range], others: &[Range]) -> bool
     ensures { Meets (λ x. in_ranges x ranges.now) (λ x. in_ranges x others.now) result }
 {
@@ -55,7 +52,7 @@ fn ranges_meet(ranges: &[Range], others: &[Range]) -> bool
     false
 }
 
-/// Whether two values have a piece in common.
+/// Returns whether two values have a piece in common.
 fn values_meet(value: &ResourceValue, other: &ResourceValue) -> bool
     ensures { Meets (λ p. piece_in p value.now) (λ p. piece_in p other.now) result }
 {
@@ -75,7 +72,7 @@ fn values_meet(value: &ResourceValue, other: &ResourceValue) -> bool
     }
 }
 
-/// Whether resources have a piece of this one, under its key.
+/// Returns whether resources of the same key have a piece of this one.
 fn resources_meet(resource: &Resource, others: &[Resource]) -> bool
     ensures { Meets (λ p. piece_in p resource.now.value) (λ p. has_piece (key_of resource.now) p others.now) result }
 {
@@ -87,7 +84,6 @@ fn resources_meet(resource: &Resource, others: &[Resource]) -> bool
     false
 }
 
-/// Whether tasks take a piece of this resource.
 pub(crate) fn tasks_meet(resource: &Resource, tasks: &[TaskInfo]) -> bool
     ensures { Meets (λ p. piece_in p resource.now.value) (λ p. has_piece (key_of resource.now) p (asked tasks.now)) result }
 {
@@ -99,7 +95,6 @@ pub(crate) fn tasks_meet(resource: &Resource, tasks: &[TaskInfo]) -> bool
     false
 }
 
-/// Whether the tasks of groups take a piece of this resource.
 pub(crate) fn groups_meet<L: TaskGroup>(resource: &Resource, launches: &[L]) -> bool
     ensures { Meets (λ p. piece_in p resource.now.value) (λ p. has_piece (key_of resource.now) p (asked (launched L.tasks launches.now))) result }
 {

@@ -1,4 +1,5 @@
-//! Amounts compared without a sum: each that is asked for is taken from what the offers still have.
+//! Comparison of amounts without sums: each requested amount is subtracted from the remaining
+//! offers.
 ghost use Rattle.std.specs.Prelude.{◌≡◌, ◌+◌, ◌<◌, ◌≤◌, ◌↔◌, take, IsTrue, IsFalse, false};
 ghost use Rattle.std.specs.List.{list_any};
 ghost use Rattle.mes_session_fit.specs.Keys.{key_of, is_of};
@@ -11,7 +12,7 @@ use crate::offer_list::OfferList;
 use crate::task_group::TaskGroup;
 use mes_model::{Resource, ResourceValue, TaskInfo};
 
-/// What offers still have of a key: what is left of the resource in front of this place, and all from the place on.
+/// The remaining amount of a key: `left` of the current resource, and all of the later ones.
 #[derive(Drop)]
 struct Supply {
     offer: usize,
@@ -19,7 +20,7 @@ struct Supply {
     left: u64,
 }
 
-/// The amount of a resource under a key, in thousandths.
+/// Returns the amount of a resource in thousandths, or 0 if it has another key.
 fn amount_under(key: &Resource, resource: &Resource) -> u64
     ensures { result ≡ amount_of (key_of key.now) resource.now }
 {
@@ -30,7 +31,7 @@ fn amount_under(key: &Resource, resource: &Resource) -> u64
 }
 
 impl Supply {
-    /// Goes on by a resource or an offer; false where there is none.
+    /// Advances by a resource or an offer; returns `false` at the end.
     fn step<O: OfferList>(&mut self, offers: &O, key: &Resource) -> bool
         requires { self.old.left ≡ 0 }
         ensures same { IsTrue result → rest (key_of key.now) (O.offers offers.now) self.new ≡ rest (key_of key.now) (O.offers offers.now) self.old }
@@ -51,7 +52,7 @@ impl Supply {
         true
     }
 
-    /// Takes an amount; false where less is left.
+    /// Takes an amount; returns `false` if less remains.
     fn take<O: OfferList>(&mut self, offers: &O, key: &Resource, wanted: u64) -> bool
         ensures enough { IsTrue result → wanted + rest (key_of key.now) (O.offers offers.now) self.new ≡ rest (key_of key.now) (O.offers offers.now) self.old }
         ensures short { IsFalse result → rest (key_of key.now) (O.offers offers.now) self.old < wanted }
@@ -68,7 +69,6 @@ impl Supply {
         true
     }
 
-    /// Takes what resources ask for under the key; false where less is left.
     fn take_resources<O: OfferList>(
         &mut self,
         offers: &O,
@@ -86,7 +86,6 @@ impl Supply {
         true
     }
 
-    /// Takes what tasks ask for under the key; false where less is left.
     fn take_tasks<O: OfferList>(&mut self, offers: &O, key: &Resource, tasks: &[TaskInfo]) -> bool
         ensures enough { IsTrue result → amount (key_of key.now) (asked tasks.now) + rest (key_of key.now) (O.offers offers.now) self.new ≡ rest (key_of key.now) (O.offers offers.now) self.old }
         ensures short { IsFalse result → rest (key_of key.now) (O.offers offers.now) self.old < amount (key_of key.now) (asked tasks.now) }
@@ -99,7 +98,6 @@ impl Supply {
         true
     }
 
-    /// Takes what the tasks of groups ask for under the key; false where less is left.
     fn take_groups<O: OfferList, L: TaskGroup>(
         &mut self,
         offers: &O,
@@ -118,7 +116,8 @@ impl Supply {
     }
 }
 
-/// Whether tasks take more of a key than the offers have, where those before this one have nothing of the key.
+/// Returns whether the tasks take more of the key than the offers have. Earlier tasks have nothing
+/// of it.
 pub(crate) fn exceeds<O: OfferList, L: TaskGroup>(
     offers: &O,
     key: &Resource,

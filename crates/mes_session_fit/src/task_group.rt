@@ -1,4 +1,4 @@
-//! What launches tasks.
+//! Groups of launched tasks.
 ghost use Rattle.std.specs.Prelude.{◌≡◌, List};
 ghost use Rattle.mes_model.specs.TaskInfo.{TaskInfo as TaskValue};
 ghost use Rattle.mes_session_fit.specs.Launched.{launched_by};
@@ -6,12 +6,12 @@ ghost use Rattle.mes_session_fit.specs.Launched.{launched_by};
 use mes_model::TaskInfo;
 use mes_msg::Operation;
 
-/// A group of tasks that are launched together: an operation, or a slice of tasks.
+/// Tasks that are launched together: an operation, or a slice of tasks.
 pub trait TaskGroup {
     /// The tasks.
     ghost tasks: { Self → List TaskValue };
 
-    /// The tasks, borrowed.
+    /// Borrows the tasks.
     fn tasks(&self) -> &[TaskInfo]
         ensures { result.now ≡ tasks self.now };
 }

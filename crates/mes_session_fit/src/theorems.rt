@@ -1,4 +1,5 @@
-//! Laws of the definitions that the contracts cite: functions that do nothing, with the law as their contract.
+//! Theorems about the definitions that the contracts use, stated as the contract of an empty
+//! function.
 ghost use Rattle.std.specs.Prelude.{◌≡◌, ◌↔◌, ℕ, List, true};
 ghost use Rattle.std.specs.List.Sorted.{IsPermutation};
 ghost use Rattle.mes_model.specs.Offer.{Offer};
@@ -6,11 +7,13 @@ ghost use Rattle.mes_model.specs.TaskInfo.{TaskInfo};
 ghost use Rattle.mes_session_fit.specs.Keys.{Key, keys_agree};
 ghost use Rattle.mes_session_fit.specs.Fits.{Fits, BreaksAt, IsFirstBreach};
 
-/// Tasks fit offers exactly where no resource of them breaks the rule, at most one resource is the first that does, and the order of
-/// the offers doesn't count.
+/// Proves when tasks fit their offers, and properties of the first resource that does not fit.
 pub fn fits_laws()
+    // Tasks fit if and only if no resource breaks the rule.
     ensures breach { (offers : List Offer) (tasks : List TaskInfo) → Fits offers tasks ↔ ((i j : ℕ) → BreaksAt offers tasks i j → ⊥) }
+    // At most one resource is the first that breaks the rule.
     ensures one { (offers : List Offer) (tasks : List TaskInfo) (i j k l : ℕ) → IsFirstBreach offers tasks i j → IsFirstBreach offers tasks k l → (i ≡ k) × (j ≡ l) }
+    // The order of the offers does not matter.
     ensures order { (offers others : List Offer) (tasks : List TaskInfo) → IsPermutation offers others → Fits offers tasks → Fits others tasks }
     ensures keys { (j k : Key) → keys_agree j k ≡ true ↔ j ≡ k }
 {}

@@ -1,4 +1,4 @@
-//! Pieces that no offer has.
+//! Search for pieces that no offer has.
 ghost use Rattle.std.specs.Prelude.{◌≡◌, ◌<◌, ◌≤◌, ◌||◌, ℕ, List, true};
 ghost use Rattle.std.specs.List.{list_any};
 ghost use Rattle.mes_session_fit.specs.Keys.{key_of};
@@ -13,7 +13,7 @@ use crate::shared::has_item;
 use mes_json::Text;
 use mes_model::{Range, Resource, ResourceValue};
 
-/// How far the points go on behind one: as far as ranges, or resources of the key, have them.
+/// Returns how far the points after `end` are in the ranges or in the resources of the key.
 fn go_on(ranges: &[Range], resources: &[Resource], key: &Resource, end: u64, wanted: u64) -> u64
     ensures on { end ≤ result }
     ensures all { (x : ℕ) → end < x → x ≤ result → (in_ranges x ranges.now || has_piece (key_of key.now) (point x) resources.now) ≡ true }
@@ -28,8 +28,8 @@ fn go_on(ranges: &[Range], resources: &[Resource], key: &Resource, end: u64, wan
     }
 }
 
-/// How far the offers reach from a point on. The points of the ranges in front, and of the task's own resources in front, are
-/// offered, and are passed over.
+/// Returns how far the offers cover the points from `at` on. The points of earlier ranges and of
+/// the task's earlier resources are known to be offered, so they are skipped.
 fn reach_on<O: OfferList>(
     offers: &O,
     near: &mut usize,
@@ -48,8 +48,8 @@ fn reach_on<O: OfferList>(
     }
 }
 
-/// Whether the offers lack a point of a range. The points of the ranges in front, and of the task's own resources in front, are
-/// offered.
+/// Returns whether the offers lack a point of a range. The points of earlier ranges and of the
+/// task's earlier resources are known to be offered.
 fn is_range_unoffered<O: OfferList>(
     offers: &O,
     near: &mut usize,
@@ -76,7 +76,8 @@ fn is_range_unoffered<O: OfferList>(
     false
 }
 
-/// Whether the offers lack a point of ranges. Those of the task's own resources in front are offered.
+/// Returns whether the offers lack a point of ranges. The task's earlier resources are known to be
+/// offered.
 fn are_ranges_unoffered<O: OfferList>(
     offers: &O,
     near: &mut usize,
@@ -95,7 +96,6 @@ fn are_ranges_unoffered<O: OfferList>(
     false
 }
 
-/// Whether a resource of the key has an item.
 fn resource_has_item(resource: &Resource, key: &Resource, item: &Text) -> bool
     ensures { result ≡ piece_of (key_of key.now) (item_piece item.now) resource.now }
 {
@@ -105,7 +105,6 @@ fn resource_has_item(resource: &Resource, key: &Resource, item: &Text) -> bool
     }
 }
 
-/// Whether resources of the key have an item.
 fn resources_have_item(resources: &[Resource], key: &Resource, item: &Text) -> bool
     ensures { result ≡ has_piece (key_of key.now) (item_piece item.now) resources.now }
 {
@@ -114,7 +113,6 @@ fn resources_have_item(resources: &[Resource], key: &Resource, item: &Text) -> b
         .any(|resource| resource_has_item(resource, key, item))
 }
 
-/// Whether offers have an item under the key.
 fn offers_have_item<O: OfferList>(offers: &O, key: &Resource, item: &Text) -> bool
     ensures { result ≡ has_piece (key_of key.now) (item_piece item.now) (offered (O.offers offers.now)) }
 {
@@ -126,7 +124,7 @@ fn offers_have_item<O: OfferList>(offers: &O, key: &Resource, item: &Text) -> bo
     false
 }
 
-/// Whether the offers lack one of the items.
+/// Returns whether the offers lack one of the items.
 fn are_items_unoffered<O: OfferList>(offers: &O, key: &Resource, items: &[Text]) -> bool
     ensures { Lacks (λ n. in_items n items.now) (λ n. has_piece (key_of key.now) (item_piece n) (offered (O.offers offers.now))) result }
 {
@@ -138,7 +136,8 @@ fn are_items_unoffered<O: OfferList>(offers: &O, key: &Resource, items: &[Text])
     false
 }
 
-/// Whether the offers lack a piece of a resource. Those of the task's own resources in front are offered.
+/// Returns whether the offers lack a piece of a resource. The task's earlier resources are known to
+/// be offered.
 pub(crate) fn is_unoffered<O: OfferList>(
     offers: &O,
     near: &mut usize,

@@ -5,6 +5,6 @@ use Rattle.mes_session_fit.specs.Fits.{asked}
 use Rattle.mes_session_fit.specs.Launched.{launched}
 use Rattle.mes_session_fit.proofs.other_tasks.groups_have_key.Given as goal
 
--- none of the groups so far has it
+-- no group so far has the key
 abbrev pub invariant-loop-group : goal.invariant-loop-group
 invariant-loop-group g l = list_any (is_of (key_of l.key)) (asked (launched g.L.TaskGroup.tasks (take l.group-index l.launches))) ≡ false

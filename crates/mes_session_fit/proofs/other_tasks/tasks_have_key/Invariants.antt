@@ -4,6 +4,6 @@ use Rattle.mes_session_fit.specs.Keys.{key_of, is_of}
 use Rattle.mes_session_fit.specs.Fits.{asked}
 use Rattle.mes_session_fit.proofs.other_tasks.tasks_have_key.Given as goal
 
--- none of the tasks so far has it
+-- no task so far has the key
 abbrev pub invariant-loop-task : goal.invariant-loop-task
 invariant-loop-task l = list_any (is_of (key_of l.key)) (asked (take l.task-index l.tasks)) ≡ false

@@ -4,7 +4,7 @@ use Rattle.mes_session_fit.specs.Fits.{amount}
 use Rattle.mes_session_fit.specs.Pouring.{rest}
 use Rattle.mes_session_fit.proofs.supply.Supply.take_resources.Given as goal
 
--- what the resources so far took, and what is left
+-- the amount that the resources so far took, and the rest
 abbrev pub invariant-loop-resource : goal.invariant-loop-resource
 invariant-loop-resource g l =
     let offers = g.O.OfferList.offers l.offers in
