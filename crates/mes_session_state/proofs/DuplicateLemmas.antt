@@ -1,4 +1,4 @@
--- Whether an identifier stands twice, one after another.
+-- Duplicate identifiers, one identifier at a time.
 use Rattle.std.proofs.Common.{◌≡◌, ℕ, ◌+◌, ◌<◌, Bool, true, false, ◌||◌, List, [], ◌∷◌, ◌++◌, length, take, drop, get_or, refl, sym, ◌∙◌, ap, append_assoc, append-nil, take-append-drop}
 use Rattle.std.specs.List.{list_any}
 use Rattle.std.specs.Str.{bytes_eq}
@@ -28,7 +28,6 @@ or-none-right : (b : Bool) → (b || false) ≡ b
 or-none-right true = refl
 or-none-right false = refl
 
--- one more that is new
 pub one-new : (zs : List Id) (x : Id) → is_duplicated zs ≡ false → is_among x zs ≡ false → is_duplicated (zs ++ x ∷ []) ≡ false
 one-new [] x h n = refl
 one-new (z ∷ zs) x h n =
@@ -38,7 +37,6 @@ one-new (z ∷ zs) x h n =
     (list_any-append (λ (y : Id). bytes_eq z.value y.value) zs (x ∷ []) ∙ or-none (is_among z zs) (bytes_eq z.value x.value || false) once.0 (or-none-right _ ∙ same-other z x ∙ other.0))
     (one-new zs x once.1 other.1)
 
--- what stands twice in front does so in the whole
 pub twice-front : (xs ys : List Id) → is_duplicated xs ≡ true → is_duplicated (xs ++ ys) ≡ true
 twice-front [] ys h = absurd (cc)
 twice-front (x ∷ xs) ys h = by (is_among x xs) refl h (twice-front xs ys)
@@ -47,7 +45,6 @@ twice-front (x ∷ xs) ys h = by (is_among x xs) refl h (twice-front xs ys)
     by true t h rest = or-first (is_among x (xs ++ ys)) (is_duplicated (xs ++ ys)) (list_any-append (λ (y : Id). bytes_eq x.value y.value) xs ys ∙ or-first (is_among x xs) (is_among x ys) t)
     by false t h rest = or-true (is_among x (xs ++ ys)) (is_duplicated (xs ++ ys)) (rest h)
 
--- one that was there
 pub one-again : (zs : List Id) (x : Id) → is_among x zs ≡ true → is_duplicated (zs ++ x ∷ []) ≡ true
 one-again [] x n = absurd (cc)
 one-again (z ∷ zs) x n = by (bytes_eq x.value z.value) refl n (one-again zs x)
@@ -101,7 +98,6 @@ module _ (before tasks : List TaskInfo) (i : ℕ) (t : TaskInfo) (within : i < l
       ∙ twice-front (ids_of (before ++ take (i + 1) tasks)) (ids_of (drop (i + 1) tasks)) (ap is_duplicated fore ∙ one-again (ids_of (before ++ take i tasks)) t.task_id (both ∙ n))
 
 module _ {G : Type 0} (of : G → List TaskInfo) (os : List G) (at : ℕ) (o : G) (within : at < length os) (is : o ≡ get_or os at o) (tasks : List TaskInfo) (part : tasks ≡ of o) where
-  -- the groups up to one, as the groups before it and its own tasks
   pub up-to : launched of (take (at + 1) os) ≡ launched of (take at os) ++ tasks
   up-to =
       ap (launched of) (take_more os at o within ∙ ap (λ (q : G). take at os ++ q ∷ []) (sym is))

@@ -1,26 +1,22 @@
--- The first of the ways in which something is faulty.
+-- The first of the faults.
 use Rattle.std.proofs.Common.{◌≡◌, ◌⊎◌, inl, inr, ℕ, ◌<◌, arith}
 use Rattle.mes_session_state.specs.declared.refusal.Refusal.{Refusal}
 use Rattle.mes_session_state.specs.declared.refusal.Refusal.TheVariants.{NotSubscribed, NamedTwice, NoSuchOffer, TwoAgents, WrongAgent, Exceeds, NotOwed, NoMemory}
 use Rattle.mes_session_state.specs.Refusals.{rank, IsLess, ComesBefore, IsFirst}
 
--- what is of a higher number comes later
 later : (p q : ℕ × ℕ × ℕ) → q.0 < p.0 → IsLess p q → ⊥
 later p q h (inl l) = omega (arith, h, l)
 later p q h (inr l) = let e : p.0 ≡ q.0 = l.0 in omega (arith, h, e)
 
--- of one number the rest decides
 same : (p q : ℕ × ℕ × ℕ) → p.0 ≡ q.0 → IsLess p q → (p.1 < q.1) ⊎ ((p.1 ≡ q.1) × (p.2 < q.2))
 same p q h (inl l) = absurd (omega (arith, h, l))
 same p q h (inr l) = l.1
 
--- nothing comes before itself
 itself : (p : ℕ × ℕ × ℕ) → IsLess p p → ⊥
 itself p (inl l) = omega (arith, l)
 itself p (inr (e, inl l)) = omega (arith, l)
 itself p (inr (e, inr l)) = let h : p.2 < p.2 = l.1 in omega (arith, h)
 
--- the rest, where it is one number alone
 lower : (i k n : ℕ) → (k < i) ⊎ ((k ≡ i) × (n < n)) → k < i
 lower i k n (inl l) = l
 lower i k n (inr l) = let h : n < n = l.1 in absurd (omega (arith, h))

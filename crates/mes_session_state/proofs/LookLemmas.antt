@@ -1,4 +1,4 @@
--- A search through a list, one after another.
+-- A linear search through a list.
 use Rattle.std.proofs.Common.{◌≡◌, ℕ, zero, suc, ◌+◌, ◌<◌, Bool, true, false, ◌||◌, Some, List, [], ◌∷◌, length, take, get_or, slice_get, refl, sym, ◌∙◌, ap, subst, add-one, true≢false, arith}
 use Rattle.std.specs.List.{list_any}
 use Rattle.mes_session_fit.proofs.ListLemmas.{any-at, get-at, get-of}
@@ -23,7 +23,6 @@ module _ {X : Type 0} where
       let parts = none-both (p y) (list_any p (take i ys)) h in
       or-none (p y) (list_any p (take (suc i) ys)) parts.0 (more-suc p ys i x e parts.1 f)
 
-  -- one more does not pass
   pub any-more : (p : X → Bool) (xs : List X) (i : ℕ) (x : X) → slice_get xs i ≡ Some x → list_any p (take i xs) ≡ false → p x ≡ false → list_any p (take (i + 1) xs) ≡ false
   any-more p xs i x e h f = rw add-one (more-suc p xs i x e h f)
 
@@ -38,18 +37,15 @@ module _ {X : Type 0} where
   get-within (y ∷ ys) zero x e = omega arith
   get-within (y ∷ ys) (suc i) x e = let h : i < length ys = get-within ys i x e in omega arith
 
-  -- none before the first passes
   pub none-before : (p : X → Bool) (xs : List X) (i : ℕ) → list_any p (take i xs) ≡ false → (k : ℕ) (x : X) → k < i → slice_get xs k ≡ Some x → p x ≡ true → ⊥
   none-before p xs i h k x below e t = true≢false (sym (any-at p (take i xs) k x (get-front xs i k x below e) t) ∙ h)
 
-  -- none passes
   pub none-at : (p : X → Bool) (xs : List X) → list_any p xs ≡ false → (k : ℕ) (x : X) → slice_get xs k ≡ Some x → p x ≡ true → ⊥
   none-at p xs h k x e t = true≢false (sym (any-at p xs k x e t) ∙ h)
 
   pub first-at : (p : X → Bool) (xs : List X) (i : ℕ) (x : X) → i < length xs → x ≡ get_or xs i x → p x ≡ true → list_any p (take i xs) ≡ false → IsFirstAt p xs i
   first-at p xs i x within is t h = (x, get-at xs i x within is, t, h)
 
--- the first of a group, where none of the groups before it passes, is the first of all
 module _ (p : TaskInfo → Bool) {G : Type 0} (of : G → List TaskInfo) (os : List G) (at : ℕ) (o : G) (within : at < length os) (is : o ≡ get_or os at o) where
   pub first-in : (tasks : List TaskInfo) → tasks ≡ of o → list_any p (launched of (take at os)) ≡ false → (j : ℕ) → IsFirstAt p tasks j → IsFirstAt p (launched of os) (place of os at j)
   first-in tasks part none j h =

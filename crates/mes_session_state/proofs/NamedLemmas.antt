@@ -1,4 +1,4 @@
--- The offers of identifiers that are all in hand.
+-- The offers of identifiers that are all outstanding.
 use Rattle.std.proofs.Common.{◌≡◌, ℕ, zero, suc, ◌+◌, Bool, true, false, not, Option, Some, None, is_some, is_none, option_copied, Bor, List, [], ◌∷◌, length, slice_get, refl, sym, ◌∙◌, ap, true≢false, arith}
 use Rattle.mes_model.specs.Id.{Id}
 use Rattle.mes_model.specs.Offer.{Offer}

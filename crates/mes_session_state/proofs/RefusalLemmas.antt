@@ -1,4 +1,4 @@
--- What is answered of a call, from what the searches found.
+-- The refusal of a call, from the results of the searches.
 use Rattle.std.proofs.Common.{◌≡◌, ◌⊎◌, inl, inr, ℕ, Bool, true, false, Option, Some, None, List, [], ◌∷◌, ◌++◌, not, refl, sym, ◌∙◌, ap, subst, is_none, unwrap_or, true≢false}
 use Rattle.std.specs.List.{list_any}
 use Rattle.mes_model.specs.Id.{Id}
@@ -30,7 +30,7 @@ use Rattle.mes_session_state.proofs.FirstLemmas.{first-1, first-2, first-3, firs
 missing-is : {X : Type 0} (r : Option X) → r ≡ None → is_none r ≡ true
 missing-is r e = ap is_none e
 
--- what is not foreign is faulty only by what it asks for
+-- a call that is not S1 can only have a fault in what it asks for
 module _ (held : Held) (call : Call) (known : IsForeign held call → ⊥) where
   down : (fault : Refusal) → IsFaulty held call fault → IsFaultyIn held (asked_by call) fault
   down NotSubscribed f = absurd (known f)
@@ -59,7 +59,7 @@ module _ (held : Held) (call : Call) (known : IsForeign held call → ⊥) where
 pub foreign : (held : Held) (call : Call) → IsForeign held call → Answers held call (Some NotSubscribed)
 foreign held call f = (NotSubscribed, refl, first-1 (IsFaulty held call) f)
 
--- ---- what is asked for
+-- ---- what a call asks for
 
 module _ (held : Held) (asked : Asked) where
   abbrev Faulty : Refusal → Type 0
@@ -120,7 +120,7 @@ module _ (held : Held) (asked : Asked) where
             pub told-none : ((k : OwedKey) → asked.acknowledged ≡ Some k → is_owed k held.owed ≡ false → ⊥) → ReportsFirst (IsFaultyIn held asked) None
             told-none owes = none-of Faulty s1 s2 s3 s4 s5 s6 (λ f. owes f.0 f.1 f.2) (λ f. f)
 
--- ---- where no tasks are launched
+-- ---- no tasks are launched
 
 no-resource : (offers : List Offer) (i j : ℕ) → BreaksAt offers [] i j → ⊥
 no-resource offers i j b = absurd (not-none b.task (sym b.task_at))
@@ -165,7 +165,6 @@ told-acknowledge held call known {b = b} is h =
     reported held call known (Some NotOwed) (record { named = []; accepted = []; tasks = []; acknowledged = Some (record { agent = b.agent_id; task = b.task_id; uuid = b.uuid }) }) (ap asked_by (sym is))
     (unowed-one held (record { agent = b.agent_id; task = b.task_id; uuid = b.uuid }) h)
 
--- one group of tasks is what the operations of a call launch that is made of them
 pub one-group : (ts : List TaskInfo) → ts ++ [] ≡ launched launched_by (operations_of ts)
 one-group [] = refl
 one-group (t ∷ ts) = refl

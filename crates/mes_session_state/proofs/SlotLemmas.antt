@@ -1,4 +1,4 @@
--- What is done to the entries of a hand, as what it does to its offers.
+-- A change to the entries is a change to the list of offers.
 use Rattle.std.proofs.Common.{◌≡◌, ℕ, Bool, true, false, cond, not, ◌||◌, List, [], ◌∷◌, ◌++◌, map, filter, Option, Some, None, String, string_bytes, is_some, unwrap_or, option_copied, Bor, refl, sym, ◌∙◌, ap, ap₂, true≢false}
 use Rattle.std.specs.List.{IsDistinct, AllByRecursion}
 use Rattle.std.specs.Str.{bytes_eq}
@@ -41,7 +41,7 @@ module _ {A : Type 0} where
   abbrev pub same_text : String A → String A → Bool
   same_text a b = bytes_eq (string_bytes a) (string_bytes b)
 
-  -- ---- looking up
+  -- ---- look-up
 
   pub looked_up : (name : List ℕ) (es : List (String A × Slot)) → AreSettled es → offer_in (offers_in es) name ≡ option_map (λ (s : Slot). s.offer) (lookup (λ k. bytes_eq name (string_bytes k)) es)
   looked_up name [] h = refl
@@ -57,7 +57,7 @@ module _ {A : Type 0} where
       ∙ sym (looked_up name es h)
       ∙ ap (λ os. offer_in os name) is
 
-  -- ---- putting in
+  -- ---- insertion
 
   offers-cond : (b : Bool) (xs ys : List (String A × Slot)) → offers_in (cond b xs ys) ≡ cond b (offers_in xs) (offers_in ys)
   offers-cond true xs ys = refl
@@ -80,7 +80,7 @@ module _ {A : Type 0} where
         by true t rest = (sym ((bytes_decides (string_bytes k) (string_bytes e.0)).0 t) ∙ own, unmarked, h.2)
         by false t rest = (h.0, h.1, rest)
 
-  -- ---- copies, one after the other
+  -- ---- copies
 
   pub settled-append : (xs : List (String A × Slot)) (x : String A × Slot) → AreSettled xs → AreSettled (x ∷ []) → AreSettled (xs ++ x ∷ [])
   settled-append [] x h own = own
@@ -92,7 +92,6 @@ module _ {A : Type 0} where
 
   -- ---- marking
 
-  -- no entry has the name
   abbrev pub IsAbsent : List ℕ → List (String A × Slot) → Type 0
   IsAbsent name [] = Unit {0}
   IsAbsent name (e ∷ es) = (bytes_eq name (string_bytes e.0) ≡ false) × IsAbsent name es
@@ -133,7 +132,7 @@ module _ {A : Type 0} where
           (sym (marked-absent name es (absent name e.0 es (sym ((bytes_decides name (string_bytes e.0)).0 t)) d.0)))
       by false t h rest = ap₂ (λ f fs. f ∷ fs) (sym (marked-other name e t)) (rest h)
 
-  -- ---- one taken out
+  -- ---- removal of one
 
   without-absent : (name : List ℕ) (es : List (String A × Slot)) → AreSettled es → IsAbsent name es → offers_in es ≡ without_offer name (offers_in es)
   without-absent name [] h other = refl
@@ -167,7 +166,7 @@ module _ {A : Type 0} where
       by true rest = h.2
       by false rest = (h.0, h.1, rest)
 
-  -- ---- what is marked taken out
+  -- ---- removal of the marked entries
 
   named : (es : List (String A × Slot)) → AreSettled es → AreNamed es
   named [] h = tt

@@ -1,4 +1,4 @@
--- What counts of a call where it may be refused.
+-- The parts of a call that decide whether it is refused.
 use Rattle.std.specs.Prelude.{List, [], ◌∷◌, Option, Some, None}
 use Rattle.mes_model.specs.Id.{Id}
 use Rattle.mes_model.specs.declared.filters.Filters.{Filters}
@@ -10,7 +10,7 @@ use Rattle.mes_msg.specs.Operation.{Operation}
 use Rattle.mes_msg.specs.Operation.TheVariants.{Launch}
 use Rattle.mes_session_fit.specs.Launched.{launched, launched_by}
 
--- the framework that it names; a SUBSCRIBE may name none
+-- the framework that the call names; a SUBSCRIBE may name none
 abbrev pub framework_of : Call → Option Id
 framework_of (of.Subscribe framework body) = framework
 framework_of (of.Accept framework body) = Some framework
@@ -29,7 +29,7 @@ abbrev pub accepted_by : Call → List Id
 accepted_by (of.Accept framework body) = body.offer_ids
 accepted_by _ = []
 
--- the offers that it takes out of the hand: those that an ACCEPT accepts or a DECLINE declines
+-- the offers that the call removes: those of an ACCEPT or a DECLINE
 abbrev pub named_by : Call → List Id
 named_by (of.Accept framework body) = body.offer_ids
 named_by (of.Decline framework body) = body.offer_ids
@@ -45,9 +45,9 @@ abbrev pub acknowledged_by : Call → Option OwedKey
 acknowledged_by (of.Acknowledge framework body) = Some (record { agent = body.agent_id; task = body.task_id; uuid = body.uuid })
 acknowledged_by _ = None
 
--- ---- calls by what is to be told in them
+-- ---- calls by their arguments
 
--- no tasks make no operation
+-- no operation if there are no tasks
 abbrev pub operations_of : List TaskInfo → List Operation
 operations_of [] = []
 operations_of (t ∷ ts) = Launch (t ∷ ts) ∷ []

@@ -1,4 +1,4 @@
--- What a framework's session holds.
+-- The state of a framework's session.
 use Rattle.std.specs.Prelude.{Bool, ◌&&◌, not, fold, filter, find, List, Option}
 use Rattle.std.specs.List.{list_any}
 use Rattle.std.specs.Str.{bytes_eq}
@@ -8,39 +8,39 @@ use Rattle.mes_model.specs.Offer.{Offer}
 use Rattle.mes_model.specs.OwedKey.{OwedKey}
 use Rattle.mes_session_state.specs.Keeping.{put}
 
--- the framework of the last SUBSCRIBED; whether one was heard since the stream broke; the offers in hand; the updates that are owed
+-- the framework, whether it is connected, the outstanding offers, the unacknowledged updates
 pub record Held : Type 0 where
   pub framework : Option Id
   pub connected : Bool
   pub hand : List Offer
   pub owed : List OwedKey
 
--- ---- the hand
+-- ---- outstanding offers
 
--- the name by which an offer is known
+-- the identifier of an offer
 abbrev pub name_of : Offer → List ℕ
 name_of o = o.id.value
 
--- the offer of that name
+-- the offer with this identifier
 abbrev pub offer_in : List Offer → List ℕ → Option Offer
 offer_in hand name = find (λ o. bytes_eq name (name_of o)) hand
 
--- offers come in, in order: one that is in hand keeps its place and takes the new value
+-- adds offers in order; an offer with a known identifier replaces the old one in its place
 abbrev pub with_offers : List Offer → List Offer → List Offer
 with_offers hand offers = fold (put bytes_eq name_of) hand offers
 
--- the offer of that name goes
+-- removes the offer with this identifier
 abbrev pub without_offer : List ℕ → List Offer → List Offer
 without_offer name hand = filter (λ o. not (bytes_eq name (name_of o))) hand
 
--- all that are named go
+-- whether one of the identifiers is the offer's
 abbrev pub names : List Id → Offer → Bool
 names ids o = list_any (λ (d : Id). bytes_eq d.value (name_of o)) ids
 
 abbrev pub without_offers : List Id → List Offer → List Offer
 without_offers ids hand = filter (λ o. not (names ids o)) hand
 
--- ---- the updates that are owed
+-- ---- unacknowledged updates
 
 abbrev pub same_key : OwedKey → OwedKey → Bool
 same_key k l = bytes_eq k.agent.value l.agent.value && (bytes_eq k.task.value l.task.value && bytes_eq k.uuid l.uuid)
@@ -48,10 +48,10 @@ same_key k l = bytes_eq k.agent.value l.agent.value && (bytes_eq k.task.value l.
 abbrev pub is_owed : OwedKey → List OwedKey → Bool
 is_owed k owed = list_any (same_key k) owed
 
--- an update is owed: one that is already keeps its place
+-- adds a key; a key that is present stays in its place
 abbrev pub with_key : List OwedKey → OwedKey → List OwedKey
 with_key owed k = put same_key (λ (l : OwedKey). l) owed k
 
--- it is owed no more
+-- removes a key
 abbrev pub without_key : OwedKey → List OwedKey → List OwedKey
 without_key k owed = filter (λ l. not (same_key k l)) owed

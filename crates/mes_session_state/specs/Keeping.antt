@@ -1,4 +1,4 @@
--- An ordered list in which each key stands once: an item takes the place of the one of its key, or comes last.
+-- A list with unique keys: an item replaces the one of its key, or is appended.
 use Rattle.std.specs.Prelude.{Bool, if◌then◌else◌, List, [], ◌∷◌}
 
 module _ {K X : Type 0} (same : K → K → Bool) (key : X → K) where

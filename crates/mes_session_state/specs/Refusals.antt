@@ -1,4 +1,4 @@
--- Which calls a session refuses, and for which reason first.
+-- Which calls a session refuses, and the first reason.
 use Rattle.std.specs.Prelude.{◌≡◌, ◌≢◌, ◌⊎◌, ℕ, ◌<◌, Bool, true, false, not, ◌||◌, List, [], ◌∷◌, map, filter_map, slice_get, Option, Some, None, IfSome}
 use Rattle.std.specs.List.{list_any}
 use Rattle.std.specs.Str.{bytes_eq}
@@ -17,11 +17,11 @@ use Rattle.mes_session_state.specs.Calls.{named_by, accepted_by, tasks_of, ackno
 
 -- ---- S1
 
--- a call from this framework: no SUBSCRIBED was heard since the stream broke, or the framework is another
+-- a call of this framework: the stream is disconnected, or another framework is known
 abbrev pub IsOtherFramework : Held → Id → Type 0
 IsOtherFramework held framework = (held.connected ≡ false) ⊎ (held.framework ≢ Some framework)
 
--- a SUBSCRIBE needs no stream: a framework is known, and it names another
+-- a SUBSCRIBE: a framework is known, and the call names another
 abbrev pub IsOtherSubscription : Held → Option Id → Type 0
 IsOtherSubscription held framework = (known named : Id) × (held.framework ≡ Some known) × (framework ≡ Some named) × (named ≢ known)
 
@@ -40,11 +40,11 @@ IsForeign held (of.Message framework body) = IsOtherFramework held framework
 
 -- ---- S2
 
--- whether the identifier is one of these
+-- whether the identifier is in the list
 abbrev pub is_among : Id → List Id → Bool
 is_among x xs = list_any (λ (y : Id). bytes_eq x.value y.value) xs
 
--- whether one of them stands among those behind it
+-- whether an identifier occurs again later in the list
 abbrev pub is_duplicated : List Id → Bool
 is_duplicated [] = false
 is_duplicated (x ∷ xs) = is_among x xs || is_duplicated xs
@@ -54,11 +54,11 @@ ids_of tasks = map (λ (t : TaskInfo). t.task_id) tasks
 
 -- ---- S4 and S5
 
--- the offers of these names that are in hand, in order
+-- the outstanding offers of these identifiers, in order
 abbrev pub offers_named : List Offer → List Id → List Offer
 offers_named hand ids = filter_map (λ (d : Id). offer_in hand d.value) ids
 
--- the agent of offers that are all of one: that of the first
+-- the agent of the first offer
 abbrev pub agent_of : List Offer → Option Id
 agent_of [] = None
 agent_of (o ∷ os) = Some o.agent_id
@@ -68,7 +68,7 @@ abbrev pub is_agent : Option Id → Id → Bool
 is_agent None id = false
 is_agent (Some agent) id = bytes_eq agent.value id.value
 
--- whether one is of another agent than the first
+-- whether an offer is on another agent than the first
 abbrev pub has_two_agents : List Offer → Bool
 has_two_agents offers = list_any (λ (o : Offer). not (is_agent (agent_of offers) o.agent_id)) offers
 
@@ -88,7 +88,7 @@ pub record Asked : Type 0 where
 abbrev pub asked_by : Call → Asked
 asked_by call = record { named = named_by call; accepted = accepted_by call; tasks = tasks_of call; acknowledged = acknowledged_by call }
 
--- What a refusal says is so of what is asked for, whatever else is. Want of memory is no fault of a call.
+-- the reason applies to what is asked for; out of memory is no fault of a call
 abbrev pub IsFaultyIn : Held → Asked → Refusal → Type 0
 IsFaultyIn held asked NotSubscribed = ⊥
 IsFaultyIn held asked NamedTwice = (is_duplicated asked.named ≡ true) ⊎ (is_duplicated (ids_of asked.tasks) ≡ true)
@@ -99,7 +99,7 @@ IsFaultyIn held asked (Exceeds task resource) = BreaksAt (offers_named held.hand
 IsFaultyIn held asked NotOwed = (k : OwedKey) × (asked.acknowledged ≡ Some k) × (is_owed k held.owed ≡ false)
 IsFaultyIn held asked NoMemory = ⊥
 
--- the same of a call, which may be foreign too
+-- the reason applies to the call, S1 included
 abbrev pub IsFaulty : Held → Call → Refusal → Type 0
 IsFaulty held call NotSubscribed = IsForeign held call
 IsFaulty held call NamedTwice = IsFaultyIn held (asked_by call) NamedTwice
@@ -128,16 +128,16 @@ IsLess p q = (p.0 < q.0) ⊎ ((p.0 ≡ q.0) × ((p.1 < q.1) ⊎ ((p.1 ≡ q.1) �
 abbrev pub ComesBefore : Refusal → Refusal → Type 0
 ComesBefore fault other = IsLess (rank fault) (rank other)
 
--- of the ways in which something is faulty, the first
+-- the first reason that applies
 pub record IsFirst (faulty : Refusal → Type 0) (fault : Refusal) : Type 0 where
   pub is : faulty fault
   pub first : (other : Refusal) → ComesBefore other fault → faulty other → ⊥
 
--- a call is refused for its first fault
+-- a call is refused for the first reason
 abbrev pub IsRefused : Held → Call → Refusal → Type 0
 IsRefused held call fault = IsFirst (IsFaulty held call) fault
 
--- ---- as it is answered: a task is told by an index
+-- ---- the reported refusal, with the task as an index
 
 abbrev pub as_reported : Refusal → Refusal
 as_reported NotSubscribed = NotSubscribed
@@ -149,22 +149,22 @@ as_reported (Exceeds task resource) = Exceeds (as_index task) resource
 as_reported NotOwed = NotOwed
 as_reported NoMemory = NoMemory
 
--- what is answered: the first fault, or none where there is none
+-- the first reason, or none if no reason applies
 abbrev pub ReportsFirst : (Refusal → Type 0) → Option Refusal → Type 0
 ReportsFirst faulty None = (fault : Refusal) → faulty fault → ⊥
 ReportsFirst faulty (Some answer) = (fault : Refusal) × (answer ≡ as_reported fault) × IsFirst faulty fault
 
--- what is answered of a call
+-- the refusal that is returned for a call
 abbrev pub Answers : Held → Call → Option Refusal → Type 0
 Answers held call answer = ReportsFirst (IsFaulty held call) answer
 
 -- ---- calls that are not made yet
 
--- the framework that a session's own calls name: the one that is known, or any where none is
+-- the framework of a session's own calls: the known one, or any if none is known
 abbrev pub IsOwn : Held → Id → Type 0
 IsOwn held framework = IfSome held.framework (λ known. known ≡ framework)
 
--- a call of which nothing counts but its framework
+-- a call that is refused for its framework only
 abbrev pub IsPlain : Call → Type 0
 IsPlain (of.Subscribe framework body) = ⊥
 IsPlain (of.Accept framework body) = ⊥

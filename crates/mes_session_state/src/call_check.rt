@@ -1,4 +1,4 @@
-//! What a session holds, and which calls it refuses.
+//! The state of a session, and the calls that it refuses. The reasons are in `refusal.rt`.
 ghost use Rattle.std.specs.Prelude.{◌≡◌, ◌↔◌, [], Option as option, option_copied, IsTrue, IsFalse, IfNone, IsSome};
 ghost use Rattle.mes_model.specs.Id.{Id as IdValue};
 ghost use Rattle.mes_model.specs.declared.filters.Filters.{Filters};
@@ -17,7 +17,7 @@ use mes_msg::Call;
 use mes_session_fit::{TaskGroup, first_breach};
 use std::marker::Model;
 
-/// What a session holds, borrowed, for calls to be looked at. A contract sees it as `Held`.
+/// The borrowed state of a session, to check calls against. In contracts its value is `Held`.
 #[derive(Drop)]
 pub struct CallCheck<'a> {
     framework: Option<&'a Id>,
@@ -40,13 +40,14 @@ impl<'a> Model for CallCheck<'a> {
 }
 
 impl<'a> CallCheck<'a> {
-    /// What a session holds.
+    /// Borrows the parts of a session's state.
     pub fn new(
         framework: Option<&'a Id>,
         connected: bool,
         hand: &'a OutstandingOffers,
         owed: &'a PendingAcknowledgements,
     ) -> CallCheck<'a>
+        // The value is the state with these parts.
         ensures { result ≡ record { framework = option_copied framework.entry; connected = connected; hand = hand.now; owed = owed.now } }
     {
         CallCheck {
@@ -57,8 +58,9 @@ impl<'a> CallCheck<'a> {
         }
     }
 
-    /// The first of S1 to S7 that is so of the call, or none. Takes no memory: so for S2 the identifiers that are named are compared
-    /// pairwise, and those of the tasks. The rest looks up each offer that is named in a time that does not grow with the hand.
+    /// Returns the first of S1 to S7 that applies to the call, or `None`. Does not allocate: S2
+    /// compares the identifiers of the offers pairwise, and those of the tasks. Looking up each
+    /// offer takes a time independent of the number of outstanding offers.
     pub fn refusal(&self, call: &Call) -> Option<Refusal>
         ensures { Answers self.now call.now result }
     {
@@ -78,9 +80,10 @@ impl<'a> CallCheck<'a> {
         }
     }
 
-    /// The same of an ACCEPT of these offers that launches these tasks, from the framework that is known: of no tasks it has no
-    /// operation, else one LAUNCH. Takes no memory.
+    /// Like [`CallCheck::refusal`], but for an ACCEPT of these offers by the known framework. It
+    /// has one LAUNCH of `tasks`, or no operation if `tasks` is empty.
     pub fn refusal_of_accept(&self, ids: &[Id], tasks: &[TaskInfo]) -> Option<Refusal>
+        // The first reason against this ACCEPT, whatever its filters.
         ensures answers { (framework : IdValue) (filters : option Filters) → IsOwn self.now framework → Answers self.now (accept_call framework ids.now tasks.now filters) result }
         ensures known { IfNone result (IsSome self.now.framework) }
     {
@@ -90,8 +93,9 @@ impl<'a> CallCheck<'a> {
         self.fault_of_accept(ids, &[tasks])
     }
 
-    /// The same of a DECLINE of these offers. Takes no memory.
+    /// Like [`CallCheck::refusal`], but for a DECLINE of these offers by the known framework.
     pub fn refusal_of_decline(&self, ids: &[Id]) -> Option<Refusal>
+        // The first reason against this DECLINE, whatever its filters.
         ensures answers { (framework : IdValue) (filters : option Filters) → IsOwn self.now framework → Answers self.now (decline_call framework ids.now filters) result }
         ensures known { IfNone result (IsSome self.now.framework) }
     {
@@ -101,8 +105,9 @@ impl<'a> CallCheck<'a> {
         self.fault_of_decline(ids)
     }
 
-    /// The same of an ACKNOWLEDGE of this update. Takes no memory.
+    /// Like [`CallCheck::refusal`], but for the ACKNOWLEDGE of this update by the known framework.
     pub fn refusal_of_acknowledge(&self, key: &OwedKey) -> Option<Refusal>
+        // The first reason against this ACKNOWLEDGE.
         ensures answers { (framework : IdValue) → IsOwn self.now framework → Answers self.now (acknowledge_call framework key.now) result }
         ensures known { IfNone result (IsSome self.now.framework) }
     {
@@ -116,8 +121,10 @@ impl<'a> CallCheck<'a> {
         }
     }
 
-    /// The same of a REVIVE, KILL, RECONCILE, TEARDOWN, SUPPRESS, SHUTDOWN or MESSAGE: S1, or none. Takes no memory.
+    /// Like [`CallCheck::refusal`], but for a REVIVE, KILL, RECONCILE, TEARDOWN, SUPPRESS, SHUTDOWN
+    /// or MESSAGE of the known framework. The only possible reason is S1.
     pub fn refusal_of_plain(&self) -> Option<Refusal>
+        // The first reason against any of these calls.
         ensures answers { (framework : IdValue) (call : CallValue) → IsOwn self.now framework → framework_of call ≡ Some framework → IsPlain call → Answers self.now call result }
         ensures known { IfNone result (IsSome self.now.framework) }
     {
@@ -127,7 +134,7 @@ impl<'a> CallCheck<'a> {
         None
     }
 
-    /// Whether no call can be made: no SUBSCRIBED was heard since the stream broke.
+    /// Returns whether no SUBSCRIBED was received since the stream was disconnected.
     fn is_disconnected(&self) -> bool
         ensures strange { (framework : IdValue) → IsOwn self.now framework → IsTrue result ↔ IsOtherFramework self.now framework }
         ensures known { IsFalse result → IsSome self.now.framework }
@@ -135,7 +142,7 @@ impl<'a> CallCheck<'a> {
         !self.connected || self.framework.is_none()
     }
 
-    /// Whether a call from this framework is S1.
+    /// Returns whether a call from this framework is refused for S1.
     fn is_other_framework(&self, framework: &Id) -> bool
         ensures { IsTrue result ↔ IsOtherFramework self.now framework.now }
     {
@@ -145,7 +152,7 @@ impl<'a> CallCheck<'a> {
         }
     }
 
-    /// Whether a SUBSCRIBE is S1.
+    /// Returns whether a SUBSCRIBE is refused for S1.
     fn is_other_subscription(&self, named: &Option<Id>) -> bool
         ensures { IsTrue result ↔ IsOtherSubscription self.now named.now }
     {
@@ -155,7 +162,6 @@ impl<'a> CallCheck<'a> {
         }
     }
 
-    /// Whether the call is S1.
     fn is_foreign(&self, call: &Call) -> bool
         ensures { IsTrue result ↔ IsForeign self.now call.now }
     {
@@ -174,7 +180,7 @@ impl<'a> CallCheck<'a> {
         }
     }
 
-    /// The first of S2 to S6 that is so of an ACCEPT of these offers that launches these tasks, or none.
+    /// Returns the first of S2 to S6 that applies to an ACCEPT of these offers with these tasks.
     fn fault_of_accept<L: TaskGroup>(&self, ids: &[Id], launches: &[L]) -> Option<Refusal>
         ensures { ReportsFirst (IsFaultyIn self.now (record { named = ids.now; accepted = ids.now; tasks = launched L.tasks launches.now; acknowledged = None })) result }
     {
@@ -198,7 +204,7 @@ impl<'a> CallCheck<'a> {
         })
     }
 
-    /// The first of S2 and S3 that is so of a DECLINE of these offers, or none.
+    /// Returns the first of S2 and S3 that applies to a DECLINE of these offers.
     fn fault_of_decline(&self, ids: &[Id]) -> Option<Refusal>
         ensures { ReportsFirst (IsFaultyIn self.now (record { named = ids.now; accepted = []; tasks = []; acknowledged = None })) result }
     {

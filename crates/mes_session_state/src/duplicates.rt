@@ -1,4 +1,4 @@
-//! Whether an identifier stands twice.
+//! Search for duplicate identifiers.
 ghost use Rattle.std.specs.Prelude.{◌≡◌, ◌++◌, false, bytes_eq};
 ghost use Rattle.std.specs.List.{list_any};
 ghost use Rattle.mes_session_fit.specs.Launched.{launched};
@@ -8,8 +8,8 @@ ghost use Rattle.mes_session_state.specs.Looking.{is_task};
 use mes_model::{Id, TaskInfo};
 use mes_session_fit::TaskGroup;
 
-/// Whether two identifiers are one. Their lengths and their last bytes are compared first: identifiers that were made by counting differ
-/// there, and each of a call is compared with each.
+/// Returns whether two identifiers are equal. Lengths and last bytes are compared first, because
+/// ids made from counters differ there and the search is pairwise.
 fn is_same(id: &Id, other: &Id) -> bool
     ensures { result ≡ bytes_eq id.now.value other.now.value }
 {
@@ -18,14 +18,12 @@ fn is_same(id: &Id, other: &Id) -> bool
     id.len() == other.len() && id.last() == other.last() && id == other
 }
 
-/// Whether the identifier is one of these.
 fn is_among(ids: &[Id], id: &Id) -> bool
     ensures { result ≡ is_among id.now ids.now }
 {
     ids.iter().any(|other| is_same(id, other))
 }
 
-/// Whether one of the identifiers stands twice.
 pub(crate) fn is_duplicated(ids: &[Id]) -> bool
     ensures { result ≡ is_duplicated ids.now }
 {
@@ -37,14 +35,12 @@ pub(crate) fn is_duplicated(ids: &[Id]) -> bool
     false
 }
 
-/// Whether a task has the identifier.
 fn tasks_have(tasks: &[TaskInfo], id: &Id) -> bool
     ensures { result ≡ list_any (is_task id.now) tasks.now }
 {
     tasks.iter().any(|task| is_same(id, &task.task_id))
 }
 
-/// Whether a task of the groups has the identifier.
 fn groups_have<L: TaskGroup>(launches: &[L], id: &Id) -> bool
     ensures { result ≡ list_any (is_task id.now) (launched L.tasks launches.now) }
 {
@@ -56,7 +52,7 @@ fn groups_have<L: TaskGroup>(launches: &[L], id: &Id) -> bool
     false
 }
 
-/// Whether an identifier stands twice in the tasks of the groups before one, in which none does, and its own.
+/// Returns whether adding `tasks` to groups without duplicates makes a duplicate identifier.
 fn is_repeated<L: TaskGroup>(launches: &[L], tasks: &[TaskInfo]) -> bool
     requires { is_duplicated (ids_of (launched L.tasks launches.now)) ≡ false }
     ensures { result ≡ is_duplicated (ids_of (launched L.tasks launches.now ++ tasks.now)) }
@@ -70,7 +66,7 @@ fn is_repeated<L: TaskGroup>(launches: &[L], tasks: &[TaskInfo]) -> bool
     false
 }
 
-/// Whether the identifier of a task stands twice in all groups.
+/// Returns whether two tasks of the groups have one identifier.
 pub(crate) fn task_is_duplicated<L: TaskGroup>(launches: &[L]) -> bool
     ensures { result ≡ is_duplicated (ids_of (launched L.tasks launches.now)) }
 {

@@ -1,5 +1,14 @@
 #![tactic(auto)]
-//! What a framework's session holds, its offers in hand and the updates that it owes an answer, and which calls it refuses.
+//! The state of a framework's session, and the calls that it refuses.
+//!
+//! - `outstanding_offers`, `pending_acknowledgements`: the two collections of the state.
+//! - `call_check`: checks a call against the state; `refusal` has the reasons.
+//! - `named_offers`, `duplicates`, `slot`: searches, and the entries of the offers.
+//!
+//!     let reason = CallCheck::new(framework, connected, &hand, &owed).refusal(&call);
+//!
+//! The crate `mes_session_fit` decides S6. Programs use `mes_session`; the tests are in
+//! `mes_session_tests`.
 
 mod call_check;
 mod duplicates;

@@ -1,4 +1,4 @@
-//! The offers that a call names, looked up in the hand.
+//! The offers that a call names, looked up among the outstanding offers.
 ghost use Rattle.std.specs.Prelude.{◌≡◌, ℕ, ◌<◌, false, Some, length, slice_get, IfSome, IfNone};
 ghost use Rattle.std.specs.List.{list_any};
 ghost use Rattle.mes_session_fit.specs.Launched.{launched, as_index};
@@ -10,14 +10,13 @@ use mes_model::{Id, Offer, TaskInfo};
 use mes_session_fit::{OfferList, TaskGroup};
 use std::marker::Model;
 
-/// Whether no offer in hand has the identifier.
 fn is_missing(hand: &OutstandingOffers, id: &Id) -> bool
     ensures { result ≡ is_missing hand.now id.now }
 {
     hand.get(id.value.as_str()).is_none()
 }
 
-/// The first of the identifiers that no offer in hand has.
+/// Returns the index of the first identifier that no outstanding offer has.
 pub(crate) fn missing(hand: &OutstandingOffers, ids: &[Id]) -> Option<usize>
     ensures some { IfSome result (IsFirstAt (is_missing hand.now) ids.now) }
     ensures none { IfNone result (AreOutstanding hand.now ids.now) }
@@ -30,7 +29,7 @@ pub(crate) fn missing(hand: &OutstandingOffers, ids: &[Id]) -> Option<usize>
     None
 }
 
-/// The offer of one of the identifiers, all of which are in hand.
+/// Returns the offer of one of the identifiers. All of them must be outstanding.
 fn offer_at<'a>(hand: &'a OutstandingOffers, ids: &[Id], index: usize) -> &'a Offer
     requires within { index < length ids.now }
     requires there { AreOutstanding hand.now ids.now }
@@ -39,7 +38,8 @@ fn offer_at<'a>(hand: &'a OutstandingOffers, ids: &[Id], index: usize) -> &'a Of
     hand.get(ids[index].value.as_str()).unwrap()
 }
 
-/// The offers in hand of these identifiers, all of which are there. A contract sees the list of them.
+/// The outstanding offers with these identifiers, all present. In contracts its value is their
+/// list.
 #[derive(Drop)]
 pub(crate) struct NamedOffers<'a> {
     hand: &'a OutstandingOffers,
@@ -64,7 +64,6 @@ impl<'a> Model for NamedOffers<'a> {
 }
 
 impl<'a> NamedOffers<'a> {
-    /// The offers of these identifiers.
     pub(crate) fn new(hand: &'a OutstandingOffers, ids: &'a [Id]) -> NamedOffers<'a>
         requires { AreOutstanding hand.now ids.now }
         ensures { result ≡ offers_named hand.now ids.now }
@@ -85,7 +84,7 @@ impl<'a> OfferList for NamedOffers<'a> {
     }
 }
 
-/// Whether there are offers, and the first is of this agent.
+/// Returns whether there are offers and the first is on this agent.
 fn are_on(offers: &NamedOffers<'_>, agent: &Id) -> bool
     ensures { result ≡ is_agent (agent_of offers.now) agent.now }
 {
@@ -95,7 +94,7 @@ fn are_on(offers: &NamedOffers<'_>, agent: &Id) -> bool
     &offers.at(0).agent_id == agent
 }
 
-/// Whether one of the offers is of another agent than the first.
+/// Returns whether one of the offers is on another agent than the first.
 pub(crate) fn two_agents(offers: &NamedOffers<'_>) -> bool
     ensures { result ≡ has_two_agents offers.now }
 {
@@ -107,7 +106,7 @@ pub(crate) fn two_agents(offers: &NamedOffers<'_>) -> bool
     false
 }
 
-/// The first of the tasks that is not on the agent of the offers.
+/// Returns the index of the first task that is not on the agent of the offers.
 fn task_on_other_agent(offers: &NamedOffers<'_>, tasks: &[TaskInfo]) -> Option<usize>
     ensures some { IfSome result (IsFirstAt (is_elsewhere offers.now) tasks.now) }
     ensures none { IfNone result (list_any (is_elsewhere offers.now) tasks.now ≡ false) }
@@ -120,7 +119,7 @@ fn task_on_other_agent(offers: &NamedOffers<'_>, tasks: &[TaskInfo]) -> Option<u
     None
 }
 
-/// The first of the tasks of the groups that is not on the agent of the offers.
+/// Returns the index of the first task of the groups that is not on the agent of the offers.
 pub(crate) fn on_other_agent<L: TaskGroup>(
     offers: &NamedOffers<'_>,
     launches: &[L],

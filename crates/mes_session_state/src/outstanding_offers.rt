@@ -1,4 +1,4 @@
-//! The offers in hand.
+//! The outstanding offers. Their entries are in `slot.rt`.
 ghost use Rattle.std.specs.Prelude.{◌≡◌, ◌<◌, ◌↔◌, [], length, slice_get, option_copied, IsTrue, OnOk, OnErr};
 ghost use Rattle.mes_session_state.specs.Held.{offer_in, with_offers, without_offer, without_offers};
 ghost use Rattle.mes_session_state.specs.Slots.{offers_in, AreSettled};
@@ -10,7 +10,7 @@ use mes_model::{Id, Offer};
 use std::alloc::Global;
 use std::marker::Model;
 
-/// The offers in hand, in order; no two have one identifier. A contract sees the list of them.
+/// The outstanding offers in order, with unique identifiers. In contracts its value is their list.
 #[derive(Drop)]
 pub struct OutstandingOffers {
     slots: Slots,
@@ -33,7 +33,7 @@ impl Model for OutstandingOffers {
 }
 
 impl OutstandingOffers {
-    /// An empty hand. Takes no memory.
+    /// Returns an empty collection. Does not allocate.
     pub fn new(alloc: Global) -> OutstandingOffers
         ensures { result ≡ [] }
     {
@@ -42,21 +42,21 @@ impl OutstandingOffers {
         }
     }
 
-    /// How many offers there are.
+    /// Returns the number of offers.
     pub fn len(&self) -> usize
         ensures { result ≡ length self.now }
     {
         self.slots.len()
     }
 
-    /// Whether there is none.
+    /// Returns whether there are no offers.
     pub fn is_empty(&self) -> bool
         ensures { IsTrue result ↔ self.now ≡ [] }
     {
         self.slots.is_empty()
     }
 
-    /// The offer at that place.
+    /// Returns the offer at an index.
     pub fn at(&self, index: usize) -> Option<&Offer>
         ensures { option_copied result ≡ slice_get self.now index }
     {
@@ -64,7 +64,7 @@ impl OutstandingOffers {
         Some(&slot.offer)
     }
 
-    /// The offer of that identifier. The time that it takes does not grow with the hand.
+    /// Returns the offer with this identifier, in a time independent of the number of offers.
     pub fn get(&self, id: &str) -> Option<&Offer>
         ensures { option_copied result ≡ offer_in self.now id.now }
     {
@@ -72,8 +72,9 @@ impl OutstandingOffers {
         Some(&slot.offer)
     }
 
-    /// Takes copies of offers in, in order: of two of one identifier the last counts, at the place of the first, be they both new or
-    /// one in hand. Refused memory, it changes nothing; no offers need none.
+    /// Adds copies of offers in order. An offer with the identifier of an earlier one replaces it
+    /// in its place. Errors: `NoMemory` if an allocation fails; nothing is then changed. An empty
+    /// slice does not allocate.
     pub fn add(&mut self, alloc: Global, offers: &[Offer]) -> Result<(), NoMemory>
         ensures ok { OnOk result (self.new ≡ with_offers self.old offers.now) }
         ensures err { OnErr result (self.new ≡ self.old) }
@@ -85,17 +86,18 @@ impl OutstandingOffers {
         Ok(())
     }
 
-    /// Takes the offer of that identifier out, if it is there. The others keep their order; takes no memory.
+    /// Removes the offer with this identifier, if present, and retains the order. Does not
+    /// allocate.
     pub fn remove(&mut self, id: &str)
         ensures { self.new ≡ without_offer id.now self.old }
     {
-        // The length's clause is that no name stands twice, so what goes is all of that name.
+        // The contract of `len` states that names are unique, so removing one entry removes all.
         let _len = self.slots.len();
         self.slots.shift_remove(id);
     }
 
-    /// Takes the offers of these identifiers out, so far as they are there. The others keep their order; takes no memory. The time that
-    /// it takes grows with the hand and with the identifiers, not with their product.
+    /// Removes the offers with these identifiers, if present, and retains the order. Does not
+    /// allocate. The time is linear in the number of offers plus the number of identifiers.
     pub fn remove_all(&mut self, ids: &[Id])
         ensures { self.new ≡ without_offers ids.now self.old }
     {
@@ -103,7 +105,7 @@ impl OutstandingOffers {
         drop_marked(&mut self.slots);
     }
 
-    /// Takes all offers out. Takes no memory.
+    /// Removes all offers. Does not allocate.
     pub fn clear(&mut self)
         ensures { self.new ≡ [] }
     {

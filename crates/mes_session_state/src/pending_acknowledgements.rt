@@ -1,4 +1,4 @@
-//! The updates whose acknowledgement is owed.
+//! The updates that are not yet acknowledged.
 ghost use Rattle.std.specs.Prelude.{◌≡◌, ◌↔◌, not, [], length, slice_get, option_copied, IsTrue, OnOk, OnErr, false};
 ghost use Rattle.mes_session_state.specs.Held.{same_key, is_owed, with_key, without_key};
 
@@ -9,7 +9,8 @@ use mes_model_schema::Bytes;
 use std::alloc::Global;
 use std::marker::Model;
 
-/// The keys of updates that are owed an acknowledgement, in order; no key stands twice. A contract sees the list of them.
+/// The keys of unacknowledged updates in order, without duplicates. In contracts its value is their
+/// list.
 #[derive(Drop)]
 pub struct PendingAcknowledgements {
     keys: IndexSet<OwedKey>,
@@ -25,7 +26,7 @@ impl Model for PendingAcknowledgements {
 }
 
 impl PendingAcknowledgements {
-    /// None is owed. Takes no memory.
+    /// Returns an empty collection. Does not allocate.
     pub fn new(alloc: Global) -> PendingAcknowledgements
         ensures { result ≡ [] }
     {
@@ -34,36 +35,37 @@ impl PendingAcknowledgements {
         }
     }
 
-    /// How many there are.
+    /// Returns the number of keys.
     pub fn len(&self) -> usize
         ensures { result ≡ length self.now }
     {
         self.keys.len()
     }
 
-    /// Whether there is none.
+    /// Returns whether there are no keys.
     pub fn is_empty(&self) -> bool
         ensures { IsTrue result ↔ self.now ≡ [] }
     {
         self.keys.is_empty()
     }
 
-    /// The key at that place.
+    /// Returns the key at an index.
     pub fn at(&self, index: usize) -> Option<&OwedKey>
         ensures { option_copied result ≡ slice_get self.now index }
     {
         self.keys.get_index(index)
     }
 
-    /// Whether the key is there. The time that it takes does not grow with their number.
+    /// Returns whether the key is present, in a time independent of the number of keys.
     pub fn contains(&self, key: &OwedKey) -> bool
         ensures { result ≡ is_owed key.now self.now }
     {
         self.keys.contains(key)
     }
 
-    /// Whether the key of this agent, task and uuid is there. It looks at one key after another.
+    /// Returns whether the key of this agent, task and UUID is present. The search is linear.
     pub fn has(&self, agent: &Id, task: &Id, uuid: &Bytes) -> bool
+        // Whether the key with this agent, task and UUID is present.
         ensures { result ≡ is_owed (record { agent = agent.now; task = task.now; uuid = uuid.now }) self.now }
     {
         self.keys
@@ -72,7 +74,8 @@ impl PendingAcknowledgements {
             .any(|key| is_key(key, agent, task, uuid))
     }
 
-    /// Adds a key at the end; one that is there stays where it is, and needs no memory. Refused memory, it changes nothing.
+    /// Adds a key at the end. A key that is present stays in its place, without an allocation.
+    /// Errors: `NoMemory` if an allocation fails; nothing is then changed.
     pub fn add(&mut self, key: OwedKey) -> Result<(), NoMemory>
         ensures ok { OnOk result (self.new ≡ with_key self.old key) }
         ensures err { OnErr result (self.new ≡ self.old) }
@@ -82,8 +85,10 @@ impl PendingAcknowledgements {
         Ok(())
     }
 
-    /// Takes the key of this agent, task and uuid out, if it is there. The others keep their order; takes no memory.
+    /// Removes the key of this agent, task and UUID, if present, and retains the order. Does not
+    /// allocate.
     pub fn remove_key(&mut self, agent: &Id, task: &Id, uuid: &Bytes)
+        // The key with this agent, task and UUID is removed.
         ensures { self.new ≡ without_key (record { agent = agent.now; task = task.now; uuid = uuid.now }) self.old }
     {
         self.keys.retain(
@@ -94,7 +99,8 @@ impl PendingAcknowledgements {
     }
 }
 
-/// Whether the key is of this agent, task and uuid. The uuid, which tells most keys apart, is compared first.
+/// Returns whether the key is of this agent, task and UUID. The UUID differs most often, so it is
+/// compared first.
 fn is_key(key: &OwedKey, agent: &Id, task: &Id, uuid: &Bytes) -> bool
     ensures { result ≡ same_key (record { agent = agent.now; task = task.now; uuid = uuid.now }) key.now }
 {

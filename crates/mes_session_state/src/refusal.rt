@@ -1,36 +1,36 @@
-//! Why a session refuses a call.
+//! The reasons for which a session refuses a call.
 use mes_json::NoMemory;
 
-/// Why a session refuses a call, in the order in which the reasons are looked for.
+/// The reason for which a session refuses a call. S1 to S7 are checked in this order.
 #[derive(Clone, Copy, Debug, PartialEq, Eq)]
 pub enum Refusal {
-    /// S1: no SUBSCRIBED was heard since the stream broke, or the call names another framework. A SUBSCRIBE needs no stream: of it S1 is
-    /// told only where a framework is known and it names another.
+    /// S1: no SUBSCRIBED was received since the stream was disconnected, or the call names another
+    /// framework. A SUBSCRIBE is refused only if it names another framework than the known one.
     NotSubscribed,
-    /// S2: an ACCEPT or a DECLINE names an offer twice, or an ACCEPT a task.
+    /// S2: an ACCEPT or DECLINE names an offer twice, or an ACCEPT a task.
     NamedTwice,
-    /// S3: a named offer is not in hand.
+    /// S3: a named offer is not outstanding.
     NoSuchOffer {
-        /// The first such offer, among those that are named.
+        /// The index of the first such offer among the named ones, from 0.
         index: usize,
     },
-    /// S4: the offers that an ACCEPT names are not all of one agent.
+    /// S4: the offers of an ACCEPT are on more than one agent.
     TwoAgents,
     /// S5: a task is to run on another agent than that of the offers, or there are no offers.
     WrongAgent {
-        /// The first such task, counted over all operations, up to 2^64 - 1.
+        /// The index of the first such task over all operations, from 0 to at most 2^64 - 1.
         task: usize,
     },
-    /// S6: the tasks take more than the offers have, or what two of them can't share.
+    /// S6: the tasks take more than the offers have, or two of them take what cannot be shared.
     Exceeds {
-        /// The first task with such a resource, counted over all operations, up to 2^64 - 1.
+        /// The index of the first such task over all operations, from 0 to at most 2^64 - 1.
         task: usize,
-        /// The resource among those of the task.
+        /// The index of the resource in the task, from 0.
         resource: usize,
     },
-    /// S7: no update is owed the acknowledgement.
+    /// S7: no unacknowledged update has the key.
     NotOwed,
-    /// S8: a growth was refused memory.
+    /// S8: an allocation failed.
     NoMemory,
 }
 

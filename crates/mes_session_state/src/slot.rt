@@ -1,4 +1,4 @@
-//! The hand as it is kept: offers by their names, each with a mark.
+//! The entries of the outstanding offers: offers by identifier, each with a mark for removal.
 ghost use Rattle.std.specs.Prelude.{◌≡◌, ◌+◌, ◌<◌, ◌≤◌, not, [], ◌∷◌, map, filter, length, IfOk, OnErr, bytes_eq};
 ghost use Rattle.indexmap.specs.IndexMap.{spare};
 ghost use Rattle.mes_session_state.specs.Keeping.{put};
@@ -11,18 +11,17 @@ use mes_model::{Id, Offer};
 use mes_model_schema::Part;
 use std::alloc::Global;
 
-/// An offer in hand.
+/// An outstanding offer and its mark.
 #[derive(Drop)]
 pub(crate) struct Slot {
     pub(crate) offer: Offer,
-    /// Set in the midst of a removal alone, where the offer goes.
+    /// Set only during a removal, if the offer is to be removed.
     pub(crate) leaves: bool,
 }
 
-/// The offers, in order, each under its name.
+/// The offers in order, by identifier.
 pub(crate) type Slots = IndexMap<String, Slot>;
 
-/// Copies of the offers, each under its name.
 pub(crate) fn copies(alloc: Global, offers: &[Offer]) -> Result<Vec<(String, Slot)>, NoMemory>
     ensures settled { IfOk result (λ copied. AreSettled copied.items) }
     ensures same { IfOk result (λ copied. offers_in copied.items ≡ offers.now) }
@@ -35,7 +34,6 @@ pub(crate) fn copies(alloc: Global, offers: &[Offer]) -> Result<Vec<(String, Slo
     Ok(copied)
 }
 
-/// A copy of the offer, under its name.
 fn copy_of(alloc: Global, offer: &Offer) -> Result<(String, Slot), NoMemory>
     ensures settled { IfOk result (λ copied. AreSettled (copied ∷ [])) }
     ensures same { IfOk result (λ copied. copied.1.offer ≡ offer.now) }
@@ -51,7 +49,6 @@ fn copy_of(alloc: Global, offer: &Offer) -> Result<(String, Slot), NoMemory>
     ))
 }
 
-/// Marks the offer of that name, if it is there.
 fn mark_one(slots: &mut Slots, name: &str)
     ensures { slots.new.entries ≡ map (marked_at name.now) slots.old.entries }
 {
@@ -60,7 +57,6 @@ fn mark_one(slots: &mut Slots, name: &str)
     }
 }
 
-/// Marks the offers of these names, so far as they are there.
 pub(crate) fn mark(slots: &mut Slots, ids: &[Id])
     ensures { slots.new.entries ≡ marked ids.now slots.old.entries }
 {
@@ -69,7 +65,6 @@ pub(crate) fn mark(slots: &mut Slots, ids: &[Id])
     }
 }
 
-/// Drops what is marked.
 pub(crate) fn drop_marked(slots: &mut Slots)
     ensures { slots.new.entries ≡ filter stays slots.old.entries }
 {
@@ -80,7 +75,7 @@ pub(crate) fn drop_marked(slots: &mut Slots)
     );
 }
 
-/// Puts an offer in, where there is room.
+/// Adds an offer within the spare capacity.
 fn put_one(slots: &mut Slots, name: String, slot: Slot)
     requires room { 0 < spare slots.old }
     requires settled { AreSettled slots.old.entries }
@@ -92,7 +87,7 @@ fn put_one(slots: &mut Slots, name: String, slot: Slot)
     slots.insert(name, slot).unwrap();
 }
 
-/// Puts offers in, in order, where there is room.
+/// Adds offers in order within the spare capacity.
 pub(crate) fn put_all(slots: &mut Slots, copied: Vec<(String, Slot)>)
     requires room { length copied.items ≤ spare slots.old }
     requires settled { AreSettled slots.old.entries }

@@ -5,7 +5,7 @@ use Rattle.mes_session_state.specs.Held.{with_offers}
 use Rattle.mes_session_state.specs.Slots.{offers_in, AreSettled}
 use Rattle.mes_session_state.proofs.slot.put_all.Given as goal
 
--- what is still to come in finds room, and makes of the offers what all of them make of those at the start
+-- the remaining offers fit the capacity, and adding them gives the result of adding all
 abbrev pub invariant-loop-name : goal.invariant-loop-name
 invariant-loop-name l =
     (goal.iterator-loop-name).can_next l.name-iterator
