@@ -1,4 +1,4 @@
--- Calls by what is told in them (scheduler.proto, `Call`); `accept_call`, `decline_call` and `acknowledge_call` stand below.
+-- Calls by their arguments (scheduler.proto, `Call`); three more are in `mes_session_state`.
 use Rattle.std.specs.Prelude.{ℕ, List, Option}
 use Rattle.std.specs.Option.{option_or}
 use Rattle.mes_model.specs.Id.{Id}
@@ -7,7 +7,7 @@ use Rattle.mes_model.specs.TaskRef.{TaskRef}
 use Rattle.mes_msg.specs.Call.{Call}
 use Rattle.mes_msg.specs.Call.TheVariants as of
 
--- a SUBSCRIBE names the framework that is known, also in what it tells of it; where none is, the framework that is told there
+-- the call and its FrameworkInfo name the known framework, or else the id in the FrameworkInfo
 abbrev pub subscribe_call : Option Id → FrameworkInfo → Call
 subscribe_call known info = of.Subscribe (option_or known info.id) (record { framework_info = record info { id = option_or known info.id } })
 

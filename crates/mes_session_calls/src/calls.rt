@@ -1,4 +1,5 @@
-//! The calls of scheduler.proto, each of copies of what is told in it. `NoMemory` is answered where a growth was refused, and nothing else.
+//! Functions that build each call of scheduler.proto from copies of the arguments. Their only error
+//! is `NoMemory`, if an allocation fails.
 ghost use Rattle.std.specs.Prelude.{◌≡◌, option_copied, IfOk};
 ghost use Rattle.std.specs.Option.{option_or};
 ghost use Rattle.mes_session_state.specs.Calls.{operations_of, accept_call, decline_call, acknowledge_call};
@@ -13,7 +14,7 @@ use mes_msg::{
 };
 use std::alloc::Global;
 
-/// No operation where there are no tasks, else one LAUNCH of them.
+/// Returns one LAUNCH of the tasks, or no operation if there are none.
 fn operations(alloc: Global, tasks: &[TaskInfo]) -> Result<List<Operation>, NoMemory>
     ensures { IfOk result (λ operations. operations ≡ operations_of tasks.now) }
 {
@@ -25,7 +26,7 @@ fn operations(alloc: Global, tasks: &[TaskInfo]) -> Result<List<Operation>, NoMe
     Ok(List::new(operations))
 }
 
-/// The framework that a SUBSCRIBE names: the one that is known, or else the one that is told of itself.
+/// Returns the framework of a SUBSCRIBE: the known one, or else the id in `info`.
 fn named(alloc: Global, known: Option<&Id>, info: &FrameworkInfo) -> Result<Option<Id>, NoMemory>
     ensures { IfOk result (λ named. named ≡ option_or (option_copied known.entry) info.now.id) }
 {
@@ -35,7 +36,8 @@ fn named(alloc: Global, known: Option<&Id>, info: &FrameworkInfo) -> Result<Opti
     }
 }
 
-/// The SUBSCRIBE of what a framework tells of itself. It names the framework that is known, there too, or else the one that is told.
+/// Returns the SUBSCRIBE of a framework. The call and its `FrameworkInfo` name the known framework;
+/// if none is known, the id in `info`.
 pub fn make_subscribe(
     alloc: Global,
     known: Option<&Id>,
@@ -52,7 +54,7 @@ pub fn make_subscribe(
     })
 }
 
-/// The ACCEPT of these offers. No tasks make no operation, else there is one LAUNCH of them.
+/// Returns an ACCEPT with one LAUNCH of `tasks`, or with no operation if `tasks` is empty.
 pub fn make_accept(
     alloc: Global,
     framework: &Id,
@@ -60,6 +62,7 @@ pub fn make_accept(
     tasks: &[TaskInfo],
     filters: Option<&Filters>,
 ) -> Result<Call, NoMemory>
+    // On success: the ACCEPT of these arguments.
     ensures { IfOk result (λ call. call ≡ accept_call framework.now ids.now tasks.now (option_copied filters.entry)) }
 {
     let framework_id = framework.copy(alloc)?;
@@ -76,13 +79,14 @@ pub fn make_accept(
     })
 }
 
-/// The DECLINE of these offers.
+/// Returns the DECLINE of these offers.
 pub fn make_decline(
     alloc: Global,
     framework: &Id,
     ids: &[Id],
     filters: Option<&Filters>,
 ) -> Result<Call, NoMemory>
+    // On success: the DECLINE of these arguments.
     ensures { IfOk result (λ call. call ≡ decline_call framework.now ids.now (option_copied filters.entry)) }
 {
     let framework_id = framework.copy(alloc)?;
@@ -94,7 +98,7 @@ pub fn make_decline(
     })
 }
 
-/// The REVIVE of a framework.
+/// Returns the REVIVE of a framework.
 pub fn make_revive(alloc: Global, framework: &Id) -> Result<Call, NoMemory>
     ensures { IfOk result (λ call. call ≡ Call.Revive framework.now) }
 {
@@ -102,13 +106,14 @@ pub fn make_revive(alloc: Global, framework: &Id) -> Result<Call, NoMemory>
     Ok(Call::Revive { framework_id })
 }
 
-/// The KILL of a task, on an agent where one is told.
+/// Returns the KILL of a task, with its agent if given.
 pub fn make_kill(
     alloc: Global,
     framework: &Id,
     task: &Id,
     agent: Option<&Id>,
 ) -> Result<Call, NoMemory>
+    // On success: the KILL of these arguments.
     ensures { IfOk result (λ call. call ≡ kill_call framework.now task.now (option_copied agent.entry)) }
 {
     let framework_id = framework.copy(alloc)?;
@@ -120,7 +125,7 @@ pub fn make_kill(
     })
 }
 
-/// The ACKNOWLEDGE of an update by its key.
+/// Returns the ACKNOWLEDGE of an update with this key.
 pub fn make_acknowledge(alloc: Global, framework: &Id, key: &OwedKey) -> Result<Call, NoMemory>
     ensures { IfOk result (λ call. call ≡ acknowledge_call framework.now key.now) }
 {
@@ -138,7 +143,7 @@ pub fn make_acknowledge(alloc: Global, framework: &Id, key: &OwedKey) -> Result<
     })
 }
 
-/// The RECONCILE of these tasks, or of all where there are none.
+/// Returns the RECONCILE of these tasks, or of all tasks if `tasks` is empty.
 pub fn make_reconcile(alloc: Global, framework: &Id, tasks: &[TaskRef]) -> Result<Call, NoMemory>
     ensures { IfOk result (λ call. call ≡ reconcile_call framework.now tasks.now) }
 {
@@ -150,7 +155,7 @@ pub fn make_reconcile(alloc: Global, framework: &Id, tasks: &[TaskRef]) -> Resul
     })
 }
 
-/// The TEARDOWN of a framework.
+/// Returns the TEARDOWN of a framework.
 pub fn make_teardown(alloc: Global, framework: &Id) -> Result<Call, NoMemory>
     ensures { IfOk result (λ call. call ≡ Call.Teardown framework.now) }
 {
@@ -158,7 +163,7 @@ pub fn make_teardown(alloc: Global, framework: &Id) -> Result<Call, NoMemory>
     Ok(Call::Teardown { framework_id })
 }
 
-/// The SUPPRESS of a framework.
+/// Returns the SUPPRESS of a framework.
 pub fn make_suppress(alloc: Global, framework: &Id) -> Result<Call, NoMemory>
     ensures { IfOk result (λ call. call ≡ Call.Suppress framework.now) }
 {
@@ -166,7 +171,7 @@ pub fn make_suppress(alloc: Global, framework: &Id) -> Result<Call, NoMemory>
     Ok(Call::Suppress { framework_id })
 }
 
-/// The SHUTDOWN of an executor on an agent.
+/// Returns the SHUTDOWN of an executor on an agent.
 pub fn make_shutdown(
     alloc: Global,
     framework: &Id,
@@ -187,7 +192,7 @@ pub fn make_shutdown(
     })
 }
 
-/// The MESSAGE of these bytes to an executor on an agent.
+/// Returns the MESSAGE of these bytes to an executor on an agent.
 pub fn make_message(
     alloc: Global,
     framework: &Id,
@@ -195,6 +200,7 @@ pub fn make_message(
     executor: &Id,
     data: &[u8],
 ) -> Result<Call, NoMemory>
+    // On success: the MESSAGE of these arguments.
     ensures { IfOk result (λ call. call ≡ message_call framework.now agent.now executor.now «data».now) }
 {
     let framework_id = framework.copy(alloc)?;

@@ -1,11 +1,10 @@
-//! Copies of what is told, in memory of their own.
+//! Copies of arguments, in newly allocated memory.
 ghost use Rattle.std.specs.Prelude.{◌≡◌, option_copied, IfOk};
 
 use mes_model_schema::json::NoMemory;
 use mes_model_schema::{List, Part};
 use std::alloc::Global;
 
-/// The same values, in memory of their own.
 pub(crate) fn copies_of<T: Part>(alloc: Global, values: &[T]) -> Result<List<T>, NoMemory>
     ensures { IfOk result (λ copies. copies ≡ values.now) }
 {
@@ -16,7 +15,6 @@ pub(crate) fn copies_of<T: Part>(alloc: Global, values: &[T]) -> Result<List<T>,
     Ok(List::new(copies))
 }
 
-/// The same value, if there is one, in memory of its own.
 pub(crate) fn maybe<T: Part>(alloc: Global, value: Option<&T>) -> Result<Option<T>, NoMemory>
     ensures { IfOk result (λ copy. copy ≡ option_copied value.entry) }
 {

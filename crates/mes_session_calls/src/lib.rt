@@ -1,5 +1,10 @@
 #![tactic(auto)]
-//! Calls made of copies of what a framework tells. Whether a call may be said is not asked here.
+//! Functions that build calls from copies of their arguments.
+//!
+//!     let call = make_accept(alloc, &framework, &[offer_id], &[task], None)?;
+//!
+//! They do not check whether the call is allowed: the crate `mes_session_state` does that, and
+//! `mes_session` uses both. Programs use `mes_session`; the tests are in `mes_session_tests`.
 
 mod calls;
 mod copies;
