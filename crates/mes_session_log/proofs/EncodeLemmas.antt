@@ -30,7 +30,6 @@ use Rattle.mes_session_log_entry.specs.declared.letters.TheConstants.{EVENT, CAL
 
 -- ---- one entry
 
--- a letter and a text in a record
 framed : (letter : ℕ) (text : List ℕ) (limit : ℕ) → length text < 2 ^ 64 - 1 → length text < limit → IsRecord (record_bytes (letter ∷ text)) (letter ∷ text) limit
 framed letter text limit short within = written_is_record (letter ∷ text) limit (omega (arith, short)) (omega (arith, within))
 
@@ -48,7 +47,6 @@ pub adds_break : (limit : ℕ) (old new : List ℕ) → new ≡ old ++ record_by
 adds_break limit old new is =
     record { written = is; fits = tt; framed = λ some. framed BROKEN [] limit (omega arith) (omega (arith, some)); spells = (refl, refl) }
 
--- where the message's record was added
 pub event_added : {A E : Type 0} (r : Result A E) (limit : ℕ) (heard : Event) (old new : List ℕ) → OnOk r (new ≡ old ++ record_bytes (EVENT ∷ canonical_of event heard))
     → OnOk r (IsFit event limit heard) → OnOk r (IsTextOf event (canonical_of event heard) heard) → OnOk r (length (canonical_of event heard) < 2 ^ 64 - 1)
     → OnOk r (AddsEntry limit (Heard heard) old new)
@@ -71,7 +69,7 @@ call_unfit limit said refused.TooDeep h = h
 call_unfit limit said refused.TooLarge h = h
 call_unfit limit said refused.NoMemory h = tt
 
--- a text that is refused alone is refused behind a letter
+-- a text that does not fit alone does not fit with its letter
 pub unfit_alone : {V : Type 0} (k : Kind V) (limit : ℕ) (v : V) (fault : EncodeFault) → IsRefusalOf k v limit fault → IsMessageUnfit k limit v fault
 unfit_alone k limit v refused.TooDeep h = h
 unfit_alone k limit v refused.TooLarge h = (h.0, let more = h.1 in omega (arith, more))
@@ -85,7 +83,6 @@ pub record LogSoFar (limit : ℕ) (entries : List Entry) (log : List ℕ) : Type
   pub written : log ≡ log_bytes entries
   pub read : 1 ≤ limit → Records (SpellsEntry 2) limit (entry_records entries) entries
 
--- one record behind others
 records_more : (limit : ℕ) (b f r : List ℕ) (entries : List Entry) (entry : Entry) → Records (SpellsEntry 2) limit b entries → IsRecord f r limit → SpellsEntry 2 r entry
     → Records (SpellsEntry 2) limit (b ++ f) (entries ++ entry ∷ [])
 records_more limit b f r [] entry none is says = (f, [], r, is, says, (rw none (sym (append-nil f))), refl)
@@ -116,7 +113,6 @@ so_far_none limit entries old log none is = record {
   read = λ some. refl;
 }
 
--- behind its header it is read to them
 pub log_of : (limit : ℕ) (entries : List Entry) (i : ℕ) (log : List ℕ) → length entries ≤ i → LogSoFar limit (take i entries) log → IsLogOf limit entries log
 log_of limit entries i log all so_far =
     let h = subst (λ (es : List Entry). LogSoFar limit es log) (take_all i entries all) so_far in
@@ -137,7 +133,6 @@ log_of limit entries i log all so_far =
       });
     }
 
--- the entry at this place is the first that does not fit
 first_unfit : (limit : ℕ) (entries : List Entry) (i : ℕ) (entry : Entry) (why : EncodeFaultKind) → i < length entries → entry ≡ get_or entries i entry
     → AllFit limit (take i entries) → EntryUnfit limit entry why → IsFirstUnfit limit entries i why
 first_unfit limit entries i entry why inside here fit unfit = record {
@@ -150,7 +145,6 @@ first_unfit limit entries i entry why inside here fit unfit = record {
   unfit = unfit;
 }
 
--- an entry was refused
 pub unwritten_at : (limit : ℕ) (entries : List Entry) (i : ℕ) (entry : Entry) (fault : EncodeFault) → i < length entries → entry ≡ get_or entries i entry
     → AllFit limit (take i entries) → IsEntryFault limit entry fault → IsUnwritten limit entries (fault_at i fault)
 unwritten_at limit entries i entry refused.TooDeep inside here fit is = first_unfit limit entries i entry TooDeep inside here fit is

@@ -1,4 +1,4 @@
--- Any bytes are read as a log in exactly one way: by the first record, which has not ended, or by the records behind it.
+-- Any bytes are read as a log in exactly one way.
 use Rattle.std.proofs.Common.{◌≡◌, ℕ, ◌+◌, ◌⊎◌, inl, inr, List, [], ◌∷◌, ◌++◌, refl, ap, ap₂, sym, ◌∙◌, subst, append_assoc, append-nil, arith}
 use Rattle.std.proofs.lemmas.List.{append_cancel_left}
 use Rattle.mes_frame.specs.Record.{IsRecord}
@@ -18,10 +18,9 @@ abbrev values_in : {E : Type 0} → PlainReading E → List E
 values_in (Goes values) = values
 values_in (Stops front byte values fault) = values
 
--- ---- a record in front
+-- ---- a first record
 
 module _ {E : Type 0} (spells : List ℕ → E → Type 0) (breaks : List ℕ → RecordError → Type 0) (limit : ℕ) where
-  -- the same reading behind one record more
   abbrev behind_one : List ℕ → E → PlainReading E → PlainReading E
   behind_one head value (Goes values) = Goes (value ∷ values)
   behind_one head value (Stops front byte values fault) = Stops (head ++ front) byte (value ∷ values) fault
@@ -106,7 +105,6 @@ module _ {E : Type 0} (spells : List ℕ → E → Type 0) (breaks : List ℕ �
 
 -- ---- whole logs
 
--- whole records are live
 records_live : {E : Type 0} (spells : List ℕ → E → Type 0) (limit : ℕ) (b : List ℕ) (values : List E) → Records spells limit b values → BodyLive spells limit b values
 records_live spells limit b values records = record { whole = b; x = []; spelt = sym (append-nil b); records = records; is = ([], inl (record { digits = tt; few = omega arith }, refl)) }
 
@@ -127,7 +125,7 @@ whole_goes limit w entries (inr b) = inr (record {
 
 -- ---- logs
 
--- the records behind a first record are read once, and in some way
+-- the records after the first have exactly one reading
 abbrev pub Once : ℕ → Type 0
 Once v = (limit : ℕ) (w : List ℕ) (a b : PlainReading Entry) → ReadsPlain (SpellsEntry v) (EntryBreaks v) 1 limit w a → ReadsPlain (SpellsEntry v) (EntryBreaks v) 1 limit w b → a ≡ b
 
@@ -142,12 +140,11 @@ pub some_behind : InSomeWay 1 → InSomeWay 2 → (first : FirstRecord) → InSo
 some_behind one two kind.Header = two
 some_behind one two (kind.Entry entry) = one
 
--- what a reading of the first record is of the log
+-- a reading of the first record as one of the log
 abbrev as_log : PlainReading FirstRecord → PlainReading Entry
 as_log (Goes values) = Goes []
 as_log (Stops front byte values fault) = Stops front byte [] fault
 
--- and one of the records behind it
 abbrev behind_first : List ℕ → FirstRecord → PlainReading Entry → PlainReading Entry
 behind_first head first (Goes more) = Goes (entries_in first ++ more)
 behind_first head first (Stops front byte more fault) = Stops (head ++ front) byte (entries_in first ++ more) fault
@@ -221,7 +218,7 @@ module _ (first_once : (limit : ℕ) (w : List ℕ) (a b : PlainReading FirstRec
     (entry_some : (first : FirstRecord) → InSomeWay (version_of first))
     (one_record : (limit : ℕ) (w : List ℕ) (a b : RecordReading) → ReadsRecord limit w a → ReadsRecord limit w b → a ≡ b)
     (one_value : (r : List ℕ) (a b : FirstRecord) → SpellsFirst r a → SpellsFirst r b → a ≡ b) where
-  -- where the first record has ended, the bytes are no reading without one
+  -- bytes in which the first record is complete are not also a reading without it
   not_both : (limit : ℕ) (w : List ℕ) (a b : PlainReading Entry) → Sooner limit w a → Later limit w b → ⊥
   not_both limit w a b s l =
       let on = first_some 1 limit l.rest in

@@ -1,4 +1,4 @@
--- The reading of a log, piece by piece: its first record, and the records behind it.
+-- Reading of a log piece by piece: the first record, and the later records.
 use Rattle.std.proofs.Common.{◌≡◌, ℕ, ◌+◌, ◌-◌, ◌<◌, ◌≤◌, List, [], ◌∷◌, ◌++◌, length, take, drop, sym, ◌∙◌, ap, append_assoc, append-nil, arith, refl, length-append, length-take-le, take-append-drop, Option, Some, None, Result, Ok, Err, inl, inr, subst}
 use Rattle.std.proofs.lemmas.List.{take_more}
 use Rattle.std.specs.Prelude.{OnOk, IfErr, slice_index}
@@ -41,24 +41,23 @@ use Rattle.mes_session_log.specs.declared.log_reading.Stage.TheVariants as stage
 
 -- ---- the first record
 
--- the one record of some bytes
 pub one_record : (limit : ℕ) (b : List ℕ) (value : FirstRecord) → Records SpellsFirst limit b (value ∷ []) → (content : List ℕ) × IsRecord b content limit × SpellsFirst content value
 one_record limit b value (front, rest, content, framed, says, is, none) =
     (content, subst (λ (y : List ℕ). IsRecord y content limit) (sym (is ∙ ap (λ (y : List ℕ). front ++ y) none ∙ append-nil front)) framed, says)
 
--- the data of an entry of version 1 begin as a message's do
+-- the data of an entry of version 1 begin as a message
 begins_message : (r : List ℕ) (entry : Entry) → SpellsEntry 1 r entry → BeginsMessage r
 begins_message r (Heard heard) (text, is, (t, spelt, reads)) = inl (text, is, text_begins text t spelt)
 begins_message r (Said said) (text, is, (t, spelt, reads)) = inr (text, is, text_begins text t spelt)
 begins_message r Broken is = let one : 1 ≡ 2 = is.0 in absurd (omega (arith, one))
 
--- a first record has ended with an entry, for which an allocation may fail
+-- the first record ends with an entry, for which an allocation may fail
 runs_out : (limit : ℕ) (b : List ℕ) (c : ℕ) (entry : Entry) → EndsRecordIn Plain SpellsFirst limit b [] c (kind.Entry entry) → RunsOut SpellsFirst FirstBreaks limit b [] c
 runs_out limit b c entry ends =
     ends_runs_out SpellsFirst FirstBreaks limit b [] c
     (record { whole = ends.whole; x = ends.x; spelt = ends.spelt; records = ends.records; is = (ends.is.0, ends.is.1, (ends.is.2.0, begins_message ends.is.0 entry ends.is.2.1)) })
 
--- memory was refused for the entry of a first record, which has ended
+-- the first record is complete, and an allocation failed for its entry
 pub first_refused : (limit : ℕ) (w piece : List ℕ) (before : List Entry) (entry : Entry) (used count : ℕ) → before ≡ [] → 0 < used → used ≤ length piece → length piece ≤ MAX_READ
     → count ≡ saturated (length (w ++ take used piece)) → EndsRecordIn Plain SpellsFirst limit (w ++ take (used - 1) piece) [] (slice_index piece (used - 1)) (kind.Entry entry)
     → GoesBefore Plain SpellsFirst limit w [] piece used → LogByteEnds limit (w ++ piece) before (Err (record { fault = NoMemory; used = count }))
@@ -86,9 +85,9 @@ first_refused limit w piece before entry used count none some within small count
       none,
     )
 
--- ---- the records behind it
+-- ---- the later records
 
--- a log of version v whose records behind the first are read so
+-- the state of reading the later records of a log of version v
 abbrev pub AtVersion : (v : ℕ) → Reading (EntryReader v) → ℕ → List ℕ → List Entry → Type 0
 AtVersion v d limit w entries =
     AfterFirst limit w entries (λ version ahead rest more. (version ≡ v) × ReadingRepresentsAfter HoldsEntry (SpellsEntry v) ahead d Plain limit rest more)
@@ -138,7 +137,6 @@ takes_last T v d new limit w piece before old now stop takes b =
       }),
     )
 
--- what became of a piece behind the first record
 pub one_takes : {T : Type 0} (d new : Reading (EntryReader 1)) (limit : ℕ) (w piece : List ℕ) (before old now : List Entry) (fed : Result T ReadingStop) → TakesEntries 1 d new piece old now fed
     → RestRepresents (stage.One d) limit w before → StageTakes (stage.One new) limit w before piece old now (log_answer fed)
 one_takes d new limit w piece before old now (Ok done) takes b = takes_more 1 d new limit w piece before old now done takes b
@@ -149,7 +147,6 @@ pub two_takes : {T : Type 0} (d new : Reading (EntryReader 2)) (limit : ℕ) (w 
 two_takes d new limit w piece before old now (Ok done) takes b = takes_more 2 d new limit w piece before old now done takes b
 two_takes {T = T} d new limit w piece before old now (Err stop) takes b = takes_last T 2 d new limit w piece before old now stop takes b
 
--- behind the header, and behind a first entry
 pub behind_header : (limit used : ℕ) (head content : List ℕ) (d : Reading (EntryReader 2))
     → ((ahead : Ahead) → 1 ≡ saturated ahead.records → used ≡ saturated ahead.bytes → ReadingRepresentsAfter HoldsEntry (SpellsEntry 2) ahead d Plain limit [] [])
     → IsRecord head content limit → SpellsFirst content kind.Header → used ≡ saturated (length head) → RestRepresents (stage.Two d) limit head (entries_in kind.Header)
@@ -184,7 +181,7 @@ behind_entry limit used head content entry d following framed says counted = rec
 
 -- ---- up to the end of the first record
 
--- what is asked of the reading of a first record
+-- the contract of reading a first record
 abbrev pub TakesFirst : Reading FirstReader → Reading FirstReader → List ℕ → Result (Option (EndedRecord FirstRecord)) ReadingStop → Type 0
 TakesFirst d new piece result =
     (ahead : Ahead) (framing : Framing) (limit : ℕ) (w : List ℕ) (values : List FirstRecord) → ReadingRepresentsAfter HoldsFirst SpellsFirst ahead d framing limit w values
@@ -198,7 +195,6 @@ pub begins_stop : (d new : Reading FirstReader) (limit : ℕ) (w piece : List �
     → StageBegins (stage.First new) limit w before piece old old (Err (log_stop.Reading stop))
 begins_stop d new limit w piece before old stop takes h = (refl, inl (takes nothing_ahead Plain limit w [] h.0, h.1))
 
--- how many bytes were used
 abbrev pub CountsFirst : Reading FirstReader → ℕ → Type 0
 CountsFirst new used =
     (ahead : Ahead) (framing : Framing) (limit : ℕ) (w : List ℕ) (values : List FirstRecord) → ReadingRepresentsAfter HoldsFirst SpellsFirst ahead new framing limit w values
@@ -226,12 +222,11 @@ begins_refused d new limit bytes w piece before old now value used some within s
           (subst (λ (v : FirstRecord). EndsRecordIn Plain SpellsFirst limit (w ++ take (used - 1) piece) [] (slice_index piece (used - 1)) v) (sym equal ∙ is) t.2) t.3,
     )
 
--- where it has ended before, none of the piece belongs to it
+-- a first record that ended before uses nothing of the piece
 pub begins_behind : (s : Stage) (limit : ℕ) (w piece : List ℕ) (before old : List Entry) → RestRepresents s limit w before → StageBegins s limit w before piece old old (Ok (Some 0))
 begins_behind s limit w piece before old h =
     ([], sym (append-nil old), subst (λ (es : List Entry). RestRepresents s limit (w ++ []) es) (sym (append-nil before)) (subst (λ (y : List ℕ). RestRepresents s limit y before) (sym (append-nil w)) h))
 
--- and the rest of the piece behind it
 pub takes_rest : {T : Type 0} (s : Stage) (limit : ℕ) (w piece : List ℕ) (before old mid now : List Entry) (used : ℕ) (result : Result T LogStop) (begins : (more : List Entry) × (mid ≡ old ++ more) × RestRepresents s limit (w ++ take used piece) (before ++ more))
     → (later : Stage) → StageTakes later limit (w ++ take used piece) (before ++ begins.0) (drop used piece) mid now result → StageTakes later limit w before piece old now result
 takes_rest s limit w piece before old mid now used (Ok done) begins later t = (
@@ -247,7 +242,6 @@ takes_rest s limit w piece before old mid now used (Err stop) begins later t = (
       (subst (λ (y : List ℕ). LogByteEnds limit y ((before ++ begins.0) ++ t.0) (log_reported later stop)) (append_assoc w (take used piece) (drop used piece) ∙ ap (λ (y : List ℕ). w ++ y) (take-append-drop used piece)) t.2),
 )
 
--- no record has ended, or a byte of the first stops the reading
 pub takes_none : (s : Stage) (limit : ℕ) (w piece : List ℕ) (before old now : List Entry) → (now ≡ old) × StageRepresents s limit (w ++ piece) before → (more : List Entry) × (now ≡ old ++ more) × StageRepresents s limit (w ++ piece) (before ++ more)
 takes_none s limit w piece before old now h = ([], h.0 ∙ sym (append-nil old), subst (λ (es : List Entry). StageRepresents s limit (w ++ piece) es) (sym (append-nil before)) h.1)
 
@@ -263,7 +257,6 @@ first_means d AtEnd answer means = λ limit w entries represents. inl (means Pla
 first_means d Failed answer means = λ limit w entries represents. inl (means Plain limit w [] represents.0, represents.1)
 first_means d Spent answer means = λ limit w entries represents. inl (means Plain limit w [] represents.0, represents.1)
 
--- what it means of a log of version v
 end_means : (v : ℕ) (d : Reading (EntryReader v)) (answer : Result Report Stop) (limit : ℕ) (w : List ℕ) (entries : List Entry) → ((ahead : Ahead) → MeansAfter HoldsEntry (SpellsEntry v) ahead d AtEnd answer)
     → AtVersion v d limit w entries → LogEndMeans limit w entries answer
 end_means v d answer limit w entries means b = inr (record {
@@ -309,7 +302,6 @@ two_means d Spent answer means = λ limit w entries represents. breaks_off 2 d a
 
 -- ---- the list
 
--- the first record has ended
 pub rest_stands : (s : Stage) (limit : ℕ) (w : List ℕ) (entries : List Entry) → RestRepresents s limit w entries → StageRepresents s limit w entries
 rest_stands (stage.First reading) limit w entries h = absurd h
 rest_stands (stage.One reading) limit w entries h = h
@@ -318,7 +310,7 @@ rest_stands (stage.Two reading) limit w entries h = h
 pub gathers_none : (d : LogReading) (start : List Entry) → LogGathers d start d start []
 gathers_none d start = λ limit represents. ([], sym (append-nil start), represents)
 
--- what is asked of a call that takes a piece
+-- the contract of consuming a piece
 abbrev pub TakesPiece : {T : Type 0} → LogReading → LogReading → List ℕ → List Entry → List Entry → Result T LogStop → Type 0
 TakesPiece d new piece old now result =
     (limit : ℕ) (w : List ℕ) (before : List Entry) → LogRepresents d limit w before → StageTakes new.stage limit w before piece old now result
@@ -339,7 +331,7 @@ gathers_last first d new start old now w piece (Err stop) h fed = λ limit repre
     let more = fed limit w so_far.0 so_far.2 in
     (so_far.0 ++ more.0, more.1 ∙ ap (λ (x : List Entry). x ++ more.0) so_far.1 ∙ append_assoc start so_far.0 more.0, more.2)
 
--- how the reading ended, by how the reads did
+-- the result of reading, from how the reads ended
 pub log_through : (first now : LogReading) (start to : List Entry) (limit reads : ℕ) (old new : Counts) (last : Option (List ℕ)) (w : List ℕ) (end : ReadsEnd LogStop) (answer : Result Report Stop)
     → LogRepresents first limit [] [] → EndsReads (LogGathers first start now to) (LogGathersLast first start now to) reads old new last w end → LogMeans now.stage end answer
     → (more : List Entry) × (to ≡ start ++ more) × EndsLog limit reads old new last w more answer

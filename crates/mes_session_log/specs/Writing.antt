@@ -1,4 +1,4 @@
--- A session log that is written: the header, and then a record for each entry.
+-- A written session log: the header, then a record for each entry.
 use Rattle.std.specs.Prelude.{◌≡◌, ℕ, ◌<◌, ◌≤◌, List, [], ◌∷◌, ◌++◌, length, Option, All}
 use Rattle.std.specs.List.{flat_map}
 use Rattle.mes_json.specs.Tree.{depth}
@@ -19,13 +19,13 @@ use Rattle.mes_stream.specs.Sending.{WroteSome}
 use Rattle.mes_session_log.specs.Logs.{IsLog}
 use Rattle.mes_session_log_entry.specs.declared.letters.TheConstants.{EVENT, CALL, BROKEN, HEADER}
 
--- the data of the entry: its letter, and behind it the canonical text
+-- the data of an entry: its letter and the canonical text
 abbrev pub entry_data : Entry → List ℕ
 entry_data (Heard heard) = EVENT ∷ canonical_of event heard
 entry_data (Said said) = CALL ∷ canonical_of call said
 entry_data Broken = BROKEN ∷ []
 
--- the records of the entries, one behind the other
+-- the consecutive records of the entries
 abbrev pub entry_records : List Entry → List ℕ
 entry_records entries = flat_map (λ entry. record_bytes (entry_data entry)) entries
 
@@ -33,7 +33,7 @@ entry_records entries = flat_map (λ entry. record_bytes (entry_data entry)) ent
 abbrev pub log_bytes : List Entry → List ℕ
 log_bytes entries = record_bytes (HEADER ∷ []) ++ entry_records entries
 
--- why no record of the limit can hold a letter and the message's text: it nests too deep, or letter and text have too many bytes
+-- the letter and the text fit no record of the limit: too deep, or too many bytes
 abbrev pub IsUnfit : {V : Type 0} → Kind V → ℕ → V → EncodeFaultKind → Type 0
 IsUnfit k limit v TooDeep = MAX_NESTING < depth (k.tree v)
 IsUnfit k limit v TooLarge = NestsFew k v × (limit ≤ length (canonical_of k v))
@@ -48,7 +48,7 @@ EntryFits limit (Heard heard) = IsFit event limit heard
 EntryFits limit (Said said) = IsFit call limit said
 EntryFits limit Broken = Unit {0}
 
--- none can, and why
+-- the reason for which no record can
 abbrev pub EntryUnfit : ℕ → Entry → EncodeFaultKind → Type 0
 EntryUnfit limit (Heard heard) why = IsUnfit event limit heard why
 EntryUnfit limit (Said said) why = IsUnfit call limit said why
@@ -57,7 +57,7 @@ EntryUnfit limit Broken why = ⊥
 abbrev pub AllFit : ℕ → List Entry → Type 0
 AllFit limit entries = All (EntryFits limit) entries
 
--- the entry at this place, from 0, is the first that no record of the limit can hold, and why
+-- the entry at this index, from 0, is the first that fits no record of the limit
 pub record IsFirstUnfit (limit : ℕ) (entries : List Entry) (index : ℕ) (why : EncodeFaultKind) : Type 0 where
   pub front : List Entry
   pub entry : Entry
@@ -67,19 +67,19 @@ pub record IsFirstUnfit (limit : ℕ) (entries : List Entry) (index : ℕ) (why 
   pub fit : AllFit limit front
   pub unfit : EntryUnfit limit entry why
 
--- w is the log of the entries, which fit; under a limit of at least one byte, as each is, it is read to them
+-- w is the log of the entries, which all fit; if the limit is at least 1, it reads back to them
 pub record IsLogOf (limit : ℕ) (entries : List Entry) (w : List ℕ) : Type 0 where
   pub fit : AllFit limit entries
   pub written : w ≡ log_bytes entries
   pub read : 1 ≤ limit → IsLog limit w entries
 
--- why the entries have not become a log
+-- the reason for which there is no log of the entries
 abbrev pub IsUnwritten : ℕ → List Entry → SendFault → Type 0
 IsUnwritten limit entries (Encode index why) = IsFirstUnfit limit entries index why
 IsUnwritten limit entries NoMemory = Unit {0}
 IsUnwritten limit entries (Write fault) = ⊥
 
--- Why the writing ended early: an entry doesn't fit, or memory was refused, and the writer is as it was; or the writer stopped.
+-- the reason for which writing ended: an entry does not fit, out of memory, or the writer stopped
 abbrev pub StopsLog : {W : Type 0} → (W → Option (List ℕ)) → (W → Counts) → ℕ → List Entry → W → W → SendFault → Type 0
 StopsLog written counts limit entries old new (Encode index why) = IsFirstUnfit limit entries index why × (new ≡ old)
 StopsLog written counts limit entries old new NoMemory = new ≡ old

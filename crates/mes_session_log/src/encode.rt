@@ -1,4 +1,4 @@
-//! Entries encoded to the records of a session log.
+//! Encoding of entries as the records of a session log. `write.rt` writes them.
 
 ghost use Rattle.std.specs.Prelude.{◌≡◌, ◌-◌, ◌^◌, ◌<◌, ◌∷◌, ◌++◌, length, OnOk, IfOk, IfErr};
 ghost use Rattle.mes_frame.specs.Frames.{record_bytes};
@@ -16,8 +16,9 @@ use mes_msg_record::canonical_bytes;
 use mes_session_log_entry::{BROKEN, CALL, EVENT, HEADER};
 use std::alloc::Global;
 
-/// The log of the entries, of version 2: its header, and then a record for each entry, of its letter and its canonical text. Errors: the
-/// first entry that no record of the limit can hold, or want of memory.
+/// Returns the log of the entries in version 2: the header, then a record with the letter and the
+/// canonical text of each entry. Errors: the first entry that does not fit the limit, or out of
+/// memory.
 pub fn encode_log(alloc: Global, entries: &[Entry], limit: Limit) -> Result<Vec<u8>, SendFault>
     ensures ok { IfOk result (λ log. IsLogOf limit entries.now log.items) }
     ensures err { IfErr result (IsUnwritten limit entries.now) }
@@ -34,7 +35,6 @@ pub fn encode_log(alloc: Global, entries: &[Entry], limit: Limit) -> Result<Vec<
     Ok(log)
 }
 
-/// Appends the record of an entry.
 fn put_entry(
     alloc: Global,
     entry: &Entry,
@@ -54,7 +54,7 @@ fn put_entry(
     }
 }
 
-/// Appends the record of a letter and the canonical text of a message.
+/// Appends the record with a letter and the canonical text of a message.
 fn put_message<T: Part>(
     alloc: Global,
     letter: u8,
@@ -69,7 +69,7 @@ fn put_message<T: Part>(
     ensures err { IfErr result (IsMessageUnfit T.kind limit message.now) }
 {
     let text = canonical_bytes(message, alloc, limit)?;
-    // The letter is to fit too.
+    // The record must also hold the letter.
     if text.len() >= limit.get() as usize {
         return Err(EncodeFault::TooLarge);
     }
@@ -77,7 +77,6 @@ fn put_message<T: Part>(
     Ok(())
 }
 
-/// Appends a record whose data are a letter and a text.
 fn put_record(letter: u8, text: &[u8], log: &mut Vec<u8>) -> Result<(), NoMemory>
     requires { length text.now < 2 ^ 64 - 1 }
     ensures { OnOk result (log.new.items ≡ log.old.items ++ record_bytes (letter ∷ text.now)) }
@@ -89,7 +88,6 @@ fn put_record(letter: u8, text: &[u8], log: &mut Vec<u8>) -> Result<(), NoMemory
     Ok(())
 }
 
-/// What is told where the entry at this place has no record.
 fn refused_at(index: usize, fault: EncodeFault) -> SendFault
     ensures { result ≡ fault_at index fault }
 {

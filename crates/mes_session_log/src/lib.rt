@@ -1,6 +1,16 @@
 #![tactic(auto)]
-//! The log of a framework's session with its master: what it heard and said, entry by entry, read to its first fault and written.
-//! A log is plain RecordIO; the data of a record are a letter and, behind it, the JSON text of an event or a call.
+//! The session log of a framework: the events received, the calls sent and the disconnects, in
+//! order.
+//!
+//! A log is plain RecordIO. The data of a record are a letter and, after it, the JSON text of an
+//! event or a call. The letters are in the crate `mes_session_log_entry`. A log of version 2 begins
+//! with a header.
+//!
+//!     let report = read_log(alloc, &mut source, Limit::USUAL, max_reads, &mut entries)?;
+//!     write_log(alloc, &mut sink, entries.as_slice(), Limit::USUAL)?;
+//!
+//! The contracts promise the entries of a log or its first fault. A written log reads back to its
+//! entries. Programs use the crate `mes_session`. The tests are in `mes_session_log_tests`.
 
 mod encode;
 mod log_reading;

@@ -1,4 +1,4 @@
-//! The reading of a session log from a device: its first record tells the version, and the others are entries of that version.
+//! Incremental reading of a session log. The first record determines the version of the others.
 
 ghost use Rattle.std.specs.Prelude.{◌≡◌, ◌≤◌, ℕ, List, [], ◌∷◌, ◌++◌, length, IfSome, IfOk, OnOk, OnErr, IfErr};
 ghost use Rattle.mes_frame.specs.Record.{IsRecord};
@@ -15,27 +15,26 @@ use mes_stream::{
 };
 use std::alloc::Global;
 
-/// How far a log was read.
 #[derive(Drop)]
 pub(crate) enum Stage {
-    /// Its first record has not ended.
+    /// The first record is incomplete.
     First(Reading<FirstReader>),
-    /// It is of version 1.
+    /// The log has version 1.
     One(Reading<EntryReader<1>>),
-    /// It is of version 2.
+    /// The log has version 2.
     Two(Reading<EntryReader<2>>),
 }
 
-/// Why no more bytes of a log are wanted.
+/// The reason for which reading a log stopped.
 #[derive(Drop)]
 pub(crate) enum LogStop {
-    /// The reading of its records stops.
+    /// Reading the records stopped.
     Reading(ReadingStop),
-    /// Memory was refused for the entry of the first record, which has ended.
+    /// The first record is complete, but an allocation for its entry failed.
     NoMemory,
 }
 
-/// The reading of a log, which keeps its entries in a list.
+/// The incremental reading of a log into a list of entries.
 #[derive(Drop)]
 pub(crate) struct LogReading {
     alloc: Global,
@@ -44,7 +43,7 @@ pub(crate) struct LogReading {
 }
 
 impl LogReading {
-    /// Before the first byte. Takes no memory.
+    /// Returns the state before the first byte. Does not allocate.
     pub(crate) fn new(alloc: Global, limit: Limit) -> LogReading
         ensures { LogRepresents result limit [] [] }
     {
@@ -55,7 +54,7 @@ impl LogReading {
         }
     }
 
-    /// Takes what one read gave, and adds the entries of the records that end in it to the list.
+    /// Consumes the bytes of one read and appends the entries of the records that end in them.
     fn feed(&mut self, piece: &[u8], entries: &mut Vec<Entry>) -> Result<(), LogStop>
         requires { length piece.now ≤ MAX_READ }
         ensures takes { (limit : ℕ) (w : List ℕ) (before : List EntryValue) → LogRepresents self.old limit w before
@@ -68,7 +67,8 @@ impl LogReading {
         }
     }
 
-    // Takes a piece up to the end of the first record, where that has not ended: how many bytes that are, or none where it goes on.
+    // Consumes a piece up to the end of the first record. Returns the number of bytes used, or
+    // `None` if the record is still incomplete.
     fn begin(&mut self, piece: &[u8], entries: &mut Vec<Entry>) -> Result<Option<usize>, LogStop>
         requires { length piece.now ≤ MAX_READ }
         ensures begins { (limit : ℕ) (w : List ℕ) (before : List EntryValue) → LogRepresents self.old limit w before
@@ -91,7 +91,7 @@ impl LogReading {
         }
     }
 
-    /// What the log came to, where the reads ended so.
+    /// Returns the result for a log whose reads ended in this way.
     pub(crate) fn outcome(&mut self, end: ReadsEnd<LogStop>) -> Result<Report, Stop>
         ensures { LogMeans self.old.stage end result }
     {
@@ -105,7 +105,6 @@ impl LogReading {
     }
 }
 
-/// Keeps the entries in a list.
 impl Consumer<Vec<Entry>> for LogReading {
     type Stop = LogStop;
 
@@ -121,7 +120,7 @@ impl Consumer<Vec<Entry>> for LogReading {
 }
 
 impl Stage {
-    // Takes what stands behind the first record in a piece, and adds the entries of the records that end in it to the list.
+    // Consumes the part of a piece after the first record.
     fn feed(&mut self, piece: &[u8], entries: &mut Vec<Entry>) -> Result<(), LogStop>
         requires { length piece.now ≤ MAX_READ }
         ensures { (limit : ℕ) (w : List ℕ) (before : List EntryValue) → RestRepresents self.old limit w before
@@ -134,7 +133,7 @@ impl Stage {
         }
     }
 
-    // How many bytes were used.
+    // Returns the number of bytes used.
     fn used(&self) -> u64
         ensures { result ≡ used_by self.now }
     {
@@ -145,7 +144,7 @@ impl Stage {
         }
     }
 
-    // What the log came to, where the reads ended so.
+    // Returns the result for a log whose reads ended in this way.
     fn outcome(&mut self, end: ReadsEnd<ReadingStop>) -> Result<Report, Stop>
         ensures { StageMeans self.old end result }
     {
@@ -157,7 +156,7 @@ impl Stage {
     }
 }
 
-// What a reading of records answers to a piece, as that of the log.
+// Converts the result of reading records to that of the log.
 fn of_log(fed: Result<(), ReadingStop>) -> Result<(), LogStop>
     ensures { result ≡ log_answer fed }
 {
@@ -167,7 +166,7 @@ fn of_log(fed: Result<(), ReadingStop>) -> Result<(), LogStop>
     }
 }
 
-// The stage behind a first record, with which so many bytes were used. Its entry, where it is one, is added to the list.
+// Returns the stage after the first record, which ended after `used` bytes, and appends its entry.
 fn stage_after(
     alloc: Global,
     limit: Limit,
@@ -203,7 +202,6 @@ fn stage_after(
     }
 }
 
-// Adds an entry to the list.
 fn add(entry: Entry, entries: &mut Vec<Entry>) -> Result<(), LogStop>
     ensures ok { OnOk result (entries.new.items ≡ entries.old.items ++ entry ∷ []) }
     ensures err { IfErr result (λ stop. stop ≡ LogStop.NoMemory) }
@@ -215,7 +213,7 @@ fn add(entry: Entry, entries: &mut Vec<Entry>) -> Result<(), LogStop>
     Ok(())
 }
 
-// How the reads ended for the reading of records; none where memory was refused for the first entry.
+// Returns how reading the records ended, or `None` if an allocation failed for the first entry.
 fn end_of_reading(end: ReadsEnd<LogStop>) -> Option<ReadsEnd<ReadingStop>>
     ensures { result ≡ reading_end end }
 {

@@ -1,4 +1,4 @@
-//! Reads a session log from a device.
+//! Reading of a session log from a device. `write.rt` writes one.
 
 ghost use Rattle.std.specs.Prelude.{◌≡◌, ℕ, List, ◌++◌};
 ghost use Rattle.std.specs.Io.KnownBytes.{Consumes};
@@ -11,11 +11,17 @@ use mes_msg::Entry;
 use mes_stream::{Report, Stop, read_device};
 use std::alloc::Global;
 
-/// Reads a session log of either version to the end of the reader, in at most `max_reads` reads of at most `MAX_READ` bytes, and adds
-/// the entries to the list; those before a fault stay in it. A log whose first record isn't the header is of version 1, as one without
-/// records is. F16 is told of a record without data, of an unknown letter, of more bytes behind the letter of a break, of a break in
-/// version 1, and of a header that isn't the first record. The place in a text counts behind the letter, and the header counts among the
-/// records.
+/// Reads a session log of either version to the end of `reader` and appends its entries to
+/// `entries`. On error the entries before the fault stay appended. Makes at most `max_reads` reads
+/// of at most `MAX_READ` bytes.
+///
+/// A log has version 1 if its first record is not the header, or if it has no records. The fault
+/// F16 (`BadEntry`) is returned for:
+/// - an empty record or an unknown letter;
+/// - bytes after the letter of a disconnect, or a disconnect in version 1;
+/// - a header that is not the first record.
+///
+/// The place of a fault in a text is counted from after the letter. The header counts as a record.
 pub fn read_log<S: Source>(
     alloc: Global,
     reader: &mut S,
@@ -23,7 +29,8 @@ pub fn read_log<S: Source>(
     max_reads: u64,
     entries: &mut Vec<Entry>,
 ) -> Result<Report, Stop>
-    // The bytes w were taken, the list has more entries, and the reading ended as `EndsLog` says of them.
+    // The bytes `w` were consumed and the entries `more` appended; `EndsLog` states the result for
+    // these.
     ensures { (w : List ℕ) × (more : List EntryValue)
         × Consumes (S.left reader.old) (S.left reader.new) w
         × (entries.new.items ≡ entries.old.items ++ more)

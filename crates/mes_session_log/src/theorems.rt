@@ -1,4 +1,5 @@
-//! A law of the definitions that the contracts cite: a function that does nothing, with the law as its contract.
+//! A theorem about the definitions that the contracts use, stated as the contract of an empty
+//! function.
 
 ghost use Rattle.std.specs.Prelude.{◌≡◌, ℕ, List, ◌↔◌};
 ghost use Rattle.mes_msg.specs.declared.entry.Entry.{Entry as EntryValue};
@@ -9,11 +10,14 @@ use mes_frame::record_reading_is_unique;
 use mes_session_log_entry::{EntryReader, FirstReader, entry_reading_is_unique};
 use mes_stream::plain_reading_is_unique;
 
-/// Any bytes are the front of a log of certain entries, or have a byte that shows a fault behind the entries before it: exactly one of
-/// these, in exactly one way. A whole log is such a front, so it has one list of entries.
+/// Proves that any bytes either begin a log of certain entries or have a first faulty byte after
+/// certain entries. Exactly one of these holds, in exactly one way.
 pub fn log_reading_is_unique()
+    // Any bytes have a reading.
     ensures some { (limit : ℕ) (w : List ℕ) → (reading : PlainReading EntryValue) × ReadsLog limit w reading }
+    // Any bytes have at most one reading.
     ensures one { (limit : ℕ) (w : List ℕ) (reading other : PlainReading EntryValue) → ReadsLog limit w reading → ReadsLog limit w other → reading ≡ other }
+    // A whole log is read to its entries.
     ensures whole { (limit : ℕ) (w : List ℕ) (entries : List EntryValue) → IsLog limit w entries → LogGoes limit w entries }
 {
     entry_reading_is_unique();
