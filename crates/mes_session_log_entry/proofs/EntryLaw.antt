@@ -1,4 +1,4 @@
--- The data of any record are one entry of a version, or none for one reason; and the same of a first record.
+-- Any data are one entry of a version or have one fault, and likewise for a first record.
 use Rattle.std.proofs.Common.{◌≡◌, ◌≢◌, ℕ, ◌⊎◌, inl, inr, List, [], ◌∷◌, refl, ap, sym, ◌∙◌, subst, arith}
 use Rattle.std.proofs.lemmas.Bool.{cases_eq}
 use Rattle.mes_model_schema.specs.Kinds.{Kind}
@@ -18,7 +18,7 @@ use Rattle.mes_session_log_entry.specs.declared.first_reader.FirstRecord.{FirstR
 use Rattle.mes_session_log_entry.specs.declared.first_reader.FirstRecord.TheVariants as first
 use Rattle.mes_session_log_entry.specs.declared.letters.TheConstants.{EVENT, CALL, BROKEN, HEADER}
 
--- any bytes are a text of one value of the kind, or of none for one reason, and not both
+-- bytes are a text of one value or have one fault, and not both
 pub record OneMessage {V : Type 0} (k : Kind V) : Type 0 where
   pub some : (b : List ℕ) → ((v : V) × IsTextOf k b v) ⊎ ((why : RecordFault) × (why ≢ message.NoMemory) × IsFaultOf k b why)
   pub value : (b : List ℕ) (v w : V) → IsTextOf k b v → IsTextOf k b w → v ≡ w
@@ -46,7 +46,6 @@ event_no_break version t r = break_no_letter EVENT version t r (λ same. absurd 
 call_no_break : (version : ℕ) (t r : List ℕ) → r ≡ CALL ∷ t → IsBreak version r → ⊥
 call_no_break version t r = break_no_letter CALL version t r (λ same. absurd (omega (arith, same)))
 
--- a bad entry begins with no letter of a text, and is no break
 bad_no_event : (version : ℕ) (t r : List ℕ) → r ≡ EVENT ∷ t → IsBadEntry version r → ⊥
 bad_no_event version t [] is bad = absurd (cc)
 bad_no_event version t (letter ∷ text) is bad = bad.0.0 (behind_one letter EVENT text t (letter ∷ text) refl is).0
@@ -59,7 +58,7 @@ bad_no_break : (version : ℕ) (r : List ℕ) → IsBreak version r → IsBadEnt
 bad_no_break version [] is bad = let none : [] ≡ BROKEN ∷ [] = is.1 in absurd (cc)
 bad_no_break version (letter ∷ text) is bad = bad.1 is
 
--- data behind another letter are a break or a bad entry
+-- data after another letter are a disconnect or a bad entry
 break_or_not : (version letter : ℕ) (text : List ℕ) → IsBreak version (letter ∷ text) ⊎ (IsBreak version (letter ∷ text) → ⊥)
 break_or_not version letter (next ∷ text) = inr (λ is. let same = (behind_one letter BROKEN (next ∷ text) [] (letter ∷ next ∷ text) refl is.1).1 in absurd (cc))
 break_or_not version letter [] = elim (cases_eq version 2) [
@@ -72,13 +71,12 @@ break_or_not version letter [] = elim (cases_eq version 2) [
 
 -- ---- faults of messages
 
--- a refusal that is no bad entry is a fault of the message
 pub message_breaks : (version : ℕ) (r : List ℕ) (f : RecordFault) → f ≢ message.NoMemory → IsMessageFault r f → EntryBreaks version r (refusal_of f)
 message_breaks version r (message.Text f) known h = h
 message_breaks version r (message.Field f) known h = h
 message_breaks version r message.NoMemory known h = absurd (known refl)
 
--- what a refusal says of the data
+-- the meaning of a fault for the data
 data TextFaultKind (version : ℕ) (r : List ℕ) (why : RecordError) : Type 0 where
   OfMessage : (f : RecordFault) → f ≢ message.NoMemory → IsMessageFault r f → why ≡ refusal_of f → TextFaultKind version r why
   OfLetter : why ≡ refusal.BadEntry → IsBadEntry version r → TextFaultKind version r why
@@ -175,7 +173,6 @@ module _ (events : OneMessage event) (calls : OneMessage call) where
 
   -- ---- the first record
 
-  -- the header is no entry of version 1, and no text stands behind its letter
   header_no_entry : (r : List ℕ) (a : Entry) → r ≡ HEADER ∷ [] → SpellsEntry 1 r a → ⊥
   header_no_entry r (Heard a) header (t, is, h) = let same = (behind_one HEADER EVENT [] t r header is).0 in absurd (omega (arith, same))
   header_no_entry r (Said a) header (t, is, h) = let same = (behind_one HEADER CALL [] t r header is).0 in absurd (omega (arith, same))
@@ -185,7 +182,7 @@ module _ (events : OneMessage event) (calls : OneMessage call) where
   header_no_fault r f header (inl (t, is, h)) = let same = (behind_one HEADER EVENT [] t r header is).0 in absurd (omega (arith, same))
   header_no_fault r f header (inr (t, is, h)) = let same = (behind_one HEADER CALL [] t r header is).0 in absurd (omega (arith, same))
 
-  -- what is refused of a first record is refused of an entry of version 1, and the data are no header
+  -- a fault of a first record is one of an entry of version 1, and the data are not the header
   first_why : (r : List ℕ) (f : RecordError) → f ≢ refusal.NoMemory → FirstBreaks r f → TextFaultKind 1 r f × (r ≢ HEADER ∷ [])
   first_why r (refusal.Text f) known h = (why_of 1 r (refusal.Text f) known h, λ header. header_no_fault r (message.Text f) header h)
   first_why r (refusal.Field f) known h = (why_of 1 r (refusal.Field f) known h, λ header. header_no_fault r (message.Field f) header h)

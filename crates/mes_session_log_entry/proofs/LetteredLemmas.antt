@@ -1,4 +1,4 @@
--- What lettered data are, over the places where a reader of them stands.
+-- The data at each position of their reader.
 use Rattle.std.proofs.Common.{◌≡◌, ◌≢◌, ℕ, ◌+◌, ◌^◌, ◌<◌, ◌≤◌, inl, inr, List, [], ◌∷◌, ◌++◌, length, take, Result, Ok, Err, refl, ap, sym, ◌∙◌, subst, arith, add-one, Bool, true, false}
 use Rattle.std.specs.Prelude.{◌==◌, IfErr}
 use Rattle.mes_json.specs.Inner.{inner}
@@ -26,17 +26,15 @@ use Rattle.mes_session_log_entry.specs.declared.letters.TheConstants.{EVENT, CAL
 use Rattle.mes_session_log_entry.specs.declared.lettered.Place.{Place}
 use Rattle.mes_session_log_entry.specs.declared.lettered.Place.TheVariants as place
 
--- the text is shorter than the data
 pub shorter : (letter : ℕ) (text r : List ℕ) → r ≡ letter ∷ text → length r < 2 ^ 64 → length text < 2 ^ 64
 shorter letter text r is short = let size = ap length is in omega (arith, size, short)
 
--- more bytes of a text
 pub text_on : (letter : ℕ) (old new : Lexer) (bytes r : List ℕ) → ((p : List ℕ) → HasLexed old p → HasLexed new (p ++ bytes)) → (IsOutOfMemory new → ⊥)
     → AfterLetter letter (HasText old) r → AfterLetter letter (HasText new) (r ++ bytes)
 text_on letter old new bytes r lexed memory (text, is, has) =
     (text ++ bytes, ap (λ (x : List ℕ). x ++ bytes) is, record { lexed = lexed text has.lexed; memory = memory })
 
--- a refusal of a text is one of the data that have it behind an event's letter, and the same for a call
+-- a fault of a text is a fault of the data, for an event and for a call
 pub event_refused : (r : List ℕ) (text : List ℕ) (why : RecordError) → r ≡ EVENT ∷ text → IsTextRefusal event text why → LetteredBreaks r why
 event_refused r text (refusal.Text f) is h = inl (text, is, h)
 event_refused r text (refusal.Field f) is h = inl (text, is, h)
@@ -49,19 +47,17 @@ call_refused r text (refusal.Field f) is h = inr (text, is, h)
 call_refused r text refusal.BadEntry is h = absurd h
 call_refused r text refusal.NoMemory is h = inr (text, is, h)
 
--- why a text is none of a message of the kind, as a refusal
 pub text_refused : {V : Type 0} (k : Kind V) (text : List ℕ) (f : RecordFault) → (f ≡ message.NoMemory → Begins MAX_NESTING text) → IsFaultOf k text f → IsTextRefusal k text (refusal_of f)
 text_refused k text (message.Text f) begins h = h
 text_refused k text (message.Field f) begins h = h
 text_refused k text message.NoMemory begins h = begins refl
 
--- the bytes are no text, or an allocation failed
 pub lexed_refused : {V : Type 0} (k : Kind V) (text : List ℕ) (e : ReadFault) → length text < 2 ^ 64 → IsLexFault MAX_NESTING text e → (e ≡ read.NoMemory → Begins MAX_NESTING text)
     → IsTextRefusal k text (refusal_of (of_read e))
 lexed_refused k text (read.Text f) short h begins = exact_fault MAX_NESTING text f short h
 lexed_refused k text read.NoMemory short h begins = begins refl
 
--- an allocation failed for a byte of a text: the data before it begin as its message's do
+-- an allocation failed at a byte of a text, and the data before it begin as its message
 abbrev pub StopsText : {T : Type 0} → Lexer → List ℕ → Result T NoMemoryAt → Type 0
 StopsText lexer bytes result =
     (text : List ℕ) → HasLexed lexer text → (IsOutOfMemory lexer → ⊥) → IfErr result (λ refused. Begins MAX_NESTING (text ++ take refused.taken bytes))
@@ -78,7 +74,6 @@ call_before lexer r bytes (Ok done) before h = tt
 call_before lexer r bytes (Err refused) before (text, is, has) =
     inr (text ++ take refused.taken bytes, ap (λ (x : List ℕ). x ++ take refused.taken bytes) is, before text has.lexed has.memory)
 
--- data of which some were taken are not empty
 pub some_held : (p : Place) (lexer : Lexer) (r : List ℕ) → p ≢ place.Start → HoldsAt p lexer r → r ≢ []
 some_held place.Start lexer r other h none = absurd (other refl)
 some_held place.Event lexer r other (text, is, has) none = absurd (cc)
@@ -86,20 +81,17 @@ some_held place.Call lexer r other (text, is, has) none = absurd (cc)
 some_held (place.Alone letter) lexer r other (is, alone, has) none = absurd (cc)
 some_held place.More lexer r other (letter, next, more, is, alone, has) none = absurd (cc)
 
--- a front of the letter and the text after it
 pub take_letter : (n letter : ℕ) (text : List ℕ) → take (n + 1) (letter ∷ text) ≡ letter ∷ take n text
 take_letter n letter text = rw add-one refl
 
--- a list that is not empty has an item
 pub some_bytes : (bytes : List ℕ) (empty : Bool) → empty ≡ (length bytes == 0) → empty ≡ false → bytes ≡ [] → ⊥
 some_bytes bytes empty is not none = let both : true ≡ false = subst (λ (xs : List ℕ). (length xs == 0) ≡ false) none (sym is ∙ not) in absurd (cc)
 
--- more stands behind a byte that is no letter of a text
 pub alone_more : (lexer : Lexer) (letter : ℕ) (r bytes : List ℕ) → (bytes ≡ [] → ⊥) → HoldsAt (place.Alone letter) lexer r → HoldsAt place.More lexer (r ++ bytes)
 alone_more lexer letter r [] some h = absurd (some refl)
 alone_more lexer letter r (next ∷ more) some (is, other, has) = (letter, next, more, ap (λ (x : List ℕ). x ++ next ∷ more) is, other, has)
 
--- what is kept of the text is at most what counts in the data
+-- the buffered text is at most the counted part of the data
 pub kept_most : (lexer : Lexer) (place : Place) (r : List ℕ) → ((p : List ℕ) → HasLexed lexer p → IsBounded lexer p) → HoldsAt place lexer r → held lexer ≤ inner r
 kept_most lexer place.Start r bound h = let most = (bound [] h.1.lexed).texts in omega (arith, most)
 kept_most lexer place.Event r bound (text, is, has) = let most = (bound text has.lexed).texts in rw is (omega (arith, most))

@@ -1,13 +1,13 @@
--- What the readers of a log's records have taken of a record's data.
+-- The data that the readers of a log's records have consumed.
 use Rattle.std.specs.Prelude.{ℕ, List}
 use Rattle.mes_session_log_entry.specs.Lettered.{HoldsLettered}
 use Rattle.mes_session_log_entry.specs.declared.entry_reader.EntryReader.{EntryReader}
 use Rattle.mes_session_log_entry.specs.declared.first_reader.FirstReader.{FirstReader}
 
--- these bytes of a first record's data were taken
+-- the reader has consumed these bytes of a first record
 abbrev pub HoldsFirst : FirstReader → List ℕ → Type 0
 HoldsFirst reader r = HoldsLettered reader.lettered r
 
--- these bytes of an entry's data were taken
+-- the reader has consumed these bytes of an entry
 abbrev pub HoldsEntry : {version : ℕ} → EntryReader version → List ℕ → Type 0
 HoldsEntry reader r = HoldsLettered reader.lettered r

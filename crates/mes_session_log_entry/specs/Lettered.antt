@@ -1,4 +1,4 @@
--- What a reader of lettered data has taken of a record's data, and what it makes of them.
+-- The data that the reader of a letter and a text has consumed, and their value.
 use Rattle.std.specs.Prelude.{◌≡◌, ℕ, ◌+◌, ◌⊎◌, List, [], ◌∷◌}
 use Rattle.mes_json.specs.Lexer.{HasLexed, IsOutOfMemory, held}
 use Rattle.mes_json.specs.Place.{Begins}
@@ -20,12 +20,12 @@ use Rattle.mes_session_log_entry.specs.declared.lettered.LetteredReader.{Lettere
 use Rattle.mes_session_log_entry.specs.declared.lettered.Place.{Place}
 use Rattle.mes_session_log_entry.specs.declared.lettered.Place.TheVariants as place
 
--- the lexer has taken the text, and no growth was refused memory
+-- the lexer has consumed the text, and no allocation failed
 pub record HasText (lexer : Lexer) (text : List ℕ) : Type 0 where
   pub lexed : HasLexed lexer text
   pub memory : IsOutOfMemory lexer → ⊥
 
--- no byte; a letter and a text; or another byte, alone or with more behind it
+-- no byte; a letter and a text; or another byte, alone or with more after it
 abbrev pub HoldsAt : Place → Lexer → List ℕ → Type 0
 HoldsAt place.Start lexer r = (r ≡ []) × HasText lexer []
 HoldsAt place.Event lexer r = AfterLetter EVENT (HasText lexer) r
@@ -33,32 +33,32 @@ HoldsAt place.Call lexer r = AfterLetter CALL (HasText lexer) r
 HoldsAt (place.Alone letter) lexer r = (r ≡ letter ∷ []) × IsOther letter × HasText lexer []
 HoldsAt place.More lexer r = (letter : ℕ) × (next : ℕ) × (more : List ℕ) × (r ≡ letter ∷ next ∷ more) × IsOther letter × HasText lexer []
 
--- these bytes of the data were taken
+-- the reader has consumed these bytes of the data
 abbrev pub HoldsLettered : LetteredReader → List ℕ → Type 0
 HoldsLettered reader r = HoldsAt reader.place reader.lexer r
 
--- how many bytes of texts and numbers are kept of them: the sum over all fields
+-- the number of buffered bytes of texts and numbers: the sum over all fields
 abbrev pub kept_text : LetteredReader → ℕ
 kept_text reader = let record { alloc = alloc; place = now; lexer = lexer } = reader in fixed alloc + fixed now + held lexer
 
--- the data are these
+-- the data have this value
 abbrev pub SpellsLettered : List ℕ → Lettered → Type 0
 SpellsLettered r (lettered.Event heard) = AfterLetter EVENT (λ text. Spells text heard) r
 SpellsLettered r (lettered.Call said) = AfterLetter CALL (λ text. IsTextOf call text said) r
 SpellsLettered r (lettered.Alone letter) = (r ≡ letter ∷ []) × IsOther letter
 
--- there are none, or more stands behind another byte
+-- the data are empty, or more follows a byte that is neither letter
 abbrev pub IsBadData : List ℕ → Type 0
 IsBadData r = (r ≡ []) ⊎ ((letter : ℕ) × (next : ℕ) × (more : List ℕ) × (r ≡ letter ∷ next ∷ more) × IsOther letter)
 
--- Why they are none of these. An allocation fails only for data that begin as an event's or a call's do.
+-- the fault of the data; an allocation fails only if the data begin as an event or a call
 abbrev pub LetteredBreaks : List ℕ → RecordError → Type 0
 LetteredBreaks r (refusal.Text fault) = IsMessageFault r (message.Text fault)
 LetteredBreaks r (refusal.Field fault) = IsMessageFault r (message.Field fault)
 LetteredBreaks r refusal.BadEntry = IsBadData r
 LetteredBreaks r refusal.NoMemory = BeginsMessage r
 
--- Why a text is none of a message of this kind. An allocation fails only for bytes that begin a text.
+-- the fault of a text; an allocation fails only for bytes that begin a text
 abbrev pub IsTextRefusal : {V : Type 0} → Kind V → List ℕ → RecordError → Type 0
 IsTextRefusal k text (refusal.Text fault) = IsFaultOf k text (message.Text fault)
 IsTextRefusal k text (refusal.Field fault) = IsFaultOf k text (message.Field fault)

@@ -1,4 +1,4 @@
-//! Reads the data of records to entries of a session log.
+//! Reading of a record's data as an entry of a session log.
 
 ghost use Rattle.std.specs.Prelude.{◌≡◌, ◌≢◌, ℕ, ◌^◌, ◌<◌, ◌≤◌, List, [], ◌++◌, length, OnOk, IfOk, IfErr};
 ghost use Rattle.mes_json.specs.Inner.{inner};
@@ -12,14 +12,14 @@ use mes_msg::Entry;
 use mes_stream::{RecordError, RecordReader};
 use std::alloc::Global;
 
-/// Reads the data of records to entries of a log of that version, 1 or 2: in version 2 a stream may break.
+/// The reader of entries of a log of version 1 or 2. Only version 2 has disconnects.
 #[derive(Drop)]
 pub struct EntryReader<const VERSION: u8> {
     lettered: LetteredReader,
 }
 
 impl<const VERSION: u8> EntryReader<VERSION> {
-    /// A reader before the first record. Takes no memory.
+    /// Returns a reader before the first record. Does not allocate.
     pub fn new(alloc: Global) -> EntryReader<VERSION>
         ensures { HoldsLettered result.lettered [] }
     {

@@ -1,4 +1,4 @@
-//! Reads the data of the first record of a session log, which tells its version.
+//! Reading of the data of a log's first record, which determines the version.
 
 ghost use Rattle.std.specs.Prelude.{◌≡◌, ◌≢◌, ℕ, ◌^◌, ◌<◌, ◌≤◌, List, [], ◌++◌, length, OnOk, IfOk, IfErr};
 ghost use Rattle.mes_json.specs.Inner.{inner};
@@ -12,23 +12,23 @@ use mes_msg::Entry;
 use mes_stream::{RecordError, RecordReader};
 use std::alloc::Global;
 
-/// What the first record of a log is.
+/// The first record of a log.
 #[derive(Debug, Drop)]
 pub enum FirstRecord {
-    /// The header, with which a log of version 2 begins.
+    /// The header of a log of version 2.
     Header,
-    /// An entry, with which a log of version 1 begins.
+    /// The first entry of a log of version 1.
     Entry(Entry),
 }
 
-/// Reads the data of a first record.
+/// The reader of a log's first record.
 #[derive(Drop)]
 pub struct FirstReader {
     lettered: LetteredReader,
 }
 
 impl FirstReader {
-    /// A reader before the first record. Takes no memory.
+    /// Returns a reader before the first record. Does not allocate.
     pub fn new(alloc: Global) -> FirstReader
         ensures { HoldsLettered result.lettered [] }
     {

@@ -1,4 +1,5 @@
-//! Reads data that are a letter and, behind some letters, the JSON text of a message.
+//! Incremental reading of a record's data: a letter and, after some letters, the JSON text of a
+//! message.
 
 ghost use Rattle.std.specs.Prelude.{◌≡◌, ◌≢◌, ℕ, ◌^◌, ◌<◌, ◌≤◌, List, [], ◌∷◌, ◌++◌, length, take, IsTrue, ◌↔◌, OnOk, IfOk, IfErr};
 ghost use Rattle.mes_json.specs.Inner.{inner};
@@ -14,7 +15,6 @@ use mes_msg::{Call, Event};
 use mes_stream::RecordError;
 use std::alloc::Global;
 
-/// What the data of a record are.
 #[derive(Drop)]
 pub(crate) enum Lettered {
     /// The letter of an event and its text.
@@ -25,23 +25,23 @@ pub(crate) enum Lettered {
     Alone(u8),
 }
 
-// How far the data were taken.
+// The position in the data.
 #[derive(Clone, Copy, Debug, PartialEq, Eq)]
 enum Place {
-    // No byte.
+    // Before the first byte.
     Start,
-    // The letter of an event, and what the lexer has of its text.
+    // After the letter of an event; the lexer has the text so far.
     Event,
-    // The letter of a call, and what the lexer has of its text.
+    // After the letter of a call; the lexer has the text so far.
     Call,
-    // One byte that is neither letter.
+    // After one byte that is neither letter.
     Alone(u8),
-    // More behind such a byte.
+    // More than one byte, and the first is neither letter.
     More,
 }
 
-/// Reads the data of one record after the other while the bytes come: the letter first, then the text, which is lexed as it comes.
-/// No bytes are kept.
+/// The incremental reader of the data of consecutive records. It passes the text to a lexer and
+/// buffers no bytes.
 #[derive(Drop)]
 pub(crate) struct LetteredReader {
     alloc: Global,
@@ -50,7 +50,7 @@ pub(crate) struct LetteredReader {
 }
 
 impl LetteredReader {
-    /// A reader before the first record. Takes no memory.
+    /// Returns a reader before the first record. Does not allocate.
     pub(crate) fn new(alloc: Global) -> LetteredReader
         ensures { HoldsLettered result [] }
     {
@@ -61,12 +61,12 @@ impl LetteredReader {
         }
     }
 
-    /// Takes a run of the data.
     pub(crate) fn push_run(&mut self, bytes: &[u8]) -> Result<(), NoMemoryAt>
+        // On success: the run is consumed.
         ensures ok { OnOk result ((r : List ℕ) → HoldsLettered self.old r → HoldsLettered self.new (r ++ bytes.now)) }
-        // Memory was refused for the byte behind those that were taken.
+        // Each error: an allocation failed at byte `taken` of the run.
         ensures err { IfErr result (λ refused. 0 < length bytes.now → refused.taken < length bytes.now) }
-        // The data before that byte begin as an event's or a call's do.
+        // The data before that byte begin as an event or a call.
         ensures before { (r : List ℕ) → HoldsLettered self.old r → IfErr result (λ refused. BeginsMessage (r ++ take refused.taken bytes.now)) }
     {
         if !self.is_at_start() {
@@ -87,7 +87,7 @@ impl LetteredReader {
         }
     }
 
-    // No byte of the data was taken.
+    // Returns whether no byte of the data is consumed yet.
     fn is_at_start(&self) -> bool
         ensures { IsTrue result ↔ (self.now.place ≡ Place.Start) }
     {
@@ -100,7 +100,7 @@ impl LetteredReader {
         }
     }
 
-    // Takes a run of the data behind the first byte.
+    // Consumes a run of the data after the first byte.
     fn push_after(&mut self, bytes: &[u8]) -> Result<(), NoMemoryAt>
         ensures ok { OnOk result ((r : List ℕ) → r ≢ [] → HoldsLettered self.old r → HoldsLettered self.new (r ++ bytes.now)) }
         ensures err { IfErr result (λ refused. 0 < length bytes.now → refused.taken < length bytes.now) }
@@ -120,11 +120,11 @@ impl LetteredReader {
         }
     }
 
-    /// What the data are that have ended, or why they are nothing that is read here.
+    /// Ends the data and returns their value or fault.
     pub(crate) fn finish(&mut self) -> Result<Lettered, RecordError>
         ensures ok { (r : List ℕ) → HoldsLettered self.old r → length r < 2 ^ 64 → IfOk result (SpellsLettered r) }
         ensures err { (r : List ℕ) → HoldsLettered self.old r → length r < 2 ^ 64 → IfErr result (LetteredBreaks r) }
-        // Then it is ready for the next record.
+        // On success: the reader is ready for the next record.
         ensures next { OnOk result (HoldsLettered self.new []) }
     {
         let place = self.place;
@@ -147,7 +147,7 @@ impl LetteredReader {
         }
     }
 
-    /// Keeps nothing any more.
+    /// Frees the buffered text.
     pub(crate) fn release(&mut self)
         ensures { kept_text self.new ≡ 0 }
     {
@@ -155,7 +155,7 @@ impl LetteredReader {
         lexer_bound(&self.lexer);
     }
 
-    /// How many bytes of texts and numbers are kept, not counting spare room.
+    /// Returns the number of buffered bytes of texts and numbers, without spare capacity.
     pub(crate) fn held(&self) -> u64
         ensures count { result ≡ kept_text self.now }
         ensures most { (r : List ℕ) → HoldsLettered self.now r → result ≤ inner r }
@@ -165,7 +165,7 @@ impl LetteredReader {
     }
 }
 
-// How far the data are behind their first byte.
+// Returns the position after the first byte.
 fn offset_after(letter: u8) -> Place
     ensures { (lexer : LexerValue) → HasText lexer [] → HoldsAt result lexer (letter ∷ []) }
 {
@@ -178,7 +178,7 @@ fn offset_after(letter: u8) -> Place
     }
 }
 
-// Reads the text that the lexer has taken to a message, and makes the lexer ready for the next text.
+// Reads the lexer's text as a message, and resets the lexer for the next text.
 fn end_text<T: Part>(alloc: Global, lexer: &mut Lexer) -> Result<T, RecordError>
     requires { T.STEPS ≤ MAX_PATH_STEPS }
     ensures ok { (text : List ℕ) → HasText lexer.old text → length text < 2 ^ 64 → IfOk result (IsTextOf T.kind text) }

@@ -1,13 +1,13 @@
-//! The letters that the data of a session log's records begin with.
+//! The letters with which the data of a session log's records begin.
 
-/// The letter of an event that was heard; its JSON text stands behind it.
+/// The letter of an event received. Its JSON text follows.
 pub const EVENT: u8 = b'E';
 
-/// The letter of a call that was said; its JSON text stands behind it.
+/// The letter of a call sent. Its JSON text follows.
 pub const CALL: u8 = b'C';
 
-/// The letter of a broken stream, which stands alone. Version 1 has none.
+/// The letter of a disconnect, without more bytes. Version 1 does not have it.
 pub const BROKEN: u8 = b'B';
 
-/// The one byte of the header, the first record of a log of version 2. Version 1 has no header.
+/// The only byte of the header, the first record of a log of version 2. Version 1 has no header.
 pub const HEADER: u8 = b'2';

@@ -1,5 +1,15 @@
 #![tactic(auto)]
-//! The entries of a session log, in the data of its records: a letter and, behind some letters, the JSON text of an event or a call.
+//! The entries of a session log, as the data of its records. An entry is a letter and, after some
+//! letters, the JSON text of an event or a call.
+//!
+//! - `letters`: the letters `E` (event), `C` (call), `B` (disconnect) and `2` (header).
+//! - `first_reader`: reads the first record, which determines the version.
+//! - `entry_reader`: reads the entries of a version.
+//! - `lettered`: the incremental reader that both use.
+//!
+//!     let mut reader = EntryReader::<2>::new(alloc);
+//!
+//! The crate `mes_session_log` reads whole logs. The tests are in `mes_session_log_tests`.
 
 mod entry_reader;
 mod first_reader;

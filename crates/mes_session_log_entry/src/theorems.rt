@@ -1,4 +1,4 @@
-//! Laws of the definitions that the contracts cite: functions that do nothing, each with the law as its contract.
+//! Theorems about the definitions that the contracts use, stated as contracts of empty functions.
 
 ghost use Rattle.std.specs.Prelude.{◌≡◌, ℕ};
 ghost use Rattle.mes_stream.specs.PlainReading.{IsDecided, IsExact};
@@ -7,13 +7,14 @@ ghost use Rattle.mes_session_log_entry.specs.Entries.{EntryBreaks, FirstBreaks, 
 use crate::letters::{BROKEN, CALL, EVENT, HEADER};
 use mes_msg::{Call, Event, message_reading_is_unique};
 
-/// The letters of a log's records: `E`, `C` and `B` of entries, and `2` of the header.
+/// Proves the values of the letters: `E`, `C` and `B` of entries, and `2` of the header.
 pub fn log_letters()
     ensures entries { (EVENT ≡ 69) × (CALL ≡ 67) × (BROKEN ≡ 66) }
     ensures header { HEADER ≡ 50 }
 {}
 
-/// Any data are those of one entry of a version, or of none for one reason, and not both; and the same of a first record.
+/// Proves that any data are either one entry of a version or have one fault. The same holds for a
+/// first record.
 pub fn entry_reading_is_unique()
     ensures one { (version : ℕ) → IsExact (SpellsEntry version) (EntryBreaks version) }
     ensures some { (version : ℕ) → IsDecided (SpellsEntry version) (EntryBreaks version) }
