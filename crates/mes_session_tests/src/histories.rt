@@ -1,9 +1,9 @@
-//! Histories: what is held after them, entry by entry and replayed.
+//! Histories: the state after each entry, and after a replay.
 
 use crate::support::{expect_replay, expect_script};
 use std::test::Fail;
 
-/// Offers keep the place in which they came and take the last value; one that comes again after it was taken out is last.
+/// An offer that is sent again replaces the old one in its place; after a removal it comes last.
 const HAND: &str =
     r#"E {"type":"SUBSCRIBED","subscribed":{"framework_id":{"value":"F1"}}} => ok | F1 on ;
 E {"type":"OFFERS","offers":{"offers":[{"id":{"value":"O1"},"framework_id":{"value":"F1"},"agent_id":{"value":"A1"},"hostname":"a"},{"id":{"value":"O2"},"framework_id":{"value":"F1"},"agent_id":{"value":"A1"},"hostname":"b"},{"id":{"value":"O1"},"framework_id":{"value":"F1"},"agent_id":{"value":"A1"},"hostname":"c"}]}} => ok | F1 on O1=c O2=b ;
@@ -20,7 +20,7 @@ E {"type":"SUBSCRIBED","subscribed":{"framework_id":{"value":"F2"}}} => ok | F2 
 E {"type":"OFFERS","offers":{"offers":[]}} => ok | F2 on ;
 "#;
 
-/// What is owed outlives a SUBSCRIBED and a break, in the order in which it came.
+/// Unacknowledged updates survive a SUBSCRIBED and a disconnect, in the order of arrival.
 const OWED: &str =
     r#"E {"type":"SUBSCRIBED","subscribed":{"framework_id":{"value":"F1"}}} => ok | F1 on ;
 E {"type":"UPDATE","update":{"status":{"task_id":{"value":"T1"},"state":"TASK_RUNNING","agent_id":{"value":"A1"},"uuid":"AAECAwQFBgcICQoLDA0ODw=="}}} => ok | F1 on ; A1/T1/000102030405060708090a0b0c0d0e0f
@@ -37,7 +37,7 @@ M {"type":"ACKNOWLEDGE","framework_id":{"value":"F1"},"acknowledge":{"agent_id":
 C {"type":"ACKNOWLEDGE","framework_id":{"value":"F1"},"acknowledge":{"agent_id":{"value":"A2"},"task_id":{"value":"T1"},"uuid":"AAECAwQFBgcICQoLDA0ODw=="}} => ok | F1 on ; A1/T2/000102030405060708090a0b0c0d0e0f A1/T1/ff00
 "#;
 
-/// A history of which no call is refused.
+/// A history without a refused call.
 const LEGAL: &str = r#"E {"type":"SUBSCRIBED","subscribed":{"framework_id":{"value":"F1"}}}
 E {"type":"OFFERS","offers":{"offers":[{"id":{"value":"O1"},"framework_id":{"value":"F1"},"agent_id":{"value":"A1"},"hostname":"h"},{"id":{"value":"O2"},"framework_id":{"value":"F1"},"agent_id":{"value":"A1"},"hostname":"g"}]}}
 E {"type":"UPDATE","update":{"status":{"task_id":{"value":"T1"},"state":"TASK_RUNNING","agent_id":{"value":"A1"},"uuid":"AAECAwQFBgcICQoLDA0ODw=="}}}
@@ -45,7 +45,7 @@ C {"type":"DECLINE","framework_id":{"value":"F1"},"decline":{"offer_ids":[{"valu
 C {"type":"REVIVE","framework_id":{"value":"F1"}}
 "#;
 
-/// The same, with two calls behind that are refused.
+/// The same history, followed by two refused calls.
 const REFUSED: &str = r#"E {"type":"SUBSCRIBED","subscribed":{"framework_id":{"value":"F1"}}}
 E {"type":"OFFERS","offers":{"offers":[{"id":{"value":"O1"},"framework_id":{"value":"F1"},"agent_id":{"value":"A1"},"hostname":"h"},{"id":{"value":"O2"},"framework_id":{"value":"F1"},"agent_id":{"value":"A1"},"hostname":"g"}]}}
 E {"type":"UPDATE","update":{"status":{"task_id":{"value":"T1"},"state":"TASK_RUNNING","agent_id":{"value":"A1"},"uuid":"AAECAwQFBgcICQoLDA0ODw=="}}}
@@ -55,7 +55,7 @@ C {"type":"ACCEPT","framework_id":{"value":"F1"},"accept":{"offer_ids":[{"value"
 C {"type":"DECLINE","framework_id":{"value":"F1"},"decline":{"offer_ids":[{"value":"O9"}]}}
 "#;
 
-/// A call behind a break.
+/// A call after a disconnect.
 const LOST: &str = r#"E {"type":"SUBSCRIBED","subscribed":{"framework_id":{"value":"F1"}}}
 B
 C {"type":"REVIVE","framework_id":{"value":"F1"}}

@@ -1,4 +1,5 @@
-//! Tests of sessions, by the public calls: scripts of what is heard and said, with what is answered and held after each line.
+//! Tests of the crate `mes_session` through its public functions. Scripts of events and calls state
+//! the result and the state after each line; `support` has the format.
 #![tactic(auto)]
 
 #[cfg(test)]

@@ -1,9 +1,10 @@
-//! Calls that are refused, said and asked for: each reason with all in front of it passing, and nothing changed by it.
+//! Refused calls, applied and made. Each reason occurs with all earlier checks passing, and does
+//! not change the state.
 
 use crate::support::expect_script;
 use std::test::Fail;
 
-/// The first reason is told, whatever else is wrong.
+/// The first reason is returned, whatever else is wrong.
 const REASONS: &str =
     r#"E {"type":"SUBSCRIBED","subscribed":{"framework_id":{"value":"F1"}}} => ok | F1 on ;
 E {"type":"OFFERS","offers":{"offers":[{"id":{"value":"O1"},"framework_id":{"value":"F1"},"agent_id":{"value":"A1"},"hostname":"h","resources":[{"name":"cpus","type":"SCALAR","scalar":{"value":1}}]},{"id":{"value":"O2"},"framework_id":{"value":"F1"},"agent_id":{"value":"A2"},"hostname":"g"},{"id":{"value":"O3"},"framework_id":{"value":"F1"},"agent_id":{"value":"A1"},"hostname":"k"}]}} => ok | F1 on O1=h O2=g O3=k ;
@@ -43,7 +44,8 @@ C {"type":"ACKNOWLEDGE","framework_id":{"value":"F1"},"acknowledge":{"agent_id":
 M {"type":"ACKNOWLEDGE","framework_id":{"value":"F1"},"acknowledge":{"agent_id":{"value":"A1"},"task_id":{"value":"T1"},"uuid":"AAE="}} => S7 | F1 on O1=h O2=g O3=k ; A1/T1/000102030405060708090a0b0c0d0e0f
 "#;
 
-/// A break: the offers go; the framework and what is owed stay; calls but SUBSCRIBE wait for the next SUBSCRIBED.
+/// A disconnect removes the offers; the framework and the unacknowledged updates stay. Calls except
+/// SUBSCRIBE are refused until the next SUBSCRIBED.
 const BROKEN: &str =
     r#"E {"type":"SUBSCRIBED","subscribed":{"framework_id":{"value":"F1"}}} => ok | F1 on ;
 E {"type":"OFFERS","offers":{"offers":[{"id":{"value":"O1"},"framework_id":{"value":"F1"},"agent_id":{"value":"A1"},"hostname":"h"}]}} => ok | F1 on O1=h ;

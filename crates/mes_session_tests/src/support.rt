@@ -1,11 +1,18 @@
-//! What a script says.
+//! The format of the scripts, and their interpreter.
 //!
-//! A line is `WHAT => ANSWER | HELD`. What is done is one of these: `E` and an event that is heard; `C` and a call that is said; `M` and
-//! a call that the session is asked to make; `B`, the stream breaks. The answer is `ok` or the refusal; of a call that was made `same`,
-//! or its canonical text where that is another. What is held then is told by the calls that only look: the framework or `-`, `on` or
-//! `off`, the offers in hand, each with its host, and `;` with the keys of the updates that are owed: the agent, the task, and the uuid in hexadecimal digits.
+//! A line is `ACTION => RESULT | STATE`. The action is one of:
+//! - `E` and an event that is received;
+//! - `C` and a call that is applied with `said`;
+//! - `M` and a call that the session is asked to make;
+//! - `B`, a disconnect.
 //!
-//! A value that is read lives in a small function of its own: it makes each later step of its function dear to check.
+//! The result is `ok` or the refusal. For a call that was made it is `same`, or its canonical text
+//! if that differs. The state is the framework or `-`, `on` or `off`, and each outstanding offer
+//! with its host. After `;` it has the keys of the unacknowledged updates: agent, task, and UUID in
+//! hexadecimal.
+//!
+//! A value that is read is local to a small function, because it makes each later step of its
+//! function more expensive to check.
 
 use mes_model::{OwedKey, Part, TaskInfo};
 use mes_msg::{
@@ -17,7 +24,6 @@ use std::alloc::Global;
 use std::process::Abort;
 use std::test::Fail;
 
-/// A refusal in words.
 fn refusal_in_words(alloc: Global, refusal: Refusal) -> Result<String, Fail> {
     let text = match refusal {
         Refusal::NotSubscribed => String::from_str(alloc, "S1")?,
@@ -32,7 +38,6 @@ fn refusal_in_words(alloc: Global, refusal: Refusal) -> Result<String, Fail> {
     Ok(text)
 }
 
-/// An answer in words.
 fn in_words(alloc: Global, answer: Result<(), Refusal>) -> Result<String, Fail> {
     match answer {
         Ok(()) => Ok(String::from_str(alloc, "ok")?),
@@ -40,7 +45,7 @@ fn in_words(alloc: Global, answer: Result<(), Refusal>) -> Result<String, Fail> 
     }
 }
 
-/// The event that a text spells.
+/// Reads an event from its text.
 fn event_of(alloc: Global, text: &str) -> Result<Event, Fail> {
     match Event::read_record(alloc, text.as_bytes()) {
         Ok(event) => Ok(event),
@@ -48,7 +53,7 @@ fn event_of(alloc: Global, text: &str) -> Result<Event, Fail> {
     }
 }
 
-/// The call that a text spells.
+/// Reads a call from its text.
 fn call_of(alloc: Global, text: &str) -> Result<Call, Fail> {
     match Call::read_record(alloc, text.as_bytes()) {
         Ok(call) => Ok(call),
@@ -56,7 +61,7 @@ fn call_of(alloc: Global, text: &str) -> Result<Call, Fail> {
     }
 }
 
-/// The tasks that an ACCEPT launches by its one operation, or none.
+/// Returns the tasks of an ACCEPT's only operation, or no tasks.
 fn tasks_of(body: &Accept) -> &[TaskInfo] {
     match body.operations.as_slice().first() {
         Some(Operation::Launch { task_infos }) => task_infos.as_slice(),
@@ -64,7 +69,7 @@ fn tasks_of(body: &Accept) -> &[TaskInfo] {
     }
 }
 
-/// The key that an ACKNOWLEDGE tells.
+/// Returns the key of an ACKNOWLEDGE.
 fn key_of(alloc: Global, body: &Acknowledge) -> Result<OwedKey, Refusal> {
     let agent = body.agent_id.copy(alloc)?;
     let task = body.task_id.copy(alloc)?;
@@ -72,49 +77,42 @@ fn key_of(alloc: Global, body: &Acknowledge) -> Result<OwedKey, Refusal> {
     Ok(OwedKey { agent, task, uuid })
 }
 
-/// Asks for an ACKNOWLEDGE like another.
+/// Makes an ACKNOWLEDGE with the arguments of another, as do the next functions for their calls.
 fn acknowledge(alloc: Global, session: &mut Session, body: &Acknowledge) -> Result<Call, Refusal> {
     let key = key_of(alloc, body)?;
     session.acknowledge(&key)
 }
 
-/// Asks for an ACCEPT like another.
 fn accept(session: &mut Session, body: &Accept) -> Result<Call, Refusal> {
     let ids = body.offer_ids.as_slice();
     session.accept(ids, tasks_of(body), body.filters.as_ref())
 }
 
-/// Asks for a DECLINE like another.
 fn decline(session: &mut Session, body: &Decline) -> Result<Call, Refusal> {
     session.decline(body.offer_ids.as_slice(), body.filters.as_ref())
 }
 
-/// Asks for a KILL like another.
 fn kill(session: &mut Session, body: &Kill) -> Result<Call, Refusal> {
     session.kill(&body.task_id, body.agent_id.as_ref())
 }
 
-/// Asks for a MESSAGE like another.
 fn message(session: &mut Session, body: &Message) -> Result<Call, Refusal> {
     session.message(&body.agent_id, &body.executor_id, body.payload.as_slice())
 }
 
-/// Asks for a SUBSCRIBE like another.
 fn subscribe(session: &mut Session, body: &Subscribe) -> Result<Call, Refusal> {
     session.subscribe(&body.framework_info)
 }
 
-/// Asks for a RECONCILE like another.
 fn reconcile(session: &mut Session, body: &Reconcile) -> Result<Call, Refusal> {
     session.reconcile(body.tasks.as_slice())
 }
 
-/// Asks for a SHUTDOWN like another.
 fn shutdown(session: &mut Session, body: &Shutdown) -> Result<Call, Refusal> {
     session.shutdown(&body.executor_id, &body.agent_id)
 }
 
-/// Asks for a call made of what stands in another.
+/// Makes a call with the arguments of another.
 fn make(alloc: Global, session: &mut Session, call: &Call) -> Result<Call, Refusal> {
     match call {
         Call::Subscribe { body, .. } => subscribe(session, body),
@@ -131,7 +129,7 @@ fn make(alloc: Global, session: &mut Session, call: &Call) -> Result<Call, Refus
     }
 }
 
-/// The canonical text of a call.
+/// Returns the canonical text of a call.
 fn text_of(alloc: Global, call: &Call) -> Result<String, Fail> {
     let bytes = call.canon(alloc, Limit::USUAL)?;
     match String::from_utf8(bytes) {
@@ -140,7 +138,7 @@ fn text_of(alloc: Global, call: &Call) -> Result<String, Fail> {
     }
 }
 
-/// The canonical text, or `same` where it is this one.
+/// Returns the canonical text, or `same` if it is equal to `text`.
 fn compared(alloc: Global, call: &Call, text: &str) -> Result<String, Fail> {
     let made = text_of(alloc, call)?;
     if made.as_str() == text {
@@ -149,13 +147,11 @@ fn compared(alloc: Global, call: &Call, text: &str) -> Result<String, Fail> {
     Ok(made)
 }
 
-/// Hears an event.
 fn hear(alloc: Global, session: &mut Session, text: &str) -> Result<String, Fail> {
     let event = event_of(alloc, text)?;
     in_words(alloc, session.heard(&event))
 }
 
-/// Says a call.
 fn say(alloc: Global, session: &mut Session, text: &str) -> Result<String, Fail> {
     let call = call_of(alloc, text)?;
     let answer = in_words(alloc, session.said(&call));
@@ -163,7 +159,7 @@ fn say(alloc: Global, session: &mut Session, text: &str) -> Result<String, Fail>
     answer
 }
 
-/// Asks for a call like this one.
+/// Makes a call with the arguments of another, and compares it to `text`.
 fn ask_like(alloc: Global, session: &mut Session, call: &Call, text: &str) -> Result<String, Fail> {
     match make(alloc, session, call) {
         Ok(made) => {
@@ -175,7 +171,6 @@ fn ask_like(alloc: Global, session: &mut Session, call: &Call, text: &str) -> Re
     }
 }
 
-/// Asks for a call.
 fn ask(alloc: Global, session: &mut Session, text: &str) -> Result<String, Fail> {
     let call = call_of(alloc, text)?;
     let answer = ask_like(alloc, session, &call, text);
@@ -183,7 +178,7 @@ fn ask(alloc: Global, session: &mut Session, text: &str) -> Result<String, Fail>
     answer
 }
 
-/// Does what a line says.
+/// Executes the action of a line and returns its result.
 fn step(alloc: Global, session: &mut Session, line: &str) -> Result<String, Fail> {
     match line.split_once(' ') {
         Some(("E", text)) => hear(alloc, session, text),
@@ -196,13 +191,13 @@ fn step(alloc: Global, session: &mut Session, line: &str) -> Result<String, Fail
     }
 }
 
-/// The host of the offer in hand of an identifier.
+/// Returns the host of the outstanding offer with an identifier.
 fn host_of<'a>(session: &'a Session, id: &str) -> Result<&'a str, Fail> {
     let offer = session.offer(id).ok_or("an offer of this identifier")?;
     Ok(offer.hostname.as_str())
 }
 
-/// The offers in hand, each with its host, found by its place and by its identifier.
+/// Prints the outstanding offers with their hosts, found by index and by identifier.
 fn hand_in_words(alloc: Global, session: &Session) -> Result<String, Fail> {
     let mut text = String::new(alloc);
     for index in 0..session.hand_len() {
@@ -216,7 +211,7 @@ fn hand_in_words(alloc: Global, session: &Session) -> Result<String, Fail> {
     Ok(text)
 }
 
-/// The agent, the task and the uuid of a key, the last in hexadecimal digits.
+/// Prints the agent, the task and the UUID of a key, the last in hexadecimal digits.
 fn key_in_words(alloc: Global, key: &OwedKey) -> Result<String, Fail> {
     let agent = key.agent.value.as_str();
     let task = key.task.value.as_str();
@@ -228,7 +223,7 @@ fn key_in_words(alloc: Global, key: &OwedKey) -> Result<String, Fail> {
     Ok(text)
 }
 
-/// The keys of the updates that are owed.
+/// Prints the keys of the unacknowledged updates.
 fn owed_in_words(alloc: Global, session: &Session) -> Result<String, Fail> {
     let mut text = String::new(alloc);
     for index in 0..session.owed_len() {
@@ -239,7 +234,7 @@ fn owed_in_words(alloc: Global, session: &Session) -> Result<String, Fail> {
     Ok(text)
 }
 
-/// The framework, or `-`.
+/// Returns the framework, or `-`.
 fn framework_in_words(session: &Session) -> &str {
     match session.framework() {
         Some(id) => id.value.as_str(),
@@ -247,14 +242,15 @@ fn framework_in_words(session: &Session) -> &str {
     }
 }
 
-/// Whether nothing stands behind the last offer and the last key, nor under an identifier that no offer has.
+/// Returns whether there is no offer after the last, none of an unknown identifier, and no key
+/// after the last.
 fn ends(session: &Session) -> bool {
     session.hand_at(session.hand_len()).is_none()
         && session.owed_at(session.owed_len()).is_none()
         && session.offer("none").is_none()
 }
 
-/// What a session holds, in words.
+/// Prints the state of a session.
 fn held_in_words(alloc: Global, session: &Session) -> Result<String, Fail> {
     let framework = framework_in_words(session);
     let stream = if session.connected() { "on" } else { "off" };
@@ -263,7 +259,7 @@ fn held_in_words(alloc: Global, session: &Session) -> Result<String, Fail> {
     Ok(format!(in alloc; "{framework} {stream}{hand} ;{owed}")?)
 }
 
-/// The two sides of a line, and the two of its answer.
+/// Splits a line into action, result and state.
 fn sides_of(line: &str) -> Result<(&str, &str, &str), Fail> {
     let (what, reported) = line.split_once(" => ").ok_or("a line has an answer")?;
     let (answer, held) = reported
@@ -272,7 +268,7 @@ fn sides_of(line: &str) -> Result<(&str, &str, &str), Fail> {
     Ok((what, answer, held))
 }
 
-/// The line has its answer, and leaves what it says.
+/// Expects the result and the state of a line.
 fn expect_line<R: Abort + AllocGlobal>(
     rt: &R,
     session: &mut Session,
@@ -287,7 +283,7 @@ fn expect_line<R: Abort + AllocGlobal>(
     Ok(())
 }
 
-/// Each line has its answer, and leaves what it says.
+/// Expects the result and the state of each line.
 fn expect_lines<R: Abort + AllocGlobal>(
     rt: &R,
     session: &mut Session,
@@ -299,13 +295,13 @@ fn expect_lines<R: Abort + AllocGlobal>(
     Ok(())
 }
 
-/// Each line of the script, in a new session, has its answer, and leaves what it says.
+/// Expects the result and the state of each line of a script, in a new session.
 pub(crate) fn expect_script<R: Abort + AllocGlobal>(rt: &R, script: &str) -> Result<(), Fail> {
     let mut session = Session::new(rt.alloc());
     expect_lines(rt, &mut session, script)
 }
 
-/// The entry that a line writes.
+/// Reads an entry from its line.
 fn entry_of(alloc: Global, line: &str) -> Result<Entry, Fail> {
     match line.split_once(' ') {
         Some(("E", text)) => Ok(Entry::Heard(event_of(alloc, text)?)),
@@ -314,7 +310,7 @@ fn entry_of(alloc: Global, line: &str) -> Result<Entry, Fail> {
     }
 }
 
-/// The entries of a history.
+/// Reads the entries of a history.
 fn entries_of(alloc: Global, history: &str) -> Result<Vec<Entry>, Fail> {
     let mut entries = Vec::new(alloc);
     for line in history.lines() {
@@ -323,7 +319,7 @@ fn entries_of(alloc: Global, history: &str) -> Result<Vec<Entry>, Fail> {
     Ok(entries)
 }
 
-/// What `replay` answers, in words: what the session holds, or where it stopped and why.
+/// Replays a history and prints the state, or the index and the reason of the refusal.
 fn replayed(alloc: Global, entries: &[Entry]) -> Result<String, Fail> {
     match replay(alloc, entries) {
         Ok(session) => {
@@ -338,13 +334,13 @@ fn replayed(alloc: Global, entries: &[Entry]) -> Result<String, Fail> {
     }
 }
 
-/// What `replay` answers to a history, in words.
+/// Like [`replayed`], but for a history as text.
 fn history_in_words(alloc: Global, history: &str) -> Result<String, Fail> {
     let entries = entries_of(alloc, history)?;
     replayed(alloc, entries.as_slice())
 }
 
-/// A history that is replayed leaves this, or stops there.
+/// Expects the printed result of replaying a history.
 pub(crate) fn expect_replay<R: Abort + AllocGlobal>(
     rt: &R,
     history: &str,
