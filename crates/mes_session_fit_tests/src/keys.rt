@@ -1,9 +1,9 @@
-//! Keys: a resource serves another where all but the value and the allocation is alike.
+//! Keys: resources are compared only if they agree in all but value and allocation.
 
 use crate::support::expect_answers;
 use std::test::Fail;
 
-/// One member more makes another key, in an offer and in a task.
+/// Each additional member makes another key, in an offer and in a task.
 const MEMBERS: &str =
     r#"{"name":"cpus","type":"SCALAR","scalar":{"value":1.0},"role":"web"} -> {"name":"cpus","type":"SCALAR","scalar":{"value":1.0},"role":"web"} => fits
 {"name":"cpus","type":"SCALAR","scalar":{"value":1.0},"role":"web"} -> {"name":"cpus","type":"SCALAR","scalar":{"value":1.0}} => 0 0
@@ -47,7 +47,7 @@ const MEMBERS: &str =
 {"name":"cpus","type":"SCALAR","scalar":{"value":1.0},"reservation":{"labels":{"labels":[{"key":"k"}]}}} -> {"name":"cpus","type":"SCALAR","scalar":{"value":1.0},"reservation":{"labels":{"labels":[{"key":"l"}]}}} => 0 0
 "#;
 
-/// A resource without a role is one of the role `*`; the allocation is no part of the key.
+/// A resource without a role has the role `*`; the allocation is not part of the key.
 const ROLES: &str =
     r#"{"name":"cpus","type":"SCALAR","scalar":{"value":1.0},"role":"*"} -> {"name":"cpus","type":"SCALAR","scalar":{"value":1.0}} => fits
 {"name":"cpus","type":"SCALAR","scalar":{"value":1.0}} -> {"name":"cpus","type":"SCALAR","scalar":{"value":1.0},"role":"*"} => fits
@@ -59,7 +59,7 @@ const ROLES: &str =
 {"name":"ports","type":"RANGES","ranges":{"range":[{"begin":1,"end":9}]},"allocation_info":{"role":"a"}} -> {"name":"ports","type":"RANGES","ranges":{"range":[{"begin":4,"end":7}]}} ; {"name":"ports","type":"RANGES","ranges":{"range":[{"begin":7,"end":8}]},"allocation_info":{"role":"b"}} => 0 0
 "#;
 
-/// A type of its own is a key of its own, whatever the name.
+/// Resources of one name and two types have two keys.
 const TYPES: &str =
     r#"{"name":"x","type":"SCALAR","scalar":{"value":1.0}} -> {"name":"x","type":"RANGES","ranges":{"range":[{"begin":1,"end":1}]}} => 0 0
 {"name":"x","type":"RANGES","ranges":{"range":[{"begin":1,"end":9}]}} -> {"name":"x","type":"SCALAR","scalar":{"value":1.0}} => 0 0
@@ -68,7 +68,7 @@ const TYPES: &str =
 {"name":"x","type":"SET","set":{"item":["1"]}},{"name":"x","type":"RANGES","ranges":{"range":[{"begin":1,"end":9}]}},{"name":"x","type":"SCALAR","scalar":{"value":1.0}} -> {"name":"x","type":"RANGES","ranges":{"range":[{"begin":1,"end":1}]}} ; {"name":"x","type":"SCALAR","scalar":{"value":1.001}},{"name":"x","type":"SET","set":{"item":["2"]}} => 1 0
 "#;
 
-/// Kept objects, labels and reservations are compared as they stand.
+/// Objects, labels and reservations are compared as they are written.
 const TREES: &str =
     r#"{"name":"cpus","type":"SCALAR","scalar":{"value":1.0},"disk":{"volume":0.25}} -> {"name":"cpus","type":"SCALAR","scalar":{"value":1.0},"disk":{"volume":0.25}} => fits
 {"name":"cpus","type":"SCALAR","scalar":{"value":1.0},"disk":{"volume":0.250}} -> {"name":"cpus","type":"SCALAR","scalar":{"value":1.0},"disk":{"volume":0.25}} => 0 0
@@ -83,7 +83,8 @@ const TREES: &str =
 {"name":"cpus","type":"SCALAR","scalar":{"value":1.0},"revocable":{"x":1}} -> {"name":"cpus","type":"SCALAR","scalar":{"value":1.0},"revocable":{}} => fits
 "#;
 
-/// A shared resource counts for each task that names it; a point or an item is offered, and taken, under its own key alone.
+/// A shared resource counts for each task that names it. A point or an item is offered and taken
+/// only under its own key.
 const SHARED: &str =
     r#"{"name":"ports","type":"RANGES","ranges":{"range":[{"begin":1,"end":9}]},"shared":{}} -> {"name":"ports","type":"RANGES","ranges":{"range":[{"begin":5,"end":5}]},"shared":{}} ; {"name":"ports","type":"RANGES","ranges":{"range":[{"begin":5,"end":5}]},"shared":{}} => 0 0
 {"name":"cpus","type":"SCALAR","scalar":{"value":1.0},"shared":{}} -> {"name":"cpus","type":"SCALAR","scalar":{"value":1.0},"shared":{}} ; {"name":"cpus","type":"SCALAR","scalar":{"value":1.0},"shared":{}} => 0 0

@@ -1,4 +1,5 @@
-//! Tests of whether tasks fit their offers, by the public calls: tables of resources, worked out by hand from the rule.
+//! Tests of the crate `mes_session_fit` through its public functions. Tables of resources state the
+//! result, which was derived by hand from the rule; `support` has the format.
 #![tactic(auto)]
 
 #[cfg(test)]

@@ -1,4 +1,4 @@
-//! Which breach is the first: by tasks over all operations, and then by resources.
+//! The first breach: by tasks over all operations, then by resources.
 
 use crate::support::expect_answers;
 use std::test::Fail;

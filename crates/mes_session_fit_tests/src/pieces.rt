@@ -1,9 +1,9 @@
-//! Ranges and sets: each point and each item is offered, and no other task's.
+//! Ranges and sets: each point and each item is offered, and taken by only one task.
 
 use crate::support::expect_answers;
 use std::test::Fail;
 
-/// Points that are offered, by one range or by several.
+/// Points that are offered by one range or by several.
 const POINTS: &str =
     r#"{"name":"ports","type":"RANGES","ranges":{"range":[{"begin":31000,"end":32000}]}} -> {"name":"ports","type":"RANGES","ranges":{"range":[{"begin":31000,"end":31001}]}} ; {"name":"ports","type":"RANGES","ranges":{"range":[{"begin":31001,"end":31002}]}} => 0 0
 {"name":"ports","type":"RANGES","ranges":{"range":[{"begin":31000,"end":32000}]}} -> {"name":"ports","type":"RANGES","ranges":{"range":[{"begin":31000,"end":31000}]}} ; {"name":"ports","type":"RANGES","ranges":{"range":[{"begin":31001,"end":31002}]}} => fits
@@ -19,7 +19,7 @@ const POINTS: &str =
 {"name":"ports","type":"RANGES","ranges":{"range":[{"begin":1,"end":10}]}} -> {"name":"ports","type":"RANGES","ranges":{"range":[{"begin":1,"end":2},{"begin":9,"end":11}]}} => 0 0
 "#;
 
-/// A range whose end is below its begin has no point.
+/// A range whose end is less than its begin is empty.
 const EMPTY: &str =
     r#" -> {"name":"ports","type":"RANGES","ranges":{"range":[{"begin":5,"end":4}]}} => fits
 {"name":"ports","type":"RANGES","ranges":{"range":[{"begin":5,"end":4}]}} -> {"name":"ports","type":"RANGES","ranges":{"range":[{"begin":4,"end":5}]}} => 0 0
@@ -40,7 +40,8 @@ const ENDS: &str =
 {"name":"ports","type":"RANGES","ranges":{"range":[{"begin":0,"end":18446744073709551615}]}} -> {"name":"ports","type":"RANGES","ranges":{"range":[{"begin":0,"end":18446744073709551615}]}} ; {"name":"ports","type":"RANGES","ranges":{"range":[{"begin":18446744073709551615,"end":18446744073709551615}]}} => 0 0
 "#;
 
-/// A point that two tasks take is no task's: the first resource that has it is told. Those of one task may share.
+/// Two tasks may not take one point: the first resource with it is returned. Resources of one task
+/// may.
 const SHARED: &str =
     r#"{"name":"ports","type":"RANGES","ranges":{"range":[{"begin":1,"end":10}]}} -> {"name":"ports","type":"RANGES","ranges":{"range":[{"begin":1,"end":5}]}},{"name":"ports","type":"RANGES","ranges":{"range":[{"begin":3,"end":7}]}} => fits
 {"name":"ports","type":"RANGES","ranges":{"range":[{"begin":1,"end":10}]}} -> {"name":"ports","type":"RANGES","ranges":{"range":[{"begin":1,"end":5},{"begin":3,"end":7},{"begin":5,"end":5}]}} => fits

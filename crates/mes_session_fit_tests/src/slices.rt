@@ -1,9 +1,9 @@
-//! Tasks in slices, with no operation around them: the answers are those of the tasks in their order.
+//! Tasks in slices, without operations: the result is that of all tasks in order.
 
 use crate::support::expect_answers_of_slices;
 use std::test::Fail;
 
-/// Amounts, points and items of tasks in a slice, and of tasks in two.
+/// Amounts, points and items of tasks in one slice, and in two.
 const SLICES: &str =
     r#"{"name":"cpus","type":"SCALAR","scalar":{"value":1.0}},{"name":"ports","type":"RANGES","ranges":{"range":[{"begin":1,"end":9}]}} -> {"name":"cpus","type":"SCALAR","scalar":{"value":0.5}},{"name":"ports","type":"RANGES","ranges":{"range":[{"begin":1,"end":4}]}} ; {"name":"cpus","type":"SCALAR","scalar":{"value":0.5}},{"name":"ports","type":"RANGES","ranges":{"range":[{"begin":5,"end":9}]}} => fits
 {"name":"cpus","type":"SCALAR","scalar":{"value":1.0}},{"name":"ports","type":"RANGES","ranges":{"range":[{"begin":1,"end":9}]}} -> {"name":"cpus","type":"SCALAR","scalar":{"value":0.5}},{"name":"ports","type":"RANGES","ranges":{"range":[{"begin":1,"end":4}]}} ; {"name":"cpus","type":"SCALAR","scalar":{"value":0.501}},{"name":"ports","type":"RANGES","ranges":{"range":[{"begin":5,"end":9}]}} => 0 0

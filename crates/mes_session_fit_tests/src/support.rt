@@ -1,7 +1,8 @@
-//! What the tables say.
+//! The format of the tables, and their interpreter.
 //!
-//! A row is `OFFERS -> OPERATIONS => ANSWER`. Offers stand between ` ; `, operations between ` // ` and the tasks of an operation between
-//! ` ; `; of an offer or a task the resources alone are written. The answer is `fits`, or the task and the resource of the first breach.
+//! A row is `OFFERS -> OPERATIONS => RESULT`. Offers are separated by ` ; `, operations by ` // `,
+//! and the tasks of an operation by ` ; `. Of an offer or a task only the resources are written.
+//! The result is `fits`, or the task and the resource of the first breach.
 
 use mes_json::read_tape;
 use mes_model::{List, Offer, Part, PathBuilder, TaskInfo};
@@ -11,15 +12,15 @@ use std::alloc::Global;
 use std::process::Abort;
 use std::test::Fail;
 
-/// What stands before the resources of an offer.
+/// The text of an offer before its resources.
 const OFFER_FRONT: &[u8] =
     br#"{"id":{"value":"O1"},"framework_id":{"value":"F1"},"agent_id":{"value":"A1"},"hostname":"h","resources":["#;
 
-/// What stands before the resources of a task.
+/// The text of a task before its resources.
 const TASK_FRONT: &[u8] =
     br#"{"name":"t","task_id":{"value":"T1"},"agent_id":{"value":"A1"},"resources":["#;
 
-/// The text of a value with these resources.
+/// Returns the text of an offer or a task with these resources.
 fn with_resources(alloc: Global, front: &[u8], resources: &str) -> Result<Vec<u8>, Fail> {
     let mut text = Vec::new(alloc);
     text.extend_from_slice(front)?;
@@ -28,7 +29,6 @@ fn with_resources(alloc: Global, front: &[u8], resources: &str) -> Result<Vec<u8
     Ok(text)
 }
 
-/// An offer of these resources.
 fn offer_of(alloc: Global, resources: &str) -> Result<Offer, Fail> {
     let text = with_resources(alloc, OFFER_FRONT, resources)?;
     let tape = read_tape(alloc, text.as_slice())?;
@@ -38,7 +38,6 @@ fn offer_of(alloc: Global, resources: &str) -> Result<Offer, Fail> {
     }
 }
 
-/// A task of these resources.
 fn task_of(alloc: Global, resources: &str) -> Result<TaskInfo, Fail> {
     let text = with_resources(alloc, TASK_FRONT, resources)?;
     let tape = read_tape(alloc, text.as_slice())?;
@@ -48,7 +47,6 @@ fn task_of(alloc: Global, resources: &str) -> Result<TaskInfo, Fail> {
     }
 }
 
-/// The offers of a row.
 fn offers_of(alloc: Global, text: &str) -> Result<Vec<Offer>, Fail> {
     let mut offers = Vec::new(alloc);
     for resources in text.split(" ; ") {
@@ -57,7 +55,6 @@ fn offers_of(alloc: Global, text: &str) -> Result<Vec<Offer>, Fail> {
     Ok(offers)
 }
 
-/// Tasks of these resources.
 fn tasks_of(alloc: Global, text: &str) -> Result<Vec<TaskInfo>, Fail> {
     let mut tasks = Vec::new(alloc);
     for resources in text.split(" ; ") {
@@ -66,14 +63,12 @@ fn tasks_of(alloc: Global, text: &str) -> Result<Vec<TaskInfo>, Fail> {
     Ok(tasks)
 }
 
-/// An operation that launches tasks.
 fn operation_of(alloc: Global, text: &str) -> Result<Operation, Fail> {
     Ok(Operation::Launch {
         task_infos: List::new(tasks_of(alloc, text)?),
     })
 }
 
-/// The operations of a row.
 fn operations_of(alloc: Global, text: &str) -> Result<Vec<Operation>, Fail> {
     let mut operations = Vec::new(alloc);
     for tasks in text.split(" // ") {
@@ -82,7 +77,6 @@ fn operations_of(alloc: Global, text: &str) -> Result<Vec<Operation>, Fail> {
     Ok(operations)
 }
 
-/// An answer in words.
 fn in_words(alloc: Global, breach: Option<Breach>) -> Result<String, Fail> {
     match breach {
         None => Ok(String::from_str(alloc, "fits")?),
@@ -90,7 +84,6 @@ fn in_words(alloc: Global, breach: Option<Breach>) -> Result<String, Fail> {
     }
 }
 
-/// The answer to a row's offers and operations.
 fn answer(alloc: Global, offers: &str, operations: &str) -> Result<String, Fail> {
     let offers = offers_of(alloc, offers)?;
     let operations = operations_of(alloc, operations)?;
@@ -100,7 +93,7 @@ fn answer(alloc: Global, offers: &str, operations: &str) -> Result<String, Fail>
     )
 }
 
-/// The answer to a row's offers and tasks, asked of two slices: each has half of the tasks.
+/// Returns the printed result for a row's tasks in two slices, each with half of them.
 fn answer_of_slices(alloc: Global, offers: &str, tasks: &str) -> Result<String, Fail> {
     let offers = offers_of(alloc, offers)?;
     let tasks = tasks_of(alloc, tasks)?;
@@ -108,14 +101,13 @@ fn answer_of_slices(alloc: Global, offers: &str, tasks: &str) -> Result<String, 
     in_words(alloc, first_breach(&offers.as_slice(), &[front, following]))
 }
 
-/// The answer to a row's offers and tasks, asked of one slice of the tasks.
 fn answer_of_slice(alloc: Global, offers: &str, tasks: &str) -> Result<String, Fail> {
     let offers = offers_of(alloc, offers)?;
     let tasks = tasks_of(alloc, tasks)?;
     in_words(alloc, first_breach(&offers.as_slice(), &[tasks.as_slice()]))
 }
 
-/// Each row, of one operation, has its answer where its tasks are launched as a slice, and as two.
+/// Expects the result of each row, with the tasks in one slice and in two.
 pub(crate) fn expect_answers_of_slices<R: Abort + AllocGlobal>(
     rt: &R,
     rows: &str,
@@ -131,7 +123,7 @@ pub(crate) fn expect_answers_of_slices<R: Abort + AllocGlobal>(
     Ok(())
 }
 
-/// Each row has its answer.
+/// Expects the result of each row.
 pub(crate) fn expect_answers<R: Abort + AllocGlobal>(rt: &R, rows: &str) -> Result<(), Fail> {
     for row in rows.lines() {
         let (question, expected) = row.split_once(" => ").ok_or("a row has an answer")?;
