@@ -1,4 +1,4 @@
-//! Logs that come in pieces, that break off and that fail.
+//! Logs that come in pieces, end early or fail.
 
 use crate::support::{
     BREAK, BROKEN, HEADER_TWICE, Log, READS, VERSION_1, VERSION_2, in_words, reported,
@@ -10,7 +10,7 @@ use std::io::Read;
 use std::process::Abort;
 use std::test::Fail;
 
-/// Expects of each front of a log what it is in words.
+/// Expects the result of each prefix of a log.
 fn expect_fronts<A: Abort>(rt: &A, alloc: Global, log: &Log) -> Result<(), Fail> {
     for count in 0..log.bytes.len() + 1 {
         let text = reported(
@@ -31,7 +31,7 @@ fn every_front(rt: HostRuntime) -> Result<(), Fail> {
     Ok(())
 }
 
-/// Expects of a log whose reads fail behind so many bytes that this is told, whatever that number is.
+/// Expects the fault of a read that fails after `count` bytes, for each count.
 fn expect_failing_reads<A: Abort>(rt: &A, alloc: Global, log: &Log) -> Result<(), Fail> {
     for count in 0..log.bytes.len() + 1 {
         let mut source = MemorySource::failing_after(log.bytes, 1, count);
@@ -65,7 +65,7 @@ fn reads_are_counted(rt: HostRuntime) -> Result<(), Fail> {
     Ok(())
 }
 
-/// Expects of a log that comes in two reads that it is what it is in one, wherever it is cut.
+/// Expects the result of a log in two reads, wherever it is cut.
 fn expect_cuts<A: Abort>(rt: &A, alloc: Global, log: &Log, words: &str) -> Result<(), Fail> {
     for cut in 0..log.bytes.len() + 1 {
         let mut source = FromStd::new((&log.bytes[..cut]).chain(&log.bytes[cut..]));
@@ -81,8 +81,8 @@ fn every_cut_into_two_reads(rt: HostRuntime) -> Result<(), Fail> {
     expect_cuts(&rt, rt.alloc(), &VERSION_2, "EBC ok 127")
 }
 
-/// A log of version 2 of exactly 512 bytes, the most that one read returns: the header and 169 breaks. The size line of the last break
-/// has two leading zeros.
+/// Returns a log of version 2 with 512 bytes, the most that one read returns: the header and 169
+/// disconnects. The size line of the last has two leading zeros.
 fn log_of_one_read(alloc: Global) -> Result<Vec<u8>, Fail> {
     let mut log = Vec::new(alloc);
     log.extend_from_slice(b"1\n2")?;
@@ -93,7 +93,8 @@ fn log_of_one_read(alloc: Global) -> Result<Vec<u8>, Fail> {
     Ok(log)
 }
 
-/// Reads that log from a source that returns up to 512 bytes per read. Expects its entries, this outcome, and `max_reads` reads.
+/// Reads that log from a source that returns up to 512 bytes per read, and expects the result after
+/// `max_reads` reads.
 fn expect_whole_reads<A: Abort>(
     rt: &A,
     alloc: Global,
@@ -110,7 +111,8 @@ fn expect_whole_reads<A: Abort>(
     Ok(())
 }
 
-/// One read takes all 512 bytes, and a second one finds the end. No clause says that a read asks for 512 bytes.
+/// One read returns all 512 bytes, and a second one the end. No contract states that a read asks
+/// for 512 bytes.
 #[test]
 fn reads_take_what_there_is(rt: HostRuntime) -> Result<(), Fail> {
     expect_whole_reads(&rt, rt.alloc(), 2, " ok 512")?;

@@ -1,4 +1,5 @@
-//! Tests of session logs by the public calls: worked examples, and logs that are cut, break off and fail.
+//! Tests of the crate `mes_session_log` through its public functions: worked examples, and logs
+//! that are cut, end early or fail.
 #![tactic(auto)]
 
 #[cfg(test)]

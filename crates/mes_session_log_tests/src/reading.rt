@@ -1,11 +1,11 @@
-//! Logs that are read: what each is, and where one is at fault.
+//! Logs that are read: the result of each, and the place of the fault.
 
 use crate::support::{BROKEN, CALLED, SUBSCRIBED, told_of};
 use std::alloc::Global;
 use std::process::Abort;
 use std::test::Fail;
 
-/// A log, and what it is in words.
+/// A log and its printed result.
 type Row = (&'static [u8], &'static str);
 
 fn expect<A: Abort>(rt: &A, alloc: Global, rows: &[Row]) -> Result<(), Fail> {
@@ -32,7 +32,7 @@ const WHOLE: &[Row] = &[
     (b"1\n2001\nB1\nB", "BB ok 11"),
 ];
 
-/// Records that are no entries, in either version.
+/// Records that are not entries, in either version.
 const BAD_ENTRIES: &[Row] = &[
     (b"1\nX", " fault F16 BadEntry record 1 after 3"),
     (b"0\n", " fault F16 BadEntry record 1 after 2"),
@@ -47,7 +47,7 @@ const BAD_ENTRIES: &[Row] = &[
     (b"1\n21\nB1\n2", "B fault F16 BadEntry record 3 after 9"),
 ];
 
-/// Texts at fault: the place counts behind the letter.
+/// Faulty texts: the place is counted from after the letter.
 const BAD_TEXTS: &[Row] = &[
     (b"1\nE", " fault F11 Text record 1 byte 0 End after 3"),
     (b"1\nC", " fault F11 Text record 1 byte 0 End after 3"),
@@ -66,7 +66,7 @@ const BAD_TEXTS: &[Row] = &[
     ),
 ];
 
-/// Framing at fault, and logs that end inside a record.
+/// Faulty framing, and logs that end inside a record.
 const BAD_RECORDS: &[Row] = &[
     (b"x", " fault F7 BadSizeLine after 1"),
     (b"1\n2x", " fault F7 BadSizeLine after 4"),
@@ -98,7 +98,7 @@ fn framing_at_fault(rt: HostRuntime) -> Result<(), Fail> {
     expect(&rt, rt.alloc(), BAD_RECORDS)
 }
 
-/// In a log of version 1 no stream breaks, and behind an entry no header stands.
+/// A log of version 1 has no disconnects, and no header after an entry.
 #[test]
 fn version_1_stays(rt: HostRuntime) -> Result<(), Fail> {
     for (more, words) in [

@@ -1,4 +1,4 @@
-//! What the tests of logs ask.
+//! Sample logs, and the printed results of reading them.
 
 use mes_frame::{Limit, MemorySource, Source};
 use mes_msg::Entry;
@@ -7,13 +7,14 @@ use mes_stream::{MAX_FAULT_LINE, Report, Stop, fault_line};
 use std::alloc::Global;
 use std::test::Fail;
 
-/// A log, and what its fronts are.
+/// A log and the results of its prefixes.
 #[derive(Drop)]
 pub(crate) struct Log {
     pub(crate) bytes: &'static [u8],
-    /// Behind how many bytes no record is left open, lowest first, and the letters of the entries up to there.
+    /// The lengths after which no record is incomplete, in ascending order, and the letters of the
+    /// entries up to there.
     pub(crate) ends: &'static [(usize, &'static str)],
-    /// What all of it is in words, where its last byte shows a fault.
+    /// The printed result of the whole log, if a fault is detected at its last byte.
     pub(crate) fault: Option<&'static str>,
 }
 
@@ -21,36 +22,36 @@ pub(crate) struct Log {
 pub(crate) const SUBSCRIBED: &[u8] =
     b"67\nE{\"type\":\"SUBSCRIBED\",\"subscribed\":{\"framework_id\":{\"value\":\"F1\"}}}";
 
-/// A log of version 1: that event, and the call REVIVE; 70 + 51 bytes.
+/// A log of version 1 with that event and the call REVIVE: 70 + 51 bytes.
 pub(crate) const CALLED: &[u8] =
     b"67\nE{\"type\":\"SUBSCRIBED\",\"subscribed\":{\"framework_id\":{\"value\":\"F1\"}}}48\nC{\"type\":\"REVIVE\",\"framework_id\":{\"value\":\"F1\"}}";
 
-/// A log of version 2: that event, a break, and that call; 3 + 70 + 3 + 51 bytes.
+/// A log of version 2 with that event, a disconnect, and that call: 3 + 70 + 3 + 51 bytes.
 pub(crate) const BROKEN: &[u8] =
     b"1\n267\nE{\"type\":\"SUBSCRIBED\",\"subscribed\":{\"framework_id\":{\"value\":\"F1\"}}}1\nB48\nC{\"type\":\"REVIVE\",\"framework_id\":{\"value\":\"F1\"}}";
 
-/// The fronts of the log of version 1.
+/// The prefixes of the log of version 1.
 pub(crate) const VERSION_1: Log = Log {
     bytes: CALLED,
     ends: &[(0, ""), (70, "E"), (121, "EC")],
     fault: None,
 };
 
-/// The fronts of the log of version 2.
+/// The prefixes of the log of version 2.
 pub(crate) const VERSION_2: Log = Log {
     bytes: BROKEN,
     ends: &[(0, ""), (3, ""), (73, "E"), (76, "EB"), (127, "EBC")],
     fault: None,
 };
 
-/// A break behind that event, in version 1.
+/// A disconnect after that event, in version 1.
 pub(crate) const BREAK: Log = Log {
     bytes: b"67\nE{\"type\":\"SUBSCRIBED\",\"subscribed\":{\"framework_id\":{\"value\":\"F1\"}}}1\nB",
     ends: &[(0, ""), (70, "E")],
     fault: Some("E fault F16 BadEntry record 2 after 73"),
 };
 
-/// A header behind the header.
+/// A header after the header.
 pub(crate) const HEADER_TWICE: Log = Log {
     bytes: b"1\n21\n2",
     ends: &[(0, ""), (3, "")],
@@ -61,7 +62,7 @@ pub(crate) const HEADER_TWICE: Log = Log {
 pub(crate) const READS: u64 = 1_000_000;
 
 impl Log {
-    /// The letters of the entries that have ended in so many bytes.
+    /// Returns the letters of the entries that are complete after `bytes` bytes.
     pub(crate) fn entries_in(&self, bytes: usize) -> &'static str {
         let mut ended = "";
         for (end, letters) in self.ends {
@@ -72,7 +73,7 @@ impl Log {
         ended
     }
 
-    /// Behind so many bytes no record is left open.
+    /// Returns whether no record is incomplete after `bytes` bytes.
     fn is_whole(&self, bytes: usize) -> bool {
         for (end, _) in self.ends {
             if *end == bytes {
@@ -82,7 +83,7 @@ impl Log {
         false
     }
 
-    /// What its first bytes are in words, so many of them.
+    /// Returns the printed result of the first `bytes` bytes.
     pub(crate) fn front_in_words(&self, alloc: Global, bytes: usize) -> Result<String, Fail> {
         let entries = self.entries_in(bytes);
         if self.is_whole(bytes) {
@@ -95,7 +96,6 @@ impl Log {
     }
 }
 
-/// The letter of an entry.
 fn letter(entry: &Entry) -> &'static str {
     match entry {
         Entry::Heard(_) => "E",
@@ -104,7 +104,8 @@ fn letter(entry: &Entry) -> &'static str {
     }
 }
 
-/// What was read in words: the letters of the entries, and then `ok` with the count of bytes, or the line of the fault.
+/// Prints a result: the letters of the entries, then `ok` with the number of bytes, or the line of
+/// the fault.
 pub(crate) fn in_words(
     alloc: Global,
     entries: &[Entry],
@@ -126,7 +127,7 @@ pub(crate) fn in_words(
     Ok(text)
 }
 
-/// What a source gives as a log, in words.
+/// Reads a log from a source and prints the result.
 pub(crate) fn reported<S: Source>(
     alloc: Global,
     source: &mut S,
@@ -137,7 +138,7 @@ pub(crate) fn reported<S: Source>(
     in_words(alloc, entries.as_slice(), &outcome)
 }
 
-/// What some bytes are as a log, in words.
+/// Reads a log from bytes and prints the result.
 pub(crate) fn told_of(alloc: Global, log: &[u8]) -> Result<String, Fail> {
     reported(alloc, &mut MemorySource::new(log, 512), READS)
 }

@@ -8,7 +8,7 @@ use std::alloc::Global;
 use std::process::Abort;
 use std::test::Fail;
 
-/// The entries of a log, which is good.
+/// Reads the entries of a valid log.
 fn entries_of(alloc: Global, log: &[u8]) -> Result<Vec<Entry>, Fail> {
     let mut entries = Vec::new(alloc);
     match read_log(
@@ -23,7 +23,7 @@ fn entries_of(alloc: Global, log: &[u8]) -> Result<Vec<Entry>, Fail> {
     }
 }
 
-/// A limit of so many bytes.
+/// Returns a limit of `bytes` bytes.
 fn limit_of(bytes: u32) -> Result<Limit, Fail> {
     match Limit::new(bytes) {
         Some(limit) => Ok(limit),
@@ -31,7 +31,7 @@ fn limit_of(bytes: u32) -> Result<Limit, Fail> {
     }
 }
 
-/// Writes the entries of one log under a limit, and expects these bytes.
+/// Writes the entries of a log under a limit, and expects these bytes.
 fn expect_written<A: Abort>(
     rt: &A,
     alloc: Global,
@@ -49,7 +49,8 @@ fn expect_written<A: Abort>(
     Ok(())
 }
 
-/// Writes the entries of one log under a limit, and expects that the entry at this place is too large.
+/// Writes the entries of a log under a limit, and expects that the entry at this index is too
+/// large.
 fn expect_too_large<A: Abort>(
     rt: &A,
     alloc: Global,
@@ -66,19 +67,19 @@ fn expect_too_large<A: Abort>(
     Ok(())
 }
 
-/// A break and the call REVIVE: its letter and text are 48 bytes.
+/// A disconnect and the call REVIVE: its letter and text have 48 bytes.
 const BREAK_AND_REVIVE: &[u8] =
     b"1\n21\nB48\nC{\"type\":\"REVIVE\",\"framework_id\":{\"value\":\"F1\"}}";
 
-/// HEARTBEAT, whose letter and text are 21 bytes.
+/// HEARTBEAT, whose letter and text have 21 bytes.
 const HEARTBEAT: &[u8] = b"1\n221\nE{\"type\":\"HEARTBEAT\"}";
 
-/// A log, a limit, and what its entries are written to under it.
+/// A log, a limit, and the log that its entries are written as under this limit.
 const WRITTEN: &[(&[u8], u32, &[u8])] = &[
-    // Of nothing there is the header.
+    // Without entries only the header is written.
     (b"", 1, b"1\n2"),
     (b"1\n2", 1, b"1\n2"),
-    // Header and breaks fit the least limit.
+    // Header and disconnects fit the least limit.
     (b"1\n21\nB1\nB", 1, b"1\n21\nB1\nB"),
     // Letter and text exactly at the limit.
     (HEARTBEAT, 21, HEARTBEAT),
@@ -86,7 +87,7 @@ const WRITTEN: &[(&[u8], u32, &[u8])] = &[
     (BROKEN, 67, BROKEN),
 ];
 
-/// A log, a limit, and the place of its first entry that is too large for it.
+/// A log, a limit, and the index of its first entry that is too large for it.
 const TOO_LARGE: &[(&[u8], u32, usize)] = &[
     (HEARTBEAT, 1, 0),
     (HEARTBEAT, 20, 0),
@@ -119,7 +120,7 @@ fn version_1_becomes_version_2(rt: HostRuntime) -> Result<(), Fail> {
     expect_written(&rt, rt.alloc(), SUBSCRIBED, 67, expected.as_slice())
 }
 
-/// Expects of a writer that stops behind these bytes of the log that this is told.
+/// Expects the fault of a writer that stops after these bytes of the log.
 fn expect_stop<A: Abort>(
     rt: &A,
     alloc: Global,
@@ -158,10 +159,12 @@ fn every_failing_write(rt: HostRuntime) -> Result<(), Fail> {
     Ok(())
 }
 
-/// How many bytes a writer takes per call, and how many calls the log of 127 bytes needs then.
+/// The number of bytes that a writer accepts per call, and of calls that the log of 127 bytes
+/// needs.
 const CALLS: &[(usize, u64)] = &[(512, 1), (127, 1), (126, 2), (64, 2), (1, 127)];
 
-/// Each call hands the writer all that is left. No clause says so: it bounds the calls by the bytes of the log.
+/// Each call passes all remaining bytes to the writer. No contract states this; one bounds the
+/// calls by the bytes of the log.
 #[test]
 fn writes_are_as_few_as_the_writer_allows(rt: HostRuntime) -> Result<(), Fail> {
     let entries = entries_of(rt.alloc(), BROKEN)?;
