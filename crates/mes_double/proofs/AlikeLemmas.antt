@@ -1,4 +1,4 @@
--- Offers of one identifier have one value, wherever they stand.
+-- Offers with one identifier have one value, wherever they are.
 use Rattle.std.proofs.Common.{◌≡◌, ℕ, suc, ◌+◌, ◌≤◌, Bool, true, false, ◌||◌, filter, slice_get, List, [], ◌∷◌, ◌++◌, Option, Some, None, is_some, refl, sym, ap, subst, ◌∙◌, arith}
 use Rattle.std.specs.List.{list_all}
 use Rattle.std.specs.List.Sorted.{IsPermutation}
@@ -16,7 +16,7 @@ use Rattle.mes_double_master.proofs.AgainLemmas.{same_text}
 use Rattle.mes_double.proofs.ListLemmas.{apart}
 use Rattle.mes_double.proofs.CountLemmas.{count, count-first, count-later, count-found, same-in}
 
--- if an offer of its identifier is outstanding, it is this one
+-- an outstanding offer with the same identifier is the same offer
 abbrev pub IsSame : List Offer → Offer → Type 0
 IsSame out x = 1 ≤ count (name_of x) out → offer_in out (name_of x) ≡ Some x
 
@@ -56,7 +56,6 @@ pub same-with : (out xs news : List Offer) → AllSame out xs → AllSame out ne
 same-with out xs [] a b = a
 same-with out xs (x ∷ news) a b = same-with out (put bytes_eq name_of xs x) news (same-put out xs x a b.0) b.1
 
--- what all of a list are, whatever stands in it
 pub same-each : (out other xs : List Offer) → ((x : Offer) → 1 ≤ count (name_of x) xs → IsSame out x → IsSame other x) → AllSame out xs → AllSame other xs
 same-each out other [] f a = tt
 same-each out other (x ∷ xs) f a = (f x (count-first x xs) a.0, same-each out other xs (λ y h. f y (count-later (name_of y) x xs h)) a.1)
@@ -93,7 +92,6 @@ module _ (q : Offer → Bool) (alike : (a b : Offer) → name_of a ≡ name_of b
 
 -- ---- more are outstanding
 
--- an offer of another name is found as before
 found-put : (n : List ℕ) (os : List Offer) (x : Offer) → bytes_eq n (name_of x) ≡ false → offer_in (put bytes_eq name_of os x) n ≡ offer_in os n
 found-put n [] x e = rw e refl
 found-put n (o ∷ os) x e = by (bytes_eq (name_of x) (name_of o)) refl (bytes_eq n (name_of o)) refl (found-put n os x e)
@@ -115,7 +113,6 @@ found-with n os (x ∷ news) e = by (bytes_eq n (name_of x)) refl (found-with n 
     by true f rest = absurd (let g : 1 + count n news ≡ 0 = rw f at e in omega (arith, g))
     by false f rest = rest (let g : 0 + count n news ≡ 0 = rw f at e in omega (arith, g)) ∙ found-put n os x f
 
--- what is put in is found
 found-own : (os : List Offer) (x : Offer) → offer_in (put bytes_eq name_of os x) (name_of x) ≡ Some x
 found-own [] x = rw (same_text (name_of x)) refl
 found-own (o ∷ os) x = by (bytes_eq (name_of x) (name_of o)) refl (found-own os x)
@@ -124,7 +121,7 @@ found-own (o ∷ os) x = by (bytes_eq (name_of x) (name_of o)) refl (found-own o
     by true e rest = rw e (rw (same_text (name_of x)) refl)
     by false e rest = rw e (rw e rest)
 
--- offers none of which stands twice are found with the values that they came with
+-- new offers without duplicates are found with their own values
 pub new-same : (os news : List Offer) → ((x : List ℕ) → count x news ≤ 1) → AllSame (with_offers os news) news
 new-same os [] once = tt
 new-same os (x ∷ news) once =
@@ -134,16 +131,16 @@ new-same os (x ∷ news) once =
 pub more-same : (out news : List Offer) (x : Offer) → count (name_of x) news ≡ 0 → (1 ≤ count (name_of x) (with_offers out news) → 1 ≤ count (name_of x) out) → IsSame out x → IsSame (with_offers out news) x
 more-same out news x none less s h = found-with (name_of x) out news none ∙ s (less h)
 
--- ---- offers that are named
+-- ---- named offers
 
--- these are the offers of the identifiers, one for each
+-- the list of one offer for each identifier
 abbrev pub AreOf : List Id → List Offer → Type 0
 AreOf [] [] = Unit {0}
 AreOf [] (x ∷ xs) = ⊥
 AreOf (d ∷ ds) [] = ⊥
 AreOf (d ∷ ds) (x ∷ xs) = (name_of x ≡ d.value) × AreOf ds xs
 
--- what is found in a list is of the name, and stands there
+-- an offer that is found has the name, and is in the list
 found-is : (n : List ℕ) (os : List Offer) (x : Offer) → offer_in os n ≡ Some x → name_of x ≡ n
 found-is n [] x e = absurd (cc)
 found-is n (o ∷ os) x e = by (bytes_eq n (name_of o)) refl e (found-is n os x)
@@ -164,7 +161,7 @@ found-same out n (o ∷ os) x e a = by (bytes_eq n (name_of o)) refl e (λ f. fo
     by false f e rest = rest (let g : offer_in os n ≡ Some x = rw f at e in g)
 
 module _ (out hand : List Offer) (all : AllSame out hand) where
-  -- the offers of identifiers that are all in hand
+  -- the offers of identifiers that are all outstanding
   pub named-are : (ids : List Id) → ((i : ℕ) (d : Id) → slice_get ids i ≡ Some d → offer_in hand d.value ≡ None → ⊥) → AreOf ids (offers_named hand ids) × AllSame out (offers_named hand ids)
   named-are [] there = (tt, tt)
   named-are (d ∷ ds) there = by (offer_in hand d.value) refl (named-are ds (λ i e at. there (suc i) e at))
@@ -174,9 +171,8 @@ module _ (out hand : List Offer) (all : AllSame out hand) where
       by None e rest = absurd (there 0 d refl e)
       by (Some x) e rest = rw e ((found-is d.value hand x e, rest.0), (found-same out d.value hand x e all, rest.1))
 
--- ---- where all that are named are there, those taken away are these, in another order
+-- ---- if all named offers are outstanding, those taken are a permutation of them
 
--- one more is named, and one more is taken
 one-more : (d : Id) (ds : List Id) (x : Offer) (out : List Offer) → ((n : List ℕ) → count n out ≤ 1) → offer_in out d.value ≡ Some x → is_among d ds ≡ false
     → IsPermutation (x ∷ filter (names ds) out) (filter (names (d ∷ ds)) out)
 one-more d ds x [] once e none = absurd (cc)
@@ -194,7 +190,6 @@ one-more d ds x (y ∷ ys) once e none =
             let same : bytes_eq (name_of o) (name_of y) ≡ true = (bytes_eq-Decides (name_of o) (name_of y)).1 (sym e1 ∙ e2) in
             absurd (let all : count (name_of o) (y ∷ ys) ≤ 1 = once (name_of o) in let two : 1 + count (name_of o) ys ≤ 1 = rw same at all in omega (arith, two, h))
 
-    -- no identifier behind is this one
     far : bytes_eq d.value (name_of y) ≡ true → names ds y ≡ false
     far f = go ds none
       where

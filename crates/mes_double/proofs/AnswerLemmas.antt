@@ -1,4 +1,4 @@
--- To each call a session has an answer.
+-- A session either allows or refuses each call.
 use Rattle.std.proofs.Common.{◌≡◌, ◌≢◌, ◌⊎◌, inl, inr, ℕ, ◌+◌, ◌<◌, ◌≤◌, Bool, true, false, ◌||◌, nat_le, List, [], ◌∷◌, length, slice_get, Option, Some, None, refl, sym, ap, subst, ◌∙◌, true≢false, arith}
 use Rattle.std.specs.Str.{bytes_eq}
 use Rattle.std.proofs.lemmas.Bool.{and_parts, leb-true}
@@ -25,7 +25,6 @@ use Rattle.mes_double.proofs.SearchLemmas.{is-true, is-false, is-none, is-less, 
 
 -- ---- pieces of a value that are not free
 
--- a number behind all that stand in the ranges
 abbrev top : List Range → ℕ
 top [] = 0
 top (g ∷ gs) = g.last + 1 + top gs
@@ -96,14 +95,13 @@ module _ (free : Piece → Bool) where
       by (yes h) = yes (item h.0, h.1, h.2)
       by (no f) = no (none f)
 
--- ---- resources that don't fit
+-- ---- resources that do not fit
 
 module _ (offers : List Offer) (tasks : List TaskInfo) where
   breaks : (rest : List TaskInfo) (r : Resource) → Dec (Breaks offers tasks rest r)
   breaks rest r =
       both (is-less (amount (key_of r) (offered offers)) (amount (key_of r) (asked tasks))) (pieces (λ p. is_free (key_of r) p offers rest) r.value)
 
-  -- the resource at j of the task at i
   module _ (i : ℕ) (t : TaskInfo) (e : slice_get tasks i ≡ Some t) where
     abbrev Broken : ℕ → Type 0
     Broken j = (r : Resource) × (slice_get t.resources j ≡ Some r) × Breaks offers tasks (others i tasks) r
@@ -121,7 +119,6 @@ module _ (offers : List Offer) (tasks : List TaskInfo) where
     raised (found j h first) = found j (up j h) (λ l m b. first l m (down l b))
     raised (nowhere none) = nowhere (λ j b. none j (down j b))
 
-  -- the first of one task
   of-task : (i : ℕ) → Search (BreaksAt offers tasks i)
   of-task i = by (slice_get tasks i) refl
     where
@@ -136,7 +133,6 @@ module _ (offers : List Offer) (tasks : List TaskInfo) where
       by (found j b first) = yes (j, b)
       by (nowhere none) = no (λ (h : (j : ℕ) × BreaksAt offers tasks i j). none h.0 h.1)
 
-  -- of all tasks, the first
   pub data Breach : Type 0 where
     breach : (i j : ℕ) → BreaksAt offers tasks i j → ((k l : ℕ) → (k < i) ⊎ ((k ≡ i) × (l < j)) → BreaksAt offers tasks k l → ⊥) → Breach
     unbroken : ((k l : ℕ) → BreaksAt offers tasks k l → ⊥) → Breach
@@ -156,7 +152,7 @@ module _ (offers : List Offer) (tasks : List TaskInfo) where
       by (found i h before) = within i h before (of-task i)
       by (nowhere none) = unbroken (λ k l b. none k (l, b))
 
--- ---- calls from elsewhere
+-- ---- calls of another framework
 
 same-id : (a b : Id) → Dec (a ≡ b)
 same-id a b = by (bytes_eq a.value b.value) refl
@@ -206,7 +202,7 @@ foreign held (of.Suppress framework) = strange held framework
 foreign held (of.Shutdown framework body) = strange held framework
 foreign held (of.Message framework body) = strange held framework
 
--- ---- updates that are not owed
+-- ---- updates that are not unacknowledged
 
 not-owed : (owed : List OwedKey) (o : Option OwedKey) → Dec ((k : OwedKey) × (o ≡ Some k) × (is_owed k owed ≡ false))
 not-owed owed None = no (λ (h : (k : OwedKey) × (None ≡ Some k) × (is_owed k owed ≡ false)). let e : None ≡ Some h.0 = h.1 in absurd (cc))

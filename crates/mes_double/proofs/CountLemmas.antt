@@ -1,4 +1,4 @@
--- How often an identifier stands among offers.
+-- How often an identifier occurs among offers.
 use Rattle.std.proofs.Common.{◌≡◌, ℕ, ◌+◌, ◌≤◌, Bool, true, false, filter, List, [], ◌∷◌, ◌++◌, None, refl, sym, ap, ◌∙◌, arith}
 use Rattle.std.specs.List.{list_any}
 use Rattle.std.specs.Str.{bytes_eq}
@@ -39,14 +39,12 @@ pub count-with : (x : List ℕ) (os news : List Offer) → count x (with_offers 
 count-with x os [] = omega arith
 count-with x os (o ∷ news) = omega (arith, count-put x os o, count-with x (put bytes_eq name_of os o) news)
 
--- the first of a list stands there
 pub count-first : (o : Offer) (os : List Offer) → 1 ≤ count (name_of o) (o ∷ os)
 count-first o os = rw (same_text (name_of o)) (omega arith)
 
 pub count-later : (x : List ℕ) (o : Offer) (os : List Offer) → 1 ≤ count x os → 1 ≤ count x (o ∷ os)
 count-later x o os h = omega (arith, h)
 
--- what is found stands there, and what stands there is found
 pub count-found : (x : List ℕ) (os : List Offer) → (offer_in os x ≡ None → ⊥) → 1 ≤ count x os
 count-found x [] some = absurd (some refl)
 count-found x (o ∷ os) some = by (bytes_eq x (name_of o)) refl some (count-found x os)
@@ -55,15 +53,12 @@ count-found x (o ∷ os) some = by (bytes_eq x (name_of o)) refl some (count-fou
     by true e some rest = rw e (omega arith)
     by false e some rest = count-later x o os (rest (λ none. some (rw e none)))
 
--- new identifiers are none of those that were offered
 pub new-apart : (offered : List Id) (news : List Offer) → Once offered → is_duplicate offered (offer_ids news) ≡ false → (x : List ℕ) → times x offered + count x news ≤ 1
 new-apart offered news once none x = omega (arith, offered-once offered (offer_ids news) none once x, times-append x offered (offer_ids news))
 
--- an offer of a name that is named is named too
 pub names-alike : (ids : List Id) (a b : Offer) → name_of a ≡ name_of b → names ids a ≡ names ids b
 names-alike ids a b e = ap (λ (n : List ℕ). list_any (λ (d : Id). bytes_eq d.value n) ids) e
 
--- what is named is not left
 pub count-without : (ids : List Id) (o : Offer) (os : List Offer) → names ids o ≡ true → 1 ≤ count (name_of o) (without_offers ids os) → ⊥
 count-without ids o [] named h = omega (arith, h)
 count-without ids o (y ∷ ys) named h = by (bytes_eq (name_of o) (name_of y)) refl (names ids y) refl h (count-without ids o ys named)
@@ -74,7 +69,6 @@ count-without ids o (y ∷ ys) named h = by (bytes_eq (name_of o) (name_of y)) r
         (let g : names ids o ≡ names ids y = names-alike ids o y ((bytes_eq-Decides (name_of o) (name_of y)).0 e) in absurd (cc))
     by false e false f h rest = rest (let g : 1 ≤ count (name_of o) (y ∷ without_offers ids ys) = rw f at h in let k : 1 ≤ 0 + count (name_of o) (without_offers ids ys) = rw e at g in omega (arith, k))
 
--- tests that agree on what stands there leave the same
 pub same-in : (a b : Offer → Bool) (os : List Offer) → ((o : Offer) → 1 ≤ count (name_of o) os → a o ≡ b o) → filter a os ≡ filter b os
 same-in a b [] same = refl
 same-in a b (o ∷ os) same = by (a o) refl (same-in a b os (λ x h. same x (count-later (name_of x) o os h)))

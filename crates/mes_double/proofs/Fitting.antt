@@ -1,4 +1,4 @@
--- On every course what an arrival launches fits the offers that it took.
+-- On every course the tasks of an arrival fit the offers that it took.
 use Rattle.std.proofs.Common.{◌≡◌, ℕ, ◌+◌, ◌≤◌, Bool, true, false, ◌||◌, not, ◌⊎◌, inl, inr, filter, map, slice_get, List, [], ◌∷◌, ◌++◌, Some, None, refl, sym, ap, subst, ◌∙◌, arith}
 use Rattle.std.specs.List.{list_all}
 use Rattle.std.specs.List.Sorted.{IsPermutation}
@@ -42,7 +42,7 @@ use Rattle.mes_double.proofs.RanLemmas.{Counted, counted-turn, counted-begun}
 use Rattle.mes_double.proofs.TurnLemmas.{Turn, turn, to_sent, to_heard, to_wished, arrival_of, to_answered}
 use Rattle.mes_double.proofs.TurnLemmas.Turn.{skips, offers, rescinds, reports, tells_owing, resends, hears, wishes, refuses, opens, carries, resubscribes}
 
--- the offers that a call accepted when it was said: its tasks fit them, and where they are outstanding they are the same
+-- the offers that a call accepted when it was sent; outstanding ones among them have the same value
 pub record Given (out : List Offer) (p : Sent) : Type 0 where
   pub list : List Offer
   pub are : AreOf (accepted_by p.call) list
@@ -56,7 +56,7 @@ pub record Fitted (c : Course) : Type 0 where
   pub given : (i : ℕ) (p : Sent) → slice_get c.world.sent i ≡ Some p → Given c.world.master.outstanding p
   pub fits : WhatRanFits c
 
--- ---- other offers are outstanding
+-- ---- the outstanding offers change
 
 name-alike : (n : List ℕ) (a b : Offer) → name_of a ≡ name_of b → not (bytes_eq n (name_of a)) ≡ not (bytes_eq n (name_of b))
 name-alike n a b e = ap (λ (m : List ℕ). not (bytes_eq n m)) e
@@ -64,12 +64,10 @@ name-alike n a b e = ap (λ (m : List ℕ). not (bytes_eq n m)) e
 others-alike : (ids : List Id) (a b : Offer) → name_of a ≡ name_of b → not (names ids a) ≡ not (names ids b)
 others-alike ids a b e = ap not (names-alike ids a b e)
 
--- fewer are outstanding
 fewer : (q : Offer → Bool) → ((a b : Offer) → name_of a ≡ name_of b → q a ≡ q b) → (out xs : List Offer) → AllSame out xs → AllSame (filter q out) xs
 fewer q alike out xs a =
     same-each out (filter q out) xs (λ x h s. still-same q alike out x (λ k. omega (arith, k, count-filter (name_of x) q out)) s) a
 
--- none is
 none-same : (xs : List Offer) → AllSame [] xs
 none-same [] = tt
 none-same (x ∷ xs) = (λ h. absurd (omega (arith, h)), none-same xs)
@@ -77,7 +75,7 @@ none-same (x ∷ xs) = (λ h. absurd (omega (arith, h)), none-same xs)
 change : (out other : List Offer) (p : Sent) → ((xs : List Offer) → AreOf (accepted_by p.call) xs → AllSame out xs → AllSame other xs) → Given out p → Given other p
 change out other p f g = record { list = g.list; are = g.are; same = f g.list g.are g.same; distinct = g.distinct; fits = g.fits }
 
--- ---- events that wait
+-- ---- queued events
 
 wait : (out : List Offer) (front events : List Event) → AllSame out (brought front) → AllSame out (brought events) → AllSame out (brought (front ++ events))
 wait out front events a b =
@@ -87,7 +85,7 @@ told-same : (out : List Offer) (statuses : List TaskStatus) → AllSame out (bro
 told-same out [] = tt
 told-same out (status ∷ statuses) = told-same out statuses
 
--- ---- what a call accepts
+-- ---- the offers that a call accepts
 
 accepted-named : (call : Call) (o : Offer) → names (accepted_by call) o ≡ true → names (named_by call) o ≡ true
 accepted-named (of.Accept f body) o e = e
@@ -102,7 +100,7 @@ accepted-named (of.Suppress f) o e = absurd (cc)
 accepted-named (of.Shutdown f body) o e = absurd (cc)
 accepted-named (of.Message f body) o e = absurd (cc)
 
--- it names them all, and the others name none
+-- a call accepts all offers that it names, or none
 accepts-all : (call : Call) → (accepted_by call ≡ named_by call) ⊎ (accepted_by call ≡ [])
 accepts-all (of.Accept f body) = inl refl
 accepts-all (of.Decline f body) = inr refl
@@ -152,7 +150,7 @@ module _ (c : Course) (j : Joined c) (k : Counted c) (t : Fitted c) where
   -- ---- offers are made
 
   module _ (list : List Offer) (none : is_duplicate c.world.master.offered (offer_ids list) ≡ false) where
-    -- what was offered before is another
+    -- the offers made before are others
     more : (xs : List Offer) → ((x : Offer) → 1 ≤ count (name_of x) xs → 1 ≤ times (name_of x) c.world.master.offered) → AllSame c.world.master.outstanding xs
         → AllSame (with_offers c.world.master.outstanding list) xs
     more xs old a =
@@ -173,7 +171,7 @@ module _ (c : Course) (j : Joined c) (k : Counted c) (t : Fitted c) where
       fits = t.fits;
     }
 
-  -- ---- a call is said
+  -- ---- a call is sent
 
   wish-fit : (call : Call) (stream : List ℕ) → Answers c.world.session call None → Fitted (to_wished c call stream)
   wish-fit call stream said = record {
@@ -195,7 +193,7 @@ module _ (c : Course) (j : Joined c) (k : Counted c) (t : Fitted c) where
     fits = t.fits;
   }
 
-  -- ---- an event is heard
+  -- ---- an event is received
 
   hear-fit : (e : Event) (events : List Event) → c.world.waiting ≡ e ∷ events → Fitted (to_heard c e events)
   hear-fit e events w =
@@ -209,7 +207,7 @@ module _ (c : Course) (j : Joined c) (k : Counted c) (t : Fitted c) where
         fits = t.fits;
       }
 
-  -- ---- a call reaches the master
+  -- ---- the master receives a call
 
   module _ (index : ℕ) (p : Sent) (there : slice_get c.world.sent index ≡ Some p) where
     fits-more : (a : Arrival) → Fits a.took a.ran → (i : ℕ) (b : Arrival) → slice_get (c.arrivals ++ a ∷ []) i ≡ Some b → Fits b.took b.ran
@@ -218,7 +216,6 @@ module _ (c : Course) (j : Joined c) (k : Counted c) (t : Fitted c) where
       | inr g ↦ subst (λ (x : Arrival). Fits x.took x.ran) g.1 f
     ]
 
-    -- the offers that pass the test are still outstanding
     leave : (a : MasterAnswer) (q : Offer → Bool) → ((x y : Offer) → name_of x ≡ name_of y → q x ≡ q y) → a.master.outstanding ≡ filter q c.world.master.outstanding
         → ((out : List Offer) → AllSame out (brought a.events)) → Fits a.took a.ran → Fitted (to_answered c index p a)
     leave a q alike left idle f = record {
@@ -230,7 +227,6 @@ module _ (c : Course) (j : Joined c) (k : Counted c) (t : Fitted c) where
       fits = fits-more (arrival_of index p a) f;
     }
 
-    -- the same offers are outstanding
     stay : (a : MasterAnswer) → a.master.outstanding ≡ c.world.master.outstanding → ((out : List Offer) → AllSame out (brought a.events)) → Fits a.took a.ran → Fitted (to_answered c index p a)
     stay a same idle f = record {
       hand = subst (λ (l : List Offer). AllSame l c.world.session.hand) (sym same) t.hand;
@@ -239,7 +235,6 @@ module _ (c : Course) (j : Joined c) (k : Counted c) (t : Fitted c) where
       fits = fits-more (arrival_of index p a) f;
     }
 
-    -- none is
     clear : (a : MasterAnswer) → a.master.outstanding ≡ [] → ((out : List Offer) → AllSame out (brought a.events)) → Fits a.took a.ran → Fitted (to_answered c index p a)
     clear a none idle f = record {
       hand = subst (λ (l : List Offer). AllSame l c.world.session.hand) (sym none) (none-same c.world.session.hand);
@@ -251,7 +246,7 @@ module _ (c : Course) (j : Joined c) (k : Counted c) (t : Fitted c) where
     refuse-fit : (status : ℕ) → Fitted (record c { world = record c.world { skipped = c.world.skipped + 1 }; arrivals = c.arrivals ++ arrival_of index p (plain status c.world.master) ∷ [] })
     refuse-fit status = record { hand = t.hand; waiting = t.waiting; given = t.given; fits = fits-more (arrival_of index p (plain status c.world.master)) (fits-nothing []) }
 
--- what an ACCEPT launches fits what it takes
+-- the tasks that an ACCEPT launches fit the offers that it takes
 module _ (c : Course) (k : Counted c) (t : Fitted c) (index : ℕ) (framework : Id) (body : Accept) (stream : List ℕ)
     (there : slice_get c.world.sent index ≡ Some (record { call = of.Accept framework body; stream = stream }))
     (o : IsOpen c.world.master (of.Accept framework body) (Some stream)) where

@@ -1,4 +1,4 @@
--- The hand once events were heard, where some offers were taken out of it before.
+-- The session's offers after events, if some offers were removed before.
 use Rattle.std.proofs.Common.{◌≡◌, ◌≤◌, Bool, true, false, not, filter, fold, map, List, [], ◌∷◌, refl, ap, ◌∙◌, arith}
 use Rattle.std.specs.List.{flat_map}
 use Rattle.std.specs.Str.{bytes_eq}
@@ -18,12 +18,12 @@ use Rattle.mes_double.proofs.ListLemmas.{filter-all, filter-turn}
 abbrev pub brought : List Event → List Offer
 brought events = flat_map (λ (e : Event). offers_of (Heard e)) events
 
--- a session that hears events
+-- a session that receives events
 abbrev pub hears : Held → List Event → Held
 hears s events = fold (λ (s : Held) (e : Event). after s (Heard e)) s events
 
 module _ (q : Offer → Bool) (alike : (a b : Offer) → name_of a ≡ name_of b → q a ≡ q b) where
-  -- an offer that stays is put in before or after others are taken out
+  -- adding an offer that passes commutes with removing others
   put-filter : (os : List Offer) (x : Offer) → q x ≡ true → put bytes_eq name_of (filter q os) x ≡ filter q (put bytes_eq name_of os x)
   put-filter [] x stays = rw stays refl
   put-filter (y ∷ ys) x stays = by (bytes_eq (name_of x) (name_of y)) refl (q y) refl (put-filter ys x stays)
@@ -52,7 +52,7 @@ module _ (q : Offer → Bool) (alike : (a b : Offer) → name_of a ≡ name_of b
       ∙ ap (λ (l : List Offer). with_offers l (offers_of (Heard e))) (filter-turn stays q s.hand)
       ∙ with-filter (filter stays s.hand) (offers_of (Heard e)) stay
 
-  -- offers that no event brings are taken out before or after the events are heard
+  -- removing offers that no event brings commutes with receiving the events
   pub hears-filter : (s t : Held) (events : List Event) → t.hand ≡ filter q s.hand → ((o : Offer) → 1 ≤ count (name_of o) (brought events) → q o ≡ true)
       → (hears t events).hand ≡ filter q (hears s events).hand
   hears-filter s t [] same stay = same
@@ -61,7 +61,7 @@ module _ (q : Offer → Bool) (alike : (a b : Offer) → name_of a ≡ name_of b
       (hears-one s t e same (λ o h. stay o (omega (arith, h, count-append (name_of o) (offers_of (Heard e)) (brought events)))))
       (λ o h. stay o (omega (arith, h, count-append (name_of o) (offers_of (Heard e)) (brought events))))
 
--- statuses that are told leave the hand as it is
+-- statuses do not change the session's offers
 pub hears-reported : (s : Held) (statuses : List TaskStatus) → (hears s (map reconciled_event statuses)).hand ≡ s.hand
 hears-reported s [] = refl
 hears-reported s (status ∷ statuses) = hears-reported (after s (Heard (reconciled_event status))) statuses ∙ filter-all s.hand

@@ -1,4 +1,4 @@
--- How session, master and what is between them belong together, after whatever moves.
+-- The invariant of session, master and messages on every course.
 use Rattle.std.proofs.Common.{◌≡◌, ℕ, ◌+◌, ◌≤◌, true, false, ◌&&◌, not, map, length, slice_get, List, [], ◌∷◌, ◌++◌, Option, Some, None, refl, ap, ◌∙◌}
 use Rattle.std.specs.List.{list_any}
 use Rattle.std.specs.Str.{bytes_eq}
@@ -19,7 +19,7 @@ use Rattle.mes_double.specs.Promises.{has_arrived, not_arrived, is_under_way, Ha
 use Rattle.mes_double.proofs.CountLemmas.{count, count-append}
 use Rattle.mes_double.proofs.HandLemmas.{brought}
 
--- the call was sent on the stream that is current, by the framework of the master, and has not arrived
+-- the call was sent on the current stream, by the master's framework, and has not arrived
 pub record IsLive (stream : Option (List ℕ)) (framework : Id) (arrivals : List Arrival) (i : ℕ) (p : Sent) : Type 0 where
   pub current : stream ≡ Some p.stream
   pub own : agrees framework (framework_of p.call) ≡ true
@@ -48,11 +48,11 @@ brought-reported x (status ∷ statuses) = brought-reported x statuses
 pub record Joined (c : Course) : Type 0 where
   -- each offer was made once
   pub once : Once c.world.master.offered
-  -- the offers in hand and those of events that wait were made, and no offer is both, nor one of them twice
+  -- the session's offers and those of queued events were made, without duplicates
   pub known : (x : List ℕ) → count x c.world.session.hand + count x (brought c.world.waiting) ≤ times x c.world.master.offered
-  -- a call that was sent names offers that were made
+  -- a sent call names offers that were made
   pub named : (i : ℕ) (p : Sent) (o : Offer) → slice_get c.world.sent i ≡ Some p → names (named_by p.call) o ≡ true → 1 ≤ times (name_of o) c.world.master.offered
-  -- one that names an outstanding offer is live
+  -- a call that names an outstanding offer is live
   pub live : (i : ℕ) (p : Sent) (o : Offer) → slice_get c.world.sent i ≡ Some p → names (named_by p.call) o ≡ true → 1 ≤ count (name_of o) c.world.master.outstanding
       → IsLive c.world.master.stream c.world.master.framework c.arrivals i p
   -- there is one framework
@@ -60,11 +60,11 @@ pub record Joined (c : Course) : Type 0 where
   pub own : Own c.world.master.framework c.world.waiting
   -- after a TEARDOWN there is no stream
   pub down : c.world.master.down ≡ true → c.world.master.stream ≡ None
-  -- only what was sent has arrived
+  -- only sent calls have arrived
   pub sent : (i : ℕ) → length c.world.sent ≤ i → has_arrived c.arrivals i ≡ false
   pub agrees : HandAgrees c
 
--- offers of one name are under way alike
+-- offers with one name are in transit together
 pub under-alike : (c : Course) (stream : List ℕ) (a b : Offer) → name_of a ≡ name_of b → not (is_under_way c stream a) ≡ not (is_under_way c stream b)
 under-alike c stream a b e =
     ap (λ (n : List ℕ). not (list_any (λ (p : Sent). bytes_eq stream p.stream && list_any (λ (d : Id). bytes_eq d.value n) (named_by p.call)) (not_arrived c))) e

@@ -1,4 +1,4 @@
--- A call is said, or reaches the master: session, master and what is between them belong together as before.
+-- Sending and receiving a call keep the invariant.
 use Rattle.std.proofs.Common.{◌≡◌, ℕ, ◌+◌, ◌≤◌, ◌<◌, Bool, true, false, ◌||◌, ◌&&◌, not, inl, inr, filter, map, length, slice_get, List, [], ◌∷◌, ◌++◌, Some, None, refl, sym, ap, subst, ◌∙◌, length-append, arith}
 use Rattle.std.specs.Str.{bytes_eq}
 use Rattle.std.proofs.lemmas.Bool.{cases_eq, or_from}
@@ -32,13 +32,12 @@ use Rattle.mes_double.proofs.TurnLemmas.{to_wished, arrival_of, to_refused, to_a
 use Rattle.mes_double.proofs.WishLemmas.{named-in_hand, of-known}
 use Rattle.mes_double.proofs.Joined.{IsLive, Own, own-append, own-reported, brought-append, brought-reported, Joined}
 
--- ---- a call is said and sent
+-- ---- a call is sent
 
 module _ (c : Course) (j : Joined c) (call : Call) (stream : List ℕ) (current : c.world.master.stream ≡ Some stream) (said : Answers c.world.session call None) where
   letter : Sent
   letter = record { call = call; stream = stream }
 
-  -- a call that is among those that were sent now
   sent-now : {Z : Type 0} (i : ℕ) (p : Sent) → slice_get (c.world.sent ++ record { call = call; stream = stream } ∷ []) i ≡ Some p
       → (slice_get c.world.sent i ≡ Some p → Z) → (i ≡ length c.world.sent → (let q : Sent = record { call = call; stream = stream } in q ≡ p) → Z) → Z
   sent-now i p there old new = elim (front-or-last c.world.sent (record { call = call; stream = stream }) i p there) [
@@ -46,7 +45,7 @@ module _ (c : Course) (j : Joined c) (call : Call) (stream : List ℕ) (current 
     | inr e ↦ new e.0 e.1
   ]
 
-  -- what it names is in hand, so no event that waits brings it
+  -- the named offers are the session's, so no queued event brings them
   not-brought : (o : Offer) → 1 ≤ count (name_of o) (brought c.world.waiting) → not (names (named_by call) o) ≡ true
   not-brought o h = by (names (named_by call) o) refl
     where
@@ -54,7 +53,6 @@ module _ (c : Course) (j : Joined c) (call : Call) (stream : List ℕ) (current 
       by false e = ap not e
       by true e = absurd (omega (arith, h, named-in_hand c.world.session call said o e, j.known (name_of o), j.once (name_of o)))
 
-  -- what is under way then
   under-way : (o : Offer) → is_under_way (to_wished c call stream) stream o ≡ (is_under_way c stream o || names (named_by call) o)
   under-way o =
       way-sent (λ (p : Sent). bytes_eq stream p.stream && names (named_by p.call) o) c.arrivals 0 c.world.sent (record { call = call; stream = stream }) (length c.world.sent) (omega arith) (j.sent (length c.world.sent) (omega arith))
@@ -93,21 +91,18 @@ module _ (c : Course) (j : Joined c) (call : Call) (stream : List ℕ) (current 
         (let f : Some stream ≡ Some s = sym current ∙ e in cc) (agrees-now current);
   }
 
--- ---- a call that was sent reaches the master, and the offers that it names are not outstanding then
+-- ---- the master receives a call, whose named offers are then not outstanding
 
 module _ (c : Course) (j : Joined c) (index : ℕ) (p : Sent) (there : slice_get c.world.sent index ≡ Some p) (a : Arrival) (at : a.index ≡ index) where
-  -- the others have arrived as before
   others : (i : ℕ) → (i ≡ index → ⊥) → has_arrived (c.arrivals ++ a ∷ []) i ≡ has_arrived c.arrivals i
   others i other = arrived-other c.arrivals a i (λ e. other (sym e ∙ at))
 
   unsent : (i : ℕ) → length c.world.sent ≤ i → has_arrived (c.arrivals ++ a ∷ []) i ≡ false
   unsent i h = others i (λ e. let w : index < length c.world.sent = slice_get_within c.world.sent index p there in omega (arith, h, e, w)) ∙ j.sent i h
 
-  -- what is under way once it has arrived
   way_then : List ℕ → Offer → Bool
   way_then stream o = any_way (λ (q : Sent). bytes_eq stream q.stream && names (named_by q.call) o) (c.arrivals ++ a ∷ []) 0 c.world.sent
 
-  -- whether the call itself counted before
   counted : List ℕ → Offer → Bool
   counted stream o = not (has_arrived c.arrivals a.index) && (bytes_eq stream p.stream && names (named_by p.call) o)
 
@@ -115,7 +110,6 @@ module _ (c : Course) (j : Joined c) (index : ℕ) (p : Sent) (there : slice_get
       || (not (has_arrived c.arrivals a.index) && (bytes_eq stream p.stream && names (named_by p.call) o))) ≡ is_under_way c stream o
   moved stream o = way-arrives (λ (q : Sent). bytes_eq stream q.stream && names (named_by q.call) o) c.arrivals a 0 c.world.sent index p there (omega (arith, at))
 
-  -- an outstanding offer that it does not name is under way as it was
   way-other : (stream : List ℕ) (o : Offer) → names (named_by p.call) o ≡ false
       → any_way (λ (q : Sent). bytes_eq stream q.stream && names (named_by q.call) o) (c.arrivals ++ a ∷ []) 0 c.world.sent ≡ is_under_way c stream o
   way-other stream o e =
@@ -129,7 +123,6 @@ module _ (c : Course) (j : Joined c) (index : ℕ) (p : Sent) (there : slice_get
       none true false = refl
       none false y = refl
 
-  -- and one that it names was under way
   way-named : (stream : List ℕ) (o : Offer) → c.world.master.stream ≡ Some stream → names (named_by p.call) o ≡ true → 1 ≤ count (name_of o) c.world.master.outstanding → is_under_way c stream o ≡ true
   way-named stream o current e h =
       let l : IsLive c.world.master.stream c.world.master.framework c.arrivals index p = j.live index p o there e h in
@@ -149,7 +142,6 @@ module _ (c : Course) (j : Joined c) (index : ℕ) (p : Sent) (there : slice_get
       by false e = ap (λ (b : Bool). not b && not (any_way (λ (q : Sent). bytes_eq stream q.stream && names (named_by q.call) o) (c.arrivals ++ a ∷ []) 0 c.world.sent)) e ∙ ap not (way-other stream o e)
       by true e = ap (λ (b : Bool). not b && not (any_way (λ (q : Sent). bytes_eq stream q.stream && names (named_by q.call) o) (c.arrivals ++ a ∷ []) 0 c.world.sent)) e ∙ ap not (sym (way-named stream o current e h))
 
-  -- the course then, where the call may have changed these of what there is
   abbrev pub settled : List Offer → List Id → List OwedKey → List Event → ℕ → Course
   settled os ran acked waiting skipped = record {
     world = record {
@@ -199,10 +191,10 @@ module _ (c : Course) (j : Joined c) (index : ℕ) (p : Sent) (there : slice_get
           ∙ ap (filter (λ (o : Offer). not (any_way (λ (q : Sent). bytes_eq stream q.stream && names (named_by q.call) o) (c.arrivals ++ a ∷ []) 0 c.world.sent))) (sym gone);
     }
 
--- ---- what becomes of it
+-- ---- the outcome
 
 module _ (c : Course) (j : Joined c) (index : ℕ) (p : Sent) (there : slice_get c.world.sent index ≡ Some p) where
-  -- a call that is turned away names no outstanding offer
+  -- a call that is refused names no outstanding offer
   open-call : (o : Offer) → names (named_by p.call) o ≡ true → 1 ≤ count (name_of o) c.world.master.outstanding → IsOpen c.world.master p.call (Some p.stream)
   open-call o n h =
       let l : IsLive c.world.master.stream c.world.master.framework c.arrivals index p = j.live index p o there n h in
@@ -244,7 +236,7 @@ module _ (c : Course) (j : Joined c) (index : ℕ) (p : Sent) (there : slice_get
           ap (λ (a : MasterAnswer). a.status) (sym is ∙ carried c.world.master p.call (Some p.stream) (open-call o e h)) ∙ out-status c.world.master p.call in
           apart (is_done status) (ap is_done done) none
 
-  -- the SUBSCRIBE of another stream
+  -- a SUBSCRIBE of another stream
   pub open-joined : (uuid : List ℕ) (uuids : List (List ℕ)) → c.world.master.down ≡ false → Joined (to_answered c index p (subscribed c.world.master (uuid ∷ uuids)))
   open-joined uuid uuids up = record {
     once = j.once;
@@ -261,14 +253,12 @@ module _ (c : Course) (j : Joined c) (index : ℕ) (p : Sent) (there : slice_get
   -- ---- calls that are carried out
 
   module _ (os : List Offer) (ran : List Id) (acked : List OwedKey) (answer : MasterAnswer) (gone : os ≡ without_offers (named_by p.call) c.world.master.outstanding) where
-    -- without an event
     quiet : Joined (settled c j index p there (arrival_of index p answer) refl os ran acked (c.world.waiting ++ []) c.world.skipped)
     quiet = settle c j index p there (arrival_of index p answer) refl os ran acked (c.world.waiting ++ []) c.world.skipped gone
         (λ x. ap (λ (l : List Event). count x (brought l)) (append-nil c.world.waiting))
         (own-append c.world.master.framework c.world.waiting [] j.own tt)
         (ap (λ (l : List Event). (hears c.world.session l).hand) (append-nil c.world.waiting))
 
-  -- a call that names no offers
   idle : (answer : MasterAnswer) (acked : List OwedKey) → named_by p.call ≡ [] → Joined (settled c j index p there (arrival_of index p answer) refl c.world.master.outstanding c.world.master.launched acked (c.world.waiting ++ []) c.world.skipped)
   idle answer acked none = quiet c.world.master.outstanding c.world.master.launched acked answer (sym (ap (λ (ids : List Id). without_offers ids c.world.master.outstanding) none ∙ filter-all c.world.master.outstanding))
 
@@ -310,7 +300,7 @@ carry-joined c j index p there = by p.call p.stream there
     by (of.Shutdown f body) stream at = idle c j index _ at (plain 202 c.world.master) c.world.master.acked refl
     by (of.Message f body) stream at = idle c j index _ at (plain 202 c.world.master) c.world.master.acked refl
 
--- ---- the stream breaks, and the session subscribes
+-- ---- the stream is disconnected, and the session subscribes
 
 pub resubscribe-joined : (c : Course) → Joined c → (uuid : List ℕ) (uuids : List (List ℕ)) → c.world.master.down ≡ false → Joined (to_resubscribed c (subscribed c.world.master (uuid ∷ uuids)))
 resubscribe-joined c j uuid uuids up = record {

@@ -1,4 +1,4 @@
--- The master sends an event, or the session hears one: they belong together as before.
+-- Sending and receiving an event keep the invariant.
 use Rattle.std.proofs.Common.{◌≡◌, ℕ, ◌+◌, ◌≤◌, Bool, true, false, ◌&&◌, not, filter, slice_get, List, [], ◌∷◌, ◌++◌, Option, Some, None, refl, sym, ap, subst, ◌∙◌, arith}
 use Rattle.std.specs.Option.{option_or}
 use Rattle.std.specs.Str.{bytes_eq}
@@ -27,7 +27,6 @@ use Rattle.mes_double.proofs.WayLemmas.{way-none}
 use Rattle.mes_double.proofs.TurnLemmas.{to_world, to_sent, to_heard}
 use Rattle.mes_double.proofs.Joined.{Own, own-append, brought-append, Joined, under-alike}
 
--- an event is heard behind the others
 last-heard : (s : Held) (events : List Event) (e : Event) → (hears s (events ++ e ∷ [])).hand ≡ (after (hears s events) (Heard e)).hand
 last-heard s events e = ap (λ (t : Held). t.hand) (fold-more (λ (s : Held) (e : Event). after s (Heard e)) s events (e ∷ []))
 
@@ -38,7 +37,6 @@ module _ (c : Course) (j : Joined c) where
   -- ---- OFFERS
 
   module _ (list : List Offer) (none : is_duplicate c.world.master.offered (offer_ids list) ≡ false) where
-    -- no call that was sent names one of them
     not-named : (o : Offer) → 1 ≤ count (name_of o) list → (i : ℕ) (p : Sent) → slice_get c.world.sent i ≡ Some p → names (named_by p.call) o ≡ false
     not-named o h i p there = by (names (named_by p.call) o) refl
       where
@@ -103,7 +101,7 @@ module _ (c : Course) (j : Joined c) where
     agrees = λ stream e. last-heard c.world.session c.world.waiting (update_event status) ∙ filter-all (hears c.world.session c.world.waiting).hand ∙ j.agrees stream e;
   }
 
-  -- ---- an event is heard
+  -- ---- an event is received
 
   pub hear-joined : (e : Event) (events : List Event) → c.world.waiting ≡ e ∷ events → Joined (to_heard c e events)
   hear-joined e events w =

@@ -1,4 +1,4 @@
--- The keys of updates: those that are owed, those that events tell, and those that the master knows.
+-- The keys of updates: unacknowledged ones, those in events, and those that the master knows.
 use Rattle.std.proofs.Common.{◌≡◌, ℕ, zero, suc, Bool, true, false, ◌||◌, ◌⊎◌, inl, inr, filter, fold, map, slice_get, List, [], ◌∷◌, ◌++◌, Option, Some, None, refl, sym, ap, ◌∙◌}
 use Rattle.std.specs.List.{list_any}
 use Rattle.std.specs.Option.{option_to_list}
@@ -16,7 +16,7 @@ use Rattle.mes_session.proofs.HistoryLemmas.{key-exact, key-self}
 use Rattle.mes_double_master.specs.Masters.{is_unacknowledged, reconciled_event}
 use Rattle.mes_double.proofs.ListLemmas.{or-none}
 
--- ---- keys that are owed
+-- ---- unacknowledged keys
 
 pub owed-fewer : (p : OwedKey → Bool) (k : OwedKey) (ks : List OwedKey) → is_owed k (filter p ks) ≡ true → is_owed k ks ≡ true
 owed-fewer p k [] e = e
@@ -29,7 +29,6 @@ owed-fewer p k (l ∷ ks) e = by (p l) refl e (owed-fewer p k ks)
       | inr g ↦ or_right (same_key k l) (is_owed k ks) (rest g)
     ]
 
--- what is owed with one key more
 pub owed-put : (k : OwedKey) (ks : List OwedKey) (x : OwedKey) → is_owed k (with_key ks x) ≡ true → (is_owed k ks ≡ true) ⊎ (same_key k x ≡ true)
 owed-put k [] x e = inr (sym (or-none (same_key k x)) ∙ e)
 owed-put k (l ∷ ks) x e = by (same_key x l) refl e (owed-put k ks x)
@@ -57,7 +56,6 @@ owed-fold k ks (x ∷ xs) e = elim (owed-fold k (with_key ks x) xs e) [
   | inr f ↦ inr (or_right (same_key k x) (is_owed k xs) f)
 ]
 
--- what was owed stays so with one key more, and that is owed too
 pub owed-still : (k : OwedKey) (ks : List OwedKey) (x : OwedKey) → is_owed k ks ≡ true → is_owed k (with_key ks x) ≡ true
 owed-still k [] x e = absurd (cc)
 owed-still k (l ∷ ks) x e = by (same_key x l) refl (or_cases (same_key k l) (is_owed k ks) e) (owed-still k ks x)
@@ -76,7 +74,6 @@ owed-last (l ∷ ks) x = by (same_key x l) refl (owed-last ks x)
     by true f rest = rw f (or_left (same_key x x) (is_owed x ks) (key-self x))
     by false f rest = rw f (or_right (same_key x l) (is_owed x (with_key ks x)) rest)
 
--- a key that is there is not added
 pub owed-there : (ks : List OwedKey) (x : OwedKey) → is_owed x ks ≡ true → with_key ks x ≡ ks
 owed-there [] x e = absurd (cc)
 owed-there (l ∷ ks) x e = by (same_key x l) refl e (owed-there ks x)
@@ -85,7 +82,7 @@ owed-there (l ∷ ks) x e = by (same_key x l) refl e (owed-there ks x)
     by true f e rest = rw f (ap (λ (k : OwedKey). k ∷ ks) (key-exact x l f))
     by false f e rest = rw f (ap (λ (r : List OwedKey). l ∷ r) (rest (let g : (false || is_owed x ks) ≡ true = rw f at e in g)))
 
--- ---- keys that events tell
+-- ---- keys in events
 
 abbrev pub tells_key : OwedKey → List Event → Bool
 tells_key k events = list_any (λ (e : Event). is_owed k (owed_by (Heard e))) events
@@ -105,7 +102,7 @@ reports-still k front events t = reports-append k front events ∙ or_left (tell
 pub reports-last : (k : OwedKey) (front : List Event) (e : Event) → is_owed k (owed_by (Heard e)) ≡ true → tells_key k (front ++ e ∷ []) ≡ true
 reports-last k front e t = reports-append k front (e ∷ []) ∙ or_right (tells_key k front) (tells_key k (e ∷ [])) (or_left (is_owed k (owed_by (Heard e))) false t)
 
--- a status that is told again to who asks for it tells no key
+-- a status sent for a RECONCILE has no key
 no-key : (task : Id) (agent : Option Id) → key_by task agent None ≡ None
 no-key task None = refl
 no-key task (Some a) = refl
@@ -145,7 +142,6 @@ owing-there (y ∷ owing) (suc i) x k there e = by (same_key k y.0) refl (owing-
     by true f rest = rw f refl
     by false f rest = rw f rest
 
--- where what is left of a list stood
 pub get-filter : {X : Type 0} (p : X → Bool) (xs : List X) (i : ℕ) (x : X) → slice_get (filter p xs) i ≡ Some x → (j : ℕ) × (slice_get xs j ≡ Some x)
 get-filter p [] i x e = absurd (cc)
 get-filter p (y ∷ ys) i x e = by (p y) refl i e (λ n. get-filter p ys n x)

@@ -1,4 +1,4 @@
--- On every course: what is acknowledged was heard, and what was acknowledged stays so.
+-- On every course an acknowledged update was received, and stays acknowledged.
 use Rattle.std.proofs.Common.{◌≡◌, ℕ, ◌+◌, Bool, true, false, not, if◌then◌else◌, inl, inr, filter, slice_get, List, [], ◌∷◌, ◌++◌, Option, Some, None, refl, sym, ap, subst, ◌∙◌, arith}
 use Rattle.std.specs.Option.{option_to_list}
 use Rattle.std.proofs.lemmas.Bool.{or_cases, or_left, or_right}
@@ -28,19 +28,18 @@ use Rattle.mes_double.proofs.TurnLemmas.{Turn, turn, to_wished, to_heard, arriva
 use Rattle.mes_double.proofs.TurnLemmas.Turn.{skips, offers, rescinds, reports, tells_owing, resends, hears, wishes, refuses, opens, carries, resubscribes}
 
 pub record Keyed (c : Course) : Type 0 where
-  -- what counts as acknowledged was heard
+  -- each acknowledged key was received
   pub acked : (k : OwedKey) → is_owed k c.world.master.acked ≡ true → tells_key k c.heard ≡ true
   pub owed : (k : OwedKey) → is_owed k c.world.session.owed ≡ true → tells_key k c.heard ≡ true
   pub sent : (i : ℕ) (p : Sent) (k : OwedKey) → slice_get c.world.sent i ≡ Some p → acknowledged_by p.call ≡ Some k → tells_key k c.heard ≡ true
-  -- what was heard or waits is known to the master
+  -- each received or queued key is known to the master
   pub heard : (k : OwedKey) → tells_key k c.heard ≡ true → is_unacknowledged c.world.master.owing k ≡ true
   pub waits : (k : OwedKey) → tells_key k c.world.waiting ≡ true → is_unacknowledged c.world.master.owing k ≡ true
   pub owing : (i : ℕ) (x : OwedKey × TaskStatus) → slice_get c.world.master.owing i ≡ Some x → owed_key_of x.1 ≡ Some x.0
-  -- each arrival is that of the call that was sent at its place, and an ACKNOWLEDGE that was answered 202 counts
+  -- each arrival is of the call sent at its index, and an ACKNOWLEDGE with status 202 is recorded
   pub place : (i : ℕ) (a : Arrival) → slice_get c.arrivals i ≡ Some a → slice_get c.world.sent a.index ≡ Some a.sent
   pub done : (i : ℕ) (a : Arrival) (k : OwedKey) → slice_get c.arrivals i ≡ Some a → a.status ≡ 202 → acknowledged_by a.sent.call ≡ Some k → is_owed k c.world.master.acked ≡ true
 
--- the keys of an event that waits behind the others
 following : (c : Course) → Keyed c → (e : Event) (owing : List (OwedKey × TaskStatus)) → ((k : OwedKey) → is_unacknowledged c.world.master.owing k ≡ true → is_unacknowledged owing k ≡ true)
     → ((k : OwedKey) → is_owed k (owed_by (Heard e)) ≡ true → is_unacknowledged owing k ≡ true) → (k : OwedKey) → tells_key k (c.world.waiting ++ e ∷ []) ≡ true → is_unacknowledged owing k ≡ true
 following c j e owing more known k t = elim (reports-more k c.world.waiting e t) [
@@ -48,12 +47,11 @@ following c j e owing more known k t = elim (reports-more k c.world.waiting e t)
   | inr f ↦ known k f
 ]
 
--- the keys of a status that is told
 told-key : (status : TaskStatus) (o : Option OwedKey) → owed_key_of status ≡ o → (k : OwedKey) → is_owed k (owed_by (Heard (update_event status))) ≡ true → is_owed k (option_to_list o) ≡ true
 told-key status o e k t = ap (λ (p : Option OwedKey). is_owed k (option_to_list p)) (sym e) ∙ t
 
 module _ (c : Course) (j : Keyed c) where
-  -- ---- a call is said and sent
+  -- ---- a call is sent
 
   wish-keyed : (call : Call) (stream : List ℕ) → Answers c.world.session call None → Keyed (to_wished c call stream)
   wish-keyed call stream said = record {
@@ -70,7 +68,7 @@ module _ (c : Course) (j : Keyed c) where
     done = j.done;
   }
 
-  -- ---- an event is heard
+  -- ---- an event is received
 
   hear-keyed : (e : Event) (events : List Event) → c.world.waiting ≡ e ∷ events → Keyed (to_heard c e events)
   hear-keyed e events w =
@@ -93,7 +91,7 @@ module _ (c : Course) (j : Keyed c) where
         done = j.done;
       }
 
-  -- ---- a call reaches the master
+  -- ---- the master receives a call
 
   module _ (index : ℕ) (p : Sent) (there : slice_get c.world.sent index ≡ Some p) where
     place-more : (a : Arrival) → a.index ≡ index → a.sent ≡ p → (i : ℕ) (b : Arrival) → slice_get (c.arrivals ++ a ∷ []) i ≡ Some b → slice_get c.world.sent b.index ≡ Some b.sent
@@ -110,7 +108,6 @@ module _ (c : Course) (j : Keyed c) where
       | inr f ↦ here k (ap (λ (x : Arrival). x.status) f.1 ∙ status) (ap (λ (x : Arrival). acknowledged_by x.sent.call) f.1 ∙ names_key)
     ]
 
-    -- the answer acknowledges nothing, and its events tell no key
     idle-keyed : (a : MasterAnswer) → a.master.owing ≡ c.world.master.owing → a.master.acked ≡ c.world.master.acked → ((k : OwedKey) → tells_key k a.events ≡ false)
         → (a.status ≡ 202 → acknowledged_by p.call ≡ None) → Keyed (to_answered c index p a)
     idle-keyed a owing acked none plain_call = record {
@@ -141,7 +138,6 @@ module _ (c : Course) (j : Keyed c) where
       done = done-more (arrival_of index p (plain status c.world.master)) c.world.master.acked (λ k e. e) (λ k s names_key. apart (is_done status) (ap is_done s) none);
     }
 
-    -- an ACKNOWLEDGE of an update that was heard
     acknowledge-keyed : (key : OwedKey) → acknowledged_by p.call ≡ Some key → Keyed (to_answered c index p (plain 202 (acknowledged c.world.master key)))
     acknowledge-keyed key names_key =
         let heard_key : tells_key key c.heard ≡ true = j.sent index p key there names_key in
@@ -184,7 +180,6 @@ carry-keyed c j index p there = by p.call p.stream there
     by (of.Shutdown f body) stream at = idle-keyed c j index _ at _ refl refl (λ k. refl) (λ e. refl)
     by (of.Message f body) stream at = idle-keyed c j index _ at _ refl refl (λ k. refl) (λ e. refl)
 
--- an event that tells no key waits, or one whose keys the master knows
 module _ (c : Course) (j : Keyed c) where
   send-keyed : (offered : List Id) (m : MasterState) (e : Event) → m.owing ≡ c.world.master.owing → m.acked ≡ c.world.master.acked
       → ((k : OwedKey) → is_owed k (owed_by (Heard e)) ≡ true → is_unacknowledged c.world.master.owing k ≡ true)

@@ -1,7 +1,7 @@
--- Lists that are filtered, and lists that grow at their end.
+-- Lists that are filtered, and lists that are appended to.
 use Rattle.std.proofs.Common.{◌≡◌, ℕ, zero, suc, Bool, true, false, ◌||◌, ◌&&◌, not, ◌⊎◌, inl, inr, filter, fold, length, slice_get, List, [], ◌∷◌, ◌++◌, Some, refl, sym, ap, ◌∙◌}
 
--- ---- a Bool that is told by another
+-- ---- equal Booleans
 
 pub not-of : (b c : Bool) → b ≡ c → not b ≡ not c
 not-of b c e = ap not e
@@ -29,7 +29,7 @@ apart true e f = absurd (cc)
 apart false e f = absurd (cc)
 
 module _ {X : Type 0} where
-  -- ---- all stay, or none
+  -- ---- a filter that passes all, or none
 
   pub filter-all : (xs : List X) → filter (λ x. true) xs ≡ xs
   filter-all [] = refl
@@ -39,7 +39,7 @@ module _ {X : Type 0} where
   filter-none [] = refl
   filter-none (x ∷ xs) = filter-none xs
 
-  -- ---- two tests, one behind the other
+  -- ---- two tests in sequence
 
   pub filter-two : (a b c : X → Bool) → ((x : X) → (b x && a x) ≡ c x) → (xs : List X) → filter a (filter b xs) ≡ filter c xs
   filter-two a b c same [] = refl
@@ -68,7 +68,7 @@ module _ {X : Type 0} where
       and-swap false true = refl
       and-swap false false = refl
 
-  -- ---- one more behind the others
+  -- ---- one more element
 
   pub get-last : (xs : List X) (y : X) → slice_get (xs ++ y ∷ []) (length xs) ≡ Some y
   get-last [] y = refl
@@ -88,7 +88,6 @@ module _ {X : Type 0} where
     | inr p ↦ inr (ap suc p.0, p.1)
   ]
 
-  -- what stands at one place is one
   pub one-there : (xs : List X) (i : ℕ) (x y : X) → slice_get xs i ≡ Some x → slice_get xs i ≡ Some y → x ≡ y
   one-there xs i x y e f = (let g : Some x ≡ Some y = sym e ∙ f in cc)
 

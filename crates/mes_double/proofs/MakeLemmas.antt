@@ -1,4 +1,4 @@
--- What the steps of a move leave of a world, together.
+-- The steps of a move taken together.
 use Rattle.std.proofs.Common.{◌≡◌, ℕ, Bool, true, false, ◌⊎◌, inl, inr, Result, Ok, Err, OnOk, IsErr, slice_get, List, [], ◌∷◌, ◌++◌, Option, Some, None, refl, sym, ap, subst, ◌∙◌}
 use Rattle.mes_model.specs.Id.{Id}
 use Rattle.mes_model.specs.declared.framework_info.FrameworkInfo.{FrameworkInfo}
@@ -21,7 +21,7 @@ use Rattle.mes_double.proofs.ListLemmas.{apart, filter-all}
 use Rattle.mes_double.proofs.ReachLemmas.{out-status, Reached, reach}
 use Rattle.mes_double.proofs.ReachLemmas.Reached.{turned, opened, did}
 
--- ---- what the master sends
+-- ---- events of the master
 
 module _ {T E : Type 0} where
   pub sent-ok : (result : Result T E) (w v : WorldState) (sends : Sends) (m : MasterState) (e : Event) → sends ≡ Ok (e, m)
@@ -35,7 +35,6 @@ module _ {T E : Type 0} where
   sent-err (Ok t) w v sends m why same (inr is) reported h = h ∙ ap (λ (n : MasterState). skip (record w { master = n })) same ∙ ap (sending w) (sym is)
   sent-err (Err x) w v sends m why same reason reported h = tt
 
-  -- the same where the master is as it was
   pub resent-ok : (result : Result T E) (w u v : WorldState) (sends : WorldState → Sends) → w ≡ u → (e : Event) → sends u ≡ Ok (e, u.master)
       → OnOk result (v ≡ record w { waiting = w.waiting ++ e ∷ [] }) → OnOk result (v ≡ sending w (sends w))
   resent-ok (Ok t) w u v sends same e is h =
@@ -48,7 +47,7 @@ module _ {T E : Type 0} where
   resent-err (Ok t) w u v sends same why (inr is) reported h = h ∙ ap (sending w) (sym is ∙ ap sends (sym same))
   resent-err (Err x) w u v sends same why reason reported h = tt
 
--- ---- what is heard
+-- ---- received events
 
 module _ {T E : Type 0} where
   pub heard-first : (result : Result T E) (w u v : WorldState) (e : Event) (rest : List Event) → u ≡ w → u.waiting ≡ e ∷ rest
@@ -60,9 +59,8 @@ pub heard-none : (w u v : WorldState) (rest : List Event) → u ≡ w → (u.wai
 heard-none w u v rest same is h =
     h ∙ ap (λ (l : List Event). skip (record u { waiting = l })) (is.1 ∙ sym is.0) ∙ ap (hearing u) (sym is.0) ∙ ap (λ (x : WorldState). hearing x x.waiting) same
 
--- ---- what is answered
+-- ---- responses
 
--- a call that is not carried out changes nothing of the master
 pub not-done : (m : MasterState) (call : Call) (given : Option (List ℕ)) → is_done (handled m call given).status ≡ false → (handled m call given).master ≡ m
 not-done m call given none = by (reach m call given)
   where
@@ -71,7 +69,6 @@ not-done m call given none = by (reach m call given)
     by (opened uuid uuids f up is) = apart (is_done (handled m call given).status) (ap (λ (a : MasterAnswer). is_done a.status) is) none
     by (did o is) = apart (is_done (handled m call given).status) (ap (λ (a : MasterAnswer). is_done a.status) is ∙ ap is_done (out-status m call)) none
 
--- what an answer comes to
 pub taken : (w : WorldState) (p : Sent) (status : ℕ) (events : List Event) (m : MasterState) → IsAnswer (answer_to w p) status events m → taking (record w { master = m }) status events ≡ answering w (answer_to w p)
 taken w p status events m a =
     (λ i. taking (record w { master = a.master_is i }) (a.status_is i) (a.events_are i)) ∙ by (is_done (answer_to w p).status) refl
@@ -95,7 +92,7 @@ module _ {T E : Type 0} where
   arrives-ok (Ok t) w v index p status events m there a h = h ∙ taken w p status events m a ∙ ap (arriving w) (sym there)
   arrives-ok (Err x) w v index p status events m there a h = tt
 
-  -- ---- what the session says
+  -- ---- calls of the session
 
   pub said-ok : (result : Result T E) (w v : WorldState) (s : Held) (call : Call) (stream : List ℕ) → w.master.stream ≡ Some stream → Applied w.session call s
       → OnOk result (v ≡ record w { session = s; sent = w.sent ++ record { call = call; stream = stream } ∷ [] }) → OnOk result (Wishes w call w.master.stream v)
@@ -113,7 +110,7 @@ said-err w v s call stream why current a same h =
 pub wish-none : (w v : WorldState) (call : Call) → w.master.stream ≡ None → v ≡ skip w → Wishes w call w.master.stream v
 wish-none w v call none h = subst (λ (o : Option (List ℕ)). Wishes w call o v) (sym none) h
 
--- what the session says of a SUBSCRIBE changes nothing of it
+-- a SUBSCRIBE does not change the session
 pub subscribe-said : (s : Held) (known : Option Id) (info : FrameworkInfo) → after s (Said (subscribe_call known info)) ≡ s
 subscribe-said s known info = λ i. record { framework = s.framework; connected = s.connected; hand = filter-all s.hand i; owed = filter-all s.owed i }
 

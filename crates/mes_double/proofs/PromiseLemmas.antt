@@ -1,4 +1,4 @@
--- Every course keeps the promises, so the course of a world that was led to does.
+-- Every course keeps the promises.
 use Rattle.std.proofs.Common.{◌≡◌, ℕ, ◌≤◌, List, length, take}
 use Rattle.mes_model.specs.Id.{Id}
 use Rattle.mes_double.specs.declared.moves.Move.{Move}

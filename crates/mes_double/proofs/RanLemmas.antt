@@ -1,4 +1,5 @@
--- On every course no task is launched twice and no offer is taken away twice: each identifier is counted.
+-- On every course no task is launched twice and no offer is taken twice: each identifier is
+-- counted.
 use Rattle.std.proofs.Common.{◌≡◌, ℕ, ◌+◌, ◌≤◌, not, List, [], ◌∷◌, ◌++◌, Some, refl, sym, ap, subst, ◌∙◌, arith}
 use Rattle.std.specs.Str.{bytes_eq}
 use Rattle.std.proofs.lemmas.Grind.{flat_map-append}
@@ -21,7 +22,7 @@ use Rattle.mes_double.proofs.TurnLemmas.Turn.{skips, offers, rescinds, reports, 
 
 pub record Counted (c : Course) : Type 0 where
   pub once : Once c.world.master.offered
-  -- what was taken away or is outstanding was offered
+  -- what was taken or is outstanding was offered
   pub took : (x : List ℕ) → count x (all_took c.arrivals) + count x c.world.master.outstanding ≤ times x c.world.master.offered
   pub ran : c.world.master.launched ≡ ids_of (all_ran c.arrivals)
   pub launched : Once c.world.master.launched
@@ -40,7 +41,6 @@ ran-more arrivals a =
     ap ids_of (flat_map-append (λ (b : Arrival). b.ran) arrivals (a ∷ []) ∙ ap (λ (l : List TaskInfo). all_ran arrivals ++ l) (append-nil a.ran))
     ∙ ids-append (all_ran arrivals) a.ran
 
--- an answer that launches nothing, takes nothing and offers nothing
 nothing : (m : MasterState) (a : MasterAnswer) → a.master.offered ≡ m.offered → a.took ≡ [] → a.ran ≡ [] → a.master.launched ≡ m.launched
     → ((x : List ℕ) → count x a.master.outstanding ≤ count x m.outstanding) → Fine m a
 nothing m a offered took ran launched fewer = record {
@@ -51,7 +51,6 @@ nothing m a offered took ran launched fewer = record {
 }
 
 module _ (c : Course) (k : Counted c) where
-  -- a call reaches the master
   answered : (a : MasterAnswer) (arrival : Arrival) → Fine c.world.master a → arrival.took ≡ a.took → arrival.ran ≡ a.ran
       → (d : Course) → d.world.master ≡ a.master → d.arrivals ≡ c.arrivals ++ arrival ∷ [] → Counted d
   answered a arrival f took ran d master arrivals = record {

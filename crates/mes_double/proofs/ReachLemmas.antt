@@ -1,4 +1,4 @@
--- What becomes of a call that reaches the master: it is turned away, opens a stream, or is carried out.
+-- The outcome of a call that the master receives: refused, a new stream, or carried out.
 use Rattle.std.proofs.Common.{◌≡◌, ℕ, Bool, true, false, ◌||◌, not, if◌then◌else◌, List, [], ◌∷◌, Option, Some, None, refl, ap, ◌∙◌}
 use Rattle.std.proofs.lemmas.Bool.{or_parts}
 use Rattle.mes_msg.specs.Call.{Call}
@@ -8,7 +8,7 @@ use Rattle.mes_double_master.specs.Masters.{MasterState, plain, subscribed, agre
 use Rattle.mes_double_master.proofs.AgainLemmas.{IsOpen, carried}
 use Rattle.mes_double.specs.Worlds.{is_done}
 
--- a call that is carried out is answered 202
+-- a call that is carried out has status 202
 pub out-status : (m : MasterState) (call : Call) → (carried_out m call).status ≡ 202
 out-status m (of.Subscribe framework body) = refl
 out-status m (of.Accept framework body) = refl
@@ -23,11 +23,8 @@ out-status m (of.Shutdown framework body) = refl
 out-status m (of.Message framework body) = refl
 
 pub data Reached (m : MasterState) (call : Call) (given : Option (List ℕ)) : Type 0 where
-  -- it is turned away, and nothing changes
   turned : (status : ℕ) → is_done status ≡ false → handled m call given ≡ plain status m → Reached m call given
-  -- a SUBSCRIBE opens a stream
   opened : (uuid : List ℕ) (uuids : List (List ℕ)) → is_subscribe call ≡ true → m.down ≡ false → handled m call given ≡ subscribed m (uuid ∷ uuids) → Reached m call given
-  -- another call is carried out
   did : IsOpen m call given → handled m call given ≡ carried_out m call → Reached m call given
 
 pub reach : (m : MasterState) (call : Call) (given : Option (List ℕ)) → Reached m call given

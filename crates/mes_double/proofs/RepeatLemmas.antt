@@ -1,4 +1,4 @@
--- A call that was answered 202 moves nothing when it arrives again.
+-- A call with status 202 changes nothing when it arrives again.
 use Rattle.std.proofs.Common.{◌≡◌, ℕ, zero, suc, ◌≤◌, ◌==◌, Bool, true, false, ◌||◌, not, if◌then◌else◌, slice_get, List, [], ◌∷◌, ◌++◌, Option, Some, refl, sym, ap, subst, ◌∙◌}
 use Rattle.std.specs.Str.{bytes_eq}
 use Rattle.std.proofs.lemmas.List.{append-nil}
@@ -28,7 +28,7 @@ use Rattle.mes_double.proofs.Joined.{IsLive, Joined}
 use Rattle.mes_double.proofs.JoinedRuns.{joined}
 use Rattle.mes_double.proofs.Keyed.{Keyed, keyed}
 
--- what is in a list of arrivals has arrived
+-- a call in a list of arrivals has arrived
 arrived : (arrivals : List Arrival) (i : ℕ) (a : Arrival) → slice_get arrivals i ≡ Some a → has_arrived arrivals a.index ≡ true
 arrived [] i a e = absurd (cc)
 arrived (b ∷ arrivals) zero a e =
@@ -40,7 +40,6 @@ arrived (b ∷ arrivals) (suc i) a e = or-last (b.index == a.index) (arrived arr
     or-last true f = refl
     or-last false f = f
 
--- where none of the named offers is outstanding
 module _ (ids : List Id) (os : List Offer) (none : (o : Offer) → names ids o ≡ true → 1 ≤ count (name_of o) os → ⊥) where
   all-left : without_offers ids os ≡ os
   all-left = same-in (λ (o : Offer). not (names ids o)) (λ (o : Offer). true) os (λ o h. by o h (names ids o) refl) ∙ filter-all os
@@ -49,7 +48,6 @@ module _ (ids : List Id) (os : List Offer) (none : (o : Offer) → names ids o �
       by o h false e = ap not e
       by o h true e = absurd (none o e h)
 
--- an offer that is found by the first identifier is named
 found-named : (d : Id) (ds : List Id) (os : List Offer) → is_there os d ≡ true → (o : Offer) × (names (d ∷ ds) o ≡ true) × (1 ≤ count (name_of o) os)
 found-named d ds [] e = absurd (cc)
 found-named d ds (o ∷ os) e = by (bytes_eq d.value (name_of o)) refl e (found-named d ds os)
@@ -127,7 +125,6 @@ module _ (m : MasterState) (call : Call) (repeats : may_repeat call ≡ true) (n
       by (opened uuid uuids subscribes up is) = absurd (not-subscribe subscribes)
       by (did o is) = subst (λ (a : MasterAnswer). IsUnmoved m a.master) (sym is) out-unmoved
 
--- what an answer leaves, it leaves of a world
 answering-unmoved : (w : WorldState) (a : MasterAnswer) → IsUnmoved w.master a.master → IsUnmoved w.master (answering w a).master
 answering-unmoved w a u = by (is_done a.status)
   where

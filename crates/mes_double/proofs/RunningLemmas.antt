@@ -1,4 +1,4 @@
--- A world that was led to by the moves so far.
+-- The world after the moves so far.
 use Rattle.std.proofs.Common.{Ok, Err, ◌≡◌, ℕ, zero, suc, length, get_or, ◌+◌, ◌≤◌, ◌<◌, Bool, true, false, if◌then◌else◌, List, [], ◌∷◌, ◌++◌, take, slice_get, Option, Some, None, refl, sym, ap, subst, ◌∙◌, arith}
 use Rattle.std.proofs.lemmas.List.{take_more}
 use Rattle.mes_model.specs.Id.{Id}
@@ -102,6 +102,5 @@ module _ (framework : Id) (ids : List (List ℕ)) (list : List Move) (index : �
   pub so-far-whole : length list ≤ index → (c : Course) × IsCourse framework ids list c × (c.world ≡ world)
   so-far-whole past = (s.course, subst (λ (l : List Move). IsCourse framework ids l s.course) (take-past list index past) s.leads, s.is)
 
-  -- there is room to count one more as skipped
   pub so-far-room : index < length list → length list ≤ 18446744073709551615 → world.skipped < 18446744073709551615
   so-far-room within most = omega (arith, s.skipped, within, most)

@@ -1,4 +1,4 @@
--- Searches among numbers and lists, which end with what is looked for or with that there is none.
+-- Searches among numbers and lists, which find an element or show that there is none.
 use Rattle.std.proofs.Common.{◌≡◌, ◌⊎◌, inl, inr, ℕ, zero, suc, ◌<◌, Bool, true, false, ltb, List, length, slice_get, Option, Some, None, refl, sym, subst, ◌∙◌, true≢false, arith}
 use Rattle.std.proofs.lemmas.Bool.Decides.{Decides-ltb}
 use Rattle.std.proofs.lemmas.Option.{slice_get_within}
@@ -33,7 +33,7 @@ both {P} {Q} (no f) (no g) = no by
 
 -- ---- numbers
 
--- the first number that is so, or none is
+-- the first number with the property, or there is none
 pub data Search (P : ℕ → Type 0) : Type 0 where
   found : (n : ℕ) → P n → ((k : ℕ) → k < n → P k → ⊥) → Search P
   nowhere : ((n : ℕ) → P n → ⊥) → Search P
@@ -56,7 +56,6 @@ module _ (P : ℕ → Type 0) (either : (n : ℕ) → Dec (P n)) where
               apart (yes m) = none k m p
               apart (no m) = let same : k ≡ b = omega (arith, l, m) in f (subst P same p)
 
-  -- where none is so from a number on
   pub search : (b : ℕ) → ((n : ℕ) → P n → n < b) → Search P
   search b within = by (before b)
     where

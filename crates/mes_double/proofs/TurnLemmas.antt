@@ -1,4 +1,4 @@
--- What a move comes to, in a dozen plain cases.
+-- The outcome of a move, in a dozen cases.
 use Rattle.std.proofs.Common.{◌≡◌, ℕ, Bool, true, false, if◌then◌else◌, slice_get, take, List, [], ◌∷◌, ◌++◌, Option, Some, None, is_some, Ok, Err, refl, ap, ◌∙◌}
 use Rattle.std.proofs.lemmas.List.{append-nil}
 use Rattle.mes_model.specs.Id.{Id}
@@ -28,12 +28,11 @@ use Rattle.mes_double.specs.Courses.{Arrival, Course, arrival, Follows}
 use Rattle.mes_double.proofs.ReachLemmas.{out-status, Reached, reach}
 use Rattle.mes_double.proofs.ReachLemmas.Reached.{turned, opened, did}
 
--- ---- what there is behind each of them
+-- ---- the course after each
 
 abbrev pub to_world : Course → WorldState → Course
 to_world c w = record c { world = w }
 
--- the master sent an event
 abbrev pub to_sent : Course → MasterState → Event → Course
 to_sent c m e = to_world c (record c.world { master = m; waiting = c.world.waiting ++ e ∷ [] })
 
@@ -43,7 +42,6 @@ to_heard c e events = record c { world = record c.world { session = after c.worl
 abbrev pub to_wished : Course → Call → List ℕ → Course
 to_wished c call stream = to_world c (record c.world { session = after c.world.session (Said call); sent = c.world.sent ++ record { call = call; stream = stream } ∷ [] })
 
--- a call of that place reached the master, and was answered so
 abbrev pub arrival_of : ℕ → Sent → MasterAnswer → Arrival
 arrival_of index p a = record { index = index; sent = p; status = a.status; took = a.took; ran = a.ran }
 
@@ -72,14 +70,12 @@ pub data Turn (c d : Course) : Type 0 where
       → d ≡ to_answered c index p (carried_out c.world.master p.call) → Turn c d
   resubscribes : (uuid : List ℕ) (uuids : List (List ℕ)) → c.world.master.down ≡ false → d ≡ to_resubscribed c (subscribed c.world.master (uuid ∷ uuids)) → Turn c d
 
--- ---- which of them a move comes to
+-- ---- the case of each move
 
 module _ (c d : Course) where
-  -- nothing was heard and nothing arrived
   stays : (w : WorldState) → d.world ≡ w → d.heard ≡ c.heard ++ [] → d.arrivals ≡ c.arrivals ++ [] → d ≡ to_world c w
   stays w e h a = λ i. record { world = e i; heard = (h ∙ append-nil c.heard) i; arrivals = (a ∙ append-nil c.arrivals) i }
 
-  -- the master sends, or does not
   module _ (h : d.heard ≡ c.heard ++ []) (a : d.arrivals ≡ c.arrivals ++ []) where
     refused-turn : (sends : Sends) (why : MasterRefusal) → d.world ≡ sending c.world sends → sends ≡ Err why → Turn c d
     refused-turn sends why e is = skips (stays (skip c.world) (e ∙ ap (sending c.world) is) h a)

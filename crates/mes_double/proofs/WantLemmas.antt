@@ -1,4 +1,4 @@
--- Which moves may want memory, by what the steps of a move say.
+-- The moves in which an allocation may fail, from the contracts of their steps.
 use Rattle.std.proofs.Common.{◌≡◌, ℕ, true, inl, inr, ◌<◌, Result, Ok, Err, OnErr, IsOk, IsSome, is_ok, is_some, false, if◌then◌else◌, get_or, length, slice_get, take, List, ◌∷◌, Option, Some, None, refl, sym, ap, subst, ◌∙◌}
 use Rattle.std.proofs.lemmas.Result.{on_err_weaker}
 use Rattle.std.proofs.lemmas.Option.{slice_get-get_or}
@@ -21,16 +21,13 @@ use Rattle.mes_double.specs.Memory.{HearingWants, WishingWants, ArrivingWants, M
 use Rattle.mes_double.proofs.RunningLemmas.{DecodeStatus}
 
 module _ {T E : Type 0} where
-  -- what is so anyway is so of an error
   pub anyway : {P : Type 0} (result : Result T E) → P → OnErr result P
   anyway (Ok t) p = tt
   anyway (Err x) p = p
 
-  -- the master sent an event, so it would send it
   pub sent-wants : (result : Result T E) (sends : Sends) (m : MasterState) (e : Event) → sends ≡ Ok (e, m) → OnErr result (IsOk sends)
   sent-wants result sends m e is = anyway result (subst (λ (s : Sends). IsOk s) (sym is) refl)
 
-  -- the master told an update, so a stream is current
   pub updated-wants : (result : Result T E) (m : MasterState) (status : TaskStatus) (n : MasterState) (e : Event) → update_sent m status ≡ Ok (e, n) → OnErr result (IsSome m.stream)
   updated-wants result m status n e is = anyway result (by m.stream refl)
     where
@@ -38,7 +35,6 @@ module _ {T E : Type 0} where
       by None f = absurd (let g : true ≡ false = ap is_ok (sym is) ∙ ap (λ (o : Option (List ℕ)). is_ok (if is_some o then updated m status (owed_key_of status) else Err NoStream)) f in cc)
       by (Some stream) f = ap is_some f
 
-  -- memory was wanted of what the master would send
   pub refused-wants : {P : Type 0} (result : Result T E) (why : MasterRefusal) → OnErr result (why ≡ NoMemory) → (why ≡ NoMemory → P) → OnErr result P
   refused-wants result why reported wants = on_err_weaker result wants reported
 
@@ -55,7 +51,6 @@ module _ {T E : Type 0} where
       subst (λ (u : WorldState). OnErr result (ArrivingWants u (slice_get u.sent index))) same
       (on_err_weaker result (λ (f : is_done status ≡ true). subst (λ (o : Option Sent). ArrivingWants w o) (sym is) (sym (ap is_done status-is) ∙ f)) reported)
 
--- memory was wanted of an answer, so the call is carried out
 pub handled-wants : (w v : WorldState) (index : ℕ) (p : Sent) → w ≡ v → slice_get w.sent index ≡ Some p → MayWantMemory w.master p.call (Some p.stream) → ArrivingWants v (slice_get v.sent index)
 handled-wants w v index p same is reported =
     subst (λ (u : WorldState). ArrivingWants u (slice_get u.sent index)) same (subst (λ (o : Option Sent). ArrivingWants w o) (sym is) (by reported))
@@ -64,7 +59,7 @@ handled-wants w v index p same is reported =
     by (inl f) = ap is_done f
     by (inr f) = ap is_done f.0
 
--- the moves so far lead to a world in which the next one may want memory
+-- the moves so far lead to a world in which an allocation may fail in the next
 pub so-far-wants : (framework : Id) (ids : List (List ℕ)) (list : List Move) (index : ℕ) (world : WorldState) → DecodeStatus framework ids (take index list) index world
     → (move : Move) → index < length list → move ≡ get_or list index move → MayWant world move → WantsMemory framework ids list
 so-far-wants framework ids list index world s move within is wants = record {

@@ -1,4 +1,4 @@
--- The calls that were sent and have not arrived: when one more is sent, and when one arrives.
+-- The calls in transit: when one more is sent, and when one arrives.
 use Rattle.std.proofs.Common.{◌≡◌, ℕ, zero, suc, ◌+◌, ◌<◌, Bool, true, false, ◌||◌, ◌&&◌, not, ◌==◌, length, slice_get, List, [], ◌∷◌, ◌++◌, Some, refl, sym, ap, ◌∙◌, arith}
 use Rattle.std.specs.List.{list_any}
 use Rattle.std.proofs.lemmas.Bool.{eq-eqb, ne_eqb}
@@ -8,7 +8,6 @@ use Rattle.mes_double.specs.Courses.{Arrival}
 use Rattle.mes_double.specs.Promises.{has_arrived, on_the_way}
 use Rattle.mes_double.proofs.ListLemmas.{or-swap, or-three, or-none}
 
--- what has arrived once there is one arrival more
 pub arrived-more : (arrivals : List Arrival) (a : Arrival) (j : ℕ) → has_arrived (arrivals ++ a ∷ []) j ≡ (has_arrived arrivals j || (a.index == j))
 arrived-more arrivals a j = list_any-append (λ (b : Arrival). b.index == j) arrivals (a ∷ []) ∙ ap (λ (b : Bool). has_arrived arrivals j || b) (or-none (a.index == j))
 
@@ -19,7 +18,6 @@ pub arrived-other : (arrivals : List Arrival) (a : Arrival) (j : ℕ) → (a.ind
 arrived-other arrivals a j e = arrived-more arrivals a j ∙ ap (λ (b : Bool). has_arrived arrivals j || b) (ne_eqb a.index j e) ∙ or-none (has_arrived arrivals j)
 
 module _ (test : Sent → Bool) where
-  -- whether one that has not arrived passes
   abbrev pub any_way : List Arrival → ℕ → List Sent → Bool
   any_way arrivals at ps = list_any test (on_the_way arrivals at ps)
 
@@ -30,7 +28,6 @@ module _ (test : Sent → Bool) where
       by true e = rw e refl
       by false e = rw e refl
 
-  -- none passes, if none of all that were sent does
   pub way-none : (arrivals : List Arrival) (at : ℕ) (ps : List Sent) → ((i : ℕ) (p : Sent) → slice_get ps i ≡ Some p → test p ≡ false) → any_way arrivals at ps ≡ false
   way-none arrivals at [] none = refl
   way-none arrivals at (p ∷ ps) none =
@@ -42,7 +39,6 @@ module _ (test : Sent → Bool) where
       ends true = refl
       ends false = refl
 
-  -- one more is sent
   pub way-sent : (arrivals : List Arrival) (at : ℕ) (ps : List Sent) (p : Sent) (n : ℕ) → n ≡ at + length ps → has_arrived arrivals n ≡ false
       → any_way arrivals at (ps ++ p ∷ []) ≡ (any_way arrivals at ps || test p)
   way-sent arrivals at [] p n is free =
@@ -55,7 +51,6 @@ module _ (test : Sent → Bool) where
       ∙ ap (λ (b : Bool). b || test p) (sym (way-cons arrivals at q ps))
 
   module _ (arrivals : List Arrival) (a : Arrival) where
-    -- what was sent behind the one that arrives is not touched
     way-following : (at : ℕ) (ps : List Sent) → a.index < at → any_way (arrivals ++ a ∷ []) at ps ≡ any_way arrivals at ps
     way-following at [] less = refl
     way-following at (p ∷ ps) less =
@@ -63,7 +58,7 @@ module _ (test : Sent → Bool) where
         ∙ (λ i. (not (arrived-other arrivals a at (λ e. omega arith) i) && test p) || way-following (suc at) ps (omega arith) i)
         ∙ sym (way-cons arrivals at p ps)
 
-    -- one arrives, for the first time or again
+    -- a call arrives, for the first time or again
     pub way-arrives : (at : ℕ) (ps : List Sent) (k : ℕ) (p : Sent) → slice_get ps k ≡ Some p → a.index ≡ at + k
         → (any_way (arrivals ++ a ∷ []) at ps || (not (has_arrived arrivals a.index) && test p)) ≡ any_way arrivals at ps
     way-arrives at [] k p there is = absurd (cc)

@@ -1,4 +1,4 @@
--- What is known of a call that a session may say.
+-- Properties of a call that a session allows.
 use Rattle.std.proofs.Common.{◌≡◌, ℕ, suc, ◌≤◌, Bool, true, false, ◌||◌, inr, slice_get, List, [], ◌∷◌, Option, Some, None, refl, sym, ap, subst, ◌∙◌}
 use Rattle.std.specs.Str.{bytes_eq}
 use Rattle.std.proofs.lemmas.Slice.Eq.{bytes_eq-Decides}
@@ -14,7 +14,6 @@ use Rattle.mes_session_state.specs.Refusals.{Answers, IsOtherFramework}
 use Rattle.mes_double_master.specs.Masters.{same_id, agrees}
 use Rattle.mes_double.proofs.CountLemmas.{count, count-found}
 
--- where an identifier stands that names an offer
 pub record Names (ids : List Id) (o : Offer) : Type 0 where
   pub place : ℕ
   pub id : Id
@@ -30,7 +29,6 @@ named-at (d ∷ ds) o e = by (bytes_eq d.value (name_of o)) refl e (named-at ds 
     by false f e rest = (let n : Names ds o = rest e in record { place = suc n.place; id = n.id; there = n.there; same = n.same })
 
 module _ (s : Held) (call : Call) (said : Answers s call None) where
-  -- each offer that it names is in hand
   pub named-found : (i : ℕ) (d : Id) → slice_get (named_by call) i ≡ Some d → offer_in s.hand d.value ≡ None → ⊥
   named-found i d there none = said (NoSuchOffer i) (d, there, none)
 
@@ -39,7 +37,6 @@ module _ (s : Held) (call : Call) (said : Answers s call None) where
       let n : Names (named_by call) o = named-at (named_by call) o e in
       subst (λ (x : List ℕ). 1 ≤ count x s.hand) n.same (count-found n.id.value s.hand (named-found n.place n.id n.there))
 
-  -- the update that it acknowledges is owed
   pub owed-key : (k : OwedKey) → acknowledged_by call ≡ Some k → is_owed k s.owed ≡ true
   owed-key k e = by (is_owed k s.owed) refl
     where
@@ -47,7 +44,6 @@ module _ (s : Held) (call : Call) (said : Answers s call None) where
       by true f = f
       by false f = absurd (said NotOwed (k, e, f))
 
--- a framework that is not strange is the one that is known
 not-strange : (s : Held) (framework : Id) → (IsOtherFramework s framework → ⊥) → s.framework ≡ Some framework
 not-strange s framework fine = by s.framework refl
   where
@@ -66,7 +62,7 @@ not-strange s framework fine = by s.framework refl
     by None e = absurd (fine (inr (λ (g : s.framework ≡ Some framework). let h : None ≡ Some framework = sym e ∙ g in absurd (cc))))
     by (Some known) e = apart known e (bytes_eq known.value framework.value) refl
 
--- a call that names offers is of the framework that is known
+-- a call that names offers is of the known framework
 pub of-known : (s : Held) (call : Call) (o : Offer) → Answers s call None → names (named_by call) o ≡ true → (framework : Id) → ((known : Id) → s.framework ≡ Some known → known ≡ framework)
     → agrees framework (framework_of call) ≡ true
 of-known s call o said e framework one = by call said e

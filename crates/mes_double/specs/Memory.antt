@@ -1,4 +1,4 @@
--- Which moves may want memory, and where a list of moves has one that does.
+-- The moves in which an allocation may fail.
 use Rattle.std.specs.Prelude.{◌≡◌, ℕ, true, List, [], ◌∷◌, take, slice_get, Option, Some, None, IsSome, IsOk}
 use Rattle.mes_model.specs.Id.{Id}
 use Rattle.mes_msg.specs.Event.{Event}
@@ -12,23 +12,22 @@ use Rattle.mes_double.specs.declared.sent.Sent.{Sent}
 use Rattle.mes_double.specs.Worlds.{WorldState, is_done, answer_to}
 use Rattle.mes_double.specs.Courses.{Course, IsCourse}
 
--- the first of the events needs memory to be heard
+-- receiving the first of the events may allocate
 abbrev pub HearingWants : List Event → Type 0
 HearingWants [] = ⊥
 HearingWants (event ∷ events) = NeedsMemory event
 
--- a stream is current, and nothing is to be said against the call
+-- a stream is current, and the session allows the call
 abbrev pub WishingWants : WorldState → Call → Option (List ℕ) → Type 0
 WishingWants w call None = ⊥
 WishingWants w call (Some stream) = Answers w.session call None
 
--- the call was sent, and is carried out
+-- the call was sent, and would be carried out
 abbrev pub ArrivingWants : WorldState → Option Sent → Type 0
 ArrivingWants w None = ⊥
 ArrivingWants w (Some p) = is_done (answer_to w p).status ≡ true
 
--- Memory may be wanted of a move that would be made, and of no other, but for two: an update on a stream, whose key is copied before it
--- is known whether it was used, and a SUBSCRIBE, which is built before the master answers it.
+-- the move would be made; or it is an update on a stream or a SUBSCRIBE, which allocate first
 abbrev pub MayWant : WorldState → Move → Type 0
 MayWant w (moves.Offer offers) = IsOk (offers_sent w.master offers)
 MayWant w (moves.Rescind name) = IsOk (rescind_sent w.master name)
@@ -39,7 +38,7 @@ MayWant w (moves.Wish call) = WishingWants w call w.master.stream
 MayWant w (moves.Arrive index) = ArrivingWants w (slice_get w.sent index)
 MayWant w moves.Resubscribe = Unit {0}
 
--- one of the moves may want memory in the world that those in front of it lead to
+-- an allocation may fail in one of the moves, in the world that the moves before it lead to
 pub record WantsMemory (framework : Id) (ids : List (List ℕ)) (list : List Move) : Type 0 where
   pub index : ℕ
   pub move : Move

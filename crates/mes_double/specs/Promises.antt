@@ -1,4 +1,4 @@
--- What holds of every course, whatever is lost, late and repeated on it.
+-- What holds on every course, whatever is lost, late or repeated.
 use Rattle.std.specs.Prelude.{◌≡◌, ℕ, Bool, true, false, ◌&&◌, not, ◌==◌, if◌then◌else◌, fold, filter, List, [], ◌∷◌, suc, slice_get, Some}
 use Rattle.std.specs.List.{flat_map, list_any}
 use Rattle.std.specs.Str.{bytes_eq}
@@ -23,33 +23,33 @@ use Rattle.mes_double.specs.Courses.{Arrival, Course, Follows}
 
 -- ---- acknowledgements
 
--- each key that was acknowledged is that of an UPDATE that the session heard
+-- each acknowledged key is that of an UPDATE that the session received
 abbrev pub AckedWereHeard : Course → Type 0
 AckedWereHeard c = (key : OwedKey) → is_owed key c.world.master.acked ≡ true → list_any (λ (e : Event). is_owed key (owed_by (Heard e))) c.heard ≡ true
 
 -- ---- tasks and offers
 
--- the tasks that were launched, and the offers that were taken away, in order
+-- the tasks launched and the offers taken, in order
 abbrev pub all_ran : List Arrival → List TaskInfo
 all_ran arrivals = flat_map (λ (a : Arrival). a.ran) arrivals
 
 abbrev pub all_took : List Arrival → List Offer
 all_took arrivals = flat_map (λ (a : Arrival). a.took) arrivals
 
--- what was launched is what arrivals launched, and no task was launched twice
+-- the launched tasks are those of the arrivals, and no task was launched twice
 pub record LaunchedOnce (c : Course) : Type 0 where
   pub launched : c.world.master.launched ≡ ids_of (all_ran c.arrivals)
   pub once : is_duplicated c.world.master.launched ≡ false
 
--- no offer was taken away twice
+-- no offer was taken twice
 abbrev pub TakenOnce : Course → Type 0
 TakenOnce c = is_duplicated (offer_ids (all_took c.arrivals)) ≡ false
 
--- what an arrival launched fits the offers that it took away
+-- the tasks of an arrival fit the offers that it took
 abbrev pub WhatRanFits : Course → Type 0
 WhatRanFits c = (i : ℕ) (a : Arrival) → slice_get c.arrivals i ≡ Some a → Fits a.took a.ran
 
--- ---- calls that come again
+-- ---- repeated calls
 
 -- an ACCEPT, a DECLINE or an ACKNOWLEDGE
 abbrev pub may_repeat : Call → Bool
@@ -58,28 +58,28 @@ may_repeat (of.Decline framework body) = true
 may_repeat (of.Acknowledge framework body) = true
 may_repeat _ = false
 
--- the same offers are outstanding, and the same tasks were launched and updates acknowledged
+-- the outstanding offers, the launched tasks and the acknowledged updates are the same
 pub record IsUnmoved (before later : MasterState) : Type 0 where
   pub outstanding : later.outstanding ≡ before.outstanding
   pub launched : later.launched ≡ before.launched
   pub acked : later.acked ≡ before.acked
 
--- a call that was answered 202 moves nothing when it arrives again, now or at any later time
+-- a call with status 202 changes nothing when it arrives again, now or later
 abbrev pub AgainMovesNothing : Course → Type 0
 AgainMovesNothing c = (i : ℕ) (a : Arrival) (d : Course) → slice_get c.arrivals i ≡ Some a → a.status ≡ 202 → may_repeat a.sent.call ≡ true
     → Follows c (moves.Arrive a.index) d → IsUnmoved c.world.master d.world.master
 
--- ---- hand and outstanding offers
+-- ---- the session's offers and the outstanding ones
 
--- the session once all that waits is heard
+-- the session after all queued events
 abbrev pub caught_up : WorldState → Held
 caught_up w = fold (λ (s : Held) (e : Event). after s (Heard e)) w.session w.waiting
 
--- whether the call that was sent at that place has arrived
+-- whether the call sent at this index has arrived
 abbrev pub has_arrived : List Arrival → ℕ → Bool
 has_arrived arrivals index = list_any (λ (a : Arrival). a.index == index) arrivals
 
--- those of the calls that were sent, from that place on, that have not arrived
+-- the sent calls from an index on that have not arrived
 abbrev pub on_the_way : List Arrival → ℕ → List Sent → List Sent
 on_the_way arrivals at [] = []
 on_the_way arrivals at (p ∷ more) = if has_arrived arrivals at then on_the_way arrivals (suc at) more else p ∷ on_the_way arrivals (suc at) more
@@ -88,22 +88,22 @@ on_the_way arrivals at (p ∷ more) = if has_arrived arrivals at then on_the_way
 abbrev pub not_arrived : Course → List Sent
 not_arrived c = on_the_way c.arrivals 0 c.world.sent
 
--- whether an ACCEPT or a DECLINE of the offer was sent with this stream and has not arrived
+-- whether an ACCEPT or a DECLINE of the offer on this stream has not arrived
 abbrev pub is_under_way : Course → List ℕ → Offer → Bool
 is_under_way c stream o = list_any (λ (p : Sent). bytes_eq stream p.stream && names (named_by p.call) o) (not_arrived c)
 
--- Where a stream is current, the hand, once all that waits is heard, is what is outstanding without what is under way.
+-- on a stream, after all queued events, the session has the outstanding offers not in transit
 abbrev pub HandAgrees : Course → Type 0
 HandAgrees c = (stream : List ℕ) → c.world.master.stream ≡ Some stream
     → (caught_up c.world).hand ≡ filter (λ (o : Offer). not (is_under_way c stream o)) c.world.master.outstanding
 
--- Where a stream is current, nothing waits and all has arrived, the hand is what is outstanding.
+-- on a stream, with nothing queued or in transit, the session has the outstanding offers
 abbrev pub AllAgrees : Course → Type 0
 AllAgrees c = (stream : List ℕ) → c.world.master.stream ≡ Some stream → c.world.waiting ≡ [] → not_arrived c ≡ [] → c.world.session.hand ≡ c.world.master.outstanding
 
 -- ---- all of them
 
--- the laws of every world, whatever is lost, delayed or repeated on the way
+-- the laws of every world, whatever is lost, delayed or repeated
 pub record KeepsPromises (c : Course) : Type 0 where
   pub acked : AckedWereHeard c
   pub launched : LaunchedOnce c

@@ -1,4 +1,4 @@
--- A framework's session and a test master, and between them what is lost, late and repeated: what they hold, and what each move leaves.
+-- A world: a session, a test master, and the messages between them; and the effect of each move.
 use Rattle.std.specs.Prelude.{◌≡◌, ℕ, Bool, ◌+◌, ◌<◌, ◌==◌, ◌||◌, if◌then◌else◌, List, [], ◌∷◌, ◌++◌, slice_get, Option, Some, None, Ok, Err, codes}
 use Rattle.mes_model.specs.Id.{Id}
 use Rattle.mes_model.specs.declared.framework_info.FrameworkInfo.{FrameworkInfo}
@@ -17,15 +17,15 @@ use Rattle.mes_double.specs.declared.moves.Move.{Move}
 use Rattle.mes_double.specs.declared.moves.Move.TheVariants as moves
 use Rattle.mes_double.specs.declared.sent.Sent.{Sent}
 
--- what a world holds
+-- the state of a world
 pub record WorldState : Type 0 where
   pub master : MasterState
   pub session : Held
-  -- the events that were sent and not heard yet, in order
+  -- the events that were sent and not yet received, in order
   pub waiting : List Event
-  -- each call that the session said, with the id of the stream that was current then, in order
+  -- the calls of the session in order, each with the id of the stream that was then current
   pub sent : List Sent
-  -- how many moves could not be made, or were refused
+  -- the number of moves that were impossible or refused
   pub skipped : ℕ
 
 abbrev pub new_world : Id → List (List ℕ) → WorldState
@@ -35,30 +35,30 @@ new_world framework ids = record { master = new_master framework ids; session = 
 abbrev pub HasRoom : WorldState → Type 0
 HasRoom w = w.skipped < 18446744073709551615
 
--- a move that can't be made, or is refused, changes nothing but this
+-- the effect of a move that is impossible or refused
 abbrev pub skip : WorldState → WorldState
 skip w = record w { skipped = w.skipped + 1 }
 
 -- ---- events
 
--- what the master sends of its own waits
+-- an event of the master is queued
 abbrev pub sending : WorldState → Sends → WorldState
 sending w (Ok sent) = record w { master = sent.1; waiting = w.waiting ++ sent.0 ∷ [] }
 sending w (Err why) = skip w
 
--- the first of the events is heard, and the others wait
+-- the first event is received, and the others stay queued
 abbrev pub hearing : WorldState → List Event → WorldState
 hearing w [] = skip w
 hearing w (event ∷ events) = record w { session = after w.session (Heard event); waiting = events }
 
 -- ---- calls
 
--- a call that the session may say is said, and sent with the id of the stream; one that it refuses is not
+-- a call that the session allows is sent with the id of the stream; a refused one is skipped
 abbrev pub wishing : WorldState → Call → List ℕ → Option Refusal → WorldState
 wishing w call stream None = record w { session = after w.session (Said call); sent = w.sent ++ record { call = call; stream = stream } ∷ [] }
 wishing w call stream (Some why) = skip w
 
--- what the session answers to a call decides; without a stream nothing is asked of it
+-- the session allows or refuses the call; without a stream the move is skipped
 abbrev pub Wishes : WorldState → Call → Option (List ℕ) → WorldState → Type 0
 Wishes w call None later = later ≡ skip w
 Wishes w call (Some stream) later = (answer : Option Refusal) × Answers w.session call answer × (later ≡ wishing w call stream answer)
@@ -67,22 +67,22 @@ Wishes w call (Some stream) later = (answer : Option Refusal) × Answers w.sessi
 abbrev pub is_done : ℕ → Bool
 is_done status = status == 200 || status == 202
 
--- what the master answers to a call that was sent
+-- the master's response to a sent call
 abbrev pub answer_to : WorldState → Sent → MasterAnswer
 answer_to w p = handled w.master p.call (Some p.stream)
 
--- a call was carried out, and the events of its answer wait
+-- a call was carried out, and the events of the response are queued
 abbrev pub answering : WorldState → MasterAnswer → WorldState
 answering w answer = if is_done answer.status then record w { master = answer.master; waiting = w.waiting ++ answer.events } else skip w
 
--- a call that was sent reaches the master
+-- the master receives a sent call
 abbrev pub arriving : WorldState → Option Sent → WorldState
 arriving w None = skip w
 arriving w (Some p) = answering w (answer_to w p)
 
 -- ---- streams
 
--- what the framework of a world tells of itself: the user `root` and the name `world`
+-- the description of a world's framework: the user `root` and the name `world`
 abbrev pub world_info : FrameworkInfo
 world_info = record {
   user = codes "root";
@@ -96,15 +96,15 @@ world_info = record {
   capabilities = [];
 }
 
--- what the master answers to a SUBSCRIBE, which names no stream, and the framework where the session knows it
+-- the response to a SUBSCRIBE, which names no stream, and the framework if the session knows it
 abbrev pub subscribe_answer : WorldState → MasterAnswer
 subscribe_answer w = handled w.master (subscribe_call w.session.framework world_info) None
 
--- Where it was carried out the session's stream has broken, and what waited is lost.
+-- if it was carried out, the session is disconnected and the queue is replaced
 abbrev pub resubscribing : WorldState → MasterAnswer → WorldState
 resubscribing w answer = if is_done answer.status then record w { master = answer.master; session = after w.session Broken; waiting = answer.events } else skip w
 
--- ---- the same once the master has answered
+-- ---- the same after the response
 
 abbrev pub taking : WorldState → ℕ → List Event → WorldState
 taking w status events = if is_done status then record w { waiting = w.waiting ++ events } else skip w
@@ -114,7 +114,7 @@ reopening w status events = if is_done status then record w { session = after w.
 
 -- ---- each move
 
--- what a move leaves; of a call that is wished, by what the session answers to it
+-- the effect of a move; for a call, by what the session decides
 abbrev pub Happens : WorldState → Move → WorldState → Type 0
 Happens w (moves.Offer offers) later = later ≡ sending w (offers_sent w.master offers)
 Happens w (moves.Rescind name) later = later ≡ sending w (rescind_sent w.master name)

@@ -1,6 +1,14 @@
 #![tactic(auto)]
-//! The double of a scheduler's life: a session and a test master, and between them what is lost, late and repeated. It gives on what
-//! heads of HTTP and the test master are, so that one name has all of it.
+//! A test double of the scheduler API: a session and a test master, with lost, late and repeated
+//! messages between them.
+//!
+//!     let moves = [Move::Resubscribe, Move::Hear];
+//!     let world = run_world(alloc, framework, ids, &moves)?;
+//!
+//! The contracts state the world after each list of moves. `world_laws` proves what holds in every
+//! world, such as that no task is launched twice. The crates `mes_double_master` (the master) and
+//! `mes_double_http` (heads) are re-exported here. Their tests are in `mes_double_master_tests` and
+//! `mes_double_http_tests`; `mes_double_worlds` is a program that runs lists of moves.
 
 mod moves;
 mod running;

@@ -1,29 +1,34 @@
-//! What may happen between a session and a master.
+//! The moves between a session and a master. `running.rt` makes a list of them.
 
 use mes_json::Text;
 use mes_model::{List, Offer, TaskStatus};
 use mes_msg::Call;
 
-/// What may happen between a session and a test master. A move that can't be made, or is refused, changes nothing, and is counted.
+/// A move between a session and a test master. A move that is impossible or refused changes nothing
+/// and is counted as skipped.
 #[derive(Drop)]
 pub enum Move {
-    /// The master makes offers: an OFFERS waits, or M1 or M2.
+    /// The master makes offers and queues an OFFERS. Refused without a stream (M1) or for a
+    /// repeated identifier (M2).
     Offer(List<Offer>),
-    /// The master takes the offer of this identifier back: a RESCIND waits, or M1 or M3.
+    /// The master withdraws the offer with this identifier and queues a RESCIND. Refused without a
+    /// stream (M1) or such an offer (M3).
     Rescind(Text),
-    /// The master tells a status: an UPDATE waits, or M1 or M4.
+    /// The master sends a status and queues an UPDATE. Refused without a stream (M1) or for a
+    /// repeated update (M4).
     Update(TaskStatus),
-    /// The master tells the update again that stands at this place among those that owe an acknowledgement and have none, or M1 or M5.
+    /// The master resends the update at this index among the unacknowledged ones. Refused without a
+    /// stream (M1) or such an update (M5).
     Resend(usize),
-    /// The first event that waits is heard, if one waits.
+    /// The session receives the first queued event, if there is one.
     Hear,
-    /// The session says a call, or refuses it by S1 to S7, and it is sent with the id of the current stream. Where no stream is current
-    /// it can't be said.
+    /// The session makes the call, which is sent with the id of the current stream. The session may
+    /// refuse it (S1 to S7). Without a current stream the move is impossible.
     Wish(Call),
-    /// The call that was sent at this place reaches the master, for the first time or again. Its answer is 202, or 200 for a SUBSCRIBE,
-    /// and the events of it wait; or else the move was refused.
+    /// The master receives the call that was sent at this index, for the first time or again. With
+    /// status 200 or 202 the events of the response are queued; any other status is a refusal.
     Arrive(usize),
-    /// A SUBSCRIBE reaches the master, and where it is carried out the stream breaks first, and what waits is lost. Where it is refused,
-    /// nothing breaks and what waits stays.
+    /// The master receives a SUBSCRIBE. If it is carried out, the stream is first disconnected and
+    /// the queued events are lost. If it is refused, the stream and the queue stay.
     Resubscribe,
 }

@@ -1,9 +1,9 @@
-//! Calls on the way.
+//! Calls in transit.
 
 use mes_double_http::StreamId;
 use mes_msg::Call;
 
-/// A call that a session said, and the id of the stream that was current then.
+/// A call that a session sent, and the id of the stream that was then current.
 #[derive(Drop)]
 pub struct Sent {
     /// The call.

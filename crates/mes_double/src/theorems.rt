@@ -1,4 +1,4 @@
-//! Laws of worlds: functions that do nothing, with the law as their contract.
+//! Theorems about worlds, stated as the contract of an empty function.
 ghost use Rattle.std.specs.Prelude.{◌≡◌, ℕ, List};
 ghost use Rattle.mes_model.specs.Id.{Id};
 ghost use Rattle.mes_double.specs.declared.moves.Move.{Move};
@@ -7,20 +7,33 @@ ghost use Rattle.mes_double.specs.Promises.{AckedWereHeard, LaunchedOnce, TakenO
 
 use mes_session_state::refusal_laws;
 
-/// Whatever is lost, late and repeated, by whatever list of moves: each update that counts as acknowledged was heard. No task is launched
-/// twice, no offer is taken away twice, and what one call launches fits the offers that it took. An ACCEPT, a DECLINE or an ACKNOWLEDGE
-/// that was answered 202 moves nothing when it comes again, now or later. Where a stream is current, the session's hand, once all that
-/// waits is heard, is the list of outstanding offers without those that a call on the way names; so with nothing on the way the two are
-/// one. And each list of moves has a course, and one alone.
+/// Proves what holds after any list of moves, whatever is lost, late or repeated:
+/// - each acknowledged update was received;
+/// - no task is launched twice, no offer is taken twice, and the tasks of a call fit the offers it
+///   took;
+/// - an ACCEPT, a DECLINE or an ACKNOWLEDGE with status 202 changes nothing when it arrives again;
+/// - on a current stream, after the queued events, the session's offers are the outstanding ones
+///   without those that a call in transit names.
+///
+/// Each list of moves has exactly one course.
 pub fn world_laws()
+    // Each list of moves has a course.
     ensures some { (framework : Id) (ids : List (List ℕ)) (list : List Move) → (c : Course) × IsCourse framework ids list c }
+    // Each list of moves has at most one course.
     ensures one { (framework : Id) (ids : List (List ℕ)) (list : List Move) (c d : Course) → IsCourse framework ids list c → IsCourse framework ids list d → c ≡ d }
+    // Each acknowledged update was received.
     ensures acked { (framework : Id) (ids : List (List ℕ)) (list : List Move) (c : Course) → IsCourse framework ids list c → AckedWereHeard c }
+    // No task is launched twice.
     ensures launched { (framework : Id) (ids : List (List ℕ)) (list : List Move) (c : Course) → IsCourse framework ids list c → LaunchedOnce c }
+    // No offer is taken twice.
     ensures taken { (framework : Id) (ids : List (List ℕ)) (list : List Move) (c : Course) → IsCourse framework ids list c → TakenOnce c }
+    // The tasks of a call fit the offers it took.
     ensures fits { (framework : Id) (ids : List (List ℕ)) (list : List Move) (c : Course) → IsCourse framework ids list c → WhatRanFits c }
+    // A repeated call changes nothing.
     ensures again { (framework : Id) (ids : List (List ℕ)) (list : List Move) (c : Course) → IsCourse framework ids list c → AgainMovesNothing c }
+    // On a current stream the session's offers are the outstanding ones without those in transit.
     ensures agrees { (framework : Id) (ids : List (List ℕ)) (list : List Move) (c : Course) → IsCourse framework ids list c → HandAgrees c }
+    // With nothing in transit, the session's offers are the outstanding ones.
     ensures same { (framework : Id) (ids : List (List ℕ)) (list : List Move) (c : Course) → IsCourse framework ids list c → AllAgrees c }
 {
     refusal_laws();

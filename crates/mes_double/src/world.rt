@@ -1,4 +1,4 @@
-//! A session and a test master, with what is on the way between them.
+//! A session and a test master, with the messages between them.
 ghost use Rattle.std.specs.Prelude.{◌≡◌};
 ghost use Rattle.mes_double.specs.Worlds.{new_world};
 
@@ -13,7 +13,7 @@ use std::alloc::Global;
 use std::marker::Model;
 use uuid::Uuid;
 
-/// A session and a test master, with what is on the way between them. A contract sees it as `WorldState`.
+/// A session, a test master, and the messages between them. In contracts its value is `WorldState`.
 #[derive(Drop)]
 pub struct World {
     alloc: Global,
@@ -43,7 +43,8 @@ impl Model for World {
 }
 
 impl World {
-    /// A new master of the framework, which gives its streams these ids, and a new session. Takes no memory.
+    /// Returns a world with a new session and a new master, whose streams get these ids. Does not
+    /// allocate.
     pub(crate) fn new(alloc: Global, framework: Id, ids: Vec<Uuid>) -> World
         ensures { result ≡ new_world framework ids.items }
     {
@@ -57,35 +58,36 @@ impl World {
         }
     }
 
-    /// The master. Takes no memory, as none of the getters does.
+    /// Returns the master. Neither this nor another getter allocates.
     pub fn master(&self) -> &Master
         ensures { result.now ≡ self.now.master }
     {
         &self.master
     }
 
-    /// The session.
+    /// Returns the session.
     pub fn session(&self) -> &Session
         ensures { result.now ≡ self.now.session }
     {
         &self.session
     }
 
-    /// The events that were sent and not heard yet, in order.
+    /// Returns the queued events, which were sent and not yet received, in order.
     pub fn waiting(&self) -> &[Event]
         ensures { result.now ≡ self.now.waiting }
     {
         self.waiting.as_slice()
     }
 
-    /// The calls that the session said, in order, each with the id of the stream that was current then.
+    /// Returns the calls of the session in order, each with the id of the stream that was then
+    /// current.
     pub fn sent(&self) -> &[Sent]
         ensures { result.now ≡ self.now.sent }
     {
         self.sent.as_slice()
     }
 
-    /// How many moves could not be made, or were refused.
+    /// Returns the number of moves that were impossible or refused.
     pub fn skipped(&self) -> usize
         ensures { result ≡ self.now.skipped }
     {

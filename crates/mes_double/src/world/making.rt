@@ -22,7 +22,7 @@ use mes_msg::{Call, Event};
 use std::alloc::Global;
 
 impl World {
-    /// Makes a move, or counts it as skipped where it can't be made, or is refused.
+    /// Makes a move, or counts it as skipped if it is impossible or refused.
     pub(crate) fn make(&mut self, next: &Move) -> Result<(), NoMemory>
         requires { HasRoom self.old }
         ensures ok { OnOk result (Happens self.old next.now self.new) }
@@ -40,7 +40,6 @@ impl World {
         }
     }
 
-    /// Counts a move that was not made.
     fn skip(&mut self)
         requires { HasRoom self.old }
         ensures { self.new ≡ skip self.old }
@@ -48,9 +47,8 @@ impl World {
         self.skipped += 1;
     }
 
-    // ---- what the master sends of its own
+    // ---- events of the master
 
-    /// An event waits.
     fn push(&mut self, event: Event) -> Result<(), NoMemory>
         ensures { OnOk result (self.new ≡ record self.old { waiting = self.old.waiting ++ event ∷ [] }) }
     {
@@ -58,7 +56,7 @@ impl World {
         Ok(())
     }
 
-    /// The master refused to send: that is counted, where it is for M1 to M5. Want of memory is told on.
+    /// Counts a refusal of the master (M1 to M5) as skipped; returns M6 as an error.
     fn skip_for(&mut self, why: MasterRefusal) -> Result<(), NoMemory>
         requires { HasRoom self.old }
         ensures ok { OnOk result (self.new ≡ skip self.old) }
@@ -74,7 +72,6 @@ impl World {
         }
     }
 
-    /// The master makes offers.
     fn offer(&mut self, offers: &[Offer]) -> Result<(), NoMemory>
         requires { HasRoom self.old }
         ensures ok { OnOk result (self.new ≡ sending self.old (offers_sent self.old.master offers.now)) }
@@ -86,7 +83,6 @@ impl World {
         }
     }
 
-    /// The master takes an offer back.
     fn rescind(&mut self, id: &str) -> Result<(), NoMemory>
         requires { HasRoom self.old }
         ensures ok { OnOk result (self.new ≡ sending self.old (rescind_sent self.old.master id.now)) }
@@ -98,7 +94,6 @@ impl World {
         }
     }
 
-    /// The master tells a status.
     fn update(&mut self, status: &TaskStatus) -> Result<(), NoMemory>
         requires { HasRoom self.old }
         ensures ok { OnOk result (self.new ≡ sending self.old (update_sent self.old.master status.now)) }
@@ -110,7 +105,6 @@ impl World {
         }
     }
 
-    /// The master tells an update again.
     fn resend(&mut self, index: usize) -> Result<(), NoMemory>
         requires { HasRoom self.old }
         ensures ok { OnOk result (self.new ≡ sending self.old (resend_sent self.old.master index)) }
@@ -122,9 +116,8 @@ impl World {
         }
     }
 
-    // ---- what the session hears and says
+    // ---- events received and calls sent by the session
 
-    /// The first event that waits is heard.
     fn hear(&mut self) -> Result<(), NoMemory>
         requires { HasRoom self.old }
         ensures ok { OnOk result (self.new ≡ hearing self.old self.old.waiting) }
@@ -139,7 +132,6 @@ impl World {
         }
     }
 
-    /// The session hears an event.
     fn hear_event(&mut self, event: &Event) -> Result<(), NoMemory>
         ensures ok { OnOk result (self.new ≡ record self.old { session = after self.old.session (Heard event.now) }) }
         ensures memory { OnErr result (NeedsMemory event.now) }
@@ -150,7 +142,7 @@ impl World {
         }
     }
 
-    /// The session says a call, which is sent with the id of the current stream.
+    /// The session makes a call, which is sent with the id of the current stream.
     fn wish(&mut self, call: &Call) -> Result<(), NoMemory>
         requires { HasRoom self.old }
         ensures ok { OnOk result (Happens self.old (moves.Wish call.now) self.new) }
@@ -165,7 +157,7 @@ impl World {
         }
     }
 
-    /// The session says a call, which is sent with the id of this stream, the current one.
+    /// The session makes a call, which is sent with the id of this stream.
     fn say(&mut self, call: &Call, stream: StreamId) -> Result<(), NoMemory>
         requires room { HasRoom self.old }
         requires current { self.old.master.stream ≡ Some stream }
@@ -181,7 +173,6 @@ impl World {
         }
     }
 
-    /// A call that was said is sent with the id of this stream.
     fn send(&mut self, call: &Call, stream: StreamId) -> Result<(), NoMemory>
         ensures { OnOk result (self.new ≡ record self.old { sent = self.old.sent ++ record { call = call.now; stream = stream } ∷ [] }) }
     {
@@ -190,9 +181,9 @@ impl World {
         Ok(())
     }
 
-    // ---- what reaches the master
+    // ---- calls received by the master
 
-    /// The call that was sent at that place reaches the master.
+    /// The master receives the call that was sent at an index.
     fn arrive(&mut self, index: usize) -> Result<(), NoMemory>
         requires { HasRoom self.old }
         ensures ok { OnOk result (Happens self.old (moves.Arrive index) self.new) }
@@ -210,7 +201,7 @@ impl World {
         }
     }
 
-    /// The master answered a call: its events wait, or it was refused.
+    /// Queues the events of a response, or counts a refusal.
     fn answered(&mut self, answer: Answer) -> Result<(), NoMemory>
         requires { HasRoom self.old }
         ensures ok { OnOk result (self.new ≡ taking self.old answer.status answer.events.items) }
@@ -224,7 +215,6 @@ impl World {
         }
     }
 
-    /// A SUBSCRIBE reaches the master.
     fn resubscribe(&mut self) -> Result<(), NoMemory>
         requires { HasRoom self.old }
         ensures { OnOk result (self.new ≡ resubscribing self.old (subscribe_answer self.old)) }
@@ -236,7 +226,6 @@ impl World {
         }
     }
 
-    /// This SUBSCRIBE reaches the master, and is answered.
     fn open_stream(&mut self, call: &Call) -> Result<(), NoMemory>
         requires { HasRoom self.old }
         ensures { OnOk result (self.new ≡ resubscribing self.old (handled self.old.master call.now None)) }
@@ -246,7 +235,7 @@ impl World {
         Ok(())
     }
 
-    /// The master answered a SUBSCRIBE. Where it was carried out the session's stream has broken, and what waited is lost.
+    /// Disconnects the session's stream and replaces the queue if a SUBSCRIBE was carried out.
     fn reopen(&mut self, answer: Answer)
         requires { HasRoom self.old }
         ensures { self.new ≡ reopening self.old answer.status answer.events.items }
@@ -260,7 +249,7 @@ impl World {
     }
 }
 
-/// Takes the first event out, if there is one.
+/// Removes and returns the first event, if there is one.
 fn take_first(waiting: &mut Vec<Event>) -> Option<Event>
     ensures some { IfSome result (λ event. waiting.old.items ≡ event ∷ waiting.new.items) }
     ensures none { IfNone result ((waiting.old.items ≡ []) × (waiting.new.items ≡ [])) }
@@ -272,14 +261,12 @@ fn take_first(waiting: &mut Vec<Event>) -> Option<Event>
     }
 }
 
-/// The call that was sent at that place.
 fn sent_at(sent: &[Sent], index: usize) -> Option<&Sent>
     ensures { option_copied result ≡ slice_get sent.now index }
 {
     sent.get(index)
 }
 
-/// The id of the current stream.
 fn current(master: &Master) -> Option<StreamId>
     ensures { result ≡ master.now.stream }
 {
@@ -289,7 +276,6 @@ fn current(master: &Master) -> Option<StreamId>
     }
 }
 
-/// Adds events behind the others.
 fn push_all(waiting: &mut Vec<Event>, events: Vec<Event>) -> Result<(), NoMemory>
     ensures { OnOk result (waiting.new.items ≡ waiting.old.items ++ events.items) }
 {
@@ -299,14 +285,14 @@ fn push_all(waiting: &mut Vec<Event>, events: Vec<Event>) -> Result<(), NoMemory
     Ok(())
 }
 
-/// Whether an answer of that status carried a call out.
+/// Returns whether a response with this status carried a call out.
 fn is_done(status: StatusCode) -> bool
     ensures { result ≡ is_done status }
 {
     status == StatusCode::OK || status == StatusCode::ACCEPTED
 }
 
-/// What the framework of a world tells of itself: the user `root` and the name `world`.
+/// Returns the description of a world's framework: the user `root` and the name `world`.
 fn world_info(alloc: Global) -> Result<FrameworkInfo, NoMemory>
     ensures { IfOk result (λ info. info ≡ world_info) }
 {
