@@ -1,4 +1,4 @@
--- A body taken part by part.
+-- A body read part by part.
 use Rattle.std.proofs.Common.{◌≡◌, ℕ, ◌-◌, ◌<◌, ◌≤◌, List, [], ◌++◌, length, Option, refl, sym, ap, ◌∙◌, subst, inl, inr, arith, length-append}
 use Rattle.std.specs.Io.KnownBytes.{Consumes}
 use Rattle.std.proofs.KnownBytes.{Consumes-nil, Consumes-trans}
@@ -12,7 +12,6 @@ use Rattle.mes_double_http.specs.Endings.{AllGive}
 use Rattle.mes_double_http.specs.declared.fault.HeadFault.{HeadFault}
 use Rattle.mes_double_http.specs.declared.fault.HeadFault.TheVariants as fault
 
--- what was taken of it so far
 pub record TakesBody (before after : Option (List ℕ)) (old new : Counts) (taken : List ℕ) (n : ℕ) : Type 0 where
   pub took : Consumes before after taken
   pub gives : AllGive old new
@@ -22,7 +21,6 @@ pub body-start : (before : Option (List ℕ)) (counts : Counts) (taken : List �
 body-start before counts taken n none = subst (λ t. TakesBody before before counts counts t n) (sym none)
     (record { took = Consumes-nil before; gives = (refl, refl); within = omega arith })
 
--- a part that stops the taking of a body stops it behind what was taken
 pub body-stops : (f : HeadFault) (a b c : Option (List ℕ)) (old mid new : Counts) (taken part : List ℕ) (n left : ℕ) → left ≡ n - length taken → length taken < n
     → TakesBody a b old mid taken n → Consumes b c part → StopsPart left f part mid new
     → (all : List ℕ) × Consumes a c all × StopsBody n f all old new
@@ -34,7 +32,6 @@ body-stops fault.NoMemory a b c old mid new taken part n left is short t took (s
     (taken ++ part, Consumes-trans a b c taken part t.took took, (omega (arith, some, length-append taken part), omega (arith, few, is, length-append taken part), (stop.0 ∙ t.gives.0, stop.1 ∙ t.gives.1)))
 body-stops _ a b c old mid new taken part n left is short t took stop = absurd stop
 
--- the whole body of a call, behind its head
 pub call-whole : (a b c : Option (List ℕ)) (old mid new : Counts) (front body part : List ℕ) (h : RequestHead) (n : ℕ) (stream : Option (List ℕ))
     → Consumes a b front → IsRequest front h → IsCall h n stream → AllGive old mid → Consumes b c part → body ≡ part → length part ≡ n → AllGive mid new
     → (all : List ℕ) × Consumes a c all × (IsWholeCall all stream body × AllGive old new)
@@ -54,7 +51,6 @@ call-whole a b c old mid new front body part h n stream first is keeps gave took
   ),
 )
 
--- or no more than a part of it
 pub call-stops : (f : HeadFault) (a b c : Option (List ℕ)) (old mid new : Counts) (front part : List ℕ) (h : RequestHead) (n : ℕ) (stream : Option (List ℕ))
     → Consumes a b front → IsRequest front h → IsCall h n stream → AllGive old mid → Consumes b c part → StopsBody n f part mid new
     → (all : List ℕ) × Consumes a c all × RefusesCall f all old new

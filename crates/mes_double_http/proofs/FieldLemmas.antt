@@ -1,4 +1,4 @@
--- The fields of a head, found place by place.
+-- The search for a field of a head, field by field.
 use Rattle.std.proofs.Common.{◌≡◌, ℕ, ◌+◌, ◌<◌, ◌≤◌, Bool, true, false, List, [], ◌∷◌, ◌++◌, length, drop, map, get_or, if◌then◌else◌, refl, subst, sym, Bor, ◌∙◌, ap, arith, append-nil, length-append}
 use Rattle.std.proofs.lemmas.List.{drop_more, drop_all}
 use Rattle.std.specs.Str.{str_eq_ignore_ascii_case}
@@ -8,31 +8,26 @@ use Rattle.mes_double_http.specs.Fields.{IsNamed, NameAndValue, values_named}
 use Rattle.mes_double_http.specs.declared.fields.Named.{Named}
 use Rattle.mes_double_http.specs.declared.fields.Named.TheVariants.{Nothing, One, More}
 
--- the values of a name at the places from one on
 abbrev pub values_from : List ℕ → List ℕ → List HeaderSpan → ℕ → List (List ℕ)
 values_from name bytes headers i = values_named name (map (header_bytes bytes) (drop i headers))
 
--- of all values, those before the place were found
+-- the values before the index were found
 pub record Follows (found : Named) (name bytes : List ℕ) (headers : List HeaderSpan) (i : ℕ) : Type 0 where
   pub before : List (List ℕ)
   pub is : IsNamed found before
   pub all : values_named name (map (header_bytes bytes) headers) ≡ before ++ values_from name bytes headers i
 
--- the first field of some, by whether it has the name
 named-first : (name : List ℕ) (p : NameAndValue) (rest : List NameAndValue) (same : Bool) → str_eq_ignore_ascii_case p.0 name ≡ same
     → values_named name (p ∷ rest) ≡ (if same then p.1 ∷ values_named name rest else values_named name rest)
 named-first name p rest true is = rw is refl
 named-first name p rest false is = rw is refl
 
--- the name and the value at a place
 abbrev pub field_at : List ℕ → List HeaderSpan → ℕ → NameAndValue
 field_at bytes headers i = header_bytes bytes (get_or headers i (record { name = record { start = 0; end = 0 }; value = record { start = 0; end = 0 } }))
 
--- a text that is another one has a name where that has it
 pub same-is : (text part name : List ℕ) (test b : Bool) → test ≡ str_eq_ignore_ascii_case text name → text ≡ part → test ≡ b → str_eq_ignore_ascii_case part name ≡ b
 same-is text part name test b reported is found = ap (λ t. str_eq_ignore_ascii_case t name) (sym is) ∙ sym reported ∙ found
 
--- the field at a place
 values-more : (name bytes : List ℕ) (headers : List HeaderSpan) (i : ℕ) (same : Bool) → i < length headers
     → str_eq_ignore_ascii_case (field_at bytes headers i).0 name ≡ same
     → values_from name bytes headers i ≡ (if same then (field_at bytes headers i).1 ∷ values_from name bytes headers (i + 1) else values_from name bytes headers (i + 1))
@@ -40,11 +35,9 @@ values-more name bytes headers i same inside is =
     ap (λ hs. values_named name (map (header_bytes bytes) hs)) (drop_more headers i _ inside)
     ∙ named-first name (field_at bytes headers i) (map (header_bytes bytes) (drop (i + 1) headers)) same is
 
--- before the first place
 pub follows-start : (name bytes : List ℕ) (headers : List HeaderSpan) → Follows Nothing name bytes headers 0
 follows-start name bytes headers = record { before = []; is = refl; all = refl }
 
--- one more field has the name, or has not
 pub follows-one : (name bytes : List ℕ) (headers : List HeaderSpan) (i : ℕ) (v : Bor (List ℕ)) → i < length headers
     → str_eq_ignore_ascii_case (field_at bytes headers i).0 name ≡ true → v.now ≡ (field_at bytes headers i).1
     → Follows Nothing name bytes headers i → Follows (One v) name bytes headers (i + 1)
@@ -63,7 +56,6 @@ follows-other found name bytes headers i inside same f = record {
   all = rw (f.all, values-more name bytes headers i false inside same) refl;
 }
 
--- a second field has the name
 pub follows-again : (found : Named) (name bytes : List ℕ) (headers : List HeaderSpan) (i : ℕ) → i < length headers
     → str_eq_ignore_ascii_case (field_at bytes headers i).0 name ≡ true → (found ≡ Nothing → ⊥)
     → Follows found name bytes headers i → 2 ≤ length (values_named name (map (header_bytes bytes) headers))
@@ -76,7 +68,6 @@ follows-again found name bytes headers i inside same some f =
     some-found (One v) vs not is = omega (arith, ap length is)
     some-found More vs not is = omega (arith, is)
 
--- behind the last place
 pub follows-end : (found : Named) (name bytes : List ℕ) (headers : List HeaderSpan) (i : ℕ) → length headers ≤ i
     → Follows found name bytes headers i → IsNamed found (values_named name (map (header_bytes bytes) headers))
 follows-end found name bytes headers i past f =

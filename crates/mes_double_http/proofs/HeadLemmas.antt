@@ -1,4 +1,4 @@
--- Heads taken byte by byte.
+-- Heads read byte by byte.
 use Rattle.std.proofs.Common.{◌≡◌, ◌≢◌, ℕ, zero, suc, ◌+◌, ◌-◌, ◌≤◌, ◌<◌, List, [], ◌∷◌, ◌++◌, length, take, drop, Option, subst, sym, ap, ◌∙◌, arith, refl, length-append, length-take, append-nil, inl, inr}
 use Rattle.std.proofs.Math.Seq.{take-append_seam, take-append-add}
 use Rattle.std.proofs.lemmas.List.{nil_from_length, length-map}
@@ -18,14 +18,13 @@ use Rattle.mes_double_http.proofs.TargetLemmas.{in_target, target_goes_on, targe
 use Rattle.mes_double_http.proofs.Nothing.{request-pends, response-pends}
 use Rattle.mes_double_http.specs.declared.limits.TheConstants.{MAX_HEAD, MAX_FIELDS}
 
--- what is left of the loop: no head has ended yet, and one may
+-- the invariant of the loop: no head is complete yet, and one may follow
 pub record TakesResponse (before after : Option (List ℕ)) (old new : Counts) (taken : List ℕ) : Type 0 where
   pub took : Consumes before after taken
   pub gives : GaveEach (length taken) old new
   pub bytes : length taken ≤ MAX_HEAD
   pub pends : PendsResponse taken
 
--- where a head ends in what was taken and ended nowhere before, it is all of it
 response-whole : (taken : List ℕ) (b : ℕ) (h : ResponseHead) (rest : List ℕ) → HasNoResponse taken → ReadsResponse (taken ++ b ∷ []) h rest
     → length rest ≡ 0
 response-whole taken b h rest none (valid, is) = by_length (length rest) refl
@@ -39,7 +38,6 @@ response-whole taken b h rest none (valid, is) = by_length (length rest) refl
         sym (take-append_seam taken (b ∷ [])) ∙ ap (take (length taken)) is ∙ ap (λ n. take n (print_response h ++ rest)) len ∙ take-append-add (print_response h) rest k in
         absurd (none h (take k rest) (valid, front))
 
--- one field line too many is complete
 response-lines : (n : ℕ) (taken : List ℕ) → ResponseExceeds n taken → n < field_lines taken
 response-lines n taken (front, rest, split, h, (valid, is), over) =
     let whole : lines (front ++ 10 ∷ []) ≡ length h.fields + 2 = ap lines (is ∙ append-nil (print_response h)) ∙ lines_response h valid in
@@ -53,7 +51,6 @@ response-none-over front taken b is pends over h rest reads =
     let many : MAX_FIELDS < length h.fields = over [] h rest (subst (λ (t : List ℕ). ReadsResponse t h rest) (sym (append-nil taken)) reads) in
     absurd (omega (arith, whole, many, lines_push front b, feeds_one b, ap lines is, pends.2))
 
--- httparse refused it for the number of its fields
 pub response-over : (front taken : List ℕ) (b : ℕ) → taken ≡ front ++ b ∷ [] → PendsResponse front → ResponseExceeds MAX_FIELDS taken
     → ResponseOverflows MAX_FIELDS taken → FailsResponse taken
 response-over front taken b is pends exceeds over = record {
@@ -64,15 +61,12 @@ response-over front taken b is pends exceeds over = record {
   fails = inr (response-none-over front taken b is pends over, response-lines MAX_FIELDS taken exceeds);
 }
 
--- one more byte was taken
 pub took-push : (a b c : Option (List ℕ)) (front taken : List ℕ) (y : ℕ) → taken ≡ front ++ y ∷ [] → Consumes a b front → Consumes b c (y ∷ []) → Consumes a c taken
 took-push a b c front taken y is first second = subst (Consumes a c) (sym is) (Consumes-trans a b c front (y ∷ []) first second)
 
--- a byte that is no line feed completes no field line
 pub few-push : (front taken : List ℕ) (b : ℕ) → taken ≡ front ++ b ∷ [] → field_lines front ≤ MAX_FIELDS → b ≢ 10 → field_lines taken ≤ MAX_FIELDS
 few-push front taken b is few other = subst (λ (t : List ℕ). field_lines t ≤ MAX_FIELDS) (sym is) (field_lines_push front b MAX_FIELDS other few)
 
--- the head that httparse found is what was taken
 pub response-taken : (taken all : List ℕ) (b : ℕ) (headers : List HeaderSpan) (r : ResponseSpans) → HasNoResponse taken → length taken < MAX_HEAD → all ≡ taken ++ b ∷ []
     → length headers ≡ MAX_FIELDS → IsResponseOf all headers r → IsResponseWithin all headers r → IsResponseTaken all headers r
 response-taken taken all b headers r none short more room (h, at) within =
@@ -87,19 +81,17 @@ response-taken taken all b headers r none short more room (h, at) within =
       within = within;
     }
 
--- before the first byte
 pub response-start : (before : Option (List ℕ)) (counts : Counts) (taken : List ℕ) → taken ≡ [] → TakesResponse before before counts counts taken
 response-start before counts taken none = subst (TakesResponse before before counts counts) (sym none)
     (record { took = Consumes-nil before; gives = (omega arith, (refl, refl)); bytes = omega arith; pends = response-pends })
 
--- what is left of the loop: no head has ended yet, and one may
+-- the invariant of the loop: no head is complete yet, and one may follow
 pub record TakesRequest (before after : Option (List ℕ)) (old new : Counts) (taken : List ℕ) : Type 0 where
   pub took : Consumes before after taken
   pub gives : AllGive old new
   pub bytes : length taken ≤ MAX_HEAD
   pub pends : PendsRequest taken
 
--- where a head ends in what was taken and ended nowhere before, it is all of it
 request-whole : (taken : List ℕ) (b : ℕ) (h : RequestHead) (rest : List ℕ) → HasNoRequest taken → ReadsRequest (taken ++ b ∷ []) h rest
     → length rest ≡ 0
 request-whole taken b h rest none (valid, is) = by_length (length rest) refl
@@ -113,7 +105,6 @@ request-whole taken b h rest none (valid, is) = by_length (length rest) refl
         sym (take-append_seam taken (b ∷ [])) ∙ ap (take (length taken)) is ∙ ap (λ n. take n (print_request h ++ rest)) len ∙ take-append-add (print_request h) rest k in
         absurd (none h (take k rest) (valid, front))
 
--- one field line too many is complete
 request-lines : (n : ℕ) (taken : List ℕ) → RequestExceeds n taken → n < field_lines taken
 request-lines n taken (front, rest, split, h, (valid, is), over) =
     let whole : lines (front ++ 10 ∷ []) ≡ length h.fields + 2 = ap lines (is ∙ append-nil (print_request h)) ∙ lines_request h valid in
@@ -127,7 +118,6 @@ request-none-over front taken b is pends over h rest reads =
     let many : MAX_FIELDS < length h.fields = over [] h rest (subst (λ (t : List ℕ). ReadsRequest t h rest) (sym (append-nil taken)) reads) in
     absurd (omega (arith, whole, many, lines_push front b, feeds_one b, ap lines is, pends.2))
 
--- httparse refused it for the number of its fields
 pub request-over : (front taken : List ℕ) (b : ℕ) → taken ≡ front ++ b ∷ [] → PendsRequest front → RequestExceeds MAX_FIELDS taken
     → RequestOverflows MAX_FIELDS taken → FailsRequest taken
 request-over front taken b is pends exceeds over = record {
@@ -138,7 +128,6 @@ request-over front taken b is pends exceeds over = record {
   fails = inr (request-none-over front taken b is pends over, request-lines MAX_FIELDS taken exceeds);
 }
 
--- httparse refused it, and it does not end inside a target
 pub request-never : (front taken : List ℕ) (b : ℕ) → taken ≡ front ++ b ∷ [] → PendsRequest front → NeverHasRequest taken → (IsInTarget taken → ⊥) → FailsRequest taken
 request-never front taken b is pends never outside = record {
   front = front;
@@ -148,13 +137,11 @@ request-never front taken b is pends never outside = record {
   fails = inl (never, λ ends. outside (in_target taken ends never));
 }
 
--- httparse refused it, and it ends inside a target
 pub request-goes_on : (front taken : List ℕ) (b : ℕ) → taken ≡ front ++ b ∷ [] → PendsRequest front → NeverHasRequest taken → IsInTarget taken → PendsRequest taken
 request-goes_on front taken b is pends never inside =
     let ends = target_goes_on front taken b is pends.1 inside in
     (subst HasNoRequest (append-nil taken) (never []), inr ends, omega (arith, target_lines taken ends))
 
--- the head that httparse found is what was taken
 pub request-taken : (taken all : List ℕ) (b : ℕ) (headers : List HeaderSpan) (r : RequestSpans) → HasNoRequest taken → length taken < MAX_HEAD → all ≡ taken ++ b ∷ []
     → length headers ≡ MAX_FIELDS → IsRequestOf all headers r → IsRequestWithin all headers r → IsRequestTaken all headers r
 request-taken taken all b headers r none short more room (h, at) within =
@@ -169,7 +156,6 @@ request-taken taken all b headers r none short more room (h, at) within =
       within = within;
     }
 
--- before the first byte
 pub request-start : (before : Option (List ℕ)) (counts : Counts) (taken : List ℕ) → taken ≡ [] → TakesRequest before before counts counts taken
 request-start before counts taken none = subst (TakesRequest before before counts counts) (sym none)
     (record { took = Consumes-nil before; gives = (refl, refl); bytes = omega arith; pends = request-pends })

@@ -9,7 +9,7 @@ use Rattle.std.specs.Str.Parse.{digits_value}
 use Rattle.httparse.specs.Grammar.{AllPass}
 use Rattle.mes_double_http.specs.declared.limits.TheConstants.{MAX_BODY}
 
--- the first of them are digits, and their number is counted up to the bound
+-- the first bytes are digits, and their number is counted up to the bound
 pub record CountsDigits (value : List ℕ) (counted i : ℕ) : Type 0 where
   pub digits : AllPass is_ascii_digit (take i value)
   pub number : counted ≡ min (digits_value 10 (take i value)) (MAX_BODY + 1)

@@ -11,11 +11,9 @@ use Rattle.httparse.proofs.GrammarLemmas.{print_request-append, print_response-a
 use Rattle.httparse.proofs.PieceLemmas.{Stops_token}
 use Rattle.mes_double_http.specs.Heads.{from_start_line, field_lines}
 
--- the line feeds of a text
 abbrev pub feeds : List ℕ → ℕ
 feeds xs = count_by (λ b. b == 10) xs
 
--- the complete lines from the start line on
 abbrev pub lines : List ℕ → ℕ
 lines xs = feeds (from_start_line xs)
 
@@ -39,7 +37,6 @@ feeds-other b xs other =
 pub feeds_none_yet : feeds [] ≡ 0
 feeds_none_yet = refl
 
--- a text without line feeds
 pub feeds_none : (test : ℕ → Bool) (xs : List ℕ) → test 10 ≡ false → AllPass test xs → feeds xs ≡ 0
 feeds_none test [] fails all = refl
 feeds_none test (b ∷ xs) fails all =
@@ -104,7 +101,6 @@ from_blank [] xs = refl
 from_blank (crlf ∷ blank) xs = from_blank blank xs
 from_blank (lf ∷ blank) xs = from_blank blank xs
 
--- the lines of what begins with empty lines and then another byte
 lines_from : (text : List ℕ) (blank : List LineEnd) (xs : List ℕ) → text ≡ print_blank blank ++ xs → Stops is_newline xs → lines text ≡ feeds xs
 lines_from text blank xs is stops = ap lines is ∙ ap feeds (from_blank blank xs ∙ from_other xs stops)
 
@@ -158,7 +154,6 @@ lines_response h is =
 
 -- ---- more bytes
 
--- more bytes never lower the count
 append_step : (t : Bool) (b : ℕ) (xs ys : List ℕ) → lines xs ≤ lines (xs ++ ys)
     → feeds (if t then from_start_line xs else b ∷ xs) ≤ feeds (if t then from_start_line (xs ++ ys) else b ∷ (xs ++ ys))
 append_step true b xs ys rest = rest
@@ -185,7 +180,6 @@ lines_push (b ∷ xs) y = push_step (is_newline b) b xs y (lines_push xs y)
 pub feeds_one : (y : ℕ) → feeds (y ∷ []) ≤ 1
 feeds_one y = omega (arith, feeds_step y [], feeds_none_yet, one_if_most (y == 10))
 
--- a byte that is no line feed completes no field line
 pub field_lines_push : (xs : List ℕ) (y : ℕ) (n : ℕ) → y ≢ 10 → field_lines xs ≤ n → field_lines (xs ++ y ∷ []) ≤ n
 field_lines_push xs y n other few = omega (arith, lines_push xs y, feeds-other y [] other, feeds_none_yet, few)
 

@@ -1,4 +1,4 @@
--- Before the first byte no head has ended, and any may begin.
+-- Before the first byte no head is complete, and any may follow.
 use Rattle.std.proofs.Common.{◌≡◌, ℕ, List, [], ◌∷◌, ◌++◌, length, codes, None, ap, ◌∙◌, arith, rules, refl, inl}
 use Rattle.httparse.specs.Grammar.{lf, print_blank, print_version, print_request, RequestHead, HasNoRequest, MayBecomeRequest, print_response, ResponseHead, HasNoResponse, MayBecomeResponse}
 use Rattle.httparse.specs.Ascii.{space}
@@ -6,7 +6,6 @@ use Rattle.httparse.proofs.GrammarLemmas.{print_request-append, print_response-a
 use Rattle.httparse.proofs.OnLiterals.{httparse_on_literals}
 use Rattle.mes_double_http.specs.Heads.{PendsRequest, PendsResponse}
 
--- a list with something in it is not empty
 not_nothing : (a b c : List ℕ) (x : ℕ) → [] ≡ a ++ (b ++ x ∷ c) → ⊥
 not_nothing [] [] c x is = absurd (omega (arith, ap length is))
 not_nothing [] (y ∷ b) c x is = absurd (omega (arith, ap length is))

@@ -1,9 +1,8 @@
--- No reason phrase is longer than a head's line has room for.
+-- No reason phrase exceeds the capacity of a head's line.
 use Rattle.std.proofs.Common.{◌≡◌, ℕ, ◌==◌, ◌≤◌, List, length, Bool, true, false, Option, Some, codes, if◌then◌else◌, nat_le, arith, refl}
 use Rattle.std.proofs.lemmas.Bool.Decides.{nat_tests}
 use Rattle.mes_double_http.specs.Texts.{phrase_text, or_nothing}
 
--- a text that has few bytes, by a test that computes
 short : (text : List ℕ) → nat_le (length text) 40 ≡ true → length text ≤ 40
 short text few = grind (arith, nat_tests)
 

@@ -12,7 +12,6 @@ use Rattle.mes_double_http.specs.Stops.{is_no_space}
 abbrev is_space : ℕ → Bool
 is_space b = b == 32
 
--- no byte before it is a space
 pub space_found : (xs : List ℕ) (i : ℕ) → position is_space xs ≡ Some i → AllPass is_no_space (take i xs)
 space_found xs i at =
     let first = position-Some is_space xs i 0 at in
@@ -20,7 +19,6 @@ space_found xs i at =
     λ k inside. let within : k < i = omega (arith, length-take i xs, inside) in
     ap (λ (b : ℕ). is_no_space b) (get_or-take i xs k 0 within) ∙ ap not (first.2 k within)
 
--- the text before it, the space, and the text after it
 pub space_splits : (xs : List ℕ) (i : ℕ) → position is_space xs ≡ Some i → xs ≡ take i xs ++ 32 ∷ drop (i + 1) xs
 space_splits xs i at =
     let first = position-Some is_space xs i 0 at in
@@ -31,7 +29,6 @@ pub space_rest : (xs : List ℕ) (i : ℕ) → position is_space xs ≡ Some i �
 space_rest xs i at =
     space_splits xs i at ∙ ap (λ (t : List ℕ). take i xs ++ 32 ∷ t) (sym (take_all (length xs - (i + 1)) (drop (i + 1) xs) (omega (arith, length-drop (i + 1) xs))))
 
--- a position that is None is past the end
 none_within : (a n : ℕ) → cond (nat_lt a n) (Some a) None ≡ None → n ≤ a
 none_within a n none = grind (arith, nat_tests)
 

@@ -1,4 +1,4 @@
--- The id of a stream is a text.
+-- A stream id is valid UTF-8.
 use Rattle.std.proofs.Common.{ℕ, ◌<◌, List, length, get_or, All, inl, inr, IsUtf8, arith}
 use Rattle.std.proofs.lemmas.Bool.{cases_lt}
 use Rattle.std.proofs.lemmas.Str.{IsUtf8-from_ascii}
@@ -11,6 +11,5 @@ visible-ascii text visible i = elim (cases_lt i (length text)) [
   | inr outside ↦ grind (arith, common_steps)
 ]
 
--- what is no text is no id
 pub no_id : (text : List ℕ) → (IsUtf8 text → ⊥) → IsStreamId text → ⊥
 no_id text not_utf8 is = not_utf8 (IsUtf8-from_ascii text (visible-ascii text is.2))

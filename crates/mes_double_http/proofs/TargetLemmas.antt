@@ -33,9 +33,8 @@ before_unspaced : (blank : List LineEnd) (method : List ℕ) → IsToken method 
 before_unspaced blank method token =
     All-append (λ (b : ℕ). is_no_space b ≡ true) (print_blank blank) method (blank_unspaced blank) (token_unspaced method token.1)
 
--- ---- a front that may go on, and one byte more
+-- ---- a prefix that may continue, and one more byte
 
--- the bytes before the last one contain the space too
 before_last : (front a t : List ℕ) (b : ℕ) → front ++ b ∷ [] ≡ a ++ 32 ∷ t → 0 < length t → front ≡ a ++ 32 ∷ take (length t - 1) t
 before_last front a t b is some =
     let k = length t - 1 in
@@ -44,7 +43,6 @@ before_last front a t b is some =
     sym (take-append_seam front (b ∷ [])) ∙ ap (take (length front)) (is ∙ split) ∙ ap (λ (n : ℕ). take n ((a ++ 32 ∷ []) ++ t)) len
     ∙ take-append-add (a ++ 32 ∷ []) t k ∙ append_assoc a (32 ∷ []) (take k t)
 
--- two equal texts are equal up to their first space
 same_before : (a c r q : List ℕ) → AllPass is_no_space a → AllPass is_no_space c → a ++ 32 ∷ r ≡ c ++ 32 ∷ q → a ≡ c
 same_before a c r q alone other is = (run_unique is_no_space a c (32 ∷ r) (32 ∷ q) alone other refl refl is).0
 
@@ -53,7 +51,6 @@ target_behind : (taken : List ℕ) (t : IsInTarget taken) (blank : List LineEnd)
 target_behind taken t blank method token same =
     (blank, method, t.target, token, t.visible, t.is ∙ ap (λ (a : List ℕ). a ++ 32 ∷ t.target) same)
 
--- the bytes end inside a target
 pub target_goes_on : (front taken : List ℕ) (b : ℕ) → taken ≡ front ++ b ∷ [] → MayBecomeRequest front → IsInTarget taken → EndsInTarget taken
 target_goes_on front taken b more (inl (rest, h, (valid, is))) t =
     let last = take (length t.target - 1) t.target in
@@ -70,9 +67,8 @@ target_goes_on front taken b more (inr (blank, method, target, token, visible, i
     target_behind taken t blank method token
     (same_before t.front (print_blank blank ++ method) last target t.unspaced (before_unspaced blank method token) (sym before ∙ is))
 
--- ---- and the other way round
+-- ---- the converse
 
--- an empty target can still become a head
 some_target : (blank : List LineEnd) (method taken : List ℕ) → IsToken method → taken ≡ print_blank blank ++ method ++ 32 ∷ [] → NeverHasRequest taken → ⊥
 some_target blank method taken token is never =
     let h : RequestHead = record { blank = blank; method = method; target = codes "/"; minor = 1; line_end = lf; fields = []; last = lf } in
@@ -102,13 +98,11 @@ target_lines taken (blank, method, target, token, visible, is) =
 
 -- ---- the target, found by the first space
 
--- what follows the first space is the target, if there is one
 pub target_split : (taken front rest : List ℕ) → taken ≡ front ++ 32 ∷ rest → AllPass is_no_space front → IsInTarget taken → (0 < length rest) × AllPass is_uri_byte rest
 target_split taken front rest is unspaced t =
     let same : ◌≡◌ {A = List ℕ} (32 ∷ t.target) (32 ∷ rest) = (run_unique is_no_space t.front front (32 ∷ t.target) (32 ∷ rest) t.unspaced unspaced refl refl (sym t.is ∙ is)).1 in
     let target : t.target ≡ rest = ap (drop 1) same in
     (subst (λ (r : List ℕ). 0 < length r) target t.some, subst (AllPass is_uri_byte) target t.visible)
 
--- without a space there is no target
 pub target_spaced : (taken : List ℕ) → AllPass is_no_space taken → IsInTarget taken → ⊥
 target_spaced taken unspaced t = run_unstopped is_no_space t.front (32 ∷ t.target) (subst (AllPass is_no_space) t.is unspaced) refl

@@ -1,13 +1,13 @@
--- White space passed over byte by byte, from either end.
+-- White space skipped byte by byte, from either end.
 use Rattle.std.proofs.Common.{◌≡◌, ℕ, ◌≤◌, List, length, take, drop, reverse}
 use Rattle.httparse.specs.Grammar.{skip_ows}
 
--- what stands before the place is white space
+-- the bytes before the index are white space
 pub record SkipsFront (text : List ℕ) (start : ℕ) : Type 0 where
   pub within : start ≤ length text
   pub same : skip_ows text ≡ skip_ows (drop start text)
 
--- what stands from the place on is white space
+-- the bytes from the index on are white space
 pub record SkipsBack (text : List ℕ) (end : ℕ) : Type 0 where
   pub within : end ≤ length text
   pub same : skip_ows (reverse text) ≡ skip_ows (reverse (take end text))

@@ -23,6 +23,5 @@ hyphenated-id uuid =
     let len = by_index_length 36 (λ k. if is_hyphen_place k then hyphen else hex_digit lower (nibble uuid (digit_place k))) in
     (omega (arith, len), omega (arith, len), hyphenated-visible uuid)
 
--- a text that is this form is the id of a stream
 pub hyphenated-form : (text uuid : List ℕ) → text ≡ hyphenated_text lower uuid → IsStreamId text
 hyphenated-form text uuid is = subst IsStreamId (sym is) (hyphenated-id uuid)

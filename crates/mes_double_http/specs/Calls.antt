@@ -1,4 +1,4 @@
--- A call as it is written: a request, or why there is none.
+-- A call written as a request, or the reason for which it is not.
 use Rattle.std.specs.Prelude.{◌≡◌, ℕ, ◌<◌, List, ◌++◌, Option, length, take}
 use Rattle.std.specs.Io.KnownBytes.{Appends}
 use Rattle.mes_frame.specs.Write.{NoneFails, CallsFor, StopsWrite}
@@ -15,7 +15,7 @@ use Rattle.mes_msg.specs.declared.send_fault.SendFault.TheVariants.{Encode, NoMe
 use Rattle.mes_double_http.specs.Texts.{call_head}
 use Rattle.mes_double_http.specs.declared.limits.TheConstants.{MAX_BODY}
 
--- the head, and behind it the call's canonical text
+-- the head, then the canonical text of the call
 abbrev pub call_bytes : List ℕ → Option (List ℕ) → Call → List ℕ
 call_bytes host stream c = call_head host stream (length (canonical_of call c)) ++ canonical_of call c
 
@@ -23,31 +23,31 @@ call_bytes host stream c = call_head host stream (length (canonical_of call c)) 
 abbrev pub IsGoodCall : Call → Type 0
 IsGoodCall c = Fits call c MAX_BODY
 
--- no body can, and why
+-- the reason for which no body can
 abbrev pub IsBadCall : Call → EncodeFaultKind → Type 0
 IsBadCall c TooDeep = IsRefusalOf call c MAX_BODY refused.TooDeep
 IsBadCall c TooLarge = IsRefusalOf call c MAX_BODY refused.TooLarge
 
--- what is told of a call that has no text: it is the one call, at place 0
+-- the reported fault of a call without a text: index 0 is the call
 abbrev pub unmade : EncodeFault → SendFault
 unmade refused.TooDeep = Encode 0 TooDeep
 unmade refused.TooLarge = Encode 0 TooLarge
 unmade refused.NoMemory = NoMemory
 
--- why a call has not become a request
+-- the reason for which there is no request
 abbrev pub IsUnmade : Call → SendFault → Type 0
 IsUnmade c (Encode index why) = (index ≡ 0) × IsBadCall c why
 IsUnmade c NoMemory = Unit {0}
 IsUnmade c (Write fault) = ⊥
 
--- a body can hold the call, and its request went out
+-- a body can hold the call, and its request is written
 pub record WroteCall {W : Type 0} (written : W → Option (List ℕ)) (counts : W → Counts) (host : List ℕ) (stream : Option (List ℕ)) (c : Call) (old new : W) : Type 0 where
   pub good : IsGoodCall c
   pub out : Appends (written old) (written new) (call_bytes host stream c)
   pub none_fails : NoneFails (counts old) (counts new)
   pub calls : CallsFor (length (call_bytes host stream c)) (counts old) (counts new)
 
--- no body can hold the call, or memory was refused, and the writer is as it was; or the writer stopped
+-- the writer was not called, because the call does not fit or memory ran out; or the writer stopped
 abbrev pub StopsCall : {W : Type 0} → (W → Option (List ℕ)) → (W → Counts) → List ℕ → Option (List ℕ) → Call → W → W → SendFault → Type 0
 StopsCall written counts host stream c old new (Encode index why) = (index ≡ 0) × IsBadCall c why × (new ≡ old)
 StopsCall written counts host stream c old new NoMemory = new ≡ old

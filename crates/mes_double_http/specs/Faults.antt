@@ -1,4 +1,4 @@
--- How the fault of a head is printed.
+-- The printed fault of a head.
 use Rattle.std.specs.Prelude.{List, ℕ, [], ◌++◌, codes, decimal}
 use Rattle.mes_double_http.specs.declared.fault.HeadFault.{HeadFault}
 use Rattle.mes_double_http.specs.declared.fault.HeadFault.TheVariants as fault
@@ -19,7 +19,7 @@ head_fault_title fault.BodyTooLong = codes "H11 BodyTooLong"
 head_fault_title fault.ShortBody = codes "H12 ShortBody"
 head_fault_title fault.NoMemory = codes "H13 NoMemory"
 
--- behind them the code of a status that wasn't expected
+-- after them, the code of an unexpected status
 abbrev pub head_fault_details : HeadFault → List ℕ
 head_fault_details (fault.Status code) = codes " " ++ decimal code
 head_fault_details _ = []

@@ -1,4 +1,4 @@
--- The host that a client's calls go to.
+-- The host of a client's calls.
 use Rattle.std.specs.Prelude.{ℕ, ◌≤◌, List, length, All}
 use Rattle.mes_double_http.specs.StreamIds.{IsVisible}
 use Rattle.mes_double_http.specs.declared.limits.TheConstants.{MAX_HOST}

@@ -1,4 +1,4 @@
--- The head of an answer: what it must say, and why it is refused.
+-- The head of a response: the rules, and the faults.
 use Rattle.std.specs.Prelude.{◌≡◌, ◌≢◌, ℕ, ◌<◌, ◌⊎◌, true, false, List, length}
 use Rattle.httparse.specs.Grammar.{ResponseHead, status_code}
 use Rattle.mes_frame.specs.declared.counts.Counts.{Counts}
@@ -11,13 +11,13 @@ use Rattle.mes_double_http.specs.declared.limits.TheConstants.{MAX_HEAD}
 
 -- ---- the status
 
--- the status is no status code (RFC 9110, section 15), or another than the one that is expected
+-- the status is not a status code (RFC 9110 section 15), or not the expected one
 abbrev pub BreaksStatus : ℕ → HeadFault → ℕ → Type 0
 BreaksStatus expected fault.BadHead status = status < 100
 BreaksStatus expected (fault.Status code) status = (code ≡ status) × (status ≢ expected)
 BreaksStatus expected _ status = ⊥
 
--- ---- the head before a stream of events: the first rule that is broken, where those before it hold
+-- ---- the head of a stream of events: the first rule that it breaks
 
 abbrev pub IsOk : ResponseHead → Type 0
 IsOk h = status_code h ≡ 200
@@ -38,27 +38,27 @@ BreaksStream fault.NotJson h = IsOkChunked h × (is_json (pairs_of h.fields) ≡
 BreaksStream fault.NoStreamId h = IsOkJson h × ((id : List ℕ) → NamesStream (pairs_of h.fields) id → ⊥)
 BreaksStream f h = BreaksStatus 200 f (status_code h)
 
--- the head of an answer to any other call
+-- the first rule that the response to any other call breaks
 abbrev pub BreaksAnswer : HeadFault → ResponseHead → Type 0
 BreaksAnswer f h = BreaksStatus 202 f (status_code h)
 
--- ---- what was taken of a reader
+-- ---- the bytes read
 
--- the head of a stream with this id, and nothing behind it
+-- exactly the head of a stream with this id
 abbrev pub OpensStream : List ℕ → List ℕ → Type 0
 OpensStream taken id = (h : ResponseHead) × IsResponse taken h × IsOkStream h id
 
--- the head of an answer that a call was accepted, and nothing behind it
+-- exactly the head of a response with status 202
 abbrev pub Accepts : List ℕ → Type 0
 Accepts taken = (h : ResponseHead) × IsResponse taken h × (status_code h ≡ 202)
 
--- there is no head: the reader failed; or MAX_HEAD bytes may still begin one; or none begins so, or the reader ended
+-- the reader failed or ended early, or the bytes are not a head or too many
 abbrev pub HasNoHead : HeadFault → List ℕ → Counts → Counts → Type 0
 HasNoHead fault.Read taken old new = PendsResponse taken × OneFails old new
 HasNoHead fault.HeadTooLong taken old new = (length taken ≡ MAX_HEAD) × PendsResponse taken × AllGive old new
 HasNoHead fault.BadHead taken old new = (FailsResponse taken × AllGive old new) ⊎ (PendsResponse taken × OneEnds old new)
 HasNoHead _ taken old new = ⊥
 
--- there is none, or there is one that breaks a rule; nothing behind it was taken
+-- there is no head, or it breaks a rule and nothing after it is read
 abbrev pub Refuses : (HeadFault → ResponseHead → Type 0) → HeadFault → List ℕ → Counts → Counts → Type 0
 Refuses breaks f taken old new = HasNoHead f taken old new ⊎ ((h : ResponseHead) × IsResponse taken h × breaks f h × AllGive old new)

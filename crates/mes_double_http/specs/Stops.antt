@@ -1,4 +1,4 @@
--- How the taking of a head ends before there is one.
+-- How reading a head ends before the head is complete.
 use Rattle.std.specs.Prelude.{◌≡◌, ℕ, Bool, not, ◌==◌, ◌<◌, List, ◌∷◌, ◌++◌, length}
 use Rattle.httparse.specs.Ascii.{space}
 use Rattle.httparse.specs.Grammar.{AllPass, is_uri_byte, RequestHead, ResponseHead}
@@ -15,34 +15,34 @@ use Rattle.mes_double_http.specs.declared.head.HeadStop.{HeadStop}
 use Rattle.mes_double_http.specs.declared.head.HeadStop.TheVariants.{Read, TooLong, Refused, Ended}
 use Rattle.mes_double_http.specs.declared.limits.TheConstants.{MAX_HEAD}
 
--- the fault that is told of it
+-- the reported fault
 abbrev pub stop_fault : HeadStop → HeadFault
 stop_fault Read = fault.Read
 stop_fault TooLong = fault.HeadTooLong
 stop_fault Refused = fault.BadHead
 stop_fault Ended = fault.BadHead
 
--- no byte came: the reader failed, or gave its end
+-- no byte is read: the reader failed or ended
 abbrev pub StopsByte : HeadStop → Counts → Counts → Type 0
 StopsByte Read old new = OneFails old new
 StopsByte Ended old new = OneEnds old new
 StopsByte _ old new = ⊥
 
--- the reader failed, or gave its end, in what may become a head; or that has as many bytes as a head may have; or none can come of it
+-- the reader failed or ended, or MAX_HEAD bytes were read, or the bytes are not a request head
 abbrev pub StopsRequest : HeadStop → List ℕ → Counts → Counts → Type 0
 StopsRequest Read taken old new = PendsRequest taken × OneFails old new
 StopsRequest TooLong taken old new = (length taken ≡ MAX_HEAD) × PendsRequest taken × AllGive old new
 StopsRequest Refused taken old new = FailsRequest taken × AllGive old new
 StopsRequest Ended taken old new = PendsRequest taken × OneEnds old new
 
--- the same for a response
+-- the reader failed or ended, or MAX_HEAD bytes were read, or the bytes are not a response head
 abbrev pub StopsResponse : HeadStop → List ℕ → Counts → Counts → Type 0
 StopsResponse Read taken old new = PendsResponse taken × OneFails old new
 StopsResponse TooLong taken old new = (length taken ≡ MAX_HEAD) × PendsResponse taken × AllGive old new
 StopsResponse Refused taken old new = FailsResponse taken × AllGive old new
 StopsResponse Ended taken old new = PendsResponse taken × OneEnds old new
 
--- any byte but a space
+-- any byte except a space
 abbrev pub is_no_space : ℕ → Bool
 is_no_space b = not (b == space)
 
@@ -55,14 +55,14 @@ pub record IsInTarget (taken : List ℕ) : Type 0 where
   pub some : 0 < length target
   pub visible : AllPass is_uri_byte target
 
--- the spans are those of the head that was taken
+-- the spans are those of the request head that was read
 pub record IsRequestTaken (taken : List ℕ) (headers : List HeaderSpan) (r : RequestSpans) : Type 0 where
   pub head : RequestHead
   pub at : IsRequestAt taken headers r head
   pub is : IsRequest taken head
   pub within : IsRequestWithin taken headers r
 
--- the same for a response
+-- the spans are those of the response head that was read
 pub record IsResponseTaken (taken : List ℕ) (headers : List HeaderSpan) (r : ResponseSpans) : Type 0 where
   pub head : ResponseHead
   pub at : IsResponseAt taken headers r head

@@ -1,4 +1,4 @@
--- The id of a stream.
+-- The id of an event stream.
 use Rattle.std.specs.Prelude.{ℕ, ◌≤◌, List, length, All}
 use Rattle.mes_double_http.specs.declared.limits.TheConstants.{MAX_STREAM_ID}
 

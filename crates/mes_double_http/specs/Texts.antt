@@ -1,4 +1,5 @@
--- The heads that are written (RFC 9112, sections 3 to 5). Each line ends with CR LF, and an empty line ends the head.
+-- The heads that are written (RFC 9112 sections 3 to 5): lines end with CR LF, an empty line is
+-- last.
 use Rattle.std.specs.Prelude.{ℕ, List, [], ◌++◌, Option, None, Some, codes, decimal}
 use Rattle.http.specs.StatusCode.{reason_phrase}
 
@@ -6,37 +7,37 @@ abbrev pub or_nothing : Option (List ℕ) → List ℕ
 or_nothing None = []
 or_nothing (Some text) = text
 
--- the phrase that a status code usually has, or nothing
+-- the usual reason phrase of a status code, or nothing
 unfoldable pub phrase_text : ℕ → List ℕ
 phrase_text code = or_nothing (reason_phrase code)
 
--- the head of an answer whose body is a stream of events
+-- the head of a response whose body is a stream of events
 abbrev pub ok_text : List ℕ → List ℕ
 ok_text id =
     codes "HTTP/1.1 200 OK\r\nContent-Type: application/json\r\nTransfer-Encoding: chunked\r\nMesos-Stream-Id: " ++ id
     ++ codes "\r\n\r\n"
 
--- the head of an answer with no body
+-- the head of a response without a body
 abbrev pub status_text : ℕ → List ℕ
 status_text code =
     codes "HTTP/1.1 " ++ decimal code ++ codes " " ++ phrase_text code
     ++ codes "\r\nContent-Length: 0\r\nConnection: close\r\n\r\n"
 
--- the line that names a stream; none where there is none
+-- the line with the stream id, or nothing
 abbrev pub stream_line : Option (List ℕ) → List ℕ
 stream_line None = []
 stream_line (Some id) = codes "Mesos-Stream-Id: " ++ id ++ codes "\r\n"
 
--- the head of a request up to that line
+-- the head of a request before that line
 unfoldable pub call_front : List ℕ → List ℕ
 call_front host =
     codes "POST /api/v1/scheduler HTTP/1.1\r\nHost: " ++ host
     ++ codes "\r\nContent-Type: application/json\r\nAccept: application/json\r\n"
 
--- and behind it
+-- the head of a request after that line
 unfoldable pub call_rest : ℕ → List ℕ
 call_rest size = codes "Connection: close\r\nContent-Length: " ++ decimal size ++ codes "\r\n\r\n"
 
--- the head of a request whose body is a call of so many bytes
+-- the head of a request whose body is a call of `size` bytes
 abbrev pub call_head : List ℕ → Option (List ℕ) → ℕ → List ℕ
 call_head host stream size = call_front host ++ stream_line stream ++ call_rest size

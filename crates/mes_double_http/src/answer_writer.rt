@@ -1,4 +1,4 @@
-//! The heads that a master answers with.
+//! Writing of response heads. `response.rt` reads them.
 
 ghost use Rattle.std.specs.Prelude.{◌≡◌, ◌<◌, ◌≤◌, length, take, OnOk, IfErr};
 ghost use Rattle.std.specs.Io.KnownBytes.{Appends};
@@ -12,15 +12,18 @@ use http::StatusCode;
 use itoa::Buffer;
 use mes_frame::{Sink, WriteFault, write_all};
 
-/// Writes the head of an answer to a SUBSCRIBE: status 200, and behind it a body in chunks, the stream of this id. Takes no memory.
+/// Writes the head of the response to a SUBSCRIBE: status 200, for a chunked body, with this stream
+/// id. Does not allocate.
 pub fn write_ok<W: Sink>(writer: &mut W, id: &StreamId) -> Result<(), WriteFault>
-    // Ok: the head went out, and no call failed or took no byte.
+    // On success: the head is written, and no call of the writer failed or accepted 0 bytes.
     ensures ok { OnOk result (Appends (W.written writer.old) (W.written writer.new) (ok_text id.now)) }
     ensures ok_counts { OnOk result (NoneFails (W.counts writer.old) (W.counts writer.new)) }
 
-    // Else its first `sent` bytes went out and no more, and just one call did what `why` says.
+    // Each error: the first `sent` bytes are written, and one call of the writer failed as `why`
+    // states.
     ensures err { IfErr result (λ f. (f.sent < length (ok_text id.now))
         × Appends (W.written writer.old) (W.written writer.new) (take f.sent (ok_text id.now))) }
+    // Exactly one call failed, or accepted 0 bytes.
     ensures err_counts { IfErr result (λ f. StopsWrite f.why (W.counts writer.old) (W.counts writer.new)) }
     ensures calls { CallsFor (length (ok_text id.now)) (W.counts writer.old) (W.counts writer.new) }
 {
@@ -28,16 +31,19 @@ pub fn write_ok<W: Sink>(writer: &mut W, id: &StreamId) -> Result<(), WriteFault
     write_all(writer, head.as_str().as_bytes())
 }
 
-/// Writes the head of an answer with this status and no body. Takes no memory.
+/// Writes the head of a response with this status and no body. Does not allocate.
 pub fn write_status<W: Sink>(writer: &mut W, status: StatusCode) -> Result<(), WriteFault>
-    // Ok: the head went out, and no call failed or took no byte.
+    // On success: the head is written, and no call of the writer failed or accepted 0 bytes.
     ensures ok { OnOk result (Appends (W.written writer.old) (W.written writer.new) (status_text status)) }
     ensures ok_counts { OnOk result (NoneFails (W.counts writer.old) (W.counts writer.new)) }
 
-    // Else its first `sent` bytes went out and no more, and just one call did what `why` says.
+    // Each error: the first `sent` bytes are written, and one call of the writer failed as `why`
+    // states.
     ensures err { IfErr result (λ f. (f.sent < length (status_text status))
         × Appends (W.written writer.old) (W.written writer.new) (take f.sent (status_text status))) }
+    // Exactly one call failed, or accepted 0 bytes.
     ensures err_counts { IfErr result (λ f. StopsWrite f.why (W.counts writer.old) (W.counts writer.new)) }
+    // The number of calls is bounded by the length of the head.
     ensures calls { CallsFor (length (status_text status)) (W.counts writer.old) (W.counts writer.new) }
 {
     let head = status_head(status);
@@ -69,7 +75,7 @@ fn status_head(status: StatusCode) -> ArrayString<MAX_RESPONSE_HEAD>
     head
 }
 
-/// The phrase that the code usually has, or nothing.
+/// Returns the usual reason phrase of the status, or an empty text.
 #[tactic(auto, unfolding(crate::specs::Texts::phrase_text))]
 fn phrase_of(status: StatusCode) -> &'static str
     ensures { result.now ≡ phrase_text status }

@@ -1,4 +1,4 @@
-//! The body of a request, of a length that is known.
+//! Reading of a request's body with a known length.
 
 ghost use Rattle.std.specs.Prelude.{◌≡◌, ◌++◌, ◌<◌, ◌≤◌, ℕ, List, length, MatchResult};
 ghost use Rattle.std.specs.Io.KnownBytes.{Consumes};
@@ -10,7 +10,7 @@ use crate::limits::MAX_BODY_READ;
 use mes_frame::Source;
 use std::alloc::Global;
 
-/// Takes a body of `size` bytes.
+/// Reads a body of `size` bytes.
 pub(crate) fn take_body<S: Source>(
     alloc: Global,
     reader: &mut S,
@@ -31,7 +31,7 @@ pub(crate) fn take_body<S: Source>(
     Ok(body)
 }
 
-/// Takes some of the `left` bytes, by one read, and appends them.
+/// Reads at most `left` bytes with one call and appends them.
 fn take_part<S: Source>(reader: &mut S, left: usize, body: &mut Vec<u8>) -> Result<(), HeadFault>
     requires { 0 < left }
     ensures { (part : List ℕ) × Consumes (S.left reader.old) (S.left reader.new) part

@@ -1,4 +1,4 @@
-//! A call as a request: its head, and its canonical text.
+//! Writing of a call as a request: the head and the canonical text. `request.rt` reads one.
 
 ghost use Rattle.std.specs.Prelude.{◌≡◌, ◌++◌, ◌≤◌, length, All, Some, option_map, IfOk, IfErr, OnOk};
 ghost use Rattle.mes_double_http.specs.Calls.{IsGoodCall, IsUnmade, StopsCall, WroteCall, call_bytes, unmade};
@@ -12,8 +12,8 @@ use mes_frame::{Sink, write_all};
 use mes_msg::{Call, EncodeFault, EncodeFaultKind, Limit, SendFault};
 use std::alloc::{AllocError, Global};
 
-/// Writes a call as a request to this host, on the stream with this id if one is given. A call whose canonical text has more than
-/// `MAX_BODY` bytes is not written.
+/// Writes a call as a request to this host, with the stream id if given. A call whose canonical
+/// text has more than `MAX_BODY` bytes is refused.
 pub fn write_call<W: Sink>(
     alloc: Global,
     writer: &mut W,
@@ -24,11 +24,11 @@ pub fn write_call<W: Sink>(
     requires least { 1 ≤ length host.now }
     requires greatest { length host.now ≤ MAX_HOST }
     requires visible { All IsVisible host.now }
-    // Ok: a body can hold the call, and all of its request went out.
+    // On success: the call fits, and the whole request is written.
     ensures ok { OnOk result (WroteCall W.written W.counts host.now (option_map (λ id. id.now) stream.entry) call.now writer.old writer.new) }
 
-    // Else no body can hold the call, or memory was refused, and the writer was not called; or one can, and exactly the first
-    // `sent` bytes of the request went out.
+    // Each error: the call does not fit, or out of memory; the writer was not called. Or the writer
+    // stopped after the first `sent` bytes.
     ensures err { IfErr result (StopsCall W.written W.counts host.now (option_map (λ id. id.now) stream.entry) call.now writer.old writer.new) }
 {
     let request = request_of(alloc, host, stream, call)?;
@@ -36,7 +36,6 @@ pub fn write_call<W: Sink>(
     Ok(())
 }
 
-/// The bytes of the request.
 fn request_of(
     alloc: Global,
     host: &str,
@@ -58,7 +57,6 @@ fn request_of(
     }
 }
 
-/// What is told where the call has no text.
 fn unmade(fault: EncodeFault) -> SendFault
     ensures { result ≡ unmade fault }
 {
@@ -75,7 +73,7 @@ fn unmade(fault: EncodeFault) -> SendFault
     }
 }
 
-/// The head of a request with this body, and the body.
+/// Returns the head of a request with this body, and the body.
 fn request_bytes(
     alloc: Global,
     host: &str,
@@ -92,7 +90,7 @@ fn request_bytes(
     Ok(bytes)
 }
 
-/// Appends the head up to the line that names a stream.
+/// Appends the head before the line with the stream id.
 fn push_front(bytes: &mut Vec<u8>, host: &str) -> Result<(), AllocError>
     ensures { OnOk result (bytes.new.items ≡ bytes.old.items ++ call_front host.now) }
 {
@@ -102,7 +100,7 @@ fn push_front(bytes: &mut Vec<u8>, host: &str) -> Result<(), AllocError>
     Ok(())
 }
 
-/// Appends the line that names a stream, if one is given.
+/// Appends the line with the stream id, if given.
 fn push_stream(bytes: &mut Vec<u8>, stream: Option<&StreamId>) -> Result<(), AllocError>
     ensures { OnOk result (bytes.new.items ≡ bytes.old.items ++ stream_line (option_map (λ id. id.now) stream.entry)) }
 {
@@ -121,7 +119,7 @@ fn push_stream_line(bytes: &mut Vec<u8>, id: &str) -> Result<(), AllocError>
     Ok(())
 }
 
-/// Appends what stands behind that line in the head of a body of so many bytes.
+/// Appends the head after that line for a body of `size` bytes.
 fn push_rest(bytes: &mut Vec<u8>, size: usize) -> Result<(), AllocError>
     ensures { OnOk result (bytes.new.items ≡ bytes.old.items ++ call_rest size) }
 {

@@ -1,4 +1,4 @@
-//! Why a head, or the body behind it, was refused.
+//! The faults of heads and bodies.
 
 ghost use Rattle.std.specs.Prelude.{◌≡◌, ◌≤◌, length};
 ghost use Rattle.mes_double_http.specs.Faults.{head_fault_text, head_fault_title};
@@ -8,40 +8,43 @@ use arrayvec::ArrayString;
 use http::StatusCode;
 use itoa::Buffer;
 
-/// Why the head of a message, or the body behind it, was refused. The first of them that holds is told, in the order of their
-/// numbers; of a request's head H8, H9, H6, H10, H11 and H7, in this order.
+/// The reason for which a head, or the body after it, is refused. The first that applies is
+/// returned, in the order of the numbers. For the head of a request the order is H8, H9, H6, H10,
+/// H11, H7.
 #[derive(Clone, Copy, Debug, PartialEq, Eq)]
 pub enum HeadFault {
     /// H1: the reader failed.
     Read,
-    /// H2: `MAX_HEAD` bytes came, and they neither end a head nor show that none can come of them.
+    /// H2: `MAX_HEAD` bytes were read, and the head may still continue.
     HeadTooLong,
-    /// H3: no head begins so, or it has more than `MAX_FIELDS` fields, or the reader ended in it, or its status is below 100.
+    /// H3: the bytes are not a head, there are more than `MAX_FIELDS` fields, the reader ended, or
+    /// the status is less than 100.
     BadHead,
-    /// H4: the status is another than the one that was expected.
+    /// H4: the status is not the expected one.
     Status(StatusCode),
-    /// H5: the body is not in chunks.
+    /// H5: the body is not chunked.
     NotChunked,
-    /// H6: the body is no JSON.
+    /// H6: the body is not JSON.
     NotJson,
-    /// H7: no stream is named, or more than one, or not by a stream's id.
+    /// H7: the stream id is missing, repeated or invalid.
     NoStreamId,
-    /// H8: the request has another target than the scheduler API.
+    /// H8: the target is not that of the scheduler API.
     WrongPath,
-    /// H9: the request's method is another than POST.
+    /// H9: the method is not POST.
     WrongMethod,
-    /// H10: the length of the body is not told, or not in one way alone.
+    /// H10: the length of the body is missing, ambiguous or invalid.
     NoLength,
     /// H11: the body has more than `MAX_BODY` bytes.
     BodyTooLong,
     /// H12: the reader ended in the body.
     ShortBody,
-    /// H13: a growth was refused memory.
+    /// H13: an allocation failed.
     NoMemory,
 }
 
 impl HeadFault {
-    /// Writes the fault's number and name in place of the text, and behind `Status` the code: `H4 Status 403`. Takes no memory.
+    /// Replaces `text` with the number and the name, and for `Status` the code: `H4 Status 403`.
+    /// Does not allocate.
     pub fn text(&self, text: &mut ArrayString<MAX_HEAD_FAULT>)
         ensures { text.new.bytes ≡ head_fault_text self.now }
     {
@@ -53,7 +56,7 @@ impl HeadFault {
         }
     }
 
-    /// The number and the name.
+    /// Returns the number and the name of the fault.
     pub fn title(&self) -> &'static str
         ensures text { result.now ≡ head_fault_title self.now }
         ensures bound { length result.now ≤ 15 }

@@ -1,4 +1,4 @@
-//! The fields of a head that was taken.
+//! Search for the fields of a head.
 
 ghost use Rattle.std.specs.Prelude.{◌≡◌, length, map, All};
 ghost use Rattle.httparse.specs.Spans.{IsHeaderWithin, header_bytes};
@@ -7,18 +7,18 @@ ghost use Rattle.mes_double_http.specs.Fields.{IsNamed, values_named};
 
 use httparse::spans::HeaderSpan;
 
-/// What a head has under a field's name.
+/// The values of a field name in a head.
 #[derive(Clone, Copy, Debug, PartialEq, Eq)]
 pub(crate) enum Named<'b> {
     /// No field has the name.
     Nothing,
-    /// One has it; this is its value.
+    /// One field has the name, with this value.
     One(&'b [u8]),
-    /// Two have it, or more.
+    /// At least two fields have the name.
     More,
 }
 
-/// What the fields at these places have under a name.
+/// Returns the values of a name in the fields.
 pub(crate) fn find_field<'b>(bytes: &'b [u8], headers: &[HeaderSpan], name: &[u8]) -> Named<'b>
     requires { All (IsHeaderWithin (length bytes.now)) headers.now }
     ensures { IsNamed result (values_named name.now (map (header_bytes bytes.now) headers.now)) }
@@ -35,7 +35,7 @@ pub(crate) fn find_field<'b>(bytes: &'b [u8], headers: &[HeaderSpan], name: &[u8
     found
 }
 
-/// Whether the texts are the same but for the case of ASCII letters.
+/// Returns whether the texts are equal except for the case of ASCII letters.
 pub(crate) fn same_text(text: &[u8], other: &[u8]) -> bool
     ensures { result ≡ str_eq_ignore_ascii_case text.now other.now }
 {

@@ -1,4 +1,4 @@
-//! A head taken from a reader: byte by byte, so that nothing behind it is taken.
+//! Reading of a head from a reader, byte by byte, so that nothing after the head is consumed.
 
 ghost use Rattle.std.specs.Prelude.{◌≡◌, [], ◌∷◌, length, IfOk, IfErr};
 ghost use Rattle.std.specs.Io.KnownBytes.{Consumes};
@@ -14,21 +14,20 @@ use httparse::spans::{HeaderSpan, RequestSpans, ResponseSpans, parse_request, pa
 use httparse::{Error, Status};
 use mes_frame::Source;
 
-/// Why no head was taken.
+/// The reason for which no head was read.
 #[derive(Clone, Copy, Debug, PartialEq, Eq)]
 pub(crate) enum HeadStop {
     /// The reader failed.
     Read,
-    /// `MAX_HEAD` bytes came, and a head may still begin so.
+    /// `MAX_HEAD` bytes were read, and a head may still begin so.
     TooLong,
-    /// No head begins so, or none with so few fields.
+    /// The bytes are not a head, or have more than `MAX_FIELDS` fields.
     Refused,
     /// The reader ended.
     Ended,
 }
 
 impl HeadStop {
-    /// The fault that is told.
     pub(crate) fn fault(self) -> HeadFault
         ensures { result ≡ stop_fault self }
     {
@@ -40,7 +39,7 @@ impl HeadStop {
     }
 }
 
-/// Takes the head of a response, and answers where its parts are in what was taken.
+/// Reads the head of a response into `taken`, and returns the places of its parts.
 pub(crate) fn take_response<S: Source>(
     reader: &mut S,
     taken: &mut ArrayVec<u8, MAX_HEAD>,
@@ -69,7 +68,7 @@ pub(crate) fn take_response<S: Source>(
     Err(HeadStop::TooLong)
 }
 
-/// Takes the head of a request, and answers where its parts are in what was taken.
+/// Reads the head of a request into `taken`, and returns the places of its parts.
 pub(crate) fn take_request<S: Source>(
     reader: &mut S,
     taken: &mut ArrayVec<u8, MAX_HEAD>,
@@ -102,7 +101,6 @@ pub(crate) fn take_request<S: Source>(
     Err(HeadStop::TooLong)
 }
 
-/// Takes one byte.
 fn take_byte<S: Source>(reader: &mut S) -> Result<u8, HeadStop>
     ensures ok { IfOk result (λ byte. Consumes (S.left reader.old) (S.left reader.new) (byte ∷ [])) }
     ensures ok_counts { IfOk result (λ _. GaveEach 1 (S.counts reader.old) (S.counts reader.new)) }

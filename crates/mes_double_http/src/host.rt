@@ -1,4 +1,4 @@
-//! The host that a client connects to, and that its calls name.
+//! The host that a client's calls name.
 
 ghost use Rattle.std.specs.Prelude.{◌≡◌, ◌↔◌, All, IsTrue, IsSome, IfSome};
 ghost use Rattle.mes_double_http.specs.StreamIds.{IsVisible};
@@ -8,8 +8,8 @@ use crate::limits::MAX_HOST;
 use arrayvec::ArrayString;
 use std::marker::Model;
 
-/// A host and its port, as `127.0.0.1:5050`, the value of the field `Host` (RFC 9110, section 7.2): 1 to `MAX_HOST` visible ASCII
-/// characters. A contract sees it as its bytes.
+/// A host with its port, such as `127.0.0.1:5050`: the value of the field `Host` (RFC 9110 section
+/// 7.2). It has 1 to `MAX_HOST` visible ASCII characters. In contracts its value is its bytes.
 #[derive(Drop)]
 pub struct Host {
     text: ArrayString<MAX_HOST>,
@@ -27,7 +27,7 @@ impl Model for Host {
 }
 
 impl Host {
-    /// The host that is written so, if one may be.
+    /// Returns the host, or `None` if the text is not valid.
     pub fn new(text: &str) -> Option<Host>
         ensures some { IfSome result (λ host. host ≡ text.now) }
         ensures variant { IsSome result ↔ IsHost text.now }
@@ -48,7 +48,7 @@ impl Host {
         Host { text }
     }
 
-    /// The host as it is written.
+    /// Returns the host as a text.
     pub fn as_str(&self) -> &str
         ensures text { result.now ≡ self.now }
         ensures form { IsHost self.now }
@@ -57,7 +57,7 @@ impl Host {
     }
 }
 
-/// Whether all bytes are visible ASCII characters.
+/// Returns whether all bytes are visible ASCII characters.
 fn is_visible(bytes: &[u8]) -> bool
     ensures { IsTrue result ↔ All IsVisible bytes.now }
 {

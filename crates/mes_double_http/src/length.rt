@@ -1,4 +1,4 @@
-//! The length of a body, as a head tells it.
+//! The length of a body, from the fields of its head (RFC 9112 section 6.3).
 
 ghost use Rattle.std.specs.Prelude.{◌≡◌, ◌+◌, ℕ, min, length, map, All, MatchOption};
 ghost use Rattle.httparse.specs.Spans.{IsHeaderWithin, header_bytes};
@@ -8,7 +8,8 @@ use crate::fields::{Named, find_field};
 use crate::limits::{MAX_BODY, MAX_LENGTH_DIGITS};
 use httparse::spans::HeaderSpan;
 
-/// The length that the fields tell, or `MAX_BODY` and one more where it is above `MAX_BODY`.
+/// Returns the length in the fields, or `MAX_BODY + 1` for any larger one; `None` if it is missing,
+/// ambiguous or invalid.
 pub(crate) fn body_length(bytes: &[u8], headers: &[HeaderSpan]) -> Option<u32>
     requires { All (IsHeaderWithin (length bytes.now)) headers.now }
     ensures { MatchOption result
@@ -25,7 +26,7 @@ pub(crate) fn body_length(bytes: &[u8], headers: &[HeaderSpan]) -> Option<u32>
     }
 }
 
-/// The number of a Content-Length, or `MAX_BODY` and one more where it is above `MAX_BODY`.
+/// Returns the number of a Content-Length, or `MAX_BODY + 1` for any larger one.
 fn length_of(value: &[u8]) -> Option<u32>
     ensures { MatchOption result ((n : ℕ) → IsLength value.now n → ⊥) (λ reported. (n : ℕ) × IsLength value.now n × (reported ≡ min n (MAX_BODY + 1))) }
 {

@@ -1,6 +1,16 @@
 #![tactic(auto)]
-//! The heads of HTTP/1.1 messages that the scheduler API's calls and streams of events travel behind (RFC 9112): they are taken
-//! from a reader byte by byte, and written.
+//! The HTTP/1.1 heads of the scheduler API's calls and event streams (RFC 9112).
+//!
+//! A master reads requests with `read_request` and writes response heads; a client writes calls
+//! with `write_call` and reads response heads. A head is read byte by byte, so that nothing after
+//! it is consumed.
+//!
+//!     let request = read_request(alloc, &mut source)?;
+//!     write_ok(&mut sink, &id)?;
+//!
+//! The contracts promise that exactly a valid head and its body were read, or its first fault
+//! ([`HeadFault`]). The tests check that a written call is read back. The crate `mes_double_master`
+//! has the master's state. The tests are in `mes_double_http_tests`.
 
 mod answer_writer;
 mod body;

@@ -1,10 +1,10 @@
-//! Counts the complete lines of a head that may go on.
+//! Counting of the complete lines of an incomplete head.
 
 ghost use Rattle.std.specs.Prelude.{◌≡◌};
 ghost use Rattle.httparse.specs.Pieces.{is_newline};
 ghost use Rattle.mes_double_http.specs.Heads.{from_start_line, field_lines};
 
-/// Counts the complete lines after the start line.
+/// Returns the number of complete lines after the start line.
 pub(crate) fn field_lines(taken: &[u8]) -> usize
     ensures { result ≡ field_lines taken.now }
 {
@@ -15,7 +15,7 @@ pub(crate) fn field_lines(taken: &[u8]) -> usize
     lines.saturating_sub(1)
 }
 
-/// Returns the bytes from the start line on: the empty lines before it are skipped.
+/// Returns the bytes from the start line on, without the empty lines before it.
 fn from_start_line(taken: &[u8]) -> &[u8]
     ensures { result.now ≡ from_start_line taken.now }
 {
@@ -26,7 +26,6 @@ fn from_start_line(taken: &[u8]) -> &[u8]
     &taken[start..]
 }
 
-/// Returns whether the byte is a carriage return or a line feed.
 fn is_newline(byte: u8) -> bool
     ensures { result ≡ is_newline byte }
 {

@@ -6,14 +6,14 @@ ghost use Rattle.mes_double_http.specs.Fields.{before_semicolon, is_json_type};
 
 use crate::fields::same_text;
 
-/// Whether the value of a Content-Type names JSON, whatever its parameters are.
+/// Returns whether the value of a Content-Type is JSON, with any parameters.
 pub(crate) fn is_json_type(value: &[u8]) -> bool
     ensures { result ≡ is_json_type value.now }
 {
     same_text(trim(before_semicolon(value)), b"application/json")
 }
 
-/// What stands before the first semicolon, or all of it.
+/// Returns the bytes before the first semicolon, or all bytes.
 fn before_semicolon(value: &[u8]) -> &[u8]
     ensures { result.now ≡ before_semicolon value.now }
 {
@@ -23,7 +23,6 @@ fn before_semicolon(value: &[u8]) -> &[u8]
     }
 }
 
-/// Where the first semicolon stands.
 fn semicolon_in(value: &[u8]) -> Option<usize>
     ensures place { result ≡ position (λ b. b == 59) value.now }
     ensures bound { IfSome result (λ place. place < length value.now) }
@@ -31,7 +30,7 @@ fn semicolon_in(value: &[u8]) -> Option<usize>
     value.iter().position(|byte| *byte == b';')
 }
 
-/// The text without the spaces and tabs at both ends.
+/// Returns the text without spaces and tabs at its ends.
 #[tactic(auto, unfolding(httparse::specs::Grammar::trim_ows))]
 fn trim(text: &[u8]) -> &[u8]
     ensures { result.now ≡ trim_ows text.now }
@@ -39,7 +38,6 @@ fn trim(text: &[u8]) -> &[u8]
     trim_end(trim_start(text))
 }
 
-/// The text from the first byte that is no space and no tab.
 fn trim_start(text: &[u8]) -> &[u8]
     ensures { result.now ≡ skip_ows text.now }
 {
@@ -50,7 +48,6 @@ fn trim_start(text: &[u8]) -> &[u8]
     &text[start..]
 }
 
-/// The text up to the last byte that is no space and no tab.
 fn trim_end(text: &[u8]) -> &[u8]
     ensures { result.now ≡ reverse (skip_ows (reverse text.now)) }
 {
@@ -61,7 +58,6 @@ fn trim_end(text: &[u8]) -> &[u8]
     &text[..end]
 }
 
-/// Whether the byte is a space or a tab.
 fn is_ows(byte: u8) -> bool
     ensures { result ≡ is_ows byte }
 {

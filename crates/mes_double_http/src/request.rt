@@ -1,4 +1,4 @@
-//! A request, taken from a reader: its head, and the body that it announces.
+//! Reading of a request: the head, and the body that it announces. `call_writer.rt` writes one.
 
 ghost use Rattle.std.specs.Prelude.{ℕ, List, MatchResult};
 ghost use Rattle.std.specs.Io.KnownBytes.{Consumes};
@@ -23,23 +23,23 @@ use std::alloc::Global;
 /// A request to the scheduler API.
 #[derive(Debug, Drop)]
 pub struct Request {
-    /// The stream that it names, if any.
+    /// The stream id, if the head has one.
     pub stream: Option<StreamId>,
-    /// Its body: a call, if the client keeps to the API.
+    /// The body. If the client follows the API, it is a call in JSON.
     pub body: Vec<u8>,
 }
 
-/// What the head of a request announces.
+/// The stream id and the body's length, from the head of a request.
 #[derive(Debug, Drop)]
 struct Announced {
     stream: Option<StreamId>,
     length: usize,
 }
 
-/// Takes a request: its head, and then its body. Nothing behind the body is taken, and of a request that is refused for its head
-/// nothing behind that.
+/// Reads a request, and nothing after its body. If the head is refused, nothing after the head is
+/// read.
 pub fn read_request<S: Source>(alloc: Global, reader: &mut S) -> Result<Request, HeadFault>
-    // Ok: exactly a head that keeps every rule was taken, and this body. Else the first fault.
+    // On success: exactly a valid head and its body were read. Each error: the first fault.
     ensures { (taken : List ℕ) × Consumes (S.left reader.old) (S.left reader.new) taken
         × MatchResult result
         (λ request. IsWholeCall taken request.stream request.body.items × AllGive (S.counts reader.old) (S.counts reader.new))
@@ -55,7 +55,6 @@ pub fn read_request<S: Source>(alloc: Global, reader: &mut S) -> Result<Request,
     }
 }
 
-/// Takes the head of a request.
 fn take_announced<S: Source>(reader: &mut S) -> Result<Announced, HeadFault>
     ensures { (taken : List ℕ) × Consumes (S.left reader.old) (S.left reader.new) taken
         × MatchResult result
@@ -70,7 +69,7 @@ fn take_announced<S: Source>(reader: &mut S) -> Result<Announced, HeadFault>
     }
 }
 
-/// What a head announces.
+/// Returns the stream id and the body's length, or the first fault of the head.
 fn announced_by(
     taken: &[u8],
     headers: &[HeaderSpan],

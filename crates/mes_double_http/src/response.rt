@@ -1,4 +1,4 @@
-//! The head of an answer, taken from a reader.
+//! Reading of response heads. `answer_writer.rt` writes them.
 
 ghost use Rattle.std.specs.Prelude.{ℕ, List, length, MatchResult};
 ghost use Rattle.std.specs.Io.KnownBytes.{Consumes};
@@ -17,15 +17,16 @@ use arrayvec::ArrayVec;
 use httparse::spans::{EMPTY_HEADER_SPAN, HeaderSpan, ResponseSpans};
 use mes_frame::Source;
 
-/// The status of an answer before a stream of events (RFC 9110, section 15.3.1).
+/// The status of a response with a stream of events (RFC 9110 section 15.3.1).
 const OK: u16 = 200;
 
-/// The status of an answer to any other call (RFC 9110, section 15.3.3).
+/// The status of the response to any other call (RFC 9110 section 15.3.3).
 const ACCEPTED: u16 = 202;
 
-/// Takes the head of an answer to a SUBSCRIBE, and answers the stream's id. Nothing behind the head is taken. Takes no memory.
+/// Reads the head of the response to a SUBSCRIBE, and nothing after it, and returns the stream id.
+/// Does not allocate.
 pub fn read_head<S: Source>(reader: &mut S) -> Result<StreamId, HeadFault>
-    // Ok: exactly a head was taken, a byte by each call, and it opens the stream of this id. Else the first fault.
+    // On success: exactly a valid head was read, a byte per call. Each error: the first fault.
     ensures { (taken : List ℕ) × Consumes (S.left reader.old) (S.left reader.new) taken
         × MatchResult result
         (λ id. OpensStream taken id × GaveEach (length taken) (S.counts reader.old) (S.counts reader.new))
@@ -39,9 +40,10 @@ pub fn read_head<S: Source>(reader: &mut S) -> Result<StreamId, HeadFault>
     }
 }
 
-/// Takes the head of an answer to a call other than SUBSCRIBE. Nothing behind the head is taken. Takes no memory.
+/// Reads the head of the response to a call other than SUBSCRIBE, and nothing after it. Does not
+/// allocate.
 pub fn read_answer<S: Source>(reader: &mut S) -> Result<(), HeadFault>
-    // Ok: exactly a head was taken, and it says that the call was accepted. Else the first fault.
+    // On success: exactly a head with status 202 was read. Each error: the first fault.
     ensures { (taken : List ℕ) × Consumes (S.left reader.old) (S.left reader.new) taken
         × MatchResult result
         (λ _. Accepts taken × AllGive (S.counts reader.old) (S.counts reader.new))
@@ -55,7 +57,7 @@ pub fn read_answer<S: Source>(reader: &mut S) -> Result<(), HeadFault>
     }
 }
 
-/// The id of the stream that a head opens.
+/// Returns the stream id of a head, or its first fault.
 fn stream_opened(
     taken: &[u8],
     headers: &[HeaderSpan],

@@ -1,4 +1,4 @@
-//! The rules on the fields of a head.
+//! The rules for the fields of a head.
 
 ghost use Rattle.std.specs.Prelude.{◌≡◌, ◌<◌, ◌≤◌, ℕ, List, Option, length, map, All, MatchOption, MatchResult};
 ghost use Rattle.httparse.specs.Spans.{IsHeaderWithin, header_bytes};
@@ -13,7 +13,7 @@ use crate::stream_id::StreamId;
 use http::StatusCode;
 use httparse::spans::HeaderSpan;
 
-/// Whether the body is in chunks, and coded in no other way.
+/// Returns whether the body is chunked, without another transfer coding.
 pub(crate) fn is_chunked(bytes: &[u8], headers: &[HeaderSpan]) -> bool
     requires { All (IsHeaderWithin (length bytes.now)) headers.now }
     ensures { result ≡ is_chunked (map (header_bytes bytes.now) headers.now) }
@@ -24,7 +24,7 @@ pub(crate) fn is_chunked(bytes: &[u8], headers: &[HeaderSpan]) -> bool
     }
 }
 
-/// Whether the body is JSON.
+/// Returns whether the body is JSON.
 pub(crate) fn is_json(bytes: &[u8], headers: &[HeaderSpan]) -> bool
     requires { All (IsHeaderWithin (length bytes.now)) headers.now }
     ensures { result ≡ is_json (map (header_bytes bytes.now) headers.now) }
@@ -35,7 +35,7 @@ pub(crate) fn is_json(bytes: &[u8], headers: &[HeaderSpan]) -> bool
     }
 }
 
-/// The stream that is named, if one is. Errors: more than one, or by no stream's id.
+/// Returns the stream id, if there is one. Errors: it is repeated or invalid.
 pub(crate) fn stream_named(
     bytes: &[u8],
     headers: &[HeaderSpan],
@@ -54,7 +54,7 @@ pub(crate) fn stream_named(
     }
 }
 
-/// The stream that is named, where one is, by a stream's id.
+/// Returns the stream id, if there is exactly one and it is valid.
 pub(crate) fn stream_required(bytes: &[u8], headers: &[HeaderSpan]) -> Option<StreamId>
     requires { All (IsHeaderWithin (length bytes.now)) headers.now }
     ensures { MatchOption result ((id : List ℕ) → NamesStream (map (header_bytes bytes.now) headers.now) id → ⊥)
@@ -66,7 +66,7 @@ pub(crate) fn stream_required(bytes: &[u8], headers: &[HeaderSpan]) -> Option<St
     }
 }
 
-/// Refuses a status that is another than the one that is expected.
+/// Refuses a status other than the expected one.
 pub(crate) fn expect_status(status: u16, expected: u16) -> Result<(), HeadFault>
     requires status { status < 1000 }
     requires expected { 100 ≤ expected }

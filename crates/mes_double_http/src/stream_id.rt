@@ -1,4 +1,4 @@
-//! The id that a master gives a stream of events, and that calls name it by.
+//! The id of an event stream, which the master chooses and calls name.
 
 ghost use Rattle.std.specs.Prelude.{◌≡◌, ◌≤◌, ◌↔◌, length, All, IsTrue, IsSome, IfSome};
 ghost use Rattle.uuid.specs.Text.{hyphenated_text, lower};
@@ -9,8 +9,8 @@ use arrayvec::ArrayString;
 use std::marker::Model;
 use uuid::Uuid;
 
-/// A stream's id, the value of the field `Mesos-Stream-Id`: 1 to `MAX_STREAM_ID` visible ASCII characters. A contract sees it as
-/// its bytes.
+/// The value of the field `Mesos-Stream-Id`: 1 to `MAX_STREAM_ID` visible ASCII characters. In
+/// contracts its value is its bytes.
 #[derive(Debug, Drop)]
 pub struct StreamId {
     text: ArrayString<MAX_STREAM_ID>,
@@ -28,7 +28,7 @@ impl Model for StreamId {
 }
 
 impl StreamId {
-    /// The id that is written so, if one may be.
+    /// Returns the id, or `None` if the text is not valid.
     pub fn new(text: &str) -> Option<StreamId>
         ensures some { IfSome result (λ id. id ≡ text.now) }
         ensures variant { IsSome result ↔ IsStreamId text.now }
@@ -40,7 +40,7 @@ impl StreamId {
         }
     }
 
-    /// The id that is written by these bytes, if one may be.
+    /// Returns the id, or `None` if the bytes are not valid.
     pub(crate) fn of_bytes(bytes: &[u8]) -> Option<StreamId>
         ensures some { IfSome result (λ id. id ≡ bytes.now) }
         ensures variant { IsSome result ↔ IsStreamId bytes.now }
@@ -51,7 +51,7 @@ impl StreamId {
         }
     }
 
-    /// The id that is a UUID in its hyphenated form, in lower case.
+    /// Returns the id that is the hyphenated lower-case form of a UUID.
     pub fn of_uuid(uuid: Uuid) -> StreamId
         ensures { result ≡ hyphenated_text lower uuid }
     {
@@ -68,7 +68,7 @@ impl StreamId {
         StreamId { text }
     }
 
-    /// The id as it is written.
+    /// Returns the id as a text.
     pub fn as_str(&self) -> &str
         ensures text { result.now ≡ self.now }
         ensures form { IsStreamId self.now }
@@ -76,7 +76,7 @@ impl StreamId {
         self.text.as_str()
     }
 
-    /// The same id again.
+    /// Returns a copy of the id.
     pub fn copy(&self) -> StreamId
         ensures { result ≡ self.now }
     {
@@ -84,7 +84,7 @@ impl StreamId {
     }
 }
 
-/// Whether all bytes are visible ASCII characters.
+/// Returns whether all bytes are visible ASCII characters.
 fn is_visible(bytes: &[u8]) -> bool
     ensures { IsTrue result ↔ All IsVisible bytes.now }
 {

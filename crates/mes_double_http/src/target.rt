@@ -1,4 +1,4 @@
-//! Finds out whether the first bytes of a request end inside its target.
+//! Whether the first bytes of a request end inside its target.
 
 ghost use Rattle.std.specs.Prelude.{◌≡◌, ◌==◌, ◌<◌, ◌++◌, ◌∷◌, ℕ, List, length, position, IsTrue, ◌↔◌, IfSome, MatchOption};
 ghost use Rattle.httparse.specs.Ascii.{space};
@@ -15,7 +15,6 @@ pub(crate) fn ends_in_target(taken: &[u8]) -> bool
     }
 }
 
-/// Returns what follows the first space.
 fn after_space(taken: &[u8]) -> Option<&[u8]>
     ensures { MatchOption result
         (AllPass is_no_space taken.now)
@@ -27,7 +26,6 @@ fn after_space(taken: &[u8]) -> Option<&[u8]>
     }
 }
 
-/// Returns the index of the first space.
 fn space_in(taken: &[u8]) -> Option<usize>
     ensures place { result ≡ position (λ b. b == space) taken.now }
     ensures bound { IfSome result (λ place. place < length taken.now) }
@@ -35,14 +33,13 @@ fn space_in(taken: &[u8]) -> Option<usize>
     taken.iter().position(|byte| *byte == b' ')
 }
 
-/// Returns whether there is at least one byte, and each may stand in a target.
 fn is_target(target: &[u8]) -> bool
     ensures { IsTrue result ↔ ((0 < length target.now) × AllPass is_uri_byte target.now) }
 {
     !target.is_empty() && target.iter().all(|byte| is_uri_byte(*byte))
 }
 
-/// Returns whether the byte may stand in a target (RFC 9112, section 3.2), as `httparse` reads it.
+/// Returns whether the byte is allowed in a target (RFC 9112 section 3.2), as `httparse` reads it.
 fn is_uri_byte(byte: u8) -> bool
     ensures { result ≡ is_uri_byte byte }
 {
