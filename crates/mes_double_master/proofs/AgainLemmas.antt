@@ -1,4 +1,4 @@
--- What was answered 202 changes nothing when it comes again.
+-- A call with status 202 changes nothing if it is repeated.
 use Rattle.std.proofs.Common.{◌≡◌, ℕ, Bool, true, false, ◌||◌, not, if◌then◌else◌, List, [], ◌∷◌, Option, Some, None, refl, sym, ap, ◌∙◌, arith}
 use Rattle.std.specs.Str.{bytes_eq}
 use Rattle.std.proofs.lemmas.Slice.Eq.{bytes_eq-Decides}
@@ -14,7 +14,7 @@ use Rattle.mes_session_state.specs.Held.{name_of, offer_in, names, without_offer
 use Rattle.mes_session_state.specs.Calls.{framework_of}
 use Rattle.mes_double_master.specs.Masters.{MasterState, MasterAnswer, plain, subscribed, all_there, launchable, accepted, declined, is_unacknowledged, acknowledged, key_in, agrees, carried_out, is_named, in_stream, is_subscribe, answered, handled}
 
--- ---- a text is itself
+-- ---- a text equals itself
 
 pub same_text : (a : List ℕ) → bytes_eq a a ≡ true
 same_text a = (bytes_eq-Decides a a).1 refl
@@ -22,9 +22,9 @@ same_text a = (bytes_eq-Decides a a).1 refl
 pub own_key : (k : OwedKey) → same_key k k ≡ true
 own_key k = rw (same_text k.agent.value, same_text k.task.value, same_text k.uuid) refl
 
--- ---- offers that were taken away
+-- ---- offers that were taken
 
--- what is taken away twice is taken away once
+-- taking offers twice is taking them once
 pub without_twice : (ids : List Id) (os : List Offer) → without_offers ids (without_offers ids os) ≡ without_offers ids os
 without_twice ids [] = refl
 without_twice ids (o ∷ os) = by (names ids o) refl (without_twice ids os)
@@ -33,7 +33,6 @@ without_twice ids (o ∷ os) = by (names ids o) refl (without_twice ids os)
     by true e rest = rw e rest
     by false e rest = rw (e, e) (ap (λ (l : List Offer). o ∷ l) rest)
 
--- the first that is named is not there then
 pub gone : (d : Id) (ds : List Id) (os : List Offer) → offer_in (without_offers (d ∷ ds) os) d.value ≡ None
 gone d ds [] = refl
 gone d ds (o ∷ os) = by (bytes_eq d.value (name_of o)) refl (names (d ∷ ds) o) refl (gone d ds os)
@@ -60,7 +59,6 @@ accepted_twice m ids tasks =
 pub declined_twice : (m : MasterState) (ids : List Id) → (declined (declined m ids).master ids).master ≡ (declined m ids).master
 declined_twice m ids = λ i. record (declined m ids).master { outstanding = without_twice ids m.outstanding i }
 
--- a key that is there is added once
 pub key_twice : (ks : List OwedKey) (k : OwedKey) → with_key (with_key ks k) k ≡ with_key ks k
 key_twice [] k = rw (own_key k) refl
 key_twice (l ∷ ls) k = by (same_key k l) refl (key_twice ls k)
@@ -78,7 +76,7 @@ acknowledged_twice m k = by (is_unacknowledged m.owing k) refl
 
 -- ---- whether a call is carried out
 
--- it is not a SUBSCRIBE, it is of the framework, and names the current stream
+-- the call is not a SUBSCRIBE, is of the framework, and names the current stream
 pub record IsOpen (m : MasterState) (call : Call) (given : Option (List ℕ)) : Type 0 where
   pub fine : (m.down || not (agrees m.framework (framework_of call))) ≡ false
   pub other : is_subscribe call ≡ false
@@ -93,7 +91,6 @@ carried m call given o =
     ∙ ap (λ (s : Option (List ℕ)). in_stream m call s given) o.stream
     ∙ ap (λ (b : Bool). if b then carried_out m call else plain 400 m) o.named
 
--- what is answered 202 was carried out
 subscribe_status : (m : MasterState) (uuids : List (List ℕ)) → (subscribed m uuids).status ≡ 202 → ⊥
 subscribe_status m [] e = omega arith
 subscribe_status m (u ∷ us) e = omega arith
@@ -112,9 +109,8 @@ opens m call given e = by (m.down || not (agrees m.framework (framework_of call)
     by false f false g None h e = absurd (omega arith)
     by false f false g (Some current) h e = record { fine = f; other = g; current = current; stream = h; named = named current (is_named current given) refl e }
 
--- ---- the law
+-- ---- the theorem
 
--- a call that is carried out, and comes again
 again_out : (m : MasterState) (call : Call) (given : Option (List ℕ)) → IsOpen m call given → (handled (carried_out m call).master call given).master ≡ (carried_out m call).master
 again_out m (of.Subscribe framework body) given o = absurd (cc o.other)
 again_out m (of.Accept framework body) given o =

@@ -1,4 +1,4 @@
--- What is launched of tasks that fit fits too.
+-- If tasks fit, the launched ones among them fit too.
 use Rattle.std.proofs.Common.{◌≡◌, ℕ, zero, suc, ◌+◌, ◌≤◌, Bool, true, false, ◌||◌, ◌&&◌, not, if◌then◌else◌, Some, None, Option, List, [], ◌∷◌, ◌++◌, slice_get, refl, sym, ap, subst, ◌∙◌, append_assoc, arith}
 use Rattle.std.specs.List.{list_any}
 use Rattle.std.specs.List.Sorted.{IsPermutation}
@@ -22,7 +22,6 @@ or-right : (a b : Bool) → b ≡ true → (a || b) ≡ true
 or-right true b e = refl
 or-right false b e = e
 
--- what holds of a part of two, holds of more
 or-more : (a b c : Bool) → (b ≡ true → c ≡ true) → (a || b) ≡ true → (a || c) ≡ true
 or-more true b c f e = refl
 or-more false b c f e = f e
@@ -35,7 +34,6 @@ free-less true b true e f = (let g : b ≡ true = f refl in let h : (true && not
 any-front : (test : Resource → Bool) (t : TaskInfo) (ts : List TaskInfo) → list_any test (asked (t ∷ ts)) ≡ (list_any test t.resources || list_any test (asked ts))
 any-front test t ts = list_any-append test t.resources (asked ts)
 
--- with one task more, more is asked for
 any-more : (test : Resource → Bool) (front : List TaskInfo) (t : TaskInfo) (ts : List TaskInfo) → list_any test (asked (front ++ ts)) ≡ true → list_any test (asked (front ++ t ∷ ts)) ≡ true
 any-more test [] t ts e = any-front test t ts ∙ or-right _ _ e
 any-more test (x ∷ front) t ts e =
@@ -44,7 +42,6 @@ any-more test (x ∷ front) t ts e =
 others-next : (i : ℕ) (x : TaskInfo) (ts : List TaskInfo) → others (suc i) (x ∷ ts) ≡ x ∷ others i ts
 others-next i x ts = (let e : suc i + 1 ≡ suc (i + 1) = omega arith in rw e refl)
 
--- where a task stands when there is one more, and that the others ask for no less then
 pub record Represents (front : List TaskInfo) (t : TaskInfo) (ts : List TaskInfo) (i : ℕ) (u : TaskInfo) : Type 0 where
   pub place : ℕ
   pub there : slice_get (front ++ t ∷ ts) place ≡ Some u
@@ -86,7 +83,6 @@ fits-less os front t ts f = record {
   pieces = λ i u e k p has. (let s : Represents front t ts i u = represents front t ts i u e in free-less _ _ _ (f.pieces s.place u s.there k p has) (s.more (piece_of k p)));
 }
 
--- those of them that are new fit too
 pub fits-new : (os : List Offer) (front : List TaskInfo) (known : List Id) (ts : List TaskInfo) → Fits os (front ++ ts) → Fits os (front ++ new_tasks known ts)
 fits-new os front known [] f = f
 fits-new os front known (t ∷ ts) f = by (is_among t.task_id known) refl (λ some ids. fits-new os some ids ts)
@@ -97,11 +93,10 @@ fits-new os front known (t ∷ ts) f = by (is_among t.task_id known) refl (λ so
         rw e (subst (Fits os) (append_assoc front (t ∷ []) _)
         (rest (front ++ t ∷ []) (known ++ t.task_id ∷ []) (subst (Fits os) (sym (append_assoc front (t ∷ []) ts)) f)))
 
--- no tasks fit any offers
 pub fits-nothing : (os : List Offer) → Fits os []
 fits-nothing os = record { amounts = λ k. omega arith; pieces = λ i t e k p has. absurd (cc) }
 
--- ---- answers to calls
+-- ---- responses to calls
 
 abbrev pub FitsRan : Call → MasterAnswer → Type 0
 FitsRan call a = (os : List Offer) → IsPermutation os a.took → Fits os (tasks_of call) → Fits a.took a.ran

@@ -1,4 +1,4 @@
--- Over whole runs no offer is taken away twice and no task launched twice: each identifier is counted.
+-- Over whole runs no offer is taken twice and no task launched twice: each identifier is counted.
 use Rattle.std.proofs.Common.{◌≡◌, ℕ, ◌+◌, ◌≤◌, Bool, true, false, ◌||◌, not, if◌then◌else◌, fold, slice_get, List, [], ◌∷◌, ◌++◌, Option, Some, None, is_some, Ok, Err, refl, sym, ap, subst, ◌∙◌, append_assoc, arith}
 use Rattle.std.specs.Str.{bytes_eq}
 use Rattle.std.proofs.lemmas.Slice.Eq.{bytes_eq-Decides}
@@ -25,7 +25,7 @@ use Rattle.mes_double_master.specs.Sending.{Sends, on_stream, offer_ids, is_dupl
 use Rattle.mes_double_master.specs.Runs.{new_master, Deed, Past, after_call, after_sending, after, past_of, LaunchedOnce, TakenOnce}
 use Rattle.mes_double_master.specs.Runs.Deed.{handles, offers, rescinds, updates, resends}
 
--- ---- how often an identifier stands in a list
+-- ---- how often an identifier occurs in a list
 
 abbrev pub times : List ℕ → List Id → ℕ
 times x [] = 0
@@ -49,7 +49,6 @@ present d (x ∷ xs) e = by (bytes_eq d.value x.value) refl e (present d xs)
     by true f e rest = rw f (omega arith)
     by false f e rest = rw f (omega (arith, rest e))
 
--- one that is not there stands there once then
 one-more : (x : List ℕ) (ks : List Id) (d : Id) → is_among d ks ≡ false → times x ks ≤ 1 → times x (ks ++ d ∷ []) ≤ 1
 one-more x ks d none h = by (bytes_eq x d.value) refl
   where
@@ -75,7 +74,7 @@ distinct (d ∷ ds) once = or_from _ _ (by (is_among d ds) refl) (distinct ds (�
         let two_there : 1 + times d.value ds ≤ 1 = rw same at two in
         absurd (omega arith)
 
--- ---- tasks and offers that are new
+-- ---- new tasks and offers
 
 pub new-once : (ks : List Id) (ts : List TaskInfo) → Once ks → Once (ks ++ ids_of (new_tasks ks ts))
 new-once ks [] once = subst Once (sym (append-nil ks)) once
@@ -92,7 +91,7 @@ offered-once ks (d ∷ ds) none once =
     let first : (is_among d ks ≡ false) × (is_among d ds ≡ false) = or_parts _ _ both.0 in
     subst Once (append_assoc ks (d ∷ []) ds) (offered-once (ks ++ d ∷ []) ds (comes_more ks d ds both.1 first.1) (λ x. one-more x ks d first.0 (once x)))
 
--- ---- offers that come and go
+-- ---- offers that are added and removed
 
 split : (x : List ℕ) (ids : List Id) (os : List Offer) → times x (offer_ids (named ids os)) + times x (offer_ids (without_offers ids os)) ≡ times x (offer_ids os)
 split x ids [] = refl
@@ -124,7 +123,7 @@ with-times : (x : List ℕ) (os news : List Offer) → times x (offer_ids (with_
 with-times x os [] = omega arith
 with-times x os (o ∷ news) = omega (arith, put-times x os o, with-times x (put bytes_eq name_of os o) news)
 
--- ---- what holds of every answer to a call
+-- ---- what every response to a call satisfies
 
 pub record Fine (m : MasterState) (a : MasterAnswer) : Type 0 where
   pub offered : a.master.offered ≡ m.offered
@@ -135,7 +134,6 @@ pub record Fine (m : MasterState) (a : MasterAnswer) : Type 0 where
 none-ran : (ks : List Id) → Once ks → Once (ks ++ [])
 none-ran ks once = subst Once (sym (append-nil ks)) once
 
--- nothing but a status
 fine-plain : (m : MasterState) (status : ℕ) → Fine m (plain status m)
 fine-plain m status = record { offered = refl; moved = λ x. omega arith; launched = sym (append-nil m.launched); once = none-ran m.launched }
 
@@ -179,10 +177,10 @@ fine m call given =
     if-fine m (m.down || not (agrees m.framework (framework_of call))) _ _ (fine-plain m 403)
     (if-fine m (is_subscribe call) _ _ (fine-subscribed m m.ids) (fine-in m call m.stream given))
 
--- ---- what holds after whatever was done
+-- ---- what holds after every run
 
 pub record Sound (past : Past) : Type 0 where
-  -- what was taken away or is outstanding was offered, and was offered once
+  -- what was taken or is outstanding was offered, and was offered once
   pub took : (x : List ℕ) → times x (offer_ids past.took) + times x (offer_ids past.master.outstanding) ≤ times x past.master.offered
   pub offered : Once past.master.offered
   pub ran : past.master.launched ≡ ids_of past.ran
@@ -238,7 +236,6 @@ sound-rescind past name s = on past _ s (by (is_there past.master.outstanding (r
     by true e = rw e (record { took = λ x. omega (arith, s.took x, fewer x name past.master.outstanding); offered = s.offered; ran = s.ran; launched = s.launched })
     by false e = rw e s
 
--- statuses don't count here
 kept : (past : Past) (m : MasterState) → m.offered ≡ past.master.offered → m.outstanding ≡ past.master.outstanding → m.launched ≡ past.master.launched → Sound past → Sound (record past { master = m })
 kept past m e f g s = record {
   took = λ x. rw (e, f) (s.took x);

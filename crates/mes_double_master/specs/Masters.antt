@@ -1,4 +1,4 @@
--- A test master: what it holds, and what it answers to each call.
+-- The state of a test master, and its response to each call.
 use Rattle.std.specs.Prelude.{◌≡◌, ℕ, Bool, true, false, ◌||◌, not, if◌then◌else◌, List, [], ◌∷◌, ◌++◌, map, filter, Option, Some, None, is_some}
 use Rattle.std.specs.List.{list_all}
 use Rattle.std.specs.Str.{bytes_eq}
@@ -20,26 +20,26 @@ pub use Rattle.mes_double_master_state.specs.Ids.{same_id, new_tasks}
 pub use Rattle.mes_double_master_state.specs.Events.{interval, subscribed_event, update_event, reconciled_event, last_of, asked_for}
 pub use Rattle.mes_double_master_state.specs.Updates.{is_unacknowledged, key_in}
 
--- what a master holds
+-- the state of a master
 pub record MasterState : Type 0 where
   pub framework : Id
-  -- the UUIDs that are left for streams
+  -- the UUIDs of future streams
   pub ids : List (List ℕ)
   -- the id of the current stream
   pub stream : Option (List ℕ)
   -- whether a TEARDOWN was carried out
   pub down : Bool
-  -- the identifier of every offer that was ever made
+  -- the identifiers of all offers ever made
   pub offered : List Id
   pub outstanding : List Offer
-  -- of each task the last status that was given, in the order of their first ones
+  -- the last status of each task, in the order of their first statuses
   pub latest : List (Id × TaskStatus)
-  -- the updates that owe an acknowledgement, each under its key
+  -- the updates that require an acknowledgement, by key
   pub owing : List (OwedKey × TaskStatus)
   pub launched : List Id
   pub acked : List OwedKey
 
--- what is answered to a call: the status, the events, the offers that it took away, the tasks that it launched, and the master then
+-- the response to a call: status, events, offers taken, tasks launched, and the new state
 pub record MasterAnswer : Type 0 where
   pub status : ℕ
   pub events : List Event
@@ -47,7 +47,7 @@ pub record MasterAnswer : Type 0 where
   pub ran : List TaskInfo
   pub master : MasterState
 
--- nothing but a status, and the master then
+-- a response with only a status, and the new state
 abbrev pub plain : ℕ → MasterState → MasterAnswer
 plain status m = record { status = status; events = []; took = []; ran = []; master = m }
 
@@ -69,12 +69,12 @@ subscribed m (uuid ∷ uuids) = record {
 abbrev pub is_there : List Offer → Id → Bool
 is_there offers d = is_some (offer_in offers d.value)
 
--- whether one offer or more is named, and all of them are outstanding
+-- whether at least one offer is named, and all of them are outstanding
 abbrev pub all_there : List Offer → List Id → Bool
 all_there offers [] = false
 all_there offers (d ∷ ds) = list_all (is_there offers) (d ∷ ds)
 
--- the offers that are named
+-- the named offers
 abbrev pub named : List Id → List Offer → List Offer
 named ids offers = filter (names ids) offers
 
@@ -123,7 +123,7 @@ abbrev pub agrees : Id → Option Id → Bool
 agrees framework None = true
 agrees framework (Some other) = same_id framework other
 
--- what is answered to a call of the framework that names the current stream; calls without a line of their own change nothing
+-- the response to a call of the framework on the current stream; all other calls change nothing
 abbrev pub carried_out : MasterState → Call → MasterAnswer
 carried_out m (of.Accept framework body) = accepted m body.offer_ids (launched launched_by body.operations)
 carried_out m (of.Decline framework body) = declined m body.offer_ids
@@ -132,12 +132,12 @@ carried_out m (of.Reconcile framework body) = reconciled m body.tasks
 carried_out m (of.Teardown framework) = plain 202 (torn_down m)
 carried_out m _ = plain 202 m
 
--- whether this stream is the one that is named
+-- whether the call names the current stream
 abbrev pub is_named : List ℕ → Option (List ℕ) → Bool
 is_named current None = false
 is_named current (Some given) = bytes_eq current given
 
--- without a stream a call is answered 403, and where another stream is named, or none, 400
+-- the status is 403 without a stream, and 400 if another stream or none is named
 abbrev pub in_stream : MasterState → Call → Option (List ℕ) → Option (List ℕ) → MasterAnswer
 in_stream m call None given = plain 403 m
 in_stream m call (Some current) given = if is_named current given then carried_out m call else plain 400 m
@@ -146,15 +146,15 @@ abbrev pub is_subscribe : Call → Bool
 is_subscribe (of.Subscribe framework body) = true
 is_subscribe _ = false
 
--- a SUBSCRIBE needs no stream, and which one it names doesn't count
+-- a SUBSCRIBE needs no stream, and may name any
 abbrev pub answered : MasterState → Call → Option (List ℕ) → MasterAnswer
 answered m call given = if is_subscribe call then subscribed m m.ids else in_stream m call m.stream given
 
--- what is answered to a call that names this stream, or none
+-- the response to a call that names this stream, or none
 abbrev pub handled : MasterState → Call → Option (List ℕ) → MasterAnswer
 handled m call given = if m.down || not (agrees m.framework (framework_of call)) then plain 403 m else answered m call given
 
--- what the code answers, and leaves, is that
+-- the code returns this response, and has this state
 pub record IsAnswer (answer : MasterAnswer) (status : ℕ) (events : List Event) (master : MasterState) : Type 0 where
   pub status_is : status ≡ answer.status
   pub events_are : events ≡ answer.events

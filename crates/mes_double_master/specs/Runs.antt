@@ -1,4 +1,4 @@
--- Whatever a test master is asked to do, one thing after the other.
+-- Any sequence of calls and events of a test master.
 use Rattle.std.specs.Prelude.{◌≡◌, ℕ, false, fold, List, [], ◌++◌, Option, None, Ok, Err}
 use Rattle.mes_model.specs.Id.{Id}
 use Rattle.mes_model.specs.Offer.{Offer}
@@ -30,7 +30,7 @@ pub data Deed : Type 0 where
   updates : (status : TaskStatus) → Deed
   resends : (index : ℕ) → Deed
 
--- a master, and what its calls took away and launched so far
+-- a master, and what its calls took and launched so far
 pub record Past : Type 0 where
   pub master : MasterState
   pub took : List Offer
@@ -39,7 +39,7 @@ pub record Past : Type 0 where
 abbrev pub after_call : Past → MasterAnswer → Past
 after_call past answer = record { master = answer.master; took = past.took ++ answer.took; ran = past.ran ++ answer.ran }
 
--- what is refused changes nothing
+-- a refusal changes nothing
 abbrev pub after_sending : Past → Sends → Past
 after_sending past (Ok sent) = record past { master = sent.1 }
 after_sending past (Err why) = past
@@ -55,11 +55,11 @@ after past (resends index) = after_sending past (resend_sent past.master index)
 abbrev pub past_of : Id → List (List ℕ) → List Deed → Past
 past_of framework ids deeds = fold after (record { master = new_master framework ids; took = []; ran = [] }) deeds
 
--- what the master tells as launched is what its calls launched, and no task was launched twice
+-- the master's launched tasks are those of its calls, and no task was launched twice
 pub record LaunchedOnce (past : Past) : Type 0 where
   pub launched : past.master.launched ≡ ids_of past.ran
   pub once : is_duplicated past.master.launched ≡ false
 
--- no offer was taken away twice
+-- no offer was taken twice
 abbrev pub TakenOnce : Past → Type 0
 TakenOnce past = is_duplicated (offer_ids past.took) ≡ false

@@ -1,4 +1,4 @@
--- What a test master sends of its own: the event, and the master then, or why not.
+-- The events that a test master sends without a call: the event and the new state, or the refusal.
 use Rattle.std.specs.Prelude.{ℕ, if◌then◌else◌, List, [], ◌∷◌, ◌++◌, slice_get, Option, Some, None, is_some, Result, Ok, Err}
 use Rattle.indexmap.specs.IndexMap.{insert_entry}
 use Rattle.mes_model.specs.Id.{Id}
@@ -15,11 +15,11 @@ use Rattle.mes_double_master.specs.declared.refusal.MasterRefusal.{MasterRefusal
 use Rattle.mes_double_master.specs.declared.refusal.MasterRefusal.TheVariants.{NoStream, OfferTwice, NoSuchOffer, UpdateTwice, NoSuchUpdate}
 use Rattle.mes_double_master.specs.Masters.{MasterState, same_id, is_there, is_unacknowledged, update_event}
 
--- an event and the master that sent it, or a refusal
+-- an event and the new state of its master, or a refusal
 abbrev pub Sends : Type 0
 Sends = Result (Event × MasterState) MasterRefusal
 
--- each needs a stream
+-- each event needs a stream
 abbrev pub on_stream : MasterState → Sends → Sends
 on_stream m sends = if is_some m.stream then sends else Err NoStream
 

@@ -1,11 +1,11 @@
-//! What a master answers to a call.
+//! The response of a master to a call.
 ghost use Rattle.std.specs.Prelude.{◌≡◌, []};
 
 use http::StatusCode;
 use mes_msg::Event;
 use std::alloc::Global;
 
-/// What a master answers to a call.
+/// The response of a master to a call.
 #[derive(Drop)]
 pub struct Answer {
     /// 200 for a SUBSCRIBE, 202 for another call that was carried out, 400 or 403.
@@ -15,7 +15,7 @@ pub struct Answer {
 }
 
 impl Answer {
-    /// A status alone. Takes no memory.
+    /// Returns a response without events. Does not allocate.
     pub(crate) fn plain(alloc: Global, status: StatusCode) -> Answer
         ensures status { result.status ≡ status }
         ensures events { result.events.items ≡ [] }

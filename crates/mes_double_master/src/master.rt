@@ -1,4 +1,4 @@
-//! The test master.
+//! The state of the test master. `handling.rt` handles calls, `sending.rt` makes events.
 ghost use Rattle.std.specs.Prelude.{◌≡◌, length, slice_get, option_copied};
 ghost use Rattle.mes_double_master.specs.Runs.{new_master};
 
@@ -13,22 +13,22 @@ use std::alloc::Global;
 use std::marker::Model;
 use uuid::Uuid;
 
-/// A test master of one framework. A contract sees it as `MasterState`.
+/// A test master of one framework. In contracts its value is `MasterState`.
 #[derive(Drop)]
 pub struct Master {
     alloc: Global,
     framework: Id,
-    /// The UUIDs that are left for streams.
+    /// The UUIDs of future streams.
     ids: Vec<Uuid>,
     stream: Option<StreamId>,
     /// Whether a TEARDOWN was carried out.
     down: bool,
-    /// The identifier of every offer that was ever made.
+    /// The identifiers of all offers ever made.
     offered: IndexSet<Id>,
     outstanding: OutstandingOffers,
     /// The last status of each task.
     latest: IndexMap<Id, TaskStatus>,
-    /// The updates that owe an acknowledgement.
+    /// The updates that require an acknowledgement, acknowledged or not.
     owing: IndexMap<OwedKey, TaskStatus>,
     launched: IndexSet<Id>,
     acked: PendingAcknowledgements,
@@ -58,7 +58,7 @@ impl Model for Master {
 }
 
 impl Master {
-    /// A master of the framework, which gives its streams these ids, one after the other. Takes no memory.
+    /// Returns a master of the framework whose streams get these ids in order. Does not allocate.
     pub fn new(alloc: Global, framework: Id, ids: Vec<Uuid>) -> Master
         ensures { result ≡ new_master framework ids.items }
     {
@@ -77,49 +77,50 @@ impl Master {
         }
     }
 
-    /// The id of the current stream. Takes no memory, as none of the getters does.
+    /// Returns the id of the current stream. Neither this nor another getter allocates.
     pub fn stream(&self) -> Option<&StreamId>
         ensures { option_copied result ≡ self.now.stream }
     {
         self.stream.as_ref()
     }
 
-    /// How many offers are outstanding.
+    /// Returns the number of outstanding offers.
     pub fn outstanding_len(&self) -> usize
         ensures { result ≡ length self.now.outstanding }
     {
         self.outstanding.len()
     }
 
-    /// The outstanding offer at that place; they stand in the order in which they were made.
+    /// Returns the outstanding offer at an index, in the order in which the offers were made.
     pub fn outstanding_at(&self, index: usize) -> Option<&Offer>
         ensures { option_copied result ≡ slice_get self.now.outstanding index }
     {
         self.outstanding.at(index)
     }
 
-    /// How many tasks were launched.
+    /// Returns the number of launched tasks.
     pub fn launched_len(&self) -> usize
         ensures { result ≡ length self.now.launched }
     {
         self.launched.len()
     }
 
-    /// The identifier of the launched task at that place; they stand in the order in which they were launched.
+    /// Returns the identifier of the launched task at an index, in the order of the launches.
     pub fn launched_at(&self, index: usize) -> Option<&Id>
         ensures { option_copied result ≡ slice_get self.now.launched index }
     {
         self.launched.get_index(index)
     }
 
-    /// How many updates were acknowledged.
+    /// Returns the number of acknowledged updates.
     pub fn acked_len(&self) -> usize
         ensures { result ≡ length self.now.acked }
     {
         self.acked.len()
     }
 
-    /// The key of the acknowledged update at that place; they stand in the order in which they were acknowledged.
+    /// Returns the key of the acknowledged update at an index, in the order of the
+    /// acknowledgements.
     pub fn acked_at(&self, index: usize) -> Option<&OwedKey>
         ensures { option_copied result ≡ slice_get self.now.acked index }
     {

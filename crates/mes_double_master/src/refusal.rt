@@ -1,21 +1,21 @@
-//! Why a master sends nothing.
+//! The reasons for which a master sends nothing.
 
 use mes_json::NoMemory;
 
-/// Why a master sends nothing, in the order in which the reasons are looked for.
+/// The reason for which a master sends nothing. M1 to M5 are checked in this order.
 #[derive(Clone, Copy, Debug, PartialEq, Eq)]
 pub enum MasterRefusal {
-    /// M1: no stream is current.
+    /// M1: there is no current stream.
     NoStream,
-    /// M2: an offer of that identifier was made before, or another of them has it.
+    /// M2: an offer's identifier was used before, or occurs twice.
     OfferTwice,
-    /// M3: no offer of that identifier is outstanding.
+    /// M3: no outstanding offer has the identifier.
     NoSuchOffer,
-    /// M4: an update with that agent, task and uuid was made before.
+    /// M4: an update with this agent, task and UUID was made before.
     UpdateTwice,
-    /// M5: no update of that number waits for its acknowledgement.
+    /// M5: there is no unacknowledged update at the index.
     NoSuchUpdate,
-    /// M6: a growth was refused memory.
+    /// M6: an allocation failed.
     NoMemory,
 }
 

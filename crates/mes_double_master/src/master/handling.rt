@@ -1,4 +1,4 @@
-//! How a test master answers calls.
+//! How a test master handles calls.
 ghost use Rattle.std.specs.Prelude.{◌≡◌, true, option_copied, IfOk, OnErr};
 ghost use Rattle.std.specs.List.{list_all};
 ghost use Rattle.mes_session_fit.specs.Launched.{launched, launched_by};
@@ -19,14 +19,23 @@ use mes_msg::{Acknowledge, Call, Operation};
 use mes_session_state::OutstandingOffers;
 
 impl Master {
-    /// What is answered to a call that names this stream, or none. A SUBSCRIBE is answered 403 after a TEARDOWN, from another framework
-    /// or with no id left, else 200: the next id becomes that of the stream, and no offer is outstanding. Any other call is answered
-    /// 403 after a TEARDOWN, without a stream or from another framework, 400 where it names another stream or none, else 202. Refused
-    /// memory, it changes nothing; that comes only in the place of a 200, or of a 202 to an ACCEPT whose offers are all outstanding, an
-    /// ACKNOWLEDGE or a RECONCILE.
+    /// Handles a call that names this stream, or none, and returns the status and the events of the
+    /// response.
+    ///
+    /// A SUBSCRIBE gets 403 after a TEARDOWN, from another framework, or if no stream id is left.
+    /// Otherwise it gets 200: the next id becomes the current stream, and no offer is outstanding.
+    ///
+    /// Any other call gets 403 after a TEARDOWN, without a current stream, or from another
+    /// framework. It gets 400 if it names another stream or none, and otherwise 202.
+    ///
+    /// Errors: `NoMemory` if an allocation fails; nothing is then changed. Without the error the
+    /// status would have been 200, or 202 for an ACKNOWLEDGE, a RECONCILE, or an ACCEPT whose
+    /// offers are all outstanding.
     pub fn handle(&mut self, call: &Call, stream: Option<&StreamId>) -> Result<Answer, NoMemory>
+        // On success: the response and the state of the definition `handled`.
         ensures ok { IfOk result (λ a. IsAnswer (handled self.old call.now (option_copied stream.entry)) a.status a.events.items self.new) }
         ensures err { OnErr result (self.new ≡ self.old) }
+        // An allocation fails only for a call that would make events or be recorded.
         ensures memory { OnErr result (MayWantMemory self.old call.now (option_copied stream.entry)) }
     {
         if self.down || !agrees(&self.framework, framework_of(call)) {
@@ -39,7 +48,6 @@ impl Master {
         }
     }
 
-    /// The answer to a SUBSCRIBE of this framework.
     fn subscribe(&mut self) -> Result<Answer, NoMemory>
         ensures ok { IfOk result (λ a. IsAnswer (subscribed self.old self.old.ids) a.status a.events.items self.new) }
         ensures err { OnErr result (self.new ≡ self.old) }
@@ -59,7 +67,6 @@ impl Master {
         })
     }
 
-    /// The answer to another call of this framework.
     fn in_stream(&mut self, call: &Call, given: Option<&StreamId>) -> Result<Answer, NoMemory>
         ensures ok { IfOk result (λ a. IsAnswer (in_stream self.old call.now self.old.stream (option_copied given.entry)) a.status a.events.items self.new) }
         ensures err { OnErr result (self.new ≡ self.old) }
@@ -74,7 +81,7 @@ impl Master {
         self.carry_out(call)
     }
 
-    /// The answer to a call that names the current stream.
+    /// Handles a call that names the current stream.
     fn carry_out(&mut self, call: &Call) -> Result<Answer, NoMemory>
         ensures ok { IfOk result (λ a. IsAnswer (carried_out self.old call.now) a.status a.events.items self.new) }
         ensures err { OnErr result (self.new ≡ self.old) }
@@ -92,7 +99,8 @@ impl Master {
         }
     }
 
-    /// The answer to an ACCEPT: the offers that it names are taken away, and where all of them were there its tasks are launched.
+    /// Handles an ACCEPT: removes its offers, and launches its tasks if all of the offers are
+    /// outstanding.
     fn accept(&mut self, ids: &[Id], operations: &[Operation]) -> Result<Answer, NoMemory>
         ensures ok { IfOk result (λ a. IsAnswer (accepted self.old ids.now (launched launched_by operations.now)) a.status a.events.items self.new) }
         ensures err { OnErr result (self.new ≡ self.old) }
@@ -105,7 +113,6 @@ impl Master {
         Ok(Answer::plain(self.alloc, StatusCode::ACCEPTED))
     }
 
-    /// The answer to a DECLINE: the offers that it names are taken away.
     fn decline(&mut self, ids: &[Id]) -> Answer
         ensures { IsAnswer (declined self.old ids.now) result.status result.events.items self.new }
     {
@@ -113,7 +120,7 @@ impl Master {
         Answer::plain(self.alloc, StatusCode::ACCEPTED)
     }
 
-    /// The answer to an ACKNOWLEDGE: an update of that key counts as acknowledged.
+    /// Handles an ACKNOWLEDGE: records the key if there is an update with it.
     fn acknowledge(&mut self, body: &Acknowledge) -> Result<Answer, NoMemory>
         ensures ok { IfOk result (λ a. IsAnswer (plain 202 (acknowledged self.old (key_in body.now))) a.status a.events.items self.new) }
         ensures err { OnErr result (self.new ≡ self.old) }
@@ -125,7 +132,7 @@ impl Master {
         Ok(Answer::plain(self.alloc, StatusCode::ACCEPTED))
     }
 
-    /// The answer to a RECONCILE: the last statuses of the tasks.
+    /// Handles a RECONCILE: returns the last statuses of the tasks.
     fn reconcile(&self, tasks: &[TaskRef]) -> Result<Answer, NoMemory>
         ensures { IfOk result (λ a. IsAnswer (reconciled self.now tasks.now) a.status a.events.items self.now) }
     {
@@ -136,7 +143,7 @@ impl Master {
         })
     }
 
-    /// The answer to a TEARDOWN: the stream ends, and no offer is outstanding.
+    /// Handles a TEARDOWN: ends the stream and removes all offers.
     fn tear_down(&mut self) -> Answer
         ensures { IsAnswer (plain 202 (torn_down self.old)) result.status result.events.items self.new }
     {
@@ -147,14 +154,13 @@ impl Master {
     }
 }
 
-/// Whether the offer is there.
 fn is_there(offers: &OutstandingOffers, id: &Id) -> bool
     ensures { result ≡ is_there offers.now id.now }
 {
     offers.get(id.value.as_str()).is_some()
 }
 
-/// Whether an offer or more is named, and all of them are there.
+/// Returns whether at least one offer is named and all named offers are outstanding.
 fn all_there(offers: &OutstandingOffers, ids: &[Id]) -> bool
     ensures { result ≡ all_there offers.now ids.now }
 {
@@ -164,14 +170,13 @@ fn all_there(offers: &OutstandingOffers, ids: &[Id]) -> bool
     are_there(offers, ids)
 }
 
-/// Whether all of them are there.
 fn are_there(offers: &OutstandingOffers, ids: &[Id]) -> bool
     ensures { result ≡ list_all (is_there offers.now) ids.now }
 {
     ids.iter().all(|id| is_there(offers, id))
 }
 
-/// Whether the framework is absent or this one.
+/// Returns whether the framework is absent or this one.
 fn agrees(framework: &Id, other: Option<&Id>) -> bool
     ensures { result ≡ agrees framework.now (option_copied other.entry) }
 {
@@ -181,7 +186,7 @@ fn agrees(framework: &Id, other: Option<&Id>) -> bool
     }
 }
 
-/// The framework that a call names.
+/// Returns the framework that a call names.
 fn framework_of(call: &Call) -> Option<&Id>
     ensures { option_copied result ≡ framework_of call.now }
 {
@@ -200,14 +205,13 @@ fn framework_of(call: &Call) -> Option<&Id>
     }
 }
 
-/// Whether the call is a SUBSCRIBE.
 fn is_subscribe(call: &Call) -> bool
     ensures { result ≡ is_subscribe call.now }
 {
     matches!(call, Call::Subscribe { .. })
 }
 
-/// Whether this stream is the one that is named.
+/// Returns whether the call names the current stream.
 fn is_named(current: &StreamId, given: Option<&StreamId>) -> bool
     ensures { result ≡ is_named current.now (option_copied given.entry) }
 {

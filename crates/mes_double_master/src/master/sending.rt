@@ -1,4 +1,4 @@
-//! What a test master sends of its own.
+//! The events that a test master sends without a call.
 ghost use Rattle.std.specs.Prelude.{◌≡◌, ◌≢◌, ◌⊎◌, ◌++◌, [], ◌∷◌, false, Ok, Err, IsOk, IsSome, IfSome, IfNone, IfOk, IfErr, OnOk, OnErr};
 ghost use Rattle.mes_double_master.specs.declared.refusal.MasterRefusal.TheVariants.{NoMemory as no_memory};
 ghost use Rattle.mes_double_master.specs.Masters.{is_unacknowledged, update_event};
@@ -17,10 +17,15 @@ use mes_model_schema::Part;
 use mes_msg::{Event, Rescind};
 
 impl Master {
-    /// The OFFERS that makes these offers, which are outstanding then. M1, M2 or M6 changes nothing, as any refusal here; M6 comes only in the place of the event.
+    /// Makes offers and returns their OFFERS; the offers are then outstanding. Errors: no stream
+    /// (M1), a repeated identifier (M2), out of memory (M6); nothing is then changed. M6 occurs
+    /// only if the offers could be made.
     pub fn offer(&mut self, offers: &[Offer]) -> Result<Event, MasterRefusal>
         ensures ok { IfOk result (λ event. offers_sent self.old offers.now ≡ Ok (event, self.new)) }
+        // Each error: out of memory, or the refusal in the definition `offers_sent`; nothing is
+        // changed.
         ensures err { IfErr result (λ why. (self.new ≡ self.old) × ((why ≡ no_memory) ⊎ (offers_sent self.old offers.now ≡ Err why))) }
+        // Out of memory only if the offers could be made.
         ensures memory { IfErr result (λ why. why ≡ no_memory → IsOk (offers_sent self.old offers.now)) }
     {
         if let Some(why) = self.refusal_of(offers) {
@@ -31,10 +36,14 @@ impl Master {
         Ok(event)
     }
 
-    /// The same for who has that OFFERS: the offers are outstanding then, and no event is given.
+    /// Like [`Master::offer`], but for a caller that already has the OFFERS: returns no event.
     pub fn note_offers(&mut self, offers: &[Offer]) -> Result<(), MasterRefusal>
+        // On success: the offers are made.
         ensures ok { OnOk result (offers_sent self.old offers.now ≡ Ok (Event.Offers offers.now, self.new)) }
+        // Each error: out of memory, or the refusal in the definition `offers_sent`; nothing is
+        // changed.
         ensures err { IfErr result (λ why. (self.new ≡ self.old) × ((why ≡ no_memory) ⊎ (offers_sent self.old offers.now ≡ Err why))) }
+        // Out of memory only if the offers could be made.
         ensures memory { IfErr result (λ why. why ≡ no_memory → IsOk (offers_sent self.old offers.now)) }
     {
         match self.refusal_of(offers) {
@@ -43,7 +52,7 @@ impl Master {
         }
     }
 
-    /// Why these offers may not be made, M1 or M2, if they may not. Takes no memory.
+    /// Returns the reason, M1 or M2, if these offers cannot be made. Does not allocate.
     fn refusal_of(&self, offers: &[Offer]) -> Option<MasterRefusal>
         ensures none { IfNone result (IsSome self.now.stream × (is_duplicate self.now.offered (offer_ids offers.now) ≡ false)) }
         ensures some { IfSome result (λ why. (why ≢ no_memory) × (offers_sent self.now offers.now ≡ Err why)) }
@@ -57,7 +66,7 @@ impl Master {
         None
     }
 
-    /// Makes offers none of which was made before, nor two of one identifier.
+    /// Makes offers whose identifiers are new and distinct.
     fn make(&mut self, offers: &[Offer]) -> Result<(), NoMemory>
         requires { is_duplicate self.old.offered (offer_ids offers.now) ≡ false }
         ensures ok { OnOk result (made self.old offers.now ≡ (Event.Offers offers.now, self.new)) }
@@ -70,10 +79,15 @@ impl Master {
         Ok(())
     }
 
-    /// The RESCIND that takes back the outstanding offer of that identifier, or M1, M3 or, in the place of the event, M6.
+    /// Withdraws the outstanding offer with this identifier and returns its RESCIND. Errors: no
+    /// stream (M1), no such offer (M3), out of memory (M6); nothing is then changed. M6 occurs only
+    /// if the offer could be withdrawn.
     pub fn rescind(&mut self, id: &str) -> Result<Event, MasterRefusal>
         ensures ok { IfOk result (λ event. rescind_sent self.old id.now ≡ Ok (event, self.new)) }
+        // Each error: out of memory, or the refusal in the definition `rescind_sent`; nothing is
+        // changed.
         ensures err { IfErr result (λ why. (self.new ≡ self.old) × ((why ≡ no_memory) ⊎ (rescind_sent self.old id.now ≡ Err why))) }
+        // Out of memory only if the offer could be withdrawn.
         ensures memory { IfErr result (λ why. why ≡ no_memory → IsOk (rescind_sent self.old id.now)) }
     {
         if self.stream.is_none() {
@@ -88,9 +102,13 @@ impl Master {
         Ok(Event::Rescind(Rescind { offer_id }))
     }
 
-    /// The UPDATE of a status, which is then the last of its task, or M1, M4 or, in the place of the event or of M4, M6.
+    /// Returns the UPDATE of a status, which becomes the last of its task. Errors: no stream (M1),
+    /// a repeated update (M4), out of memory (M6); nothing is then changed. M6 may occur instead of
+    /// M4.
     pub fn update(&mut self, status: &TaskStatus) -> Result<Event, MasterRefusal>
         ensures ok { IfOk result (λ event. update_sent self.old status.now ≡ Ok (event, self.new)) }
+        // Each error: out of memory, or the refusal in the definition `update_sent`; nothing is
+        // changed.
         ensures err { IfErr result (λ why. (self.new ≡ self.old) × ((why ≡ no_memory) ⊎ (update_sent self.old status.now ≡ Err why))) }
         ensures memory { IfErr result (λ why. why ≡ no_memory → IsSome self.old.stream) }
     {
@@ -102,9 +120,12 @@ impl Master {
         Ok(event)
     }
 
-    /// The same for who has that UPDATE: the status is the last of its task then, and no event is given.
+    /// Like [`Master::update`], but for a caller that already has the UPDATE: returns no event.
     pub fn note_update(&mut self, status: &TaskStatus) -> Result<(), MasterRefusal>
+        // On success: the status is recorded.
         ensures ok { OnOk result (update_sent self.old status.now ≡ Ok (update_event status.now, self.new)) }
+        // Each error: out of memory, or the refusal in the definition `update_sent`; nothing is
+        // changed.
         ensures err { IfErr result (λ why. (self.new ≡ self.old) × ((why ≡ no_memory) ⊎ (update_sent self.old status.now ≡ Err why))) }
         ensures memory { IfErr result (λ why. why ≡ no_memory → IsSome self.old.stream) }
     {
@@ -120,10 +141,11 @@ impl Master {
         Ok(record_unacknowledged(self.alloc, &mut self.latest, &mut self.owing, key, status)?)
     }
 
-    /// The UPDATE again that stands at that place among those that owe an acknowledgement and have none, or M1, M5 or, in the place of the
-    /// event, M6.
+    /// Returns again the UPDATE at an index among the unacknowledged ones. Errors: no stream (M1),
+    /// no such update (M5), out of memory (M6). M6 occurs only if there is such an update.
     pub fn resend(&self, index: usize) -> Result<Event, MasterRefusal>
         ensures ok { IfOk result (λ event. resend_sent self.now index ≡ Ok (event, self.now)) }
+        // Each error: out of memory, or the refusal in the definition `resend_sent`.
         ensures err { IfErr result (λ why. (why ≡ no_memory) ⊎ (resend_sent self.now index ≡ Err why)) }
         ensures memory { IfErr result (λ why. why ≡ no_memory → IsOk (resend_sent self.now index)) }
     {
