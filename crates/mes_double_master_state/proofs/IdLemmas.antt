@@ -1,4 +1,4 @@
--- Identifiers that are added to a list.
+-- Identifiers added to a list.
 use Rattle.std.proofs.Common.{◌≡◌, ℕ, Bool, true, false, ◌||◌, if◌then◌else◌, List, [], ◌∷◌, ◌++◌, length, refl, sym, ap, ◌∙◌, append_assoc, arith}
 use Rattle.std.specs.List.{list_any}
 use Rattle.std.specs.Str.{bytes_eq}
@@ -13,7 +13,6 @@ use Rattle.mes_model.specs.Offer.{Offer}
 use Rattle.mes_session_state.specs.Refusals.{is_among, ids_of}
 use Rattle.mes_double_master_state.specs.Ids.{same_id, new_tasks, offer_ids, is_duplicate}
 
--- two texts are the same whichever of them is named first
 pub other_way : (a b : List ℕ) → bytes_eq a b ≡ false → bytes_eq b a ≡ false
 other_way a b e = by (bytes_eq b a) refl
   where
@@ -21,7 +20,6 @@ other_way a b e = by (bytes_eq b a) refl
     by false f = f
     by true f = (let g : bytes_eq a b ≡ true = (bytes_eq-Decides a b).1 (sym ((bytes_eq-Decides b a).0 f)) in absurd (cc))
 
--- one more is known, and none of these is it
 pub comes_more : (ks : List Id) (d : Id) (ds : List Id) → is_duplicate ks ds ≡ false → is_among d ds ≡ false → is_duplicate (ks ++ d ∷ []) ds ≡ false
 comes_more ks d [] none apart = refl
 comes_more ks d (x ∷ xs) none apart =
@@ -32,7 +30,6 @@ comes_more ks d (x ∷ xs) none apart =
     list_any-append (same_id x) ks (d ∷ []) ∙ or_from _ _ first.0 (or_from _ _ (other_way d.value x.value far.0) refl) in
     or_from _ _ (or_from _ _ here first.1) (comes_more ks d xs both.1 far.1)
 
--- identifiers that are new stand behind the others
 pub insert_new : (ks ds : List Id) → is_duplicate ks ds ≡ false → insert_all same_id ks ds ≡ ks ++ ds
 insert_new ks [] none = sym (append-nil ks)
 insert_new ks (d ∷ ds) none =
@@ -41,7 +38,6 @@ insert_new ks (d ∷ ds) none =
     let added : insert_key same_id ks d ≡ ks ++ d ∷ [] = ap (λ (b : Bool). if b then ks else ks ++ d ∷ []) first.0 in
     ap (λ (l : List Id). insert_all same_id l ds) added ∙ insert_new (ks ++ d ∷ []) ds (comes_more ks d ds both.1 first.1) ∙ append_assoc ks (d ∷ []) ds
 
--- those of tasks are those of the new tasks
 pub insert_tasks : (ks : List Id) (ts : List TaskInfo) → insert_all same_id ks (ids_of ts) ≡ ks ++ ids_of (new_tasks ks ts)
 insert_tasks ks [] = sym (append-nil ks)
 insert_tasks ks (t ∷ ts) = by (is_among t.task_id ks) refl (λ known. insert_tasks known ts)
@@ -62,7 +58,6 @@ insert_tasks ks (t ∷ ts) = by (is_among t.task_id ks) refl (λ known. insert_t
         ∙ append_assoc ks (t.task_id ∷ []) _
         ∙ sym (ap (λ (l : List TaskInfo). ks ++ ids_of l) (news false e))
 
--- identifiers of offers are looked for in the offers
 pub among_offers : (d : Id) (os : List Offer) → list_any (λ (o : Offer). same_id d o.id) os ≡ is_among d (offer_ids os)
 among_offers d [] = refl
 among_offers d (o ∷ os) = ap (λ (b : Bool). same_id d o.id || b) (among_offers d os)

@@ -25,12 +25,10 @@ module _ (owing : List (OwedKey × TaskStatus)) (acked : List OwedKey) (at : ℕ
   met f = rw (drop-get owing at e here, f, add-one) refl
 
   module _ (before index : ℕ) where
-    -- one that was acknowledged is passed over
     pub passes : is_owed e.0 acked ≡ true → slice_get (waiting (drop at owing) acked) before ≡ slice_get (waiting owing acked) index
         → slice_get (waiting (drop (at + 1) owing) acked) before ≡ slice_get (waiting owing acked) index
     passes f reported = sym (ap (λ (l : List (OwedKey × TaskStatus)). slice_get l before) (passed f)) ∙ reported
 
-    -- another is the one that is looked for, if none is to come before it
     pub reports : is_owed e.0 acked ≡ false → before ≡ 0 → slice_get (waiting (drop at owing) acked) before ≡ slice_get (waiting owing acked) index
         → Some e.1 ≡ option_map (λ (p : OwedKey × TaskStatus). p.1) (slice_get (waiting owing acked) index)
     reports f none reported =
@@ -38,7 +36,6 @@ module _ (owing : List (OwedKey × TaskStatus)) (acked : List OwedKey) (at : ℕ
         (λ i. slice_get (met f i) (none i)) in
         ap (option_map (λ (p : OwedKey × TaskStatus). p.1)) (sym first ∙ reported)
 
-    -- or else one fewer is to come
     pub goes_on : is_owed e.0 acked ≡ false → (before ≡ 0 → ⊥) → slice_get (waiting (drop at owing) acked) before ≡ slice_get (waiting owing acked) index
         → slice_get (waiting (drop (at + 1) owing) acked) (before - 1) ≡ slice_get (waiting owing acked) index
     goes_on f some reported =
@@ -54,7 +51,6 @@ module _ {X Y Z : Type 0} (g : Y → Z) where
       by None e rest = rw e rest
       by (Some y) e rest = rw e (ap (λ (l : List Z). g y ∷ l) rest)
 
-  -- the values so far and one more
   next-value : (es : List (X × Y)) (i : ℕ) (e : X × Y) → slice_get es i ≡ Some e → map g (values_of (take (suc i) es)) ≡ map g (values_of (take i es)) ++ g e.1 ∷ []
   next-value [] i e h = absurd (cc)
   next-value (x ∷ es) zero e h = (let s : x ≡ e = cc in ap (λ (z : X × Y). g z.1 ∷ []) s)
@@ -63,7 +59,6 @@ module _ {X Y Z : Type 0} (g : Y → Z) where
   pub value-more : (es : List (X × Y)) (i : ℕ) (e : X × Y) → slice_get es i ≡ Some e → map g (values_of (take (i + 1) es)) ≡ map g (values_of (take i es)) ++ g e.1 ∷ []
   value-more es i e h = ap (λ (n : ℕ). map g (values_of (take n es))) (add-one i) ∙ next-value es i e h
 
-  -- what the tasks so far are told, and one more
   pub told-more : (f : X → Option Y) (xs : List X) (i : ℕ) (x : X) → i < length xs → x ≡ get_or xs i x
       → map g (filter_map f (take (i + 1) xs)) ≡ map g (filter_map f (take i xs)) ++ map g (filter_map f (x ∷ []))
   told-more f xs i x within is =

@@ -18,7 +18,7 @@ subscribed_event framework = event.Subscribed (record { framework_id = framework
 abbrev pub update_event : TaskStatus → Event
 update_event status = event.Update (record { status = status })
 
--- a status that is told again owes nothing
+-- a status sent for a RECONCILE requires no acknowledgement
 abbrev pub reconciled_event : TaskStatus → Event
 reconciled_event status = update_event (record status { reason = Some (codes "REASON_RECONCILIATION"); uuid = None })
 
@@ -26,7 +26,7 @@ reconciled_event status = update_event (record status { reason = Some (codes "RE
 abbrev pub last_of : List (Id × TaskStatus) → TaskRef → Option TaskStatus
 last_of latest task = lookup (same_id task.task_id) latest
 
--- the statuses that are asked for: of the tasks that are named, in order, so far as one was given; where none is named, of all
+-- the last statuses of the named tasks, in order, if present; of all tasks if none is named
 abbrev pub asked_for : List (Id × TaskStatus) → List TaskRef → List TaskStatus
 asked_for latest [] = values_of latest
 asked_for latest (task ∷ tasks) = filter_map (last_of latest) (task ∷ tasks)

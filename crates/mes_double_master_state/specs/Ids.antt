@@ -12,12 +12,12 @@ same_id a b = bytes_eq a.value b.value
 abbrev pub offer_ids : List Offer → List Id
 offer_ids offers = map (λ (o : Offer). o.id) offers
 
--- whether one of the identifiers was offered before, or stands once more behind
+-- whether one of the identifiers was offered before, or occurs again
 abbrev pub is_duplicate : List Id → List Id → Bool
 is_duplicate offered [] = false
 is_duplicate offered (d ∷ ds) = (is_among d offered || is_among d ds) || is_duplicate offered ds
 
--- the tasks of identifiers that are not known; of two of one identifier the first
+-- the tasks whose identifiers are new; the first of two with one identifier
 abbrev pub new_tasks : List Id → List TaskInfo → List TaskInfo
 new_tasks known [] = []
 new_tasks known (t ∷ ts) = if is_among t.task_id known then new_tasks known ts else t ∷ new_tasks (known ++ t.task_id ∷ []) ts

@@ -1,4 +1,4 @@
--- The updates that were sent, each under its key, and which of them wait for an acknowledgement.
+-- The updates that were sent, by key, and those that are unacknowledged.
 use Rattle.std.specs.Prelude.{Bool, not, List, filter, is_some}
 use Rattle.std.specs.Map.{lookup}
 use Rattle.mes_model.specs.OwedKey.{OwedKey}
@@ -6,7 +6,7 @@ use Rattle.mes_model.specs.TaskStatus.{TaskStatus}
 use Rattle.mes_msg.specs.Acknowledge.{Acknowledge}
 use Rattle.mes_session_state.specs.Held.{same_key, is_owed}
 
--- whether the key is that of an update
+-- whether an update has the key, acknowledged or not
 abbrev pub is_unacknowledged : List (OwedKey × TaskStatus) → OwedKey → Bool
 is_unacknowledged owing key = is_some (lookup (same_key key) owing)
 

@@ -13,10 +13,10 @@ use mes_model_schema::{Boxed, List, Part};
 use mes_msg::{Event, Subscribed, Update};
 use std::alloc::Global;
 
-/// How long the master says that it waits between two heartbeats, in microseconds: 15 seconds.
+/// The heartbeat interval that the master announces, in microseconds: 15 seconds.
 const INTERVAL: u64 = 15_000_000;
 
-/// The SUBSCRIBED of a framework.
+/// Returns the SUBSCRIBED of a framework.
 pub fn subscribed(alloc: Global, framework: &Id) -> Result<Event, NoMemory>
     ensures { IfOk result (λ event. event ≡ subscribed_event framework.now) }
 {
@@ -26,7 +26,7 @@ pub fn subscribed(alloc: Global, framework: &Id) -> Result<Event, NoMemory>
     }))
 }
 
-/// The OFFERS of these offers.
+/// Returns the OFFERS of these offers.
 pub fn offers(alloc: Global, offers: &[Offer]) -> Result<Event, NoMemory>
     ensures { IfOk result (λ event. event ≡ Event.Offers offers.now) }
 {
@@ -37,7 +37,7 @@ pub fn offers(alloc: Global, offers: &[Offer]) -> Result<Event, NoMemory>
     Ok(Event::Offers(List::new(copies)))
 }
 
-/// The UPDATE of a status.
+/// Returns the UPDATE of a status.
 pub fn update(alloc: Global, status: &TaskStatus) -> Result<Event, NoMemory>
     ensures { IfOk result (λ event. event ≡ update_event status.now) }
 {
@@ -45,7 +45,7 @@ pub fn update(alloc: Global, status: &TaskStatus) -> Result<Event, NoMemory>
     Ok(Event::Update(Update { status }))
 }
 
-/// The UPDATE that tells a status again to who asks for it.
+/// Returns the UPDATE of a status as a response to a RECONCILE.
 fn reconciled(alloc: Global, status: &TaskStatus) -> Result<Event, NoMemory>
     ensures { IfOk result (λ event. event ≡ reconciled_event status.now) }
 {
@@ -56,7 +56,7 @@ fn reconciled(alloc: Global, status: &TaskStatus) -> Result<Event, NoMemory>
     Ok(Event::Update(Update { status }))
 }
 
-/// The UPDATEs that tell the last status of each task.
+/// Returns such an UPDATE of the last status of each task.
 fn reconciled_all(alloc: Global, latest: &IndexMap<Id, TaskStatus>) -> Result<Vec<Event>, NoMemory>
     ensures { IfOk result (λ events. events.items ≡ map reconciled_event (values_of latest.now.entries)) }
 {
@@ -70,7 +70,7 @@ fn reconciled_all(alloc: Global, latest: &IndexMap<Id, TaskStatus>) -> Result<Ve
     Ok(events)
 }
 
-/// Adds the UPDATE that tells the last status of a task, if one was given.
+/// Appends such an UPDATE of the last status of a task, if there is one.
 fn push_reconciled(
     alloc: Global,
     events: &mut Vec<Event>,
@@ -86,7 +86,7 @@ fn push_reconciled(
     Ok(())
 }
 
-/// The UPDATEs that tell the last status of each of these tasks, so far as one was given.
+/// Returns such an UPDATE of the last status of each of these tasks, if there is one.
 fn reconciled_of(
     alloc: Global,
     latest: &IndexMap<Id, TaskStatus>,
@@ -101,12 +101,13 @@ fn reconciled_of(
     Ok(events)
 }
 
-/// The UPDATEs that answer a RECONCILE of these tasks: of all, where none is named.
+/// Returns the UPDATEs for a RECONCILE of these tasks, or of all tasks if none is named.
 pub fn reconcile(
     alloc: Global,
     latest: &IndexMap<Id, TaskStatus>,
     tasks: &[TaskRef],
 ) -> Result<Vec<Event>, NoMemory>
+    // On success: the last statuses that the RECONCILE asks for, without UUIDs.
     ensures { IfOk result (λ events. events.items ≡ map reconciled_event (asked_for latest.now.entries tasks.now)) }
 {
     if tasks.is_empty() {

@@ -14,21 +14,20 @@ use mes_model_schema::json::NoMemory;
 use mes_msg::Operation;
 use std::alloc::Global;
 
-/// Whether one of the offers has the identifier.
 fn has_id(offers: &[Offer], id: &Id) -> bool
     ensures { result ≡ list_any (λ (o : OfferValue). same_id id.now o.id) offers.now }
 {
     offers.iter().any(|offer| id == &offer.id)
 }
 
-/// Whether an offer was made before, or one behind it has its identifier.
+/// Returns whether an offer's identifier was used before or is used by a later offer.
 fn is_repeated(offered: &IndexSet<Id>, offer: &Offer, following: &[Offer]) -> bool
     ensures { result ≡ (is_among offer.now.id offered.now.keys || is_among offer.now.id (offer_ids following.now)) }
 {
     offered.contains(&offer.id) || has_id(following, &offer.id)
 }
 
-/// Whether one of the offers was made before, or has the identifier of another.
+/// Returns whether an offer's identifier was used before or occurs twice.
 pub fn is_duplicate(offered: &IndexSet<Id>, offers: &[Offer]) -> bool
     ensures { result ≡ is_duplicate offered.now.keys (offer_ids offers.now) }
 {
@@ -42,7 +41,7 @@ pub fn is_duplicate(offered: &IndexSet<Id>, offers: &[Offer]) -> bool
     false
 }
 
-/// Copies of the identifiers of the offers.
+/// Copies the identifiers of the offers.
 pub fn ids_of_offers(alloc: Global, offers: &[Offer]) -> Result<Vec<Id>, NoMemory>
     ensures { IfOk result (λ ids. ids.items ≡ offer_ids offers.now) }
 {
@@ -53,7 +52,6 @@ pub fn ids_of_offers(alloc: Global, offers: &[Offer]) -> Result<Vec<Id>, NoMemor
     Ok(ids)
 }
 
-/// Adds copies of the identifiers of the tasks.
 fn push_task_ids(alloc: Global, ids: &mut Vec<Id>, tasks: &[TaskInfo]) -> Result<(), NoMemory>
     ensures { OnOk result (ids.new.items ≡ ids.old.items ++ ids_of tasks.now) }
 {
@@ -63,7 +61,7 @@ fn push_task_ids(alloc: Global, ids: &mut Vec<Id>, tasks: &[TaskInfo]) -> Result
     Ok(())
 }
 
-/// Copies of the identifiers of the tasks that the operations launch.
+/// Copies the identifiers of the tasks that the operations launch.
 fn task_ids(alloc: Global, operations: &[Operation]) -> Result<Vec<Id>, NoMemory>
     ensures { IfOk result (λ ids. ids.items ≡ ids_of (launched launched_by operations.now)) }
 {
@@ -75,7 +73,8 @@ fn task_ids(alloc: Global, operations: &[Operation]) -> Result<Vec<Id>, NoMemory
     Ok(ids)
 }
 
-/// Makes room for so many more.
+/// Reserves capacity for `more` identifiers. Errors: `NoMemory` if the allocation fails; the set is
+/// unchanged in any case.
 pub fn reserve(ids: &mut IndexSet<Id>, more: usize) -> Result<(), NoMemory>
     ensures same { ids.new.keys ≡ ids.old.keys }
     ensures room { OnOk result (more ≤ spare ids.new) }
@@ -84,7 +83,7 @@ pub fn reserve(ids: &mut IndexSet<Id>, more: usize) -> Result<(), NoMemory>
     Ok(())
 }
 
-/// Adds an identifier, where there is room; one that is there stays where it is.
+/// Adds an identifier within the spare capacity; one that is present stays in its place.
 fn put_id(ids: &mut IndexSet<Id>, id: Id)
     requires { 0 < spare ids.old }
     ensures keys { ids.new.keys ≡ insert_key same_id ids.old.keys id }
@@ -93,7 +92,7 @@ fn put_id(ids: &mut IndexSet<Id>, id: Id)
     ids.insert(id).unwrap();
 }
 
-/// Adds identifiers, in order, where there is room; one that is there stays where it is.
+/// Adds identifiers in order within the spare capacity; one that is present stays in its place.
 fn put_ids(ids: &mut IndexSet<Id>, more: Vec<Id>)
     requires { length more.items ≤ spare ids.old }
     ensures { ids.new.keys ≡ insert_all same_id ids.old.keys more.items }
@@ -103,7 +102,7 @@ fn put_ids(ids: &mut IndexSet<Id>, more: Vec<Id>)
     }
 }
 
-/// Adds identifiers none of which is there, nor two of which are one, where there is room.
+/// Adds new, distinct identifiers within the spare capacity.
 pub fn put_new(ids: &mut IndexSet<Id>, more: Vec<Id>)
     requires room { length more.items ≤ spare ids.old }
     requires new { is_duplicate ids.old.keys more.items ≡ false }
@@ -112,12 +111,14 @@ pub fn put_new(ids: &mut IndexSet<Id>, more: Vec<Id>)
     put_ids(ids, more);
 }
 
-/// Adds the identifiers of the tasks that the operations launch, each that is not there. Refused memory, it changes nothing.
+/// Adds the identifiers of the tasks that the operations launch, unless present. Errors: `NoMemory`
+/// if an allocation fails; nothing is then changed.
 pub fn launch(
     alloc: Global,
     known: &mut IndexSet<Id>,
     operations: &[Operation],
 ) -> Result<(), NoMemory>
+    // On success: the identifiers of the new tasks are appended.
     ensures ok { OnOk result (known.new.keys ≡ known.old.keys ++ ids_of (new_tasks known.old.keys (launched launched_by operations.now))) }
     ensures err { OnErr result (known.new.keys ≡ known.old.keys) }
 {

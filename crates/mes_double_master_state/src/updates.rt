@@ -14,7 +14,7 @@ use mes_msg::Acknowledge;
 use mes_session_state::PendingAcknowledgements;
 use std::alloc::Global;
 
-/// The key of the update that is acknowledged.
+/// Returns the key of the acknowledged update.
 pub fn key_in(alloc: Global, body: &Acknowledge) -> Result<OwedKey, NoMemory>
     ensures { IfOk result (λ key. key ≡ key_in body.now) }
 {
@@ -25,19 +25,21 @@ pub fn key_in(alloc: Global, body: &Acknowledge) -> Result<OwedKey, NoMemory>
     })
 }
 
-/// Whether the key is that of an update.
+/// Returns whether there is an update with the key, acknowledged or not.
 pub fn is_unacknowledged(owing: &IndexMap<OwedKey, TaskStatus>, key: &OwedKey) -> bool
     ensures { result ≡ is_unacknowledged owing.now.entries key.now }
 {
     owing.contains_key(key)
 }
 
-/// Notes the status as the last of its task. Refused memory, it changes nothing.
+/// Records the status as the last of its task. Errors: `NoMemory` if an allocation fails; nothing
+/// is then changed.
 pub fn note(
     alloc: Global,
     latest: &mut IndexMap<Id, TaskStatus>,
     status: &TaskStatus,
 ) -> Result<(), NoMemory>
+    // On success: the status replaces the last one of its task, or is appended.
     ensures ok { OnOk result (latest.new.entries ≡ insert_entry same_id latest.old.entries status.now.task_id status.now) }
     ensures err { OnErr result (latest.new.entries ≡ latest.old.entries) }
 {
@@ -48,7 +50,7 @@ pub fn note(
     Ok(())
 }
 
-/// Puts a status in the place of the last one of its task, or behind the others, where there is room.
+/// Replaces the last status of a task, or appends it within the spare capacity.
 fn put_last(latest: &mut IndexMap<Id, TaskStatus>, task: Id, status: TaskStatus)
     requires { 0 < spare latest.old }
     ensures { latest.new.entries ≡ insert_entry same_id latest.old.entries task status }
@@ -56,7 +58,6 @@ fn put_last(latest: &mut IndexMap<Id, TaskStatus>, task: Id, status: TaskStatus)
     latest.insert(task, status).unwrap();
 }
 
-/// Makes room for one more.
 fn reserve_one(owing: &mut IndexMap<OwedKey, TaskStatus>) -> Result<(), NoMemory>
     ensures same { owing.new.entries ≡ owing.old.entries }
     ensures room { OnOk result (0 < spare owing.new) }
@@ -65,7 +66,6 @@ fn reserve_one(owing: &mut IndexMap<OwedKey, TaskStatus>) -> Result<(), NoMemory
     Ok(())
 }
 
-/// Adds an update, where there is room.
 fn put_entry(owing: &mut IndexMap<OwedKey, TaskStatus>, key: OwedKey, status: TaskStatus)
     requires { 0 < spare owing.old }
     ensures { owing.new.entries ≡ insert_entry same_key owing.old.entries key status }
@@ -73,7 +73,7 @@ fn put_entry(owing: &mut IndexMap<OwedKey, TaskStatus>, key: OwedKey, status: Ta
     owing.insert(key, status).unwrap();
 }
 
-/// Adds an update of another key than those that are there, where there is room.
+/// Appends an update with a new key within the spare capacity.
 fn push_unacknowledged(owing: &mut IndexMap<OwedKey, TaskStatus>, key: OwedKey, status: TaskStatus)
     requires room { 0 < spare owing.old }
     requires other { is_unacknowledged owing.old.entries key ≡ false }
@@ -82,8 +82,8 @@ fn push_unacknowledged(owing: &mut IndexMap<OwedKey, TaskStatus>, key: OwedKey, 
     put_entry(owing, key, status);
 }
 
-/// Notes the status as the last of its task, and as an update that owes an acknowledgement, of another key than those that are there.
-/// Refused memory, it changes nothing.
+/// Records the status as the last of its task, and as an update that requires an acknowledgement.
+/// Its key must be new. Errors: `NoMemory` if an allocation fails; nothing is then changed.
 pub fn record_unacknowledged(
     alloc: Global,
     latest: &mut IndexMap<Id, TaskStatus>,
@@ -92,8 +92,10 @@ pub fn record_unacknowledged(
     status: &TaskStatus,
 ) -> Result<(), NoMemory>
     requires { is_unacknowledged owing.old.entries key ≡ false }
+    // On success: the status replaces the last one of its task, or is appended.
     ensures latest { OnOk result (latest.new.entries ≡ insert_entry same_id latest.old.entries status.now.task_id status.now) }
     ensures owing { OnOk result (owing.new.entries ≡ owing.old.entries ++ (key, status.now) ∷ []) }
+    // Each error: nothing is changed.
     ensures err { OnErr result ((latest.new.entries ≡ latest.old.entries) × (owing.new.entries ≡ owing.old.entries)) }
 {
     let copied = status.copy(alloc)?;
@@ -103,12 +105,13 @@ pub fn record_unacknowledged(
     Ok(())
 }
 
-/// The update at that place among those that were not acknowledged.
+/// Returns the update at an index among the unacknowledged ones.
 pub fn pending_at<'a>(
     owing: &'a IndexMap<OwedKey, TaskStatus>,
     acked: &PendingAcknowledgements,
     index: usize,
 ) -> Option<&'a TaskStatus>
+    // The update at the index among those whose keys are not in `acked`.
     ensures { option_copied result ≡ option_map (λ e. e.1) (slice_get (waiting owing.now.entries acked.now) index) }
 {
     let mut before = index;
