@@ -1,5 +1,5 @@
-//! Tests of HTTP heads by the public calls of their crate: worked examples, heads that break off and fail, and shapes of requests by
-//! which one request is smuggled in another.
+//! Tests of the crate `mes_double_http` through its public functions: worked examples, incomplete
+//! and failing heads, and request smuggling.
 #![tactic(auto)]
 
 #[cfg(test)]

@@ -1,4 +1,4 @@
-//! Heads as long as they may be, and longer.
+//! Heads at their limits and beyond.
 
 use crate::support::{Reads, answered, bytes_of, failing};
 use mes_double_http::MAX_HEAD;
@@ -6,7 +6,7 @@ use std::alloc::{AllocError, AllocGlobal, Global};
 use std::process::Abort;
 use std::test::Fail;
 
-/// The lines, filled by `a` up to so many bytes, and then the end.
+/// Returns the lines, padded with `a` to `size` bytes, and then the end.
 fn filled(alloc: Global, lines: &str, size: usize, end: &[u8]) -> Result<Vec<u8>, AllocError> {
     let mut bytes = bytes_of(alloc, lines, b"")?;
     bytes.resize(size, b'a')?;
@@ -14,8 +14,8 @@ fn filled(alloc: Global, lines: &str, size: usize, end: &[u8]) -> Result<Vec<u8>
     Ok(bytes)
 }
 
-/// Heads that are filled to a size: the call, the lines, the size, what ends it, and the answer. Whether a target is well-formed UTF-8 is
-/// asked at its end, so a head that is too long inside of one is H2.
+/// Padded heads: the function, the lines, the size, the end, and the result. A target is checked
+/// for UTF-8 only at its end, so a head that is too long inside its target is H2.
 const SIZES: [(Reads, &str, usize, &[u8], &str); 5] = [
     (
         Reads::Answer,
@@ -67,7 +67,7 @@ fn a_head_has_so_many_bytes(rt: HostRuntime) -> Result<(), Fail> {
     Ok(())
 }
 
-/// A head with this first line and so many fields.
+/// Returns a head with this first line and `count` fields.
 fn fields(alloc: Global, line: &str, count: usize) -> Result<Vec<u8>, AllocError> {
     let mut bytes = bytes_of(alloc, line, b"")?;
     for _ in 0..count {
@@ -90,7 +90,8 @@ fn a_head_has_so_many_fields(rt: HostRuntime) -> Result<(), Fail> {
     Ok(())
 }
 
-/// A field too many is refused as its line ends, and not before: a reader that fails behind it is not asked.
+/// Expects that one field too many is refused at the end of its line: a reader that fails after the
+/// line is not called.
 fn expect_field_65<R: Abort + AllocGlobal>(rt: &R, reads: Reads, line: &str) -> Result<(), Fail> {
     let bytes = fields(rt.alloc(), line, 65)?;
     let end = bytes.len().saturating_sub(2);

@@ -1,4 +1,4 @@
-//! Heads of answers.
+//! Heads of responses.
 
 use crate::support::{
     ACCEPTED_LINES, OK_LINES, Reads, asked, bytes_of, expect_breaks, expect_rows, leaves,
@@ -10,7 +10,7 @@ use std::alloc::AllocGlobal;
 use std::process::Abort;
 use std::test::Fail;
 
-/// Heads before a stream of events, and what `read_head` answers.
+/// Heads of streams of events, and the result of `read_head`.
 const HEADS: &str =
     "HTTP/1.1 200 OK|Content-Type: application/json|Transfer-Encoding: chunked|Mesos-Stream-Id: s1|| => ok
 HTTP/1.0 200|content-type:application/json|TRANSFER-ENCODING:\tChunked \t|mEsOs-StReAm-Id:  s1  || => ok
@@ -41,7 +41,7 @@ HTTP/1.1 200 OK|A: b| c|| => H3 BadHead
 HTTP/1.1 200 OK| => H3 BadHead
  => H3 BadHead";
 
-/// Heads of answers to other calls, and what `read_answer` answers.
+/// Heads of responses to other calls, and the result of `read_answer`.
 const ANSWERS: &str = "HTTP/1.1 202 Accepted|Content-Length: 0|Connection: close|| => ok
 HTTP/1.1 202|| => ok
 HTTP/1.1 202 Accepted|Transfer-Encoding: chunked|| => ok
@@ -56,7 +56,7 @@ fn heads_of_answers_are_taken(rt: HostRuntime) -> Result<(), Fail> {
     expect_rows(&rt, Reads::Answer, ANSWERS, b"")
 }
 
-/// Whether the source gives a head that opens the stream of this id.
+/// Returns whether the source has a head with this stream id.
 fn opens(source: &mut MemorySource<'_>, stream: &str) -> bool {
     match read_head(source) {
         Ok(id) => id.as_str() == stream,
@@ -64,7 +64,7 @@ fn opens(source: &mut MemorySource<'_>, stream: &str) -> bool {
     }
 }
 
-/// The stream's id is the field's, and the body behind the head is left.
+/// The stream id is the field's, and the body after the head is not consumed.
 #[test]
 fn a_head_is_taken_alone(rt: HostRuntime) -> Result<(), Fail> {
     let bytes = bytes_of(rt.alloc(), OK_LINES, b"XY")?;
@@ -87,7 +87,7 @@ fn heads_break_off(rt: HostRuntime) -> Result<(), Fail> {
     Ok(())
 }
 
-/// The text of the fault of these bytes, empty where they are a head.
+/// Returns the text of the fault of these bytes, or an empty text if they are a head.
 fn text_of(bytes: &[u8]) -> ArrayString<MAX_HEAD_FAULT> {
     let mut text = ArrayString::new();
     if let Err(fault) = &read_head(&mut MemorySource::new(bytes, 1)) {
@@ -116,7 +116,7 @@ fn is_an_id(text: &str) -> bool {
     StreamId::new(text).is_some()
 }
 
-/// Texts, and whether each is a stream's id; the last two have 128 and 129 bytes.
+/// Texts, and whether each is a stream id; the last two have 128 and 129 bytes.
 const IDS: [(&str, bool); 7] = [
     ("", false),
     ("a b", false),

@@ -1,11 +1,11 @@
-//! Heads as widespread software writes them: calls by clients and through a proxy, answers by a master and through a proxy. Each was
-//! captured on a loopback socket, but that of Mesos, which stands in the documentation of its scheduler API.
+//! Heads as common software writes them, directly and through a proxy. Each was captured on a
+//! loopback socket, except that of Mesos, which is from the documentation of its scheduler API.
 
 use crate::support::{Reads, expect_rows};
 use std::test::Fail;
 
-/// Calls: curl 7.88, Python's requests 2.34 and urllib, aiohttp 3.8, node 20 (`http` and `fetch`), wget 1.21, and nginx 1.22 between,
-/// which passes HTTP/1.0 on if it is not told otherwise.
+/// Calls of curl 7.88, Python's requests 2.34 and urllib, aiohttp 3.8, node 20 (`http` and `fetch`)
+/// and wget 1.21. One is forwarded by nginx 1.22, which sends HTTP/1.0 by default.
 const CALLS: &str =
     "POST /api/v1/scheduler HTTP/1.1|Host: 127.0.0.1:5050|User-Agent: curl/7.88.1|Accept: */*|Content-Type: application/json|Mesos-Stream-Id: s1|Content-Length: 2|| => ok
 POST /api/v1/scheduler HTTP/1.1|Host: 127.0.0.1:5050|User-Agent: python-requests/2.34.2|Accept-Encoding: gzip, deflate|Accept: */*|Connection: keep-alive|Content-Type: application/json|Mesos-Stream-Id: s1|Content-Length: 2|| => ok
@@ -19,14 +19,14 @@ POST /api/v1/scheduler HTTP/1.1|Host: 127.0.0.1:5050|User-Agent: Go-http-client/
 POST /api/v1/scheduler HTTP/1.1|Host: 127.0.0.1:5050|User-Agent: curl/7.88.1|Accept: */*|Content-Type: application/x-www-form-urlencoded|Content-Length: 2|| => H6 NotJson
 POST /api/v1/scheduler HTTP/1.1|Host: 127.0.0.1:5050|Content-Type: application/json|Connection: keep-alive|Transfer-Encoding: chunked|| => H10 NoLength";
 
-/// Answers to a SUBSCRIBE: Mesos itself, and nginx between.
+/// Responses to a SUBSCRIBE, of Mesos and through nginx.
 const STREAMS: &str =
     "HTTP/1.1 200 OK|Content-Type: application/json|Transfer-Encoding: chunked|Mesos-Stream-Id: 130ae4e3-6b13-4ef4-baa9-9f2e85c3e9af|| => ok
 HTTP/1.1 200 OK|Server: nginx/1.22.1|Date: Wed, 25 Nov 2026 19:45:26 GMT|Content-Type: application/json|Transfer-Encoding: chunked|Connection: keep-alive|Mesos-Stream-Id: 130ae4e3-6b13-4ef4-baa9-9f2e85c3e9af|| => ok
 HTTP/1.1 307 Temporary Redirect|Location: //10.0.0.2:5050|Content-Length: 0|| => H4 Status
 HTTP/1.1 502 Bad Gateway|Server: nginx/1.22.1|Date: Wed, 25 Nov 2026 19:45:26 GMT|Content-Type: text/html|Content-Length: 157|Connection: keep-alive|| => H4 Status";
 
-/// Answers to other calls.
+/// Responses to other calls.
 const ANSWERS: &str =
     "HTTP/1.1 202 Accepted|Date: Wed, 25 Nov 2026 19:45:24 GMT|Content-Length: 0|| => ok
 HTTP/1.1 202 Accepted|Server: nginx/1.22.1|Date: Wed, 25 Nov 2026 19:45:24 GMT|Content-Length: 0|Connection: keep-alive|| => ok

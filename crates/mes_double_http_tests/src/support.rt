@@ -1,7 +1,10 @@
-//! What the tests of heads ask. Each public call stands in a small function of its own that tells its answer as plain data, so that the
-//! loops over rows know nothing of its contract.
+//! The format of the tables, and their interpreter.
 //!
-//! A table is a text with a row on each line, `LINES => ANSWER`; in LINES each `|` stands for the CR LF that ends a line.
+//! A table has a row on each line, `LINES => RESULT`. In LINES each `|` is the CR LF that ends a
+//! line.
+//!
+//! Each public function is called in a small function that returns plain data. So the loops over
+//! rows do not depend on its contract.
 
 use mes_double_http::{HeadFault, Request, read_answer, read_head, read_request};
 use mes_frame::{MemorySource, Source};
@@ -9,14 +12,14 @@ use std::alloc::{AllocError, AllocGlobal, Global};
 use std::process::Abort;
 use std::test::Fail;
 
-/// The text of a call, of 47 bytes.
+/// The text of a call, with 47 bytes.
 pub(crate) const CALL: &[u8] = br#"{"type":"REVIVE","framework_id":{"value":"F1"}}"#;
 
-/// The lines of a head before a stream of events.
+/// The lines of the head of a stream of events.
 pub(crate) const OK_LINES: &str =
     "HTTP/1.1 200 OK|Content-Type: application/json|Transfer-Encoding: chunked|Mesos-Stream-Id: s1||";
 
-/// The lines of the head of an answer with no body.
+/// The lines of the head of a response without a body.
 pub(crate) const ACCEPTED_LINES: &str =
     "HTTP/1.1 202 Accepted|Content-Length: 0|Connection: close||";
 
@@ -24,12 +27,12 @@ pub(crate) const ACCEPTED_LINES: &str =
 pub(crate) const CALL_LINES: &str =
     "POST /api/v1/scheduler HTTP/1.1|Host: 127.0.0.1:5050|Content-Type: application/json|Accept: application/json|Mesos-Stream-Id: s1|Connection: close|Content-Length: 47||";
 
-/// The two sides of a row.
+/// Splits a row into lines and result.
 pub(crate) fn row_of(line: &str) -> Result<(&str, &str), Fail> {
     Ok(line.split_once(" => ").ok_or("a row has two sides")?)
 }
 
-/// The bytes of the lines, and behind them these.
+/// Returns the bytes of the lines, followed by `following`.
 pub(crate) fn bytes_of(
     alloc: Global,
     lines: &str,
@@ -47,7 +50,7 @@ pub(crate) fn bytes_of(
     Ok(bytes)
 }
 
-/// The number and the name of the fault, or `ok`.
+/// Returns the number and the name of the fault, or `ok`.
 fn answer_of<T>(answer: &Result<T, HeadFault>) -> &'static str {
     match answer {
         Ok(_) => "ok",
@@ -55,7 +58,7 @@ fn answer_of<T>(answer: &Result<T, HeadFault>) -> &'static str {
     }
 }
 
-/// Which call reads.
+/// The function that reads.
 #[derive(Clone, Copy)]
 pub(crate) enum Reads {
     Head,
@@ -63,7 +66,7 @@ pub(crate) enum Reads {
     Request,
 }
 
-/// What the call answers of what the source gives.
+/// Returns the result of the function for a source.
 pub(crate) fn asked(alloc: Global, reads: Reads, source: &mut MemorySource<'_>) -> &'static str {
     match reads {
         Reads::Head => answer_of(&read_head(source)),
@@ -72,12 +75,12 @@ pub(crate) fn asked(alloc: Global, reads: Reads, source: &mut MemorySource<'_>) 
     }
 }
 
-/// What the call answers of these bytes.
+/// Returns the result of the function for these bytes.
 pub(crate) fn answered(alloc: Global, reads: Reads, bytes: &[u8]) -> &'static str {
     asked(alloc, reads, &mut MemorySource::new(bytes, 64))
 }
 
-/// What the call answers where the reader fails behind so many of the bytes.
+/// Returns the result of the function if the reader fails after `good` of the bytes.
 pub(crate) fn failing(alloc: Global, reads: Reads, bytes: &[u8], good: usize) -> &'static str {
     asked(
         alloc,
@@ -86,7 +89,7 @@ pub(crate) fn failing(alloc: Global, reads: Reads, bytes: &[u8], good: usize) ->
     )
 }
 
-/// Each row of the table is answered so, with these bytes behind its lines.
+/// Expects the result of each row, with `following` after its lines.
 pub(crate) fn expect_rows<R: Abort + AllocGlobal>(
     rt: &R,
     reads: Reads,
@@ -105,7 +108,8 @@ pub(crate) fn expect_rows<R: Abort + AllocGlobal>(
     Ok(())
 }
 
-/// A reader that fails in these bytes is H1; one that ends there is H3 in the head, of so many bytes, and H12 behind it.
+/// Expects H1 of a reader that fails in the bytes. Of one that ends, expects H3 in the head, which
+/// has `head` bytes, and H12 after it.
 pub(crate) fn expect_breaks<R: Abort + AllocGlobal>(
     rt: &R,
     reads: Reads,
@@ -131,14 +135,14 @@ pub(crate) fn expect_breaks<R: Abort + AllocGlobal>(
     }
 }
 
-/// Whether the next read of the source, of at most 8 bytes, gives these.
+/// Returns whether the next read of the source, of at most 8 bytes, returns these.
 pub(crate) fn leaves(source: &mut MemorySource<'_>, bytes: &[u8]) -> Result<bool, Fail> {
     let mut buffer = [0; 8];
     let count = source.fetch(&mut buffer)?;
     Ok(buffer.get(..count) == Some(bytes))
 }
 
-/// The stream that a request names, where it is one.
+/// Returns the stream id of a request, or `-`.
 fn stream_of(request: &Request) -> &str {
     match &request.stream {
         Some(id) => id.as_str(),
@@ -146,7 +150,7 @@ fn stream_of(request: &Request) -> &str {
     }
 }
 
-/// Whether the source gives a request with this body, for this stream.
+/// Returns whether the source has a request with this body and this stream.
 pub(crate) fn gives(
     alloc: Global,
     source: &mut MemorySource<'_>,

@@ -1,4 +1,4 @@
-//! Heads and calls that are written: their texts, and what went out where the writer stops.
+//! Heads and calls that are written, completely and to a writer that stops.
 
 use crate::support::{ACCEPTED_LINES, CALL, CALL_LINES, OK_LINES, bytes_of, gives};
 use http::StatusCode;
@@ -12,11 +12,11 @@ use std::test::Fail;
 /// What is written.
 #[derive(Clone, Copy)]
 enum Written<'a> {
-    /// The head before a stream of this id.
+    /// The head of a stream with this id.
     Stream(&'a str),
-    /// The head of an answer with this status.
+    /// The head of a response with this status.
     Status(u16),
-    /// The call of this text, for a stream of this id or for none, to the host of the examples.
+    /// The call with this text, with this stream id or none, to the host of the examples.
     Call(Option<&'a str>, &'a [u8]),
 }
 
@@ -55,7 +55,8 @@ fn write(alloc: Global, sink: &mut MemorySink, what: Written<'_>) -> Result<(), 
     }
 }
 
-/// A writer that takes all gets these bytes; one that stops behind any number of them gets those, and so it is told.
+/// Expects these bytes from a writer that accepts all, and the fault of one that stops after any
+/// number of them.
 fn expect_written<R: Abort + AllocGlobal>(rt: &R, what: Written<'_>, expected: &[u8]) {
     let mut whole = MemorySink::new(rt.alloc(), 7);
     assert_eq!(rt; write(rt.alloc(), &mut whole, what), Ok(()));
@@ -76,7 +77,8 @@ fn expect_written<R: Abort + AllocGlobal>(rt: &R, what: Written<'_>, expected: &
     );
 }
 
-/// A writer that stops so behind any number of these bytes gets those, and so it is told.
+/// Expects the bytes and the fault of a writer that stops in this way after any number of the
+/// bytes.
 fn expect_stops<R: Abort + AllocGlobal>(
     rt: &R,
     what: Written<'_>,
@@ -100,7 +102,7 @@ fn a_stream_is_answered(rt: HostRuntime) -> Result<(), Fail> {
     Ok(())
 }
 
-/// Status codes, and the lines that answer with each.
+/// Status codes, and the lines of the response with each.
 const STATUSES: [(u16, &str); 6] = [
     (202, ACCEPTED_LINES),
     (
@@ -131,7 +133,7 @@ fn a_status_is_answered(rt: HostRuntime) -> Result<(), Fail> {
     Ok(())
 }
 
-/// The lines of a request for no stream.
+/// The lines of a request without a stream.
 const NO_STREAM: &str =
     "POST /api/v1/scheduler HTTP/1.1|Host: 127.0.0.1:5050|Content-Type: application/json|Accept: application/json|Connection: close|Content-Length: 47||";
 
@@ -144,7 +146,7 @@ fn a_call_is_a_request(rt: HostRuntime) -> Result<(), Fail> {
     Ok(())
 }
 
-/// What is written is read to the same call.
+/// A written call is read back.
 #[test]
 fn a_request_is_read_again(rt: HostRuntime) {
     let mut sink = MemorySink::new(rt.alloc(), 7);
@@ -156,7 +158,7 @@ fn a_request_is_read_again(rt: HostRuntime) {
     assert!(rt; gives(rt.alloc(), &mut source, CALL, "-"));
 }
 
-/// The text of a call, of so many bytes.
+/// Returns the text of a call with `size` bytes.
 fn long_text(alloc: Global, size: usize) -> Result<Vec<u8>, AllocError> {
     let mut text = Vec::from_slice(alloc, br#"{"type":"REVIVE","framework_id":{"value":""#)?;
     text.resize(size.saturating_sub(3), b'a')?;
