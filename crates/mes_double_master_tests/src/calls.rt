@@ -1,9 +1,10 @@
-//! Calls, one after the other.
+//! Sequences of calls.
 
 use crate::support::expect_run;
 use std::test::Fail;
 
-/// An offer is accepted, and the ACCEPT comes again; a second SUBSCRIBE makes the first stream's id stale.
+/// An offer is accepted, and the ACCEPT is repeated; a second SUBSCRIBE makes the first stream id
+/// stale.
 const EXAMPLE: &str =
     r#"- {"type":"SUBSCRIBE","subscribe":{"framework_info":{"user":"root","name":"n"}}} => 200 {"type":"SUBSCRIBED","subscribed":{"framework_id":{"value":"F1"},"heartbeat_interval_seconds":15.0}} => / / / 1
 offer {"type":"OFFERS","offers":{"offers":[{"id":{"value":"O1"},"framework_id":{"value":"F1"},"agent_id":{"value":"A1"},"hostname":"h"}]}} => {"type":"OFFERS","offers":{"offers":[{"id":{"value":"O1"},"framework_id":{"value":"F1"},"agent_id":{"value":"A1"},"hostname":"h"}]}} => O1 / / / 1
@@ -18,7 +19,8 @@ update {"type":"UPDATE","update":{"status":{"task_id":{"value":"T1"},"state":"TA
 resend 0 => {"type":"UPDATE","update":{"status":{"task_id":{"value":"T1"},"state":"TASK_RUNNING","agent_id":{"value":"A1"},"uuid":"AAECAwQFBgcICQoLDA0ODw=="}}} => / T1 / / 2
 "#;
 
-/// Tasks are launched where one offer or more is named and all are outstanding, each identifier once; the offers go in any case.
+/// Tasks are launched, each identifier once, if at least one offer is named and all are
+/// outstanding. The offers are removed in any case.
 const LAUNCHES: &str =
     r#"- {"type":"SUBSCRIBE","subscribe":{"framework_info":{"user":"root","name":"n"}}} => 200 {"type":"SUBSCRIBED","subscribed":{"framework_id":{"value":"F1"},"heartbeat_interval_seconds":15.0}} => / / / 1
 offer {"type":"OFFERS","offers":{"offers":[{"id":{"value":"O1"},"framework_id":{"value":"F1"},"agent_id":{"value":"A1"},"hostname":"h"},{"id":{"value":"O2"},"framework_id":{"value":"F1"},"agent_id":{"value":"A1"},"hostname":"h"},{"id":{"value":"O3"},"framework_id":{"value":"F1"},"agent_id":{"value":"A1"},"hostname":"h"},{"id":{"value":"O4"},"framework_id":{"value":"F1"},"agent_id":{"value":"A1"},"hostname":"h"}]}} => {"type":"OFFERS","offers":{"offers":[{"id":{"value":"O1"},"framework_id":{"value":"F1"},"agent_id":{"value":"A1"},"hostname":"h"},{"id":{"value":"O2"},"framework_id":{"value":"F1"},"agent_id":{"value":"A1"},"hostname":"h"},{"id":{"value":"O3"},"framework_id":{"value":"F1"},"agent_id":{"value":"A1"},"hostname":"h"},{"id":{"value":"O4"},"framework_id":{"value":"F1"},"agent_id":{"value":"A1"},"hostname":"h"}]}} => O1 O2 O3 O4 / / / 1
@@ -36,7 +38,8 @@ offer {"type":"OFFERS","offers":{"offers":[{"id":{"value":"O8"},"framework_id":{
 1 {"type":"ACCEPT","framework_id":{"value":"F1"},"accept":{"offer_ids":[{"value":"O8"},{"value":"O8"}],"operations":[{"type":"LAUNCH","launch":{"task_infos":[{"name":"n","task_id":{"value":"T5"},"agent_id":{"value":"A1"}}]}}]}} => 202 => / T2 T1 T3 T4 T5 / / 1
 "#;
 
-/// Offers end with their stream, the rest stays; without an id left there is no stream more, and after a TEARDOWN none at all.
+/// Offers end with their stream; the rest of the state stays. There is no further stream without an
+/// id left, or after a TEARDOWN.
 const STREAMS: &str =
     r#"9 {"type":"SUBSCRIBE","framework_id":{"value":"F1"},"subscribe":{"framework_info":{"user":"root","name":"n"}}} => 200 {"type":"SUBSCRIBED","subscribed":{"framework_id":{"value":"F1"},"heartbeat_interval_seconds":15.0}} => / / / 1
 offer {"type":"OFFERS","offers":{"offers":[{"id":{"value":"O1"},"framework_id":{"value":"F1"},"agent_id":{"value":"A1"},"hostname":"h"}]}} => {"type":"OFFERS","offers":{"offers":[{"id":{"value":"O1"},"framework_id":{"value":"F1"},"agent_id":{"value":"A1"},"hostname":"h"}]}} => O1 / / / 1
@@ -56,14 +59,14 @@ offer {"type":"OFFERS","offers":{"offers":[{"id":{"value":"O2"},"framework_id":{
 offer {"type":"OFFERS","offers":{"offers":[{"id":{"value":"O3"},"framework_id":{"value":"F1"},"agent_id":{"value":"A1"},"hostname":"h"}]}} => M1 => / / / -
 "#;
 
-/// A TEARDOWN ends the stream while ids are left.
+/// A TEARDOWN ends the stream although ids are left.
 const TORN: &str =
     r#"- {"type":"SUBSCRIBE","subscribe":{"framework_info":{"user":"root","name":"n"}}} => 200 {"type":"SUBSCRIBED","subscribed":{"framework_id":{"value":"F1"},"heartbeat_interval_seconds":15.0}} => / / / 1
 1 {"type":"TEARDOWN","framework_id":{"value":"F1"}} => 202 => / / / -
 - {"type":"SUBSCRIBE","subscribe":{"framework_info":{"user":"root","name":"n"}}} => 403 => / / / -
 "#;
 
-/// An update counts as acknowledged by its ACKNOWLEDGE, once, and only one that was made.
+/// An ACKNOWLEDGE is recorded once, and only for an update that was made.
 const ACKNOWLEDGED: &str =
     r#"- {"type":"SUBSCRIBE","subscribe":{"framework_info":{"user":"root","name":"n"}}} => 200 {"type":"SUBSCRIBED","subscribed":{"framework_id":{"value":"F1"},"heartbeat_interval_seconds":15.0}} => / / / 1
 1 {"type":"ACKNOWLEDGE","framework_id":{"value":"F1"},"acknowledge":{"agent_id":{"value":"A1"},"task_id":{"value":"T1"},"uuid":"AAECAwQFBgcICQoLDA0ODw=="}} => 202 => / / / 1
@@ -85,7 +88,8 @@ resend 0 => {"type":"UPDATE","update":{"status":{"task_id":{"value":"T1"},"state
 resend 0 => M5 => / / T2 T1 T1 / 2
 "#;
 
-/// A RECONCILE is answered with last statuses: in the order in which it names the tasks, or in that of their first updates.
+/// The response to a RECONCILE has the last statuses: in the order of the named tasks, or of their
+/// first updates.
 const RECONCILED: &str =
     r#"- {"type":"SUBSCRIBE","subscribe":{"framework_info":{"user":"root","name":"n"}}} => 200 {"type":"SUBSCRIBED","subscribed":{"framework_id":{"value":"F1"},"heartbeat_interval_seconds":15.0}} => / / / 1
 1 {"type":"RECONCILE","framework_id":{"value":"F1"},"reconcile":{}} => 202 => / / / 1

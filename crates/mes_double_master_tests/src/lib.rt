@@ -1,4 +1,5 @@
-//! Tests of the test master by its public calls: tables of what is asked of it, what it answers, and what it holds then.
+//! Tests of the crate `mes_double_master` through its public functions. Tables of actions state the
+//! result and the master's state; `support` has the format.
 #![tactic(auto)]
 
 #[cfg(test)]

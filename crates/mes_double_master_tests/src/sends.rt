@@ -1,9 +1,9 @@
-//! What a master sends of its own, and when it doesn't.
+//! The events that a master sends without a call, and its refusals.
 
 use crate::support::expect_run;
 use std::test::Fail;
 
-/// Each refusal, and that it changes nothing; want of a stream comes first.
+/// Each refusal changes nothing; a missing stream is reported first.
 const REFUSED: &str =
     r#"offer {"type":"OFFERS","offers":{"offers":[{"id":{"value":"O1"},"framework_id":{"value":"F1"},"agent_id":{"value":"A1"},"hostname":"h"},{"id":{"value":"O1"},"framework_id":{"value":"F1"},"agent_id":{"value":"A1"},"hostname":"h"}]}} => M1 => / / / -
 rescind O1 => M1 => / / / -
@@ -28,7 +28,8 @@ update {"type":"UPDATE","update":{"status":{"task_id":{"value":"T1"},"state":"TA
 resend 0 => M1 => / / / -
 "#;
 
-/// A status without a uuid, with an empty one or without an agent owes nothing: it may be given again and is never sent again.
+/// A status without a UUID, with an empty one, or without an agent requires no acknowledgement: it
+/// may be repeated and is never resent.
 const OWING: &str =
     r#"- {"type":"SUBSCRIBE","subscribe":{"framework_info":{"user":"root","name":"n"}}} => 200 {"type":"SUBSCRIBED","subscribed":{"framework_id":{"value":"F1"},"heartbeat_interval_seconds":15.0}} => / / / 1
 update {"type":"UPDATE","update":{"status":{"task_id":{"value":"T1"},"state":"TASK_RUNNING","agent_id":{"value":"A1"}}}} => {"type":"UPDATE","update":{"status":{"task_id":{"value":"T1"},"state":"TASK_RUNNING","agent_id":{"value":"A1"}}}} => / / / 1

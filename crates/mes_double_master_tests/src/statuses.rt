@@ -12,8 +12,9 @@ const SUBSCRIBE: &str =
 /// A TEARDOWN.
 const TEARDOWN: &str = r#"{"type":"TEARDOWN","framework_id":{"value":"F1"}}"#;
 
-/// Calls, of this framework and then of another, and their statuses: before a SUBSCRIBE, after two, and after a TEARDOWN; each with the id
-/// of the second stream, with that of the first, and with none.
+/// Calls of this framework and then of another, with their statuses in three states: before a
+/// SUBSCRIBE, after two, and after a TEARDOWN. In each state the call names the second stream, the
+/// first, and none.
 const STATUSES: &str =
     r#"{"type":"SUBSCRIBE","subscribe":{"framework_info":{"user":"root","name":"n"}}} => 200 200 200 / 200 200 200 / 403 403 403
 {"type":"ACCEPT","framework_id":{"value":"F1"},"accept":{"offer_ids":[{"value":"O1"}],"operations":[{"type":"LAUNCH","launch":{"task_infos":[{"name":"n","task_id":{"value":"T1"},"agent_id":{"value":"A1"}}]}}]}} => 403 403 403 / 202 400 400 / 403 403 403
@@ -40,7 +41,7 @@ const STATUSES: &str =
 {"type":"SUBSCRIBE","framework_id":{"value":"F1"},"subscribe":{"framework_info":{"user":"root","name":"n"}}} => 200 200 200 / 200 200 200 / 403 403 403
 "#;
 
-/// Leaves a new master with no stream yet, or brings it to two streams one after the other, or to a TEARDOWN behind them.
+/// Brings a new master to a state: no stream yet, a second stream, or after a TEARDOWN.
 fn bring_to(alloc: Global, master: &mut Master, state: usize) -> Result<(), Fail> {
     if state > 0 {
         called(alloc, master, "-", SUBSCRIBE)?;
@@ -52,7 +53,7 @@ fn bring_to(alloc: Global, master: &mut Master, state: usize) -> Result<(), Fail
     Ok(())
 }
 
-/// The status of the answer of a new master to a call in this state that names this stream.
+/// Returns the status of a new master's response to a call in this state on this stream.
 fn status_of(
     alloc: Global,
     master: &mut Master,
@@ -66,7 +67,6 @@ fn status_of(
     Ok(String::from_str(alloc, status)?)
 }
 
-/// The status of the answer to a call in this state that names this stream.
 fn status_in(alloc: Global, state: usize, stream: &str, call: &str) -> Result<String, Fail> {
     let mut master = new_master(alloc)?;
     let status = status_of(alloc, &mut master, state, stream, call);
@@ -74,7 +74,7 @@ fn status_in(alloc: Global, state: usize, stream: &str, call: &str) -> Result<St
     status
 }
 
-/// The statuses of the answers to a call, in each state by each stream.
+/// Returns the statuses of a call in each state on each stream.
 fn statuses_of(alloc: Global, call: &str) -> Result<String, Fail> {
     let mut text = String::new(alloc);
     for state in 0..3 {

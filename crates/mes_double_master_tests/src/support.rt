@@ -1,10 +1,13 @@
-//! What the tables say.
+//! The format of the tables, and their interpreter.
 //!
-//! A row is `DEED => ANSWER => STATE`. A deed is a call, as `2 {"type":"REVIVE",..}`, with the number of the stream that it names (`-`
-//! for none), or `offer EVENT`, `rescind ID`, `update EVENT`, `resend INDEX`. An answer to a call is its status and the canonical texts of its
-//! events; another is the event's canonical text, or the number of the refusal. A state is the outstanding offers, the launched tasks, the tasks
-//! whose updates were acknowledged, and the number of the stream, as `O1 O2 / T1 / T1 / 2`. Stream N has the id
-//! `00000000-0000-4000-8000-00000000000N`.
+//! A row is `ACTION => RESULT => STATE`. An action is one of:
+//! - a call, such as `2 {"type":"REVIVE",..}`, with the number of the stream that it names, or `-`;
+//! - `offer EVENT`, `rescind ID`, `update EVENT` or `resend INDEX`.
+//!
+//! The result of a call is its status and the canonical texts of the events. Other results are the
+//! canonical text of the event, or the number of the refusal. A state, such as
+//! `O1 O2 / T1 / T1 / 2`, has four parts: the outstanding offers, the launched tasks, those of
+//! acknowledged updates, the stream. Stream N has the id `00000000-0000-4000-8000-00000000000N`.
 
 use mes_double_http::StreamId;
 use mes_double_master::{Answer, Master, MasterRefusal};
@@ -16,21 +19,18 @@ use std::process::Abort;
 use std::test::Fail;
 use uuid::Uuid;
 
-/// A stream's id, but for the last digit.
+/// A stream id without its last digit.
 const STREAM_FRONT: &str = "00000000-0000-4000-8000-00000000000";
 
-/// The text of the id of the stream of this number.
 fn stream_text(alloc: Global, number: &str) -> Result<String, Fail> {
     Ok(format!(in alloc; "{}{}", STREAM_FRONT, number)?)
 }
 
-/// The id of the stream of this number.
 fn stream_of(alloc: Global, number: &str) -> Result<StreamId, Fail> {
     let text = stream_text(alloc, number)?;
     Ok(StreamId::new(text.as_str()).ok_or("a stream's id")?)
 }
 
-/// The UUID of the stream of this number.
 fn uuid_of(alloc: Global, number: &str) -> Result<Uuid, Fail> {
     let text = stream_text(alloc, number)?;
     match Uuid::parse_str(text.as_str()) {
@@ -39,7 +39,7 @@ fn uuid_of(alloc: Global, number: &str) -> Result<Uuid, Fail> {
     }
 }
 
-/// A master of the framework F1 for streams 1, 2 and 3.
+/// Returns a master of the framework F1 with ids for the streams 1, 2 and 3.
 pub(crate) fn new_master(alloc: Global) -> Result<Master, Fail> {
     let mut ids = Vec::new(alloc);
     for number in ["1", "2", "3"] {
@@ -49,7 +49,6 @@ pub(crate) fn new_master(alloc: Global) -> Result<Master, Fail> {
     Ok(Master::new(alloc, Id { value }, ids))
 }
 
-/// The call of a text.
 fn call_of(alloc: Global, text: &str) -> Result<Call, Fail> {
     match Call::read_record(alloc, text.as_bytes()) {
         Ok(call) => Ok(call),
@@ -57,7 +56,6 @@ fn call_of(alloc: Global, text: &str) -> Result<Call, Fail> {
     }
 }
 
-/// The event of a text.
 fn event_of(alloc: Global, text: &str) -> Result<Event, Fail> {
     match Event::read_record(alloc, text.as_bytes()) {
         Ok(event) => Ok(event),
@@ -65,7 +63,6 @@ fn event_of(alloc: Global, text: &str) -> Result<Event, Fail> {
     }
 }
 
-/// The canonical text of an event.
 fn text_of(alloc: Global, event: &Event) -> Result<String, Fail> {
     let Ok(canonical) = event.canon(alloc, Limit::USUAL) else {
         return Err("a canonical text")?;
@@ -76,7 +73,6 @@ fn text_of(alloc: Global, event: &Event) -> Result<String, Fail> {
     }
 }
 
-/// The answer to a call, in words.
 fn reported(alloc: Global, answer: &Answer) -> Result<String, Fail> {
     let mut text = format!(in alloc; "{}", answer.status.as_u16())?;
     for event in answer.events.iter() {
@@ -86,7 +82,6 @@ fn reported(alloc: Global, answer: &Answer) -> Result<String, Fail> {
     Ok(text)
 }
 
-/// The number of a refusal.
 fn number_of(why: MasterRefusal) -> &'static str {
     match why {
         MasterRefusal::NoStream => "M1",
@@ -98,7 +93,6 @@ fn number_of(why: MasterRefusal) -> &'static str {
     }
 }
 
-/// What is sent, in words.
 fn sent(alloc: Global, answer: Result<Event, MasterRefusal>) -> Result<String, Fail> {
     match answer {
         Ok(event) => {
@@ -110,7 +104,7 @@ fn sent(alloc: Global, answer: Result<Event, MasterRefusal>) -> Result<String, F
     }
 }
 
-/// The answer to a call that names this stream or none, in words.
+/// Handles a call that names this stream or none, and prints the response.
 fn handled(
     alloc: Global,
     master: &mut Master,
@@ -127,7 +121,6 @@ fn handled(
     }
 }
 
-/// The answer to a call that names the stream of this number, or none where that is `-`.
 fn called_by(
     alloc: Global,
     master: &mut Master,
@@ -141,7 +134,7 @@ fn called_by(
     handled(alloc, master, call, Some(&id))
 }
 
-/// The answer to the call of this text that names the stream of this number, or none where that is `-`.
+/// Handles the call with this text that names the stream with this number, or none for `-`.
 pub(crate) fn called(
     alloc: Global,
     master: &mut Master,
@@ -154,7 +147,6 @@ pub(crate) fn called(
     reported
 }
 
-/// The OFFERS of the offers of an event that has some.
 fn offered_as(alloc: Global, master: &mut Master, event: &Event) -> Result<String, Fail> {
     match event {
         Event::Offers(offers) => sent(alloc, master.offer(offers.as_slice())),
@@ -162,7 +154,6 @@ fn offered_as(alloc: Global, master: &mut Master, event: &Event) -> Result<Strin
     }
 }
 
-/// The OFFERS of the offers of this text.
 fn offered(alloc: Global, master: &mut Master, text: &str) -> Result<String, Fail> {
     let event = event_of(alloc, text)?;
     let answer = offered_as(alloc, master, &event);
@@ -170,7 +161,6 @@ fn offered(alloc: Global, master: &mut Master, text: &str) -> Result<String, Fai
     answer
 }
 
-/// The UPDATE of the status of an event that has one.
 fn updated_as(alloc: Global, master: &mut Master, event: &Event) -> Result<String, Fail> {
     match event {
         Event::Update(body) => sent(alloc, master.update(body.status.get())),
@@ -178,7 +168,6 @@ fn updated_as(alloc: Global, master: &mut Master, event: &Event) -> Result<Strin
     }
 }
 
-/// The UPDATE of the status of this text.
 fn updated(alloc: Global, master: &mut Master, text: &str) -> Result<String, Fail> {
     let event = event_of(alloc, text)?;
     let answer = updated_as(alloc, master, &event);
@@ -186,7 +175,6 @@ fn updated(alloc: Global, master: &mut Master, text: &str) -> Result<String, Fai
     answer
 }
 
-/// The UPDATE again of this index.
 fn resent(alloc: Global, master: &Master, text: &str) -> Result<String, Fail> {
     match text.parse::<usize>() {
         Ok(index) => sent(alloc, master.resend(index)),
@@ -194,7 +182,7 @@ fn resent(alloc: Global, master: &Master, text: &str) -> Result<String, Fail> {
     }
 }
 
-/// The answer to a deed.
+/// Executes an action and prints its result.
 fn done(alloc: Global, master: &mut Master, deed: &str) -> Result<String, Fail> {
     match deed.split_once(" ") {
         Some(("offer", text)) => offered(alloc, master, text),
@@ -206,7 +194,6 @@ fn done(alloc: Global, master: &mut Master, deed: &str) -> Result<String, Fail> 
     }
 }
 
-/// The outstanding offers.
 fn outstanding(alloc: Global, master: &Master) -> Result<String, Fail> {
     let mut text = String::new(alloc);
     for index in 0..master.outstanding_len() {
@@ -217,7 +204,6 @@ fn outstanding(alloc: Global, master: &Master) -> Result<String, Fail> {
     Ok(text)
 }
 
-/// The launched tasks.
 fn launched(alloc: Global, master: &Master) -> Result<String, Fail> {
     let mut text = String::new(alloc);
     for index in 0..master.launched_len() {
@@ -228,7 +214,7 @@ fn launched(alloc: Global, master: &Master) -> Result<String, Fail> {
     Ok(text)
 }
 
-/// The tasks whose updates were acknowledged.
+/// Prints the tasks of the acknowledged updates.
 fn acked(alloc: Global, master: &Master) -> Result<String, Fail> {
     let mut text = String::new(alloc);
     for index in 0..master.acked_len() {
@@ -239,7 +225,6 @@ fn acked(alloc: Global, master: &Master) -> Result<String, Fail> {
     Ok(text)
 }
 
-/// The number of the stream.
 fn stream(master: &Master) -> &str {
     match master.stream() {
         Some(id) => id.as_str().strip_prefix(STREAM_FRONT).unwrap_or("?"),
@@ -247,14 +232,14 @@ fn stream(master: &Master) -> &str {
     }
 }
 
-/// Whether nothing stands behind the last of each list.
+/// Returns whether each list ends after its last element.
 fn ends(master: &Master) -> bool {
     master.outstanding_at(master.outstanding_len()).is_none()
         && master.launched_at(master.launched_len()).is_none()
         && master.acked_at(master.acked_len()).is_none()
 }
 
-/// What the master holds, by its getters.
+/// Prints the master's state, by its getters.
 fn held(alloc: Global, master: &Master) -> Result<String, Fail> {
     let offers = outstanding(alloc, master)?;
     let tasks = launched(alloc, master)?;
@@ -263,14 +248,13 @@ fn held(alloc: Global, master: &Master) -> Result<String, Fail> {
     Ok(format!(in alloc; "{offers}/ {tasks}/ {keys}/ {stream}")?)
 }
 
-/// The three parts of a row.
+/// Splits a row into its three parts.
 fn parts_of(row: &str) -> Result<(&str, &str, &str), Fail> {
     let (deed, rest) = row.split_once(" => ").ok_or("a row has an answer")?;
     let (answer, state) = rest.split_once(" => ").ok_or("a row has a state")?;
     Ok((deed, answer, state))
 }
 
-/// A row's deed is answered so, and the master holds that then.
 fn expect_row<R: Abort + AllocGlobal>(rt: &R, master: &mut Master, row: &str) -> Result<(), Fail> {
     let (deed, answer, state) = parts_of(row)?;
     let said = done(rt.alloc(), master, deed)?;
@@ -281,7 +265,6 @@ fn expect_row<R: Abort + AllocGlobal>(rt: &R, master: &mut Master, row: &str) ->
     Ok(())
 }
 
-/// Each row's deed is answered so, and the master holds that then.
 fn expect_rows<R: Abort + AllocGlobal>(
     rt: &R,
     master: &mut Master,
@@ -293,7 +276,7 @@ fn expect_rows<R: Abort + AllocGlobal>(
     Ok(())
 }
 
-/// A new master answers each row's deed so, and holds that then.
+/// Expects the result and the state of each row, with a new master.
 pub(crate) fn expect_run<R: Abort + AllocGlobal>(rt: &R, rows: &str) -> Result<(), Fail> {
     let mut master = new_master(rt.alloc())?;
     let answer = expect_rows(rt, &mut master, rows);
