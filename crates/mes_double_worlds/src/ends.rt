@@ -1,4 +1,4 @@
-//! A world in words.
+//! The printed state of a world.
 
 use mes_double::{Master, World};
 use mes_json::NoMemory;
@@ -6,7 +6,7 @@ use mes_msg::Event;
 use mes_session::Session;
 use std::alloc::Global;
 
-/// The world in one line: what the master has, what the session has, and what is between them.
+/// Returns the printed state in one line: the master, the session, and what is between them.
 pub(crate) fn end_of(alloc: Global, world: &World) -> Result<String, NoMemory> {
     let mut line = String::new(alloc);
     tell_master(&mut line, world.master())?;
@@ -21,7 +21,6 @@ pub(crate) fn end_of(alloc: Global, world: &World) -> Result<String, NoMemory> {
     Ok(line)
 }
 
-/// What the master has.
 fn tell_master(line: &mut String, master: &Master) -> Result<(), NoMemory> {
     line.push_str("stream ")?;
     line.push_str(last_of(master))?;
@@ -30,7 +29,7 @@ fn tell_master(line: &mut String, master: &Master) -> Result<(), NoMemory> {
     tell_acked(line, master)
 }
 
-/// The last character of the current stream's id, or `-`.
+/// Returns the last character of the current stream's id, or `-`.
 fn last_of(master: &Master) -> &str {
     match master.stream() {
         Some(id) => id.as_str().get(35..36).unwrap_or("?"),
@@ -38,14 +37,12 @@ fn last_of(master: &Master) -> &str {
     }
 }
 
-/// One more name.
 fn tell_name(line: &mut String, name: &str) -> Result<(), NoMemory> {
     line.push_str(" ")?;
     line.push_str(name)?;
     Ok(())
 }
 
-/// The outstanding offers.
 fn tell_outstanding(line: &mut String, master: &Master) -> Result<(), NoMemory> {
     line.push_str(" | outstanding")?;
     for index in 0..master.outstanding_len() {
@@ -56,7 +53,6 @@ fn tell_outstanding(line: &mut String, master: &Master) -> Result<(), NoMemory> 
     Ok(())
 }
 
-/// The launched tasks.
 fn tell_launched(line: &mut String, master: &Master) -> Result<(), NoMemory> {
     line.push_str(" | launched")?;
     for index in 0..master.launched_len() {
@@ -67,7 +63,7 @@ fn tell_launched(line: &mut String, master: &Master) -> Result<(), NoMemory> {
     Ok(())
 }
 
-/// The tasks of the updates that were acknowledged.
+/// Appends the tasks of the acknowledged updates.
 fn tell_acked(line: &mut String, master: &Master) -> Result<(), NoMemory> {
     line.push_str(" | acked")?;
     for index in 0..master.acked_len() {
@@ -78,7 +74,8 @@ fn tell_acked(line: &mut String, master: &Master) -> Result<(), NoMemory> {
     Ok(())
 }
 
-/// What the session has: its framework or `-`, whether its stream stands, the offers in hand, and the tasks of the updates that it owes.
+/// Appends the session's framework or `-`, whether it is connected, the outstanding offers, and the
+/// tasks of the unacknowledged updates.
 fn tell_session(line: &mut String, session: &Session) -> Result<(), NoMemory> {
     line.push_str(" | framework ")?;
     line.push_str(match session.framework() {
@@ -90,7 +87,6 @@ fn tell_session(line: &mut String, session: &Session) -> Result<(), NoMemory> {
     tell_owed(line, session)
 }
 
-/// The offers in hand.
 fn tell_hand(line: &mut String, session: &Session) -> Result<(), NoMemory> {
     line.push_str(" | hand")?;
     for index in 0..session.hand_len() {
@@ -101,7 +97,7 @@ fn tell_hand(line: &mut String, session: &Session) -> Result<(), NoMemory> {
     Ok(())
 }
 
-/// The tasks of the updates that are owed.
+/// Appends the tasks of the unacknowledged updates.
 fn tell_owed(line: &mut String, session: &Session) -> Result<(), NoMemory> {
     line.push_str(" | owed")?;
     for index in 0..session.owed_len() {
@@ -112,7 +108,7 @@ fn tell_owed(line: &mut String, session: &Session) -> Result<(), NoMemory> {
     Ok(())
 }
 
-/// The events that wait, by their names.
+/// Appends the types of the queued events.
 fn tell_waiting(line: &mut String, waiting: &[Event]) -> Result<(), NoMemory> {
     line.push_str(" | waiting")?;
     for event in waiting {
@@ -121,7 +117,6 @@ fn tell_waiting(line: &mut String, waiting: &[Event]) -> Result<(), NoMemory> {
     Ok(())
 }
 
-/// The name of an event.
 fn name_of(event: &Event) -> &'static str {
     match event {
         Event::Subscribed(_) => "SUBSCRIBED",

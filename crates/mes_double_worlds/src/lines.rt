@@ -1,4 +1,4 @@
-//! The lines that moves are written as.
+//! The lines that represent moves.
 
 use mes_double::Move;
 use mes_json::{NoMemory, Text};
@@ -6,16 +6,16 @@ use mes_msg::{Call, Event};
 use std::alloc::Global;
 use uuid::Uuid;
 
-/// What a line says.
+/// The content of a line.
 #[derive(Drop)]
 pub(crate) enum Line {
     /// One more move.
     Move(Move),
-    /// The list of moves ends.
+    /// The end of the list of moves.
     End,
 }
 
-/// What a line says, if it is one and memory is there.
+/// Reads a line; returns `None` if it is not valid or an allocation fails.
 pub(crate) fn read_line(alloc: Global, line: &str) -> Option<Line> {
     match line {
         "end" => Some(Line::End),
@@ -28,7 +28,7 @@ pub(crate) fn read_line(alloc: Global, line: &str) -> Option<Line> {
     }
 }
 
-/// The move of this name.
+/// Reads the move with this name.
 fn read_move(alloc: Global, word: &str, rest: &str) -> Option<Move> {
     match word {
         "offer" => read_offer(alloc, rest),
@@ -41,7 +41,7 @@ fn read_move(alloc: Global, word: &str, rest: &str) -> Option<Move> {
     }
 }
 
-/// The offers of an OFFERS are made.
+/// Reads a move that makes the offers of an OFFERS.
 fn read_offer(alloc: Global, text: &str) -> Option<Move> {
     match Event::read_record(alloc, text.as_bytes()) {
         Ok(Event::Offers(offers)) => Some(Move::Offer(offers)),
@@ -49,7 +49,7 @@ fn read_offer(alloc: Global, text: &str) -> Option<Move> {
     }
 }
 
-/// The status of an UPDATE is told.
+/// Reads a move that sends the status of an UPDATE.
 fn read_update(alloc: Global, text: &str) -> Option<Move> {
     match Event::read_record(alloc, text.as_bytes()) {
         Ok(Event::Update(body)) => Some(Move::Update(body.status.into_inner())),
@@ -57,7 +57,7 @@ fn read_update(alloc: Global, text: &str) -> Option<Move> {
     }
 }
 
-/// The UUIDs that end in 1, 2 and so on and are zero elsewhere.
+/// Returns UUIDs that end in 1, 2 and so on and are otherwise zero.
 pub(crate) fn ids_from_one(alloc: Global, count: u8) -> Result<Vec<Uuid>, NoMemory> {
     let mut ids = Vec::new(alloc);
     for last in 0..count {

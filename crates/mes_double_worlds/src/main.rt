@@ -1,5 +1,10 @@
-//! Reads lists of moves, a line for each move, and prints for each list the world that it leads to, in one line. docs/FORMAT.md has the
-//! lines.
+//! Reads lists of moves, one move a line, and prints the final world of each list in one line. Each
+//! list ends with `end`. docs/FORMAT.md describes the lines.
+//!
+//! - `lines`: reads a line as a move of the crate `mes_double`.
+//! - `ends`: prints a world.
+//!
+//! The files stdin and stdout are the input and the expected output of its test.
 #![tactic(auto)]
 
 mod ends;
@@ -13,10 +18,10 @@ use mes_model::Id;
 use std::alloc::Global;
 use std::io::{self, BufRead, BufReader};
 
-/// How many streams a list's master has ids for.
+/// The number of stream ids of a list's master.
 const STREAMS: u8 = 2;
 
-/// The world that the moves lead to, in words.
+/// Makes the moves and prints the final world.
 fn reported(alloc: Global, moves: &[Move]) -> Result<String, NoMemory> {
     let value = Text::of(alloc, "F1")?;
     let ids = ids_from_one(alloc, STREAMS)?;
@@ -24,7 +29,7 @@ fn reported(alloc: Global, moves: &[Move]) -> Result<String, NoMemory> {
     end_of(alloc, &world)
 }
 
-/// Prints the world that the moves lead to.
+/// Prints the final world of the moves, or that memory ran out.
 fn tell(rt: &HostRuntime, moves: &[Move]) -> io::Result<()> {
     match reported(rt.alloc(), moves) {
         Ok(end) => println!(rt; "{end}"),
@@ -32,7 +37,7 @@ fn tell(rt: &HostRuntime, moves: &[Move]) -> io::Result<()> {
     }
 }
 
-/// Does what a line says: one more move, or the end of the list.
+/// Executes a line: one more move, or the end of the list.
 fn take(rt: &HostRuntime, moves: &mut Vec<Move>, line: &str) -> io::Result<()> {
     match read_line(rt.alloc(), line) {
         Some(Line::Move(next)) => moves.push(next)?,
