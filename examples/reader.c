@@ -1,10 +1,11 @@
-/* Prints the canonical text of each event of a plain stream, a line each, and then the fault, if there is one:
+/* Prints the canonical text of each event of a plain stream on a line of its own, and then the
+ * fault, if there is one:
  * cc reader.c $(pkg-config --cflags --libs mesosev) */
 #include <mesosev.h>
 #include <stdio.h>
 
-/* A line; an empty one of an event that has no text. */
-static void tell(const mes_event *event)
+/* Prints a line, which is empty for an event without a text. */
+static void print_text(const mes_event *event)
 {
     if (event->length > 0)
         fwrite(event->text, 1, event->length, stdout);
@@ -25,12 +26,12 @@ int main(void)
         for (at = 0, status = MES_EVENT; MES_IS_EVENT(status); at += used) {
             status = mes_decoder_next(decoder, piece + at, length - at, &used, &event);
             if (MES_IS_EVENT(status))
-                tell(&event);
+                print_text(&event);
         }
     if (status == MES_MORE && !ferror(stdin))
         status = mes_decoder_finish(decoder, &event);
     if (MES_IS_FAULT(status))
-        tell(&event);
+        print_text(&event);
     mes_decoder_free(decoder);
     return status == MES_END ? 0 : 1;
 }

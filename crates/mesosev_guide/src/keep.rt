@@ -1,4 +1,4 @@
-//! A session, kept by what a framework hears and says.
+//! A session, maintained by the events that are received and the calls that are made.
 
 use mes_frame::Limit;
 use mes_model::Part;
@@ -7,7 +7,8 @@ use mes_session::{Refusal, Session};
 use std::alloc::Global;
 use std::io;
 
-/// What comes from a master: a SUBSCRIBED, the OFFERS of two agents, an UPDATE that owes an acknowledgement, and a text that is cut off.
+/// What a master sends: a SUBSCRIBED, the OFFERS of two agents, an UPDATE that requires an acknowledgement,
+/// and a text that is cut off.
 pub(crate) const TEXTS: [&str; 4] = [
     r#"{"type":"SUBSCRIBED","subscribed":{"framework_id":{"value":"F1"},"heartbeat_interval_seconds":15.0}}"#,
     r#"{"type":"OFFERS","offers":{"offers":[{"id":{"value":"O1"},"framework_id":{"value":"F1"},"agent_id":{"value":"A1"},"hostname":"h"},{"id":{"value":"O2"},"framework_id":{"value":"F1"},"agent_id":{"value":"A2"},"hostname":"g"}]}}"#,
@@ -15,27 +16,27 @@ pub(crate) const TEXTS: [&str; 4] = [
     r#"{"type":"HEARTBEAT""#,
 ];
 
-/// Hears what comes from a master, and accepts an offer.
+/// Applies what a master sent to a new session, and accepts an offer.
 pub(crate) fn keep_session(rt: &HostRuntime, texts: &[&str]) -> io::Result<()> {
     let mut session = Session::new(rt.alloc());
     for text in texts {
-        tell_heard(rt, &mut session, text)?;
+        report_received(rt, &mut session, text)?;
     }
-    tell_accepted(rt, &mut session)?;
-    tell_session(rt, &session)
+    report_accepted(rt, &mut session)?;
+    report_session(rt, &session)
 }
 
-/// Hears a text, and tells what the session has then.
-fn tell_heard(rt: &HostRuntime, session: &mut Session, text: &str) -> io::Result<()> {
-    match hear(rt.alloc(), session, text.as_bytes()) {
-        Ok(true) => tell_session(rt, session),
+/// Applies a text to the session, and prints the state of the session.
+fn report_received(rt: &HostRuntime, session: &mut Session, text: &str) -> io::Result<()> {
+    match receive(rt.alloc(), session, text.as_bytes()) {
+        Ok(true) => report_session(rt, session),
         Ok(false) => println!(rt; "no event: {text}"),
         Err(refusal) => println!(rt; "an event is lost: {refusal:?}"),
     }
 }
 
-/// Accepts an offer, and tells the call.
-fn tell_accepted(rt: &HostRuntime, session: &mut Session) -> io::Result<()> {
+/// Accepts an offer, and prints the call.
+fn report_accepted(rt: &HostRuntime, session: &mut Session) -> io::Result<()> {
     match accept_first(rt.alloc(), session) {
         Ok(Some(call)) => report_call(rt, &call),
         Ok(None) => println!(rt; "no offer is in hand"),
@@ -43,8 +44,9 @@ fn tell_accepted(rt: &HostRuntime, session: &mut Session) -> io::Result<()> {
     }
 }
 
-/// Hears an event that came from a master. Whether the text is one: no event is lost without a word.
-fn hear(alloc: Global, session: &mut Session, text: &[u8]) -> Result<bool, Refusal> {
+/// Applies an event to the session. Returns whether the text is an event; no event is lost
+/// silently.
+fn receive(alloc: Global, session: &mut Session, text: &[u8]) -> Result<bool, Refusal> {
     match Event::read_record(alloc, text) {
         Ok(event) => {
             session.heard(&event)?;
@@ -55,7 +57,7 @@ fn hear(alloc: Global, session: &mut Session, text: &[u8]) -> Result<bool, Refus
     }
 }
 
-/// Accepts the first offer in hand without a task; none where no offer is in hand.
+/// Accepts the first outstanding offer without a task. Returns `None` if there is none.
 fn accept_first(alloc: Global, session: &mut Session) -> Result<Option<Call>, Refusal> {
     let Some(offer) = session.hand_at(0) else {
         return Ok(None);
@@ -64,13 +66,13 @@ fn accept_first(alloc: Global, session: &mut Session) -> Result<Option<Call>, Re
     Ok(Some(session.accept(&[id], &[], None)?))
 }
 
-/// Tells how many offers are in hand, and how many updates are owed an acknowledgement.
-fn tell_session(rt: &HostRuntime, session: &Session) -> io::Result<()> {
+/// Prints the number of outstanding offers and of unacknowledged updates.
+fn report_session(rt: &HostRuntime, session: &Session) -> io::Result<()> {
     let (in_hand, owed) = (session.hand_len(), session.owed_len());
     println!(rt; "{in_hand} in hand, {owed} owed")
 }
 
-/// Tells a call by its canonical text, which is what is sent to the master.
+/// Prints the canonical text of a call, which is what is sent to the master.
 fn report_call(rt: &HostRuntime, call: &Call) -> io::Result<()> {
     match call.canon(rt.alloc(), Limit::USUAL) {
         Ok(bytes) => println!(rt; "{}", str::from_utf8(bytes.as_slice()).unwrap_or("?")),

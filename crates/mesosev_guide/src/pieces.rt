@@ -1,4 +1,4 @@
-//! A chunked body, read as its pieces come.
+//! A chunked body, decoded as its pieces arrive.
 
 use mes_frame::Limit;
 use mes_msg::Event;
@@ -11,10 +11,10 @@ pub(crate) const BODY: &[u8] = b"17\r\n20\n{\"type\":\"HEARTBEAT\"}\r\n\
     \"agent_id\":{\"value\":\"A1\"},\"hostname\":\"h\"}]}}\r\n\
     0\r\n\r\n";
 
-/// How many bytes a piece has at most: so the body comes in two, and the cut is inside the second record.
+/// The most bytes of a piece. The body arrives in two pieces, cut inside the second record.
 const PIECE: usize = 100;
 
-/// Reads a chunked body as its pieces come, and tells how it ended.
+/// Decodes a chunked body as its pieces arrive, and prints how it ended.
 pub(crate) fn read_pieces(rt: &HostRuntime, body: &[u8]) -> io::Result<()> {
     let mut decoder = Decoder::new(rt.alloc(), Limit::USUAL);
     for piece in body.chunks(PIECE) {
@@ -29,7 +29,8 @@ pub(crate) fn read_pieces(rt: &HostRuntime, body: &[u8]) -> io::Result<()> {
     }
 }
 
-/// Takes a piece of a chunked body, and tells of each event whose record ends in it. Whether more is wanted.
+/// Decodes a piece of a chunked body, and prints a line for each event that ends in it.
+/// Returns whether the decoder needs more input.
 fn take_piece(rt: &HostRuntime, decoder: &mut Decoder, piece: &[u8]) -> io::Result<bool> {
     let mut rest = piece;
     // Each event uses a byte at least, so a piece has no more events than bytes.
@@ -45,7 +46,7 @@ fn take_piece(rt: &HostRuntime, decoder: &mut Decoder, piece: &[u8]) -> io::Resu
     Ok(true)
 }
 
-/// Tells of an event: how many offers it has, or that it is another one.
+/// Prints how many offers an event has, or that it is another event.
 fn report_event(rt: &HostRuntime, event: &Event) -> io::Result<()> {
     match event {
         Event::Offers(offers) => println!(rt; "offers: {}", offers.as_slice().len()),
