@@ -6,7 +6,7 @@ _mesosev_commands() {
   echo check show convert replay relog serve subscribe loopback help
 }
 
-# _mesosev_options COMMAND: its options; of no command those of mesosev alone
+# _mesosev_options COMMAND: prints its options, or without a command those of mesosev itself
 _mesosev_options() {
   case $1 in
     check | show) echo --chunked --limit ;;
@@ -19,12 +19,12 @@ _mesosev_options() {
   [ "$1" = help ] || echo -h --help -V --version
 }
 
-# The first word behind mesosev, where it is not the one that is written.
+# Prints the first argument, unless it is the word that is being completed.
 _mesosev_command() {
   [ "$COMP_CWORD" -eq 1 ] || echo "${COMP_WORDS[1]}"
 }
 
-# _mesosev_files START: the files behind <
+# _mesosev_files START: completes the file after <
 _mesosev_files() {
   compopt -o filenames 2>/dev/null
   mapfile -t COMPREPLY < <(compgen -f -- "$1")
@@ -34,7 +34,7 @@ _mesosev() {
   local word=${COMP_WORDS[COMP_CWORD]} before=${COMP_WORDS[COMP_CWORD - 1]}
   local command words
   COMPREPLY=()
-  # Of no option the values are known.
+  # No option has a list of known values.
   case $before,$word in
     *,'<') _mesosev_files '' && return ;;
     '<,'*) _mesosev_files "$word" && return ;;

@@ -17,7 +17,8 @@ pub fn command<'a>(alloc: Global) -> Result<Command<'a>, AllocError>
     reading_command(
         alloc,
         "check",
-        "Check that each record of standard input is an event, and count them",
+        "Check that each record of standard input is an event, and count the events",
+        "Example: mesosev check --chunked < FILE",
     )
 }
 

@@ -65,23 +65,24 @@ fn bare_command<'a>(alloc: Global) -> Command<'a>
         .propagate_version(true)
         .about("Read and write the event stream of a Mesos scheduler (v1, JSON, RecordIO)")
         .after_help(
-            "The stream is read from standard input, a file by <: mesosev check < FILE\n\
-            Exit status: 0 good, 1 a fault or an output that fails, 2 bad words",
+            "Input is read from standard input: mesosev check < FILE\n\
+            Exit status: 0 success, 1 a fault or a failed output, 2 a usage error",
         )
         .subcommand_required(true)
 }
 
-/// `NAME [--chunked] [--limit N]`: a subcommand that reads a stream.
+/// `NAME [--chunked] [--limit N]`: a subcommand that reads a stream. `example` ends its help text.
 pub fn reading_command<'a>(
     alloc: Global,
     name: &'a str,
     about: &'a str,
+    example: &'a str,
 ) -> Result<Command<'a>, AllocError>
     ensures { IfOk result (IsCommand (reading_app name.entry.now)) }
 {
     Command::new(alloc, name)
         .about(about)
-        .after_help("The stream is read from standard input, a file by < FILE")
+        .after_help(example)
         .arg(chunked_option(alloc))?
         .arg(limit_option(alloc))
 }

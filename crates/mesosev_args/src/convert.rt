@@ -19,10 +19,11 @@ pub fn command<'a>(alloc: Global) -> Result<Command<'a>, AllocError>
         alloc,
         "convert",
         "Read all events of standard input, and write them again in canonical form",
+        "Example: mesosev convert --most 4096 < FILE > stream.chunked",
     )?
     .arg(most_option(
         alloc,
-        max_chunk!(concat "Output is a chunked body, not plain RecordIO, in chunks of M bytes, 1 to "),
+        max_chunk!(concat "Write a chunked body, not plain RecordIO, in chunks of M bytes, 1 to "),
     ))
 }
 

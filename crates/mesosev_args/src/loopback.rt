@@ -19,9 +19,9 @@ pub fn command<'a>(alloc: Global) -> Result<Command<'a>, AllocError>
 {
     Command::new(alloc, "loopback")
         .about(
-            "Send the events of standard input through a socket, from a test master to a scheduler, and print them",
+            "Send the events of standard input from a test master to a scheduler over a socket, and print them",
         )
-        .after_help("The events are read from standard input, as plain RecordIO")
+        .after_help("Input is plain RecordIO\nExample: mesosev loopback < FILE")
         .arg(usual_most_option(alloc))
 }
 

@@ -15,8 +15,8 @@ pub fn command<'a>(alloc: Global) -> Result<Command<'a>, AllocError>
     ensures { IfOk result (IsCommand relog_app) }
 {
     Command::new(alloc, "relog")
-        .about("Read the session log of standard input, and write it in version 2")
-        .after_help("The log is read from standard input, a file by < FILE")
+        .about("Read the session log of standard input, and write it again in version 2")
+        .after_help("Example: mesosev relog < FILE > session.log")
         .arg(limit_option(alloc))
 }
 

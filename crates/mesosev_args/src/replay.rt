@@ -15,8 +15,8 @@ pub fn command<'a>(alloc: Global) -> Result<Command<'a>, AllocError>
     ensures { IfOk result (IsCommand replay_app) }
 {
     Command::new(alloc, "replay")
-        .about("Replay the session log of standard input, and tell what is in hand and owed")
-        .after_help("The log is read from standard input, a file by < FILE")
+        .about("Replay the session log of standard input, and print the state of the session")
+        .after_help("Example: mesosev replay < FILE")
         .arg(limit_option(alloc))
 }
 

@@ -20,10 +20,11 @@ pub fn command<'a>(alloc: Global) -> Result<Command<'a>, AllocError>
 {
     Command::new(alloc, "serve")
         .about(
-            "Serve a test master on 127.0.0.1 that gives each scheduler the events of standard input",
+            "Serve a test master on 127.0.0.1 that sends the events of standard input to each scheduler",
         )
         .after_help(
-            "The events are read from standard input, as plain RecordIO, before the first connection",
+            "Input is plain RecordIO, read to its end before the first connection\n\
+            Example: mesosev serve --port 5050 --count 10 < FILE",
         )
         .arg(port_option(alloc))?
         .arg(count_option(alloc))?
@@ -41,7 +42,7 @@ fn port_option<'a>(alloc: Global) -> Arg<'a>
         "P",
         MIN_PORT,
         MAX_PORT,
-        "Port that it listens on, 1 to 65535",
+        "Port to listen on, 1 to 65535",
     )
     .required(true)
 }
@@ -57,7 +58,7 @@ fn count_option<'a>(alloc: Global) -> Arg<'a>
         "C",
         MIN_CONNECTIONS,
         MAX_CONNECTIONS,
-        "Connections that it takes, one after the other, 1 to 1000",
+        "Number of connections to accept, one at a time, 1 to 1000",
     )
     .required(true)
 }
@@ -71,7 +72,7 @@ fn stream_option<'a>(alloc: Global) -> Arg<'a>
         alloc,
         "stream",
         "UUID",
-        "Id of the first stream; the next ones count up by one",
+        "Id of the first stream; the ids of later ones count up by one",
     )
     .default_value(DEFAULT_STREAM)
 }

@@ -17,7 +17,8 @@ pub fn command<'a>(alloc: Global) -> Result<Command<'a>, AllocError>
     reading_command(
         alloc,
         "show",
-        "Print each event of standard input as it comes",
+        "Print each event of standard input as it arrives",
+        "Example: mesosev show < FILE",
     )
 }
 

@@ -21,7 +21,8 @@ pub fn command<'a>(alloc: Global) -> Result<Command<'a>, AllocError>
     ensures { IfOk result (IsCommand subscribe_app) }
 {
     Command::new(alloc, "subscribe")
-        .about("Subscribe to a master, and print its events as they come")
+        .about("Subscribe to a master, and print its events as they arrive")
+        .after_help("Example: mesosev subscribe --to 127.0.0.1:5050 --user root --name n")
         .arg(to_option(alloc))?
         .arg(user_option(alloc))?
         .arg(name_option(alloc))?
@@ -33,7 +34,7 @@ fn to_option<'a>(alloc: Global) -> Arg<'a>
     ensures rule { rule_of result ≡ to_rule }
     ensures local { result.global ≡ false }
 {
-    text_option(alloc, "to", "ADDR", "Where the master listens: HOST:PORT").required(true)
+    text_option(alloc, "to", "ADDR", "Address of the master, HOST:PORT").required(true)
 }
 
 // `--user U`
@@ -63,7 +64,7 @@ fn reads_option<'a>(alloc: Global) -> Arg<'a>
         "R",
         MIN_SUBSCRIBE_READS,
         MAX_SUBSCRIBE_READS,
-        "Most reads of the stream, 0 to 4294967295",
+        "Largest number of reads of the stream, 0 to 4294967295",
     )
     .default_value(DEFAULT_SUBSCRIBE_READS)
 }
