@@ -1,4 +1,4 @@
--- What decoding the text at a place says of the bytes that are read there.
+-- The result of decoding the text at a place, for the bytes that are read there.
 use Rattle.std.proofs.Common.{◌≡◌, ℕ, List, refl, subst}
 use Rattle.std.specs.Prelude.{Ok, Err}
 use Rattle.base64.specs.declared.decode.DecodeError.{DecodeError}

@@ -1,4 +1,4 @@
--- The rows of a choice: what was found in a place of a list, and a fault that a `?` hands on.
+-- The rows of a choice: what was found from an index on, and a fault that `?` returns.
 use Rattle.std.proofs.Common.{◌≡◌, ℕ, ◌<◌, List, length, get_or, sym, ◌∙◌, subst}
 use Rattle.std.proofs.lemmas.List.{get_or_default}
 use Rattle.std.specs.Prelude.{Result, Ok, Err, IfErr}
@@ -27,13 +27,13 @@ gives_fault {V} expected read e (Err x) is fails same = by_fault x (subst (λ (y
   by_fault (Field f) fails = same f fails
   by_fault NoMemory fails = tt
 
--- a fault that a `?` hands on to an answer of another type
+-- a fault that `?` returns as a result of another type
 pub gives_told_on : {V W X : Type 0} (read : Result V FieldFault) (go : V → Result W FieldFault) (e : PartFault) (r : Result X PartFault)
     → IsErrAnd r (λ x. x ≡ e) → Gives {V = V} read (Err e) → IfErr r (λ x. Gives {V = W} (read >>= go) (Err x))
 gives_told_on read go e (Ok v) is fails = absurd is
 gives_told_on read go e (Err x) is fails = gives_bound read go e (Err x) is fails
 
--- the same behind a row that was read
+-- the same after a row that was read
 pub told_behind : {U W X : Type 0} (first : Result U FieldFault) (rest : U → Result W FieldFault) (u : U) (r : Result X PartFault)
     → first ≡ Ok u → IfErr r (λ x. Gives {V = W} (rest u) (Err x)) → IfErr r (λ x. Gives {V = W} (first >>= rest) (Err x))
 told_behind {W = W} first rest u r is reported =

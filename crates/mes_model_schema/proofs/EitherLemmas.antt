@@ -1,4 +1,4 @@
--- A list in either of its forms, by what was found at its place.
+-- A list in either form, by what was found at its place.
 use Rattle.std.proofs.Common.{◌≡◌, ℕ, Bool, true, false, List, Option, Some, None, refl, sym, ◌∙◌, subst, cond}
 use Rattle.std.specs.Option.{is_some}
 use Rattle.std.specs.Prelude.{Result}
@@ -29,12 +29,10 @@ array_found (Some xs) (array ts) h = refl
 array_found (Some xs) (object ms) h = absurd h
 
 module _ {V : Type 0} (n : List ℕ) (k : Kind V) (at : List Place) (t : Tree) (o : Option (List Token)) (r : Result (List V) PartFault) where
-  -- where items were found, the array is read
   pub gives_array : FindsItems o (as_items t) → is_some o ≡ true → Gives ((list_of k).read at t) r → Gives ((either_list n k).read at t) r
   gives_array found is gives =
       subst (λ (b : Bool). Gives (cond b ((list_of k).read at t) ((message (many n k)).read at t)) r) (sym (array_found o t found ∙ is)) gives
 
-  -- where none were, the object is
   pub gives_object : FindsItems o (as_items t) → is_some o ≡ false → Gives ((message (many n k)).read at t) r → Gives ((either_list n k).read at t) r
   gives_object found is gives =
       subst (λ (b : Bool). Gives (cond b ((list_of k).read at t) ((message (many n k)).read at t)) r) (sym (array_found o t found ∙ is)) gives

@@ -1,4 +1,4 @@
--- The first fault of a message, put together row by row.
+-- The first fault of a message, composed row by row.
 use Rattle.std.proofs.Common.{inl, inr, ◌↔◌, ℕ, List}
 use Rattle.mes_json.specs.Tree.{Tree, Members}
 use Rattle.mes_model_schema.specs.Paths.{Place}
@@ -34,7 +34,7 @@ then_have {F} {G} {r} {s} {own} {later} lawful first more = record { just = λ a
   from at ms f (inl h) = (both at ms f).1 (inl ((first.just at ms f).1 h))
   from at ms f (inr h) = (both at ms f).1 (inr (h.0, (more.just at ms f).1 h.1))
 
--- rows of one member, which are the last
+-- rows of one member that are the last ones
 pub one_need : {V : Type 0} (n : List ℕ) (k : Kind V) → RowsHave (need n k) (NeedBreaks k n)
 one_need n k = record { just = need_breaks k n }
 

@@ -1,4 +1,4 @@
--- The rows of an object, found member by member.
+-- The rows of an object are found member by member.
 use Rattle.std.proofs.Common.{◌≡◌, ◌||◌, ℕ, zero, suc, ◌<◌, ◌≤◌, inl, inr, set, Bool, true, false, List, [], ◌∷◌, ◌++◌, length, get_or, cond, bytes_eq, Some, None, refl, sym, ◌∙◌, ap, subst, arith, append-nil, append_assoc, length-append}
 use Rattle.std.proofs.lemmas.Grind.{common_steps}
 use Rattle.std.proofs.lemmas.List.{get_or-set_same, get_or-set_other}
@@ -39,7 +39,7 @@ no_members_found at (object ms) h = absurd h
 
 -- ---- one name
 
--- of all values, those before the rest were found
+-- the values found so far are all but the rest
 abbrev pub Follows : Found → List Tree → List Tree → Type 0
 Follows f all rest = (ts : List Tree) × IsFound f ts × (all ≡ ts ++ rest)
 
@@ -58,17 +58,15 @@ follows_end f all (ts, h, is) = subst (IsFound f) (sym (is ∙ append-nil ts)) h
 
 -- ---- all names
 
--- of each name, the members before the rest were found
+-- under each name, the members found so far are all but the rest
 abbrev pub FollowEach : List Found → List (List ℕ) → Members → Members → Type 0
 FollowEach fs names ms rest =
     (i : ℕ) → i < length names → Follows (get_or fs i Nothing) (values_named (get_or names i []) ms) (values_named (get_or names i []) rest)
 
--- nothing is found before the first member
 pub follow_each_first : (fs : List Found) (names : List (List ℕ)) (ms : Members) → ((i : ℕ) → i < length names → get_or fs i Nothing ≡ Nothing) → FollowEach fs names ms ms
 follow_each_first fs names ms none i inside =
     subst (λ (f : Found). Follows f (values_named (get_or names i []) ms) (values_named (get_or names i []) ms)) (sym (none i inside)) ([], refl, refl)
 
--- one more member
 pub follow_each_next : (fs gs : List Found) (names : List (List ℕ)) (ms rest : Members) (x : List ℕ × List Token) (following : List Token)
     → ((i : ℕ) → i < length names → get_or gs i Nothing ≡ noted_if (bytes_eq x.0 (get_or names i [])) x.1 (get_or fs i Nothing))
     → NextMember rest (Some x) following → FollowEach fs names ms rest → (others : Members) × BeginsMembers following others × FollowEach gs names ms others
@@ -83,13 +81,12 @@ follow_each_next fs gs names ms (member m t others) x following notes next each 
       (follows_test (bytes_eq x.0 (get_or names i [])) (get_or fs i Nothing) _ _ x.1 t next.1 this),
 )
 
--- no member is left
 pub follow_each_last : (fs : List Found) (names : List (List ℕ)) (ms rest : Members) (following : List Token)
     → NextMember rest None following → FollowEach fs names ms rest → (i : ℕ) → i < length names → IsFound (get_or fs i Nothing) (values_named (get_or names i []) ms)
 follow_each_last fs names ms no_members following next each i inside = follows_end (get_or fs i Nothing) _ (each i inside)
 follow_each_last fs names ms (member m t others) following next each i inside = absurd next
 
--- ---- names that stand once
+-- ---- names that occur once
 names_behind : (n : List ℕ) (ns : List (List ℕ)) (k : ℕ) → is_in n ns ≡ false → k < length ns → bytes_eq (get_or ns k []) n ≡ false
 names_behind n [] k none inside = absurd (omega (arith, inside))
 names_behind n (m ∷ ms) zero none inside = by_test (bytes_eq m n) refl none where
@@ -101,7 +98,6 @@ names_behind n (m ∷ ms) (suc k) none inside = names_behind n ms k (by_test (by
   by_test false h = h
   by_test true h = absurd (cc)
 
--- a member that has one of them has none behind it
 pub named_once : (x : List ℕ) (ns : List (List ℕ)) (i k : ℕ) → distinct ns ≡ true → bytes_eq x (get_or ns i []) ≡ true → i < k → k < length ns → bytes_eq x (get_or ns k []) ≡ false
 named_once x [] i k once is less inside = absurd (omega (arith, inside))
 named_once x (n ∷ ns) i zero once is less inside = absurd (omega (arith, less))
@@ -111,7 +107,6 @@ named_once x (n ∷ ns) zero (suc k) once is less inside =
     let yes : bytes_eq (get_or ns k []) n ≡ true = subst (λ (y : List ℕ). bytes_eq y n ≡ true) (sym (names_equal x n is) ∙ e) (same_name n) in absurd (cc))
 named_once x (n ∷ ns) (suc i) (suc k) once is less inside = named_once x ns i k (distinct_first n ns once).1 is (omega (arith, less)) (omega (arith, inside))
 
--- it is noted under that one alone
 pub noted_once : (fs : List Found) (names : List (List ℕ)) (x : List ℕ) (e : List Token) (place : ℕ) → distinct names ≡ true → place < length names → length names ≤ length fs
     → bytes_eq x (get_or names place []) ≡ true → ((k : ℕ) → k < place → bytes_eq x (get_or names k []) ≡ false)
     → (i : ℕ) → i < length names → get_or (set fs place (noted e (get_or fs place Nothing))) i Nothing ≡ noted_if (bytes_eq x (get_or names i [])) e (get_or fs i Nothing)

@@ -1,4 +1,4 @@
--- The first fault of a label, by its rows.
+-- The first fault of a label, row by row.
 use Rattle.std.proofs.Common.{◌≡◌, ◌⊎◌, inl, inr, ◌↔◌, List}
 use Rattle.std.specs.Prelude.{codes}
 use Rattle.mes_json.specs.Tree.{Tree, Members}

@@ -1,4 +1,4 @@
--- What the vector operations on a block of letters do, lane by lane.
+-- The vector operations on a block of letters, lane by lane.
 use Rattle.std.proofs.Common.{◌≡◌, ℕ, suc, ◌+◌, ◌*◌, ◌/◌, ◌%◌, ◌^◌, ◌==◌, ◌<◌, ◌≤◌, nat_lt, Bool, true, false, not, cond, eqb, leb, ◌&&◌, ◌||◌, List, [], ◌∷◌, map, length, get_or, replicate, bit_and, refl, sym, ap, subst, ◌∙◌, inl, inr, arith, w8, Fits}
 use Rattle.std.proofs.lemmas.Bool.{and_parts, and_from, or_cases, lt-ltb, eq-eqb, eqb-true, ltb-true, lt-leb}
 use Rattle.std.proofs.lemmas.List.{length-map}
@@ -19,7 +19,6 @@ IsBlock v = (length v ≡ 16) × Each1 (Fits w8) v
 abbrev pub down : ℕ → ℕ → ℕ
 down a b = a / 2 ^ b
 
--- a table read at places below 16
 looked_from : (table : List ℕ) (g : ℕ → ℕ) (v : List ℕ) (i : ℕ) → i + length v ≤ 16 → Each1 (Fits w8) v → ((x : ℕ) → x < 256 → g x < 16)
     → swz_l w8 16 table i (map g v) ≡ map (λ x. get_or table (g x) 0) v
 looked_from table g [] i room fits small = refl
@@ -33,7 +32,6 @@ pub looked_up : (table : List ℕ) (g : ℕ → ℕ) (v js : List ℕ) → IsBlo
     → swz_l w8 16 table 0 js ≡ map (λ x. get_or table (g x) 0) v
 looked_up table g v js block e small = ap (λ (l : List ℕ). swz_l w8 16 table 0 l) e ∙ looked_from table g v 0 (omega (arith, block.0)) block.1 small
 
--- such places are all in the table
 each_small : (g : ℕ → ℕ) (v : List ℕ) → Each1 (Fits w8) v → ((x : ℕ) → x < 256 → g x < 16) → Each1 (λ j. j < 16) (map g v)
 each_small g [] fits small = tt
 each_small g (x ∷ v) fits small = (small x fits.0.fits, each_small g v fits.1 small)
@@ -43,7 +41,7 @@ places_ok g v js block e small =
     subst (λ (l : List ℕ). SwzOk w8 16 16 0 l) (sym e)
     (SwzOk-from_below w8 16 1 16 0 (map g v) refl (omega (arith, length-map v g, block.0)) (each_small g v block.1 small))
 
--- ---- the places that are looked up
+-- ---- the indexes that are looked up
 
 abbrev pub low_place : ℕ → ℕ
 low_place x = bit_and x 15
@@ -98,7 +96,7 @@ is_letter c = nat_lt (value_of c) 64 && (letter_of (value_of c) == c)
 letter_by_test : (c : ℕ) → is_letter c ≡ true → IsLetter c
 letter_by_test c e = let h = and_parts _ _ e in (ltb-true _ _ h.0, eqb-true _ _ h.1)
 
--- what is looked up of a byte that is no letter has a bit
+-- the bits that both entries of a byte have: none only for a letter
 abbrev pub fault_of : ℕ → ℕ
 fault_of x = bit_and (get_or BY_LOW (low_place x) 0) (get_or BY_HIGH (high_place x) 0)
 
@@ -114,7 +112,7 @@ no_fault c small none = elim (or_cases (not (fault_of c == 0)) (is_letter c) (al
   | inr letter ↦ letter_by_test c letter
 ]
 
--- what is added to a letter makes its value
+-- the sum of a letter and its entry is its value
 abbrev pub value_lane : ℕ → ℕ
 value_lane x = (x + get_or TO_VALUE (row_place x) 0) % 256
 

@@ -1,4 +1,4 @@
--- What the tables of letters hold, found by computing, and what the letters of a group add.
+-- The entries of the tables of letters, by computing, and the sum of a group of them.
 use Rattle.std.proofs.Common.{◌≡◌, ℕ, ◌+◌, ◌*◌, ◌/◌, ◌%◌, ◌==◌, ◌<◌, ◌≤◌, nat_lt, Bool, true, ◌&&◌, ◌||◌, List, [], ◌∷◌, ◌++◌, length, take, drop, slice_index, ◌⊎◌, inl, inr, refl, sym, ap, subst, ◌∙◌, arith}
 use Rattle.std.proofs.lemmas.Bool.{and_parts, or_cases, eqb-true, ltb-true}
 use Rattle.std.proofs.lemmas.List.{drop_more, length-take-le, take-append-le, take-append-drop, take_all, take-take}
@@ -19,14 +19,14 @@ use Rattle.mes_model_schema.specs.declared.letters.TheConstants.{NO, FIRST, SECO
 abbrev pub letters : List ℕ
 letters = engine_symbols standard
 
--- the byte adds NO, or is the letter of this value and adds that part of it
+-- the entry of a byte is NO, or the part of the value of the letter that it is
 abbrev pub adds : List ℕ → (ℕ → ℕ) → (ℕ → ℕ) → ℕ → Bool
 adds table part value byte =
     (slice_index table byte == NO)
     || (nat_lt (value (slice_index table byte)) 64 && ((slice_index table byte == part (value (slice_index table byte)))
     && (slice_index letters (value (slice_index table byte)) == byte)))
 
--- the same as a fact
+-- `adds` as a proposition
 abbrev pub Adds : (ℕ → ℕ) → ℕ → ℕ → Type 0
 Adds part byte n = (n ≡ NO) ⊎ ((v : ℕ) × (v < 64) × (n ≡ part v) × (slice_index letters v ≡ byte))
 
@@ -67,12 +67,10 @@ fourth_adds = added FOURTH fourth_part (λ n. n / 65536) refl
 
 -- ---- a group
 
--- the encoding of three bytes
 encoded_three : (x y z : ℕ) → encode_of standard (x ∷ y ∷ z ∷ []) ≡ encode_group letters x y z
 unfolding encode_symbols
 encoded_three x y z = refl
 
--- the encodings of one byte and of two, with their padding
 encoded_one : (x : ℕ) → encode_of standard (x ∷ []) ≡ slice_index letters (x / 4) ∷ slice_index letters (x % 4 * 16) ∷ 61 ∷ 61 ∷ []
 unfolding encode_symbols
 encoded_one x = refl
@@ -81,7 +79,7 @@ encoded_two : (x y : ℕ) → encode_of standard (x ∷ y ∷ []) ≡ slice_inde
 unfolding encode_symbols
 encoded_two x y = refl
 
--- four letters' values are those of the bytes of what they add
+-- the values of four letters are those of the bytes of their sum
 four_values : (v0 v1 v2 v3 n : ℕ) → v0 < 64 → v1 < 64 → v2 < 64 → v3 < 64 → n ≡ first_part v0 + second_part v1 + third_part v2 + fourth_part v3
     → encode_of standard (take 3 (to_le_bytes w32 n)) ≡ slice_index letters v0 ∷ slice_index letters v1 ∷ slice_index letters v2 ∷ slice_index letters v3 ∷ []
 four_values v0 v1 v2 v3 n l0 l1 l2 l3 e =
@@ -94,7 +92,7 @@ four_values v0 v1 v2 v3 n l0 l1 l2 l3 e =
     let e3 : z % 64 ≡ v3 = omega arith in
     encoded_three x y z ∙ rw (e0, e1, e2, e3) refl
 
--- four bytes that add less than NO together are letters, and encode the bytes of that
+-- four bytes with a sum below NO are letters, and encode the bytes of the sum
 letters_encode : (a b c d n m0 m1 m2 m3 : ℕ) → Adds first_part a m0 → Adds second_part b m1 → Adds third_part c m2 → Adds fourth_part d m3
     → n ≡ m0 + m1 + m2 + m3 → n < NO → a ∷ b ∷ c ∷ d ∷ [] ≡ encode_of standard (take 3 (to_le_bytes w32 n))
 letters_encode a b c d n m0 m1 m2 m3 (inl none) f1 f2 f3 e less = absurd (omega arith)
@@ -105,11 +103,9 @@ letters_encode a b c d n m0 m1 m2 m3 (inr f0) (inr f1) (inr f2) (inr f3) e less 
     let sum : n ≡ first_part f0.0 + second_part f1.0 + third_part f2.0 + fourth_part f3.0 = rw (← f0.2, ← f1.2, ← f2.2, ← f3.2) e in
     rw (← f0.3, ← f1.3, ← f2.3, ← f3.3) (sym (four_values f0.0 f1.0 f2.0 f3.0 n f0.1 f1.1 f2.1 f3.1 sum))
 
--- what four bytes add, by the tables
 abbrev pub sum_of : ℕ → ℕ → ℕ → ℕ → ℕ
 sum_of a b c d = slice_index FIRST a + slice_index SECOND b + slice_index THIRD c + slice_index FOURTH d
 
--- no byte adds more than NO
 at_most : (part : ℕ → ℕ) (byte n : ℕ) → ((v : ℕ) → v < 64 → part v ≤ NO) → Adds part byte n → n ≤ NO
 at_most part byte n bound (inl none) = omega arith
 at_most part byte n bound (inr f) = omega (arith, bound f.0 f.1)
@@ -123,7 +119,6 @@ entries_bound a b c d la lb lc ld = (
   at_most fourth_part d _ (λ v less. omega arith) (fourth_adds d ld),
 )
 
--- the four bytes at a place of a text
 four_at : (text : List ℕ) (at : ℕ) → at + 4 ≤ length text
     → take 4 (drop at text) ≡ slice_index text at ∷ slice_index text (at + 1) ∷ slice_index text (at + 2) ∷ slice_index text (at + 3) ∷ []
 four_at text at fits =
@@ -135,7 +130,6 @@ four_at text at fits =
     let three : at + 1 + 1 + 1 ≡ at + 3 = omega arith in
     rw (a, b, c, d, three, two) refl
 
--- the group at a place of a text
 pub group_encodes : (text : List ℕ) (at n : ℕ) → IsBytes text → at + 4 ≤ length text
     → n ≡ sum_of (slice_index text at) (slice_index text (at + 1)) (slice_index text (at + 2)) (slice_index text (at + 3)) → n < NO
     → take 4 (drop at text) ≡ encode_of standard (take 3 (to_le_bytes w32 n))
@@ -145,7 +139,7 @@ group_encodes text at n small fits e less =
 
 -- ---- the last group
 
--- two letters and the padding of one byte
+-- two letters and the padding of a group of one byte
 two_letters : (a b n m0 m1 : ℕ) → Adds first_part a m0 → Adds second_part b m1 → n ≡ m0 + m1 → n < 256
     → a ∷ b ∷ 61 ∷ 61 ∷ [] ≡ encode_of standard (take 1 (to_le_bytes w32 n))
 two_letters a b n m0 m1 (inl none) f1 e less = absurd (omega arith)
@@ -159,7 +153,7 @@ two_letters a b n m0 m1 (inr f0) (inr f1) e less =
     let e1 : x % 4 * 16 ≡ f1.0 = omega arith in
     rw (← f0.3, ← f1.3) (sym (encoded_one x ∙ rw (e0, e1) refl))
 
--- three letters and the padding of two bytes
+-- three letters and the padding of a group of two bytes
 three_letters : (a b c n m0 m1 m2 : ℕ) → Adds first_part a m0 → Adds second_part b m1 → Adds third_part c m2 → n ≡ m0 + m1 + m2 → n < 65536
     → a ∷ b ∷ c ∷ 61 ∷ [] ≡ encode_of standard (take 2 (to_le_bytes w32 n))
 three_letters a b c n m0 m1 m2 (inl none) f1 f2 e less = absurd (omega arith)
@@ -177,7 +171,6 @@ three_letters a b c n m0 m1 m2 (inr f0) (inr f1) (inr f2) e less =
     let e2 : y % 16 * 4 ≡ f2.0 = omega arith in
     rw (← f0.3, ← f1.3, ← f2.3) (sym (encoded_two x y ∙ rw (e0, e1, e2) refl))
 
--- a text of four bytes
 text_of_four : (text : List ℕ) → length text ≡ 4 → text ≡ slice_index text 0 ∷ slice_index text 1 ∷ slice_index text 2 ∷ slice_index text 3 ∷ []
 text_of_four text four = sym (take_all 4 text (omega arith)) ∙ four_at text 0 (omega arith)
 
@@ -193,9 +186,9 @@ pub two_bytes : (text : List ℕ) (n : ℕ) → IsBytes text → length text ≡
 two_bytes text n small four p3 e less =
     text_of_four text four ∙ rw p3 (three_letters _ _ _ n _ _ _ (first_adds _ (small 0)) (second_adds _ (small 1)) (third_adds _ (small 2)) e less)
 
--- ---- a front of groups
+-- ---- the groups before the last one
 
--- the encoding of a front of bytes that are written over, up to so many of the new ones
+-- the encoding of m bytes followed by n new ones
 pub written_front : (octets ys : List ℕ) (m n k : ℕ) → m % 3 ≡ 0 → m ≤ length octets → n ≤ length ys
     → encode_of standard (take (m + n) (put_mid m k octets ys)) ≡ encode_of standard (take m octets) ++ encode_of standard (take n ys)
 written_front octets ys m n k whole room few =
@@ -207,7 +200,6 @@ written_front octets ys m n k whole room few =
     let all : take (m + n) (put_mid m k octets ys) ≡ front ++ take n ys = subst (λ (i : ℕ). take (i + n) (front ++ (ys ++ rest)) ≡ front ++ take n ys) len cut in
     ap (encode_of standard) all ∙ encode_of-append standard front (take n ys) (omega arith)
 
--- one group more
 pub front_more : (text octets ys : List ℕ) (g k : ℕ) → 3 * g ≤ length octets
     → take (4 * g) text ≡ encode_of standard (take (3 * g) octets)
     → take 4 (drop (4 * g) text) ≡ encode_of standard (take 3 ys) → 3 ≤ length ys
@@ -217,7 +209,6 @@ front_more text octets ys g k room front group few =
     let n3 : 3 * (g + 1) ≡ 3 * g + 3 = omega arith in
     rw (n4, n3, take-add (4 * g) 4 text, front, group) (sym (written_front octets ys (3 * g) 3 k (omega arith) room few))
 
--- the last group behind the front
 pub front_ends : (text octets ys bytes : List ℕ) (g n k : ℕ) → 3 * g ≤ length octets
     → take (4 * g) text ≡ encode_of standard (take (3 * g) octets)
     → drop (4 * g) text ≡ encode_of standard (take n bytes) → n ≤ 3 → length ys ≡ 3 → ys ≡ take 3 bytes

@@ -1,4 +1,4 @@
--- What the text of a number at a place says of the value that is read there; and that what is written is a number.
+-- The text of a number at a place, for the value that is read there; and written texts are numbers.
 use Rattle.std.proofs.Common.{◌≡◌, ℕ, ◌<◌, ◌^◌, List, sym, subst}
 use Rattle.std.specs.Prelude.{Ok, ℤ, FitsSigned, decimal}
 use Rattle.std.specs.Fmt.{signed_decimal}
@@ -27,7 +27,7 @@ pub whole_out_of_range : (at : List Place) (t : Tree) (text : List ℕ) (f : Num
 whole_out_of_range at t text f is refused =
     subst (λ (u : Tree). whole.read at u ≡ fault at NumberRange) (sym (number_is at t text is)) (whole_refused at text f refused)
 
--- ---- whole numbers of 32 bits and a sign
+-- ---- signed whole numbers of 32 bits
 
 pub signed32_given : (at : List Place) (t : Tree) (text : List ℕ) (v : ℤ) → number_of at t ≡ Ok text → Reads GivesSigned text v → signed32.read at t ≡ Ok v
 unfolding signed32
@@ -50,9 +50,8 @@ pub fixed_out_of_range : (places : ℕ) (at : List Place) (t : Tree) (text : Lis
 fixed_out_of_range places at t text f is refused =
     subst (λ (u : Tree). (fixed places).read at u ≡ fault at NumberRange) (sym (number_is at t text is)) (fixed_refused places at text f refused)
 
--- ---- what is written
+-- ---- written texts
 
--- a text that gives a value is a number
 pub reads_is_number : {X : Type 0} (Gives : Numeral → X → Type 0) (text : List ℕ) (x : X) → Reads Gives text x → IsNumber text
 reads_is_number Gives text x reads = (reads.numeral, reads.spells)
 

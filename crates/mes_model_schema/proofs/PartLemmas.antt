@@ -1,4 +1,4 @@
--- What a fault that is told says of the answer.
+-- The results of reading, by the error that was made.
 use Rattle.std.proofs.Common.{◌≡◌}
 use Rattle.std.specs.Prelude.{Result, Err}
 use Rattle.mes_model_schema.specs.Parts.{Gives, Refuses}
@@ -7,17 +7,17 @@ use Rattle.mes_model_schema.specs.declared.field.FieldFault.{FieldFault}
 use Rattle.mes_model_schema.specs.declared.part.PartFault.{PartFault}
 use Rattle.mes_model_schema.specs.declared.part.PartFault.TheVariants.{Field, NoMemory}
 
--- the fault that is expected
+-- the expected fault
 pub gives_told : {V : Type 0} (expected : Result V FieldFault) (f : FieldFault) (e : PartFault) → Reports f e → expected ≡ Err f → Gives {V = V} expected (Err e)
 gives_told expected f (Field g) reported is = cc
 gives_told expected f NoMemory reported is = tt
 
--- the same, where no other memory is taken
+-- the same, if only the fault was allocated
 pub refuses_told : {V : Type 0} (expected : Result V FieldFault) (f : FieldFault) (e : PartFault) → Reports f e → expected ≡ Err f → Refuses expected e
 refuses_told expected f (Field g) reported is = cc
 refuses_told expected f NoMemory reported is = (f, is)
 
--- a fault that is expected is given
+-- an expected fault is a possible result
 pub gives_refused : {V : Type 0} (expected : Result V FieldFault) (e : PartFault) → Refuses expected e → Gives {V = V} expected (Err e)
 gives_refused expected (Field f) refused = refused
 gives_refused expected NoMemory refused = tt

@@ -1,4 +1,4 @@
--- The first fault of rows: of one member, of rows together, of the row `type`, and of the message that they make.
+-- The first fault of rows: of one row, of consecutive rows, of the row `type`, and of a message.
 use Rattle.std.proofs.Common.{◌≡◌, ◌≢◌, ◌⊎◌, inl, inr, ◌↔◌, ℕ, ◌≤◌, Bool, true, false, List, [], ◌∷◌, length, Option, Some, None, refl, sym, ◌∙◌, subst, cond, bytes_eq, arith}
 use Rattle.std.specs.Prelude.{Result, Ok, Err}
 use Rattle.mes_json.specs.Tree.{Tree, Members}
@@ -20,7 +20,7 @@ use Rattle.mes_model_schema.specs.declared.field.FieldFault.{FieldFault}
 use Rattle.mes_model_schema.specs.declared.field.FieldFaultKind.{FieldFaultKind}
 use Rattle.mes_model_schema.specs.declared.field.FieldFaultKind.TheVariants.{Missing, Twice}
 
--- of a value that is kept in another, the fault stays
+-- converting a value does not change the fault
 pub kept_fault : {A B : Type 0} (r : Result A FieldFault) (go : A → B) (f : FieldFault) → ((r >>= λ x. Ok (go x)) ≡ Err f) ↔ (r ≡ Err f)
 kept_fault {A} {B} r go f = (to, breaks_first r _ f) where
   to : (r >>= λ x. Ok (go x)) ≡ Err f → r ≡ Err f
@@ -48,7 +48,7 @@ null_or_not (string s) = inr ((λ e. absurd (cc)), refl)
 null_or_not (array ts) = inr ((λ e. absurd (cc)), refl)
 null_or_not (object ms) = inr ((λ e. absurd (cc)), refl)
 
--- what a row tells: its member stands twice, or isn't there, or is
+-- the fault of a row: its member is a duplicate, absent, or present with a fault
 abbrev RowTells : {F : Type 0} → List Place → List ℕ → Members → (Option Tree → Result F FieldFault) → FieldFault → Type 0
 RowTells at n ms value f =
     (IsDuplicated ms n × IsAt (below at n) Twice f)
@@ -135,9 +135,8 @@ unfolding flagged objects
 flag_breaks n at ms f =
     may_break at n ms (is_there (below at n)) false f (λ t. Breaks objects (below at n) t f) refl (λ t. kept_fault (members_at (below at n) t) _ f)
 
--- ---- rows together
+-- ---- consecutive rows
 
--- rows that have a law are read as their relation says
 pub exact_rows : {F : Type 0} {r : Table F} {steps : ℕ} → LawfulTable r steps → IsExact r
 exact_rows lawful at ms x = (lawful.sound at ms x, lawful.complete at ms x)
 

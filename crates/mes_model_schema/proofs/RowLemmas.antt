@@ -1,7 +1,8 @@
 -- A row, by the value that was found of its member.
---     looked_value, looked_none            the look-up
---     required_at, optional_at, repeated_at, flagged_at      the row, where a value is there
---     gives_bound, gives_same              a fault that a `?` hands on; refused_bound, refused_same where it takes no other memory
+--     looked_value, looked_none                            the look-up
+--     required_at, optional_at, repeated_at, flagged_at    the row, if there is a value
+--     gives_bound, gives_same                              a fault that `?` returns
+--     refused_bound, refused_same                          the same, if nothing else was allocated
 use Rattle.std.proofs.Common.{◌≡◌, ℕ, true, List, Some, refl, sym, ◌∙◌, ap, subst}
 use Rattle.std.specs.Prelude.{Result, Ok, Err}
 use Rattle.std.specs.Result.{IsErrAnd}
@@ -57,7 +58,7 @@ unfolding flagged
 flagged_at at inner n ms t place is =
     after (lookup at n ms) (is_there (below at n)) (Some t) is ∙ ap (λ (p : List Place). members_at p t >>= λ os. Ok true) (sym place)
 
--- ---- a fault that a `?` hands on
+-- ---- a fault that `?` returns
 
 pub gives_bound : {V W : Type 0} (read : Result V FieldFault) (go : V → Result W FieldFault) (e : PartFault) (r : Result W PartFault)
     → IsErrAnd r (λ x. x ≡ e) → Gives {V = V} read (Err e) → Gives (read >>= go) r
@@ -67,12 +68,12 @@ gives_bound {V} read go e (Err x) is fails = by_fault x (subst (λ (y : PartFaul
   by_fault (Field f) fails = rw fails refl
   by_fault NoMemory fails = tt
 
--- the same, where nothing is read with it
+-- the same, if nothing else is read
 pub gives_same : {V : Type 0} (read : Result V FieldFault) (e : PartFault) (r : Result V PartFault) → IsErrAnd r (λ x. x ≡ e) → Gives {V = V} read (Err e) → Gives read r
 gives_same {V} read e r is fails =
     subst (λ (x : Result V FieldFault). Gives x r) (bound_ok read) (gives_bound read (λ x. Ok x) e r is fails)
 
--- a fault that takes no other memory
+-- a fault that was allocated only
 pub refused_bound : {V W : Type 0} (read : Result V FieldFault) (go : V → Result W FieldFault) (e : PartFault) (r : Result W PartFault)
     → IsErrAnd r (λ x. x ≡ e) → Refuses read e → Gives (read >>= go) r
 refused_bound read go e r is refused = gives_bound read go e r is (gives_refused read e refused)
@@ -80,13 +81,13 @@ refused_bound read go e r is refused = gives_bound read go e r is (gives_refused
 pub refused_same : {V : Type 0} (read : Result V FieldFault) (e : PartFault) (r : Result V PartFault) → IsErrAnd r (λ x. x ≡ e) → Refuses read e → Gives read r
 refused_same read e r is refused = gives_same read e r is (gives_refused read e refused)
 
--- ---- one row after the other
+-- ---- consecutive rows
 
--- what was found, as it was handed on
+-- what was found, passed on
 pub found_as : (f g : Found) (ts : List Tree) → f ≡ g → IsFound g ts → IsFound f ts
 found_as f g ts same found = subst (λ (x : Found). IsFound x ts) (sym same) found
 
--- a row was read, and the answer is that of the rest
+-- a row was read, and the result is that of the rest
 pub gives_then : {V W : Type 0} (read : Result V FieldFault) (go : V → Result W FieldFault) (v : V) (r : Result W PartFault)
     → read ≡ Ok v → Gives (go v) r → Gives (read >>= go) r
 gives_then {W = W} read go v r is gives = subst (λ (x : Result W FieldFault). Gives x r) (sym (after read go v is)) gives

@@ -1,4 +1,4 @@
--- The names of rows, by their places, and what was found under them.
+-- The names of rows by index, and what was found under them.
 use Rattle.std.proofs.Common.{◌≡◌, ℕ, zero, suc, ◌+◌, ◌-◌, ◌<◌, ◌≤◌, Bool, true, false, List, [], ◌∷◌, length, take, drop, get_or, map, bytes_eq, refl, sym, ◌∙◌, ap, subst, arith, Bor}
 use Rattle.std.specs.Prelude.{◌&&◌, leb}
 use Rattle.std.proofs.lemmas.Bool.{leb-true}
@@ -18,7 +18,7 @@ both : (a b : Bool) → (a && b) ≡ true → (a ≡ true) × (b ≡ true)
 both true b e = (refl, e)
 both false b e = absurd (cc)
 
--- each of the names may be a step of a path
+-- each of the names is a valid step of a path
 pub short_place : (ns : List (List ℕ)) (i : ℕ) → are_short ns ≡ true → i < length ns → IsPlace (name (name_at ns i))
 short_place [] i short inside = absurd (omega (arith, inside))
 short_place (n ∷ ns) zero short inside =
@@ -29,18 +29,17 @@ short_place (n ∷ ns) (suc i) short inside =
     let parts = both (leb 1 (length n) && leb (length n) 31) (are_short ns) short in
     short_place ns i parts.1 (omega (arith, inside))
 
--- the two halves of what names are
 pub names_short : (ns : List (List ℕ)) → are_names ns ≡ true → are_short ns ≡ true
 names_short ns names = (both (are_short ns) (distinct ns) names).0
 
 pub names_distinct : (ns : List (List ℕ)) → are_names ns ≡ true → distinct ns ≡ true
 names_distinct ns names = (both (are_short ns) (distinct ns) names).1
 
--- the texts that names are seen as
+-- the texts that names are viewed as
 abbrev pub texts_of : List (Bor (List ℕ)) → List (List ℕ)
 texts_of names = map (λ n. n.now) names
 
--- what stands for no text, where a list of names has none
+-- a text for the default of a list of names
 abbrev pub no_text : Bor (List ℕ)
 no_text = record { ref_ptr = (0, 0); now = [] }
 
@@ -52,7 +51,6 @@ short_name names d i short inside =
     subst (λ (n : List ℕ). IsPlace (name n)) (named_at names d i inside)
     (short_place (texts_of names) i short (omega (arith, inside, length-map names (λ (n : Bor (List ℕ)). n.now))))
 
--- what was found under the name in a place
 pub found_at : (names : List (Bor (List ℕ))) (d : Bor (List ℕ)) (ms : Members) (fs : List Found) (f : Found) (i : ℕ)
     → f ≡ get_or fs i f → i < length names → length names ≤ length fs → FindsAll (texts_of names) ms fs → IsFound f (values_named (get_or names i d).now ms)
 found_at names d ms fs f i is inside room finds =
@@ -60,9 +58,8 @@ found_at names d ms fs f i is inside room finds =
     (subst (λ (n : List ℕ). IsFound (get_or fs i Nothing) (values_named n ms)) (named_at names d i inside)
     (finds i (omega (arith, inside, length-map names (λ (n : Bor (List ℕ)). n.now)))))
 
--- ---- names of a choice
+-- ---- the names of a choice
 
--- one by one
 pub finds_each : (i : ℕ) (fs : List Found) (names : List (List ℕ)) (ms : Members)
     → ((j : ℕ) → j < length names → IsFound (get_or fs (i + j) Nothing) (values_named (get_or names j []) ms)) → FindsEach i names ms fs
 finds_each i fs [] ms each = tt
@@ -85,7 +82,7 @@ represents i (m ∷ own) ns (suc j) stand inside =
     let parts = both (bytes_eq m (name_at ns i)) (stand_at (i + 1) own ns) stand in
     represents (i + 1) own ns j parts.1 (omega (arith, inside)) ∙ ap (λ (k : ℕ). name_at ns k) (omega arith)
 
--- the names of a choice stand from a place on
+-- the names of a choice, from an index on
 pub each_behind : (i : ℕ) (own ns : List (List ℕ)) (fs : List Found) (ms : Members)
     → stand_at i own ns ≡ true → i + length own ≤ length ns → FindsAll ns ms fs → FindsEach 0 own ms (drop i fs)
 each_behind i own ns fs ms stand room finds =
@@ -94,7 +91,7 @@ each_behind i own ns fs ms stand room finds =
     (subst (λ (n : List ℕ). IsFound (get_or fs (i + j) Nothing) (values_named n ms)) (sym (represents i own ns j stand inside))
     (finds (i + j) (omega (arith, inside, room)))))
 
--- the same, where the names behind them fit too
+-- the same, if the names after them are valid too
 pub choice_found : (first : ℕ) (own : List (List ℕ)) (names : List (Bor (List ℕ))) (fs : List Found) (ms : Members) (rest : Bool)
     → (stand_at first own (texts_of names) && rest) ≡ true → first + length own ≤ length names → FindsAll (texts_of names) ms fs
     → FindsEach 0 own ms (take (length fs - first) (drop first fs))

@@ -1,4 +1,4 @@
--- The first fault of single values: a tree of another JSON kind, or one that is no value of the kind.
+-- The first fault of single values: another JSON kind, or the right kind but no value.
 use Rattle.std.proofs.Common.{◌≡◌, ◌⊎◌, inl, inr, ◌↔◌, ℕ, List, Option, Some, None, refl, sym, ◌∙◌, ap}
 use Rattle.std.specs.Prelude.{Result, Ok, Err, decimal}
 use Rattle.std.specs.Fmt.{signed_decimal}
@@ -39,7 +39,7 @@ told_at {V} at why f h =
 
 -- ---- trees of one JSON kind
 
--- what is expected isn't there exactly where the tree is of another kind
+-- the expected value is absent exactly if the tree has another JSON kind
 kind_told : {V : Type 0} (seen : Tree → Option V) (Is : Tree → Type 0) → ((t : Tree) → Is t → (v : V) × (seen t ≡ Some v)) → ((t : Tree) → ¬ Is t → seen t ≡ None)
     → (at : List Place) (t : Tree) (f : FieldFault) → (expected at (seen t) ≡ Err f) ↔ OtherKind (Is t) at f
 kind_told {V} seen Is some none at t f = (to (seen t) refl, from) where
@@ -123,7 +123,7 @@ left_out_breaks at t f = (is_at {V = ⊥} at LeftOut f, told_at at LeftOut f)
 
 -- ---- numbers, and bytes
 
--- a kind that tells no other fault of a tree of its JSON kind than this one, and that of any tree that it doesn't read
+-- a kind with only one fault for trees of its JSON kind has it for each tree that it does not read
 one_reason : {V : Type 0} {steps : ℕ} (k : Kind V) → Lawful k steps → (Is : Tree → Type 0) (why : FieldFaultKind) (at : List Place) (t : Tree) (f : FieldFault)
     → ((g : FieldFault) → Breaks k at t g → OtherKind (Is t) at g ⊎ (Is t × IsAt at why g)) → (OtherKind (Is t) at f → Breaks k at t f)
     → Breaks k at t f ↔ ValueBreaks Is why k at t f

@@ -1,4 +1,4 @@
--- The one value of a name, by what was found.
+-- The only value of a name, by what was found.
 use Rattle.std.proofs.Common.{◌≡◌, ◌≤◌, true, false, List, [], ◌∷◌, length, Option, Some, None, refl, ap, arith}
 use Rattle.std.specs.Prelude.{Ok}
 use Rattle.mes_json.specs.Tree.{Tree}
@@ -24,7 +24,7 @@ unless_null-other (string s) is = refl
 unless_null-other (array ts) is = refl
 unless_null-other (object ms) is = refl
 
--- none, one that is null, one that isn't, and more
+-- no value, one that is null, one that is not, and several
 pub single_none : (at : List Place) (ts : List Tree) → ts ≡ [] → single at ts ≡ Ok None
 single_none at ts is = rw is refl
 

@@ -1,4 +1,4 @@
--- The laws of bytes as base64 texts.
+-- The laws of bytes as base64 strings.
 use Rattle.std.proofs.Common.{◌≡◌, inl, inr, ℕ, zero, suc, Bool, true, false, List, [], ◌∷◌, length, bytes_eq, Option, Some, None, refl, sym, ◌∙◌, ap, subst, arith, lit<}
 use Rattle.std.specs.Prelude.{nat_lt, ◌&&◌, Ok, Err}
 use Rattle.std.specs.List.{list_all}
@@ -64,7 +64,7 @@ bytes_in_complete engine consistent text bytes h =
       test : when (encodes engine text bytes) bytes ≡ Some bytes
       test = rw (h.0, same_name (encode_of engine bytes), bytes_test bytes h.1) refl
 
--- a text that is no encoding has no bytes
+-- a text that the decoder rejects encodes no bytes
 pub no_bytes_in : (engine : GeneralPurpose) → IsConsistent engine → (text : List ℕ) (f : DecodeError) → decode_of engine text ≡ Err f → bytes_in engine text ≡ None
 no_bytes_in engine consistent text f fails = by_bytes (bytes_in engine text) refl where
   by_bytes : (o : Option (List ℕ)) → bytes_in engine text ≡ o → o ≡ None

@@ -22,17 +22,16 @@ use Rattle.mes_model_schema.specs.declared.field.FieldFaultKind.{FieldFaultKind}
 use Rattle.mes_model_schema.specs.declared.field.FieldFaultKind.TheVariants.{Missing}
 
 pub record LawfulChoice {F : Type 0} (c : Choice F) (steps : ℕ) : Type 0 where
-  -- what is read is what the relation says, wherever the object stands
+  -- `read` returns exactly what `Reads` says, at any path
   pub sound : (at : List Place) (kind : List ℕ) (ms : Members) (x : F) → c.read at kind ms ≡ Ok x → c.Reads kind ms x
   pub complete : (at : List Place) (kind : List ℕ) (ms : Members) (x : F) → c.Reads kind ms x → c.read at kind ms ≡ Ok x
-  -- what was written is read back from any members that hold it under these names, if no type stands twice, and under none a name
+  -- what was written is read back, if the types are distinct and so are the names of each
   pub back : (ms : Members) (x : F) → c.reported_apart ≡ true → Agrees c.names ms (c.members x) → c.Back x → c.Reads (c.type_of x) ms x
-  -- nothing is written under other names
+  -- no member is written under other names
   pub only : (n : List ℕ) (x : F) → is_in n c.names ≡ false → values_named n (members_of (c.members x)) ≡ []
-  -- what is written has a type that it may have
+  -- a written value has one of the known types
   pub known : (x : F) → c.Back x → c.takes (c.type_of x) ≡ true
-  -- no fault lies more than so many steps below the path of the object, but for that of the type, one step below; and where there are
-  -- more steps than that, one may lie so deep under some type
+  -- faults are at most max 1 steps below the object, and if steps ≥ 2 some fault is that deep
   pub within : (at : List Place) (kind : List ℕ) (ms : Members) (f : FieldFault) → c.read at kind ms ≡ Err f → length f.path ≤ length at + max 1 steps
   pub reached : c.reported_apart ≡ true → 2 ≤ steps → (kind : List ℕ) × (c.takes kind ≡ true) × SomeDeep c.names (λ at ms. c.read at kind ms) steps
 
@@ -76,7 +75,7 @@ or_back : (a b : Bool) → b ≡ true → (a || b) ≡ true
 or_back true b e = refl
 or_back false b e = e
 
--- a type has the steps of its rows, and the choice those of the deepest
+-- the steps of a choice are the maximum over its types
 pub lawful_case : {F G : Type 0} {this : List ℕ} {r : Table F} {rest : Choice G} {a b : ℕ} → LawfulTable r a → LawfulChoice rest b
     → LawfulChoice (case this r rest) (max a b)
 lawful_case {F = F} {G = G} {this = this} {r = r} {rest = rest} {a = a} {b = b} lr lrest = record {
@@ -114,7 +113,7 @@ lawful_case {F = F} {G = G} {this = this} {r = r} {rest = rest} {a = a} {b = b} 
   complete at kind ms (inl x) h = rw (h.0, same_name this) (after _ _ x (lr.complete at ms x h.1))
   complete at kind ms (inr y) h = rw (names_differ kind this h.0) (after _ _ y (lrest.complete at kind ms y h.1))
 
-  -- a type that the rest takes is another
+  -- a type of the rest differs from this one
   other : (kind : List ℕ) → rest.takes this ≡ false → rest.takes kind ≡ true → kind ≢ this
   other kind new taken = λ e. let bad : rest.takes this ≡ true = subst (λ (n : List ℕ). rest.takes n ≡ true) e taken in absurd (cc)
 
@@ -185,11 +184,11 @@ lawful_case {F = F} {G = G} {this = this} {r = r} {rest = rest} {a = a} {b = b} 
 
 -- ---- the row `type`
 
--- a type that some members are read under
+-- some members are read under some type
 abbrev SomeType : {F : Type 0} → Choice F → Type 0
 SomeType c = (kind : List ℕ) × SomeRead c.names (c.Reads kind)
 
--- `type` and the members beside it, each as it was written
+-- `type` and the other members, each as it was written
 beside : (names : List (List ℕ)) (kind : List ℕ) (ms : Members) (own : Pairs) → distinct (type_name ∷ names) ≡ true → Under names own
     → Agrees (type_name ∷ names) ms ((type_name, string kind) ∷ own) → Has ms type_name (string kind) × Agrees names ms own
 beside names kind ms own once under agrees =
@@ -267,7 +266,7 @@ typed_rows {F = F} {c = c} {steps = steps} lc once_each some = record {
             (one.0, after _ _ kind (own_row.complete at ms kind (string kind, each.0, refl)) ∙ one.1, omega (arith, one.2, most))),
       )
 
--- the row `type`, and the rows of the first type or of another: no type stands twice, and under none of them does a name
+-- the row `type` and the rows of its types, if the types are distinct and so are the names of each
 pub lawful_typed : {F G : Type 0} {this : List ℕ} {r : Table F} {rest : Choice G} {a b : ℕ} → LawfulTable r a → LawfulChoice rest b
     → (case this r rest).reported_apart ≡ true → LawfulTable (typed (case this r rest)) (max 1 (max a b))
 lawful_typed {F = F} {G = G} {this = this} {r = r} {rest = rest} lr lrest once_each = typed_rows (lawful_case lr lrest) once_each some where

@@ -12,19 +12,19 @@ use Rattle.mes_model_schema.specs.Rows.{Table, required}
 use Rattle.mes_model_schema.specs.declared.field.FieldFault.{FieldFault}
 use Rattle.mes_model_schema.specs.declared.field.FieldFaultKind.{FieldFaultKind}
 
--- What the members of an object hold by its type.
+-- How the members of an object are read and written, given its type.
 pub record Choice (F : Type 0) : Type 1 where
-  -- a value may have this type
+  -- the type is known
   pub takes : List ℕ → Bool
-  -- no type stands twice, and under none of them does a name
+  -- the types are distinct, and so are the names of each
   pub reported_apart : Bool
-  -- the names of the members that are read under one of them or more
+  -- the names of the members that are read under at least one type
   pub names : List (List ℕ)
-  -- under a type, the members hold x
+  -- given the type, the members are read as x
   pub Reads : List ℕ → Members → F → Type 0
-  -- under a type, what the members of an object at a path hold, or the first fault
+  -- given the type, the value of the members of an object at a path, or the first fault
   pub read : List Place → List ℕ → Members → Result F FieldFault
-  -- the type of x, and the members beside it that x is written as
+  -- the type of x, and the members other than `type` that x is written as
   pub type_of : F → List ℕ
   pub members : F → List (List ℕ × Tree)
   -- each value in x is read back from its own tree
@@ -33,7 +33,7 @@ pub record Choice (F : Type 0) : Type 1 where
 abbrev pub type_name : List ℕ
 type_name = codes "type"
 
--- no further type is known
+-- no other type is known
 abbrev pub no_other : FieldFaultKind → Choice ⊥
 no_other why = record {
   takes = λ kind. false;
@@ -46,7 +46,7 @@ no_other why = record {
   Back = λ x. ⊥;
 }
 
--- any further type is kept by its name, which is none of the known ones, and no member is read or written
+-- any other type is kept by its name, with no member read or written
 abbrev pub others : List (List ℕ) → Choice (List ℕ)
 others known = record {
   takes = λ kind. not (is_in kind known);
@@ -59,7 +59,7 @@ others known = record {
   Back = λ x. is_in x known ≡ false;
 }
 
--- under this type these rows, and else the rest; a name may stand under several types, each with a row of its own
+-- these rows for this type, and the rest for other types; types may share a name
 abbrev pub case : {F G : Type 0} → List ℕ → Table F → Choice G → Choice (F ⊎ G)
 case {F} {G} this r rest = record {
   takes = λ kind. bytes_eq this kind || rest.takes kind;
@@ -87,7 +87,7 @@ case {F} {G} this r rest = record {
   CaseBack (inl x) = r.Back x
   CaseBack (inr y) = rest.Back y
 
--- the row `type`, which must be there, and the rows of the type
+-- the row `type`, which is required, and the rows of the type
 abbrev pub typed : {F : Type 0} → Choice F → Table F
 typed c = record {
   names = type_name ∷ c.names;

@@ -15,7 +15,7 @@ use Rattle.mes_model_schema.specs.RowLaws.{LawfulTable, lawful_many}
 use Rattle.mes_model_schema.specs.MessageLaws.{lawful_message, message_returns}
 use Rattle.mes_model_schema.specs.declared.field.FieldFault.{FieldFault}
 
--- the object is the deeper form
+-- the object form is one step deeper
 pub lawful_either_list : {A : Type 0} {n : List ℕ} {k : Kind A} {steps : ℕ} → Lawful k steps → Lawful (either_list n k) (2 + steps)
 lawful_either_list {A = A} {n = n} {k = k} {steps = steps} lawful = record {
   sound = λ at t vs e. sound at t vs (is_array t) e;
@@ -57,6 +57,5 @@ lawful_either_list {A = A} {n = n} {k = k} {steps = steps} lawful = record {
   complete at t vs (inl reads) = rw (ap is_array reads.1) (as_object.complete at t vs reads)
   complete at t vs (inr reads) = rw (ap is_array reads.1) (as_array.complete at t vs reads)
 
--- the list is read back where each of its values is
 pub either_list_back : {A : Type 0} {n : List ℕ} {k : Kind A} {steps : ℕ} → Lawful k steps → (vs : List A) → ReturnsEach k vs → Returns (either_list n k) vs
 either_list_back lawful vs returns = inl (message_returns (lawful_many lawful) refl vs returns)

@@ -1,4 +1,4 @@
--- Lists that are read in two forms, the member of an object or the array itself, and written in the first.
+-- Lists read as an array, or as an object with the array as a member, and written as the object.
 use Rattle.std.specs.Prelude.{◌⊎◌, ℕ, Bool, true, false, List, if◌then◌else◌}
 use Rattle.mes_json.specs.Tree.{Tree}
 use Rattle.mes_json.specs.Tree.Tree.{null, boolean, number, string, array, object}
@@ -14,7 +14,7 @@ is_array (number n) = false
 is_array (string s) = false
 is_array (object ms) = false
 
--- an object whose member of that name is the list, or the list itself
+-- an object whose member of this name is the list, or the list itself
 abbrev pub either_list : {V : Type 0} → List ℕ → Kind V → Kind (List V)
 either_list n k = record {
   Reads = λ t vs. (message (many n k)).Reads t vs ⊎ (list_of k).Reads t vs;

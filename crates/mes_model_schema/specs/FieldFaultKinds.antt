@@ -1,9 +1,9 @@
--- How a reason is printed.
+-- The printed names of the reasons.
 use Rattle.std.specs.Prelude.{ℕ, List, codes}
 use Rattle.mes_model_schema.specs.declared.field.FieldFaultKind.{FieldFaultKind}
 use Rattle.mes_model_schema.specs.declared.field.FieldFaultKind.TheVariants.{Missing, Twice, WrongKind, UnknownName, BadBase64, NumberRange, LeftOut}
 
--- why a JSON value is not the message that it should be
+-- the printed name of a reason
 abbrev pub field_fault_kind_name : FieldFaultKind → List ℕ
 field_fault_kind_name Missing = codes "Missing"
 field_fault_kind_name Twice = codes "Twice"

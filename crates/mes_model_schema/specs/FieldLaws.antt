@@ -1,4 +1,4 @@
--- What a look-up of a member says, and what follows one another: laws of `lookup` and of `>>=`.
+-- Laws of `lookup` and of `>>=`.
 use Rattle.std.proofs.Common.{◌≡◌, ◌≢◌, ◌⊎◌, inl, inr, ℕ, List, [], ◌∷◌, Option, Some, None, refl, sym, ◌∙◌, ap, subst}
 use Rattle.std.specs.Prelude.{Result, Ok, Err}
 use Rattle.mes_json.specs.Tree.{Tree, Members}
@@ -8,7 +8,7 @@ use Rattle.mes_model_schema.specs.Fields.{values_named, Has, Lacks, below, unles
 use Rattle.mes_model_schema.specs.Kinds.{◌>>=◌}
 use Rattle.mes_model_schema.specs.declared.field.FieldFault.{FieldFault}
 
--- ---- one after the other
+-- ---- consecutive reads
 
 pub bound : {A B : Type 0} (r : Result A FieldFault) (go : A → Result B FieldFault) (w : B) → (r >>= go) ≡ Ok w
     → (v : A) × (r ≡ Ok v) × (go v ≡ Ok w)
@@ -18,13 +18,13 @@ bound {A} {B} (Err f) go w e = let h : Err f ≡ Ok w = e in absurd (cc)
 pub after : {A B : Type 0} (r : Result A FieldFault) (go : A → Result B FieldFault) (v : A) → r ≡ Ok v → (r >>= go) ≡ go v
 after {A} r go v e = ap (λ (x : Result A FieldFault). x >>= go) e
 
--- a fault is that of the first, or that of what is read with its value
+-- a fault is that of the first read, or that of the second with the value of the first
 pub broken : {A B : Type 0} (r : Result A FieldFault) (go : A → Result B FieldFault) (f : FieldFault) → (r >>= go) ≡ Err f
     → (r ≡ Err f) ⊎ ((v : A) × (r ≡ Ok v) × (go v ≡ Err f))
 broken (Ok v) go f e = inr (v, refl, e)
 broken {A} {B} (Err g) go f e = let h : Err g ≡ Err f = e in inl (cc)
 
--- the fault of the first stands
+-- the fault of the first read is that of both
 pub breaks_first : {A B : Type 0} (r : Result A FieldFault) (go : A → Result B FieldFault) (f : FieldFault) → r ≡ Err f → (r >>= go) ≡ Err f
 breaks_first {A} r go f e = ap (λ (x : Result A FieldFault). x >>= go) e
 
@@ -61,7 +61,7 @@ unfolding lookup
 lacks_looked at n ms (inl e) = rw e refl
 lacks_looked at n ms (inr e) = rw e refl
 
--- a look-up that was well: the member isn't there, or it is
+-- a successful look-up: the member is absent, or it is present
 pub looked : {F : Type 0} (at : List Place) (n : List ℕ) (ms : Members) (value : Option Tree → Result F FieldFault) (x : F)
     → (lookup at n ms >>= value) ≡ Ok x → (Lacks ms n × (value None ≡ Ok x)) ⊎ ((t : Tree) × Has ms n t × (value (Some t) ≡ Ok x))
 unfolding lookup
@@ -79,7 +79,6 @@ looked {F} at n ms value x e = by_values (values_named n ms) refl e where
   by_values (t ∷ []) is e = one t is e
   by_values (t ∷ u ∷ ts) is e = absurd (cc)
 
--- the member that is there is one
 pub one_value : (ms : Members) (n : List ℕ) (t u : Tree) → Has ms n t → Has ms n u → t ≡ u
 one_value ms n t u p q = let e : t ∷ [] ≡ u ∷ [] = sym p.0 ∙ q.0 in cc
 

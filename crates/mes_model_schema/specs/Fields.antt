@@ -1,4 +1,4 @@
--- The members of an object by their names: a known member stands once or not at all, and null counts as not there.
+-- The members of an object by name: a known name occurs at most once, and null counts as absent.
 use Rattle.std.specs.Prelude.{◌≡◌, ◌≢◌, ◌⊎◌, ℕ, Bool, true, false, List, [], ◌∷◌, ◌++◌, bytes_eq, ◌||◌, if◌then◌else◌, Option, Some, None, Result, Ok, Err}
 use Rattle.mes_json.specs.Tree.{Tree, Members}
 use Rattle.mes_json.specs.Tree.Tree.{null, boolean, number, string, array, object}
@@ -9,17 +9,17 @@ use Rattle.mes_model_schema.specs.declared.field.FieldFault.{FieldFault}
 use Rattle.mes_model_schema.specs.declared.field.FieldFaultKind.{FieldFaultKind}
 use Rattle.mes_model_schema.specs.declared.field.FieldFaultKind.TheVariants.{Twice}
 
--- the values of the members of that name, in order
+-- the values of the members of this name, in order
 abbrev pub values_named : List ℕ → Members → List Tree
 values_named n no_members = []
 values_named n (member m t ms) = if bytes_eq m n then t ∷ values_named n ms else values_named n ms
 
--- a name is among these
+-- the name is in the list
 abbrev pub is_in : List ℕ → List (List ℕ) → Bool
 is_in n [] = false
 is_in n (m ∷ ms) = bytes_eq m n || is_in n ms
 
--- exactly one member has the name, and t is its value, which isn't null
+-- exactly one member has the name, and its value is t, not null
 abbrev pub Has : Members → List ℕ → Tree → Type 0
 Has ms n t = (values_named n ms ≡ t ∷ []) × (t ≢ null)
 
@@ -27,11 +27,11 @@ Has ms n t = (values_named n ms ≡ t ∷ []) × (t ≢ null)
 abbrev pub Lacks : Members → List ℕ → Type 0
 Lacks ms n = (values_named n ms ≡ []) ⊎ (values_named n ms ≡ null ∷ [])
 
--- the path of the member of that name, in an object at a path
+-- the path of the member of this name, in an object at a path
 abbrev pub below : List Place → List ℕ → List Place
 below at n = at ++ name n ∷ []
 
--- nothing is read: this is wrong at a place
+-- a fault at a path
 abbrev pub fault : {V : Type 0} → List Place → FieldFaultKind → Result V FieldFault
 fault at why = Err (record { path = at; why = why })
 
@@ -46,12 +46,12 @@ is_null (object ms) = false
 abbrev pub unless_null : Tree → Option Tree
 unless_null t = if is_null t then None else Some t
 
--- the one of these values that is there, at a path
+-- the only one of these values, if it is not null; two are a fault at the path
 abbrev pub single : List Place → List Tree → Result (Option Tree) FieldFault
 single at [] = Ok None
 single at (t ∷ []) = Ok (unless_null t)
 single at (t ∷ u ∷ ts) = fault at Twice
 
--- the value of the member of that name, in an object at a path
+-- the value of the member of this name, in an object at a path
 unfoldable pub lookup : List Place → List ℕ → Members → Result (Option Tree) FieldFault
 lookup at n ms = single (below at n) (values_named n ms)

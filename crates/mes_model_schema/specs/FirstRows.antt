@@ -1,5 +1,4 @@
--- The first fault of a whole message, row by row in the order of its table: a row has it only if every row before it is read. Each
--- definition here takes what the later rows have, so that a message is written as its table is.
+-- The first fault of a message, row by row: a row can have it only if all rows before it are read.
 use Rattle.std.specs.Prelude.{◌≡◌, ◌≢◌, ◌⊎◌, ◌↔◌, ℕ, List}
 use Rattle.mes_json.specs.Tree.{Tree, Members}
 use Rattle.mes_json.specs.Tree.Tree.{string, object}
@@ -14,55 +13,55 @@ use Rattle.mes_model_schema.specs.FirstFaults.{IsAt, IsObject, OtherKind, AreRea
 use Rattle.mes_model_schema.specs.declared.field.FieldFault.{FieldFault}
 use Rattle.mes_model_schema.specs.declared.field.FieldFaultKind.{FieldFaultKind}
 
--- which faults the members of an object at a path have
+-- the faults of the members of an object at a path
 abbrev pub OfRows : Type 1
 OfRows = List Place → Members → FieldFault → Type 0
 
--- which faults they have under a type
+-- the same, given the type
 abbrev pub OfTypes : Type 1
 OfTypes = List Place → List ℕ → Members → FieldFault → Type 0
 
 -- ---- rows
 
--- no row is left, and there is no fault
+-- no more rows: no fault
 abbrev pub NoRows : OfRows
 NoRows at ms f = ⊥
 
--- these rows have the fault; or they are read, and the later rows have it
+-- these rows have the fault, or they are read and the later rows have it
 abbrev pub Then : {F : Type 0} → Table F → OfRows → OfRows → OfRows
 Then r own later at ms f = own at ms f ⊎ (AreRead r ms × later at ms f)
 
--- a member that must be there, and the later rows
+-- a required member, then the later rows
 abbrev pub NeedThen : {V : Type 0} → List ℕ → Kind V → OfRows → OfRows
 NeedThen n k later = Then (need n k) (NeedBreaks k n) later
 
--- a member that may be there, and the later rows
+-- an optional member, then the later rows
 abbrev pub MaybeThen : {V : Type 0} → List ℕ → Kind V → OfRows → OfRows
 MaybeThen n k later = Then (maybe n k) (OptionalBreaks k n) later
 
--- a list, which is empty where its member isn't there, and the later rows
+-- the member of a list, which may be absent, then the later rows
 abbrev pub ListThen : {V : Type 0} → List ℕ → Kind V → OfRows → OfRows
 ListThen n k later = Then (many n k) (OptionalBreaks (list_of k) n) later
 
--- a flag, and the later rows
+-- a flag, then the later rows
 abbrev pub FlagThen : List ℕ → OfRows → OfRows
 FlagThen n later = Then (flag n) (OptionalBreaks objects n) later
 
 -- ---- the row `type`, and the rows of the type
 
--- under this type these rows have the fault; under another the later types have it
+-- for this type these rows have the fault; for others the later types have it
 abbrev pub TypeThen : List ℕ → OfRows → OfTypes → OfTypes
 TypeThen this own later at kind ms f = ((kind ≡ this) × own at ms f) ⊎ ((kind ≢ this) × later at kind ms f)
 
--- a type that is none of those before is wrong for this reason, in the row `type`
+-- any other type is a fault in the row `type`, for this reason
 abbrev pub NoType : FieldFaultKind → OfTypes
 NoType why at kind ms f = IsAt (below at type_name) why f
 
--- a type that is none of those before has no fault
+-- any other type has no fault
 abbrev pub AnyType : OfTypes
 AnyType at kind ms f = ⊥
 
--- the row `type` has the fault, or it has a type, whose rows have the fault
+-- the row `type` has the fault, or the rows of its type have it
 abbrev pub ByType : OfTypes → OfRows
 ByType types at ms f =
     NeedBreaks texts type_name at ms f
@@ -70,18 +69,18 @@ ByType types at ms f =
 
 -- ---- a message
 
--- no object, or one whose rows have the fault
+-- not an object, or an object whose rows have the fault
 abbrev pub OfMessage : OfRows → List Place → Tree → FieldFault → Type 0
 OfMessage rows at t f =
     OtherKind (IsObject t) at f
     ⊎ ((ms : Members) × (t ≡ object ms) × rows at ms f)
 
--- ---- what a law of them says
+-- ---- the statement of the laws
 
--- the faults of the rows are just these
+-- The rows have exactly these faults.
 pub record RowsHave {F : Type 0} (r : Table F) (faults : OfRows) : Type 0 where
   pub just : (at : List Place) (ms : Members) (f : FieldFault) → RowsBreak r at ms f ↔ faults at ms f
 
--- the faults under each type are just these
+-- The rows of each type have exactly these faults.
 pub record TypesHave {F : Type 0} (c : Choice F) (faults : OfTypes) : Type 0 where
   pub just : (at : List Place) (kind : List ℕ) (ms : Members) (f : FieldFault) → ChoiceBreaks c at kind ms f ↔ faults at kind ms f

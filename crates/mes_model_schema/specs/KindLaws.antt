@@ -1,4 +1,4 @@
--- A lawful kind has one answer to any tree; the laws of the kinds that hold no rows, and of lists.
+-- The laws of the kinds without rows, and of lists: each tree is read in exactly one way.
 use Rattle.std.proofs.Common.{◌≡◌, inl, inr, ℕ, ◌+◌, ◌≤◌, Bool, true, List, [], ◌∷◌, ◌++◌, length, map, refl, sym, ◌∙◌, ap, arith, length-append}
 use Rattle.std.specs.Prelude.{Result, Ok, Err}
 use Rattle.mes_json.specs.Tree.{Tree, Items, Members}
@@ -18,7 +18,7 @@ use Rattle.mes_model_schema.specs.StepLaws.{expected_there, breaks_there}
 use Rattle.mes_model_schema.specs.declared.field.FieldFault.{FieldFault}
 use Rattle.mes_model_schema.specs.declared.field.FieldFaultKind.TheVariants.{WrongKind}
 
--- ---- one answer
+-- ---- a unique result
 
 pub settled : {A : Type 0} {steps : ℕ} (k : Kind A) → Lawful k steps → (at : List Place) (t : Tree) → Settled k at t
 settled {A} k lawful at t = by_read (k.read at t) refl where
@@ -36,7 +36,7 @@ settled {A} k lawful at t = by_read (k.read at t) refl where
     (λ w reads. let h : Ok w ≡ Err f = sym (lawful.complete at t w reads) ∙ e in absurd (cc)),
   )
 
--- ---- what a tree of one JSON kind holds
+-- ---- values of one JSON kind
 
 pub text_is : (at : List Place) (t : Tree) (s : List ℕ) → text_of at t ≡ Ok s → t ≡ string s
 text_is at (string r) s e = cc
@@ -158,7 +158,6 @@ each_within k lawful at i (item t ts) f e = elim (broken (k.read (at ++ index i 
   ]
 ]
 
--- a list has one step more than its values
 pub lawful_list : {A : Type 0} {k : Kind A} {steps : ℕ} → Lawful k steps → Lawful (list_of k) (1 + steps)
 lawful_list {A = A} {k = k} {steps = steps} lawful = record {
   sound = λ at t vs e. let h = bound (items_at at t) _ _ e in (h.0, items_are at t h.0 h.1, each_sound k lawful at 0 h.0 vs h.2);
@@ -186,6 +185,5 @@ each_returns : {A : Type 0} (k : Kind A) (vs : List A) → ReturnsEach k vs → 
 each_returns k [] h = tt
 each_returns k (v ∷ vs) h = (h.0, each_returns k vs h.1)
 
--- a list is read back where each of its values is
 pub list_returns : {A : Type 0} (k : Kind A) (vs : List A) → ReturnsEach k vs → Returns (list_of k) vs
 list_returns k vs h = (items_of (map k.tree vs), refl, each_returns k vs h)

@@ -1,4 +1,4 @@
--- The kinds of values that hold no rows: texts, truth values, objects kept whole, and what is left out.
+-- The kinds without rows: strings, booleans, whole objects, and unsupported values.
 use Rattle.std.specs.Prelude.{◌≡◌, ℕ, Bool, List, Option, Some, None, Result, Ok}
 use Rattle.mes_json.specs.Tree.{Tree, Members}
 use Rattle.mes_json.specs.Tree.Tree.{null, boolean, string, object}
@@ -9,7 +9,7 @@ use Rattle.mes_model_schema.specs.Kinds.{Kind}
 use Rattle.mes_model_schema.specs.declared.field.FieldFault.{FieldFault}
 use Rattle.mes_model_schema.specs.declared.field.FieldFaultKind.TheVariants.{WrongKind, LeftOut}
 
--- what is there, or else the value is of another kind
+-- the value, or the fault `WrongKind` if there is none
 abbrev pub expected : {V : Type 0} → List Place → Option V → Result V FieldFault
 expected at None = fault at WrongKind
 expected at (Some v) = Ok v
@@ -37,10 +37,10 @@ texts = record { Reads = λ t s. t ≡ string s; read = text_of; tree = λ s. st
 unfoldable pub booleans : Kind Bool
 booleans = record { Reads = λ t x. t ≡ boolean x; read = boolean_of; tree = λ x. boolean x }
 
--- an object kept whole, as its members
+-- a whole object, as its members
 unfoldable pub objects : Kind Members
 objects = record { Reads = λ t ms. t ≡ object ms; read = members_at; tree = λ ms. object ms }
 
--- what belongs to a part of the protocol that is not supported: no value of it is read
+-- an unsupported value, which is never read
 unfoldable pub left_out : Kind ⊥
 left_out = record { Reads = λ t v. ⊥; read = λ at t. fault at LeftOut; tree = λ v. null }

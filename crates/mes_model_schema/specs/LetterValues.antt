@@ -1,4 +1,4 @@
--- The letters of base64's standard alphabet and their values (RFC 4648, table 1).
+-- The base64 alphabet and its values (RFC 4648, table 1).
 use Rattle.std.specs.Prelude.{◌≡◌, ℕ, ◌+◌, ◌-◌, ◌==◌, ◌<◌, nat_le, if◌then◌else◌, slice_index}
 use Rattle.base64.specs.GeneralPurpose.{engine_symbols}
 use Rattle.base64.specs.Engines.{standard}
@@ -16,6 +16,6 @@ value_of c =
     else if c == 47 then 63
     else 62
 
--- the byte is the letter of some value
+-- the byte is a letter
 abbrev pub IsLetter : ℕ → Type 0
 IsLetter c = (value_of c < 64) × (letter_of (value_of c) ≡ c)

@@ -1,4 +1,4 @@
--- Lists of one kind: an array, each of whose items is one value.
+-- Lists of one kind: an array whose items are each a value.
 use Rattle.std.specs.Prelude.{◌≡◌, ℕ, ◌+◌, List, [], ◌∷◌, ◌++◌, map, Result, Ok}
 use Rattle.mes_json.specs.Tree.{Tree, Items}
 use Rattle.mes_json.specs.Tree.Tree.{array}
@@ -11,14 +11,14 @@ use Rattle.mes_model_schema.specs.Kinds.{Kind, ◌>>=◌}
 use Rattle.mes_model_schema.specs.Leaves.{expected}
 use Rattle.mes_model_schema.specs.declared.field.FieldFault.{FieldFault}
 
--- the items are the values, in order
+-- the items are read as the values, in order
 abbrev pub ReadsEach : {V : Type 0} → Kind V → Items → List V → Type 0
 ReadsEach k no_items [] = Unit {0}
 ReadsEach k no_items (v ∷ vs) = ⊥
 ReadsEach k (item t ts) [] = ⊥
 ReadsEach k (item t ts) (v ∷ vs) = k.Reads t v × ReadsEach k ts vs
 
--- the values of the items, in order, the first of which has this index
+-- the values of the items in order, the first with index i
 abbrev pub read_each : {V : Type 0} → Kind V → List Place → ℕ → Items → Result (List V) FieldFault
 read_each k at i no_items = Ok []
 read_each k at i (item t ts) =
@@ -28,7 +28,7 @@ read_each k at i (item t ts) =
 abbrev pub items_at : List Place → Tree → Result Items FieldFault
 items_at at t = expected at (as_items t)
 
--- an array of such values
+-- an array of values of this kind
 abbrev pub list_of : {V : Type 0} → Kind V → Kind (List V)
 list_of k = record {
   Reads = λ t vs. (ts : Items) × (t ≡ array ts) × ReadsEach k ts vs;

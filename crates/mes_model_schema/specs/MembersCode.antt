@@ -1,4 +1,4 @@
--- How the logic stores the members of an object: as their tokens, from which they are built again.
+-- The encoding of the members of an object in the logic, as tokens that are parsed back.
 use Rattle.std.specs.Prelude.{◌≡◌, ℕ, List, [], ◌∷◌, ◌++◌, refl}
 use Rattle.std.proofs.Common.{◌∙◌, ap, append_assoc}
 use Rattle.std.specs.Coded.{Coded, code_by}
@@ -8,13 +8,12 @@ use Rattle.mes_json.specs.Tree.Items.{no_items, item}
 use Rattle.mes_json.specs.Tree.Members.{no_members, member}
 use Rattle.mes_json.specs.Tokens.{Token, tokens, tokens_of_items, tokens_of_members, tokens_code}
 
--- what stands behind a place, read from its end: of each array or object whose end was passed, the values that have no name,
--- and the members
+-- The parser state, from the end: the unnamed values and members of each open array or object.
 pub data Following : Type 0 where
   nothing : Following
   inside : Items → Members → Following → Following
 
--- a value before these
+-- a value, then the rest
 abbrev before : Tree → Following → Following
 before t nothing = nothing
 before t (inside ts ms b) = inside (item t ts) ms b
@@ -25,7 +24,7 @@ named n nothing = nothing
 named n (inside no_items ms b) = inside no_items ms b
 named n (inside (item t ts) ms b) = inside ts (member n t ms) b
 
--- the array or object of what stands inside of it
+-- the array of the innermost values
 abbrev array_of : Following → Following
 array_of nothing = nothing
 array_of (inside ts ms b) = before (array ts) b
@@ -34,7 +33,7 @@ abbrev object_of : Following → Following
 object_of nothing = nothing
 object_of (inside ts ms b) = before (object ms) b
 
--- a token before these
+-- a token, then the rest
 abbrev preceded : Token → Following → Following
 preceded Token.null b = before null b
 preceded (Token.boolean x) b = before (boolean x) b
@@ -49,7 +48,7 @@ abbrev following : List Token → Following
 following [] = nothing
 following (x ∷ xs) = preceded x (following xs)
 
--- items and members before these
+-- items, then the rest
 abbrev items_before : Items → Following → Following
 items_before no_items b = b
 items_before (item t ts) b = before t (items_before ts b)

@@ -1,4 +1,4 @@
--- The laws of rows together, and of the message that they make.
+-- The laws of consecutive rows, and of messages.
 use Rattle.std.proofs.Common.{◌≡◌, inl, inr, ℕ, ◌+◌, ◌<◌, ◌≤◌, max, true, List, [], ◌++◌, length, refl, ◌∙◌, ap, arith}
 use Rattle.std.proofs.lemmas.Bool.{cases_lt}
 use Rattle.std.specs.Prelude.{Ok, Err}
@@ -18,7 +18,7 @@ use Rattle.mes_model_schema.specs.RowLaws.{LawfulTable}
 use Rattle.mes_model_schema.specs.declared.field.FieldFault.{FieldFault}
 use Rattle.mes_model_schema.specs.declared.field.FieldFaultKind.TheVariants.{WrongKind}
 
--- ---- rows together
+-- ---- consecutive rows
 
 pub lawful_no_rows : LawfulTable no_rows 0
 lawful_no_rows = record {
@@ -31,7 +31,7 @@ lawful_no_rows = record {
   reached = λ once any. absurd (omega (arith, any));
 }
 
--- rows together are as deep as the deeper ones
+-- the steps of consecutive rows are the maximum of both
 pub lawful_both : {F G : Type 0} {r : Table F} {s : Table G} {a b : ℕ} → LawfulTable r a → LawfulTable s b → LawfulTable (r ⨾ s) (max a b)
 lawful_both {F = F} {G = G} {r = r} {s = s} {a = a} {b = b} lr ls = record {
   sound = λ at ms x e.
@@ -98,7 +98,7 @@ lawful_both {F = F} {G = G} {r = r} {s = s} {a = a} {b = b} lr ls = record {
             (one.0, after _ _ x.0 (lr.complete at ms x.0 x.1) ∙ breaks_first (s.read at ms) _ one.0 one.1, omega (arith, one.2, less))),
       )
 
--- what was made from the rows gives back what it was made from
+-- the law of converted rows, if the conversion has an inverse
 pub lawful_mapped : {F G : Type 0} {r : Table F} {steps : ℕ} (to : F → G) (from : G → F) → LawfulTable r steps → ((y : G) → to (from y) ≡ y)
     → LawfulTable (mapped r to from) steps
 lawful_mapped {F = F} {G = G} {r = r} {steps = steps} to from lr inverse = record {
@@ -122,7 +122,6 @@ lawful_mapped {F = F} {G = G} {r = r} {steps = steps} to from lr inverse = recor
 
 -- ---- messages
 
--- a message is as deep as its rows
 pub lawful_message : {A : Type 0} {r : Table A} {steps : ℕ} → LawfulTable r steps → distinct r.names ≡ true → Lawful (message r) steps
 lawful_message {A = A} {r = r} {steps = steps} lr once = record {
   sound = λ at t v e. let h = bound (members_at at t) _ _ e in (h.0, members_are at t h.0 h.1, lr.sound at h.0 v h.2);
@@ -145,6 +144,6 @@ lawful_message {A = A} {r = r} {steps = steps} lr once = record {
     | inr h ↦ lr.within at h.0 f h.2
   ]
 
--- a message whose rows have distinct names is read back where each value in it is
+-- a message whose rows have distinct names is read back if each value in it is
 pub message_returns : {A : Type 0} {r : Table A} {steps : ℕ} → LawfulTable r steps → distinct r.names ≡ true → (v : A) → r.Back v → Returns (message r) v
 message_returns {r = r} lr once v returns = (members_of (r.members v), refl, lr.back (members_of (r.members v)) v once (λ n named. refl) returns)

@@ -1,4 +1,4 @@
--- Names of members: which names a list has, and the members that were written under them.
+-- Lists of member names, and the members that were written under them.
 use Rattle.std.proofs.Common.{◌≡◌, ◌≢◌, ℕ, Bool, true, false, List, [], ◌∷◌, ◌++◌, refl, ◌∙◌, ap, subst, cond, bytes_eq, append-nil}
 use Rattle.std.specs.Prelude.{◌||◌, ◌&&◌, not, if◌then◌else◌}
 use Rattle.std.proofs.lemmas.Slice.Eq.{bytes_eq-Decides}
@@ -7,26 +7,26 @@ use Rattle.mes_json.specs.Tree.Tree.{null}
 use Rattle.mes_json.specs.View.{members_of}
 use Rattle.mes_model_schema.specs.Fields.{values_named, is_in, Has}
 
--- no name is in both
+-- no name is in both lists
 abbrev pub apart : List (List ℕ) → List (List ℕ) → Bool
 apart [] ns = true
 apart (m ∷ ms) ns = not (is_in m ns) && apart ms ns
 
--- no name stands twice
+-- no name occurs twice
 abbrev pub distinct : List (List ℕ) → Bool
 distinct [] = true
 distinct (n ∷ ns) = not (is_in n ns) && distinct ns
 
--- the names of either list; those of both stand once
+-- the union of two lists of names
 abbrev pub united : List (List ℕ) → List (List ℕ) → List (List ℕ)
 united [] ns = ns
 united (m ∷ ms) ns = if is_in m ns then united ms ns else m ∷ united ms ns
 
--- under each of these names the members hold what was written, and no more
+-- under each of these names the members have exactly the values that were written
 abbrev pub Agrees : List (List ℕ) → Members → List (List ℕ × Tree) → Type 0
 Agrees names ms own = (n : List ℕ) → is_in n names ≡ true → values_named n ms ≡ values_named n (members_of own)
 
--- nothing stands under other names
+-- no member is written under other names
 abbrev pub Under : List (List ℕ) → List (List ℕ × Tree) → Type 0
 Under names own = (n : List ℕ) → is_in n names ≡ false → values_named n (members_of own) ≡ []
 
@@ -44,7 +44,6 @@ names_differ m n h = by_test (bytes_eq m n) refl where
 
 -- ---- lists of names
 
--- in the first list
 pub in_front : (n : List ℕ) (xs ys : List (List ℕ)) → is_in n xs ≡ true → is_in n (xs ++ ys) ≡ true
 in_front n [] ys e = absurd (cc)
 in_front n (m ∷ xs) ys e = elim (bytes_eq m n) as (λ v. (v || is_in n xs) ≡ true → (v || is_in n (xs ++ ys)) ≡ true) [
@@ -52,7 +51,6 @@ in_front n (m ∷ xs) ys e = elim (bytes_eq m n) as (λ v. (v || is_in n xs) ≡
   | false ↦ λ h. in_front n xs ys h
 ] e
 
--- in the second
 pub in_back : (n : List ℕ) (xs ys : List (List ℕ)) → is_in n ys ≡ true → is_in n (xs ++ ys) ≡ true
 in_back n [] ys e = e
 in_back n (m ∷ xs) ys e = elim (bytes_eq m n) as (λ v. (v || is_in n (xs ++ ys)) ≡ true) [
@@ -60,7 +58,6 @@ in_back n (m ∷ xs) ys e = elim (bytes_eq m n) as (λ v. (v || is_in n (xs ++ y
   | false ↦ in_back n xs ys e
 ]
 
--- in neither
 pub in_neither : (n : List ℕ) (xs ys : List (List ℕ)) → is_in n (xs ++ ys) ≡ false → (is_in n xs ≡ false) × (is_in n ys ≡ false)
 in_neither n [] ys e = (refl, e)
 in_neither n (m ∷ xs) ys e = elim (bytes_eq m n) as (λ v. (v || is_in n (xs ++ ys)) ≡ false → ((v || is_in n xs) ≡ false) × (is_in n ys ≡ false)) [
@@ -68,7 +65,6 @@ in_neither n (m ∷ xs) ys e = elim (bytes_eq m n) as (λ v. (v || is_in n (xs +
   | false ↦ λ h. in_neither n xs ys h
 ] e
 
--- in either of two lists
 pub united_back : (n : List ℕ) (xs ys : List (List ℕ)) → is_in n ys ≡ true → is_in n (united xs ys) ≡ true
 united_back n [] ys e = e
 united_back n (m ∷ xs) ys e = by_test (united_back n xs ys e) (is_in m ys) where
@@ -138,14 +134,12 @@ named_append n (m ∷ xs) ys =
       | false ↦ named_append n xs ys
     ]
 
--- a first member of the name, and one of another
 pub named_this : (n : List ℕ) (t : Tree) (ys : Pairs) → values_named n (members_of ((n, t) ∷ ys)) ≡ t ∷ values_named n (members_of ys)
 named_this n t ys = rw (same_name n) refl
 
 pub named_other : (m n : List ℕ) (t : Tree) (ys : Pairs) → bytes_eq m n ≡ false → values_named n (members_of ((m, t) ∷ ys)) ≡ values_named n (members_of ys)
 named_other m n t ys e = rw e refl
 
--- the one name of a list
 pub not_only : (m n : List ℕ) → is_in n (m ∷ []) ≡ false → bytes_eq m n ≡ false
 not_only m n e = by_test (bytes_eq m n) e where
   by_test : (b : Bool) → (b || false) ≡ false → b ≡ false
@@ -157,21 +151,18 @@ is_only n = rw (same_name n) refl
 
 -- ---- members that were written under names
 
--- one member stands under its name alone
 pub under_one : (n : List ℕ) (t : Tree) → Under (n ∷ []) ((n, t) ∷ [])
 under_one n t = λ m other. named_other n m t [] (not_only n m other)
 
--- where it was written, it is there
 pub has_one : (n : List ℕ) (ms : Members) (t : Tree) → t ≢ null → Agrees (n ∷ []) ms ((n, t) ∷ []) → Has ms n t
 has_one n ms t there agrees = (agrees n (is_only n) ∙ named_this n t [], there)
 
--- the members of two lists of names stand under the names of both
 pub under_both : (xs ys : List (List ℕ)) (a b : Pairs) → Under xs a → Under ys b → Under (xs ++ ys) (a ++ b)
 under_both xs ys a b of_xs of_ys = λ n other.
     let neither = in_neither n xs ys other in
     named_append n a b ∙ ap (λ (ts : List Tree). ts ++ values_named n (members_of b)) (of_xs n neither.0) ∙ of_ys n neither.1
 
--- where they were written one behind the other, each was written
+-- if both were written, consecutively, each was written
 pub agrees_each : (xs ys : List (List ℕ)) (ms : Members) (a b : Pairs) → apart xs ys ≡ true → Under xs a → Under ys b → Agrees (xs ++ ys) ms (a ++ b)
     → Agrees xs ms a × Agrees ys ms b
 agrees_each xs ys ms a b differ of_xs of_ys agrees = (

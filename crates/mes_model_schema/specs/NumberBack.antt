@@ -1,4 +1,4 @@
--- What the kinds of numbers write is read back.
+-- Written numbers are read back.
 use Rattle.std.proofs.Common.{◌≡◌, inl, inr, ℕ, suc, ◌*◌, ◌^◌, ◌<◌, ◌≤◌, Bool, true, false, List, [], ◌∷◌, length, get_or, refl, sym, ◌∙◌, ap, subst, arith, lit<, ℤ, pos, negsuc}
 use Rattle.std.specs.Prelude.{FitsSigned, decimal}
 use Rattle.std.specs.Int.{w32}
@@ -15,7 +15,7 @@ use Rattle.mes_fixed.specs.Text.{text_of}
 use Rattle.mes_model_schema.specs.Kinds.{Returns}
 use Rattle.mes_model_schema.specs.Numbers.{whole, signed32, fixed}
 
--- the text of a number has no needless zero in front
+-- the decimal text of a number has no leading zero
 decimal_int : (q : ℕ) → q < 2 ^ 64 → IsInt (decimal q)
 decimal_int q h = elim (eqb_tells q 0) [
   | inl e ↦ subst IsInt (sym (ap decimal e.1 ∙ decimal_digit 0 (lit< tt))) (inl (refl, refl))
@@ -26,7 +26,7 @@ decimal_int q h = elim (eqb_tells q 0) [
     by_first [] n f = absurd (omega (arith, n.0))
     by_first (d ∷ ds) n f = let r = digit_from_value d n.1.0 in inr (omega (arith, f), r.1, n.1.1)
 
--- the parts of a whole number's text
+-- the parts of the text of a whole number
 written : Bool → ℕ → Numeral
 written negative q = record { negative = negative; whole = decimal q; fraction = []; lowers = false; power = [] }
 

@@ -67,7 +67,7 @@ pub then_some : {X Y : Type 0} (f : X → Option Y) (o : Option X) (y : Y) → o
 then_some f None y e = absurd (cc)
 then_some f (Some x) y e = (x, refl, e)
 
--- ---- a text's value
+-- ---- the value of a text
 
 value_sound : {X : Type 0} (Gives : Numeral → X → Type 0) (value : Numeral → Option X) → ((n : Numeral) (x : X) → value n ≡ Some x → Gives n x)
     → (text : List ℕ) (x : X) → value_of value text ≡ Some x → ReadsNumber Gives text x
@@ -93,7 +93,6 @@ range_there : {X : Type 0} (at : List Place) (o : Option X) (f : FieldFault) →
 range_there at None f e = fault_there at NumberRange f e
 range_there at (Some x) f e = absurd (cc)
 
--- the parts of the text `0`
 pub zero_parts : Numeral
 zero_parts = record { negative = false; whole = 48 ∷ []; fraction = []; lowers = false; power = [] }
 
@@ -101,7 +100,7 @@ zero_spelt : Spells (48 ∷ []) zero_parts
 unfolding zero_parts
 zero_spelt = record { minus = []; frac = []; exp = []; is = refl; is_minus = refl; is_int = inl (refl, refl); is_frac = refl; is_exp = (refl, refl) }
 
--- numbers, one of which is written `0`
+-- the law of a kind of numbers that contains the one written `0`
 pub lawful_numbers : {X : Type 0} (Gives : Numeral → X → Type 0) (value : Numeral → Option X) (write : X → List ℕ)
     → ((n : Numeral) (x : X) → value n ≡ Some x → Gives n x) → ((n : Numeral) (x : X) → Gives n x → value n ≡ Some x)
     → (x : X) × Gives zero_parts x → Lawful (numbers Gives value write) 0
@@ -125,7 +124,7 @@ lawful_numbers {X} Gives value write gives says some = record {
     | inr h ↦ omega (arith, range_there at (value_of value h.0) f h.2)
   ]
 
--- ---- the parts' value
+-- ---- the value of the parts
 
 exact_sound : (m : ℕ) (e : ℤ) (v : ℕ) → exact m e ≡ Some v → Whole m e v
 exact_sound m (pos k) v h = cc
@@ -203,7 +202,7 @@ pub lawful_whole : Lawful whole 0
 unfolding whole
 lawful_whole = lawful_numbers GivesWhole whole_value decimal whole_gives whole_says (0, whole_zero)
 
--- ---- whole numbers with a sign
+-- ---- signed whole numbers
 
 signed_gives : (n : Numeral) (z : ℤ) → signed_value n ≡ Some z → GivesSigned n z
 signed_gives n z e =
@@ -258,7 +257,7 @@ pub lawful_fixed : (places : ℕ) → Lawful (fixed places) 0
 unfolding fixed
 lawful_fixed places = lawful_numbers (GivesUnits places) (units_value places) (text_of places) (units_give places) (units_say places) (0, units_zero places)
 
--- ---- what `mes_fixed` refuses is out of range
+-- ---- an error of `mes_fixed` means out of range
 
 none_range : {X : Type 0} (Gives : Numeral → X → Type 0) (value : Numeral → Option X) → ((n : Numeral) (x : X) → value n ≡ Some x → Gives n x)
     → (text : List ℕ) → ((x : X) → ReadsNumber Gives text x → ⊥) → value_of value text ≡ None

@@ -1,4 +1,4 @@
--- The kinds of numbers: what text is which number is said by `mes_fixed`; here its value is worked out from its parts.
+-- The kinds of numbers; `mes_fixed` defines the numbers of a text, computed here from its parts.
 use Rattle.std.specs.Prelude.{◌≡◌, ℕ, suc, ◌+◌, ◌*◌, ◌/◌, ◌%◌, ◌^◌, Bool, true, ◌==◌, nat_lt, nat_le, if◌then◌else◌, List, length, Option, Some, None, Result, Ok, ℤ, pos, negsuc, ◌+ℤ◌, decimal}
 use Rattle.std.specs.Option.{option_and_then}
 use Rattle.std.specs.Fmt.{signed_decimal}
@@ -18,21 +18,21 @@ use Rattle.mes_model_schema.specs.Leaves.{number_of}
 use Rattle.mes_model_schema.specs.declared.field.FieldFault.{FieldFault}
 use Rattle.mes_model_schema.specs.declared.field.FieldFaultKind.TheVariants.{NumberRange}
 
--- x, where the test holds
+-- x if the test is true
 abbrev pub when : {X : Type 0} → Bool → X → Option X
 when b x = if b then Some x else None
 
--- the whole number that m * 10^e is
+-- m * 10^e, if it is a whole number
 abbrev pub exact : ℕ → ℤ → Option ℕ
 exact m (pos k) = Some (m * 10 ^ k)
 exact m (negsuc k) = when (m % 10 ^ suc k == 0) (m / 10 ^ suc k)
 
--- the whole number that is nearest to m * 10^e, a half upwards
+-- m * 10^e, rounded to the nearest whole number, a half upwards
 abbrev pub nearest : ℕ → ℤ → ℕ
 nearest m (pos k) = m * 10 ^ k
 nearest m (negsuc k) = (2 * m + 10 ^ suc k) / (2 * 10 ^ suc k)
 
--- no minus sign stands before a digit other than zero
+-- the number has no minus sign, or is zero
 abbrev pub is_unsigned : Numeral → Bool
 is_unsigned n = if n.negative then mantissa n == 0 else true
 
@@ -58,7 +58,7 @@ abbrev pub or_range : {X : Type 0} → List Place → Option X → Result X Fiel
 or_range at None = fault at NumberRange
 or_range at (Some x) = Ok x
 
--- numbers that give an X, which is written so
+-- the numbers with a value in X, and the text it is written as
 abbrev pub numbers : {X : Type 0} → (Numeral → X → Type 0) → (Numeral → Option X) → (X → List ℕ) → Kind X
 numbers Gives value write = record {
   Reads = λ t x. (text : List ℕ) × (t ≡ number text) × ReadsNumber Gives text x;
@@ -66,14 +66,14 @@ numbers Gives value write = record {
   tree = λ x. number (write x);
 }
 
--- whole numbers of 64 bits
+-- unsigned 64-bit whole numbers
 unfoldable pub whole : Kind ℕ
 whole = numbers GivesWhole whole_value decimal
 
--- whole numbers of 32 bits and a sign
+-- signed 32-bit whole numbers
 unfoldable pub signed32 : Kind ℤ
 signed32 = numbers GivesSigned signed_value signed_decimal
 
--- decimal numbers, as units of 10^-places, rounded to the nearest
+-- decimal numbers in units of 10^-places, rounded to the nearest
 unfoldable pub fixed : ℕ → Kind ℕ
 fixed places = numbers (GivesUnits places) (units_value places) (text_of places)

@@ -1,29 +1,29 @@
--- Where in a JSON value a fault lies, and how that is printed: `a.b[0].c`, or `.` for the value itself.
+-- Paths into a JSON value, printed as `a.b[0].c`, or `.` for the root.
 use Rattle.std.specs.Prelude.{ℕ, ◌<◌, ◌≤◌, ◌^◌, List, [], ◌∷◌, ◌++◌, length, All, codes, decimal}
 use Rattle.std.specs.List.{flat_map}
 use Rattle.mes_model_schema.specs.declared.limits.TheConstants.{MAX_PATH_NAME, MAX_PATH_STEPS}
 
--- a member, by its name, or an element, by its index
+-- A member by its name, or an element by its index.
 pub data Place : Type 0 where
   name : List ℕ → Place
   index : ℕ → Place
 
--- a name has 1 to 31 bytes, an index is a 64-bit number
+-- a name has 1 to 31 bytes, and an index is less than 2^64
 abbrev pub IsPlace : Place → Type 0
 IsPlace (name n) = (1 ≤ length n) × (length n ≤ MAX_PATH_NAME)
 IsPlace (index i) = i < 2 ^ 64
 
--- a path has at most 16 steps
+-- A path has at most 16 steps.
 pub record IsPath (at : List Place) : Type 0 where
   pub few : length at ≤ MAX_PATH_STEPS
   pub each : All IsPlace at
 
--- a step that stands behind another
+-- the text of a step after another
 abbrev pub step_text : Place → List ℕ
 step_text (name n) = codes "." ++ n
 step_text (index i) = codes "[" ++ decimal i ++ codes "]"
 
--- the first step
+-- the text of the first step
 abbrev pub first_text : Place → List ℕ
 first_text (name n) = n
 first_text (index i) = step_text (index i)

@@ -1,10 +1,10 @@
--- What is told where a value is not read.
+-- The error for a value that is not read.
 use Rattle.std.specs.Prelude.{◌≡◌}
 use Rattle.mes_model_schema.specs.declared.field.FieldFault.{FieldFault}
 use Rattle.mes_model_schema.specs.declared.part.PartFault.{PartFault}
 use Rattle.mes_model_schema.specs.declared.part.PartFault.TheVariants.{Field, NoMemory}
 
--- just this fault is told, or there was no memory to tell it
+-- the error is this fault, or out of memory
 abbrev pub Reports : FieldFault → PartFault → Type 0
 Reports f (Field g) = g ≡ f
 Reports f NoMemory = Unit {0}

@@ -1,4 +1,4 @@
--- The laws of a row: what is read is what the relation says, what was written is read back, and how deep a fault may lie.
+-- The laws of a row: exact reading, reading back, and the depth of faults.
 use Rattle.std.proofs.Common.{◌≡◌, ◌⊎◌, inl, inr, ℕ, ◌+◌, ◌≤◌, Bool, true, false, List, [], ◌∷◌, length, Option, Some, None, refl, ◌∙◌, subst, arith}
 use Rattle.std.specs.Prelude.{Ok, Err}
 use Rattle.mes_json.specs.Tree.{Tree, Members}
@@ -20,27 +20,27 @@ use Rattle.mes_model_schema.specs.declared.field.FieldFault.{FieldFault}
 use Rattle.mes_model_schema.specs.declared.field.FieldFaultKind.TheVariants.{Missing, WrongKind, LeftOut}
 
 pub record LawfulTable {F : Type 0} (r : Table F) (steps : ℕ) : Type 0 where
-  -- what is read is what the relation says, wherever the object stands
+  -- `read` returns exactly what `Reads` says, at any path
   pub sound : (at : List Place) (ms : Members) (x : F) → r.read at ms ≡ Ok x → r.Reads ms x
   pub complete : (at : List Place) (ms : Members) (x : F) → r.Reads ms x → r.read at ms ≡ Ok x
-  -- what was written is read back from any members that hold it under these names, if none stands twice
+  -- what was written is read back, if no name occurs twice
   pub back : (ms : Members) (x : F) → distinct r.names ≡ true → Agrees r.names ms (r.members x) → r.Back x → r.Reads ms x
-  -- nothing is written under other names
+  -- no member is written under other names
   pub only : (n : List ℕ) (x : F) → is_in n r.names ≡ false → values_named n (members_of (r.members x)) ≡ []
-  -- some members are read, if no name stands twice
+  -- some members are read, if no name occurs twice
   pub sample : distinct r.names ≡ true → SomeRead r.names r.Reads
-  -- no fault lies more than so many steps below the path of the object; and where there is a step, one may lie so deep
+  -- faults are at most `steps` steps below the object, and if steps ≥ 1 some fault is that deep
   pub within : (at : List Place) (ms : Members) (f : FieldFault) → r.read at ms ≡ Err f → length f.path ≤ length at + steps
   pub reached : distinct r.names ≡ true → 1 ≤ steps → SomeDeep r.names r.read steps
 
 -- ---- one member
 
--- what is written under the one name of a row
+-- the member written under the name of a row is present
 held : {A : Type 0} {steps : ℕ} (k : Kind A) → Lawful k steps → (n : List ℕ) (ms : Members) (t : Tree) (v : A) → Agrees (n ∷ []) ms ((n, t) ∷ []) → k.Reads t v
     → Has ms n t
 held k lawful n ms t v agrees reads = has_one n ms t (λ e. lawful.no_null v (subst (λ (u : Tree). k.Reads u v) e reads)) agrees
 
--- nothing is written
+-- no member is written under the name of a row
 free : (n : List ℕ) (ms : Members) → Agrees (n ∷ []) ms [] → Lacks ms n
 free n ms agrees = inl (agrees n (is_only n))
 
@@ -114,7 +114,7 @@ lawful_maybe {A = A} {n = n} {k = k} {steps = steps} lawful = record {
     | inr h ↦ let bad = h.2 in absurd (cc)
   ]
 
--- what is left out may not be there
+-- an unsupported member is absent
 pub lawful_left_out : {n : List ℕ} → LawfulTable (maybe n left_out) 1
 unfolding optional left_out
 lawful_left_out {n = n} = record {

@@ -1,4 +1,4 @@
--- The names of a message's rows, in their order.
+-- The names of the rows of a message.
 use Rattle.std.specs.Prelude.{ℕ, ◌+◌, Bool, true, leb, ◌&&◌, List, [], ◌∷◌, length, bytes_eq, slice_index_or}
 use Rattle.mes_model_schema.specs.NameLaws.{distinct}
 use Rattle.mes_model_schema.specs.declared.limits.TheConstants.{MAX_PATH_NAME}
@@ -8,15 +8,15 @@ abbrev pub are_short : List (List ℕ) → Bool
 are_short [] = true
 are_short (n ∷ ns) = (leb 1 (length n) && leb (length n) MAX_PATH_NAME) && are_short ns
 
--- each name has 1 to 31 bytes, and none stands twice
+-- each name has 1 to 31 bytes, and no name occurs twice
 abbrev pub are_names : List (List ℕ) → Bool
 are_names ns = are_short ns && distinct ns
 
--- the name in this place
+-- the name at an index
 abbrev pub name_at : List (List ℕ) → ℕ → List ℕ
 name_at ns i = slice_index_or ns i []
 
--- these names stand here, from this place on
+-- these names are in the list, from index i on
 abbrev pub stand_at : ℕ → List (List ℕ) → List (List ℕ) → Bool
 stand_at i [] ns = true
 stand_at i (m ∷ ms) ns = bytes_eq m (name_at ns i) && stand_at (i + 1) ms ns

@@ -1,5 +1,6 @@
-//! Canonical texts written straight from values, of which no trees are made: each member and item behind a comma, the first of which
-//! becomes the bracket. After want of memory what stands in `out` is of no use.
+//! Canonical JSON text written straight from values; `write_row` builds trees instead. Each member
+//! or item follows a comma, and `close_object` or `close_array` turns the first comma into a
+//! bracket. On `NoMemory` the content of `out` is unspecified.
 
 ghost use Rattle.std.specs.Prelude.{◌≡◌, ℕ, [], ◌∷◌, ◌++◌, List as list, length, map, max, IfOk, OnOk};
 ghost use Rattle.std.specs.Str.{IsUtf8};
@@ -18,7 +19,8 @@ use crate::part::Part;
 use mes_json::{NoMemory, write_str};
 use std::alloc::Global;
 
-/// Appends a row that must be there, and tells how deep its value nests, as each of these does.
+/// Appends a required member. Returns the nesting depth of its value, like each function here: 0
+/// for a scalar, 1 for `{}`, at most `u64::MAX`.
 #[tactic(auto, using(crate::proofs::AppendLemmas::one_member))]
 pub fn write_row_text<T: Part>(
     alloc: Global,
@@ -33,7 +35,7 @@ pub fn write_row_text<T: Part>(
     value.write_json(alloc, out)
 }
 
-/// Appends a row that may be there.
+/// Appends an optional member, and nothing if the value is `None`.
 #[tactic(auto, using(crate::proofs::AppendLemmas::no_members))]
 pub fn write_optional_text<T: Part>(
     alloc: Global,
@@ -50,7 +52,7 @@ pub fn write_optional_text<T: Part>(
     }
 }
 
-/// Appends a list, and no member where it is empty.
+/// Appends the member of a list, and nothing if the list is empty.
 pub fn write_repeated_text<T: Part>(
     alloc: Global,
     name: &str,
@@ -67,7 +69,7 @@ pub fn write_repeated_text<T: Part>(
     list_text(alloc, values, out)
 }
 
-/// Appends an empty object where the flag is set.
+/// Appends the member of a flag, `{}`, and nothing if the flag is unset.
 pub fn write_flag_text(name: &str, set: bool, out: &mut Vec<u8>) -> Result<u64, NoMemory>
     ensures { IfOk result (λ deep. AppendsMembers out.old.items ((flag name.now).members set) out.new.items deep) }
 {
@@ -79,7 +81,7 @@ pub fn write_flag_text(name: &str, set: bool, out: &mut Vec<u8>) -> Result<u64, 
     Ok(1)
 }
 
-/// Appends the row `type`, which says what other rows there are.
+/// Appends the member `type`, which selects the other members of a typed value.
 #[tactic(auto, using(crate::proofs::AppendLemmas::one_member, crate::proofs::AppendLemmas::a_string))]
 pub fn write_type_text(kind: &str, out: &mut Vec<u8>) -> Result<u64, NoMemory>
     ensures { IfOk result (λ deep. AppendsMembers out.old.items ((type_name, string kind.now) ∷ []) out.new.items deep) }
@@ -89,7 +91,7 @@ pub fn write_type_text(kind: &str, out: &mut Vec<u8>) -> Result<u64, NoMemory>
     Ok(0)
 }
 
-/// Appends the row `type` and the row of a body.
+/// Appends the member `type` and the member of the body.
 #[tactic(auto, using(crate::proofs::AppendLemmas::both_members))]
 pub fn write_case_text<T: Part>(
     alloc: Global,
@@ -113,7 +115,7 @@ pub fn list_text<T: Part>(
     out: &mut Vec<u8>,
 ) -> Result<u64, NoMemory>
     ensures text { IfOk result (λ deep. Appends out.old.items ((list_of T.kind).tree values.now) out.new.items deep) }
-    // Each value is read back.
+    // On success: each value is read back from its own tree.
     ensures back { OnOk result (ReturnsEach T.kind values.now) }
 {
     let start = out.len();
@@ -121,7 +123,7 @@ pub fn list_text<T: Part>(
     close_array(deepest, start, out)
 }
 
-/// Appends the items of a list, each behind a comma.
+/// Appends each item of a list after a comma.
 fn append_items<T: Part>(alloc: Global, values: &[T], out: &mut Vec<u8>) -> Result<u64, NoMemory>
     ensures items { IfOk result (λ deep. AppendsItems out.old.items (map T.kind.tree values.now) out.new.items deep) }
     ensures back { OnOk result (ReturnsEach T.kind values.now) }
@@ -135,7 +137,7 @@ fn append_items<T: Part>(alloc: Global, values: &[T], out: &mut Vec<u8>) -> Resu
     Ok(deepest)
 }
 
-/// Appends a comma, a name and a colon.
+/// Appends a comma, a quoted name and a colon.
 pub fn append_name(name: &str, out: &mut Vec<u8>) -> Result<(), NoMemory>
     ensures text { OnOk result (out.new.items ≡ out.old.items ++ 44 ∷ (quoted_text name.now ++ 58 ∷ [])) }
     ensures utf8 { OnOk result (IsUtf8 name.now) }
@@ -146,16 +148,19 @@ pub fn append_name(name: &str, out: &mut Vec<u8>) -> Result<(), NoMemory>
     Ok(())
 }
 
-/// The greater of two depths.
+/// Returns the greater of two depths.
 pub fn deeper(one: u64, other: u64) -> u64
     ensures { result ≡ max one other }
 {
     if one < other { other } else { one }
 }
 
-/// Makes the members that stand behind a place, the deepest of which nests so deep, an object, and tells how deep that nests.
+/// Makes an object of the members appended from offset `start` on. `deepest` is the greatest depth
+/// of their values. Returns the depth of the object.
 #[tactic(auto, using(crate::proofs::AppendLemmas::whole_object))]
 pub fn close_object(deepest: u64, start: usize, out: &mut Vec<u8>) -> Result<u64, NoMemory>
+    // If `out` had `start` bytes before the members: on success the text of the object follows
+    // those bytes.
     ensures { (old : list ℕ) (ms : list (list ℕ × Tree)) → length old ≡ start → AppendsMembers old ms out.old.items deepest
         → IfOk result (λ deep. Appends old (object (members_of ms)) out.new.items deep) }
 {
@@ -163,7 +168,8 @@ pub fn close_object(deepest: u64, start: usize, out: &mut Vec<u8>) -> Result<u64
     Ok(deepest.saturating_add(1))
 }
 
-/// Makes the items that stand behind a place, the deepest of which nests so deep, an array, and tells how deep that nests.
+/// Makes an array of the items that were appended to `out` from offset `start` on, like
+/// [`close_object`].
 #[tactic(auto, using(crate::proofs::AppendLemmas::whole_array))]
 fn close_array(deepest: u64, start: usize, out: &mut Vec<u8>) -> Result<u64, NoMemory>
     ensures { (old : list ℕ) (ts : list Tree) → length old ≡ start → AppendsItems old ts out.old.items deepest
@@ -173,7 +179,8 @@ fn close_array(deepest: u64, start: usize, out: &mut Vec<u8>) -> Result<u64, NoM
     Ok(deepest.saturating_add(1))
 }
 
-/// Makes the comma at a place the first bracket, which stands alone where nothing stood there, and appends the last.
+/// Turns the comma at `start` into the opening bracket, or appends one, and appends the closing
+/// bracket.
 fn close(first: u8, start: usize, last: u8, out: &mut Vec<u8>) -> Result<(), NoMemory>
     ensures { OnOk result (Closes first start last out.old.items out.new.items) }
 {

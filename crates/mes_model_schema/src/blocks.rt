@@ -1,4 +1,5 @@
-//! Blocks of sixteen base64 letters (RFC 4648 section 4), decoded together.
+//! Blocks of sixteen base64 letters (RFC 4648 section 4), decoded with SIMD; `groups` decodes the
+//! rest.
 ghost use Rattle.std.specs.Prelude.{◌≡◌, ◌<◌, ◌≤◌, ◌+◌, ◌-◌, ◌*◌, ◌/◌, length, take, drop, map};
 ghost use Rattle.std.specs.Simd.Lanes.{Each1};
 ghost use Rattle.base64.specs.GeneralPurpose.{encode_of};
@@ -7,22 +8,23 @@ ghost use Rattle.mes_model_schema.specs.LetterValues.{letter_of, value_of, IsLet
 
 use std::simd::prelude::*;
 
-/// By the lower four bits of a byte, a bit for each kind of row in which the byte at that place is no letter.
+/// By the lower four bits of a byte: the classes of rows in which it is no letter, a bit each.
 const BY_LOW: [u8; 16] = [
     0x15, 0x11, 0x11, 0x11, 0x11, 0x11, 0x11, 0x11, 0x11, 0x11, 0x13, 0x1A, 0x1B, 0x1B, 0x1B, 0x1A,
 ];
 
-/// By the upper four bits, its row, of which kind that is: 1 the row of `+` and `/`, 2 of the digits, 4 the rows that begin with `@`
-/// and a grave accent, 8 those behind them, 16 a row without letters.
+/// By the upper four bits of a byte: the class of its row of the ASCII table. 1: `+` and `/`; 2:
+/// digits; 4: `A` to `O`; 8: `P` to `Z`; 16: no letters.
 const BY_HIGH: [u8; 16] = [
     0x10, 0x10, 0x01, 0x02, 0x04, 0x08, 0x04, 0x08, 0x10, 0x10, 0x10, 0x10, 0x10, 0x10, 0x10, 0x10,
 ];
 
-/// What is added to a letter of a row for its value, modulo 256; in the second place what is added to `/`.
+/// By the row of a letter: what is added to it for its value, modulo 256. Index 1 is for `/` alone.
 const TO_VALUE: [u8; 16] = [0, 16, 19, 4, 191, 191, 185, 185, 0, 0, 0, 0, 0, 0, 0, 0];
 
-/// Decodes blocks in front of a text, up to the first that has a byte that is no letter: how many. Each is written with four bytes more,
-/// which what comes behind it replaces; so the last five bytes of the text are left.
+/// Decodes blocks up to the first with a byte that is no letter, and returns their number. Each
+/// writes four bytes too many, which later bytes overwrite. So the last five bytes of the text are
+/// left.
 #[inline(always)]
 pub(crate) fn decode_blocks(text: &[u8], octets: &mut [u8]) -> usize
     requires { (length text.now + 3) / 4 * 3 ≡ length octets.old }
@@ -41,7 +43,7 @@ pub(crate) fn decode_blocks(text: &[u8], octets: &mut [u8]) -> usize
     blocks
 }
 
-/// A bit for each byte of a block that is no letter.
+/// Returns a bit for each byte of a block that is no letter.
 #[inline(always)]
 fn faults(letters: u8x16) -> u64
     ensures { result ≡ 0 → Each1 IsLetter letters }
@@ -51,7 +53,7 @@ fn faults(letters: u8x16) -> u64
     (by_low & by_high).simd_ne(u8x16::splat(0)).to_bitmask()
 }
 
-/// The values of a block's letters.
+/// Returns the values of the letters of a block.
 #[inline(always)]
 fn values(letters: u8x16) -> u8x16
     ensures { Each1 IsLetter letters → result ≡ map value_of letters }
@@ -61,8 +63,8 @@ fn values(letters: u8x16) -> u8x16
     letters + u8x16::from_array(TO_VALUE).swizzle_dyn(row)
 }
 
-/// The twelve bytes that sixteen values encode, with four more: each group of four values becomes a number, of which three bytes are
-/// taken, the highest first.
+/// Packs sixteen 6-bit values into twelve bytes, followed by four without meaning. Four values make
+/// a 24-bit number, stored highest byte first.
 #[inline(always)]
 fn packed(values: u8x16) -> u8x16
     ensures lanes { length result ≡ 16 }

@@ -1,4 +1,4 @@
-//! A value in memory of its own, so that what carries it is small.
+//! A heap-allocated value, so that what contains it is small.
 
 ghost use Rattle.std.specs.Prelude.{◌≡◌, IfOk};
 
@@ -9,13 +9,13 @@ use mes_json::{Element, Json, NoMemory};
 use std::alloc::Global;
 use std::marker::Model;
 
-/// A value in memory of its own, so that what carries it is small. A contract sees the value.
+/// A heap-allocated value, so that what contains it is small. In contracts it is the value itself.
 #[derive(Debug, Drop)]
 pub struct Boxed<T> {
     value: Box<T>,
 }
 
-/// A fault in memory of its own.
+/// A heap-allocated fault.
 pub type BoxedFault = Boxed<FieldFault>;
 
 impl<T> Model for Boxed<T> {
@@ -25,14 +25,14 @@ impl<T> Model for Boxed<T> {
 }
 
 impl<T> Boxed<T> {
-    /// The value.
+    /// Borrows the value.
     pub fn get(&self) -> &T
         ensures { result.now ≡ self.now }
     {
         self.value.as_ref()
     }
 
-    /// The value, out of its memory.
+    /// Moves the value out and frees its memory.
     pub fn into_inner(self) -> T
         ensures { result ≡ self }
     {
@@ -42,7 +42,8 @@ impl<T> Boxed<T> {
 }
 
 impl<T: Drop> Boxed<T> {
-    /// The value, moved to memory of its own.
+    /// Moves a value to the heap. Returns `NoMemory` if the allocation failed; the value is then
+    /// dropped.
     pub fn new(alloc: Global, value: T) -> Result<Boxed<T>, NoMemory>
         ensures { IfOk result (λ b. b ≡ value) }
     {
@@ -51,7 +52,7 @@ impl<T: Drop> Boxed<T> {
     }
 }
 
-/// It is read and written as the value is.
+/// Reads, writes and copies like the value in it.
 impl<T: Part> Part for Boxed<T> {
     ghost kind = { T.kind };
 

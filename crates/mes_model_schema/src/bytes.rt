@@ -1,4 +1,4 @@
-//! Bytes as a part: a string that is their padded base64 text.
+//! Binary data, which JSON has as a string of padded base64; `groups` and `blocks` decode it.
 
 ghost use Rattle.std.specs.Prelude.{◌≡◌, [], IsTrue, ◌↔◌, length, IfOk, OnOk};
 ghost use Rattle.mes_json.specs.View.{view};
@@ -19,8 +19,8 @@ use std::alloc::Global;
 use std::hash::{Hash, Hasher};
 use std::marker::Model;
 
-/// Bytes that own their memory; in JSON the string of their padded base64 text (RFC 4648 section 4).
-/// A contract sees the list of them.
+/// Owned bytes, in JSON a string of padded base64 (RFC 4648 section 4). In contracts a list of
+/// bytes.
 #[derive(Debug, Drop)]
 pub struct Bytes {
     octets: Vec<u8>,
@@ -35,21 +35,21 @@ impl Model for Bytes {
 }
 
 impl Bytes {
-    /// These bytes. Takes no memory.
+    /// Takes over a vector of bytes. Does not allocate.
     pub fn new(octets: Vec<u8>) -> Bytes
         ensures { result ≡ octets.items }
     {
         Bytes { octets }
     }
 
-    /// The bytes, borrowed.
+    /// Borrows the bytes.
     pub fn as_slice(&self) -> &[u8]
         ensures { result.now ≡ self.now }
     {
         self.octets.as_slice()
     }
 
-    /// The bytes, in the memory that they owned.
+    /// Returns the bytes in the vector that held them.
     pub fn into_vec(self) -> Vec<u8>
         ensures { result.items ≡ self }
     {
@@ -57,14 +57,14 @@ impl Bytes {
         octets
     }
 
-    /// How many bytes there are.
+    /// Returns the number of bytes.
     pub fn len(&self) -> usize
         ensures { result ≡ length self.now }
     {
         self.octets.len()
     }
 
-    /// Whether there is none.
+    /// Returns whether there are no bytes.
     pub fn is_empty(&self) -> bool
         ensures { IsTrue result ↔ self.now ≡ [] }
     {
@@ -140,7 +140,7 @@ impl Part for Bytes {
     }
 }
 
-/// What bytes are written as.
+/// Builds the JSON string of the base64 text.
 fn base64_tree(alloc: Global, octets: &[u8]) -> Result<Json, NoMemory>
     ensures tree { IfOk result (λ t. view t ≡ base64_bytes.tree octets.now) }
     ensures back { OnOk result (Returns base64_bytes octets.now) }

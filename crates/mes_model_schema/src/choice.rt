@@ -1,4 +1,4 @@
-//! Values that a member `type` tells apart: the rows of a value depend on its type.
+//! Typed values: a member `type` selects which other members the value has.
 
 ghost use Rattle.std.specs.Prelude.{◌≡◌, ℕ, ◌+◌, ◌≤◌, ◌++◌, List as list, length, IfOk, IfErr, OnOk};
 ghost use Rattle.mes_json.specs.Tree.{Members};
@@ -16,23 +16,24 @@ use crate::path_builder::PathBuilder;
 use mes_json::{Json, NoMemory, Text};
 use std::alloc::Global;
 
-/// A value that has a type, and the rows of that type.
+/// A value with a member `type` and the rows of that type, such as `SCALAR` or `SET`.
 pub trait Choice: Drop {
-    // The names of the members that are read under one type or more, `type` first.
+    // The names of the members that are read under at least one type, `type` first.
     ghost names: { list (list ℕ) };
 
     // The row `type` and the rows of each type.
     ghost table: { Table Self };
 
-    // The most steps from the message to the place of a fault in the value.
+    // The most steps from the message to a fault in the value.
     ghost STEPS: { ℕ };
 
     ghost COUNT: { ℕ };
 
-    /// How many names its rows have under all types, `type` among them.
+    /// The number of member names under all types together, `type` included.
     const COUNT: usize;
 
-    /// The value, or the first fault, where so much was found under each of its names, of which `type` is the first.
+    /// Reads the value, or returns the first fault. `found` begins with what was found under its
+    /// names, `type` first.
     fn read_choice(
         alloc: Global,
         found: &[Found<'_>],
@@ -42,7 +43,8 @@ pub trait Choice: Drop {
         requires all { COUNT ≤ length found.now }
         ensures { (ms : Members) → FindsEach 0 names ms found.now → Gives (table.read path.now ms) result };
 
-    /// Appends the row `type` and the rows of the type. After want of memory some of them may stand behind the members that stood there.
+    /// Appends the member `type` and the members of that type. On `NoMemory` only some may be
+    /// appended.
     fn push_choice_tree(
         &self,
         members: &mut Vec<(Text, Json)>,
@@ -52,13 +54,13 @@ pub trait Choice: Drop {
         ensures front { IfErr result (λ _. Continues (pairs_view members.old.items) (pairs_view members.new.items)) }
         ensures back { OnOk result (table.Back self.now) };
 
-    /// Appends the texts of those rows, each behind a comma, and tells how deep the deepest value nests. After want of memory what
-    /// stands in `out` is of no use.
+    /// Appends the texts of those members, each after a comma, and returns the greatest depth of
+    /// their values. On `NoMemory` the content of `out` is unspecified.
     fn write_choice_text(&self, alloc: Global, out: &mut Vec<u8>) -> Result<u64, NoMemory>
         ensures members { IfOk result (λ deep. AppendsMembers out.old.items (table.members self.now) out.new.items deep) }
         ensures back { OnOk result (table.Back self.now) };
 
-    /// The same value, in memory of its own.
+    /// Copies the value.
     fn copy_choice(&self, alloc: Global) -> Result<Self, NoMemory>
         ensures { IfOk result (λ v. v ≡ self.now) };
 

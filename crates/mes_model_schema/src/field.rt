@@ -1,31 +1,32 @@
-//! Why a JSON value is not the message that it should be.
+//! The reasons for which a JSON value is not the expected message; `path` has the position in the
+//! value.
 
 ghost use Rattle.std.specs.Prelude.{◌≡◌, ◌≤◌, length};
 ghost use Rattle.mes_model_schema.specs.FieldFaultKinds.{field_fault_kind_name};
 
 use crate::path::Path;
 
-/// What is wrong at a place of a JSON value.
+/// The reason for which a JSON value is not the expected message.
 #[derive(Clone, Copy, Debug, PartialEq, Eq)]
 pub enum FieldFaultKind {
     /// A required member is absent or `null`.
     Missing,
-    /// Two members have the name.
+    /// Two or more members have the name.
     Twice,
-    /// The value is of another JSON kind than the field, as a number in place of a string.
+    /// The value has another JSON kind than the field, such as a number for a string.
     WrongKind,
     /// The string is none of the names that the field may have.
     UnknownName,
-    /// The string is no padded base64 text (RFC 4648 section 4).
+    /// The string is not padded base64 (RFC 4648 section 4).
     BadBase64,
-    /// The number is out of the field's range, or not whole where it must be.
+    /// The number is out of the range of the field, or is not whole although the field is.
     NumberRange,
     /// The field belongs to a part of the protocol that is not supported.
     LeftOut,
 }
 
 impl FieldFaultKind {
-    /// The name, as it is printed.
+    /// Returns the name as it is printed.
     pub fn name(self) -> &'static str
         ensures text { result.now ≡ field_fault_kind_name self }
         ensures bound { length result.now ≤ 11 }
@@ -42,11 +43,11 @@ impl FieldFaultKind {
     }
 }
 
-/// The first place where a JSON value is not the message that it should be, and why.
+/// The first position at which a JSON value is not the expected message, and the reason.
 #[derive(Debug, Drop)]
 pub struct FieldFault {
-    /// The steps from the value to the place.
+    /// The steps from the root of the value to that position.
     pub path: Path,
-    /// What is wrong there.
+    /// The reason.
     pub why: FieldFaultKind,
 }

@@ -1,4 +1,4 @@
-//! The rows of an object, found in one pass over its members.
+//! The members of an object that a message has rows for, found in one pass over the object.
 
 ghost use Rattle.std.specs.Prelude.{◌≡◌, true, ℕ, ◌<◌, ◌≤◌, [], length, map, bytes_eq, slice_index_or};
 ghost use Rattle.std.specs.Array.{AllOfLen};
@@ -16,18 +16,18 @@ use arrayvec::ArrayVec;
 use mes_json::Element;
 use std::alloc::Global;
 
-/// What an object has under a name.
+/// What an object has under one name.
 #[derive(Drop)]
 pub enum Found<'a> {
     /// No member has the name.
     Nothing,
-    /// One member has it; this is its value.
+    /// One member has the name; this is its value.
     One(Element<'a>),
-    /// Two members or more have it.
+    /// Two or more members have the name.
     More,
 }
 
-/// What is found under a name before the first member is looked at.
+/// Nothing, as before the first member.
 impl<'a> Default for Found<'a> {
     ghost use Rattle.mes_model_schema.specs.declared.found.Found.TheVariants.{Nothing};
 
@@ -40,7 +40,7 @@ impl<'a> Default for Found<'a> {
 }
 
 impl<'a> Found<'a> {
-    /// One more member has the name.
+    /// Records one more member of the name.
     #[inline(always)]
     fn note(&mut self, value: &Element<'a>)
         ensures { self.new ≡ noted value.now self.old }
@@ -52,9 +52,9 @@ impl<'a> Found<'a> {
     }
 }
 
-/// Finds what the object at a place has under these names, at most N, of which none stands twice, where nothing was found before.
-/// Each member is looked at once. What is found stands where it is read from: the rows of a message are some 500 bytes, which would
-/// be moved as a result.
+/// Finds the members of an object that have these distinct names, in one pass. `found` has an entry
+/// for each name, with nothing found. It is a parameter because a result of some 500 bytes would be
+/// moved. Returns `WrongKind` if the element is not an object.
 #[inline(always)]
 pub fn find_rows<'a, const N: usize>(
     alloc: Global,
@@ -78,7 +78,7 @@ pub fn find_rows<'a, const N: usize>(
     Ok(())
 }
 
-/// Nothing found under any of N names.
+/// Returns N entries, each with nothing found.
 #[inline(always)]
 pub fn nothing_found<'a, const N: usize>() -> ArrayVec<Found<'a>, N>
     ensures none { (i : ℕ) → slice_index_or result.items i Nothing ≡ Nothing }
@@ -87,7 +87,7 @@ pub fn nothing_found<'a, const N: usize>() -> ArrayVec<Found<'a>, N>
     defaults()
 }
 
-/// As many defaults as there is room for, each written once.
+/// Fills an array with N defaults, each written once.
 #[inline(always)]
 fn defaults<T: Default, const N: usize>() -> ArrayVec<T, N>
     ensures { AllOfLen T.is_default result.items N }
@@ -95,7 +95,7 @@ fn defaults<T: Default, const N: usize>() -> ArrayVec<T, N>
     ArrayVec::from_array_in((), Default::default())
 }
 
-/// Notes a member under the one of these names that it has.
+/// Records a member under the name that it has, if that is one of these.
 #[inline(always)]
 fn note_member<'a, const N: usize>(
     found: &mut ArrayVec<Found<'a>, N>,

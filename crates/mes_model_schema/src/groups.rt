@@ -1,4 +1,5 @@
-//! Texts of padded base64 (RFC 4648 section 4), decoded by blocks, and behind them by tables of what their letters add.
+//! Padded base64 (RFC 4648 section 4): `blocks` decodes the front, the tables of `letters` the
+//! rest.
 ghost use Rattle.std.specs.Prelude.{◌≡◌, ◌≤◌, ◌<◌, ◌+◌, ◌*◌, ◌/◌, length, take, drop, IfOk, IfErr, IfSome};
 ghost use Rattle.std.specs.Int.{w32, to_le_bytes};
 ghost use Rattle.base64.specs.GeneralPurpose.{IsBytes, IsDecodeFailure, encode_of};
@@ -10,10 +11,10 @@ use base64::engine::general_purpose::STANDARD;
 use base64::{DecodeAllocError, decoded_len_estimate};
 use std::alloc::Global;
 
-/// What fills the last group of a text.
+/// The byte that fills the last group of a text.
 const PADDING: u8 = b'=';
 
-/// The bytes that a text encodes. A text that is no encoding goes to the decoder of the library, which tells what is wrong with it.
+/// Decodes a text. An invalid text is decoded again by the `base64` crate, which returns the error.
 pub(crate) fn decoded(alloc: Global, text: &[u8]) -> Result<Vec<u8>, DecodeAllocError>
     ensures exact { IfOk result (λ v. text.now ≡ encode_of standard v.items) }
     ensures bytes { IfOk result (λ v. IsBytes v.items) }
@@ -32,8 +33,8 @@ pub(crate) fn decoded(alloc: Global, text: &[u8]) -> Result<Vec<u8>, DecodeAlloc
     }
 }
 
-/// Writes the bytes that a text encodes: how many. None where it is empty or no encoding; that is never wrong to say, since the text is
-/// then decoded another way.
+/// Decodes a text and returns the number of bytes, or `None` if it is empty or invalid. `None` is
+/// always safe: the caller then uses the other decoder.
 fn decode_into(text: &[u8], octets: &mut [u8]) -> Option<usize>
     requires { (length text.now + 3) / 4 * 3 ≡ length octets.old }
     ensures exact { IfSome result (λ n. text.now ≡ encode_of standard (take n octets.new)) }
@@ -46,8 +47,8 @@ fn decode_into(text: &[u8], octets: &mut [u8]) -> Option<usize>
     Some(place + count)
 }
 
-/// Decodes the groups ahead of the last one, up to the first that has no four letters: how many. Behind the blocks each is written
-/// with a byte more, which the next one replaces.
+/// Decodes groups up to the last one, or to the first with a byte that is no letter, and returns
+/// their number. After the blocks, each writes one byte too many, which the next one overwrites.
 #[inline(never)]
 fn decode_front(text: &[u8], octets: &mut [u8]) -> usize
     requires { (length text.now + 3) / 4 * 3 ≡ length octets.old }
@@ -67,7 +68,7 @@ fn decode_front(text: &[u8], octets: &mut [u8]) -> usize
     groups
 }
 
-/// What the four bytes at a place add: less than `NO` where all are letters.
+/// Returns the sum of the table entries of four bytes, less than `NO` if all are letters.
 fn group_bytes(text: &[u8], at: usize) -> u32
     requires { at + 4 ≤ length text.now }
     ensures { result < NO → take 4 (drop at text.now) ≡ encode_of standard (take 3 (to_le_bytes w32 result)) }
@@ -78,7 +79,8 @@ fn group_bytes(text: &[u8], at: usize) -> u32
         + FOURTH[text[at + 3] as usize]
 }
 
-/// How many bytes a last group encodes, and what its letters add; none where it is no group, or has unused bits that aren't zero.
+/// Decodes the last group: the number of its bytes, and the sum of its table entries. Returns
+/// `None` if it is invalid, or has unused bits that are not zero.
 fn last_group(text: &[u8]) -> Option<(usize, u32)>
     ensures four { IfSome result (λ r. length text.now ≡ 4) }
     ensures few { IfSome result (λ r. r.0 ≤ 3) }

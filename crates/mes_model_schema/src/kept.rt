@@ -1,4 +1,4 @@
-//! A JSON object that is kept whole.
+//! A JSON object that is retained whole, for the members that no table describes.
 ghost use Rattle.std.specs.Prelude.{◌≡◌, None, Ok, IfOk, IfErr};
 ghost use Rattle.mes_json.specs.Tree.{Tree, Members};
 ghost use Rattle.mes_json.specs.Tree.Tree.{object};
@@ -16,7 +16,7 @@ use mes_json::{Element, Json, NoMemory, write_text};
 use std::alloc::Global;
 use std::marker::Model;
 
-/// A JSON object that is kept whole, whatever its members are. A contract sees the members.
+/// A JSON object that is retained whole, whatever its members. In contracts it is its members.
 #[derive(Debug, Drop)]
 pub struct Kept {
     json: Json,
@@ -38,9 +38,10 @@ impl Model for Kept {
 }
 
 impl Kept {
-    /// The object that the value is, or the value again where it is none. Takes no memory.
+    /// Takes over a JSON object, and returns any other value as the error. Does not allocate.
     pub fn new(json: Json) -> Result<Kept, Json>
         ensures ok { IfOk result (λ kept. view json ≡ object kept) }
+        // On error: the value is returned unchanged, and it is not an object.
         ensures err { IfErr result (λ again. (again ≡ json) × ((ms : Members) → view json ≡ object ms → ⊥)) }
     {
         match json {
@@ -49,8 +50,8 @@ impl Kept {
         }
     }
 
-    /// The object at a place of a tape, or `None` if the value there is no object. Only an object is copied, so any other value takes no
-    /// memory and is never answered with `NoMemory`.
+    /// Copies the object at a position of a tape. Returns `None` if the value there is not an
+    /// object, without allocating.
     pub fn at_place(alloc: Global, element: &Element<'_>) -> Result<Option<Kept>, NoMemory>
         ensures ok { (t : Tree) → BeginsWith element.now t → IfOk result (λ found. found ≡ as_members t) }
         ensures other { (t : Tree) → BeginsWith element.now t → as_members t ≡ None → result ≡ Ok None }
@@ -64,7 +65,7 @@ impl Kept {
         }
     }
 
-    /// The value.
+    /// Borrows the object as a JSON value.
     pub fn get(&self) -> &Json
         ensures { view result.now ≡ object self.now }
     {

@@ -1,4 +1,4 @@
-//! Labels: a key, and the value that may stand beside it.
+//! Labels, as in mesos.proto: a list of keys with optional values.
 ghost use Rattle.std.specs.Prelude.{◌≡◌, IfOk, OnOk};
 ghost use Rattle.mes_json.specs.View.{view};
 ghost use Rattle.mes_model_schema.specs.Appended.{Appends};
@@ -20,16 +20,15 @@ use mes_json::{Element, Json, NoMemory, Text};
 use std::alloc::Global;
 use std::marker::Model;
 
-/// A key, and the value that may stand beside it.
+/// A key with an optional value (`Label` in mesos.proto).
 #[derive(Debug, Drop)]
 pub struct Label {
     /// The key.
     pub key: Text,
-    /// The value.
+    /// The value, if there is one.
     pub value: Option<Text>,
 }
 
-/// The names of a label's rows.
 const LABEL_NAMES: [&str; 2] = ["key", "value"];
 
 type LabelRows = Rows2<RequiredRow<Text>, OptionalRow<Text>>;
@@ -89,7 +88,7 @@ impl Part for Label {
     }
 }
 
-/// Labels in order. A contract sees the list of them.
+/// Labels in order (`Labels` in mesos.proto). In contracts they are the list of labels.
 #[derive(Debug, Drop)]
 pub struct Labels {
     labels: List<Label>,
@@ -105,21 +104,21 @@ impl Model for Labels {
 }
 
 impl Labels {
-    /// These labels. Takes no memory.
+    /// Takes over a list of labels. Does not allocate.
     pub fn new(labels: List<Label>) -> Labels
         ensures { result ≡ labels }
     {
         Labels { labels }
     }
 
-    /// The labels in order, borrowed.
+    /// Borrows the labels in order.
     pub fn as_slice(&self) -> &[Label]
         ensures { result.now ≡ self.now }
     {
         self.labels.as_slice()
     }
 
-    /// The labels, in the memory that they own.
+    /// Returns the labels in the memory that held them.
     pub fn into_list(self) -> List<Label>
         ensures { result ≡ self }
     {
@@ -127,7 +126,6 @@ impl Labels {
     }
 }
 
-/// The names of the rows of labels.
 const LABELS_NAMES: [&str; 1] = ["labels"];
 
 type LabelsRows = Rows1<RepeatedRow<Label>>;
@@ -176,21 +174,21 @@ impl Part for Labels {
     }
 }
 
-/// What labels are written as.
+/// Builds the JSON object of a list of labels.
 #[tactic(auto, using(crate::specs::Labels::labels_back), unfolding(crate::specs::Labels::labels))]
 fn labels_tree(alloc: Global, list: &List<Label>) -> Result<Json, NoMemory>
     ensures tree { IfOk result (λ t. view t ≡ labels.tree list.now) }
-    // It is read back.
+    // On success: it is read back.
     ensures back { OnOk result (Returns labels list.now) }
 {
     message_tree(alloc, &LABELS_NAMES, &pairs!(list))
 }
 
-/// Appends the text of labels, and tells how deep it nests.
+/// Appends the text of that object, and returns its nesting depth.
 #[tactic(auto, using(crate::specs::Labels::labels_back), unfolding(crate::specs::Labels::labels))]
 fn labels_text(alloc: Global, list: &List<Label>, out: &mut Vec<u8>) -> Result<u64, NoMemory>
     ensures text { IfOk result (λ deep. Appends out.old.items (labels.tree list.now) out.new.items deep) }
-    // It is read back.
+    // On success: it is read back.
     ensures back { OnOk result (Returns labels list.now) }
 {
     message_text(alloc, &LABELS_NAMES, &pairs!(list), out)

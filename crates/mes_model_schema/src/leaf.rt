@@ -1,4 +1,4 @@
-//! The values at places of a tape that hold no others, and the first fault of any other value.
+//! Strings, numbers and booleans at a position of a tape, or the fault of any other value.
 
 ghost use Rattle.std.specs.Prelude.{◌≡◌};
 ghost use Rattle.mes_json.specs.Tree.{Tree};
@@ -13,7 +13,7 @@ use crate::refusal::refusal_at;
 use mes_json::Element;
 use std::alloc::Global;
 
-/// The text of a string.
+/// Borrows the text of a string, or returns `WrongKind`.
 #[tactic(auto, using(crate::proofs::PartLemmas::refuses_told))]
 pub fn text_in<'a>(
     alloc: Global,
@@ -28,7 +28,7 @@ pub fn text_in<'a>(
     }
 }
 
-/// The text of a number, as it is written.
+/// Borrows the text of a number as it was written, or returns `WrongKind`.
 #[tactic(auto, using(crate::proofs::PartLemmas::refuses_told))]
 pub(crate) fn number_in<'a>(
     alloc: Global,
@@ -43,7 +43,7 @@ pub(crate) fn number_in<'a>(
     }
 }
 
-/// A truth value.
+/// Returns a boolean, or `WrongKind`.
 pub(crate) fn boolean_in(
     alloc: Global,
     element: &Element<'_>,

@@ -1,4 +1,4 @@
-//! Texts and truth values as parts.
+//! Strings and booleans as parts of messages; `numbers` and `bytes` have the other scalars.
 
 ghost use Rattle.std.specs.Prelude.{◌≡◌};
 ghost use Rattle.mes_model_schema.specs.Leaves.{texts, booleans};

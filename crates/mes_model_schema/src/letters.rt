@@ -1,10 +1,10 @@
-//! What the letters of base64 (RFC 4648 section 4) add to the three bytes of their group: the first byte in the lowest eight bits,
-//! the second and the third above it.
+//! Tables of base64 letters (RFC 4648 section 4). Each letter of a group adds its bits to a sum,
+//! which has the first byte of the group in its lowest eight bits.
 
-/// What a byte adds that is no letter: more than four letters do.
+/// The entry of a byte that is no letter, greater than the sum of any four letters.
 pub(crate) const NO: u32 = 0x100_0000;
 
-/// What the first letter of a group adds to its bytes: the upper six bits of the first byte.
+/// The first letter of a group: the upper six bits of the first byte.
 pub(crate) const FIRST: [u32; 256] = [
     NO, NO, NO, NO, NO, NO, NO, NO, NO, NO, NO, NO, NO, NO, NO, NO, NO, NO, NO, NO, NO, NO, NO, NO,
     NO, NO, NO, NO, NO, NO, NO, NO, NO, NO, NO, NO, NO, NO, NO, NO, NO, NO, NO, 248, NO, NO, NO,
@@ -20,7 +20,7 @@ pub(crate) const FIRST: [u32; 256] = [
     NO, NO, NO,
 ];
 
-/// What the second letter adds: the lower two bits of the first byte and the upper four of the second.
+/// The second letter: the lower two bits of the first byte and the upper four of the second.
 pub(crate) const SECOND: [u32; 256] = [
     NO, NO, NO, NO, NO, NO, NO, NO, NO, NO, NO, NO, NO, NO, NO, NO, NO, NO, NO, NO, NO, NO, NO, NO,
     NO, NO, NO, NO, NO, NO, NO, NO, NO, NO, NO, NO, NO, NO, NO, NO, NO, NO, NO, 57347, NO, NO, NO,
@@ -37,7 +37,7 @@ pub(crate) const SECOND: [u32; 256] = [
     NO, NO, NO, NO, NO, NO, NO, NO, NO, NO, NO, NO, NO, NO, NO,
 ];
 
-/// What the third letter adds: the lower four bits of the second byte and the upper two of the third.
+/// The third letter: the lower four bits of the second byte and the upper two of the third.
 pub(crate) const THIRD: [u32; 256] = [
     NO, NO, NO, NO, NO, NO, NO, NO, NO, NO, NO, NO, NO, NO, NO, NO, NO, NO, NO, NO, NO, NO, NO, NO,
     NO, NO, NO, NO, NO, NO, NO, NO, NO, NO, NO, NO, NO, NO, NO, NO, NO, NO, NO, 8392448, NO, NO,
@@ -55,7 +55,7 @@ pub(crate) const THIRD: [u32; 256] = [
     NO, NO, NO, NO, NO, NO, NO, NO, NO, NO, NO, NO, NO, NO, NO, NO, NO, NO, NO, NO, NO, NO,
 ];
 
-/// What the fourth letter adds: the lower six bits of the third byte.
+/// The fourth letter: the lower six bits of the third byte.
 pub(crate) const FOURTH: [u32; 256] = [
     NO, NO, NO, NO, NO, NO, NO, NO, NO, NO, NO, NO, NO, NO, NO, NO, NO, NO, NO, NO, NO, NO, NO, NO,
     NO, NO, NO, NO, NO, NO, NO, NO, NO, NO, NO, NO, NO, NO, NO, NO, NO, NO, NO, 4063232, NO, NO,

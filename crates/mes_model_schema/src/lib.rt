@@ -1,5 +1,21 @@
 #![tactic(auto)]
-//! Messages as tables of rows, each read, written and copied by its rows; the kinds of values, paths into a JSON value, and faults.
+//! Reads JSON values as typed messages, and writes and copies them, by tables of rows.
+//!
+//! A message is an object, and a row describes one of its members: the name, the type, and whether
+//! it is required. A type that implements [`Part`] is read from a tree or a tape. Otherwise reading
+//! returns the first fault: the path of a value and the reason ([`FieldFault`]).
+//!
+//! Each tree has exactly one value or one first fault, and what was written is read back.
+//! [`one_answer`], [`returned`] and the module [`first_fault`] state these laws.
+//!
+//! ```ignore
+//! let json = read_text(alloc, b"{\"labels\":[{\"key\":\"rack\"}]}")?;
+//! let labels = Labels::read(alloc, &json, &Path::new())?; // or: labels[0].key Missing
+//! labels.write_json(alloc, &mut out)?; // appends {"labels":[{"key":"rack"}]}
+//! ```
+//!
+//! The messages of Mesos are in `mes_model`, `mes_msg_call_body` and `mes_msg_event_body`. Tests
+//! are in the crate `mes_model_tests`, definitions in `specs/`.
 
 mod append;
 mod blocks;

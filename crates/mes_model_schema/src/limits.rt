@@ -1,13 +1,13 @@
-//! The limits of a path, and of the rows of a message.
+//! The limits of paths and of messages.
 
-/// How many steps a path has at most.
+/// The most steps of a path.
 pub const MAX_PATH_STEPS: usize = 16;
 
-/// How many bytes the name in a step has at most.
+/// The most bytes of a name in a path.
 pub const MAX_PATH_NAME: usize = 31;
 
-/// How many bytes the text of a path has at most: each step a dot and a name.
+/// The most bytes of the text of a path: each step has a dot and a name.
 pub const MAX_PATH_TEXT: usize = MAX_PATH_STEPS * (MAX_PATH_NAME + 1);
 
-/// How many rows a message has at most: so few that what is found under their names has room in memory.
+/// The most rows of a message, so that the members found for them have room on the stack.
 pub const MAX_ROWS: usize = 64;

@@ -3,7 +3,7 @@ ghost use Rattle.std.specs.Prelude.{◌≡◌, [], IsTrue, ◌↔◌, length};
 
 use std::marker::Model;
 
-/// Values in order, in memory of their own. A contract sees the list of them.
+/// An owned list of values. In contracts it is the list of them.
 #[derive(Debug, Drop)]
 pub struct List<T> {
     values: Vec<T>,
@@ -18,21 +18,21 @@ impl<T> Model for List<T> {
 }
 
 impl<T> List<T> {
-    /// The list of these values. Takes no memory.
+    /// Takes over a vector of values. Does not allocate.
     pub fn new(values: Vec<T>) -> List<T>
         ensures { result ≡ values.items }
     {
         List { values }
     }
 
-    /// The values in order.
+    /// Borrows the values in order.
     pub fn as_slice(&self) -> &[T]
         ensures { result.now ≡ self.now }
     {
         self.values.as_slice()
     }
 
-    /// The values, in the memory that the list owned.
+    /// Returns the values in the vector that held them.
     pub fn into_vec(self) -> Vec<T>
         ensures { result.items ≡ self }
     {
@@ -40,14 +40,14 @@ impl<T> List<T> {
         values
     }
 
-    /// How many values there are.
+    /// Returns the number of values.
     pub fn len(&self) -> usize
         ensures { result ≡ length self.now }
     {
         self.values.len()
     }
 
-    /// Whether there is none.
+    /// Returns whether there are no values.
     pub fn is_empty(&self) -> bool
         ensures { IsTrue result ↔ self.now ≡ [] }
     {

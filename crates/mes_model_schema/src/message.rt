@@ -1,4 +1,5 @@
-//! A message whose rows are a table: read, written and copied by its rows.
+//! Messages read and written by the table of their rows. `row_list` reads the rows, `row_refs`
+//! writes them.
 
 ghost use Rattle.std.specs.Prelude.{◌≡◌, true, ◌+◌, ◌≤◌, length, map, IfOk, OnOk};
 ghost use Rattle.mes_json.specs.Tree.{Tree};
@@ -23,17 +24,18 @@ use crate::write_row::whole_object;
 use mes_json::{Element, Json, NoMemory};
 use std::alloc::Global;
 
-/// A value that is made of the values of its rows.
+/// A value made of the values of its rows.
 pub trait ConstructFrom<V>: Drop {
-    // What the values make.
+    // The value that these make.
     ghost to: { V → Self };
 
-    /// The value that these make. Takes no memory.
+    /// Makes the value of these. Does not allocate.
     fn made_of(values: V) -> Self
         ensures { result ≡ to values };
 }
 
-/// The message that stands at the place, by its rows, whose names are these; or the first fault.
+/// Reads the message at `element`, whose path is `path`, by the rows `R` with these names, or
+/// returns the first fault.
 pub fn read_message<R: RowList, M: ConstructFrom<R::Values>, const N: usize>(
     alloc: Global,
     element: &Element<'_>,
@@ -46,6 +48,7 @@ pub fn read_message<R: RowList, M: ConstructFrom<R::Values>, const N: usize>(
     requires rows { R.COUNT ≡ length names.now }
     requires names { are_names (map (λ n. n.now) names.now) ≡ true }
     requires fits { R.fits (map (λ n. n.now) names.now) 0 ≡ true }
+    // The value that the table reads from this tree, or its first fault, or out of memory.
     ensures { (t : Tree) → BeginsWith element.now t
         → Gives (message_of (R.table (map (λ n. n.now) names.now) 0) M.to path.now t) result }
 {
@@ -55,9 +58,10 @@ pub fn read_message<R: RowList, M: ConstructFrom<R::Values>, const N: usize>(
     Ok(M::made_of(values))
 }
 
-/// What a message is written as whose rows hold these values.
+/// Builds the JSON object of a message from the values of its rows.
 pub fn message_tree<R: RowRefs>(alloc: Global, names: &[&str], rows: &R) -> Result<Json, NoMemory>
     requires { R.COUNT ≡ length names.now }
+    // On success: the object of the members that the table writes.
     ensures tree { IfOk result (λ t. view t
         ≡ object (members_of ((R.table (map (λ n. n.now) names.now) 0).members (R.values rows.now)))) }
     ensures back { OnOk result ((R.table (map (λ n. n.now) names.now) 0).Back (R.values rows.now)) }
@@ -67,7 +71,7 @@ pub fn message_tree<R: RowRefs>(alloc: Global, names: &[&str], rows: &R) -> Resu
     Ok(whole_object(members))
 }
 
-/// Appends the text of a message whose rows hold these values, and tells how deep it nests.
+/// Appends the text of a message from the values of its rows, and returns its nesting depth.
 pub fn message_text<R: RowRefs>(
     alloc: Global,
     names: &[&str],
@@ -75,6 +79,7 @@ pub fn message_text<R: RowRefs>(
     out: &mut Vec<u8>,
 ) -> Result<u64, NoMemory>
     requires { R.COUNT ≡ length names.now }
+    // On success: the canonical text of that object is appended.
     ensures text { IfOk result (λ deep. Appends out.old.items
         (object (members_of ((R.table (map (λ n. n.now) names.now) 0).members (R.values rows.now)))) out.new.items deep) }
     ensures back { OnOk result ((R.table (map (λ n. n.now) names.now) 0).Back (R.values rows.now)) }
@@ -84,7 +89,7 @@ pub fn message_text<R: RowRefs>(
     close_object(deepest, start, out)
 }
 
-/// The value with a type that stands at the place, whose rows are the whole message; or the first fault.
+/// Reads a typed value whose rows are the whole message, or returns the first fault.
 #[inline(always)]
 pub fn read_typed<C: Choice, const N: usize>(
     alloc: Global,
@@ -104,7 +109,7 @@ pub fn read_typed<C: Choice, const N: usize>(
     C::read_choice(alloc, found.as_slice(), path)
 }
 
-/// What a value with a type is written as whose rows are the whole message.
+/// Builds the JSON object of a typed value whose rows are the whole message.
 pub fn typed_tree<C: Choice>(alloc: Global, value: &C) -> Result<Json, NoMemory>
     ensures tree { IfOk result (λ t. view t ≡ (message C.table).tree value.now) }
     ensures back { OnOk result (C.table.Back value.now) }
@@ -114,7 +119,7 @@ pub fn typed_tree<C: Choice>(alloc: Global, value: &C) -> Result<Json, NoMemory>
     Ok(whole_object(members))
 }
 
-/// Appends the text of a value with a type whose rows are the whole message, and tells how deep it nests.
+/// Appends the text of such a value, and returns its nesting depth.
 pub fn typed_text<C: Choice>(alloc: Global, value: &C, out: &mut Vec<u8>) -> Result<u64, NoMemory>
     ensures text { IfOk result (λ deep. Appends out.old.items ((message C.table).tree value.now) out.new.items deep) }
     ensures back { OnOk result (C.table.Back value.now) }

@@ -1,4 +1,5 @@
-//! Numbers as parts.
+//! Numbers as parts of messages: `u64`, `i32`, and decimals of 3 or 6 places, rounded to the
+//! nearest unit.
 
 ghost use Rattle.std.specs.Prelude.{◌≡◌, ◌≤◌, IfOk, OnOk};
 ghost use Rattle.mes_fixed.specs.Number.{IsNumber};
@@ -157,7 +158,7 @@ impl Part for Fixed<6> {
     }
 }
 
-/// The decimal number at a place.
+/// Reads a decimal number, or returns `WrongKind` or `NumberRange`.
 #[tactic(auto, using(crate::proofs::NumberPlaces::fixed_given, crate::proofs::NumberPlaces::fixed_out_of_range))]
 fn fixed_in<const P: u32>(
     alloc: Global,
@@ -174,7 +175,7 @@ fn fixed_in<const P: u32>(
     Ok(units)
 }
 
-/// What a whole number with its sign is written as.
+/// Builds the JSON number of a signed whole number.
 #[tactic(auto, using(crate::proofs::NumberPlaces::signed32_is_number, crate::specs::NumberBack::signed32_returns), unfolding(crate::specs::Numbers::signed32))]
 fn signed_tree(alloc: Global, value: i32) -> Result<Json, NoMemory>
     ensures tree { IfOk result (λ t. view t ≡ signed32.tree value) }
@@ -183,7 +184,7 @@ fn signed_tree(alloc: Global, value: i32) -> Result<Json, NoMemory>
     number_tree(alloc, Buffer::new().format(value))
 }
 
-/// What a decimal number is written as.
+/// Builds the JSON number of a decimal number.
 #[tactic(auto, using(crate::proofs::NumberPlaces::reads_is_number), unfolding(crate::specs::Numbers::fixed))]
 fn fixed_tree<const P: u32>(alloc: Global, value: Fixed<P>) -> Result<Json, NoMemory>
     ensures tree { IfOk result (λ t. view t ≡ (fixed P).tree value.entry) }
@@ -194,7 +195,7 @@ fn fixed_tree<const P: u32>(alloc: Global, value: Fixed<P>) -> Result<Json, NoMe
     number_tree(alloc, text.as_str())
 }
 
-/// The tree of a number's text.
+/// Builds the JSON number of a text.
 fn number_tree(alloc: Global, text: &str) -> Result<Json, NoMemory>
     requires { IsNumber text.now }
     ensures { IfOk result (λ t. view t ≡ number text.now) }
@@ -203,7 +204,7 @@ fn number_tree(alloc: Global, text: &str) -> Result<Json, NoMemory>
     Ok(Json::Num(number))
 }
 
-/// Appends a decimal number's text.
+/// Appends the text of a decimal number.
 #[tactic(auto, using(crate::proofs::NumberPlaces::reads_is_number), unfolding(crate::specs::Numbers::fixed))]
 fn append_fixed<const P: u32>(value: Fixed<P>, out: &mut Vec<u8>) -> Result<u64, NoMemory>
     ensures text { IfOk result (λ deep. Appends out.old.items ((fixed P).tree value.entry) out.new.items deep) }
@@ -214,7 +215,7 @@ fn append_fixed<const P: u32>(value: Fixed<P>, out: &mut Vec<u8>) -> Result<u64,
     append_number(text.as_str(), out)
 }
 
-/// Appends a number's text.
+/// Appends the text of a number.
 fn append_number(text: &str, out: &mut Vec<u8>) -> Result<u64, NoMemory>
     requires { IsNumber text.now }
     ensures { IfOk result (λ deep. Appends out.old.items (number text.now) out.new.items deep) }

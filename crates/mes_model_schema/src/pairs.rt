@@ -1,13 +1,14 @@
-//! Rows one behind the other, as they are written in code.
+//! Lists of rows as nested pairs, and macros to write them: the rows a, b are `(a, (b, ()))`.
 
-/// The values `(a, (b, (.., ())))` of `pairs!(a, b, ..)`.
+/// Builds the nested pairs `(a, (b, (.., ())))` from `pairs!(a, b, ..)`.
 #[macro_export]
 macro_rules! pairs {
     () => { () };
     ($first:expr $(, $rest:expr)* $(,)?) => { ($first, $crate::pairs!($($rest),*)) };
 }
 
-/// The struct of `made!(values => Name { a, b, .. })`, whose fields are the values of `pairs!(a, b, ..)`.
+/// Builds the struct of `made!(values => Name { a, b, .. })`, with the values of `pairs!(a, b, ..)`
+/// as fields.
 #[macro_export]
 macro_rules! made {
     ($values:expr => $name:ident { $($field:ident),* $(,)? }) => {{
@@ -16,7 +17,7 @@ macro_rules! made {
     }};
 }
 
-/// The pattern `(a, (b, (.., ())))` of `names!(a, b, ..)`.
+/// Expands to the pattern `(a, (b, (.., ())))` of `names!(a, b, ..)`.
 #[macro_export]
 macro_rules! names {
     () => { () };

@@ -1,4 +1,4 @@
-//! Values that messages are made of, each read from a place of a tape and written as a tree.
+//! The trait of messages and of the values in them.
 
 ghost use Rattle.std.specs.Prelude.{◌≡◌, ℕ, ◌+◌, ◌≤◌, length, IfOk, OnOk};
 ghost use Rattle.mes_json.specs.Tree.{Tree};
@@ -16,12 +16,12 @@ use crate::path_builder::PathBuilder;
 use mes_json::{Element, Json, NoMemory, Tape, write_text};
 use std::alloc::{AllocError, AllocFailed, Global};
 
-/// Why a value was not read from a tree.
+/// The reason for which a value was not read.
 #[derive(Debug, Drop)]
 pub enum PartFault {
-    /// The tree is no such value.
+    /// The tree is not such a value: the path of the first fault and its reason.
     Field(BoxedFault),
-    /// A growth was refused memory.
+    /// An allocation failed.
     NoMemory,
 }
 
@@ -49,16 +49,16 @@ impl<T: Drop> From<AllocFailed<T>> for PartFault {
     }
 }
 
-/// A value that a message may hold, or a message.
+/// A message, or a value that a message may have.
 pub trait Part: Drop {
     ghost kind: { Kind Self };
 
     ghost STEPS: { ℕ };
 
-    /// The most steps from a value of this type to the place of a fault in it.
+    /// The most steps from a value of this type to a fault in it.
     const STEPS: u32;
 
-    /// The value that stands at the place, whose path this is, or the first fault.
+    /// Reads the value at `element`, whose path is `path`, or returns the first fault.
     fn read_from(
         alloc: Global,
         element: &Element<'_>,
@@ -67,7 +67,8 @@ pub trait Part: Drop {
         requires { length path.now + STEPS ≤ MAX_PATH_STEPS }
         ensures { (t : Tree) → BeginsWith element.now t → Gives (kind.read path.now t) result };
 
-    /// The value that a tree is, where it stands at the path, or the first fault. The tree is laid on a tape.
+    /// Reads the value of a tree whose path is `path`, or returns the first fault. Builds a tape
+    /// first.
     final fn read(alloc: Global, json: &Json, path: &Path) -> Result<Self, PartFault>
         requires { length path.now + STEPS ≤ MAX_PATH_STEPS }
         ensures { Gives (kind.read path.now (view json.now)) result }
@@ -76,17 +77,17 @@ pub trait Part: Drop {
         Self::read_from(alloc, &tape.root(), &PathBuilder::along(path))
     }
 
-    /// What the value is written as.
+    /// Builds the tree that the value is written as.
     fn tree(&self, alloc: Global) -> Result<Json, NoMemory>
         ensures tree { IfOk result (λ t. view t ≡ kind.tree self.now) }
-        // It is read back.
+        // On success: the value is read back from the tree.
         ensures back { OnOk result (Returns kind self.now) };
 
-    /// Appends the canonical text of what the value is written as, and tells how deep that nests. After want of memory what stands
-    /// in `out` is of no use.
+    /// Appends the canonical text of that tree and returns its nesting depth. On `NoMemory` the
+    /// content of `out` is unspecified.
     fn write_json(&self, alloc: Global, out: &mut Vec<u8>) -> Result<u64, NoMemory>
         ensures text { IfOk result (λ deep. Appends out.old.items (kind.tree self.now) out.new.items deep) }
-        // It is read back.
+        // On success: the value is read back from the tree.
         ensures back { OnOk result (Returns kind self.now) }
     {
         let tree = self.tree(alloc)?;
@@ -94,7 +95,7 @@ pub trait Part: Drop {
         Ok(tree.depth())
     }
 
-    /// The same value, in memory of its own.
+    /// Copies the value.
     fn copy(&self, alloc: Global) -> Result<Self, NoMemory>
         ensures { IfOk result (λ v. v ≡ self.now) };
 

@@ -1,4 +1,4 @@
-//! Where in a JSON value a fault lies.
+//! Paths into a JSON value; `path_builder` builds them while a value is read.
 
 ghost use Rattle.std.specs.Prelude.{◌≡◌, ◌+◌, ◌*◌, ◌<◌, ◌≤◌, [], ◌∷◌, ◌++◌, length, decimal, codes};
 ghost use Rattle.arrayvec.specs.ArrayString.{array_string_len};
@@ -19,7 +19,7 @@ pub enum Step {
     Index(u64),
 }
 
-/// The step to the first element, which fills the free room of a path.
+/// A filler for the unused steps of a path.
 impl Default for Step {
     ghost use Rattle.mes_model_schema.specs.declared.path.Step.TheVariants.{Index};
 
@@ -30,10 +30,10 @@ impl Default for Step {
     }
 }
 
-/// The steps from a JSON value to the place of a fault, at most `MAX_PATH_STEPS`.
+/// A path from the root of a JSON value to a fault, of at most `MAX_PATH_STEPS` steps.
 #[derive(Debug, Drop)]
 pub struct Path {
-    /// The steps in order, and behind them free room.
+    /// The steps in order, followed by fillers.
     steps: [Step; MAX_PATH_STEPS],
     len: usize,
 }
@@ -52,7 +52,7 @@ impl Model for Path {
 }
 
 impl Path {
-    /// The path to the value itself.
+    /// Returns the path to the root, which has no step.
     pub fn new() -> Path
         ensures { result ≡ [] }
     {
@@ -62,7 +62,7 @@ impl Path {
         }
     }
 
-    /// The same path once more; takes no memory.
+    /// Copies the path. Does not allocate.
     pub fn copy(&self) -> Path
         ensures { result ≡ self.now }
     {
@@ -72,7 +72,7 @@ impl Path {
         }
     }
 
-    /// The path with one more step at its end; takes no memory.
+    /// Returns the path with one more step, for which it must have room. Does not allocate.
     pub fn with(&self, step: Step) -> Path
         requires room { length self.now < MAX_PATH_STEPS }
         requires step { IsPlace (place_of step) }
@@ -86,7 +86,7 @@ impl Path {
         }
     }
 
-    /// Writes the path in place of the text: its steps as `a.b[0].c`, or `.` where it has none.
+    /// Writes the path over `text` in the form `a.b[0].c`, or `.` for the root.
     pub fn text(&self, text: &mut ArrayString<MAX_PATH_TEXT>)
         ensures { text.new.bytes ≡ path_text self.now }
     {
@@ -104,7 +104,7 @@ impl Path {
     }
 }
 
-/// Appends a step that stands behind another.
+/// Appends a step after the first one.
 fn push_step(text: &mut ArrayString<MAX_PATH_TEXT>, step: Step)
     requires place { IsPlace (place_of step) }
     requires room { array_string_len text.old + MAX_PATH_NAME + 1 ≤ MAX_PATH_TEXT }
@@ -119,7 +119,7 @@ fn push_step(text: &mut ArrayString<MAX_PATH_TEXT>, step: Step)
     }
 }
 
-/// Appends an index between brackets.
+/// Appends an index in brackets.
 fn push_index(text: &mut ArrayString<MAX_PATH_TEXT>, index: u64)
     requires { array_string_len text.old + 22 ≤ MAX_PATH_TEXT }
     ensures { text.new.bytes ≡ text.old.bytes ++ (codes "[" ++ decimal index ++ codes "]") }

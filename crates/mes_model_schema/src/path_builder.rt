@@ -1,4 +1,4 @@
-//! The way to a place of a JSON value while it is read.
+//! The path to a value while it is read. It becomes a [`Path`] only for a fault.
 
 ghost use Rattle.std.specs.Prelude.{◌≡◌, ◌<◌, [], ◌∷◌, ◌++◌, length};
 ghost use Rattle.mes_model_schema.specs.Paths.{IsPlace};
@@ -8,8 +8,8 @@ use crate::limits::MAX_PATH_STEPS;
 use crate::path::{Path, Step};
 use std::marker::Model;
 
-/// The way from a JSON value to a place in it: the last step, and the way to the place above. Going a step on copies nothing;
-/// a path is made of it where a fault is told.
+/// The path to a value: the last step, and a borrow of the path before it. Adding a step copies
+/// nothing.
 #[cycle(trail)]
 #[derive(Drop)]
 pub struct PathBuilder<'a> {
@@ -47,14 +47,14 @@ impl<'a> Model for PathBuilder<'a> {
 }
 
 impl<'a> PathBuilder<'a> {
-    /// The way to the value itself.
+    /// Returns the path to the root.
     pub fn new() -> PathBuilder<'a>
         ensures { result ≡ [] }
     {
         PathBuilder { link: Link::Start }
     }
 
-    /// The way along the steps of a path.
+    /// Returns the same path as `path`.
     pub fn along(path: &'a Path) -> PathBuilder<'a>
         ensures { result ≡ path.now }
     {
@@ -63,7 +63,7 @@ impl<'a> PathBuilder<'a> {
         }
     }
 
-    /// The way with one more step at its end; takes no memory.
+    /// Returns the path with one more step, for which it must have room. Does not allocate.
     pub fn with(&self, step: Step) -> PathBuilder<'_>
         requires room { length self.now < MAX_PATH_STEPS }
         requires step { IsPlace (place_of step) }
@@ -74,7 +74,7 @@ impl<'a> PathBuilder<'a> {
         }
     }
 
-    /// The path of its steps; takes no memory.
+    /// Returns the steps as a [`Path`]. Does not allocate.
     pub fn path(&self) -> Path
         ensures { result ≡ self.now }
     {

@@ -1,4 +1,5 @@
-//! Rows read: the value of a member that was found, or the first fault.
+//! Reading one row: from the member that `found` has under its name. `write_row` and `append` write
+//! it.
 
 ghost use Rattle.std.specs.Prelude.{◌≡◌, ℕ, List as list, ◌+◌, ◌≤◌, ◌<◌, length, None};
 ghost use Rattle.mes_json.specs.Tree.{Tree, Members};
@@ -24,7 +25,8 @@ use crate::refusal::{refusal_at, row_refusal, type_refusal};
 use mes_json::Element;
 use std::alloc::Global;
 
-/// A row that must be there.
+/// Reads a required member. Returns `Missing` if it is absent or `null`, `Twice` if it occurs
+/// twice.
 #[tactic(auto, unfolding(crate::specs::Rows::required, crate::specs::Fields::lookup))]
 pub fn required<T: Part>(
     alloc: Global,
@@ -43,7 +45,7 @@ pub fn required<T: Part>(
     }
 }
 
-/// A row that may be there.
+/// Reads an optional member: `None` if it is absent or `null`. Returns `Twice` if it occurs twice.
 #[tactic(auto, unfolding(crate::specs::Rows::optional, crate::specs::Fields::lookup))]
 pub fn optional<T: Part>(
     alloc: Global,
@@ -65,7 +67,7 @@ pub fn optional<T: Part>(
     }
 }
 
-/// A list, which is empty where no member has the name.
+/// Reads the member of a list: empty if it is absent or `null`. Returns `Twice` if it occurs twice.
 #[tactic(auto, unfolding(crate::specs::Rows::repeated, crate::specs::Fields::lookup))]
 pub fn repeated<T: Part>(
     alloc: Global,
@@ -84,7 +86,8 @@ pub fn repeated<T: Part>(
     }
 }
 
-/// A flag, which is set where a member has the name and its value is an object.
+/// Reads a flag: set if the member is an object, unset if it is absent or `null`. Returns
+/// `WrongKind` for any other value, `Twice` if it occurs twice.
 #[tactic(auto, using(crate::proofs::PartLemmas::refuses_told), unfolding(crate::specs::Rows::flagged, crate::specs::Fields::lookup))]
 pub fn flagged(
     alloc: Global,
@@ -106,7 +109,7 @@ pub fn flagged(
     }
 }
 
-/// The row `type`, which says what other rows there are.
+/// Reads the member `type`, which selects the other members of a typed value.
 #[tactic(auto, using(crate::proofs::PartLemmas::refuses_told), unfolding(crate::specs::Rows::required, crate::specs::Fields::lookup, crate::specs::Leaves::texts))]
 pub fn type_of<'a>(
     alloc: Global,
@@ -126,10 +129,10 @@ pub fn type_of<'a>(
     }
 }
 
-/// For how many items a list takes memory before they are read; for one that has more, it grows.
+/// The most items for which memory is reserved before they are read.
 const INITIAL_CAPACITY: usize = 64;
 
-/// The values of an array's items, in order.
+/// Reads the items of an array in order. Returns `WrongKind` if the value is not an array.
 pub fn read_items<T: Part>(
     alloc: Global,
     element: &Element<'_>,
@@ -149,7 +152,8 @@ pub fn read_items<T: Part>(
     Ok(List::new(values))
 }
 
-/// The values of a list in either of its forms: an object whose member of that name is the list, or the list itself.
+/// Reads a list in either form: an object whose member of that name is the list, or the list
+/// itself.
 pub fn read_either_list<T: Part>(
     alloc: Global,
     element: &Element<'_>,
@@ -168,17 +172,18 @@ pub fn read_either_list<T: Part>(
     repeated(alloc, &found[0], name, path)
 }
 
-/// What there is to be read under a name.
+/// The value to read under a name.
 enum Unique<'a> {
-    /// Nothing: no member has the name, or one whose value is null.
+    /// No value: no member has the name, or its value is `null`.
     Absent,
-    /// The value of the one member that has it, which isn't null.
+    /// The value of the only member of the name, not `null`.
     Present(Element<'a>),
-    /// Nothing, since two members or more have it.
+    /// No value, because two or more members have the name.
     Repeated,
 }
 
-/// A row of what is not supported: it may be absent or `null`, and any other value of it is `LeftOut`.
+/// Checks an unsupported member: absent or `null`. Returns `LeftOut` for any other value, `Twice`
+/// if it occurs twice.
 #[tactic(auto, using(crate::proofs::PartLemmas::refuses_told), unfolding(crate::specs::Rows::optional, crate::specs::Fields::lookup, crate::specs::Leaves::left_out))]
 pub fn left_out(
     alloc: Global,
@@ -197,7 +202,7 @@ pub fn left_out(
     }
 }
 
-/// The one value that was found and isn't null, where there is one.
+/// Returns the only value that was found, if it is not `null`.
 #[tactic(auto, using(crate::proofs::ValueLemmas::single_none, crate::proofs::ValueLemmas::single_null, crate::proofs::ValueLemmas::single_one, crate::proofs::ValueLemmas::single_twice))]
 fn unique_value<'a>(found: &Found<'a>) -> Unique<'a>
     ensures { (at : list Place) (ts : list Tree) → IsFound found.now ts → IsSole at (single at ts) result }

@@ -1,5 +1,5 @@
-//! Refusals: the fault that is told of a value that is not read, or want of the memory for it.
-//! They are made out of line, since few values are refused.
+//! Faults made for values that are not read, or `NoMemory`. They are out of line because they are
+//! rare.
 
 ghost use Rattle.std.specs.Prelude.{◌<◌, length};
 ghost use Rattle.mes_model_schema.specs.Paths.{Place, IsPlace};
@@ -15,7 +15,8 @@ use crate::path::Step;
 use crate::path_builder::PathBuilder;
 use std::alloc::Global;
 
-/// What is wrong at the place of this path.
+/// Makes the fault at this path. Returns `PartFault::NoMemory` if the allocation failed, like those
+/// below.
 #[cold]
 #[inline(never)]
 pub fn refusal_at(alloc: Global, path: &PathBuilder<'_>, why: FieldFaultKind) -> PartFault
@@ -25,7 +26,7 @@ pub fn refusal_at(alloc: Global, path: &PathBuilder<'_>, why: FieldFaultKind) ->
     reported(alloc, FieldFault { path, why })
 }
 
-/// What is wrong with the row of this name, in the object at this path.
+/// Makes the fault of the member of this name, in the object at this path.
 #[cold]
 #[inline(never)]
 pub(crate) fn row_refusal(
@@ -42,7 +43,7 @@ pub(crate) fn row_refusal(
     reported(alloc, FieldFault { path, why })
 }
 
-/// What is wrong with the type of the object at this path.
+/// Makes the fault of the member `type`, in the object at this path.
 pub fn type_refusal(alloc: Global, path: &PathBuilder<'_>, why: FieldFaultKind) -> PartFault
     requires { length path.now < MAX_PATH_STEPS }
     ensures { Reports (record { path = below path.now type_name; why = why }) result }
@@ -50,7 +51,7 @@ pub fn type_refusal(alloc: Global, path: &PathBuilder<'_>, why: FieldFaultKind) 
     row_refusal(alloc, path, "type", why)
 }
 
-/// The fault, where there is memory for it.
+/// Allocates the fault, or returns `PartFault::NoMemory`.
 fn reported(alloc: Global, fault: FieldFault) -> PartFault
     ensures { Reports fault result }
 {

@@ -1,4 +1,4 @@
-//! The kinds of row that a message is read by: each reads the member of one name.
+//! The kinds of rows that a message is read by. A row describes the member of one name.
 
 ghost use Rattle.std.specs.Prelude.{ℕ, ◌+◌, ◌≤◌, List as list, length};
 ghost use Rattle.mes_json.specs.Tree.{Members};
@@ -17,18 +17,18 @@ use crate::read_row::{flagged, optional, repeated, required};
 use std::alloc::Global;
 use std::marker::PhantomData;
 
-/// A kind of row.
+/// A kind of row: how the member of one name is read.
 pub trait Row {
-    /// What a row of this kind holds.
+    /// The type of the values read by a row of this kind.
     type Value: Drop;
 
     // The row of this name, as a table.
     ghost table: { list ℕ → Table Self.Value };
 
-    // The most steps from the message to a place in the row.
+    // The most steps from the message to a fault in the row.
     ghost STEPS: { ℕ };
 
-    /// What the member of this name, of which so much was found, holds; or the first fault.
+    /// Reads the member that was found under this name, or returns the first fault.
     fn read_row(
         alloc: Global,
         found: &Found<'_>,
@@ -40,7 +40,7 @@ pub trait Row {
         ensures { (ms : Members) → IsFound found.now (values_named name.now ms) → Gives ((table name.now).read path.now ms) result };
 }
 
-/// A member that must be there.
+/// A required member.
 pub struct RequiredRow<T> {
     of: PhantomData<T>,
 }
@@ -62,7 +62,7 @@ impl<T: Part> Row for RequiredRow<T> {
     }
 }
 
-/// A member that may be there.
+/// An optional member, `None` if it is absent or `null`.
 pub struct OptionalRow<T> {
     of: PhantomData<T>,
 }
@@ -84,7 +84,7 @@ impl<T: Part> Row for OptionalRow<T> {
     }
 }
 
-/// A list, which is empty where its member isn't there.
+/// A list, empty if its member is absent or `null`.
 pub struct RepeatedRow<T> {
     of: PhantomData<T>,
 }
@@ -106,7 +106,7 @@ impl<T: Part> Row for RepeatedRow<T> {
     }
 }
 
-/// A flag: an object that is there or isn't, and whose members are dropped.
+/// A flag: an object that is present or absent, and whose members are ignored.
 pub struct Flag;
 
 impl Row for Flag {

@@ -1,4 +1,4 @@
-//! The rows of a message, read one after the other.
+//! The rows of a message, read in order.
 
 ghost use Rattle.std.specs.Prelude.{◌≡◌, Bool, true, ℕ, ◌+◌, ◌≤◌, max, List as list, length, map};
 ghost use Rattle.mes_json.specs.Tree.{Members};
@@ -14,24 +14,25 @@ use crate::path_builder::PathBuilder;
 use crate::row::Row;
 use std::alloc::Global;
 
-/// Rows in order: `()`, or a row and those behind it.
+/// Rows in order: `()`, or a row and the rows after it.
 pub trait RowList {
-    /// What the rows hold, one behind the other.
+    /// The values of the rows, as nested pairs.
     type Values: Drop;
 
-    // The table of the rows whose names stand from a place on.
+    // The table of these rows, whose names begin at this index of a list.
     ghost table: { list (list ℕ) → ℕ → Table Self.Values };
 
-    // How many names the rows have.
+    // The number of names.
     ghost COUNT: { ℕ };
 
-    // The most steps from the message to a place in its rows.
+    // The most steps from the message to a fault in the rows.
     ghost STEPS: { ℕ };
 
-    // The names of each value with a type stand in its places.
+    // The names of each typed value are where its rows expect them.
     ghost fits: { list (list ℕ) → ℕ → Bool };
 
-    /// What the rows hold whose names stand from a place on, of which so much was found; or the first fault.
+    /// Reads the rows whose names begin at index `first`, from what was found under each name, or
+    /// returns the first fault.
     fn read_rows(
         alloc: Global,
         found: &[Found<'_>],
@@ -44,6 +45,7 @@ pub trait RowList {
         requires all { length names.now ≤ length found.now }
         requires names { are_short (map (λ n. n.now) names.now) ≡ true }
         requires fits { fits (map (λ n. n.now) names.now) first ≡ true }
+        // The values that the table reads from these members, or its first fault, or out of memory.
         ensures { (ms : Members) → FindsAll (map (λ n. n.now) names.now) ms found.now
             → Gives ((table (map (λ n. n.now) names.now) first).read path.now ms) result };
 }

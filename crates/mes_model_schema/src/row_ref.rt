@@ -1,4 +1,4 @@
-//! What the rows of a message hold, borrowed: each is written under its name, and copied.
+//! The borrowed value of one row, which is written under a name or copied.
 
 ghost use Rattle.std.specs.Prelude.{◌≡◌, ℕ, ◌++◌, List as list, IfOk, IfErr, OnOk};
 ghost use Rattle.mes_model_schema.specs.Appended.{AppendsMembers};
@@ -14,9 +14,9 @@ use crate::write_row::{
 use mes_json::{Json, NoMemory, Text};
 use std::alloc::Global;
 
-/// What a row holds.
+/// The borrowed value of a row.
 pub trait RowRef {
-    /// The same in memory of its own.
+    /// The owned value.
     type Value: Drop;
 
     // The row of this name, as a table.
@@ -25,7 +25,7 @@ pub trait RowRef {
     // The value that is borrowed.
     ghost value: { Self → Self.Value };
 
-    /// Appends the member that it is written as, if it is written. After want of memory the members are as they were.
+    /// Appends the member of the value, if it has one. On `NoMemory` the members are unchanged.
     fn push_row_tree(
         &self,
         members: &mut Vec<(Text, Json)>,
@@ -36,18 +36,18 @@ pub trait RowRef {
         ensures unchanged { IfErr result (λ _. pairs_view members.new.items ≡ pairs_view members.old.items) }
         ensures back { OnOk result ((table name.now).Back (value self.now)) };
 
-    /// Appends the text of that member behind a comma, and tells how deep its value nests. After want of memory what stands in `out`
-    /// is of no use.
+    /// Appends the text of that member after a comma and returns the depth of its value. On
+    /// `NoMemory` the content of `out` is unspecified.
     fn write_row_text(&self, alloc: Global, name: &str, out: &mut Vec<u8>) -> Result<u64, NoMemory>
         ensures members { IfOk result (λ deep. AppendsMembers out.old.items ((table name.now).members (value self.now)) out.new.items deep) }
         ensures back { OnOk result ((table name.now).Back (value self.now)) };
 
-    /// The same value, in memory of its own.
+    /// Copies the value.
     fn copy_row(&self, alloc: Global) -> Result<Self::Value, NoMemory>
         ensures { IfOk result (λ v. v ≡ value self.now) };
 }
 
-/// The value of a row that must be there.
+/// The borrowed value of a required row.
 #[derive(Drop)]
 pub struct RequiredRowRef<'a, T>(pub &'a T);
 
@@ -141,7 +141,7 @@ impl<'a, T: Part> RowRef for &'a List<T> {
     }
 }
 
-/// A flag.
+/// The value of a flag.
 impl RowRef for bool {
     type Value = bool;
 

@@ -1,4 +1,4 @@
-//! What all rows of a message hold, borrowed: written one behind the other, and copied.
+//! The borrowed values of all rows of a message, which are written in order or copied.
 
 ghost use Rattle.std.specs.Prelude.{◌≡◌, ℕ, ◌+◌, ◌≤◌, ◌++◌, List as list, length, map, IfOk, IfErr, OnOk};
 ghost use Rattle.mes_model_schema.specs.Appended.{AppendsMembers};
@@ -11,22 +11,22 @@ use crate::row_ref::RowRef;
 use mes_json::{Json, NoMemory, Text};
 use std::alloc::Global;
 
-/// What rows hold, in order: `()`, or what a row holds and those behind it.
+/// The borrowed values of rows in order: `()`, or the value of a row and those after it.
 pub trait RowRefs {
-    /// The same in memory of its own.
+    /// The owned values, as nested pairs.
     type Values: Drop;
 
-    // The table of the rows whose names stand from a place on.
+    // The table of these rows, whose names begin at this index of a list.
     ghost table: { list (list ℕ) → ℕ → Table Self.Values };
 
-    // How many names the rows have.
+    // The number of names.
     ghost COUNT: { ℕ };
 
     // The values that are borrowed.
     ghost values: { Self → Self.Values };
 
-    /// Appends the members that they are written as, under the names that stand from a place on. After want of memory
-    /// some of them may stand behind those that stood there.
+    /// Appends the members of the values, under the names from index `first` on. On `NoMemory` only
+    /// some may be appended.
     fn push_rows_tree(
         &self,
         members: &mut Vec<(Text, Json)>,
@@ -35,13 +35,14 @@ pub trait RowRefs {
         first: usize,
     ) -> Result<(), NoMemory>
         requires { first + COUNT ≤ length names.now }
+        // On success: the members that the table writes are appended.
         ensures members { OnOk result (pairs_view members.new.items
             ≡ pairs_view members.old.items ++ (table (map (λ n. n.now) names.now) first).members (values self.now)) }
         ensures front { IfErr result (λ _. Continues (pairs_view members.old.items) (pairs_view members.new.items)) }
         ensures back { OnOk result ((table (map (λ n. n.now) names.now) first).Back (values self.now)) };
 
-    /// Appends the texts of those members, each behind a comma, and tells how deep the deepest value nests. After want of memory
-    /// what stands in `out` is of no use.
+    /// Appends the texts of those members, each after a comma, and returns the greatest depth of
+    /// their values. On `NoMemory` the content of `out` is unspecified.
     fn write_rows_text(
         &self,
         alloc: Global,
@@ -50,11 +51,12 @@ pub trait RowRefs {
         out: &mut Vec<u8>,
     ) -> Result<u64, NoMemory>
         requires { first + COUNT ≤ length names.now }
+        // On success: the texts of the members that the table writes are appended.
         ensures members { IfOk result (λ deep. AppendsMembers out.old.items
             ((table (map (λ n. n.now) names.now) first).members (values self.now)) out.new.items deep) }
         ensures back { OnOk result ((table (map (λ n. n.now) names.now) first).Back (values self.now)) };
 
-    /// The same values, in memory of their own.
+    /// Copies the values.
     fn copy_rows(&self, alloc: Global) -> Result<Self::Values, NoMemory>
         ensures { IfOk result (λ v. v ≡ values self.now) };
 }

@@ -1,4 +1,4 @@
-//! What holds of every part, as contracts of generic calls.
+//! Laws of every [`Part`], as contracts of generic functions; most of these have no code.
 
 ghost use Rattle.std.specs.Prelude.{◌≡◌, ℕ, ◌+◌, ◌≤◌, List as list, Ok, length, IfOk, IfErr};
 ghost use Rattle.mes_json.specs.Tree.{Tree};
@@ -19,18 +19,19 @@ use crate::read_row::read_items;
 use mes_json::{Json, Tape};
 use std::alloc::Global;
 
-/// Any tree at any path is one value of the type, or has one first fault.
+/// Any tree, at any path, has exactly one value of the type or exactly one first fault.
 pub fn one_answer<T: Part>()
     ensures { (at : list Place) (t : Tree) → Settled T.kind at t }
 {}
 
-/// No fault of a tree lies more than `STEPS` steps below its path, and a fault of some tree, which is not `null`, lies just so many.
+/// A fault is at most `STEPS` steps below its tree, and some tree other than `null` has one that
+/// deep.
 pub fn most_steps<T: Part>()
     ensures within { Within T.kind T.STEPS }
     ensures reached { Reaches T.kind T.STEPS }
 {}
 
-/// A value that is read back from the tree that it is written as is read there at any path.
+/// A value that is read back from its own tree is read back at any path.
 pub fn returned<T: Part>()
     ensures { (at : list Place) (value : T) → Returns T.kind value → T.kind.read at (T.kind.tree value) ≡ Ok value }
 {}
@@ -40,24 +41,27 @@ pub fn list_reading_is_unique<T: Part>()
     ensures { (at : list Place) (t : Tree) → Settled (list_of T.kind) at t }
 {}
 
-/// A list whose values are read back is read back from the tree that it is written as.
+/// A list is read back from its own tree at any path, if each of its values is read back.
 pub fn list_returned<T: Part>()
+    // If each value is read back from its own tree, so is the list.
     ensures { (at : list Place) (values : list T) → ReturnsEach T.kind values
         → (list_of T.kind).read at ((list_of T.kind).tree values) ≡ Ok values }
 {}
 
-/// Any tree at any path is one list of values of the type in either of a list's forms, or has one first fault.
+/// Any tree, at any path, has exactly one list in either form or exactly one first fault.
 pub fn either_list_reading_is_unique<T: Part>()
     ensures { (n : list ℕ) (at : list Place) (t : Tree) → Settled (either_list n T.kind) at t }
 {}
 
-/// A list whose values are read back is read back from the object that it is written as.
+/// A list is read back from the object that it is written as, if each of its values is read back.
 pub fn either_list_returned<T: Part>()
+    // If each value is read back from its own tree, the list is read back from that object.
     ensures { (n : list ℕ) (at : list Place) (values : list T) → ReturnsEach T.kind values
         → (either_list n T.kind).read at ((either_list n T.kind).tree values) ≡ Ok values }
 {}
 
-/// The value that is read where another is written: the same one. It takes the memory of its tree.
+/// Writes a value as a tree and reads it back: the result equals the value, unless an allocation
+/// failed.
 pub fn written_again<T: Part>(alloc: Global, value: &T) -> Result<T, PartFault>
     requires { T.STEPS ≤ MAX_PATH_STEPS }
     ensures { Gives (Ok value.now) result }
@@ -66,7 +70,7 @@ pub fn written_again<T: Part>(alloc: Global, value: &T) -> Result<T, PartFault>
     T::read(alloc, &tree, &Path::new())
 }
 
-/// The value that a tree is, exactly.
+/// Reads the value of a tree exactly, or returns the first fault.
 pub fn read_part<T: Part>(alloc: Global, json: &Json, path: &Path) -> Result<T, PartFault>
     requires { length path.now + T.STEPS ≤ MAX_PATH_STEPS }
     ensures found { IfOk result (λ v. T.kind.Reads (view json.now) v) }
@@ -76,7 +80,7 @@ pub fn read_part<T: Part>(alloc: Global, json: &Json, path: &Path) -> Result<T, 
     T::read(alloc, json, path)
 }
 
-/// The values that the items of an array are, in order, or the first fault. The array is laid on a tape.
+/// Reads the items of an array in order, or returns the first fault. Builds a tape first.
 pub fn read_list<T: Part>(alloc: Global, json: &Json, path: &Path) -> Result<List<T>, PartFault>
     requires { length path.now + 1 + T.STEPS ≤ MAX_PATH_STEPS }
     ensures { Gives ((list_of T.kind).read path.now (view json.now)) result }
@@ -85,7 +89,8 @@ pub fn read_list<T: Part>(alloc: Global, json: &Json, path: &Path) -> Result<Lis
     read_items(alloc, &tape.root(), &PathBuilder::along(path))
 }
 
-/// A path has at most 16 steps, whose names have at most 31 bytes, and its text at most 512; a message has at most 64 rows.
+/// Paths have at most 16 steps, names of 31 bytes and texts of 512 bytes; messages have at most 64
+/// rows.
 pub fn part_limits()
     ensures { (MAX_PATH_STEPS ≡ 16) × (MAX_PATH_NAME ≡ 31) × (MAX_PATH_TEXT ≡ 512) × (MAX_ROWS ≡ 64) }
 {}

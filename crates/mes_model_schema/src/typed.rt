@@ -1,4 +1,4 @@
-//! A value with a type among the rows of a message, before the rows behind it.
+//! A typed value among the rows of a message, followed by other rows.
 
 ghost use Rattle.std.specs.Prelude.{◌+◌, ◌&&◌, max};
 ghost use Rattle.mes_model_schema.specs.RowNames.{stand_at};
@@ -15,7 +15,7 @@ use mes_json::{Json, NoMemory, Text};
 use std::alloc::Global;
 use std::marker::PhantomData;
 
-/// The rows of a value with a type, and those behind it.
+/// The rows of a typed value, and the rows after them.
 pub struct Typed<C, T> {
     of: PhantomData<(C, T)>,
 }
@@ -44,7 +44,7 @@ impl<C: Choice, T: RowList> RowList for Typed<C, T> {
     }
 }
 
-/// A borrowed value with a type, and what the rows behind it hold.
+/// A borrowed typed value, and the values of the rows after it.
 #[derive(Drop)]
 pub struct TypedRef<'a, C, T>(pub &'a C, pub T);
 

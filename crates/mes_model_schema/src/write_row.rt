@@ -1,4 +1,5 @@
-//! Rows written: the members of an object, each with its value's tree. After want of memory the members are as they were.
+//! Building the JSON tree of each row; `append` writes the text instead. On `NoMemory` the members
+//! given are unchanged.
 
 ghost use Rattle.std.specs.Prelude.{◌≡◌, [], ◌∷◌, ◌++◌, IfOk, IfErr, OnOk};
 ghost use Rattle.mes_json.specs.Tree.Tree.{object, string};
@@ -13,7 +14,7 @@ use crate::part::Part;
 use mes_json::{Json, NoMemory, Text};
 use std::alloc::Global;
 
-/// Appends a row that must be there.
+/// Appends a required member.
 pub fn put<T: Part>(
     members: &mut Vec<(Text, Json)>,
     alloc: Global,
@@ -28,7 +29,7 @@ pub fn put<T: Part>(
     push_member(members, alloc, name, tree)
 }
 
-/// Appends a row that may be there.
+/// Appends an optional member, and nothing if the value is `None`.
 pub fn push_optional_tree<T: Part>(
     members: &mut Vec<(Text, Json)>,
     alloc: Global,
@@ -45,7 +46,7 @@ pub fn push_optional_tree<T: Part>(
     }
 }
 
-/// Appends a list, and no member where it is empty.
+/// Appends the member of a list, and nothing if the list is empty.
 pub fn push_repeated_tree<T: Part>(
     members: &mut Vec<(Text, Json)>,
     alloc: Global,
@@ -63,7 +64,7 @@ pub fn push_repeated_tree<T: Part>(
     push_member(members, alloc, name, tree)
 }
 
-/// Appends an empty object where the flag is set.
+/// Appends the member of a flag, `{}`, and nothing if the flag is unset.
 pub fn push_flag_tree(
     members: &mut Vec<(Text, Json)>,
     alloc: Global,
@@ -80,7 +81,7 @@ pub fn push_flag_tree(
     }
 }
 
-/// Appends the row `type`, which says what other rows there are.
+/// Appends the member `type`, which selects the other members of a typed value.
 pub fn push_type_tree(
     members: &mut Vec<(Text, Json)>,
     alloc: Global,
@@ -93,7 +94,7 @@ pub fn push_type_tree(
     push_member(members, alloc, "type", Json::Text(kind))
 }
 
-/// The object of these members. Takes no memory.
+/// Builds the object of these members. Does not allocate.
 #[tactic(auto, using(crate::proofs::TreeLemmas::view_map))]
 pub fn whole_object(members: Vec<(Text, Json)>) -> Json
     ensures { view result ≡ object (members_of (pairs_view members.items)) }
@@ -101,11 +102,11 @@ pub fn whole_object(members: Vec<(Text, Json)>) -> Json
     Json::Map(members)
 }
 
-/// What a list is written as.
+/// Builds the JSON array of a list.
 #[tactic(auto, using(crate::proofs::TreeLemmas::view_list))]
 pub fn list_tree<T: Part>(alloc: Global, values: &List<T>) -> Result<Json, NoMemory>
     ensures tree { IfOk result (λ t. view t ≡ (list_of T.kind).tree values.now) }
-    // Each value is read back.
+    // On success: each value is read back from its own tree.
     ensures back { OnOk result (ReturnsEach T.kind values.now) }
 {
     let mut trees = Vec::with_capacity(alloc, values.len())?;
@@ -115,7 +116,7 @@ pub fn list_tree<T: Part>(alloc: Global, values: &List<T>) -> Result<Json, NoMem
     Ok(Json::List(trees))
 }
 
-/// The same list, in memory of its own.
+/// Copies a list.
 pub fn copy_list<T: Part>(alloc: Global, values: &List<T>) -> Result<List<T>, NoMemory>
     ensures { IfOk result (λ copies. copies ≡ values.now) }
 {
@@ -126,7 +127,7 @@ pub fn copy_list<T: Part>(alloc: Global, values: &List<T>) -> Result<List<T>, No
     Ok(List::new(copies))
 }
 
-/// The same value, where there is one, in memory of its own.
+/// Copies the value, if there is one.
 pub fn copy_some<T: Part>(alloc: Global, value: &Option<T>) -> Result<Option<T>, NoMemory>
     ensures { IfOk result (λ copy. copy ≡ value.now) }
 {
@@ -136,7 +137,6 @@ pub fn copy_some<T: Part>(alloc: Global, value: &Option<T>) -> Result<Option<T>,
     }
 }
 
-/// Appends a member.
 fn push_member(
     members: &mut Vec<(Text, Json)>,
     alloc: Global,

@@ -1,4 +1,4 @@
--- The tape of a tree begins with the tree, and nothing stands behind it.
+-- The tape of a tree has the tree and nothing after it.
 use Rattle.std.proofs.Common.{[], sym, ◌∙◌, append-nil}
 use Rattle.mes_json.specs.Tokens.{tokens}
 use Rattle.mes_json.specs.View.{view}
