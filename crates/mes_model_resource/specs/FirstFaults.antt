@@ -1,4 +1,4 @@
--- The first fault of a resource, as its table is written: the rows in order, and by its type the row of its value.
+-- The first fault of a resource, row by row in the order of its table.
 use Rattle.std.specs.Prelude.{codes}
 use Rattle.mes_model_schema.specs.Leaves.{texts, objects}
 use Rattle.mes_model_schema.specs.FirstFaults.{NeedBreaks}
@@ -9,7 +9,7 @@ use Rattle.mes_model_resource.specs.Reservations.{allocation, reservation}
 use Rattle.mes_model_resource.specs.Resources.{resource_value_rows}
 use Rattle.mes_model_resource.specs.Values.{scalar, ranges, set}
 
--- by the type: SCALAR, RANGES or SET, and the row of that name; another type is UnknownName
+-- type: SCALAR, RANGES or SET, with the row of that name; another type is UnknownName
 abbrev pub OfValues : OfTypes
 OfValues =
     TypeThen (codes "SCALAR") (NeedBreaks scalar (codes "scalar")) (
@@ -20,7 +20,7 @@ OfValues =
     )
     )
 
--- name !, its value, role ?, allocation_info ?, reservation ?, reservations *, disk ?, revocable, shared, provider_id ?
+-- name and value: required; reservations: a list; revocable and shared: flags; others: optional
 abbrev pub OfResource : OfRows
 OfResource =
     NeedThen (codes "name") texts (

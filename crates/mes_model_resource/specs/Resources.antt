@@ -1,4 +1,4 @@
--- A resource of an agent: its name, its value by its type, and for whom it is.
+-- A resource of an agent: its name, its typed value, and its allocation and reservations.
 use Rattle.std.specs.Prelude.{◌≡◌, ◌⊎◌, ℕ, List, [], ◌∷◌, codes}
 use Rattle.std.proofs.Common.{inl, inr, refl}
 use Rattle.mes_model_schema.specs.Kinds.{Kind, Lawful, Returns}
@@ -21,7 +21,7 @@ use Rattle.mes_model_resource.specs.declared.resource.ResourceValue.{ResourceVal
 use Rattle.mes_model_resource.specs.declared.resource.ResourceValue.TheVariants.{Scalar as OfScalar, Ranges as OfRanges, Set as OfSet}
 use Rattle.mes_model_resource.specs.declared.resource.Resource.{Resource}
 
--- one of the values
+-- the value of the resource, of one of the types
 abbrev pub to_resource_value : Scalar ⊎ Ranges ⊎ Set ⊎ ⊥ → ResourceValue
 to_resource_value (inl v) = OfScalar v
 to_resource_value (inr (inl v)) = OfRanges v
@@ -33,7 +33,7 @@ from_resource_value (OfScalar v) = inl v
 from_resource_value (OfRanges v) = inr (inl v)
 from_resource_value (OfSet v) = inr (inr (inl v))
 
--- type !, and by it scalar !, ranges ! or set !
+-- type: required, with scalar, ranges or set as it says
 abbrev pub resource_value_rows : Table ResourceValue
 resource_value_rows =
     mapped (typed (
@@ -46,7 +46,7 @@ resource_value_rows =
     )
     )) to_resource_value from_resource_value
 
--- the names of their members
+-- the member names of a value
 abbrev pub resource_value_names : List (List ℕ)
 resource_value_names = codes "type" ∷ codes "scalar" ∷ codes "ranges" ∷ codes "set" ∷ []
 
@@ -61,7 +61,7 @@ lawful_resource_value_rows =
     lawful_typed (lawful_need lawful_scalar) (lawful_case (lawful_need lawful_ranges) (lawful_case (lawful_need lawful_set) lawful_no_other)) refl
     ) to_from_resource_value
 
--- name !, its value, role ?, allocation_info ?, reservation ?, reservations *, disk ?, revocable, shared, provider_id ?
+-- name and value: required; reservations: a list; revocable and shared: flags; others: optional
 abbrev pub resource_layout : Layout Resource
 resource_layout =
     laid_out (

@@ -1,4 +1,4 @@
-//! The role that resources are offered to.
+//! The role that resources are allocated to.
 
 use mes_model_schema::json::{self, Element, NoMemory, Text};
 use mes_model_schema::{
@@ -7,14 +7,13 @@ use mes_model_schema::{
 };
 use std::alloc::Global;
 
-/// To which role resources are offered.
+/// The role that resources are allocated to (`Resource.AllocationInfo` in mesos.proto).
 #[derive(Debug, Drop)]
 pub struct Allocation {
     /// The role.
     pub role: Option<Text>,
 }
 
-/// The names of the rows of an allocation, in the order of the table.
 const ALLOCATION_NAMES: [&str; 1] = ["role"];
 
 type AllocationRows = Rows1<OptionalRow<Text>>;
@@ -29,7 +28,7 @@ impl ConstructFrom<<AllocationRows as RowList>::Values> for Allocation {
     }
 }
 
-/// What the rows of an allocation hold.
+/// The borrowed values of the rows.
 macro_rules! allocation_rows {
     ($of:ident) => {
         pairs!(&$of.role)

@@ -1,4 +1,4 @@
-//! Which fault of a resource is the first, row by row.
+//! The law that lists the faults of a resource in order. It has no code.
 
 ghost use Rattle.std.specs.Prelude.{◌↔◌, List};
 ghost use Rattle.mes_model_schema.specs.Tree.{Tree};
@@ -9,7 +9,7 @@ ghost use Rattle.mes_model_schema.specs.declared.field.FieldFault.{FieldFault};
 ghost use Rattle.mes_model_resource.specs.Resources.{resource};
 ghost use Rattle.mes_model_resource.specs.FirstFaults.{OfResource};
 
-/// A resource has just these faults: it is no object; or a row has the fault, and every row before it in the table is read.
+/// A resource has a fault if it is not an object, or the first row that is not read has the fault.
 pub fn resource_breaks()
     ensures { (at : List Place) (t : Tree) (f : FieldFault) → Breaks resource at t f ↔ OfMessage OfResource at t f }
 {}

@@ -1,4 +1,4 @@
-//! An identifier.
+//! Identifiers.
 
 use mes_model_schema::json::{self, Element, NoMemory, Text};
 use mes_model_schema::{
@@ -7,14 +7,13 @@ use mes_model_schema::{
 };
 use std::alloc::Global;
 
-/// An identifier: of an offer, a framework, an agent, an executor, a provider of resources.
+/// The identifier of an offer, a framework, an agent, an executor, a task or a resource provider.
 #[derive(Debug, Drop, PartialEq, Eq, Hash)]
 pub struct Id {
-    /// The identifier.
+    /// The text of the identifier.
     pub value: Text,
 }
 
-/// The names of the rows of an identifier, in the order of the table.
 const ID_NAMES: [&str; 1] = ["value"];
 
 type IdRows = Rows1<RequiredRow<Text>>;
@@ -29,7 +28,7 @@ impl ConstructFrom<<IdRows as RowList>::Values> for Id {
     }
 }
 
-/// What the rows of an identifier hold.
+/// The borrowed values of the rows.
 macro_rules! id_rows {
     ($of:ident) => {
         pairs!(RequiredRowRef(&$of.value))

@@ -1,6 +1,18 @@
 #![tactic(auto)]
-//! The resources of agents, and what they are made of, as messages of the Apache Mesos v1 scheduler API have them in JSON: identifiers,
-//! values, reservations; each is read from a place of a tape, written as a tree and copied.
+//! The resources of agents in the JSON form of the Apache Mesos v1 scheduler API, with identifiers,
+//! values and reservations (mesos.proto).
+//!
+//! Each message type is a `Part` of `mes_model_schema`: read exactly, written as canonical JSON
+//! that is read back, and copied. Reading any other value returns the path and reason of the first
+//! fault.
+//!
+//! ```ignore
+//! let resource = Resource::read(alloc, &json, &Path::new())?; // or: name Missing
+//! resource.write_json(alloc, &mut out)?;
+//! ```
+//!
+//! The module `first_fault` lists the faults of a resource in order. The crate `mes_model`
+//! re-exports the types. Tests are in the crate `mes_model_tests`, definitions in `specs/`.
 
 mod allocation;
 pub mod first_fault;

@@ -1,4 +1,4 @@
-//! For whom resources are reserved.
+//! Reservations of resources.
 
 use mes_model_schema::json::{self, Element, NoMemory, Text};
 use mes_model_schema::{
@@ -7,20 +7,19 @@ use mes_model_schema::{
 };
 use std::alloc::Global;
 
-/// For whom resources are reserved, and by whom.
+/// A reservation of a resource (`Resource.ReservationInfo` in mesos.proto).
 #[derive(Debug, Drop)]
 pub struct Reservation {
-    /// The member `type`: whether the reservation is static or dynamic.
+    /// The member `type`: static or dynamic.
     pub kind: Option<Text>,
-    /// The role.
+    /// The role that the resource is reserved for.
     pub role: Option<Text>,
     /// The principal that made the reservation.
     pub principal: Option<Text>,
-    /// Its labels.
+    /// The labels of the reservation.
     pub labels: Option<Labels>,
 }
 
-/// The names of the rows of a reservation, in the order of the table.
 const RESERVATION_NAMES: [&str; 4] = ["type", "role", "principal", "labels"];
 
 type ReservationRows = Rows4<
@@ -40,7 +39,7 @@ impl ConstructFrom<<ReservationRows as RowList>::Values> for Reservation {
     }
 }
 
-/// What the rows of a reservation hold.
+/// The borrowed values of the rows.
 macro_rules! reservation_rows {
     ($of:ident) => {
         pairs!(

@@ -1,4 +1,4 @@
-//! A resource of an agent.
+//! Resources of agents.
 
 ghost use Rattle.std.specs.Prelude.{◌≡◌, IfOk};
 
@@ -15,19 +15,19 @@ use mes_model_schema::{
 };
 use std::alloc::Global;
 
-/// What there is of a resource.
+/// The value of a resource.
 #[derive(Debug, Drop)]
 pub enum ResourceValue {
-    /// So much of it, under the type `SCALAR`.
+    /// A number, for the type `SCALAR`.
     Scalar(Scalar),
-    /// These numbers, under the type `RANGES`.
+    /// Ranges of whole numbers, for the type `RANGES`.
     Ranges(Ranges),
-    /// These names, under the type `SET`.
+    /// Names, for the type `SET`.
     Set(Set),
 }
 
 impl ResourceValue {
-    /// The same value, in memory of its own.
+    /// Copies the value.
     pub fn copy(&self, alloc: Global) -> Result<ResourceValue, NoMemory>
         ensures { IfOk result (λ v. v ≡ self.now) }
     {
@@ -109,32 +109,31 @@ impl Choice for ResourceValue {
     }
 }
 
-/// A resource of an agent: so many processors, so much memory, these ports.
+/// A resource of an agent, such as CPUs, memory or ports (`Resource` in mesos.proto).
 #[derive(Debug, Drop)]
 pub struct Resource {
     /// The name.
     pub name: Text,
-    /// What there is of it: the member `type` and the one that belongs to it.
+    /// The value: the member `type`, and the member of that type.
     pub value: ResourceValue,
-    /// The role that it is for.
+    /// The role that the resource belongs to.
     pub role: Option<Text>,
-    /// The role that it is allocated to.
+    /// The role that the resource is allocated to.
     pub allocation_info: Option<Allocation>,
-    /// For whom it is reserved, in the older form. It stands in memory of its own, so that a resource is small.
+    /// The reservation in the older form. It is boxed so that a resource is small.
     pub reservation: Option<Boxed<Reservation>>,
-    /// For whom it is reserved, from the outermost role inwards.
+    /// The reservations, from the outermost role inwards.
     pub reservations: List<Reservation>,
-    /// What disk it is, kept whole, and in memory of its own.
+    /// The disk, retained whole, and boxed.
     pub disk: Option<Boxed<Kept>>,
-    /// Whether it may be taken back at any time.
+    /// Whether the resource may be revoked at any time.
     pub revocable: bool,
-    /// Whether several tasks may use it at once.
+    /// Whether several tasks may use the resource at once.
     pub shared: bool,
-    /// Who provides it, if not the agent. It stands in memory of its own.
+    /// The resource provider, if it is not the agent. It is boxed.
     pub provider_id: Option<Boxed<Id>>,
 }
 
-/// The names of the rows of a resource, in the order of the table.
 const RESOURCE_NAMES: [&str; 13] = [
     "name",
     "type",
@@ -189,7 +188,7 @@ impl ConstructFrom<<ResourceRows as RowList>::Values> for Resource {
     }
 }
 
-/// What the rows of a resource hold.
+/// The borrowed values of the rows.
 macro_rules! resource_rows {
     ($of:ident) => {
         (

@@ -1,4 +1,4 @@
-//! The values that a resource or an attribute may have.
+//! The values of resources and attributes.
 
 use mes_model_schema::fixed::Thousandths;
 use mes_model_schema::json::{self, Element, NoMemory, Text};
@@ -8,14 +8,13 @@ use mes_model_schema::{
 };
 use std::alloc::Global;
 
-/// One number, in thousandths.
+/// A number in thousandths (`Value.Scalar` in mesos.proto).
 #[derive(Debug, Drop)]
 pub struct Scalar {
     /// The number.
     pub value: Thousandths,
 }
 
-/// The names of the rows of a scalar, in the order of the table.
 const SCALAR_NAMES: [&str; 1] = ["value"];
 
 type ScalarRows = Rows1<RequiredRow<Thousandths>>;
@@ -30,7 +29,7 @@ impl ConstructFrom<<ScalarRows as RowList>::Values> for Scalar {
     }
 }
 
-/// What the rows of a scalar hold.
+/// The borrowed values of the rows.
 macro_rules! scalar_rows {
     ($of:ident) => {
         pairs!(RequiredRowRef(&$of.value))
@@ -73,7 +72,7 @@ impl Part for Scalar {
     }
 }
 
-/// The whole numbers from one to another, both included.
+/// A range of whole numbers, with both ends included (`Value.Range` in mesos.proto).
 #[derive(Debug, Drop)]
 pub struct Range {
     /// The member `begin`: the first number.
@@ -82,7 +81,6 @@ pub struct Range {
     pub last: u64,
 }
 
-/// The names of the rows of a range, in the order of the table.
 const RANGE_NAMES: [&str; 2] = ["begin", "end"];
 
 type RangeRows = Rows2<RequiredRow<u64>, RequiredRow<u64>>;
@@ -97,7 +95,7 @@ impl ConstructFrom<<RangeRows as RowList>::Values> for Range {
     }
 }
 
-/// What the rows of a range hold.
+/// The borrowed values of the rows.
 macro_rules! range_rows {
     ($of:ident) => {
         pairs!(
@@ -143,14 +141,13 @@ impl Part for Range {
     }
 }
 
-/// Ranges in order.
+/// Ranges in order (`Value.Ranges` in mesos.proto).
 #[derive(Debug, Drop)]
 pub struct Ranges {
     /// The ranges.
     pub range: List<Range>,
 }
 
-/// The names of the rows of ranges, in the order of the table.
 const RANGES_NAMES: [&str; 1] = ["range"];
 
 type RangesRows = Rows1<RepeatedRow<Range>>;
@@ -165,7 +162,7 @@ impl ConstructFrom<<RangesRows as RowList>::Values> for Ranges {
     }
 }
 
-/// What the rows of ranges hold.
+/// The borrowed values of the rows.
 macro_rules! ranges_rows {
     ($of:ident) => {
         pairs!(&$of.range)
@@ -208,14 +205,13 @@ impl Part for Ranges {
     }
 }
 
-/// Names in order.
+/// Names in order (`Value.Set` in mesos.proto).
 #[derive(Debug, Drop)]
 pub struct Set {
     /// The names.
     pub item: List<Text>,
 }
 
-/// The names of the rows of a set, in the order of the table.
 const SET_NAMES: [&str; 1] = ["item"];
 
 type SetRows = Rows1<RepeatedRow<Text>>;
@@ -230,7 +226,7 @@ impl ConstructFrom<<SetRows as RowList>::Values> for Set {
     }
 }
 
-/// What the rows of a set hold.
+/// The borrowed values of the rows.
 macro_rules! set_rows {
     ($of:ident) => {
         pairs!(&$of.item)
