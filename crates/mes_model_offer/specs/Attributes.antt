@@ -1,4 +1,4 @@
--- An attribute of an agent: its name, and its value by its type.
+-- An attribute of an agent: its name and its typed value.
 use Rattle.std.specs.Prelude.{◌≡◌, ◌⊎◌, ℕ, List, [], ◌∷◌, codes}
 use Rattle.std.proofs.Common.{inl, inr, refl}
 use Rattle.mes_model_schema.specs.Kinds.{Kind, Lawful, Returns}
@@ -21,7 +21,7 @@ use Rattle.mes_model_offer.specs.declared.attribute.AttributeValue.{AttributeVal
 use Rattle.mes_model_offer.specs.declared.attribute.AttributeValue.TheVariants.{Scalar as OfScalar, Ranges as OfRanges, Set as OfSet, Text as OfText}
 use Rattle.mes_model_offer.specs.declared.attribute.Attribute.{Attribute}
 
--- one of the values
+-- the value of the attribute, of one of the types
 abbrev pub to_attribute_value : Scalar ⊎ Ranges ⊎ Set ⊎ TextValue ⊎ ⊥ → AttributeValue
 to_attribute_value (inl v) = OfScalar v
 to_attribute_value (inr (inl v)) = OfRanges v
@@ -35,7 +35,7 @@ from_attribute_value (OfRanges v) = inr (inl v)
 from_attribute_value (OfSet v) = inr (inr (inl v))
 from_attribute_value (OfText v) = inr (inr (inr (inl v)))
 
--- type !, and by it scalar !, ranges !, set ! or text !
+-- type: required, with scalar, ranges, set or text as it says
 abbrev pub attribute_value_rows : Table AttributeValue
 attribute_value_rows =
     mapped (typed (
@@ -50,7 +50,7 @@ attribute_value_rows =
     )
     )) to_attribute_value from_attribute_value
 
--- the names of their members
+-- the member names of a value
 abbrev pub attribute_value_names : List (List ℕ)
 attribute_value_names = codes "type" ∷ codes "scalar" ∷ codes "ranges" ∷ codes "set" ∷ codes "text" ∷ []
 
@@ -68,7 +68,7 @@ lawful_attribute_value_rows =
     ) refl
     ) to_from_attribute_value
 
--- name !, its value
+-- name and value: required
 abbrev pub attribute_layout : Layout Attribute
 attribute_layout =
     laid_out (

@@ -1,4 +1,4 @@
--- The first faults of an attribute and of an offer, as their tables are written.
+-- The first faults of an attribute and of an offer, row by row in the order of their tables.
 use Rattle.std.specs.Prelude.{codes}
 use Rattle.mes_model_schema.specs.Leaves.{texts}
 use Rattle.mes_model_schema.specs.FirstFaults.{NeedBreaks}
@@ -11,7 +11,7 @@ use Rattle.mes_model_resource.specs.Values.{scalar, ranges, set}
 use Rattle.mes_model_offer.specs.Attributes.{attribute, attribute_value_rows}
 use Rattle.mes_model_offer.specs.TextValues.{text_value}
 
--- by the type: SCALAR, RANGES, SET or TEXT, and the row of that name; another type is UnknownName
+-- type: SCALAR, RANGES, SET or TEXT, with the row of that name; another type is UnknownName
 abbrev pub OfValues : OfTypes
 OfValues =
     TypeThen (codes "SCALAR") (NeedBreaks scalar (codes "scalar")) (
@@ -24,7 +24,7 @@ OfValues =
     )
     )
 
--- name !, its value
+-- name and value: required
 abbrev pub OfAttribute : OfRows
 OfAttribute =
     NeedThen (codes "name") texts (
@@ -33,7 +33,7 @@ OfAttribute =
     )
     )
 
--- id !, framework_id !, agent_id !, hostname !, resources *, attributes *, executor_ids *, allocation_info ?
+-- resources, attributes, executor_ids: lists; allocation_info: optional; others: required
 abbrev pub OfOffer : OfRows
 OfOffer =
     NeedThen (codes "id") id (

@@ -1,4 +1,4 @@
--- An offer: what an agent offers to a framework.
+-- An offer of the resources of an agent to a framework.
 use Rattle.std.specs.Prelude.{codes}
 use Rattle.std.proofs.Common.{refl}
 use Rattle.mes_model_schema.specs.Kinds.{Kind, Lawful, Returns}
@@ -11,7 +11,7 @@ use Rattle.mes_model_resource.specs.Resources.{resource, lawful_resource}
 use Rattle.mes_model_offer.specs.Attributes.{attribute, lawful_attribute}
 use Rattle.mes_model_offer.specs.declared.offer.Offer.{Offer}
 
--- id !, framework_id !, agent_id !, hostname !, resources *, attributes *, executor_ids *, allocation_info ?
+-- resources, attributes, executor_ids: lists; allocation_info: optional; others: required
 abbrev pub offer_layout : Layout Offer
 offer_layout =
     laid_out (

@@ -1,4 +1,4 @@
-//! An attribute of an agent.
+//! Attributes of agents.
 
 ghost use Rattle.std.specs.Prelude.{◌≡◌, IfOk};
 
@@ -12,21 +12,21 @@ use mes_model_schema::{
 };
 use std::alloc::Global;
 
-/// What an attribute is.
+/// The value of an attribute.
 #[derive(Debug, Drop)]
 pub enum AttributeValue {
-    /// This number, under the type `SCALAR`.
+    /// A number, for the type `SCALAR`.
     Scalar(Scalar),
-    /// These numbers, under the type `RANGES`.
+    /// Ranges of whole numbers, for the type `RANGES`.
     Ranges(Ranges),
-    /// These names, under the type `SET`.
+    /// Names, for the type `SET`.
     Set(Set),
-    /// This text, under the type `TEXT`.
+    /// A text, for the type `TEXT`.
     Text(TextValue),
 }
 
 impl AttributeValue {
-    /// The same value, in memory of its own.
+    /// Copies the value.
     pub fn copy(&self, alloc: Global) -> Result<AttributeValue, NoMemory>
         ensures { IfOk result (λ v. v ≡ self.now) }
     {
@@ -115,16 +115,15 @@ impl Choice for AttributeValue {
     }
 }
 
-/// An attribute of an agent.
+/// An attribute of an agent (`Attribute` in mesos.proto).
 #[derive(Debug, Drop)]
 pub struct Attribute {
     /// The name.
     pub name: Text,
-    /// What it is: the member `type` and the one that belongs to it.
+    /// The value: the member `type`, and the member of that type.
     pub value: AttributeValue,
 }
 
-/// The names of the rows of an attribute, in the order of the table.
 const ATTRIBUTE_NAMES: [&str; 6] = ["name", "type", "scalar", "ranges", "set", "text"];
 
 type AttributeRows = (RequiredRow<Text>, Typed<AttributeValue, ()>);
@@ -139,7 +138,7 @@ impl ConstructFrom<<AttributeRows as RowList>::Values> for Attribute {
     }
 }
 
-/// What the rows of an attribute hold.
+/// The borrowed values of the rows.
 macro_rules! attribute_rows {
     ($of:ident) => {
         (RequiredRowRef(&$of.name), TypedRef(&$of.value, ()))

@@ -1,4 +1,4 @@
-//! Which fault of an offer, or of an attribute, is the first, row by row.
+//! The laws that list the faults of attributes and offers in order. They have no code.
 
 ghost use Rattle.std.specs.Prelude.{◌↔◌, List};
 ghost use Rattle.mes_model_schema.specs.Tree.{Tree};
@@ -10,12 +10,13 @@ ghost use Rattle.mes_model_offer.specs.Attributes.{attribute};
 ghost use Rattle.mes_model_offer.specs.FirstFaults.{OfAttribute, OfOffer};
 ghost use Rattle.mes_model_offer.specs.Offers.{offer};
 
-/// An attribute has just these faults: it is no object; or a row has the fault, and every row before it in the table is read.
+/// An attribute has a fault if it is not an object, or the first row that is not read has the
+/// fault.
 pub fn attribute_breaks()
     ensures { (at : List Place) (t : Tree) (f : FieldFault) → Breaks attribute at t f ↔ OfMessage OfAttribute at t f }
 {}
 
-/// An offer has just these faults: it is no object; or a row has the fault, and every row before it in the table is read.
+/// An offer has a fault if it is not an object, or the first row that is not read has the fault.
 pub fn offer_breaks()
     ensures { (at : List Place) (t : Tree) (f : FieldFault) → Breaks offer at t f ↔ OfMessage OfOffer at t f }
 {}

@@ -1,4 +1,4 @@
-//! An offer of resources.
+//! Offers of resources.
 
 use crate::attribute::Attribute;
 use mes_model_resource::{Allocation, Id, Resource};
@@ -9,28 +9,27 @@ use mes_model_schema::{
 };
 use std::alloc::Global;
 
-/// What an agent offers to a framework.
+/// An offer of the resources of an agent to a framework (`Offer` in mesos.proto).
 #[derive(Debug, Drop)]
 pub struct Offer {
-    /// The offer's identifier.
+    /// The identifier of the offer.
     pub id: Id,
-    /// The framework that it is made to.
+    /// The framework that the offer is made to.
     pub framework_id: Id,
     /// The agent whose resources are offered.
     pub agent_id: Id,
-    /// The name of the agent's host.
+    /// The hostname of the agent.
     pub hostname: Text,
-    /// The resources.
+    /// The resources that are offered.
     pub resources: List<Resource>,
-    /// The agent's attributes.
+    /// The attributes of the agent.
     pub attributes: List<Attribute>,
-    /// The executors that the framework has on the agent.
+    /// The executors of the framework on the agent.
     pub executor_ids: List<Id>,
     /// The role that the resources are allocated to.
     pub allocation_info: Option<Allocation>,
 }
 
-/// The names of the rows of an offer, in the order of the table.
 const OFFER_NAMES: [&str; 8] = [
     "id",
     "framework_id",
@@ -72,7 +71,7 @@ impl ConstructFrom<<OfferRows as RowList>::Values> for Offer {
     }
 }
 
-/// What the rows of an offer hold.
+/// The borrowed values of the rows.
 macro_rules! offer_rows {
     ($of:ident) => {
         pairs!(

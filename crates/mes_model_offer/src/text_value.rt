@@ -1,4 +1,4 @@
-//! A text that an attribute may be.
+//! The text of an attribute.
 
 use mes_model_schema::json::{self, Element, NoMemory, Text};
 use mes_model_schema::{
@@ -7,14 +7,13 @@ use mes_model_schema::{
 };
 use std::alloc::Global;
 
-/// One text.
+/// A text (`Value.Text` in mesos.proto).
 #[derive(Debug, Drop)]
 pub struct TextValue {
     /// The text.
     pub value: Text,
 }
 
-/// The names of the rows of a text value, in the order of the table.
 const TEXT_VALUE_NAMES: [&str; 1] = ["value"];
 
 type TextValueRows = Rows1<RequiredRow<Text>>;
@@ -29,7 +28,7 @@ impl ConstructFrom<<TextValueRows as RowList>::Values> for TextValue {
     }
 }
 
-/// What the rows of a text value hold.
+/// The borrowed values of the rows.
 macro_rules! text_value_rows {
     ($of:ident) => {
         pairs!(RequiredRowRef(&$of.value))
