@@ -1,4 +1,4 @@
--- The state that a tree is, by the text that its place shows.
+-- The state of a tree, by the text at its place.
 use Rattle.std.proofs.Common.{◌≡◌, ℕ, List, refl}
 use Rattle.std.specs.Prelude.{Ok}
 use Rattle.mes_model_schema.specs.Tree.{Tree}

@@ -1,4 +1,4 @@
--- The states of a task and their names.
+-- The states of a task and their names (TaskState in mesos.proto).
 use Rattle.std.specs.Prelude.{◌≡◌, ℕ, List, [], ◌∷◌, bytes_eq, codes, if◌then◌else◌, Option, Some, None, Result, Ok}
 use Rattle.std.proofs.Common.{inl, inr, Bool, true, false, length, refl, sym, ◌∙◌, ap, arith}
 use Rattle.std.specs.Prelude.{Err}
@@ -42,7 +42,7 @@ abbrev pub among : List ℕ → List TaskState → Option TaskState
 among name [] = None
 among name (state ∷ states) = if bytes_eq (state_name state) name then Some state else among name states
 
--- the state of that name
+-- the state of this name
 unfoldable pub state_of : List ℕ → Option TaskState
 state_of name = among name all_states
 
@@ -60,7 +60,6 @@ states = record {
 
 -- ---- their laws
 
--- each state is found by its name
 pub found_by_name : (state : TaskState) → state_of (state_name state) ≡ Some state
 unfolding state_of
 found_by_name Staging = refl
@@ -86,7 +85,7 @@ among_named name (first ∷ rest) state e = by_test (bytes_eq (state_name first)
   by_test true same found later = let is : first ≡ state = cc in ap state_name (sym is) ∙ names_equal (state_name first) name same
   by_test false other found later = later found
 
--- the state that is found has the name
+-- a state that is found has the name
 pub state_named : (name : List ℕ) (state : TaskState) → state_of name ≡ Some state → state_name state ≡ name
 unfolding state_of
 state_named name state e = among_named name all_states state e
@@ -94,7 +93,7 @@ state_named name state e = among_named name all_states state e
 pub state_found : (name : List ℕ) (state : TaskState) → state_name state ≡ name → state_of name ≡ Some state
 state_found name state is = ap state_of (sym is) ∙ found_by_name state
 
--- where no state has the name, none is found
+-- if no state has the name, none is found
 pub state_none : (name : List ℕ) → ((state : TaskState) → state_name state ≡ name → ⊥) → state_of name ≡ None
 state_none name none = by_answer (state_of name) refl where
   by_answer : (found : Option TaskState) → state_of name ≡ found → found ≡ None

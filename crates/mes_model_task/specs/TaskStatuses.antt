@@ -1,4 +1,4 @@
--- The status of a task, as an update tells it.
+-- The status of a task, as in an UPDATE event.
 use Rattle.std.specs.Prelude.{codes}
 use Rattle.std.proofs.Common.{refl}
 use Rattle.mes_model_schema.specs.Binary.{base64_bytes}
@@ -15,8 +15,7 @@ use Rattle.mes_model_task.specs.TaskStates.{states, lawful_states}
 use Rattle.mes_model_task.specs.Times.{time_info, lawful_time_info}
 use Rattle.mes_model_task.specs.declared.task_status.TaskStatus.{TaskStatus}
 
--- task_id !, state !, message ?, source ?, reason ?, data ?, agent_id ?, executor_id ?, timestamp ?, uuid ?, healthy ?, labels ?,
--- unreachable_time ?
+-- task_id, state: required; others: optional
 abbrev pub task_status_layout : Layout TaskStatus
 task_status_layout =
     laid_out (

@@ -1,4 +1,4 @@
--- A moment.
+-- A point in time.
 use Rattle.std.specs.Prelude.{codes}
 use Rattle.std.proofs.Common.{refl}
 use Rattle.mes_model_schema.specs.Kinds.{Kind, Lawful, Returns}
@@ -7,7 +7,7 @@ use Rattle.mes_model_schema.specs.NumberLaws.{lawful_whole}
 use Rattle.mes_model_schema.specs.Layouts.{Layout, needs, no_more, ◌⨾⨾◌, laid_out, kind_of, lawful_kind, returns_kind}
 use Rattle.mes_model_task.specs.declared.time_info.TimeInfo.{TimeInfo}
 
--- nanoseconds !
+-- nanoseconds: required
 abbrev pub time_info_layout : Layout TimeInfo
 time_info_layout =
     laid_out (

@@ -1,4 +1,4 @@
-//! What a task runs.
+//! Commands of tasks.
 
 use mes_model_schema::json::{self, Element, NoMemory, Text};
 use mes_model_schema::{
@@ -7,18 +7,17 @@ use mes_model_schema::{
 };
 use std::alloc::Global;
 
-/// What a task runs.
+/// The command of a task (`CommandInfo` in mesos.proto).
 #[derive(Debug, Drop)]
 pub struct Command {
-    /// What the shell is given, or the file of the program where no shell is used.
+    /// The shell command, or the program if no shell is used.
     pub value: Option<Text>,
-    /// Whether a shell runs it.
+    /// Whether a shell runs the command.
     pub shell: Option<bool>,
-    /// What the program is given where no shell is used, its own name first.
+    /// The arguments if no shell is used, beginning with the name of the program.
     pub arguments: List<Text>,
 }
 
-/// The names of the rows of a command, in the order of the table.
 const COMMAND_NAMES: [&str; 3] = ["value", "shell", "arguments"];
 
 type CommandRows = Rows3<OptionalRow<Text>, OptionalRow<bool>, RepeatedRow<Text>>;
@@ -33,7 +32,7 @@ impl ConstructFrom<<CommandRows as RowList>::Values> for Command {
     }
 }
 
-/// What the rows of a command hold.
+/// The borrowed values of the rows.
 macro_rules! command_rows {
     ($of:ident) => {
         pairs!(

@@ -1,4 +1,4 @@
-//! Which fault of a task's state, or of its status, is the first, row by row.
+//! The laws that list the faults of states and statuses in order. They have no code.
 
 ghost use Rattle.std.specs.Prelude.{◌↔◌, List};
 ghost use Rattle.mes_model_schema.specs.Tree.{Tree};
@@ -12,12 +12,13 @@ ghost use Rattle.mes_model_task.specs.FirstFaults.{OfStatus};
 ghost use Rattle.mes_model_task.specs.TaskStates.{states};
 ghost use Rattle.mes_model_task.specs.TaskStatuses.{task_status};
 
-/// The name of a state has just these faults: it is no string (`WrongKind`), or a string that is the name of no state (`UnknownName`).
+/// A state has a fault if it is not a string (`WrongKind`), or not the name of a state
+/// (`UnknownName`).
 pub fn state_breaks()
     ensures { (at : List Place) (t : Tree) (f : FieldFault) → Breaks states at t f ↔ ValueBreaks IsString UnknownName states at t f }
 {}
 
-/// A status has just these faults: it is no object; or a row has the fault, and every row before it in the table is read.
+/// A status has a fault if it is not an object, or the first row that is not read has the fault.
 pub fn task_status_breaks()
     ensures { (at : List Place) (t : Tree) (f : FieldFault) → Breaks task_status at t f ↔ OfMessage OfStatus at t f }
 {}

@@ -1,6 +1,17 @@
 #![tactic(auto)]
-//! Tasks of the Apache Mesos v1 scheduler API in their JSON form, their states and statuses: each is read from a place of a tape,
-//! written as a tree and copied; the acknowledgement that a status owes.
+//! Tasks and their statuses in the JSON form of the Apache Mesos v1 scheduler API (mesos.proto).
+//!
+//! Each message type is a `Part` of `mes_model_schema`: read exactly, written as canonical JSON
+//! that is read back, and copied. Reading any other value returns the path and reason of the first
+//! fault. [`TaskStatus::owed_key`] returns the key of the acknowledgement that an update requires.
+//!
+//! ```ignore
+//! let status = TaskStatus::read(alloc, &json, &Path::new())?; // or: state UnknownName
+//! let key = status.owed_key(alloc)?; // None if the update is not to be acknowledged
+//! ```
+//!
+//! The module `first_fault` lists the faults of a status in order. The crate `mes_model` re-exports
+//! the types. Tests are in the crate `mes_model_tests`, definitions in `specs/`.
 
 mod command;
 pub mod first_fault;

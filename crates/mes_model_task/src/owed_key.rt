@@ -1,4 +1,4 @@
-//! What names an acknowledgement that is owed.
+//! The key of an acknowledgement.
 
 ghost use Rattle.std.specs.Prelude.{◌≡◌, IsTrue, ◌↔◌, IfOk};
 
@@ -7,10 +7,10 @@ use mes_model_schema::json::NoMemory;
 use mes_model_schema::{Bytes, Part};
 use std::alloc::Global;
 
-/// What names an acknowledgement that is owed for an update of a task's status. Two keys are equal where all three are.
+/// The key of an acknowledgement that a status update requires: the agent, the task and the uuid.
 #[derive(Debug, Drop, PartialEq, Eq, Hash)]
 pub struct OwedKey {
-    /// The task's agent.
+    /// The agent of the task.
     pub agent: Id,
     /// The task.
     pub task: Id,
@@ -19,7 +19,7 @@ pub struct OwedKey {
 }
 
 impl OwedKey {
-    /// The same key, in memory of its own.
+    /// Copies the key.
     pub fn copy(&self, alloc: Global) -> Result<OwedKey, NoMemory>
         ensures { IfOk result (λ key. key ≡ self.now) }
     {
@@ -30,7 +30,7 @@ impl OwedKey {
     }
 }
 
-/// Two keys are equal by `==` exactly where they are the same.
+/// Returns whether two keys have the same agent, task and uuid; `==` returns the same.
 pub fn equal_keys(key: &OwedKey, other: &OwedKey) -> bool
     ensures { IsTrue result ↔ key.now ≡ other.now }
 {

@@ -1,4 +1,4 @@
-//! A task to be launched.
+//! Tasks to launch.
 
 use crate::command::Command;
 use mes_model_resource::{Id, Resource};
@@ -9,24 +9,23 @@ use mes_model_schema::{
 };
 use std::alloc::Global;
 
-/// A task that a framework launches.
+/// A task that a framework launches (`TaskInfo` in mesos.proto).
 #[derive(Debug, Drop)]
 pub struct TaskInfo {
     /// The name.
     pub name: Text,
-    /// The task's identifier.
+    /// The identifier of the task.
     pub task_id: Id,
-    /// The agent that is to run it.
+    /// The agent to run the task on.
     pub agent_id: Id,
-    /// The resources that it takes.
+    /// The resources that the task uses.
     pub resources: List<Resource>,
-    /// What it runs, where no executor runs it.
+    /// The command to run, if there is no executor.
     pub command: Option<Command>,
-    /// The executor that runs it, kept whole.
+    /// The executor that runs the task, retained whole.
     pub executor: Option<Kept>,
 }
 
-/// The names of the rows of a task, in the order of the table.
 const TASK_INFO_NAMES: [&str; 6] = [
     "name",
     "task_id",
@@ -55,7 +54,7 @@ impl ConstructFrom<<TaskInfoRows as RowList>::Values> for TaskInfo {
     }
 }
 
-/// What the rows of a task hold.
+/// The borrowed values of the rows.
 macro_rules! task_info_rows {
     ($of:ident) => {
         pairs!(

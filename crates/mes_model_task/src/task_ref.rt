@@ -1,4 +1,4 @@
-//! A task that is asked about.
+//! Tasks in a RECONCILE call.
 
 use mes_model_resource::Id;
 use mes_model_schema::json::{self, Element, NoMemory};
@@ -8,16 +8,15 @@ use mes_model_schema::{
 };
 use std::alloc::Global;
 
-/// A task whose state a framework asks for.
+/// A task whose state a framework asks for (`Call.Reconcile.Task` of the v1 scheduler API).
 #[derive(Debug, Drop)]
 pub struct TaskRef {
-    /// The task's identifier.
+    /// The identifier of the task.
     pub task_id: Id,
-    /// The agent that it runs on, where that is known.
+    /// The agent of the task, if it is known.
     pub agent_id: Option<Id>,
 }
 
-/// The names of the rows of a task that is asked about, in the order of the table.
 const TASK_REF_NAMES: [&str; 2] = ["task_id", "agent_id"];
 
 type TaskRefRows = Rows2<RequiredRow<Id>, OptionalRow<Id>>;
@@ -32,7 +31,7 @@ impl ConstructFrom<<TaskRefRows as RowList>::Values> for TaskRef {
     }
 }
 
-/// What the rows of a task that is asked about hold.
+/// The borrowed values of the rows.
 macro_rules! task_ref_rows {
     ($of:ident) => {
         pairs!(

@@ -1,4 +1,4 @@
-//! The state of a task.
+//! The states of tasks.
 
 ghost use Rattle.std.specs.Prelude.{◌≡◌, IfSome, IfNone};
 ghost use Rattle.mes_model_task.specs.TaskStates.{state_name};
@@ -7,41 +7,41 @@ use mes_model_schema::json::{self, Element, NoMemory, Text};
 use mes_model_schema::{FieldFaultKind, Part, PartFault, PathBuilder, refusal_at, text_in};
 use std::alloc::Global;
 
-/// The state of a task.
+/// The state of a task (`TaskState` in mesos.proto).
 #[derive(Clone, Copy, Debug, PartialEq, Eq)]
 pub enum TaskState {
-    /// The first state: no executor has taken up the task yet.
+    /// The first state: no executor has accepted the task yet.
     Staging,
-    /// The executor prepares the task.
+    /// The executor is preparing the task.
     Starting,
-    /// The task runs.
+    /// The task is running.
     Running,
     /// The task is being killed.
     Killing,
     /// The task finished successfully.
     Finished,
-    /// The task failed to finish.
+    /// The task failed.
     Failed,
     /// The task was killed.
     Killed,
-    /// The task's description is wrong.
+    /// The description of the task is invalid.
     Error,
-    /// The task is lost: what older masters say for dropped, unreachable and gone.
+    /// The task was lost; older masters send this for `Dropped`, `Unreachable` and `Gone`.
     Lost,
-    /// The task failed to launch, for a cause that may pass.
+    /// The task failed to launch for a transient reason.
     Dropped,
-    /// The task's agent has lost contact with the master.
+    /// The agent of the task lost contact with the master.
     Unreachable,
-    /// The task no longer runs: its agent was stopped with all of its tasks.
+    /// The task no longer runs, because its agent was stopped with all its tasks.
     Gone,
-    /// An operator said that the task's agent, which can't be reached, is gone.
+    /// The agent of the task cannot be reached, and an operator declared it gone.
     GoneByOperator,
-    /// The master doesn't know the task.
+    /// The master does not know the task.
     Unknown,
 }
 
 impl TaskState {
-    /// The name, as messages spell it.
+    /// Returns the name in JSON, such as `TASK_RUNNING`.
     pub fn name(self) -> &'static str
         ensures { result.now ≡ state_name self }
     {
@@ -63,7 +63,7 @@ impl TaskState {
         }
     }
 
-    /// The state of that name, where there is one.
+    /// Returns the state of this name, if there is one.
     pub fn of_name(name: &str) -> Option<TaskState>
         ensures some { IfSome result (λ state. state_name state ≡ name.now) }
         ensures none { IfNone result ((state : TaskState) → state_name state ≡ name.now → ⊥) }

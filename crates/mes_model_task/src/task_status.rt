@@ -1,4 +1,4 @@
-//! The status of a task.
+//! Statuses of tasks.
 
 ghost use Rattle.std.specs.Prelude.{◌≡◌, IsTrue, ◌↔◌, IfOk};
 ghost use Rattle.mes_model_task.specs.Owed.{Owes, owed_key_of};
@@ -16,39 +16,40 @@ use mes_model_schema::{
 };
 use std::alloc::Global;
 
-/// The status of a task, as an update tells it.
+/// The status of a task, as in an UPDATE event (`TaskStatus` in mesos.proto).
 #[derive(Debug, Drop)]
 pub struct TaskStatus {
     /// The task.
     pub task_id: Id,
-    /// The task's state.
+    /// The state of the task.
     pub state: TaskState,
-    /// What happened, for people to read.
+    /// A human-readable message.
     pub message: Option<Text>,
-    /// Who made the update: the master, the agent or the executor.
+    /// The sender of the update: the master, the agent or the executor.
     pub source: Option<Text>,
-    /// Why the task is in this state.
+    /// The reason for the state.
     pub reason: Option<Text>,
-    /// The member `data`: bytes of the executor's own.
+    /// The member `data`: arbitrary bytes from the executor.
     pub payload: Option<Bytes>,
-    /// The task's agent.
+    /// The agent of the task.
     pub agent_id: Option<Id>,
-    /// The task's executor.
+    /// The executor of the task.
     pub executor_id: Option<Id>,
-    /// When the update was made, in microseconds since the beginning of 1970 (UTC).
+    /// The time of the update, in seconds with six decimals since 1970-01-01 UTC.
     pub timestamp: Option<Micros>,
-    /// What an acknowledgement of the update names; an update without it isn't acknowledged.
+    /// The uuid that an acknowledgement repeats. An update without it is not acknowledged.
     pub uuid: Option<Bytes>,
-    /// Whether the task's health check holds.
+    /// The result of the health check.
     pub healthy: Option<bool>,
-    /// Keys and values that were given for the task; nothing acts on them.
+    /// Labels given to the task, which have no effect.
     pub labels: Option<Labels>,
-    /// Since when the agent of the task is not reached.
+    /// The time since which the agent of the task is unreachable.
     pub unreachable_time: Option<TimeInfo>,
 }
 
 impl TaskStatus {
-    /// Whether an acknowledgement is owed: the status has an agent and a uuid that isn't empty. Takes no memory.
+    /// Returns whether the update requires an acknowledgement: the status has an agent and a uuid
+    /// that is not empty. Does not allocate.
     pub fn owes(&self) -> bool
         ensures { IsTrue result ↔ Owes self.now }
     {
@@ -58,7 +59,8 @@ impl TaskStatus {
         }
     }
 
-    /// The key of the acknowledgement that is owed, where one is.
+    /// Returns the key of the acknowledgement that the update requires, or `None` if it requires
+    /// none.
     pub fn owed_key(&self, alloc: Global) -> Result<Option<OwedKey>, NoMemory>
         ensures { IfOk result (λ key. key ≡ owed_key_of self.now) }
     {
@@ -75,7 +77,6 @@ impl TaskStatus {
     }
 }
 
-/// The names of the rows of a status, in the order of the table.
 const TASK_STATUS_NAMES: [&str; 13] = [
     "task_id",
     "state",
@@ -132,7 +133,7 @@ impl ConstructFrom<<TaskStatusRows as RowList>::Values> for TaskStatus {
     }
 }
 
-/// What the rows of a status hold.
+/// The borrowed values of the rows.
 macro_rules! task_status_rows {
     ($of:ident) => {
         pairs!(

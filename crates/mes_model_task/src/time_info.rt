@@ -1,4 +1,4 @@
-//! A moment.
+//! Points in time.
 
 use mes_model_schema::json::{self, Element, NoMemory};
 use mes_model_schema::{
@@ -7,14 +7,14 @@ use mes_model_schema::{
 };
 use std::alloc::Global;
 
-/// A moment.
+/// A point in time (`TimeInfo` in mesos.proto).
 #[derive(Debug, Drop)]
 pub struct TimeInfo {
-    /// The nanoseconds since the beginning of 1970 (UTC). The field of `mesos.proto` is signed; no moment before 1970 is read.
+    /// Nanoseconds since 1970-01-01 UTC. The field of mesos.proto is signed; a negative value is a
+    /// fault here.
     pub nanoseconds: u64,
 }
 
-/// The names of the rows of a moment, in the order of the table.
 const TIME_INFO_NAMES: [&str; 1] = ["nanoseconds"];
 
 type TimeInfoRows = Rows1<RequiredRow<u64>>;
@@ -29,7 +29,7 @@ impl ConstructFrom<<TimeInfoRows as RowList>::Values> for TimeInfo {
     }
 }
 
-/// What the rows of a moment hold.
+/// The borrowed values of the rows.
 macro_rules! time_info_rows {
     ($of:ident) => {
         pairs!(RequiredRowRef(&$of.nanoseconds))
