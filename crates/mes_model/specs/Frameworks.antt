@@ -1,4 +1,4 @@
--- What a framework tells of itself.
+-- The description of a framework.
 use Rattle.std.specs.Prelude.{codes}
 use Rattle.std.proofs.Common.{refl}
 use Rattle.mes_model_schema.specs.Kinds.{Kind, Lawful, Returns}
@@ -11,7 +11,7 @@ use Rattle.mes_model_resource.specs.Ids.{id, lawful_id}
 use Rattle.mes_model.specs.declared.framework_info.Capability.{Capability}
 use Rattle.mes_model.specs.declared.framework_info.FrameworkInfo.{FrameworkInfo}
 
--- type ?
+-- type: optional
 abbrev pub capability_layout : Layout Capability
 capability_layout =
     laid_out (
@@ -30,7 +30,8 @@ pub capability_back : (v : Capability) → capability_layout.rows.table.Back (ca
 unfolding capability
 capability_back v back = returns_kind capability_layout refl v back
 
--- user !, name !, id ?, failover_timeout ? in millionths, checkpoint ?, roles *, hostname ?, principal ?, capabilities *
+-- user, name: required; roles, capabilities: lists; others: optional; failover_timeout in
+-- millionths
 abbrev pub framework_info_layout : Layout FrameworkInfo
 framework_info_layout =
     laid_out (

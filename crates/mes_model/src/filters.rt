@@ -1,4 +1,4 @@
-//! When a framework wants no offers.
+//! Filters on offers.
 
 use mes_model_schema::fixed::Micros;
 use mes_model_schema::json::{self, Element, NoMemory};
@@ -8,14 +8,14 @@ use mes_model_schema::{
 };
 use std::alloc::Global;
 
-/// When a framework wants no offers.
+/// A filter on the offers that a framework receives (`Filters` in mesos.proto).
 #[derive(Debug, Drop)]
 pub struct Filters {
-    /// For how long what it refuses is not offered to it again, in seconds to six places.
+    /// The time for which the declined resources are not offered again, in seconds with six
+    /// decimals.
     pub refuse_seconds: Option<Micros>,
 }
 
-/// The names of the rows of filters, in the order of the table.
 const FILTERS_NAMES: [&str; 1] = ["refuse_seconds"];
 
 type FiltersRows = Rows1<OptionalRow<Micros>>;
@@ -30,7 +30,7 @@ impl ConstructFrom<<FiltersRows as RowList>::Values> for Filters {
     }
 }
 
-/// What the rows of filters hold.
+/// The borrowed values of the rows.
 macro_rules! filters_rows {
     ($of:ident) => {
         pairs!(&$of.refuse_seconds)

@@ -1,4 +1,4 @@
-//! A framework, and what it is able to deal with.
+//! Frameworks and their capabilities.
 
 use mes_model_resource::Id;
 use mes_model_schema::fixed::Micros;
@@ -10,14 +10,13 @@ use mes_model_schema::{
 };
 use std::alloc::Global;
 
-/// What a framework is able to deal with.
+/// A capability of a framework (`FrameworkInfo.Capability` in mesos.proto).
 #[derive(Debug, Drop)]
 pub struct Capability {
-    /// The member `type`: its name.
+    /// The member `type`: the name of the capability.
     pub kind: Option<Text>,
 }
 
-/// The names of the rows of a capability, in the order of the table.
 const CAPABILITY_NAMES: [&str; 1] = ["type"];
 
 type CapabilityRows = Rows1<OptionalRow<Text>>;
@@ -32,7 +31,7 @@ impl ConstructFrom<<CapabilityRows as RowList>::Values> for Capability {
     }
 }
 
-/// What the rows of a capability hold.
+/// The borrowed values of the rows.
 macro_rules! capability_rows {
     ($of:ident) => {
         pairs!(&$of.kind)
@@ -75,30 +74,29 @@ impl Part for Capability {
     }
 }
 
-/// What a framework tells of itself.
+/// The description of a framework (`FrameworkInfo` in mesos.proto).
 #[derive(Debug, Drop)]
 pub struct FrameworkInfo {
-    /// The user whose rights its executors and tasks have.
+    /// The user that runs its executors and tasks.
     pub user: Text,
     /// The name.
     pub name: Text,
-    /// The identifier, once the framework was given one.
+    /// The identifier, once the master assigned one.
     pub id: Option<Id>,
-    /// For how long its tasks run on once its scheduler is gone, in seconds to six places.
+    /// The time for which tasks run on without their scheduler, in seconds with six decimals.
     pub failover_timeout: Option<Micros>,
-    /// Whether agents keep on disk what they need to restart under running tasks.
+    /// Whether agents save to disk what they need to restart while tasks run.
     pub checkpoint: Option<bool>,
-    /// The roles that it is offered resources for.
+    /// The roles that resources are offered to.
     pub roles: List<Text>,
-    /// The name of its scheduler's host.
+    /// The hostname of the scheduler.
     pub hostname: Option<Text>,
-    /// The principal that it authenticates as.
+    /// The principal that the framework authenticates as.
     pub principal: Option<Text>,
-    /// What it is able to deal with.
+    /// The capabilities.
     pub capabilities: List<Capability>,
 }
 
-/// The names of the rows of a framework, in the order of the table.
 const FRAMEWORK_INFO_NAMES: [&str; 9] = [
     "user",
     "name",
@@ -143,7 +141,7 @@ impl ConstructFrom<<FrameworkInfoRows as RowList>::Values> for FrameworkInfo {
     }
 }
 
-/// What the rows of a framework hold.
+/// The borrowed values of the rows.
 macro_rules! framework_info_rows {
     ($of:ident) => {
         pairs!(

@@ -1,6 +1,17 @@
 #![tactic(auto)]
-//! The parts of messages of the Apache Mesos v1 scheduler API in their JSON form, those of events and of calls: each is read from a
-//! place of a tape, written as a tree and copied.
+//! The values inside the events and calls of the Apache Mesos v1 scheduler API, in their JSON form
+//! (mesos.proto). Frameworks and filters are here.
+//!
+//! The rest is re-exported: resources of `mes_model_resource`, offers of `mes_model_offer`, tasks
+//! of `mes_model_task`, and of `mes_model_schema` the trait `Part`, which each message type
+//! implements. Reading returns a value, or the path and the reason of the first fault.
+//!
+//! ```ignore
+//! let framework = FrameworkInfo::read(alloc, &json, &Path::new())?; // or: user Missing
+//! framework.write_json(alloc, &mut out)?;
+//! ```
+//!
+//! The events and calls themselves are in `mes_msg`. Tests are in the crate `mes_model_tests`.
 
 mod filters;
 mod framework_info;
