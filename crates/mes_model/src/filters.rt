@@ -1,5 +1,6 @@
 //! Filters on offers.
 
+use mes_model_schema::back::message_reads_back;
 use mes_model_schema::fixed::Micros;
 use mes_model_schema::json::{self, Element, NoMemory};
 use mes_model_schema::{
@@ -70,5 +71,10 @@ impl Part for Filters {
     fn copy(&self, alloc: Global) -> Result<Filters, NoMemory> {
         let values = filters_rows!(self).copy_rows(alloc)?;
         Ok(Filters::made_of(values))
+    }
+
+    #[tactic(auto, using(crate::specs::Filters::filters_back))]
+    fn reads_back(&self) {
+        message_reads_back(&FILTERS_NAMES, &filters_rows!(self));
     }
 }

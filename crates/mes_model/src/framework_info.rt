@@ -1,6 +1,7 @@
 //! Frameworks and their capabilities.
 
 use mes_model_resource::Id;
+use mes_model_schema::back::message_reads_back;
 use mes_model_schema::fixed::Micros;
 use mes_model_schema::json::{self, Element, NoMemory, Text};
 use mes_model_schema::{
@@ -71,6 +72,11 @@ impl Part for Capability {
     fn copy(&self, alloc: Global) -> Result<Capability, NoMemory> {
         let values = capability_rows!(self).copy_rows(alloc)?;
         Ok(Capability::made_of(values))
+    }
+
+    #[tactic(auto, using(crate::specs::Frameworks::capability_back))]
+    fn reads_back(&self) {
+        message_reads_back(&CAPABILITY_NAMES, &capability_rows!(self));
     }
 }
 
@@ -201,5 +207,10 @@ impl Part for FrameworkInfo {
     fn copy(&self, alloc: Global) -> Result<FrameworkInfo, NoMemory> {
         let values = framework_info_rows!(self).copy_rows(alloc)?;
         Ok(FrameworkInfo::made_of(values))
+    }
+
+    #[tactic(auto, using(crate::specs::Frameworks::framework_info_back))]
+    fn reads_back(&self) {
+        message_reads_back(&FRAMEWORK_INFO_NAMES, &framework_info_rows!(self));
     }
 }

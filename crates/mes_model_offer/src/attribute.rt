@@ -4,6 +4,7 @@ ghost use Rattle.std.specs.Prelude.{◌≡◌, IfOk};
 
 use crate::text_value::TextValue;
 use mes_model_resource::{Ranges, Scalar, Set};
+use mes_model_schema::back::message_reads_back;
 use mes_model_schema::json::{self, Element, NoMemory, Text};
 use mes_model_schema::{
     Choice, ConstructFrom, FieldFaultKind, Found, Part, PartFault, PathBuilder, RequiredRow,
@@ -113,6 +114,15 @@ impl Choice for AttributeValue {
     fn copy_choice(&self, alloc: Global) -> Result<AttributeValue, NoMemory> {
         self.copy(alloc)
     }
+
+    fn choice_reads_back(&self) {
+        match self {
+            AttributeValue::Scalar(scalar) => scalar.reads_back(),
+            AttributeValue::Ranges(ranges) => ranges.reads_back(),
+            AttributeValue::Set(set) => set.reads_back(),
+            AttributeValue::Text(text) => text.reads_back(),
+        }
+    }
 }
 
 /// An attribute of an agent (`Attribute` in mesos.proto).
@@ -178,5 +188,10 @@ impl Part for Attribute {
     fn copy(&self, alloc: Global) -> Result<Attribute, NoMemory> {
         let values = attribute_rows!(self).copy_rows(alloc)?;
         Ok(Attribute::made_of(values))
+    }
+
+    #[tactic(auto, using(crate::specs::Attributes::attribute_back))]
+    fn reads_back(&self) {
+        message_reads_back(&ATTRIBUTE_NAMES, &attribute_rows!(self));
     }
 }

@@ -2,6 +2,7 @@
 
 use crate::attribute::Attribute;
 use mes_model_resource::{Allocation, Id, Resource};
+use mes_model_schema::back::message_reads_back;
 use mes_model_schema::json::{self, Element, NoMemory, Text};
 use mes_model_schema::{
     ConstructFrom, List, OptionalRow, Part, PartFault, PathBuilder, RepeatedRow, RequiredRow,
@@ -120,5 +121,10 @@ impl Part for Offer {
     fn copy(&self, alloc: Global) -> Result<Offer, NoMemory> {
         let values = offer_rows!(self).copy_rows(alloc)?;
         Ok(Offer::made_of(values))
+    }
+
+    #[tactic(auto, using(crate::specs::Offers::offer_back))]
+    fn reads_back(&self) {
+        message_reads_back(&OFFER_NAMES, &offer_rows!(self));
     }
 }

@@ -1,5 +1,6 @@
 //! The text of an attribute.
 
+use mes_model_schema::back::message_reads_back;
 use mes_model_schema::json::{self, Element, NoMemory, Text};
 use mes_model_schema::{
     ConstructFrom, Part, PartFault, PathBuilder, RequiredRow, RequiredRowRef, RowList, RowRefs,
@@ -68,5 +69,10 @@ impl Part for TextValue {
     fn copy(&self, alloc: Global) -> Result<TextValue, NoMemory> {
         let values = text_value_rows!(self).copy_rows(alloc)?;
         Ok(TextValue::made_of(values))
+    }
+
+    #[tactic(auto, using(crate::specs::TextValues::text_value_back))]
+    fn reads_back(&self) {
+        message_reads_back(&TEXT_VALUE_NAMES, &text_value_rows!(self));
     }
 }

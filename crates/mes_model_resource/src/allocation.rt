@@ -1,5 +1,6 @@
 //! The role that resources are allocated to.
 
+use mes_model_schema::back::message_reads_back;
 use mes_model_schema::json::{self, Element, NoMemory, Text};
 use mes_model_schema::{
     ConstructFrom, OptionalRow, Part, PartFault, PathBuilder, RowList, RowRefs, Rows1, made,
@@ -68,5 +69,10 @@ impl Part for Allocation {
     fn copy(&self, alloc: Global) -> Result<Allocation, NoMemory> {
         let values = allocation_rows!(self).copy_rows(alloc)?;
         Ok(Allocation::made_of(values))
+    }
+
+    #[tactic(auto, using(crate::specs::Reservations::allocation_back))]
+    fn reads_back(&self) {
+        message_reads_back(&ALLOCATION_NAMES, &allocation_rows!(self));
     }
 }

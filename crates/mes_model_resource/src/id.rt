@@ -1,5 +1,6 @@
 //! Identifiers.
 
+use mes_model_schema::back::message_reads_back;
 use mes_model_schema::json::{self, Element, NoMemory, Text};
 use mes_model_schema::{
     ConstructFrom, Part, PartFault, PathBuilder, RequiredRow, RequiredRowRef, RowList, RowRefs,
@@ -68,5 +69,10 @@ impl Part for Id {
     fn copy(&self, alloc: Global) -> Result<Id, NoMemory> {
         let values = id_rows!(self).copy_rows(alloc)?;
         Ok(Id::made_of(values))
+    }
+
+    #[tactic(auto, using(crate::specs::Ids::id_back))]
+    fn reads_back(&self) {
+        message_reads_back(&ID_NAMES, &id_rows!(self));
     }
 }

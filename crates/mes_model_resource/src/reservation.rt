@@ -1,5 +1,6 @@
 //! Reservations of resources.
 
+use mes_model_schema::back::message_reads_back;
 use mes_model_schema::json::{self, Element, NoMemory, Text};
 use mes_model_schema::{
     ConstructFrom, Labels, OptionalRow, Part, PartFault, PathBuilder, RowList, RowRefs, Rows4,
@@ -84,5 +85,10 @@ impl Part for Reservation {
     fn copy(&self, alloc: Global) -> Result<Reservation, NoMemory> {
         let values = reservation_rows!(self).copy_rows(alloc)?;
         Ok(Reservation::made_of(values))
+    }
+
+    #[tactic(auto, using(crate::specs::Reservations::reservation_back))]
+    fn reads_back(&self) {
+        message_reads_back(&RESERVATION_NAMES, &reservation_rows!(self));
     }
 }

@@ -6,6 +6,7 @@ use crate::allocation::Allocation;
 use crate::id::Id;
 use crate::reservation::Reservation;
 use crate::value::{Ranges, Scalar, Set};
+use mes_model_schema::back::message_reads_back;
 use mes_model_schema::json::{self, Element, NoMemory, Text};
 use mes_model_schema::{
     Boxed, Choice, ConstructFrom, FieldFaultKind, Flag, Found, Kept, List, OptionalRow, Part,
@@ -106,6 +107,14 @@ impl Choice for ResourceValue {
 
     fn copy_choice(&self, alloc: Global) -> Result<ResourceValue, NoMemory> {
         self.copy(alloc)
+    }
+
+    fn choice_reads_back(&self) {
+        match self {
+            ResourceValue::Scalar(scalar) => scalar.reads_back(),
+            ResourceValue::Ranges(ranges) => ranges.reads_back(),
+            ResourceValue::Set(set) => set.reads_back(),
+        }
     }
 }
 
@@ -243,5 +252,10 @@ impl Part for Resource {
     fn copy(&self, alloc: Global) -> Result<Resource, NoMemory> {
         let values = resource_rows!(self).copy_rows(alloc)?;
         Ok(Resource::made_of(values))
+    }
+
+    #[tactic(auto, using(crate::specs::Resources::resource_back))]
+    fn reads_back(&self) {
+        message_reads_back(&RESOURCE_NAMES, &resource_rows!(self));
     }
 }

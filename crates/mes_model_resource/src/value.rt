@@ -1,5 +1,6 @@
 //! The values of resources and attributes.
 
+use mes_model_schema::back::message_reads_back;
 use mes_model_schema::fixed::Thousandths;
 use mes_model_schema::json::{self, Element, NoMemory, Text};
 use mes_model_schema::{
@@ -70,6 +71,11 @@ impl Part for Scalar {
         let values = scalar_rows!(self).copy_rows(alloc)?;
         Ok(Scalar::made_of(values))
     }
+
+    #[tactic(auto, using(crate::specs::Values::scalar_back))]
+    fn reads_back(&self) {
+        message_reads_back(&SCALAR_NAMES, &scalar_rows!(self));
+    }
 }
 
 /// A range of whole numbers, with both ends included (`Value.Range` in mesos.proto).
@@ -139,6 +145,11 @@ impl Part for Range {
         let values = range_rows!(self).copy_rows(alloc)?;
         Ok(Range::made_of(values))
     }
+
+    #[tactic(auto, using(crate::specs::Values::range_back))]
+    fn reads_back(&self) {
+        message_reads_back(&RANGE_NAMES, &range_rows!(self));
+    }
 }
 
 /// Ranges in order (`Value.Ranges` in mesos.proto).
@@ -203,6 +214,11 @@ impl Part for Ranges {
         let values = ranges_rows!(self).copy_rows(alloc)?;
         Ok(Ranges::made_of(values))
     }
+
+    #[tactic(auto, using(crate::specs::Values::ranges_back))]
+    fn reads_back(&self) {
+        message_reads_back(&RANGES_NAMES, &ranges_rows!(self));
+    }
 }
 
 /// Names in order (`Value.Set` in mesos.proto).
@@ -266,5 +282,10 @@ impl Part for Set {
     fn copy(&self, alloc: Global) -> Result<Set, NoMemory> {
         let values = set_rows!(self).copy_rows(alloc)?;
         Ok(Set::made_of(values))
+    }
+
+    #[tactic(auto, using(crate::specs::Values::set_back))]
+    fn reads_back(&self) {
+        message_reads_back(&SET_NAMES, &set_rows!(self));
     }
 }

@@ -84,4 +84,8 @@ impl<T: Part> Part for Boxed<T> {
     fn copy(&self, alloc: Global) -> Result<Boxed<T>, NoMemory> {
         Boxed::new(alloc, self.get().copy(alloc)?)
     }
+
+    fn reads_back(&self) {
+        self.get().reads_back();
+    }
 }

@@ -138,6 +138,10 @@ impl Part for Bytes {
     fn copy(&self, alloc: Global) -> Result<Bytes, NoMemory> {
         Ok(Bytes::new(Vec::from_slice(alloc, self.as_slice())?))
     }
+
+    fn reads_back(&self) {
+        octets_read_back(self.as_slice());
+    }
 }
 
 /// Builds the JSON string of the base64 text.
@@ -148,3 +152,8 @@ fn base64_tree(alloc: Global, octets: &[u8]) -> Result<Json, NoMemory>
     let text = STANDARD.encode(alloc, octets)?;
     Ok(Json::Text(Text::new(text)))
 }
+
+/// Shows that bytes are read back from their base64 text.
+fn octets_read_back(octets: &[u8])
+    ensures { Returns base64_bytes octets.now }
+{}

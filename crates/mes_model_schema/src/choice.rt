@@ -64,6 +64,10 @@ pub trait Choice: Drop {
     fn copy_choice(&self, alloc: Global) -> Result<Self, NoMemory>
         ensures { IfOk result (λ v. v ≡ self.now) };
 
+    /// Shows that each value of its rows is read back from its tree. Does not allocate.
+    fn choice_reads_back(&self)
+        ensures { table.Back self.now };
+
     ghost counted: { length names ≡ COUNT };
 
     ghost lawful: { LawfulTable table STEPS };

@@ -110,4 +110,7 @@ impl Part for Kept {
             json: self.json.copy(alloc)?,
         })
     }
+
+    #[tactic(auto, unfolding(crate::specs::Leaves::objects))]
+    fn reads_back(&self) {}
 }

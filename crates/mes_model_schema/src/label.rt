@@ -5,6 +5,7 @@ ghost use Rattle.mes_model_schema.specs.Appended.{Appends};
 ghost use Rattle.mes_model_schema.specs.Kinds.{Returns};
 ghost use Rattle.mes_model_schema.specs.Labels.{labels};
 
+use crate::back::message_reads_back;
 use crate::list::List;
 use crate::message::{ConstructFrom, message_text, message_tree, read_message};
 use crate::pairs::{Rows1, Rows2};
@@ -85,6 +86,14 @@ impl Part for Label {
     fn copy(&self, alloc: Global) -> Result<Label, NoMemory> {
         let values = pairs!(RequiredRowRef(&self.key), &self.value).copy_rows(alloc)?;
         Ok(Label::made_of(values))
+    }
+
+    #[tactic(auto, using(crate::specs::Labels::label_back))]
+    fn reads_back(&self) {
+        message_reads_back(
+            &LABEL_NAMES,
+            &pairs!(RequiredRowRef(&self.key), &self.value),
+        );
     }
 }
 
@@ -172,6 +181,10 @@ impl Part for Labels {
         let labels = copy_list(alloc, &self.labels)?;
         Ok(Labels { labels })
     }
+
+    fn reads_back(&self) {
+        labels_read_back(&self.labels);
+    }
 }
 
 /// Builds the JSON object of a list of labels.
@@ -192,4 +205,12 @@ fn labels_text(alloc: Global, list: &List<Label>, out: &mut Vec<u8>) -> Result<u
     ensures back { OnOk result (Returns labels list.now) }
 {
     message_text(alloc, &LABELS_NAMES, &pairs!(list), out)
+}
+
+/// Shows that labels are read back from their tree.
+#[tactic(auto, using(crate::specs::Labels::labels_back))]
+fn labels_read_back(list: &List<Label>)
+    ensures { Returns labels list.now }
+{
+    message_reads_back(&LABELS_NAMES, &pairs!(list));
 }

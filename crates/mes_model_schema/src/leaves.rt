@@ -43,6 +43,9 @@ impl Part for Text {
     fn copy(&self, alloc: Global) -> Result<Text, NoMemory> {
         self.copy(alloc)
     }
+
+    #[tactic(auto, unfolding(crate::specs::Leaves::texts))]
+    fn reads_back(&self) {}
 }
 
 impl Part for bool {
@@ -78,4 +81,7 @@ impl Part for bool {
     fn copy(&self, _alloc: Global) -> Result<bool, NoMemory> {
         Ok(*self)
     }
+
+    #[tactic(auto, unfolding(crate::specs::Leaves::booleans))]
+    fn reads_back(&self) {}
 }

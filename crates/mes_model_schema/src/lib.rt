@@ -18,6 +18,7 @@
 //! are in the crate `mes_model_tests`, definitions in `specs/`.
 
 mod append;
+pub mod back;
 mod blocks;
 mod boxed;
 mod bytes;
@@ -85,7 +86,8 @@ pub use row_ref::{RequiredRowRef, RowRef};
 pub use row_refs::RowRefs;
 pub use theorems::{
     either_list_reading_is_unique, either_list_returned, list_reading_is_unique, list_returned,
-    most_steps, one_answer, part_limits, read_list, read_part, returned, written_again,
+    most_steps, one_answer, part_limits, read_list, read_part, returned, value_returned,
+    written_again,
 };
 pub use typed::{Typed, TypedRef};
 pub use write_row::{

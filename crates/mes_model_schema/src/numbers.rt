@@ -61,6 +61,10 @@ impl Part for u64 {
     fn copy(&self, _alloc: Global) -> Result<u64, NoMemory> {
         Ok(*self)
     }
+
+    fn reads_back(&self) {
+        whole_reads_back(*self);
+    }
 }
 
 impl Part for i32 {
@@ -91,6 +95,10 @@ impl Part for i32 {
 
     fn copy(&self, _alloc: Global) -> Result<i32, NoMemory> {
         Ok(*self)
+    }
+
+    fn reads_back(&self) {
+        signed_reads_back(*self);
     }
 }
 
@@ -124,6 +132,10 @@ impl Part for Fixed<3> {
     fn copy(&self, _alloc: Global) -> Result<Fixed<3>, NoMemory> {
         Ok(*self)
     }
+
+    fn reads_back(&self) {
+        fixed_reads_back(*self);
+    }
 }
 
 impl Part for Fixed<6> {
@@ -155,6 +167,10 @@ impl Part for Fixed<6> {
 
     fn copy(&self, _alloc: Global) -> Result<Fixed<6>, NoMemory> {
         Ok(*self)
+    }
+
+    fn reads_back(&self) {
+        fixed_reads_back(*self);
     }
 }
 
@@ -223,3 +239,21 @@ fn append_number(text: &str, out: &mut Vec<u8>) -> Result<u64, NoMemory>
     out.extend_from_slice(text.as_bytes())?;
     Ok(0)
 }
+
+/// Shows that a whole number is read back from its text.
+#[tactic(auto, using(crate::specs::NumberBack::whole_returns))]
+fn whole_reads_back(value: u64)
+    ensures { Returns whole value }
+{}
+
+/// Shows that a whole number with a sign is read back from its text.
+#[tactic(auto, using(crate::specs::NumberBack::signed32_returns))]
+fn signed_reads_back(value: i32)
+    ensures { Returns signed32 value }
+{}
+
+/// Shows that a decimal number is read back from its text.
+#[tactic(auto, using(crate::specs::NumberBack::fixed_returns))]
+fn fixed_reads_back<const P: u32>(value: Fixed<P>)
+    ensures { Returns (fixed P) value.entry }
+{}

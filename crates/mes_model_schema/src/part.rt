@@ -99,5 +99,9 @@ pub trait Part: Drop {
     fn copy(&self, alloc: Global) -> Result<Self, NoMemory>
         ensures { IfOk result (λ v. v ≡ self.now) };
 
+    /// Shows that the value is read back from the tree that it is written as. Does not allocate.
+    fn reads_back(&self)
+        ensures { Returns kind self.now };
+
     ghost lawful: { Lawful kind STEPS };
 }

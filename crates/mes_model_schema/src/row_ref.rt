@@ -6,6 +6,7 @@ ghost use Rattle.mes_model_schema.specs.Rows.{Table, need, maybe, many, flag};
 ghost use Rattle.mes_model_schema.specs.Written.{pairs_view};
 
 use crate::append::{write_flag_text, write_optional_text, write_repeated_text, write_row_text};
+use crate::back::{list_reads_back, some_reads_back};
 use crate::list::List;
 use crate::part::Part;
 use crate::write_row::{
@@ -45,6 +46,11 @@ pub trait RowRef {
     /// Copies the value.
     fn copy_row(&self, alloc: Global) -> Result<Self::Value, NoMemory>
         ensures { IfOk result (λ v. v ≡ value self.now) };
+
+    /// Shows that, under any name, each value of the row is read back from its tree. Does not
+    /// allocate.
+    fn row_reads_back(&self)
+        ensures { (name : list ℕ) → (table name).Back (value self.now) };
 }
 
 /// The borrowed value of a required row.
@@ -79,6 +85,10 @@ impl<'a, T: Part> RowRef for RequiredRowRef<'a, T> {
     fn copy_row(&self, alloc: Global) -> Result<T, NoMemory> {
         self.0.copy(alloc)
     }
+
+    fn row_reads_back(&self) {
+        self.0.reads_back();
+    }
 }
 
 impl<'a, T: Part> RowRef for &'a Option<T> {
@@ -109,6 +119,10 @@ impl<'a, T: Part> RowRef for &'a Option<T> {
     fn copy_row(&self, alloc: Global) -> Result<Option<T>, NoMemory> {
         copy_some(alloc, self)
     }
+
+    fn row_reads_back(&self) {
+        some_reads_back(self);
+    }
 }
 
 impl<'a, T: Part> RowRef for &'a List<T> {
@@ -138,6 +152,10 @@ impl<'a, T: Part> RowRef for &'a List<T> {
 
     fn copy_row(&self, alloc: Global) -> Result<List<T>, NoMemory> {
         copy_list(alloc, self)
+    }
+
+    fn row_reads_back(&self) {
+        list_reads_back(self);
     }
 }
 
@@ -170,4 +188,6 @@ impl RowRef for bool {
     fn copy_row(&self, _alloc: Global) -> Result<bool, NoMemory> {
         Ok(*self)
     }
+
+    fn row_reads_back(&self) {}
 }

@@ -59,6 +59,11 @@ pub trait RowRefs {
     /// Copies the values.
     fn copy_rows(&self, alloc: Global) -> Result<Self::Values, NoMemory>
         ensures { IfOk result (λ v. v ≡ values self.now) };
+
+    /// Shows that, under any names, each value of the rows is read back from its tree. Does not
+    /// allocate.
+    fn rows_read_back(&self)
+        ensures { (names : list (list ℕ)) (first : ℕ) → (table names first).Back (values self.now) };
 }
 
 impl RowRefs for () {
@@ -94,6 +99,8 @@ impl RowRefs for () {
     fn copy_rows(&self, _alloc: Global) -> Result<(), NoMemory> {
         Ok(())
     }
+
+    fn rows_read_back(&self) {}
 }
 
 impl<H: RowRef, T: RowRefs> RowRefs for (H, T) {
@@ -133,5 +140,10 @@ impl<H: RowRef, T: RowRefs> RowRefs for (H, T) {
         let head = self.0.copy_row(alloc)?;
         let rest = self.1.copy_rows(alloc)?;
         Ok((head, rest))
+    }
+
+    fn rows_read_back(&self) {
+        self.0.row_reads_back();
+        self.1.rows_read_back();
     }
 }

@@ -36,6 +36,13 @@ pub fn returned<T: Part>()
     ensures { (at : list Place) (value : T) → Returns T.kind value → T.kind.read at (T.kind.tree value) ≡ Ok value }
 {}
 
+/// Law: the value is read back from the tree that it is written as. Does not allocate.
+pub fn value_returned<T: Part>(value: &T)
+    ensures { Returns T.kind value.now }
+{
+    value.reads_back();
+}
+
 /// Any tree at any path is one list of values of the type, or has one first fault.
 pub fn list_reading_is_unique<T: Part>()
     ensures { (at : list Place) (t : Tree) → Settled (list_of T.kind) at t }

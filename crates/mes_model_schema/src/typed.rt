@@ -87,4 +87,9 @@ impl<'a, C: Choice, T: RowRefs> RowRefs for TypedRef<'a, C, T> {
         let rest = self.1.copy_rows(alloc)?;
         Ok((value, rest))
     }
+
+    fn rows_read_back(&self) {
+        self.0.choice_reads_back();
+        self.1.rows_read_back();
+    }
 }

@@ -1,5 +1,6 @@
 //! Commands of tasks.
 
+use mes_model_schema::back::message_reads_back;
 use mes_model_schema::json::{self, Element, NoMemory, Text};
 use mes_model_schema::{
     ConstructFrom, List, OptionalRow, Part, PartFault, PathBuilder, RepeatedRow, RowList, RowRefs,
@@ -76,5 +77,10 @@ impl Part for Command {
     fn copy(&self, alloc: Global) -> Result<Command, NoMemory> {
         let values = command_rows!(self).copy_rows(alloc)?;
         Ok(Command::made_of(values))
+    }
+
+    #[tactic(auto, using(crate::specs::Tasks::command_back))]
+    fn reads_back(&self) {
+        message_reads_back(&COMMAND_NAMES, &command_rows!(self));
     }
 }

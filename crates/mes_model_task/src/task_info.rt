@@ -2,6 +2,7 @@
 
 use crate::command::Command;
 use mes_model_resource::{Id, Resource};
+use mes_model_schema::back::message_reads_back;
 use mes_model_schema::json::{self, Element, NoMemory, Text};
 use mes_model_schema::{
     ConstructFrom, Kept, List, OptionalRow, Part, PartFault, PathBuilder, RepeatedRow, RequiredRow,
@@ -101,5 +102,10 @@ impl Part for TaskInfo {
     fn copy(&self, alloc: Global) -> Result<TaskInfo, NoMemory> {
         let values = task_info_rows!(self).copy_rows(alloc)?;
         Ok(TaskInfo::made_of(values))
+    }
+
+    #[tactic(auto, using(crate::specs::Tasks::task_info_back))]
+    fn reads_back(&self) {
+        message_reads_back(&TASK_INFO_NAMES, &task_info_rows!(self));
     }
 }

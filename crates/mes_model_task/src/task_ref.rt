@@ -1,6 +1,7 @@
 //! Tasks in a RECONCILE call.
 
 use mes_model_resource::Id;
+use mes_model_schema::back::message_reads_back;
 use mes_model_schema::json::{self, Element, NoMemory};
 use mes_model_schema::{
     ConstructFrom, OptionalRow, Part, PartFault, PathBuilder, RequiredRow, RequiredRowRef, RowList,
@@ -74,5 +75,10 @@ impl Part for TaskRef {
     fn copy(&self, alloc: Global) -> Result<TaskRef, NoMemory> {
         let values = task_ref_rows!(self).copy_rows(alloc)?;
         Ok(TaskRef::made_of(values))
+    }
+
+    #[tactic(auto, using(crate::specs::Tasks::task_ref_back))]
+    fn reads_back(&self) {
+        message_reads_back(&TASK_REF_NAMES, &task_ref_rows!(self));
     }
 }

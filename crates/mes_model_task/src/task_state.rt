@@ -125,4 +125,7 @@ impl Part for TaskState {
     fn copy(&self, _alloc: Global) -> Result<TaskState, NoMemory> {
         Ok(*self)
     }
+
+    #[tactic(auto, unfolding(crate::specs::TaskStates::states))]
+    fn reads_back(&self) {}
 }

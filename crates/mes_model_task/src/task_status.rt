@@ -7,6 +7,7 @@ use crate::owed_key::OwedKey;
 use crate::task_state::TaskState;
 use crate::time_info::TimeInfo;
 use mes_model_resource::Id;
+use mes_model_schema::back::message_reads_back;
 use mes_model_schema::fixed::Micros;
 use mes_model_schema::json::{self, Element, NoMemory, Text};
 use mes_model_schema::{
@@ -187,5 +188,10 @@ impl Part for TaskStatus {
     fn copy(&self, alloc: Global) -> Result<TaskStatus, NoMemory> {
         let values = task_status_rows!(self).copy_rows(alloc)?;
         Ok(TaskStatus::made_of(values))
+    }
+
+    #[tactic(auto, using(crate::specs::TaskStatuses::task_status_back))]
+    fn reads_back(&self) {
+        message_reads_back(&TASK_STATUS_NAMES, &task_status_rows!(self));
     }
 }

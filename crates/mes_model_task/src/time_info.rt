@@ -1,5 +1,6 @@
 //! Points in time.
 
+use mes_model_schema::back::message_reads_back;
 use mes_model_schema::json::{self, Element, NoMemory};
 use mes_model_schema::{
     ConstructFrom, Part, PartFault, PathBuilder, RequiredRow, RequiredRowRef, RowList, RowRefs,
@@ -69,5 +70,10 @@ impl Part for TimeInfo {
     fn copy(&self, alloc: Global) -> Result<TimeInfo, NoMemory> {
         let values = time_info_rows!(self).copy_rows(alloc)?;
         Ok(TimeInfo::made_of(values))
+    }
+
+    #[tactic(auto, using(crate::specs::Times::time_info_back))]
+    fn reads_back(&self) {
+        message_reads_back(&TIME_INFO_NAMES, &time_info_rows!(self));
     }
 }

@@ -14,7 +14,7 @@ use Rattle.mes_model_resource.specs.declared.id.Id.{Id}
 use Rattle.mes_msg_record.specs.Messages.{message_body, lawful_message_body}
 use Rattle.mes_msg_call_body.specs.CallBodies.{subscribe, accept, decline, kill, acknowledge, reconcile, shutdown, lawful_subscribe, lawful_accept, lawful_decline, lawful_kill, lawful_acknowledge, lawful_reconcile, lawful_shutdown}
 use Rattle.mes_msg_record.specs.declared.message.Message.{Message}
-use Rattle.mes_msg_call_body.specs.declared.call_bodies.Subscribe.{Subscribe}
+use Rattle.mes_msg_call_body.specs.declared.subscribe.Subscribe.{Subscribe}
 use Rattle.mes_msg_call_body.specs.declared.call_bodies.Accept.{Accept}
 use Rattle.mes_msg_call_body.specs.declared.call_bodies.Decline.{Decline}
 use Rattle.mes_msg_call_body.specs.declared.call_bodies.Kill.{Kill}

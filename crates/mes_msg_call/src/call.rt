@@ -3,7 +3,6 @@ ghost use Rattle.std.specs.Prelude.{◌≡◌, ◌+◌, ◌≤◌, [], ◌∷◌
 ghost use Rattle.mes_model_schema.specs.Tree.{Members};
 ghost use Rattle.mes_model_schema.specs.Tree.Tree.{string};
 ghost use Rattle.mes_model_schema.specs.View.{view};
-ghost use Rattle.mes_model_schema.specs.Appended.{AppendsMembers};
 ghost use Rattle.mes_model_schema.specs.Choices.{type_name};
 ghost use Rattle.mes_model_schema.specs.Fields.{values_named};
 ghost use Rattle.mes_model_schema.specs.FoundRows.{IsFound};
@@ -15,14 +14,15 @@ ghost use Rattle.mes_model_resource.specs.Ids.{id};
 ghost use Rattle.mes_msg_call.specs.Calls.{call, call_rows, with_body, without_body};
 ghost use Rattle.mes_msg_record.specs.Texts.{IsTextOf, IsFaultOf, canonical_of, Fits, IsRefusalOf};
 
+use crate::call_text::{append_call, append_head, append_subscribe, call_reads_back};
 use mes_frame::Limit;
 use mes_model_resource::Id;
+use mes_model_schema::back::some_reads_back;
 use mes_model_schema::json::{self, Element, NoMemory, Text};
 use mes_model_schema::{
     Choice, FieldFaultKind, Found, MAX_PATH_STEPS, Part, PartFault, Path, PathBuilder, copy_some,
-    deeper, left_out, optional, push_optional_tree, push_type_tree, put, read_part, read_typed,
-    required, type_of, type_refusal, typed_text, typed_tree, write_case_text, write_optional_text,
-    write_row_text, write_type_text,
+    left_out, optional, push_optional_tree, push_type_tree, put, read_part, read_typed, required,
+    type_of, type_refusal, typed_text, typed_tree,
 };
 use mes_msg_call_body::{Accept, Acknowledge, Decline, Kill, Reconcile, Shutdown, Subscribe};
 use mes_msg_record::{EncodeFault, Message, RecordFault, canonical_bytes, read_bytes};
@@ -358,6 +358,25 @@ impl Choice for Call {
             }),
         }
     }
+
+    fn choice_reads_back(&self) {
+        match self {
+            Call::Subscribe { framework_id, body } => {
+                some_reads_back(framework_id);
+                body.reads_back();
+            }
+            Call::Accept { framework_id, body } => call_reads_back(framework_id, body),
+            Call::Decline { framework_id, body } => call_reads_back(framework_id, body),
+            Call::Revive { framework_id } => framework_id.reads_back(),
+            Call::Kill { framework_id, body } => call_reads_back(framework_id, body),
+            Call::Acknowledge { framework_id, body } => call_reads_back(framework_id, body),
+            Call::Reconcile { framework_id, body } => call_reads_back(framework_id, body),
+            Call::Teardown { framework_id } => framework_id.reads_back(),
+            Call::Suppress { framework_id } => framework_id.reads_back(),
+            Call::Shutdown { framework_id, body } => call_reads_back(framework_id, body),
+            Call::Message { framework_id, body } => call_reads_back(framework_id, body),
+        }
+    }
 }
 
 impl Part for Call {
@@ -392,6 +411,11 @@ impl Part for Call {
 
     fn copy(&self, alloc: Global) -> Result<Call, NoMemory> {
         self.copy_choice(alloc)
+    }
+
+    #[tactic(auto, using(crate::specs::Calls::call_back))]
+    fn reads_back(&self) {
+        self.choice_reads_back();
     }
 }
 
@@ -467,57 +491,4 @@ fn put_call<T: Part>(
 {
     put_head(members, alloc, kind, framework_id)?;
     put(members, alloc, name, body)
-}
-
-/// Appends the text of the members of a SUBSCRIBE and returns the nesting depth of the deepest.
-#[tactic(auto, using(mes_model_schema::proofs::AppendLemmas::both_members))]
-fn append_subscribe(
-    alloc: Global,
-    framework_id: &Option<Id>,
-    body: &Subscribe,
-    out: &mut Vec<u8>,
-) -> Result<u64, NoMemory>
-    ensures members { IfOk result (λ deep. AppendsMembers out.old.items
-        (call_rows.members (Call.Subscribe framework_id.now body.now)) out.new.items deep) }
-    ensures back { OnOk result (call_rows.Back (Call.Subscribe framework_id.now body.now)) }
-{
-    let kind = write_type_text("SUBSCRIBE", out)?;
-    let framework = write_optional_text(alloc, "framework_id", framework_id, out)?;
-    let rest = write_row_text(alloc, "subscribe", body, out)?;
-    Ok(deeper(deeper(kind, framework), rest))
-}
-
-/// Appends the text of the members `type` and `framework_id`.
-#[tactic(auto, using(mes_model_schema::proofs::AppendLemmas::both_members))]
-fn append_head(
-    alloc: Global,
-    kind: &str,
-    framework_id: &Id,
-    out: &mut Vec<u8>,
-) -> Result<u64, NoMemory>
-    ensures members { IfOk result (λ deep. AppendsMembers out.old.items
-        ((type_name, string kind.now) ∷ (codes "framework_id", id.tree framework_id.now) ∷ []) out.new.items deep) }
-    ensures back { OnOk result (Returns id framework_id.now) }
-{
-    write_case_text(alloc, kind, "framework_id", framework_id, out)
-}
-
-/// Appends the text of the members `type`, `framework_id` and `name`, the body.
-#[tactic(auto, using(mes_model_schema::proofs::AppendLemmas::both_members))]
-fn append_call<T: Part>(
-    alloc: Global,
-    kind: &str,
-    framework_id: &Id,
-    name: &str,
-    body: &T,
-    out: &mut Vec<u8>,
-) -> Result<u64, NoMemory>
-    ensures members { IfOk result (λ deep. AppendsMembers out.old.items
-        ((type_name, string kind.now) ∷ (codes "framework_id", id.tree framework_id.now) ∷ (name.now, T.kind.tree body.now) ∷ []) out.new.items deep) }
-    ensures framework { OnOk result (Returns id framework_id.now) }
-    ensures back { OnOk result (Returns T.kind body.now) }
-{
-    let head = append_head(alloc, kind, framework_id, out)?;
-    let rest = write_row_text(alloc, name, body, out)?;
-    Ok(deeper(head, rest))
 }

@@ -11,6 +11,7 @@
 //! `mes_msg`, which re-exports both. The tests are in `mes_msg_tests`.
 
 mod call;
+mod call_text;
 pub mod first_fault;
 
 pub use call::Call;

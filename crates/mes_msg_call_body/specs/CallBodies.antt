@@ -10,7 +10,7 @@ use Rattle.mes_model.specs.Frameworks.{framework_info, lawful_framework_info}
 use Rattle.mes_model.specs.Ids.{id, lawful_id}
 use Rattle.mes_model.specs.Tasks.{task_ref, lawful_task_ref}
 use Rattle.mes_msg_call_body.specs.Operations.{operation, lawful_operation}
-use Rattle.mes_msg_call_body.specs.declared.call_bodies.Subscribe.{Subscribe}
+use Rattle.mes_msg_call_body.specs.declared.subscribe.Subscribe.{Subscribe}
 use Rattle.mes_msg_call_body.specs.declared.call_bodies.Accept.{Accept}
 use Rattle.mes_msg_call_body.specs.declared.call_bodies.Decline.{Decline}
 use Rattle.mes_msg_call_body.specs.declared.call_bodies.Kill.{Kill}

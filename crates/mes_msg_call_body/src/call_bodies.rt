@@ -1,8 +1,9 @@
-//! The bodies of calls, except MESSAGE (crate `mes_msg_record`). The tables are in
-//! specs/CallBodies.antt.
+//! The bodies of calls, except SUBSCRIBE (subscribe.rt) and MESSAGE (crate `mes_msg_record`). The
+//! tables are in specs/CallBodies.antt.
 
 use crate::operation::Operation;
-use mes_model::{Filters, FrameworkInfo, Id, TaskRef};
+use mes_model::{Filters, Id, TaskRef};
+use mes_model_schema::back::message_reads_back;
 use mes_model_schema::json::{self, Element, NoMemory};
 use mes_model_schema::{
     Bytes, ConstructFrom, List, OptionalRow, Part, PartFault, PathBuilder, RepeatedRow,
@@ -11,70 +12,8 @@ use mes_model_schema::{
 };
 use std::alloc::Global;
 
-/// The body of SUBSCRIBE (scheduler.proto, `Call.Subscribe`).
-#[derive(Debug, Drop)]
-pub struct Subscribe {
-    /// The description of the framework.
-    pub framework_info: FrameworkInfo,
-}
-
-const SUBSCRIBE_NAMES: [&str; 1] = ["framework_info"];
-
-type SubscribeRows = Rows1<RequiredRow<FrameworkInfo>>;
-
-impl ConstructFrom<<SubscribeRows as RowList>::Values> for Subscribe {
-    ghost use Rattle.mes_msg_call_body.specs.CallBodies.{subscribe_layout};
-
-    ghost to = { subscribe_layout.to };
-
-    fn made_of(values: <SubscribeRows as RowList>::Values) -> Subscribe {
-        made!(values => Subscribe { framework_info })
-    }
-}
-
-macro_rules! subscribe_rows {
-    ($of:ident) => {
-        pairs!(RequiredRowRef(&$of.framework_info))
-    };
-}
-
-impl Part for Subscribe {
-    ghost use Rattle.mes_msg_call_body.specs.CallBodies.{subscribe, lawful_subscribe};
-
-    ghost kind = { subscribe };
-
-    ghost STEPS = { 4 };
-
-    const STEPS: u32 = 4;
-
-    ghost lawful = { lawful_subscribe };
-
-    #[tactic(auto, unfolding(crate::specs::CallBodies::subscribe))]
-    fn read_from(
-        alloc: Global,
-        element: &Element<'_>,
-        path: &PathBuilder<'_>,
-    ) -> Result<Subscribe, PartFault> {
-        read_message::<SubscribeRows, Subscribe, 1>(alloc, element, &SUBSCRIBE_NAMES, path)
-    }
-
-    #[tactic(auto, using(crate::specs::CallBodies::subscribe_back), unfolding(crate::specs::CallBodies::subscribe))]
-    fn tree(&self, alloc: Global) -> Result<json::Json, NoMemory> {
-        message_tree(alloc, &SUBSCRIBE_NAMES, &subscribe_rows!(self))
-    }
-
-    #[tactic(auto, using(crate::specs::CallBodies::subscribe_back), unfolding(crate::specs::CallBodies::subscribe))]
-    fn write_json(&self, alloc: Global, out: &mut Vec<u8>) -> Result<u64, NoMemory> {
-        message_text(alloc, &SUBSCRIBE_NAMES, &subscribe_rows!(self), out)
-    }
-
-    fn copy(&self, alloc: Global) -> Result<Subscribe, NoMemory> {
-        let values = subscribe_rows!(self).copy_rows(alloc)?;
-        Ok(Subscribe::made_of(values))
-    }
-}
-
-/// The body of ACCEPT (`Call.Accept`).
+//! The bodies of calls, except SUBSCRIBE (subscribe.rt) and MESSAGE (crate `mes_msg_record`). The
+//! tables are in specs/CallBodies.antt.
 #[derive(Debug, Drop)]
 pub struct Accept {
     /// The accepted offers.
@@ -142,6 +81,11 @@ impl Part for Accept {
     fn copy(&self, alloc: Global) -> Result<Accept, NoMemory> {
         let values = accept_rows!(self).copy_rows(alloc)?;
         Ok(Accept::made_of(values))
+    }
+
+    #[tactic(auto, using(crate::specs::CallBodies::accept_back))]
+    fn reads_back(&self) {
+        message_reads_back(&ACCEPT_NAMES, &accept_rows!(self));
     }
 }
 
@@ -211,6 +155,11 @@ impl Part for Decline {
         let values = decline_rows!(self).copy_rows(alloc)?;
         Ok(Decline::made_of(values))
     }
+
+    #[tactic(auto, using(crate::specs::CallBodies::decline_back))]
+    fn reads_back(&self) {
+        message_reads_back(&DECLINE_NAMES, &decline_rows!(self));
+    }
 }
 
 /// The body of KILL (`Call.Kill`).
@@ -278,6 +227,11 @@ impl Part for Kill {
     fn copy(&self, alloc: Global) -> Result<Kill, NoMemory> {
         let values = kill_rows!(self).copy_rows(alloc)?;
         Ok(Kill::made_of(values))
+    }
+
+    #[tactic(auto, using(crate::specs::CallBodies::kill_back))]
+    fn reads_back(&self) {
+        message_reads_back(&KILL_NAMES, &kill_rows!(self));
     }
 }
 
@@ -350,6 +304,11 @@ impl Part for Acknowledge {
         let values = acknowledge_rows!(self).copy_rows(alloc)?;
         Ok(Acknowledge::made_of(values))
     }
+
+    #[tactic(auto, using(crate::specs::CallBodies::acknowledge_back))]
+    fn reads_back(&self) {
+        message_reads_back(&ACKNOWLEDGE_NAMES, &acknowledge_rows!(self));
+    }
 }
 
 /// The body of RECONCILE (`Call.Reconcile`).
@@ -412,6 +371,11 @@ impl Part for Reconcile {
     fn copy(&self, alloc: Global) -> Result<Reconcile, NoMemory> {
         let values = reconcile_rows!(self).copy_rows(alloc)?;
         Ok(Reconcile::made_of(values))
+    }
+
+    #[tactic(auto, using(crate::specs::CallBodies::reconcile_back))]
+    fn reads_back(&self) {
+        message_reads_back(&RECONCILE_NAMES, &reconcile_rows!(self));
     }
 }
 
@@ -477,5 +441,10 @@ impl Part for Shutdown {
     fn copy(&self, alloc: Global) -> Result<Shutdown, NoMemory> {
         let values = shutdown_rows!(self).copy_rows(alloc)?;
         Ok(Shutdown::made_of(values))
+    }
+
+    #[tactic(auto, using(crate::specs::CallBodies::shutdown_back))]
+    fn reads_back(&self) {
+        message_reads_back(&SHUTDOWN_NAMES, &shutdown_rows!(self));
     }
 }

@@ -13,6 +13,8 @@
 
 mod call_bodies;
 mod operation;
+mod subscribe;
 
-pub use call_bodies::{Accept, Acknowledge, Decline, Kill, Reconcile, Shutdown, Subscribe};
+pub use call_bodies::{Accept, Acknowledge, Decline, Kill, Reconcile, Shutdown};
 pub use operation::Operation;
+pub use subscribe::Subscribe;

@@ -6,6 +6,7 @@ ghost use Rattle.mes_model_schema.specs.Kinds.{Returns};
 ghost use Rattle.mes_msg_call_body.specs.Operations.{launch, operation_rows};
 
 use mes_model::TaskInfo;
+use mes_model_schema::back::message_reads_back;
 use mes_model_schema::json::{self, Element, NoMemory, Text};
 use mes_model_schema::{
     Choice, ConstructFrom, FieldFaultKind, Found, List, Part, PartFault, PathBuilder, RepeatedRow,
@@ -87,6 +88,11 @@ impl Choice for Operation {
         let task_infos = copy_list(alloc, task_infos)?;
         Ok(Operation::Launch { task_infos })
     }
+
+    fn choice_reads_back(&self) {
+        let Operation::Launch { task_infos } = self;
+        launch_reads_back(task_infos);
+    }
 }
 
 impl Part for Operation {
@@ -121,6 +127,11 @@ impl Part for Operation {
 
     fn copy(&self, alloc: Global) -> Result<Operation, NoMemory> {
         self.copy_choice(alloc)
+    }
+
+    #[tactic(auto, using(crate::specs::Operations::operation_back))]
+    fn reads_back(&self) {
+        self.choice_reads_back();
     }
 }
 
@@ -197,6 +208,10 @@ impl Part for Launch {
         let task_infos = copy_list(alloc, &self.task_infos)?;
         Ok(Launch { task_infos })
     }
+
+    fn reads_back(&self) {
+        launch_reads_back(&self.task_infos);
+    }
 }
 
 #[tactic(auto, using(crate::specs::Operations::launch_back), unfolding(crate::specs::Operations::launch))]
@@ -237,4 +252,12 @@ fn launch_text(
     ensures back { OnOk result (Returns launch task_infos.now) }
 {
     message_text(alloc, &LAUNCH_NAMES, &pairs!(task_infos), out)
+}
+
+/// Shows that the body of LAUNCH is read back from its tree.
+#[tactic(auto, using(crate::specs::Operations::launch_back))]
+fn launch_reads_back(task_infos: &List<TaskInfo>)
+    ensures { Returns launch task_infos.now }
+{
+    message_reads_back(&LAUNCH_NAMES, &pairs!(task_infos));
 }

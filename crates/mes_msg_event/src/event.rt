@@ -14,8 +14,8 @@ use mes_model_schema::{
     write_row_text, write_type_text,
 };
 use mes_msg_event_body::{
-    ErrorBody, Failure, Offer, Offers, OtherName, Rescind, Subscribed, Update, offers_text,
-    offers_tree,
+    ErrorBody, Failure, Offer, Offers, OtherName, Rescind, Subscribed, Update, offers_read_back,
+    offers_text, offers_tree,
 };
 use mes_msg_record::Message;
 use std::alloc::Global;
@@ -145,6 +145,22 @@ impl Choice for Event {
             Event::Other(name) => Ok(Event::Other(name.copy(alloc)?)),
         }
     }
+
+    fn choice_reads_back(&self) {
+        match self {
+            Event::Subscribed(body) => body.reads_back(),
+            Event::Offers(list) => offers_read_back(list),
+            Event::Rescind(body) => body.reads_back(),
+            Event::Update(body) => body.reads_back(),
+            Event::Message(body) => body.reads_back(),
+            Event::Failure(body) => body.reads_back(),
+            Event::Error(body) => body.reads_back(),
+            Event::Heartbeat => {}
+            Event::Other(name) => {
+                let _other = name.text();
+            }
+        }
+    }
 }
 
 impl Part for Event {
@@ -179,6 +195,11 @@ impl Part for Event {
 
     fn copy(&self, alloc: Global) -> Result<Event, NoMemory> {
         self.copy_choice(alloc)
+    }
+
+    #[tactic(auto, using(crate::specs::Events::event_back))]
+    fn reads_back(&self) {
+        self.choice_reads_back();
     }
 }
 

@@ -2,6 +2,7 @@
 //! tables are in specs/Bodies.antt.
 
 use mes_model_resource::Id;
+use mes_model_schema::back::message_reads_back;
 use mes_model_schema::fixed::Micros;
 use mes_model_schema::json::{self, Element, NoMemory, Text};
 use mes_model_schema::{
@@ -77,6 +78,11 @@ impl Part for Subscribed {
         let values = subscribed_rows!(self).copy_rows(alloc)?;
         Ok(Subscribed::made_of(values))
     }
+
+    #[tactic(auto, using(crate::specs::Bodies::subscribed_back))]
+    fn reads_back(&self) {
+        message_reads_back(&SUBSCRIBED_NAMES, &subscribed_rows!(self));
+    }
 }
 
 /// The body of RESCIND (`Event.Rescind`): an offer is no longer valid.
@@ -140,6 +146,11 @@ impl Part for Rescind {
         let values = rescind_rows!(self).copy_rows(alloc)?;
         Ok(Rescind::made_of(values))
     }
+
+    #[tactic(auto, using(crate::specs::Bodies::rescind_back))]
+    fn reads_back(&self) {
+        message_reads_back(&RESCIND_NAMES, &rescind_rows!(self));
+    }
 }
 
 /// The body of UPDATE (`Event.Update`): the state of a task.
@@ -202,6 +213,11 @@ impl Part for Update {
     fn copy(&self, alloc: Global) -> Result<Update, NoMemory> {
         let values = update_rows!(self).copy_rows(alloc)?;
         Ok(Update::made_of(values))
+    }
+
+    #[tactic(auto, using(crate::specs::Bodies::update_back))]
+    fn reads_back(&self) {
+        message_reads_back(&UPDATE_NAMES, &update_rows!(self));
     }
 }
 
@@ -274,6 +290,11 @@ impl Part for Failure {
         let values = failure_rows!(self).copy_rows(alloc)?;
         Ok(Failure::made_of(values))
     }
+
+    #[tactic(auto, using(crate::specs::Bodies::failure_back))]
+    fn reads_back(&self) {
+        message_reads_back(&FAILURE_NAMES, &failure_rows!(self));
+    }
 }
 
 /// The body of ERROR (`Event.Error`): the master no longer serves the framework.
@@ -336,5 +357,10 @@ impl Part for ErrorBody {
     fn copy(&self, alloc: Global) -> Result<ErrorBody, NoMemory> {
         let values = error_body_rows!(self).copy_rows(alloc)?;
         Ok(ErrorBody::made_of(values))
+    }
+
+    #[tactic(auto, using(crate::specs::Bodies::error_body_back))]
+    fn reads_back(&self) {
+        message_reads_back(&ERROR_BODY_NAMES, &error_body_rows!(self));
     }
 }

@@ -6,6 +6,7 @@ ghost use Rattle.mes_model_schema.specs.Kinds.{Returns};
 ghost use Rattle.mes_msg_event_body.specs.Offers.{offers};
 
 use mes_model_offer::Offer;
+use mes_model_schema::back::list_reads_back;
 use mes_model_schema::json::{self, Element, NoMemory};
 use mes_model_schema::{
     List, Part, PartFault, PathBuilder, close_object, copy_list, push_repeated_tree,
@@ -76,6 +77,10 @@ impl Part for Offers {
         let offers = copy_list(alloc, &self.offers)?;
         Ok(Offers { offers })
     }
+
+    fn reads_back(&self) {
+        offers_read_back(&self.offers);
+    }
 }
 
 /// Returns the JSON tree of the body of OFFERS, in the object form.
@@ -101,4 +106,12 @@ pub fn offers_text(alloc: Global, list: &List<Offer>, out: &mut Vec<u8>) -> Resu
     let start = out.len();
     let deepest = write_repeated_text(alloc, "offers", list, out)?;
     close_object(deepest, start, out)
+}
+
+/// Shows that the body of OFFERS is read back from its tree. Does not allocate.
+#[tactic(auto, using(crate::specs::Offers::offers_back))]
+pub fn offers_read_back(list: &List<Offer>)
+    ensures { Returns offers list.now }
+{
+    list_reads_back(list);
 }

@@ -1,6 +1,7 @@
 //! The body of MESSAGE, as an event and as a call. The table is in specs/Messages.antt.
 
 use mes_model_resource::Id;
+use mes_model_schema::back::message_reads_back;
 use mes_model_schema::json::{self, Element, NoMemory};
 use mes_model_schema::{
     Bytes, ConstructFrom, Part, PartFault, PathBuilder, RequiredRow, RequiredRowRef, RowList,
@@ -77,5 +78,10 @@ impl Part for Message {
     fn copy(&self, alloc: Global) -> Result<Message, NoMemory> {
         let values = message_rows!(self).copy_rows(alloc)?;
         Ok(Message::made_of(values))
+    }
+
+    #[tactic(auto, using(crate::specs::Messages::message_body_back))]
+    fn reads_back(&self) {
+        message_reads_back(&MESSAGE_NAMES, &message_rows!(self));
     }
 }

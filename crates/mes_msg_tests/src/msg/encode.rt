@@ -1,7 +1,9 @@
 //! Events that have no canonical text, and the names of other events.
 
 use super::{nested, refused, rewritten};
+use crate::support::value_of;
 use mes_json::{MAX_NESTING, Text};
+use mes_model::value_returned;
 use mes_msg::{EncodeFault, Event, Limit, OtherName};
 use std::alloc::Global;
 use std::test::Fail;
@@ -58,6 +60,18 @@ fn what_is_written_is_read_again(rt: HostRuntime) -> Result<(), Fail> {
     let written = rewritten::<Event>(rt.alloc(), text.as_slice())?;
     let again = rewritten::<Event>(rt.alloc(), written.as_slice())?;
     assert_eq!(rt; again.as_slice(), written.as_slice());
+    Ok(())
+}
+
+/// An OFFERS with a resource.
+const OFFERS: &str =
+    r#"{"type":"OFFERS","offers":[{"id":{"value":"O1"},"framework_id":{"value":"F1"},"agent_id":{"value":"A1"},"hostname":"h","resources":[{"name":"cpus","type":"SCALAR","scalar":{"value":1.5}}]}]}"#;
+
+// The law needs a value and no allocator.
+#[test]
+fn an_event_at_hand_is_read_back(rt: HostRuntime) -> Result<(), Fail> {
+    let event: Event = value_of(rt.alloc(), OFFERS)?;
+    value_returned(&event);
     Ok(())
 }
 

@@ -1,5 +1,5 @@
 use Rattle.mes_model_schema.proofs.AppendLemmas.{both_members}
-use Rattle.mes_msg_call.proofs.call.append_subscribe.Goals as goal
+use Rattle.mes_msg_call.proofs.call_text.append_subscribe.Goals as goal
 
 pub returns-clause-members : goal.returns-clause-members
 returns-clause-members c =

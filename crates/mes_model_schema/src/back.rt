@@ -1,0 +1,34 @@
+//! Laws that a value at hand is read back from the tree that it is written as. They do not allocate.
+//! `Part::reads_back` (part.rt) is the law of one value; these are for options, lists and rows.
+
+ghost use Rattle.std.specs.Prelude.{map};
+ghost use Rattle.mes_model_schema.specs.Rows.{ReturnsSome, ReturnsEach};
+
+use crate::list::List;
+use crate::part::Part;
+use crate::row_refs::RowRefs;
+
+/// Shows that the value, if there is one, is read back from its tree. Does not allocate.
+pub fn some_reads_back<T: Part>(value: &Option<T>)
+    ensures { ReturnsSome T.kind value.now }
+{
+    if let Some(value) = value {
+        value.reads_back();
+    }
+}
+
+/// Shows that each value of a list is read back from its tree. Does not allocate.
+pub fn list_reads_back<T: Part>(values: &List<T>)
+    ensures { ReturnsEach T.kind values.now }
+{
+    for value in values.as_slice() {
+        value.reads_back();
+    }
+}
+
+/// Shows that each value of a message's rows is read back from its tree. Does not allocate.
+pub fn message_reads_back<R: RowRefs>(names: &[&str], rows: &R)
+    ensures { (R.table (map (λ n. n.now) names.now) 0).Back (R.values rows.now) }
+{
+    rows.rows_read_back();
+}
