@@ -1,8 +1,19 @@
-//! Tests of the public functions of `mes_fixed` and `mes_json`. Expected values come from the
-//! standards and from exact arithmetic.
+//! Tests of the public functions of `mes_json`. Expected values come from RFC 8259.
 #![tactic(auto)]
 
 #[cfg(test)]
-mod fixed;
+mod cursor;
 #[cfg(test)]
-mod json;
+mod faults;
+#[cfg(test)]
+mod lexer;
+#[cfg(test)]
+mod pieces;
+#[cfg(test)]
+mod runs;
+#[cfg(test)]
+mod tape;
+#[cfg(test)]
+mod texts;
+#[cfg(test)]
+mod values;

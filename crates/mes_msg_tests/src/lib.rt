@@ -1,13 +1,17 @@
-//! Tests of framing, parts and messages by the public calls of their crates: worked examples and rows of the formats.
+//! Tests of events and calls by the public calls of `mes_msg`: worked examples and rows of the formats.
 #![tactic(auto)]
 
 #[cfg(test)]
-mod frame;
+mod calls;
 #[cfg(test)]
-mod model;
+mod encode;
 #[cfg(test)]
-mod msg;
+mod faults;
 #[cfg(test)]
-mod part;
+mod record;
+#[cfg(test)]
+mod show;
 #[cfg(test)]
 mod support;
+#[cfg(test)]
+mod written;

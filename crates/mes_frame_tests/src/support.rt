@@ -1,0 +1,14 @@
+//! How the end of a record, of a stream or of a body is printed.
+use std::alloc::{AllocError, Global};
+use std::fmt::Debug;
+
+/// Prints how many bytes had been taken and the result that ended the input, or `no end`.
+pub(crate) fn told_end<T: Debug + Copy>(
+    alloc: Global,
+    end: Option<(usize, T)>,
+) -> Result<String, AllocError> {
+    match end {
+        Some((taken, out)) => format!(in alloc; "{taken} {out:?}"),
+        None => String::from_str(alloc, "no end"),
+    }
+}

@@ -1,0 +1,174 @@
+//! The rows of tables, and what is expected of the text on one.
+//!
+//! A table is a text with a row on each line: `TEXT => PATH WHY` for a text with a fault, `TEXT => WRITTEN` for one that is a value.
+//! A check of a table of literals takes as long as it has rows, and of one text no time. An event or a call that lives on in a
+//! function makes each later step of it dear to check, so the functions that make one are small.
+
+ghost use Rattle.std.specs.Prelude.{◌≤◌};
+
+use arrayvec::ArrayString;
+use mes_json::{Json, read_tape, read_text, write_text};
+use mes_model_schema::{
+    FieldFault, MAX_PATH_STEPS, MAX_PATH_TEXT, Part, PartFault, Path, PathBuilder, written_again,
+};
+use std::alloc::{AllocGlobal, Global};
+use std::process::Abort;
+use std::test::Fail;
+
+/// The two sides of a row.
+pub(crate) fn row_of(line: &str) -> Result<(&str, &str), Fail> {
+    Ok(line.split_once(" => ").ok_or("a row has two sides")?)
+}
+
+/// The text of a tree.
+pub(crate) fn text_of(alloc: Global, tree: &Json) -> Result<Vec<u8>, Fail> {
+    let mut out = Vec::new(alloc);
+    write_text(tree, &mut out)?;
+    Ok(out)
+}
+
+/// The tree is written so.
+pub(crate) fn expect_text<R: Abort>(
+    rt: &R,
+    alloc: Global,
+    tree: &Json,
+    expected: &str,
+) -> Result<(), Fail> {
+    let out = text_of(alloc, tree)?;
+    assert_eq!(rt; out.as_slice(), expected.as_bytes());
+    Ok(())
+}
+
+/// The fault of an answer that tells one.
+pub(crate) fn part_fault_of<T: Drop>(answer: Result<T, PartFault>) -> Option<FieldFault> {
+    match answer.err()? {
+        PartFault::Field(fault) => Some(fault.into_inner()),
+        PartFault::NoMemory => None,
+    }
+}
+
+/// The fault is told, with this path and why.
+pub(crate) fn expect_fault<R: Abort>(
+    rt: &R,
+    text: &str,
+    fault: Option<FieldFault>,
+    expected: &str,
+) -> Result<(), Fail> {
+    let (path, why) = expected.split_once(' ').ok_or("a path and why")?;
+    let fault = fault.ok_or("a fault")?;
+    let mut path_text: ArrayString<MAX_PATH_TEXT> = ArrayString::new();
+    fault.path.text(&mut path_text);
+    assert_eq!(rt;
+        (path_text.as_str(), fault.why.name()),
+        (path, why),
+        "{text}"
+    );
+    Ok(())
+}
+
+/// What a text is read as, from its tape.
+pub(crate) fn read<T: Part>(alloc: Global, text: &str) -> Result<Result<T, PartFault>, Fail>
+    requires { T.STEPS ≤ MAX_PATH_STEPS }
+{
+    let tape = read_tape(alloc, text.as_bytes())?;
+    Ok(T::read_from(alloc, &tape.root(), &PathBuilder::new()))
+}
+
+/// The value of a text that is one.
+pub(crate) fn value_of<T: Part>(alloc: Global, text: &str) -> Result<T, Fail>
+    requires { T.STEPS ≤ MAX_PATH_STEPS }
+{
+    match read(alloc, text)? {
+        Ok(value) => Ok(value),
+        Err(_) => Err("a value")?,
+    }
+}
+
+/// The fault of a text that is no value.
+pub(crate) fn fault_of<T: Part>(alloc: Global, text: &str) -> Result<Option<FieldFault>, Fail>
+    requires { T.STEPS ≤ MAX_PATH_STEPS }
+{
+    Ok(part_fault_of(read::<T>(alloc, text)?))
+}
+
+/// The same, read from its tree.
+fn fault_of_tree<T: Part>(alloc: Global, text: &str) -> Result<Option<FieldFault>, Fail>
+    requires { T.STEPS ≤ MAX_PATH_STEPS }
+{
+    let tree = read_text(alloc, text.as_bytes())?;
+    Ok(part_fault_of(T::read(alloc, &tree, &Path::new())))
+}
+
+/// Each text has its first fault there, read from its tape and from its tree.
+pub(crate) fn expect_faults<T: Part, R: Abort + AllocGlobal>(
+    rt: &R,
+    faults: &str,
+) -> Result<(), Fail>
+    requires { T.STEPS ≤ MAX_PATH_STEPS }
+{
+    for line in faults.lines() {
+        let (text, fault) = row_of(line)?;
+        expect_fault(rt, text, fault_of::<T>(rt.alloc(), text)?, fault)?;
+        expect_fault(rt, text, fault_of_tree::<T>(rt.alloc(), text)?, fault)?;
+    }
+    Ok(())
+}
+
+/// The value, written and read again.
+pub(crate) fn again<T: Part>(alloc: Global, value: &T) -> Result<T, Fail>
+    requires { T.STEPS ≤ MAX_PATH_STEPS }
+{
+    match written_again(alloc, value) {
+        Ok(again) => Ok(again),
+        Err(_) => Err("it is written and read")?,
+    }
+}
+
+/// The copy of the value of a text.
+fn copy_of<T: Part>(alloc: Global, text: &str) -> Result<T, Fail>
+    requires { T.STEPS ≤ MAX_PATH_STEPS }
+{
+    let value: T = value_of(alloc, text)?;
+    Ok(value.copy(alloc)?)
+}
+
+/// The text of the value's tree.
+fn text_of_tree<T: Part>(alloc: Global, value: &T) -> Result<Vec<u8>, Fail> {
+    let tree = value.tree(alloc)?;
+    text_of(alloc, &tree)
+}
+
+/// The text of the value, written without a tree.
+fn text_without_tree<T: Part>(alloc: Global, value: &T) -> Result<Vec<u8>, Fail> {
+    let mut out = Vec::new(alloc);
+    value.write_json(alloc, &mut out)?;
+    Ok(out)
+}
+
+/// Each text is a value, and its copy is written so.
+pub(crate) fn expect_values<T: Part, R: Abort + AllocGlobal>(
+    rt: &R,
+    values: &str,
+) -> Result<(), Fail>
+    requires { T.STEPS ≤ MAX_PATH_STEPS }
+{
+    for line in values.lines() {
+        let (text, written) = row_of(line)?;
+        expect_written(rt, text, &copy_of::<T>(rt.alloc(), text)?, written)?;
+    }
+    Ok(())
+}
+
+/// The value of the text is written so, by its tree and without one.
+fn expect_written<T: Part, R: Abort + AllocGlobal>(
+    rt: &R,
+    text: &str,
+    value: &T,
+    written: &str,
+) -> Result<(), Fail> {
+    let by_tree = text_of_tree(rt.alloc(), value)?;
+    assert_eq!(rt; by_tree.as_slice(), written.as_bytes(), "{text}");
+    let without = text_without_tree(rt.alloc(), value)?;
+    assert_eq!(rt; without.as_slice(), written.as_bytes(), "{text}");
+    Ok(())
+}

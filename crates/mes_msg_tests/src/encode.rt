@@ -1,0 +1,126 @@
+//! Events that have no canonical text, and the names of other events.
+
+use crate::record::{nested, record_of, refused, rewritten};
+use mes_json::{MAX_NESTING, Text};
+use mes_model::value_returned;
+use mes_msg::{EncodeFault, Event, Limit, OtherName};
+use std::alloc::Global;
+use std::test::Fail;
+
+/// The most objects inside each other that a `disk` of an OFFERS may be, as it is written: six objects and arrays stand around it.
+const MOST_OBJECTS: usize = MAX_NESTING - 6;
+
+/// An OFFERS in the form of the bare array, with one offer whose resource has a `disk` of so many objects inside each other.
+fn deep_offers(alloc: Global, objects: usize) -> Result<Vec<u8>, Fail> {
+    nested(
+        alloc,
+        br#"{"type":"OFFERS","offers":[{"id":{"value":"O1"},"framework_id":{"value":"F1"},"agent_id":{"value":"A1"},"hostname":"h","resources":[{"name":"disk","type":"SET","set":{},"disk":"#,
+        objects,
+        b"}]}]}",
+    )
+}
+
+/// Why that event has no canonical text within the limit, if it has none.
+fn refused_deep(alloc: Global, objects: usize, limit: Limit) -> Result<Option<EncodeFault>, Fail> {
+    refused::<Event>(alloc, deep_offers(alloc, objects)?.as_slice(), limit)
+}
+
+// In the text, five objects and arrays stand around `disk`, so that it is read; the body that is written is an object, one more.
+#[test]
+fn deep_events_are_refused(rt: HostRuntime) -> Result<(), Fail> {
+    let smallest = Limit::new(1).ok_or("a limit")?;
+    for limit in [Limit::LARGEST, smallest] {
+        let why = refused_deep(rt.alloc(), MOST_OBJECTS + 1, limit)?;
+        assert!(rt; matches!(why, Some(EncodeFault::TooDeep)));
+    }
+    Ok(())
+}
+
+// What is written nests to the limit, and has 11 bytes more than the text: `{"offers":` and `}`.
+#[test]
+fn events_nest_to_the_limit(rt: HostRuntime) -> Result<(), Fail> {
+    let text = deep_offers(rt.alloc(), MOST_OBJECTS)?;
+    let written = rewritten::<Event>(rt.alloc(), text.as_slice())?;
+    assert_eq!(rt; written.len(), text.len() + 11);
+    Ok(())
+}
+
+#[test]
+fn deep_events_have_their_bytes_counted(rt: HostRuntime) -> Result<(), Fail> {
+    let smallest = Limit::new(1).ok_or("a limit")?;
+    let why = refused_deep(rt.alloc(), MOST_OBJECTS, smallest)?;
+    assert!(rt; matches!(why, Some(EncodeFault::TooLarge)));
+    Ok(())
+}
+
+#[test]
+fn what_is_written_is_read_again(rt: HostRuntime) -> Result<(), Fail> {
+    let text = deep_offers(rt.alloc(), MOST_OBJECTS)?;
+    let written = rewritten::<Event>(rt.alloc(), text.as_slice())?;
+    let again = rewritten::<Event>(rt.alloc(), written.as_slice())?;
+    assert_eq!(rt; again.as_slice(), written.as_slice());
+    Ok(())
+}
+
+/// An OFFERS with a resource.
+const OFFERS: &str =
+    r#"{"type":"OFFERS","offers":[{"id":{"value":"O1"},"framework_id":{"value":"F1"},"agent_id":{"value":"A1"},"hostname":"h","resources":[{"name":"cpus","type":"SCALAR","scalar":{"value":1.5}}]}]}"#;
+
+// The law needs a value and no allocator.
+#[test]
+fn an_event_at_hand_is_read_back(rt: HostRuntime) -> Result<(), Fail> {
+    let event: Event = record_of(rt.alloc(), OFFERS.as_bytes())?;
+    value_returned(&event);
+    Ok(())
+}
+
+/// The types of events whose bodies are read.
+const KNOWN: [&str; 8] = [
+    "SUBSCRIBED",
+    "OFFERS",
+    "RESCIND",
+    "UPDATE",
+    "MESSAGE",
+    "FAILURE",
+    "ERROR",
+    "HEARTBEAT",
+];
+
+/// Names of other events.
+const OTHER: [&str; 6] = [
+    "",
+    "INVERSE_OFFERS",
+    "RESCIND_INVERSE_OFFER",
+    "UPDATE_OPERATION_STATUS",
+    "offers",
+    "OFFERS ",
+];
+
+/// Whether the name is handed back, since it is known.
+fn is_handed_back(alloc: Global, name: &str) -> Result<bool, Fail> {
+    let text = Text::new(String::from_str(alloc, name)?);
+    match OtherName::new(text) {
+        Ok(_) => Ok(false),
+        Err(text) => Ok(text.as_str() == name),
+    }
+}
+
+/// Whether the name is that of another event, and so is its copy.
+fn is_other(alloc: Global, name: &str) -> Result<bool, Fail> {
+    let text = Text::new(String::from_str(alloc, name)?);
+    match OtherName::new(text) {
+        Ok(other) => Ok(other.as_str() == name && other.copy(alloc)?.as_str() == name),
+        Err(_) => Ok(false),
+    }
+}
+
+#[test]
+fn known_names_are_handed_back(rt: HostRuntime) -> Result<(), Fail> {
+    for &name in &KNOWN {
+        assert!(rt; is_handed_back(rt.alloc(), name)?, "{name}");
+    }
+    for &name in &OTHER {
+        assert!(rt; is_other(rt.alloc(), name)?, "{name}");
+    }
+    Ok(())
+}
