@@ -18,10 +18,10 @@ mod world;
 
 pub use mes_double_http::{
     HeadFault, MAX_BODY, MAX_FIELDS, MAX_HEAD, MAX_HEAD_FAULT, MAX_HOST, MAX_LENGTH_DIGITS,
-    MAX_STREAM_ID, Request, StreamId, http_limits, read_answer, read_head, read_request,
-    write_call, write_ok, write_status,
+    MAX_STREAM_ID, Request, StreamId, read_answer, read_head, read_request, write_call, write_ok,
+    write_status,
 };
-pub use mes_double_master::{Answer, Master, MasterRefusal, master_laws};
+pub use mes_double_master::{Answer, Master, MasterRefusal};
 pub use moves::Move;
 pub use running::run_world;
 pub use sent::Sent;

@@ -24,10 +24,7 @@ pub use mes_model_resource::{
 };
 pub use mes_model_schema::{
     Boxed, BoxedFault, Bytes, FieldFault, FieldFaultKind, Kept, Label, Labels, List, MAX_PATH_NAME,
-    MAX_PATH_STEPS, MAX_PATH_TEXT, Part, PartFault, Path, PathBuilder, Step, copy_list,
-    list_reading_is_unique, list_returned, list_tree, most_steps, one_answer, read_list, read_part,
-    returned, value_returned, written_again,
+    MAX_PATH_STEPS, MAX_PATH_TEXT, Part, PartFault, Path, PathBuilder, Step, copy_list, list_tree,
+    read_list,
 };
-pub use mes_model_task::{
-    Command, OwedKey, TaskInfo, TaskRef, TaskState, TaskStatus, TimeInfo, equal_keys,
-};
+pub use mes_model_task::{Command, OwedKey, TaskInfo, TaskRef, TaskState, TaskStatus, TimeInfo};

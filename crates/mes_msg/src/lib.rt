@@ -18,10 +18,12 @@ mod theorems;
 
 pub use entry::Entry;
 pub use mes_frame::Limit;
-pub use mes_msg_call::{
-    Accept, Acknowledge, Call, Decline, Kill, Operation, Reconcile, Shutdown, Subscribe,
+pub use mes_msg_call::Call;
+pub use mes_msg_call_body::{
+    Accept, Acknowledge, Decline, Kill, Operation, Reconcile, Shutdown, Subscribe,
 };
-pub use mes_msg_event::{ErrorBody, Event, Failure, OtherName, Rescind, Subscribed, Update};
+pub use mes_msg_event::Event;
+pub use mes_msg_event_body::{ErrorBody, Failure, OtherName, Rescind, Subscribed, Update};
 pub use mes_msg_record::{EncodeFault, Message, RecordFault};
 pub use send_fault::{EncodeFaultKind, SendFault};
 pub use theorems::message_reading_is_unique;

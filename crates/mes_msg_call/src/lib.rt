@@ -15,6 +15,3 @@ mod call_text;
 pub mod first_fault;
 
 pub use call::Call;
-pub use mes_msg_call_body::{
-    Accept, Acknowledge, Decline, Kill, Operation, Reconcile, Shutdown, Subscribe,
-};

@@ -7,6 +7,7 @@ ghost use Rattle.mes_model_schema.specs.Kinds.{Returns};
 ghost use Rattle.mes_model_schema.specs.Written.{pairs_view, Continues};
 ghost use Rattle.mes_msg_event.specs.Events.{event_rows};
 
+use mes_model_offer::Offer;
 use mes_model_schema::json::{self, Element, NoMemory, Text};
 use mes_model_schema::{
     Choice, Found, List, Part, PartFault, PathBuilder, append_name, copy_list, deeper,
@@ -14,7 +15,7 @@ use mes_model_schema::{
     write_row_text, write_type_text,
 };
 use mes_msg_event_body::{
-    ErrorBody, Failure, Offer, Offers, OtherName, Rescind, Subscribed, Update, offers_read_back,
+    ErrorBody, Failure, Offers, OtherName, Rescind, Subscribed, Update, offers_read_back,
     offers_text, offers_tree,
 };
 use mes_msg_record::Message;

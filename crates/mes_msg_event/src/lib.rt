@@ -18,4 +18,3 @@ mod show;
 
 pub use event::Event;
 pub use line_fields::{put_id, put_number, put_uuid, put_word};
-pub use mes_msg_event_body::{ErrorBody, Failure, OtherName, Rescind, Subscribed, Update};

@@ -8,10 +8,10 @@ ghost use Rattle.mes_msg_event.specs.ShowLines.{hex_pairs, uuid_text, or_dash, i
 
 use arrayvec::ArrayString;
 use itoa::Buffer;
+use mes_model_resource::Id;
 use mes_model_schema::Bytes;
 use mes_model_schema::fixed::Micros;
 use mes_model_schema::json::{NoMemory, hex_digit, write_str};
-use mes_msg_event_body::Id;
 use uuid::Uuid;
 
 /// Appends a space and a plain word.

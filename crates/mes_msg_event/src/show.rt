@@ -10,8 +10,9 @@ use crate::line_fields::{
     put_word,
 };
 use itoa::Buffer;
+use mes_model_offer::Offer;
 use mes_model_schema::json::NoMemory;
-use mes_msg_event_body::{Offer, TaskStatus};
+use mes_model_task::TaskStatus;
 use std::alloc::Global;
 
 impl Event {

@@ -17,8 +17,5 @@ mod offers;
 mod other_name;
 
 pub use bodies::{ErrorBody, Failure, Rescind, Subscribed, Update};
-pub use mes_model_offer::Offer;
-pub use mes_model_resource::Id;
-pub use mes_model_task::TaskStatus;
 pub use offers::{Offers, offers_read_back, offers_text, offers_tree};
 pub use other_name::OtherName;

@@ -2,7 +2,7 @@
 
 use crate::record::{nested, record_of, refused, rewritten};
 use mes_json::{MAX_NESTING, Text};
-use mes_model::value_returned;
+use mes_model_schema::value_returned;
 use mes_msg::{EncodeFault, Event, Limit, OtherName};
 use std::alloc::Global;
 use std::test::Fail;

@@ -19,9 +19,8 @@ mod session;
 mod theorems;
 
 pub use line::{MAX_REFUSAL_LINE, refusal_line};
-pub use mes_model::OwedKey;
 pub use mes_msg::Entry;
-pub use mes_session_log::{log_reading_is_unique, read_log, write_log};
+pub use mes_session_log::{read_log, write_log};
 pub use mes_session_state::Refusal;
 pub use replaying::replay;
 pub use session::Session;

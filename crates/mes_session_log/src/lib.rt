@@ -19,10 +19,6 @@ mod theorems;
 mod write;
 
 pub use encode::encode_log;
-pub use mes_session_log_entry::{
-    BROKEN, CALL, EVENT, EntryReader, FirstReader, FirstRecord, HEADER, entry_reading_is_unique,
-    log_letters,
-};
 pub use read::read_log;
 pub use theorems::log_reading_is_unique;
 pub use write::write_log;

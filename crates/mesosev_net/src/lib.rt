@@ -14,7 +14,6 @@ mod theorems;
 
 pub use both_ends::{LOOPBACK_STREAM, loopback};
 pub use interleaved::MAX_UNREAD;
-pub use mes_double_http::Host;
 pub use serving::{STREAM_CHUNK, serve};
 pub use subscribing::subscribe;
 pub use theorems::net_limits;

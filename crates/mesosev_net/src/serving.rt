@@ -10,11 +10,12 @@ ghost use Rattle.mesosev_net.specs.StreamIds.{ids_from};
 use crate::framework::framework_id;
 use crate::ids::stream_ids;
 use crate::lines::{ACCEPT_FAILED, BIND_FAILED};
+use mes_double_master::Master;
 use mes_frame::{FromStd, Limit, Sink, Source};
 use mes_json::NoMemory;
 use mes_msg::Event;
 use mes_stream::read_plain;
-use mesosev_serve::{Master, serve_one};
+use mesosev_serve::serve_one;
 use mesosev_stream::{
     ChunkSize, FAULT_STATUS, MAX_READS, RunOutcome, SUCCESS, out_of_memory, print_fault, print_text,
 };

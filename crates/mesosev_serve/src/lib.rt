@@ -15,7 +15,6 @@ mod writing;
 
 pub use connection::Served;
 pub use lines::WRITE_FAILED;
-pub use mes_double_master::Master;
 pub use serve::serve_one;
 pub use subscribing::{report_unsent, send_subscribe, show_answer, subscribe_over};
 pub use theorems::serve_laws;
