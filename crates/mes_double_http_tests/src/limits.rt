@@ -55,7 +55,7 @@ const SIZES: [(Reads, &str, usize, &[u8], &str); 5] = [
 ];
 
 #[test]
-fn a_head_has_so_many_bytes(rt: HostRuntime) -> Result<(), Fail> {
+fn a_head_has_at_most_16384_bytes(rt: HostRuntime) -> Result<(), Fail> {
     for &(reads, lines, size, end, expected) in &SIZES {
         let bytes = filled(rt.alloc(), lines, size, end)?;
         assert_eq!(rt;
@@ -78,7 +78,7 @@ fn fields(alloc: Global, line: &str, count: usize) -> Result<Vec<u8>, AllocError
 }
 
 #[test]
-fn a_head_has_so_many_fields(rt: HostRuntime) -> Result<(), Fail> {
+fn a_head_has_at_most_64_fields(rt: HostRuntime) -> Result<(), Fail> {
     for (count, expected) in [(64, "ok"), (65, "H3 BadHead")] {
         let bytes = fields(rt.alloc(), "HTTP/1.1 202 Accepted|", count)?;
         assert_eq!(rt;

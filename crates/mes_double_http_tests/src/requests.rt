@@ -81,7 +81,7 @@ const BYTES: [(&str, &str); 7] = [
 ];
 
 #[test]
-fn the_first_fault_is_told(rt: HostRuntime) -> Result<(), Fail> {
+fn the_first_fault_of_a_request_is_reported(rt: HostRuntime) -> Result<(), Fail> {
     expect_rows(&rt, Reads::Request, FAULTS, CALL)
 }
 
@@ -139,7 +139,7 @@ const BODIES: [(&str, usize); 2] = [
 ];
 
 #[test]
-fn a_body_may_be_empty_and_large(rt: HostRuntime) -> Result<(), Fail> {
+fn a_body_has_0_bytes_to_1_mib(rt: HostRuntime) -> Result<(), Fail> {
     for &(lines, size) in &BODIES {
         let mut body = Vec::new(rt.alloc());
         body.resize(size, b'a')?;
@@ -155,7 +155,7 @@ fn a_body_may_be_empty_and_large(rt: HostRuntime) -> Result<(), Fail> {
 }
 
 #[test]
-fn requests_break_off(rt: HostRuntime) -> Result<(), Fail> {
+fn a_request_that_breaks_off_is_refused(rt: HostRuntime) -> Result<(), Fail> {
     let bytes = bytes_of(rt.alloc(), CALL_LINES, CALL)?;
     let head = bytes.len().saturating_sub(CALL.len());
     expect_breaks(&rt, Reads::Request, bytes.as_slice(), head);

@@ -79,7 +79,7 @@ fn a_head_is_taken_alone(rt: HostRuntime) -> Result<(), Fail> {
 }
 
 #[test]
-fn heads_break_off(rt: HostRuntime) -> Result<(), Fail> {
+fn a_head_that_breaks_off_is_refused(rt: HostRuntime) -> Result<(), Fail> {
     for (reads, lines) in [(Reads::Head, OK_LINES), (Reads::Answer, ACCEPTED_LINES)] {
         let bytes = bytes_of(rt.alloc(), lines, b"")?;
         expect_breaks(&rt, reads, bytes.as_slice(), bytes.len());
@@ -103,7 +103,7 @@ fn expect_text<R: Abort>(rt: &R, fault: &HeadFault, expected: &str) {
 }
 
 #[test]
-fn a_status_is_told(rt: HostRuntime) {
+fn a_head_fault_has_its_text(rt: HostRuntime) {
     assert_eq!(rt;
         text_of(b"HTTP/1.1 403 Forbidden\r\n\r\n").as_str(),
         "H4 Status 403"
@@ -134,7 +134,7 @@ const IDS: [(&str, bool); 7] = [
 ];
 
 #[test]
-fn stream_ids_have_a_form(rt: HostRuntime) {
+fn a_stream_id_has_1_to_128_visible_characters(rt: HostRuntime) {
     for &(text, is_one) in &IDS {
         assert_eq!(rt; is_an_id(text), is_one, "{text}");
     }

@@ -33,7 +33,7 @@ HTTP/1.1 202 Accepted|Server: nginx/1.22.1|Date: Wed, 25 Nov 2026 19:45:24 GMT|C
 HTTP/1.1 503 Service Unavailable|Server: nginx/1.22.1|Content-Type: text/html|Content-Length: 197|| => H4 Status";
 
 #[test]
-fn heads_of_software_are_taken(rt: HostRuntime) -> Result<(), Fail> {
+fn heads_of_widespread_software_are_read(rt: HostRuntime) -> Result<(), Fail> {
     expect_rows(&rt, Reads::Request, CALLS, b"{}")?;
     expect_rows(&rt, Reads::Head, STREAMS, b"")?;
     expect_rows(&rt, Reads::Answer, ANSWERS, b"")

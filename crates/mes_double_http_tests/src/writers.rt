@@ -9,6 +9,11 @@ use std::alloc::{AllocError, AllocGlobal, Global};
 use std::process::Abort;
 use std::test::Fail;
 
+/// The text of these bytes, so that a failure prints it.
+fn as_text(bytes: &[u8]) -> Option<&str> {
+    str::from_utf8(bytes).ok()
+}
+
 /// What is written.
 #[derive(Clone, Copy)]
 enum Written<'a> {
@@ -60,7 +65,7 @@ fn write(alloc: Global, sink: &mut MemorySink, what: Written<'_>) -> Result<(), 
 fn expect_written<R: Abort + AllocGlobal>(rt: &R, what: Written<'_>, expected: &[u8]) {
     let mut whole = MemorySink::new(rt.alloc(), 7);
     assert_eq!(rt; write(rt.alloc(), &mut whole, what), Ok(()));
-    assert_eq!(rt; whole.bytes(), expected);
+    assert_eq!(rt; as_text(whole.bytes()), as_text(expected));
     expect_stops(
         rt,
         what,
@@ -91,12 +96,12 @@ fn expect_stops<R: Abort + AllocGlobal>(
         let sent = good as u64;
         let stopped = SendFault::Write(WriteFault { sent, why });
         assert_eq!(rt; write(rt.alloc(), &mut sink, what), Err(stopped));
-        assert_eq!(rt; sink.bytes(), &expected[..good]);
+        assert_eq!(rt; as_text(sink.bytes()), as_text(&expected[..good]));
     }
 }
 
 #[test]
-fn a_stream_is_answered(rt: HostRuntime) -> Result<(), Fail> {
+fn the_head_of_a_stream_is_written(rt: HostRuntime) -> Result<(), Fail> {
     let expected = bytes_of(rt.alloc(), OK_LINES, b"")?;
     expect_written(&rt, Written::Stream("s1"), &expected);
     Ok(())
@@ -125,7 +130,7 @@ const STATUSES: [(u16, &str); 6] = [
 ];
 
 #[test]
-fn a_status_is_answered(rt: HostRuntime) -> Result<(), Fail> {
+fn the_head_of_a_status_is_written(rt: HostRuntime) -> Result<(), Fail> {
     for &(code, lines) in &STATUSES {
         let expected = bytes_of(rt.alloc(), lines, b"")?;
         expect_written(&rt, Written::Status(code), &expected);
@@ -138,7 +143,7 @@ const NO_STREAM: &str =
     "POST /api/v1/scheduler HTTP/1.1|Host: 127.0.0.1:5050|Content-Type: application/json|Accept: application/json|Connection: close|Content-Length: 47||";
 
 #[test]
-fn a_call_is_a_request(rt: HostRuntime) -> Result<(), Fail> {
+fn a_call_is_written_as_a_request(rt: HostRuntime) -> Result<(), Fail> {
     for (stream, lines) in [(Some("s1"), CALL_LINES), (None, NO_STREAM)] {
         let expected = bytes_of(rt.alloc(), lines, CALL)?;
         expect_written(&rt, Written::Call(stream, CALL), &expected);
@@ -148,7 +153,7 @@ fn a_call_is_a_request(rt: HostRuntime) -> Result<(), Fail> {
 
 /// A written call is read back.
 #[test]
-fn a_request_is_read_again(rt: HostRuntime) {
+fn a_written_request_is_read_to_the_same_call(rt: HostRuntime) {
     let mut sink = MemorySink::new(rt.alloc(), 7);
     assert_eq!(rt;
         write(rt.alloc(), &mut sink, Written::Call(None, CALL)),
@@ -167,7 +172,7 @@ fn long_text(alloc: Global, size: usize) -> Result<Vec<u8>, AllocError> {
 }
 
 #[test]
-fn a_call_may_be_too_large(rt: HostRuntime) -> Result<(), Fail> {
+fn a_call_above_1_mib_is_not_written(rt: HostRuntime) -> Result<(), Fail> {
     let most = long_text(rt.alloc(), 1_048_576)?;
     let mut sink = MemorySink::new(rt.alloc(), 4096);
     assert_eq!(rt;

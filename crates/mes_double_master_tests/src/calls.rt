@@ -107,7 +107,7 @@ resend 0 => {"type":"UPDATE","update":{"status":{"task_id":{"value":"T2"},"state
 "#;
 
 #[test]
-fn calls_one_after_the_other(rt: HostRuntime) -> Result<(), Fail> {
+fn calls_change_the_master_one_after_the_other(rt: HostRuntime) -> Result<(), Fail> {
     for &rows in &[EXAMPLE, LAUNCHES, STREAMS, TORN, ACKNOWLEDGED, RECONCILED] {
         expect_run(&rt, rows)?;
     }

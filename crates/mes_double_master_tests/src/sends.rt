@@ -51,7 +51,7 @@ resend 3 => M5 => / / / 1
 "#;
 
 #[test]
-fn what_is_sent(rt: HostRuntime) -> Result<(), Fail> {
+fn a_master_sends_what_it_may_and_refuses_the_rest(rt: HostRuntime) -> Result<(), Fail> {
     for rows in [REFUSED, OWING] {
         expect_run(&rt, rows)?;
     }

@@ -90,7 +90,7 @@ fn statuses_of(alloc: Global, call: &str) -> Result<String, Fail> {
 }
 
 #[test]
-fn each_call_in_each_state(rt: HostRuntime) -> Result<(), Fail> {
+fn each_call_has_its_status_in_each_state(rt: HostRuntime) -> Result<(), Fail> {
     for row in STATUSES.lines() {
         let (call, statuses) = row.split_once(" =>").ok_or("a row has statuses")?;
         let reported = statuses_of(rt.alloc(), call)?;

@@ -50,7 +50,7 @@ const THOUSANDTHS: [(&str, &str); 10] = [
 ];
 
 #[test]
-fn reads_thousandths(rt: HostRuntime) -> Result<(), Fail> {
+fn a_half_of_a_thousandth_is_rounded_up(rt: HostRuntime) -> Result<(), Fail> {
     for &(text, word) in &THOUSANDTHS {
         let answer = units_of(Thousandths::read(text.as_bytes()));
         assert!(rt; is_word(rt.alloc(), answer, word)?, "at {text}");
@@ -72,7 +72,7 @@ fn is_written(
 }
 
 #[test]
-fn writes_without_needless_zeros(rt: HostRuntime) -> Result<(), Fail> {
+fn numbers_are_written_without_needless_zeros(rt: HostRuntime) -> Result<(), Fail> {
     let mut text = ArrayString::new();
     for &(units, written) in &[(1001, "1.001"), (1000, "1.0"), (1, "0.001"), (0, "0.0")] {
         assert!(rt;
@@ -87,7 +87,7 @@ fn writes_without_needless_zeros(rt: HostRuntime) -> Result<(), Fail> {
 }
 
 #[test]
-fn adds_and_subtracts_within_the_limits(rt: HostRuntime) -> Result<(), Fail> {
+fn sums_and_differences_stay_within_the_limits(rt: HostRuntime) -> Result<(), Fail> {
     let one = Thousandths::of_units(1).ok_or("in range")?;
     let largest = Thousandths::of_units(MAX_UNITS).ok_or("in range")?;
     let sums = [one.checked_add(one), largest.checked_add(one)];
@@ -100,7 +100,7 @@ fn adds_and_subtracts_within_the_limits(rt: HostRuntime) -> Result<(), Fail> {
 }
 
 #[test]
-fn knows_the_shape_of_a_number(rt: HostRuntime) {
+fn a_number_has_the_shape_of_rfc_8259(rt: HostRuntime) {
     for &text in &["0", "-0", "10", "0.5", "-12.50e+3", "1E9", "0e-0"] {
         assert!(rt; is_number(text.as_bytes()), "at {text}");
     }
@@ -136,7 +136,7 @@ fn expect_words<R: Abort + AllocGlobal>(rt: &R, text: &str, words: [&str; 4]) ->
 }
 
 #[test]
-fn agrees_with_exact_rationals(rt: HostRuntime) -> Result<(), Fail> {
+fn readings_agree_with_exact_rationals(rt: HostRuntime) -> Result<(), Fail> {
     for line in ROWS.lines() {
         let mut words = line.split(' ');
         let text = words.next().ok_or("a text")?;

@@ -1,5 +1,5 @@
 //! Worked examples of chunked bodies.
-use crate::support::told_end;
+use crate::support::{as_text, told_end};
 use mes_frame::*;
 use std::alloc::{AllocError, Global};
 
@@ -57,7 +57,8 @@ const ENDS: [(&[u8], &str); 22] = [
 fn bodies_end_and_break_at_their_byte(rt: HostRuntime) -> Result<(), AllocError> {
     for &(body, end) in &ENDS {
         let reported = told_end(rt.alloc(), first_end(body))?;
-        assert_eq!(rt; reported.as_str(), end, "{body:?}");
+        let text = as_text(body);
+        assert_eq!(rt; reported.as_str(), end, "{text:?}");
     }
     Ok(())
 }
@@ -74,7 +75,8 @@ const ROOMS: [(&[u8], u64); 5] = [
 #[test]
 fn chunks_have_room_for_their_data(rt: HostRuntime) {
     for &(front, room) in &ROOMS {
-        assert_eq!(rt; room_behind(front), room, "{front:?}");
+        let text = as_text(front);
+        assert_eq!(rt; room_behind(front), room, "{text:?}");
     }
 }
 
@@ -129,7 +131,7 @@ fn steps<const N: usize>(state: &mut ChunkState, bytes: &[u8; N]) -> [ChunkOut; 
 }
 
 #[test]
-fn an_end_is_answered_again(rt: HostRuntime) {
+fn an_end_is_returned_again(rt: HostRuntime) {
     let mut broken = ChunkState::new();
     assert_eq!(rt;
         (steps(&mut broken, b"g1\r"), broken.room()),
@@ -230,11 +232,12 @@ fn read_as(alloc: Global, pieces: [&[u8]; 2], data: &[u8], end: &str) -> Result<
 #[test]
 fn each_cut_into_two_reads_alike(rt: HostRuntime) -> Result<(), AllocError> {
     for &(bytes, data, end) in &BODIES {
+        let text = as_text(bytes);
         for cut in 0..bytes.len() + 1 {
             let (first, second) = bytes.split_at(cut);
             assert!(rt;
                 read_as(rt.alloc(), [first, second], data, end)?,
-                "{bytes:?} cut at {cut}"
+                "{text:?} cut at {cut}"
             );
         }
     }

@@ -108,7 +108,7 @@ fn a_put_is_one_write(rt: HostRuntime) {
 }
 
 #[test]
-fn a_device_lasts(rt: HostRuntime) {
+fn a_device_counts_a_million_calls(rt: HostRuntime) {
     let mut reader = Reader {
         calls: 0,
         interrupted: 1_000_001,

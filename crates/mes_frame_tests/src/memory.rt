@@ -1,4 +1,5 @@
 //! Worked examples of devices over memory and over the readers and writers of std.
+use crate::support::as_text;
 use mes_frame::*;
 use std::process::Abort;
 
@@ -19,7 +20,7 @@ fn a_memory_source_gives_a_few_bytes_a_read(rt: HostRuntime) {
 }
 
 #[test]
-fn a_memory_source_fails_where_told(rt: HostRuntime) {
+fn a_memory_source_fails_after_the_given_bytes(rt: HostRuntime) {
     let mut buffer = [0; 4];
     let mut source = MemorySource::failing_after(b"abcde", 9, 2);
     for given in [Some(2), None, None] {
@@ -32,7 +33,7 @@ fn a_memory_source_fails_where_told(rt: HostRuntime) {
 // All of these bytes go out by so many calls.
 fn expect_whole<R: Abort>(rt: &R, sink: &mut MemorySink, bytes: &[u8], calls: u64) {
     assert_eq!(rt; write_all(sink, bytes), Ok(()));
-    assert_eq!(rt; sink.bytes(), bytes);
+    assert_eq!(rt; as_text(sink.bytes()), as_text(bytes));
     let counts = Counts {
         calls,
         failures: 0,
@@ -51,7 +52,7 @@ fn expect_stop<R: Abort>(
 ) {
     let sent = written.len() as u64;
     assert_eq!(rt; write_all(sink, bytes), Err(WriteFault { sent, why }));
-    assert_eq!(rt; sink.bytes(), written);
+    assert_eq!(rt; as_text(sink.bytes()), as_text(written));
 }
 
 #[test]
@@ -85,5 +86,5 @@ fn std_readers_and_writers_are_devices(rt: HostRuntime) {
         write_all(&mut FromStd::new(&mut written), b"hello"),
         Ok(())
     );
-    assert_eq!(rt; written.as_slice(), b"hello".as_slice());
+    assert_eq!(rt; as_text(written.as_slice()), Some("hello"));
 }

@@ -1,5 +1,5 @@
 //! Worked examples of records.
-use crate::support::told_end;
+use crate::support::{as_text, told_end};
 use mes_frame::*;
 use std::test::Fail;
 
@@ -20,7 +20,7 @@ fn first_end(limit: Limit, text: &[u8]) -> Option<(usize, RecordOut)> {
 }
 
 #[test]
-fn limits_have_a_range(rt: HostRuntime) {
+fn a_limit_is_1_byte_to_64_mib(rt: HostRuntime) {
     let bytes = [
         0,
         MAX_RECORD_LIMIT + 1,
@@ -73,7 +73,8 @@ fn records_end_and_break_at_their_byte(rt: HostRuntime) -> Result<(), Fail> {
     for &(limit, bytes, end) in &ENDS {
         let limit = Limit::new(limit).ok_or("a limit")?;
         let reported = told_end(rt.alloc(), first_end(limit, bytes))?;
-        assert_eq!(rt; reported.as_str(), end, "{bytes:?}");
+        let text = as_text(bytes);
+        assert_eq!(rt; reported.as_str(), end, "{text:?}");
     }
     Ok(())
 }
@@ -81,7 +82,7 @@ fn records_end_and_break_at_their_byte(rt: HostRuntime) -> Result<(), Fail> {
 const BAD: RecordOut = RecordOut::Fault(FrameFault::BadSizeLine);
 
 #[test]
-fn a_fault_is_answered_again(rt: HostRuntime) {
+fn a_fault_is_returned_again(rt: HostRuntime) {
     let mut state = RecordState::new(Limit::USUAL);
     assert_eq!(rt; [state.step(b'x'), state.step(b'1')], [BAD, BAD]);
     assert_eq!(rt; (state.between(), state.room()), (false, 0));

@@ -1,4 +1,4 @@
-//! How the end of a record, of a stream or of a body is printed.
+//! How bytes, and the end of a record or of a body, are printed.
 use std::alloc::{AllocError, Global};
 use std::fmt::Debug;
 
@@ -11,4 +11,9 @@ pub(crate) fn told_end<T: Debug + Copy>(
         Some((taken, out)) => format!(in alloc; "{taken} {out:?}"),
         None => String::from_str(alloc, "no end"),
     }
+}
+
+/// The text of these bytes, so that a failure prints it.
+pub(crate) fn as_text(bytes: &[u8]) -> Option<&str> {
+    str::from_utf8(bytes).ok()
 }

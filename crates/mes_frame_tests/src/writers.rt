@@ -2,6 +2,7 @@
 
 ghost use Rattle.std.specs.Prelude.{◌≤◌};
 
+use crate::support::as_text;
 use mes_frame::*;
 use std::process::Abort;
 
@@ -20,7 +21,7 @@ fn expect_record<R: Abort>(
     bytes: &[u8],
 ) {
     assert_eq!(rt; write_record(&mut sink, text), answer);
-    assert_eq!(rt; sink.bytes(), bytes);
+    assert_eq!(rt; as_text(sink.bytes()), as_text(bytes));
 }
 
 #[test]
@@ -53,7 +54,7 @@ fn expect_body<R: Abort>(
     requires greatest { size ≤ MAX_CHUNK }
 {
     assert_eq!(rt; write_chunked(&mut sink, body, size), answer);
-    assert_eq!(rt; sink.bytes(), bytes);
+    assert_eq!(rt; as_text(sink.bytes()), as_text(bytes));
 }
 
 /// That record in chunks of 10 bytes.

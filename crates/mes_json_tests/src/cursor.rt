@@ -92,7 +92,7 @@ const WORD: PrintProgress = ("text", "a\u{e9}\"");
 const EMPTY: PrintProgress = ("text", "");
 
 #[test]
-fn shows_each_kind(rt: HostRuntime) -> Result<(), Fail> {
+fn each_kind_of_value_is_shown_in_place(rt: HostRuntime) -> Result<(), Fail> {
     let text = br#"[null, false, true, -1.50E+2, "1", "a\u00e9\"", "", [], {}]"#;
     let tape = read_tape(rt.alloc(), text)?;
     let root = tape.root();
@@ -103,7 +103,7 @@ fn shows_each_kind(rt: HostRuntime) -> Result<(), Fail> {
 }
 
 #[test]
-fn passes_over_what_nests(rt: HostRuntime) -> Result<(), Fail> {
+fn items_pass_over_what_nests(rt: HostRuntime) -> Result<(), Fail> {
     let text = br#"[[1, [2, {"a": [1]}], []], {"b": {"c": [[]]}}, 1, [[[]]], 2]"#;
     let tape = read_tape(rt.alloc(), text)?;
     let mut items = tape.root().items().expect(&rt, "items");
@@ -118,7 +118,7 @@ fn passes_over_what_nests(rt: HostRuntime) -> Result<(), Fail> {
 }
 
 #[test]
-fn goes_over_members(rt: HostRuntime) -> Result<(), Fail> {
+fn members_come_in_order(rt: HostRuntime) -> Result<(), Fail> {
     let text = br#"{"a": {"b": [1], "c": {}}, "": "", "\u0061": [[null]], "b": null, "a": 2}"#;
     let tape = read_tape(rt.alloc(), text)?;
     let root = tape.root();
@@ -136,7 +136,7 @@ fn goes_over_members(rt: HostRuntime) -> Result<(), Fail> {
 }
 
 #[test]
-fn goes_over_nothing(rt: HostRuntime) -> Result<(), Fail> {
+fn an_empty_array_or_object_has_no_items(rt: HostRuntime) -> Result<(), Fail> {
     let tape = read_tape(rt.alloc(), b"[[], {}]")?;
     let mut items = tape.root().items().expect(&rt, "items");
     let array = items.next().expect(&rt, "an array");
@@ -161,7 +161,7 @@ fn counts(mut items: Items<'_>) -> (usize, usize, bool) {
 }
 
 #[test]
-fn counts_items(rt: HostRuntime) -> Result<(), Fail> {
+fn items_are_counted_up_to_a_bound(rt: HostRuntime) -> Result<(), Fail> {
     for &(text, count) in &COUNTED {
         let tape = read_tape(rt.alloc(), text)?;
         let items = tape.root().items().expect(&rt, "items");

@@ -54,7 +54,7 @@ const VALUES_BYTES: [(&[u8], u64); 14] = [
 ];
 
 #[test]
-fn values(rt: HostRuntime) {
+fn other_bytes_begin_no_value(rt: HostRuntime) {
     expect_ends(&rt, &[b"", b" ", b"\t\n\r "]);
     expect_bytes(&rt, &VALUES_BYTES);
 }
@@ -80,7 +80,7 @@ const LITERALS_BYTES: [(&[u8], u64); 13] = [
 ];
 
 #[test]
-fn literals(rt: HostRuntime) {
+fn a_literal_is_spelled_out(rt: HostRuntime) {
     expect_ends(&rt, &LITERALS_ENDS);
     expect_bytes(&rt, &LITERALS_BYTES);
 }
@@ -117,7 +117,7 @@ const NUMBERS_BYTES: [(&[u8], u64); 24] = [
 ];
 
 #[test]
-fn numbers(rt: HostRuntime) {
+fn a_number_has_the_form_of_rfc_8259(rt: HostRuntime) {
     expect_ends(&rt, &NUMBERS_ENDS);
     expect_bytes(&rt, &NUMBERS_BYTES);
 }
@@ -172,7 +172,7 @@ const CHARACTERS_BYTES: [(&[u8], u64); 30] = [
 ];
 
 #[test]
-fn characters(rt: HostRuntime) {
+fn a_string_has_no_control_byte_and_no_bad_utf_8(rt: HostRuntime) {
     expect_ends(&rt, &CHARACTERS_ENDS);
     expect_bytes(&rt, &CHARACTERS_BYTES);
 }
@@ -224,7 +224,7 @@ const ESCAPES_BYTES: [(&[u8], u64); 24] = [
 ];
 
 #[test]
-fn escapes(rt: HostRuntime) {
+fn an_escape_has_one_of_nine_forms(rt: HostRuntime) {
     expect_ends(&rt, &ESCAPES_ENDS);
     expect_bytes(&rt, &ESCAPES_BYTES);
 }
@@ -264,7 +264,7 @@ const OBJECTS_BYTES: [(&[u8], u64); 18] = [
 ];
 
 #[test]
-fn objects(rt: HostRuntime) {
+fn an_object_has_names_colons_and_commas(rt: HostRuntime) {
     expect_ends(&rt, &OBJECTS_ENDS);
     expect_bytes(&rt, &OBJECTS_BYTES);
 }
@@ -291,7 +291,7 @@ const ARRAYS_BYTES: [(&[u8], u64); 14] = [
 ];
 
 #[test]
-fn arrays(rt: HostRuntime) {
+fn an_array_has_commas_between_its_items(rt: HostRuntime) {
     expect_ends(&rt, &ARRAYS_ENDS);
     expect_bytes(&rt, &ARRAYS_BYTES);
 }
@@ -328,7 +328,7 @@ const DEPTH_IN_OBJECTS: [(&[u8], TextFaultKind); 5] = [
 ];
 
 #[test]
-fn depth(rt: HostRuntime) -> Result<(), Fail> {
+fn a_text_nests_128_deep(rt: HostRuntime) -> Result<(), Fail> {
     for &(bytes, why) in &DEPTH_IN_ARRAYS {
         let text = nested(&rt, b"[", MAX_NESTING, bytes)?;
         let fault = TextFault {

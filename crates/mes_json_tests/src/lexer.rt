@@ -80,7 +80,7 @@ pub(crate) fn expect_same<R: Abort + AllocGlobal>(rt: &R, text: &[u8]) {
 }
 
 #[test]
-fn reads_pieces_as_the_whole(rt: HostRuntime) {
+fn pieces_are_read_as_the_whole(rt: HostRuntime) {
     let texts: [&[u8]; 16] = [
         b"null",
         b" true\r\n",
@@ -105,7 +105,7 @@ fn reads_pieces_as_the_whole(rt: HostRuntime) {
 }
 
 #[test]
-fn reads_deep_pieces_as_the_whole(rt: HostRuntime) -> Result<(), Fail> {
+fn deep_pieces_are_read_as_the_whole(rt: HostRuntime) -> Result<(), Fail> {
     for depth in MAX_NESTING..MAX_NESTING + 2 {
         let mut text = Vec::new(rt.alloc());
         for _ in 0..depth {
@@ -163,7 +163,7 @@ fn held_by_run(alloc: Global, bytes: &[u8]) -> Result<u64, ReadFault> {
 }
 
 #[test]
-fn holds_texts_and_numbers(rt: HostRuntime) -> Result<(), Fail> {
+fn a_lexer_holds_texts_and_numbers(rt: HostRuntime) -> Result<(), Fail> {
     for &(pushed, held) in &HELD {
         let both = [
             held_by_bytes(rt.alloc(), pushed)?,
@@ -188,7 +188,7 @@ fn read_behind_a_fault(alloc: Global) -> Result<Json, ReadFault> {
 }
 
 #[test]
-fn swallows_what_follows_a_fault(rt: HostRuntime) {
+fn bytes_after_a_fault_change_nothing(rt: HostRuntime) {
     let fault = TextFault {
         byte: 2,
         why: TextFaultKind::Byte,

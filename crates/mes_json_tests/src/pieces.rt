@@ -21,7 +21,7 @@ const TEXTS: [&[u8]; 12] = [
 ];
 
 #[test]
-fn reads_messages_in_pieces(rt: HostRuntime) {
+fn messages_are_read_in_pieces(rt: HostRuntime) {
     for &text in &TEXTS {
         expect_same(&rt, text);
     }
@@ -68,7 +68,7 @@ fn is_same_by_any_runs(alloc: Global, text: &[u8]) -> bool {
 }
 
 #[test]
-fn reads_messages_in_any_runs(rt: HostRuntime) {
+fn messages_are_read_in_any_runs(rt: HostRuntime) {
     for &text in &TEXTS {
         assert!(rt; is_same_by_any_runs(rt.alloc(), text), "{text:?}");
     }

@@ -49,7 +49,7 @@ pub(crate) fn are_spelled(
 }
 
 #[test]
-fn reads_strings_of_each_length(rt: HostRuntime) -> Result<(), Fail> {
+fn strings_of_each_length_are_read(rt: HostRuntime) -> Result<(), Fail> {
     for length in 0..101 {
         let plain = &PLAIN[..length];
         for following in [b"", &[b' '; 64] as &[u8]] {
@@ -71,7 +71,7 @@ const ENDS: [(&[u8], &[u8]); 6] = [
 ];
 
 #[test]
-fn reads_each_end_of_a_run(rt: HostRuntime) -> Result<(), Fail> {
+fn each_end_of_a_run_is_read(rt: HostRuntime) -> Result<(), Fail> {
     for length in 0..49 {
         let plain = &PLAIN[..length];
         for &(written, meant) in &ENDS {
@@ -125,7 +125,7 @@ const BEHIND: [&[u8]; 4] = [
 ];
 
 #[test]
-fn reads_members_of_each_length(rt: HostRuntime) -> Result<(), Fail> {
+fn members_of_each_length_are_read(rt: HostRuntime) -> Result<(), Fail> {
     for length in 0..36 {
         let plain = &PLAIN[..length];
         for &colon in &COLONS {
@@ -142,7 +142,7 @@ fn reads_members_of_each_length(rt: HostRuntime) -> Result<(), Fail> {
 }
 
 #[test]
-fn reads_each_end_of_a_run_in_a_member(rt: HostRuntime) -> Result<(), Fail> {
+fn each_end_of_a_run_is_read_in_a_member(rt: HostRuntime) -> Result<(), Fail> {
     for length in 0..20 {
         let plain = &PLAIN[..length];
         for &(written, meant) in &ENDS {
@@ -173,7 +173,7 @@ fn expect_fault<R: Abort + AllocGlobal>(rt: &R, bytes: &[u8], byte: u64) {
 const FAULTS: [&[u8]; 6] = [b"\x00", b"\n", b"\x1f", b"\x80", b"\xc1", b"\xff"];
 
 #[test]
-fn stops_a_run_at_a_fault(rt: HostRuntime) -> Result<(), Fail> {
+fn a_run_stops_at_a_fault(rt: HostRuntime) -> Result<(), Fail> {
     for length in 0..49 {
         let plain = &PLAIN[..length];
         for &fault in &FAULTS {
@@ -218,7 +218,7 @@ fn is_read_close(alloc: Global, blank: &[u8]) -> Result<bool, Fail> {
 }
 
 #[test]
-fn passes_over_white_space(rt: HostRuntime) -> Result<(), Fail> {
+fn white_space_between_tokens_is_passed_over(rt: HostRuntime) -> Result<(), Fail> {
     for &blank in &BLANKS {
         assert!(rt; is_read_close(rt.alloc(), blank)?, "{blank:?}");
     }
@@ -237,7 +237,7 @@ fn expect_no_other<R: Abort + AllocGlobal>(rt: &R, front: &[u8]) -> Result<(), F
 }
 
 #[test]
-fn passes_over_no_other_byte(rt: HostRuntime) -> Result<(), Fail> {
+fn no_other_byte_between_tokens_is_passed_over(rt: HostRuntime) -> Result<(), Fail> {
     let mut front = joined(rt.alloc(), &[b" "])?;
     for &token in &TOKENS {
         expect_no_other(&rt, &front)?;
@@ -257,7 +257,7 @@ const WITHIN: [(&[u8], u64); 6] = [
 ];
 
 #[test]
-fn keeps_white_space_where_it_counts(rt: HostRuntime) {
+fn white_space_inside_a_token_counts(rt: HostRuntime) {
     for &(bytes, byte) in &WITHIN {
         expect_fault(&rt, bytes, byte);
     }

@@ -63,7 +63,7 @@ fn is_read_so(alloc: Global, tape: Tape, wanted: &[u8]) -> Result<bool, Fail> {
 }
 
 #[test]
-fn holds_the_value(rt: HostRuntime) -> Result<(), Fail> {
+fn a_tape_holds_the_value_of_its_text(rt: HostRuntime) -> Result<(), Fail> {
     for &(text, wanted) in &WRITTEN {
         let same = [
             is_read_so(rt.alloc(), read_tape(rt.alloc(), text)?, wanted)?,
@@ -83,7 +83,7 @@ fn faults(alloc: Global, bytes: &[u8]) -> [Option<ReadFault>; 2] {
 }
 
 #[test]
-fn tells_the_fault(rt: HostRuntime) {
+fn a_tape_is_refused_at_the_first_fault(rt: HostRuntime) {
     for &(bytes, byte, why) in &FAULTY {
         let wanted = Some(ReadFault::Text(TextFault { byte, why }));
         assert_eq!(rt; faults(rt.alloc(), bytes), [wanted, wanted]);
@@ -102,7 +102,7 @@ fn read_on(alloc: Global, older: Tape, text: &[u8], wanted: &[u8]) -> Result<Tap
 }
 
 #[test]
-fn reads_on_in_the_memory_of_a_tape(rt: HostRuntime) -> Result<(), Fail> {
+fn a_lexer_reads_on_in_the_memory_of_a_tape(rt: HostRuntime) -> Result<(), Fail> {
     let mut tape = read_tape(rt.alloc(), b"[\"an older text\", 17]")?;
     for &(text, wanted) in &WRITTEN {
         tape = read_on(rt.alloc(), tape, text, wanted)?;
@@ -122,7 +122,7 @@ fn long_tape(alloc: Global) -> Result<Tape, Fail> {
 }
 
 #[test]
-fn gives_long_memory_back(rt: HostRuntime) -> Result<(), Fail> {
+fn a_lexer_reads_on_after_a_long_tape(rt: HostRuntime) -> Result<(), Fail> {
     let next = lexed(Lexer::reusing(rt.alloc(), long_tape(rt.alloc())?), b"[2]")?;
     assert!(rt; is_read_so(rt.alloc(), next, b"[2]")?);
     Ok(())

@@ -97,7 +97,7 @@ fn expect_values<R: Abort + AllocGlobal>(rt: &R, text: &[u8], rows: &str) -> Res
 }
 
 #[test]
-fn reads_each_value(rt: HostRuntime) -> Result<(), Fail> {
+fn each_value_is_read(rt: HostRuntime) -> Result<(), Fail> {
     expect_values(&rt, b"null", "- => null")?;
     expect_values(&rt, b" true ", "- => truth true")?;
     expect_values(&rt, b"\tfalse\r\n", "- => truth false")?;
@@ -135,7 +135,7 @@ fn is_named(alloc: Global, text: &[u8], places: &str, at: usize, name: &str) -> 
 }
 
 #[test]
-fn reads_each_name(rt: HostRuntime) {
+fn each_name_is_read(rt: HostRuntime) {
     for &(text, places, at, name) in &NAMES {
         assert!(rt;
             is_named(rt.alloc(), text, places, at, name),
@@ -177,7 +177,7 @@ fn is_kept(alloc: Global, digits: &str, front: &[u8], end: &[u8], places: &str) 
 }
 
 #[test]
-fn keeps_numbers_as_written(rt: HostRuntime) {
+fn numbers_are_kept_as_written(rt: HostRuntime) {
     for &digits in &NUMBERS {
         for &(front, end, places) in &AROUND {
             assert!(rt; is_kept(rt.alloc(), digits, front, end, places), "{digits}");
@@ -214,7 +214,7 @@ fn is_read(alloc: Global, characters: &str) -> Result<bool, Fail> {
 }
 
 #[test]
-fn reads_characters_and_escapes(rt: HostRuntime) -> Result<(), Fail> {
+fn characters_and_escapes_are_read(rt: HostRuntime) -> Result<(), Fail> {
     assert!(rt; is_read(rt.alloc(), CHARACTERS)?);
     for &(bytes, text) in &ESCAPES {
         assert!(rt; is_at(rt.alloc(), bytes, "-", "text", text), "{bytes:?}");
@@ -231,7 +231,7 @@ fn times(alloc: Global, count: usize, bytes: &[u8]) -> Result<Vec<u8>, Fail> {
 }
 
 #[test]
-fn reads_long_texts(rt: HostRuntime) -> Result<(), Fail> {
+fn long_texts_are_read(rt: HostRuntime) -> Result<(), Fail> {
     // Longer than the initial capacity of any buffer, with a character of two bytes and an escape
     // in the middle.
     let expected = times(rt.alloc(), 1000, "plain text, \u{e9}\n".as_bytes())?;
@@ -259,7 +259,7 @@ fn is_deepest(alloc: Global, text: &[u8]) -> Result<bool, Fail> {
 }
 
 #[test]
-fn reads_as_deep_as_the_limit(rt: HostRuntime) -> Result<(), Fail> {
+fn texts_are_read_as_deep_as_the_limit(rt: HostRuntime) -> Result<(), Fail> {
     for &(front, inner, end) in &DEEP {
         let text = deep(rt.alloc(), front, inner, end)?;
         assert!(rt; is_deepest(rt.alloc(), &text)?);
@@ -283,7 +283,7 @@ fn is_kept_as_string(alloc: Global, characters: &str) -> Result<bool, Fail> {
 }
 
 #[test]
-fn keeps_texts_of_any_length(rt: HostRuntime) -> Result<(), Fail> {
+fn texts_of_any_length_are_kept(rt: HostRuntime) -> Result<(), Fail> {
     for &characters in &[
         "",
         "*",

@@ -27,7 +27,7 @@ fn is_given_back(alloc: Global, digits: &str) -> Result<bool, Fail> {
 }
 
 #[test]
-fn takes_numbers_only(rt: HostRuntime) -> Result<(), Fail> {
+fn a_number_text_has_the_form_of_a_number(rt: HostRuntime) -> Result<(), Fail> {
     for &digits in &["0", "-0", "12", "0.50", "1E9", "-1.25e-07", "1e+400"] {
         assert!(rt; is_number(rt.alloc(), digits)?, "{digits}");
     }
@@ -49,7 +49,7 @@ fn is_copied(alloc: Global, number: &NumText, digits: &str) -> Result<bool, Fail
 }
 
 #[test]
-fn copies_a_number(rt: HostRuntime) -> Result<(), Fail> {
+fn a_number_is_copied(rt: HostRuntime) -> Result<(), Fail> {
     let number = number(rt.alloc(), "-0.50")?;
     assert!(rt; is_copied(rt.alloc(), &number, "-0.50")?);
     Ok(())
@@ -109,7 +109,7 @@ fn is_deep(alloc: Global, text: &str, depth: u64) -> Result<bool, Fail> {
 }
 
 #[test]
-fn writes_and_measures_each_kind(rt: HostRuntime) -> Result<(), Fail> {
+fn each_kind_of_value_is_written_and_its_depth_measured(rt: HostRuntime) -> Result<(), Fail> {
     for &(text, depth) in &VALUES {
         assert!(rt; is_deep(rt.alloc(), text, depth)?, "{text}");
     }
@@ -145,7 +145,7 @@ fn has_copy(alloc: Global, bytes: &[u8], depth: u64) -> Result<bool, Fail> {
 }
 
 #[test]
-fn copies_each_kind(rt: HostRuntime) -> Result<(), Fail> {
+fn each_kind_of_value_is_copied(rt: HostRuntime) -> Result<(), Fail> {
     for &(text, depth) in &VALUES {
         assert!(rt; has_copy(rt.alloc(), text.as_bytes(), depth)?, "{text}");
     }
@@ -153,7 +153,7 @@ fn copies_each_kind(rt: HostRuntime) -> Result<(), Fail> {
 }
 
 #[test]
-fn tells_values_apart(rt: HostRuntime) -> Result<(), Fail> {
+fn a_value_is_the_same_as_itself_alone(rt: HostRuntime) -> Result<(), Fail> {
     for (i, (one, _)) in VALUES.iter().enumerate() {
         for (k, (other, _)) in VALUES.iter().enumerate() {
             let same = is_same(rt.alloc(), one.as_bytes(), other.as_bytes())?;
@@ -180,7 +180,7 @@ fn write_read(alloc: Global, bytes: &[u8], out: &mut Vec<u8>) -> Result<(), Fail
 }
 
 #[test]
-fn writes_behind_what_is_there(rt: HostRuntime) -> Result<(), Fail> {
+fn a_value_is_appended_to_what_is_there(rt: HostRuntime) -> Result<(), Fail> {
     let mut out = Vec::from_slice(rt.alloc(), b"x ")?;
     write_read(rt.alloc(), b"[[]]", &mut out)?;
     assert!(rt; out.as_slice() == br#"x [[]]null"a\n\"""#.as_slice());
@@ -229,7 +229,7 @@ fn is_escaped(alloc: Global, characters: &str, wanted: &[u8]) -> Result<bool, Fa
 }
 
 #[test]
-fn escapes_what_has_to_be(rt: HostRuntime) -> Result<(), Fail> {
+fn only_characters_that_need_it_are_escaped(rt: HostRuntime) -> Result<(), Fail> {
     for &(characters, expected) in &ESCAPES {
         assert!(rt;
             is_escaped(rt.alloc(), characters, expected)?,
@@ -249,7 +249,7 @@ fn is_name_escaped(alloc: Global, name: &str, wanted: &[u8]) -> Result<bool, Fai
 
 // A name is a string too.
 #[test]
-fn escapes_names_alike(rt: HostRuntime) -> Result<(), Fail> {
+fn names_are_escaped_as_strings_are(rt: HostRuntime) -> Result<(), Fail> {
     for &(characters, expected) in &ESCAPES {
         let wanted = [b"{", expected, b":null}"].concat(rt.alloc())?;
         assert!(rt;
@@ -275,7 +275,9 @@ pub(crate) fn is_same(alloc: Global, one: &[u8], other: &[u8]) -> Result<bool, F
 }
 
 #[test]
-fn copies_compares_and_writes_what_is_deep(rt: HostRuntime) -> Result<(), Fail> {
+fn a_value_as_deep_as_the_limit_is_copied_compared_and_written(
+    rt: HostRuntime,
+) -> Result<(), Fail> {
     let bytes = nested(rt.alloc(), MAX_NESTING)?;
     assert!(rt; has_copy(rt.alloc(), &bytes, MAX_NESTING as u64)?);
     let other = nested(rt.alloc(), MAX_NESTING - 1)?;

@@ -134,13 +134,13 @@ const FILTERS_WRITTEN: &str = r#"{} => {}
 "#;
 
 #[test]
-fn capabilities(rt: HostRuntime) -> Result<(), Fail> {
+fn capabilities_are_read_and_written(rt: HostRuntime) -> Result<(), Fail> {
     expect_faults::<Capability, HostRuntime>(&rt, CAPABILITY)?;
     expect_values::<Capability, HostRuntime>(&rt, CAPABILITY_WRITTEN)
 }
 
 #[test]
-fn faults_of_frameworks(rt: HostRuntime) -> Result<(), Fail> {
+fn the_first_fault_of_a_framework_is_reported(rt: HostRuntime) -> Result<(), Fail> {
     expect_faults::<FrameworkInfo, HostRuntime>(&rt, REQUIRED)?;
     expect_faults::<FrameworkInfo, HostRuntime>(&rt, UP_TO_CHECKPOINT)?;
     expect_faults::<FrameworkInfo, HostRuntime>(&rt, FROM_ROLES)?;
@@ -148,12 +148,12 @@ fn faults_of_frameworks(rt: HostRuntime) -> Result<(), Fail> {
 }
 
 #[test]
-fn frameworks_written(rt: HostRuntime) -> Result<(), Fail> {
+fn frameworks_are_written_in_the_order_of_their_table(rt: HostRuntime) -> Result<(), Fail> {
     expect_values::<FrameworkInfo, HostRuntime>(&rt, FRAMEWORK_WRITTEN)
 }
 
 #[test]
-fn filters(rt: HostRuntime) -> Result<(), Fail> {
+fn filters_are_read_and_written(rt: HostRuntime) -> Result<(), Fail> {
     expect_faults::<Filters, HostRuntime>(&rt, FILTERS)?;
     expect_values::<Filters, HostRuntime>(&rt, FILTERS_WRITTEN)
 }

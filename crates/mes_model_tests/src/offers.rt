@@ -53,16 +53,16 @@ const WRITTEN: &str =
 "#;
 
 #[test]
-fn required_rows(rt: HostRuntime) -> Result<(), Fail> {
+fn an_offer_has_its_required_rows(rt: HostRuntime) -> Result<(), Fail> {
     expect_faults::<Offer, HostRuntime>(&rt, REQUIRED)
 }
 
 #[test]
-fn other_rows(rt: HostRuntime) -> Result<(), Fail> {
+fn the_first_fault_of_an_offer_is_reported(rt: HostRuntime) -> Result<(), Fail> {
     expect_faults::<Offer, HostRuntime>(&rt, OTHERS)
 }
 
 #[test]
-fn offers_written(rt: HostRuntime) -> Result<(), Fail> {
+fn offers_are_written_in_the_order_of_their_table(rt: HostRuntime) -> Result<(), Fail> {
     expect_values::<Offer, HostRuntime>(&rt, WRITTEN)
 }

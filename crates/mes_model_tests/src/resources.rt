@@ -98,7 +98,7 @@ const TEXT_WRITTEN: &str =
 "#;
 
 #[test]
-fn values_of_resources(rt: HostRuntime) -> Result<(), Fail> {
+fn a_resource_has_the_value_of_its_type(rt: HostRuntime) -> Result<(), Fail> {
     expect_faults::<Resource, HostRuntime>(&rt, NAMES)?;
     expect_faults::<Resource, HostRuntime>(&rt, TYPES)?;
     expect_faults::<Resource, HostRuntime>(&rt, VALUES)?;
@@ -107,13 +107,13 @@ fn values_of_resources(rt: HostRuntime) -> Result<(), Fail> {
 }
 
 #[test]
-fn rows_of_resources(rt: HostRuntime) -> Result<(), Fail> {
+fn a_resource_has_the_rows_of_its_table(rt: HostRuntime) -> Result<(), Fail> {
     expect_faults::<Resource, HostRuntime>(&rt, ROWS)?;
     expect_values::<Resource, HostRuntime>(&rt, RESOURCE_WRITTEN)
 }
 
 #[test]
-fn attributes(rt: HostRuntime) -> Result<(), Fail> {
+fn an_attribute_has_the_value_of_its_type(rt: HostRuntime) -> Result<(), Fail> {
     expect_faults::<Attribute, HostRuntime>(&rt, NAMES)?;
     expect_faults::<Attribute, HostRuntime>(&rt, TYPES)?;
     expect_faults::<Attribute, HostRuntime>(&rt, VALUES)?;

@@ -239,7 +239,7 @@ fn parts(key: &OwedKey) -> (&str, &str, &[u8]) {
 }
 
 #[test]
-fn names_of_states(rt: HostRuntime) -> Result<(), Fail> {
+fn each_state_has_one_name(rt: HostRuntime) -> Result<(), Fail> {
     for &(state, name) in &STATES {
         assert_eq!(rt; state.name(), name);
         assert_eq!(rt; TaskState::of_name(name), Some(state));
@@ -251,39 +251,39 @@ fn names_of_states(rt: HostRuntime) -> Result<(), Fail> {
 }
 
 #[test]
-fn states(rt: HostRuntime) -> Result<(), Fail> {
+fn a_state_is_read_by_its_name_alone(rt: HostRuntime) -> Result<(), Fail> {
     expect_faults::<TaskState, HostRuntime>(&rt, STATE_FAULTS)?;
     expect_values::<TaskState, HostRuntime>(&rt, STATES_WRITTEN)
 }
 
 #[test]
-fn required_rows(rt: HostRuntime) -> Result<(), Fail> {
+fn a_status_has_its_required_rows(rt: HostRuntime) -> Result<(), Fail> {
     expect_faults::<TaskStatus, HostRuntime>(&rt, REQUIRED)
 }
 
 #[test]
-fn rows_of_texts(rt: HostRuntime) -> Result<(), Fail> {
+fn a_row_of_a_text_has_no_other_kind(rt: HostRuntime) -> Result<(), Fail> {
     expect_faults::<TaskStatus, HostRuntime>(&rt, TEXTS)
 }
 
 #[test]
-fn other_rows(rt: HostRuntime) -> Result<(), Fail> {
+fn the_first_fault_of_a_status_is_reported(rt: HostRuntime) -> Result<(), Fail> {
     expect_faults::<TaskStatus, HostRuntime>(&rt, OTHERS)
 }
 
 /// A fault lies at most so many steps below a status: that of a label's key.
 #[test]
-fn steps_of_a_status(rt: HostRuntime) {
+fn a_fault_is_at_most_4_steps_below_a_status(rt: HostRuntime) {
     assert_eq!(rt; <TaskStatus as Part>::STEPS, 4);
 }
 
 #[test]
-fn statuses_written(rt: HostRuntime) -> Result<(), Fail> {
+fn statuses_are_written_in_the_order_of_their_table(rt: HostRuntime) -> Result<(), Fail> {
     expect_values::<TaskStatus, HostRuntime>(&rt, WRITTEN)
 }
 
 #[test]
-fn owed_keys(rt: HostRuntime) -> Result<(), Fail> {
+fn a_status_with_a_uuid_and_an_agent_owes_a_key(rt: HostRuntime) -> Result<(), Fail> {
     for (text, owed) in OWING {
         assert_eq!(rt; owes(rt.alloc(), text)?, owed.is_some(), "{text}");
         expect_owed(&rt, text, owed)?;
@@ -330,7 +330,7 @@ fn expect_keys<R: Abort + AllocGlobal>(rt: &R, rows: &str, same: bool) -> Result
 }
 
 #[test]
-fn same_keys(rt: HostRuntime) -> Result<(), Fail> {
+fn keys_are_the_same_if_all_their_parts_are(rt: HostRuntime) -> Result<(), Fail> {
     expect_keys(&rt, SAME, true)?;
     expect_keys(&rt, OTHERS_OWED, false)
 }

@@ -35,7 +35,7 @@ pub(crate) fn expect_text<R: Abort>(
     expected: &str,
 ) -> Result<(), Fail> {
     let out = text_of(alloc, tree)?;
-    assert_eq!(rt; out.as_slice(), expected.as_bytes());
+    assert_eq!(rt; as_text(out.as_slice()), Some(expected));
     Ok(())
 }
 
@@ -167,8 +167,13 @@ fn expect_written<T: Part, R: Abort + AllocGlobal>(
     written: &str,
 ) -> Result<(), Fail> {
     let by_tree = text_of_tree(rt.alloc(), value)?;
-    assert_eq!(rt; by_tree.as_slice(), written.as_bytes(), "{text}");
+    assert_eq!(rt; as_text(by_tree.as_slice()), Some(written), "{text}");
     let without = text_without_tree(rt.alloc(), value)?;
-    assert_eq!(rt; without.as_slice(), written.as_bytes(), "{text}");
+    assert_eq!(rt; as_text(without.as_slice()), Some(written), "{text}");
     Ok(())
+}
+
+/// The text of these bytes, so that a failure prints it.
+pub(crate) fn as_text(bytes: &[u8]) -> Option<&str> {
+    str::from_utf8(bytes).ok()
 }

@@ -108,20 +108,20 @@ const TASK_REF_WRITTEN: &str =
 "#;
 
 #[test]
-fn commands(rt: HostRuntime) -> Result<(), Fail> {
+fn commands_are_read_and_written(rt: HostRuntime) -> Result<(), Fail> {
     expect_faults::<Command, HostRuntime>(&rt, COMMAND)?;
     expect_values::<Command, HostRuntime>(&rt, COMMAND_WRITTEN)
 }
 
 #[test]
-fn tasks(rt: HostRuntime) -> Result<(), Fail> {
+fn tasks_are_read_and_written(rt: HostRuntime) -> Result<(), Fail> {
     expect_faults::<TaskInfo, HostRuntime>(&rt, REQUIRED)?;
     expect_faults::<TaskInfo, HostRuntime>(&rt, OTHERS)?;
     expect_values::<TaskInfo, HostRuntime>(&rt, TASK_WRITTEN)
 }
 
 #[test]
-fn references_to_tasks(rt: HostRuntime) -> Result<(), Fail> {
+fn references_to_tasks_are_read_and_written(rt: HostRuntime) -> Result<(), Fail> {
     expect_faults::<TaskRef, HostRuntime>(&rt, TASK_REF)?;
     expect_values::<TaskRef, HostRuntime>(&rt, TASK_REF_WRITTEN)
 }

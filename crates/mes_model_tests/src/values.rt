@@ -109,7 +109,7 @@ const SET_WRITTEN: &str = r#"{"item":[]} => {}
 "#;
 
 #[test]
-fn one_text(rt: HostRuntime) -> Result<(), Fail> {
+fn an_id_and_a_text_value_are_one_text(rt: HostRuntime) -> Result<(), Fail> {
     expect_faults::<Id, HostRuntime>(&rt, ONE_TEXT)?;
     expect_values::<Id, HostRuntime>(&rt, ONE_TEXT_WRITTEN)?;
     expect_faults::<TextValue, HostRuntime>(&rt, ONE_TEXT)?;
@@ -117,19 +117,19 @@ fn one_text(rt: HostRuntime) -> Result<(), Fail> {
 }
 
 #[test]
-fn allocations(rt: HostRuntime) -> Result<(), Fail> {
+fn allocations_are_read_and_written(rt: HostRuntime) -> Result<(), Fail> {
     expect_faults::<Allocation, HostRuntime>(&rt, ALLOCATION)?;
     expect_values::<Allocation, HostRuntime>(&rt, ALLOCATION_WRITTEN)
 }
 
 #[test]
-fn reservations(rt: HostRuntime) -> Result<(), Fail> {
+fn reservations_are_read_and_written(rt: HostRuntime) -> Result<(), Fail> {
     expect_faults::<Reservation, HostRuntime>(&rt, RESERVATION)?;
     expect_values::<Reservation, HostRuntime>(&rt, RESERVATION_WRITTEN)
 }
 
 #[test]
-fn numbers(rt: HostRuntime) -> Result<(), Fail> {
+fn scalars_and_ranges_are_read_and_written(rt: HostRuntime) -> Result<(), Fail> {
     expect_faults::<Scalar, HostRuntime>(&rt, SCALAR)?;
     expect_values::<Scalar, HostRuntime>(&rt, SCALAR_WRITTEN)?;
     expect_faults::<Range, HostRuntime>(&rt, RANGE)?;
@@ -137,7 +137,7 @@ fn numbers(rt: HostRuntime) -> Result<(), Fail> {
 }
 
 #[test]
-fn lists(rt: HostRuntime) -> Result<(), Fail> {
+fn ranges_and_sets_are_lists(rt: HostRuntime) -> Result<(), Fail> {
     expect_faults::<Ranges, HostRuntime>(&rt, RANGES)?;
     expect_values::<Ranges, HostRuntime>(&rt, RANGES_WRITTEN)?;
     expect_faults::<Set, HostRuntime>(&rt, SET)?;

@@ -78,7 +78,7 @@ const SUPPRESS: &str = r#"{"type":"SUPPRESS","framework_id":{"value":"F1"}}"#;
 
 // The limit of a record is that of the whole text: 47 bytes are enough, and 46 are not.
 #[test]
-fn calls_have_their_bytes_counted(rt: HostRuntime) -> Result<(), Fail> {
+fn a_call_fits_a_limit_of_its_length(rt: HostRuntime) -> Result<(), Fail> {
     assert_eq!(rt; REVIVE.len(), 47);
     expect_record::<Call, HostRuntime>(&rt, REVIVE, REVIVE)?;
     assert_eq!(rt; SUPPRESS.len(), 49);

@@ -46,7 +46,7 @@ fn events_nest_to_the_limit(rt: HostRuntime) -> Result<(), Fail> {
 }
 
 #[test]
-fn deep_events_have_their_bytes_counted(rt: HostRuntime) -> Result<(), Fail> {
+fn a_deep_event_above_the_limit_is_too_large(rt: HostRuntime) -> Result<(), Fail> {
     let smallest = Limit::new(1).ok_or("a limit")?;
     let why = refused_deep(rt.alloc(), MOST_OBJECTS, smallest)?;
     assert!(rt; matches!(why, Some(EncodeFault::TooLarge)));
@@ -58,7 +58,7 @@ fn what_is_written_is_read_again(rt: HostRuntime) -> Result<(), Fail> {
     let text = deep_offers(rt.alloc(), MOST_OBJECTS)?;
     let written = rewritten::<Event>(rt.alloc(), text.as_slice())?;
     let again = rewritten::<Event>(rt.alloc(), written.as_slice())?;
-    assert_eq!(rt; again.as_slice(), written.as_slice());
+    assert!(rt; again.as_slice() == written.as_slice());
     Ok(())
 }
 

@@ -168,7 +168,7 @@ const ERROR: &str = r#"{"type":"ERROR"} => error Missing
 "#;
 
 #[test]
-fn first_faults_are_told(rt: HostRuntime) -> Result<(), Fail> {
+fn the_first_fault_of_an_event_is_reported(rt: HostRuntime) -> Result<(), Fail> {
     expect_faults::<Event, HostRuntime>(&rt, TYPES)?;
     expect_faults::<Event, HostRuntime>(&rt, SUBSCRIBED)?;
     expect_faults::<Event, HostRuntime>(&rt, OFFERS)?;

@@ -1,6 +1,6 @@
 //! Events and calls read from JSON texts: what is written of each, or the path and the reason of the first fault.
 
-use crate::support::{expect_fault, field_fault_of, row_of};
+use crate::support::{as_text, expect_fault, field_fault_of, row_of};
 use mes_frame::MAX_RECORD_LIMIT;
 use mes_json::{Json, read_text};
 use mes_model::Part;
@@ -138,7 +138,7 @@ fn expect_canon<T: Record, R: Abort + AllocGlobal>(
     let limit = Limit::new(length).ok_or("a limit")?;
     let below = Limit::new(length.saturating_sub(1)).ok_or("a limit")?;
     let out = canon(record, rt.alloc(), limit)?;
-    assert_eq!(rt; out.as_slice(), written.as_bytes());
+    assert_eq!(rt; as_text(out.as_slice()), Some(written));
     assert!(rt; is_too_large(record, rt.alloc(), below), "{written}");
     Ok(())
 }

@@ -1,7 +1,7 @@
 //! The lines of events.
 
 use crate::record::record_of;
-use crate::support::row_of;
+use crate::support::{as_text, row_of};
 use mes_msg::Event;
 use std::alloc::Global;
 use std::process::Abort;
@@ -24,7 +24,7 @@ fn expect_lines<R: Abort>(
     lines: &str,
 ) -> Result<(), Fail> {
     let shown = lines_of(alloc, number, record)?;
-    assert_eq!(rt; shown.as_slice(), lines.as_bytes(), "{record:?}");
+    assert_eq!(rt; as_text(shown.as_slice()), Some(lines), "{record}");
     Ok(())
 }
 
@@ -45,7 +45,7 @@ const BODIES: &str =
 "#;
 
 #[test]
-fn bodies_are_told(rt: HostRuntime) -> Result<(), Fail> {
+fn each_event_has_its_line(rt: HostRuntime) -> Result<(), Fail> {
     for row in BODIES.lines() {
         let (record, line) = row_of(row)?;
         let lines = format!(in rt.alloc(); "{line}\n")?;
@@ -55,7 +55,7 @@ fn bodies_are_told(rt: HostRuntime) -> Result<(), Fail> {
 }
 
 #[test]
-fn offers_have_lines_of_their_own(rt: HostRuntime) -> Result<(), Fail> {
+fn each_offer_has_a_line_of_its_own(rt: HostRuntime) -> Result<(), Fail> {
     let events = [
         (r#"{"type":"OFFERS","offers":{}}"#, "7 OFFERS 0\n"),
         (
@@ -84,7 +84,7 @@ fn expect_update<R: Abort>(rt: &R, alloc: Global, members: &str, rest: &str) -> 
 
 // The 16 bytes 00 to 0f, then 15 of them, none, and no uuid.
 #[test]
-fn uuids_are_told_by_their_length(rt: HostRuntime) -> Result<(), Fail> {
+fn a_uuid_of_another_length_is_printed_in_hexadecimal(rt: HostRuntime) -> Result<(), Fail> {
     let updates = [
         (
             r#","uuid":"AAECAwQFBgcICQoLDA0ODw==""#,

@@ -52,3 +52,8 @@ pub(crate) fn expect_fault<R: Abort>(
     );
     Ok(())
 }
+
+/// The text of these bytes, so that a failure prints it.
+pub(crate) fn as_text(bytes: &[u8]) -> Option<&str> {
+    str::from_utf8(bytes).ok()
+}

@@ -51,22 +51,22 @@ const ORDER: &str =
 "#;
 
 #[test]
-fn sums_are_compared(rt: HostRuntime) -> Result<(), Fail> {
+fn tasks_together_take_no_more_than_offers_have(rt: HostRuntime) -> Result<(), Fail> {
     expect_answers(&rt, SUMS)
 }
 
 #[test]
-fn nothing_is_compared(rt: HostRuntime) -> Result<(), Fail> {
+fn zero_of_what_no_offer_has_fits(rt: HostRuntime) -> Result<(), Fail> {
     expect_answers(&rt, NOTHING)
 }
 
 #[test]
-fn large_amounts_dont_wrap(rt: HostRuntime) -> Result<(), Fail> {
+fn large_amounts_do_not_wrap(rt: HostRuntime) -> Result<(), Fail> {
     expect_answers(&rt, LARGE)
 }
 
 #[test]
-fn the_first_of_a_key_is_told(rt: HostRuntime) -> Result<(), Fail> {
+fn the_first_resource_that_exceeds_its_key_is_reported(rt: HostRuntime) -> Result<(), Fail> {
     expect_answers(&rt, ORDER)
 }
 

@@ -94,17 +94,17 @@ const SHARED: &str =
 "#;
 
 #[test]
-fn each_member_is_of_the_key(rt: HostRuntime) -> Result<(), Fail> {
+fn each_member_belongs_to_the_key(rt: HostRuntime) -> Result<(), Fail> {
     expect_answers(&rt, MEMBERS)
 }
 
 #[test]
-fn roles_and_allocations(rt: HostRuntime) -> Result<(), Fail> {
+fn a_role_belongs_to_the_key_and_an_allocation_does_not(rt: HostRuntime) -> Result<(), Fail> {
     expect_answers(&rt, ROLES)
 }
 
 #[test]
-fn types_are_keys(rt: HostRuntime) -> Result<(), Fail> {
+fn the_type_belongs_to_the_key(rt: HostRuntime) -> Result<(), Fail> {
     expect_answers(&rt, TYPES)
 }
 
@@ -114,6 +114,6 @@ fn members_are_compared_whole(rt: HostRuntime) -> Result<(), Fail> {
 }
 
 #[test]
-fn pieces_have_keys(rt: HostRuntime) -> Result<(), Fail> {
+fn ranges_and_sets_have_keys(rt: HostRuntime) -> Result<(), Fail> {
     expect_answers(&rt, SHARED)
 }

@@ -16,6 +16,6 @@ const FIRST: &str =
 "#;
 
 #[test]
-fn the_first_breach_is_told(rt: HostRuntime) -> Result<(), Fail> {
+fn the_first_breach_by_tasks_and_resources_is_reported(rt: HostRuntime) -> Result<(), Fail> {
     expect_answers(&rt, FIRST)
 }

@@ -71,7 +71,7 @@ const ITEMS: &str =
 "#;
 
 #[test]
-fn points_are_offered(rt: HostRuntime) -> Result<(), Fail> {
+fn each_point_is_offered(rt: HostRuntime) -> Result<(), Fail> {
     expect_answers(&rt, POINTS)
 }
 
@@ -81,16 +81,16 @@ fn empty_ranges_have_no_points(rt: HostRuntime) -> Result<(), Fail> {
 }
 
 #[test]
-fn ranges_may_be_the_largest(rt: HostRuntime) -> Result<(), Fail> {
+fn a_range_may_end_at_the_largest_number(rt: HostRuntime) -> Result<(), Fail> {
     expect_answers(&rt, ENDS)
 }
 
 #[test]
-fn points_are_one_tasks(rt: HostRuntime) -> Result<(), Fail> {
+fn a_point_belongs_to_one_task(rt: HostRuntime) -> Result<(), Fail> {
     expect_answers(&rt, SHARED)
 }
 
 #[test]
-fn items_are_one_tasks(rt: HostRuntime) -> Result<(), Fail> {
+fn an_item_belongs_to_one_task(rt: HostRuntime) -> Result<(), Fail> {
     expect_answers(&rt, ITEMS)
 }

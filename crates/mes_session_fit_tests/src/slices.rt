@@ -16,6 +16,6 @@ const SLICES: &str =
 "#;
 
 #[test]
-fn tasks_of_slices_are_looked_at(rt: HostRuntime) -> Result<(), Fail> {
+fn tasks_in_slices_count_in_their_order(rt: HostRuntime) -> Result<(), Fail> {
     expect_answers_of_slices(&rt, SLICES)
 }

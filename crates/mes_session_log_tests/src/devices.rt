@@ -24,7 +24,7 @@ fn expect_fronts<A: Abort>(rt: &A, alloc: Global, log: &Log) -> Result<(), Fail>
 }
 
 #[test]
-fn every_front(rt: HostRuntime) -> Result<(), Fail> {
+fn each_front_of_a_log_breaks_off(rt: HostRuntime) -> Result<(), Fail> {
     for log in &[VERSION_1, VERSION_2, BREAK, HEADER_TWICE] {
         expect_fronts(&rt, rt.alloc(), log)?;
     }
@@ -44,7 +44,7 @@ fn expect_failing_reads<A: Abort>(rt: &A, alloc: Global, log: &Log) -> Result<()
 }
 
 #[test]
-fn every_failing_read(rt: HostRuntime) -> Result<(), Fail> {
+fn a_read_may_fail_after_each_byte(rt: HostRuntime) -> Result<(), Fail> {
     for log in &[VERSION_1, VERSION_2] {
         expect_failing_reads(&rt, rt.alloc(), log)?;
     }
@@ -76,7 +76,7 @@ fn expect_cuts<A: Abort>(rt: &A, alloc: Global, log: &Log, words: &str) -> Resul
 }
 
 #[test]
-fn every_cut_into_two_reads(rt: HostRuntime) -> Result<(), Fail> {
+fn each_cut_into_two_reads_is_read_alike(rt: HostRuntime) -> Result<(), Fail> {
     expect_cuts(&rt, rt.alloc(), &VERSION_1, "EC ok 121")?;
     expect_cuts(&rt, rt.alloc(), &VERSION_2, "EBC ok 127")
 }
@@ -114,7 +114,7 @@ fn expect_whole_reads<A: Abort>(
 /// One read returns all 512 bytes, and a second one the end. No contract states that a read asks
 /// for 512 bytes.
 #[test]
-fn reads_take_what_there_is(rt: HostRuntime) -> Result<(), Fail> {
+fn a_read_takes_up_to_512_bytes(rt: HostRuntime) -> Result<(), Fail> {
     expect_whole_reads(&rt, rt.alloc(), 2, " ok 512")?;
     expect_whole_reads(&rt, rt.alloc(), 1, " fault F15 ReadsSpent after 512")
 }

@@ -79,28 +79,28 @@ const BAD_RECORDS: &[Row] = &[
 ];
 
 #[test]
-fn whole_logs(rt: HostRuntime) -> Result<(), Fail> {
+fn whole_logs_are_read(rt: HostRuntime) -> Result<(), Fail> {
     expect(&rt, rt.alloc(), WHOLE)
 }
 
 #[test]
-fn bad_entries(rt: HostRuntime) -> Result<(), Fail> {
+fn a_bad_entry_is_a_fault(rt: HostRuntime) -> Result<(), Fail> {
     expect(&rt, rt.alloc(), BAD_ENTRIES)
 }
 
 #[test]
-fn texts_at_fault(rt: HostRuntime) -> Result<(), Fail> {
+fn a_bad_text_is_a_fault_at_its_byte(rt: HostRuntime) -> Result<(), Fail> {
     expect(&rt, rt.alloc(), BAD_TEXTS)
 }
 
 #[test]
-fn framing_at_fault(rt: HostRuntime) -> Result<(), Fail> {
+fn bad_framing_is_a_fault_at_its_byte(rt: HostRuntime) -> Result<(), Fail> {
     expect(&rt, rt.alloc(), BAD_RECORDS)
 }
 
 /// A log of version 1 has no disconnects, and no header after an entry.
 #[test]
-fn version_1_stays(rt: HostRuntime) -> Result<(), Fail> {
+fn a_log_of_version_1_has_no_break_and_no_later_header(rt: HostRuntime) -> Result<(), Fail> {
     for (more, words) in [
         (b"1\nB", "E fault F16 BadEntry record 2 after 73"),
         (b"1\n2", "E fault F16 BadEntry record 2 after 73"),

@@ -8,6 +8,11 @@ use std::alloc::Global;
 use std::process::Abort;
 use std::test::Fail;
 
+/// Returns the bytes as text, so that a failed comparison prints text.
+fn as_text(bytes: &[u8]) -> Option<&str> {
+    str::from_utf8(bytes).ok()
+}
+
 /// Reads the entries of a valid log.
 fn entries_of(alloc: Global, log: &[u8]) -> Result<Vec<Entry>, Fail> {
     let mut entries = Vec::new(alloc);
@@ -45,7 +50,7 @@ fn expect_written<A: Abort>(
         write_log(alloc, &mut sink, entries.as_slice(), limit_of(limit)?),
         Ok(())
     );
-    assert_eq!(rt; sink.bytes(), written);
+    assert_eq!(rt; as_text(sink.bytes()), as_text(written));
     Ok(())
 }
 
@@ -97,7 +102,7 @@ const TOO_LARGE: &[(&[u8], u32, usize)] = &[
 ];
 
 #[test]
-fn entries_that_fit(rt: HostRuntime) -> Result<(), Fail> {
+fn entries_that_fit_are_written(rt: HostRuntime) -> Result<(), Fail> {
     for (log, limit, written) in WRITTEN {
         expect_written(&rt, rt.alloc(), log, *limit, written)?;
     }
@@ -105,7 +110,7 @@ fn entries_that_fit(rt: HostRuntime) -> Result<(), Fail> {
 }
 
 #[test]
-fn entries_that_are_too_large(rt: HostRuntime) -> Result<(), Fail> {
+fn an_entry_above_the_limit_is_refused(rt: HostRuntime) -> Result<(), Fail> {
     for (log, limit, index) in TOO_LARGE {
         expect_too_large(&rt, rt.alloc(), log, *limit, *index)?;
     }
@@ -113,7 +118,7 @@ fn entries_that_are_too_large(rt: HostRuntime) -> Result<(), Fail> {
 }
 
 #[test]
-fn version_1_becomes_version_2(rt: HostRuntime) -> Result<(), Fail> {
+fn a_log_is_written_in_version_2(rt: HostRuntime) -> Result<(), Fail> {
     let mut expected = Vec::new(rt.alloc());
     expected.extend_from_slice(b"1\n2")?;
     expected.extend_from_slice(SUBSCRIBED)?;
@@ -133,12 +138,12 @@ fn expect_stop<A: Abort>(
     let answer = write_log(alloc, &mut sink, entries.as_slice(), Limit::USUAL);
     let sent = written.len() as u64;
     assert_eq!(rt; answer, Err(SendFault::Write(WriteFault { sent, why })));
-    assert_eq!(rt; sink.bytes(), written);
+    assert_eq!(rt; as_text(sink.bytes()), as_text(written));
     Ok(())
 }
 
 #[test]
-fn every_failing_write(rt: HostRuntime) -> Result<(), Fail> {
+fn a_writer_that_stops_has_the_bytes_before(rt: HostRuntime) -> Result<(), Fail> {
     for count in 0..BROKEN.len() {
         let front = &BROKEN[..count];
         expect_stop(
@@ -174,7 +179,7 @@ fn writes_are_as_few_as_the_writer_allows(rt: HostRuntime) -> Result<(), Fail> {
             write_log(rt.alloc(), &mut sink, entries.as_slice(), Limit::USUAL),
             Ok(())
         );
-        assert_eq!(rt; sink.bytes(), BROKEN);
+        assert_eq!(rt; as_text(sink.bytes()), as_text(BROKEN));
         assert_eq!(rt; sink.counts().calls, *calls);
     }
     Ok(())

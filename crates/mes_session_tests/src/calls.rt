@@ -114,7 +114,7 @@ E {"type":"UPDATE","update":{"status":{"task_id":{"value":"T1"},"state":"TASK_RU
 "#;
 
 #[test]
-fn calls_as_they_are_made(rt: HostRuntime) -> Result<(), Fail> {
+fn a_call_that_is_made_is_the_call_that_may_be_said(rt: HostRuntime) -> Result<(), Fail> {
     for &script in &[
         BEFORE,
         PLAIN,

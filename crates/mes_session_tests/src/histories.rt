@@ -76,7 +76,7 @@ fn histories_are_replayed(rt: HostRuntime) -> Result<(), Fail> {
 }
 
 #[test]
-fn histories_entry_by_entry(rt: HostRuntime) -> Result<(), Fail> {
+fn a_session_follows_its_history_entry_by_entry(rt: HostRuntime) -> Result<(), Fail> {
     for script in [HAND, OWED] {
         expect_script(&rt, script)?;
     }

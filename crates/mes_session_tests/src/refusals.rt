@@ -79,7 +79,7 @@ M {"type":"ACKNOWLEDGE","framework_id":{"value":"F1"},"acknowledge":{"agent_id":
 "#;
 
 #[test]
-fn reasons_in_their_order(rt: HostRuntime) -> Result<(), Fail> {
+fn the_first_reason_refuses_a_call(rt: HostRuntime) -> Result<(), Fail> {
     for script in [REASONS, BROKEN] {
         expect_script(&rt, script)?;
     }

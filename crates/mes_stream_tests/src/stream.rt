@@ -230,7 +230,7 @@ fn with_letters(alloc: Global, front: &[u8], count: usize) -> Result<Vec<u8>, Fa
 }
 
 #[test]
-fn streams_in_every_cut(rt: HostRuntime) -> Result<(), Fail> {
+fn streams_are_read_alike_in_every_cut(rt: HostRuntime) -> Result<(), Fail> {
     for row in STREAMS.lines() {
         expect_row(&rt, row)?;
     }
@@ -241,12 +241,12 @@ fn streams_in_every_cut(rt: HostRuntime) -> Result<(), Fail> {
 
 // A record in one chunk, and the end behind it.
 #[test]
-fn one_chunk_in_every_cut(rt: HostRuntime) -> Result<(), Fail> {
+fn one_chunk_is_read_alike_in_every_cut(rt: HostRuntime) -> Result<(), Fail> {
     expect(&rt, ONE_CHUNK, "HEARTBEAT 27;end 34;")
 }
 
 #[test]
-fn long_trailers_in_every_cut(rt: HostRuntime) -> Result<(), Fail> {
+fn long_trailers_are_refused_in_every_cut(rt: HostRuntime) -> Result<(), Fail> {
     let trailers = with_letters(rt.alloc(), b"0\r\n", 4097)?;
     assert_eq!(rt; trailers.len(), 4100);
     expect(&rt, trailers.as_slice(), "F5 TrailersTooLong 4100;")
@@ -273,7 +273,7 @@ fn expect_bytes<R: Abort>(rt: &R, decoder: &mut Decoder, stream: &[u8]) {
 
 // Its 143 bytes, one by one.
 #[test]
-fn bytes_one_by_one(rt: HostRuntime) {
+fn a_stream_is_read_byte_by_byte(rt: HostRuntime) {
     assert_eq!(rt; HEARTBEAT_BY_BYTES.len(), 143);
     let mut decoder = decoder(rt.alloc());
     expect_bytes(&rt, &mut decoder, HEARTBEAT_BY_BYTES);
@@ -287,7 +287,7 @@ fn expect_two_records<R: Abort>(rt: &R, decoder: &mut Decoder) {
 }
 
 #[test]
-fn a_piece_with_two_records(rt: HostRuntime) {
+fn two_records_of_one_piece_are_two_events(rt: HostRuntime) {
     let mut decoder = decoder(rt.alloc());
     expect_two_records(&rt, &mut decoder);
 }

@@ -109,3 +109,8 @@ pub(crate) fn read_by_bytes(
     let (end, _, used) = read(alloc, framing, &mut source, max_reads);
     (end, used, source.counts().calls)
 }
+
+/// The text of these bytes, so that a failure prints it.
+pub(crate) fn as_text(bytes: &[u8]) -> Option<&str> {
+    str::from_utf8(bytes).ok()
+}

@@ -87,7 +87,7 @@ fn early(alloc: Global, head: &str, stream: &str, bytes: usize) -> Result<String
 
 // Each event whose record has come is shown before the fault.
 #[test]
-fn answers_that_end_early(rt: HostRuntime) -> Result<(), Fail> {
+fn an_answer_that_ends_early_shows_the_events_before(rt: HostRuntime) -> Result<(), Fail> {
     let bytes = bytes_of(rt.alloc(), STREAM)?;
     for cut in 0..bytes.len() {
         let expected = early(rt.alloc(), "H3 BadHead", "F6 EndsInsideChunks", cut)?;
@@ -107,7 +107,7 @@ fn failing(alloc: Global, answer: &[u8], good: usize) -> Result<String, Fail> {
 }
 
 #[test]
-fn readers_that_fail(rt: HostRuntime) -> Result<(), Fail> {
+fn an_answer_whose_reader_fails_shows_the_events_before(rt: HostRuntime) -> Result<(), Fail> {
     let bytes = bytes_of(rt.alloc(), STREAM)?;
     for good in 0..bytes.len() {
         let expected = early(rt.alloc(), "H1 Read", "F14 Read", good)?;
@@ -124,7 +124,7 @@ fn spent(alloc: Global, answer: &[u8], max_reads: u32) -> Result<String, Fail> {
 
 // The reads of the head are not counted.
 #[test]
-fn reads_that_are_spent(rt: HostRuntime) -> Result<(), Fail> {
+fn spent_reads_show_the_events_before(rt: HostRuntime) -> Result<(), Fail> {
     let bytes = bytes_of(rt.alloc(), STREAM)?;
     for reads in 0..BODY {
         let expected = broken(rt.alloc(), "F15 ReadsSpent", reads as usize)?;

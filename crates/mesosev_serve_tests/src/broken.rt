@@ -13,7 +13,7 @@ const HEAD: usize = 141;
 
 // A head that ends early is refused; a body that does is not answered.
 #[test]
-fn requests_that_end_early(rt: HostRuntime) -> Result<(), Fail> {
+fn a_request_that_ends_early_is_refused_or_dropped(rt: HostRuntime) -> Result<(), Fail> {
     let bytes = bytes_of(rt.alloc(), SUBSCRIBE_REQUEST)?;
     for cut in 0..bytes.len() {
         let expected = if cut < HEAD { BAD } else { " => - -~" };
@@ -29,7 +29,7 @@ fn failing(alloc: Global, request: &[u8], good: usize) -> Result<String, Fail> {
 }
 
 #[test]
-fn readers_that_fail(rt: HostRuntime) -> Result<(), Fail> {
+fn a_request_whose_reader_fails_is_dropped(rt: HostRuntime) -> Result<(), Fail> {
     let bytes = bytes_of(rt.alloc(), SUBSCRIBE_REQUEST)?;
     for good in 0..bytes.len() {
         let reported = failing(rt.alloc(), bytes.as_slice(), good)?;
@@ -97,13 +97,13 @@ fn expect_stops<R: Abort + AllocGlobal>(
 }
 
 #[test]
-fn streams_whose_writer_stops(rt: HostRuntime) -> Result<(), Fail> {
+fn a_stream_whose_writer_stops_is_reported(rt: HostRuntime) -> Result<(), Fail> {
     let lines = "200 SUBSCRIBE~net write failed~";
     expect_stops(&rt, SUBSCRIBE_REQUEST, STREAM, lines)
 }
 
 #[test]
-fn a_status_whose_writer_stops(rt: HostRuntime) -> Result<(), Fail> {
+fn a_status_whose_writer_stops_is_reported(rt: HostRuntime) -> Result<(), Fail> {
     let answer = "HTTP/1.1 404 Not Found|Content-Length: 0|Connection: close||";
     expect_stops(&rt, "POST /x HTTP/1.1||", answer, "404 -~net write failed~")
 }
@@ -122,7 +122,7 @@ fn unreported(alloc: Global, stream: &[u8], good: usize, stop: MemoryStop) -> Re
 }
 
 #[test]
-fn outputs_that_stop(rt: HostRuntime) -> Result<(), Fail> {
+fn an_output_that_stops_leaves_the_stream_whole(rt: HostRuntime) -> Result<(), Fail> {
     let stream = bytes_of(rt.alloc(), STREAM)?;
     for good in 0..14 {
         for stop in [MemoryStop::Fails, MemoryStop::TakesNone] {

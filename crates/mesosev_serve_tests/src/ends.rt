@@ -91,7 +91,7 @@ fn unsent(alloc: Global, request: &[u8], good: usize, stop: MemoryStop) -> Resul
 }
 
 #[test]
-fn writers_that_stop(rt: HostRuntime) -> Result<(), Fail> {
+fn a_subscribe_whose_writer_stops_is_reported(rt: HostRuntime) -> Result<(), Fail> {
     let request = bytes_of(rt.alloc(), SUBSCRIBE_REQUEST)?;
     for good in 0..request.len() {
         for stop in [MemoryStop::Fails, MemoryStop::TakesNone] {
@@ -127,7 +127,7 @@ fn large(alloc: Global) -> Result<String, Fail> {
 }
 
 #[test]
-fn a_subscribe_that_is_too_large(rt: HostRuntime) -> Result<(), Fail> {
+fn a_subscribe_that_is_too_large_is_not_written(rt: HostRuntime) -> Result<(), Fail> {
     assert_eq!(rt; large(rt.alloc())?.as_str(), "net write failed~ 1");
     Ok(())
 }
@@ -143,7 +143,7 @@ fn is_cut(alloc: Global, answer: &[u8], lines: &[u8], good: usize) -> Result<boo
 }
 
 #[test]
-fn outputs_that_fail(rt: HostRuntime) -> Result<(), Fail> {
+fn an_output_that_fails_has_the_bytes_before(rt: HostRuntime) -> Result<(), Fail> {
     let answer = bytes_of(rt.alloc(), STREAM)?;
     let lines = bytes_of(rt.alloc(), SHOWN)?;
     for good in 0..lines.len() {
@@ -161,7 +161,7 @@ fn reported(alloc: Global, fault: SendFault) -> Result<String, Fail> {
 }
 
 #[test]
-fn what_did_not_go_out_is_told(rt: HostRuntime) -> Result<(), Fail> {
+fn what_was_not_written_is_reported(rt: HostRuntime) -> Result<(), Fail> {
     let index = 0;
     let why = EncodeFaultKind::TooLarge;
     let unwritable = reported(rt.alloc(), SendFault::Encode { index, why })?;

@@ -75,7 +75,7 @@ fn fault_of_left_out(alloc: Global, text: &str) -> Result<Option<FieldFault>, Fa
 }
 
 #[test]
-fn faults_are_told(rt: HostRuntime) -> Result<(), Fail> {
+fn the_first_fault_of_labels_is_reported(rt: HostRuntime) -> Result<(), Fail> {
     expect_faults::<Labels, HostRuntime>(&rt, FAULTS)
 }
 

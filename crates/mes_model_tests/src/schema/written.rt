@@ -1,6 +1,6 @@
 //! Values written as JSON texts.
 
-use crate::support::expect_text;
+use crate::support::{as_text, expect_text};
 use mes_fixed::{Micros, Thousandths};
 use mes_json::{Json, Text};
 use mes_model_schema::{Kept, Label, Labels, List, Part, push_flag_tree, whole_object};
@@ -39,7 +39,10 @@ fn expect_direct<R: Abort, T: Part>(
     let whole = [b"!".as_slice(), expected.as_bytes()].concat(alloc)?;
     let mut out = Vec::from_slice(alloc, b"!")?;
     let (deep, depth) = write_direct(alloc, value, &mut out)?;
-    assert_eq!(rt; (deep, out.as_slice()), (depth, whole.as_slice()));
+    assert_eq!(rt;
+        (deep, as_text(out.as_slice())),
+        (depth, as_text(whole.as_slice()))
+    );
     Ok(())
 }
 

@@ -172,7 +172,7 @@ const MESSAGE: &str = r#"{"type":"MESSAGE","framework_id":{"value":"F1"}} => mes
 "#;
 
 #[test]
-fn first_faults_are_told(rt: HostRuntime) -> Result<(), Fail> {
+fn the_first_fault_of_a_call_is_reported(rt: HostRuntime) -> Result<(), Fail> {
     expect_faults::<Call, HostRuntime>(&rt, TYPES)?;
     expect_faults::<Call, HostRuntime>(&rt, FRAMEWORKS)?;
     expect_faults::<Call, HostRuntime>(&rt, SUBSCRIBE)?;

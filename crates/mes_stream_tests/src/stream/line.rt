@@ -46,7 +46,7 @@ fn expect_field<R: Abort>(
 }
 
 #[test]
-fn framing_faults(rt: HostRuntime) {
+fn a_framing_fault_has_its_line(rt: HostRuntime) {
     use FrameFault::*;
     expect_framing(&rt, BadChunkLine, "fault F1 BadChunkLine after 5");
     expect_framing(&rt, ChunkLineTooLong, "fault F2 ChunkLineTooLong after 5");
@@ -64,7 +64,7 @@ fn expect_twelve<R: Abort>(rt: &R, fault: Fault, expected: &str) {
 }
 
 #[test]
-fn ends_and_device_faults(rt: HostRuntime) {
+fn an_end_or_a_device_fault_has_its_line(rt: HostRuntime) {
     use Fault::*;
     expect_twelve(&rt, EndsInsideChunks, "fault F6 EndsInsideChunks after 12");
     expect_twelve(&rt, EndsInsideRecord, "fault F10 EndsInsideRecord after 12");
@@ -74,13 +74,13 @@ fn ends_and_device_faults(rt: HostRuntime) {
 }
 
 #[test]
-fn entry_faults(rt: HostRuntime) {
+fn a_bad_entry_has_its_line(rt: HostRuntime) {
     let entry = Fault::BadEntry { at_record: 1 };
     expect_line(&rt, entry, 3, "fault F16 BadEntry record 1 after 3");
 }
 
 #[test]
-fn text_faults(rt: HostRuntime) {
+fn a_text_fault_has_its_line(rt: HostRuntime) {
     let end = "fault F11 Text record 1 byte 0 End after 2";
     expect_text(&rt, 0, TextFaultKind::End, 2, end);
     let depth = "fault F11 Text record 1 byte 128 Depth after 133";
@@ -90,7 +90,7 @@ fn text_faults(rt: HostRuntime) {
 }
 
 #[test]
-fn field_faults(rt: HostRuntime) {
+fn a_field_fault_has_its_line(rt: HostRuntime) {
     let state = Path::new()
         .with(Step::Name("update"))
         .with(Step::Name("status"))
@@ -105,7 +105,7 @@ fn field_faults(rt: HostRuntime) {
 }
 
 #[test]
-fn field_faults_of_elements(rt: HostRuntime) {
+fn a_field_fault_of_an_element_has_its_line(rt: HostRuntime) {
     let listed = Path::new()
         .with(Step::Name("a"))
         .with(Step::Name("b"))
@@ -116,7 +116,7 @@ fn field_faults_of_elements(rt: HostRuntime) {
 }
 
 #[test]
-fn counts(rt: HostRuntime) {
+fn a_count_has_its_line(rt: HostRuntime) {
     let mut line = ArrayString::new();
     count_line(1, 29, &mut line);
     assert_eq!(rt; line.as_str(), "events 1 bytes 29");

@@ -46,7 +46,7 @@ fn expect_two_answers<R: Abort>(rt: &R, plain: &mut Reader) {
 
 // Behind the first record of a piece that has two, an answer comes; the rest of the piece is given again.
 #[test]
-fn each_record_is_answered(rt: HostRuntime) {
+fn a_reader_stops_after_each_record(rt: HostRuntime) {
     let mut plain = reader(rt.alloc(), Framing::Plain);
     expect_two_answers(&rt, &mut plain);
 }

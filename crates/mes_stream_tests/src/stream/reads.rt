@@ -56,7 +56,10 @@ fn streams_end_and_break_at_their_byte(rt: HostRuntime) -> Result<(), Fail> {
 /// The reading was good, and these bytes were taken behind the five of the stream.
 fn expect_report<R: Abort>(rt: &R, end: &Result<Report, Stop>, rest: &[u8]) -> Result<(), Fail> {
     match end {
-        Ok(report) => assert_eq!(rt; (report.used, report.rest.as_slice()), (5, rest)),
+        Ok(report) => assert_eq!(rt;
+            (report.used, as_text(report.rest.as_slice())),
+            (5, as_text(rest))
+        ),
         Err(_) => Err("the stream is whole")?,
     }
     Ok(())
@@ -86,7 +89,7 @@ fn end_of_stream(alloc: Global, source: &mut MemorySource<'_>) -> Result<Report,
 const MORE: &[u8] = b"0\r\n\r\nXYZ";
 
 #[test]
-fn what_is_taken_behind_the_end_is_told(rt: HostRuntime) -> Result<(), Fail> {
+fn bytes_taken_after_the_end_are_returned(rt: HostRuntime) -> Result<(), Fail> {
     let mut source = MemorySource::new(MORE, 512);
     expect_rest(&rt, end_of_events(rt.alloc(), &mut source), b"XYZ")?;
     assert_eq!(rt; source.counts().calls, 1);
@@ -126,7 +129,7 @@ fn read_failing(alloc: Global, good: usize) -> (Came, u64) {
 
 // The device fails behind each number of bytes in turn: those before it are used, and so are the events that ended with them.
 #[test]
-fn each_read_fails_in_turn(rt: HostRuntime) {
+fn a_read_may_fail_after_each_byte(rt: HostRuntime) {
     for good in 0..143 {
         let events = if good >= 136 { 1 } else { 0 };
         let failed = (("F14 Read", events, good as u64), 1);
@@ -235,7 +238,7 @@ fn expect_cuts_of_records<R: Abort + AllocGlobal>(rt: &R, stream: &[u8]) {
 
 // A reader of a stream takes it in two pieces, cut at each place.
 #[test]
-fn pieces_of_either_framing(rt: HostRuntime) {
+fn a_stream_in_two_pieces_is_read_alike(rt: HostRuntime) {
     expect_cuts_of_chunks(&rt, HEARTBEAT_BY_BYTES);
     expect_cuts_of_records(&rt, HEARTBEAT);
 }

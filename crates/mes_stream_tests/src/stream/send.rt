@@ -1,6 +1,6 @@
 //! Worked examples of what is sent: whole, stopped by the writer at each byte, and refused before the first byte.
 
-use crate::support::{HEARTBEAT, HEARTBEAT_BY_BYTES, read_into};
+use crate::support::{HEARTBEAT, HEARTBEAT_BY_BYTES, as_text, read_into};
 use arrayvec::ArrayString;
 use mes_frame::{Counts, Limit, MemorySink, MemorySource, MemoryStop, WriteFault, WriteFaultKind};
 use mes_json::MAX_NESTING;
@@ -95,7 +95,7 @@ fn expect_answer<R: Abort + AllocGlobal>(
     bytes: &[u8],
 ) -> Result<(), Fail> {
     assert_eq!(rt; send(rt.alloc(), sending, sink)?, answer);
-    assert_eq!(rt; sink.bytes(), bytes);
+    assert_eq!(rt; as_text(sink.bytes()), as_text(bytes));
     Ok(())
 }
 
@@ -141,7 +141,7 @@ const BYTES: Sending<'static> = Sending {
 };
 
 #[test]
-fn a_heartbeat_in_chunks_of_one_byte(rt: HostRuntime) -> Result<(), Fail> {
+fn a_heartbeat_is_written_in_chunks_of_one_byte(rt: HostRuntime) -> Result<(), Fail> {
     assert_eq!(rt; HEARTBEAT_BY_BYTES.len(), 143);
     let sink = MemorySink::new(rt.alloc(), 64);
     let _ = expect_sent(&rt, &BYTES, sink, Ok(()), HEARTBEAT_BY_BYTES)?;
@@ -171,7 +171,7 @@ fn expect_fronts<R: Abort + AllocGlobal>(rt: &R, whole: &[u8]) -> Result<(), Fai
 }
 
 #[test]
-fn a_writer_that_fails_after_each_byte(rt: HostRuntime) -> Result<(), Fail> {
+fn a_writer_that_fails_has_the_bytes_before(rt: HostRuntime) -> Result<(), Fail> {
     expect_fronts(&rt, HEARTBEAT_BY_BYTES)
 }
 
@@ -181,7 +181,7 @@ fn takes_none(alloc: Global) -> MemorySink {
 }
 
 #[test]
-fn a_writer_that_takes_none(rt: HostRuntime) -> Result<(), Fail> {
+fn a_writer_that_takes_none_is_reported(rt: HostRuntime) -> Result<(), Fail> {
     let stopped = SendFault::Write(WriteFault {
         sent: 0,
         why: WriteFaultKind::Zero,
@@ -199,7 +199,7 @@ fn a_writer_that_takes_none(rt: HostRuntime) -> Result<(), Fail> {
 
 // The record has 98 bytes of text, the event's canonical text two more.
 #[test]
-fn an_event_that_no_record_can_hold(rt: HostRuntime) -> Result<(), Fail> {
+fn an_event_above_the_limit_is_refused(rt: HostRuntime) -> Result<(), Fail> {
     let limit = Limit::new(98).ok_or("a limit")?;
     let fault = SendFault::Encode {
         index: 0,
@@ -237,7 +237,7 @@ fn deep_records(alloc: Global) -> Result<String, Fail> {
 
 // It is too large for the limit too, which is told of events that aren't too deep.
 #[test]
-fn an_event_that_nests_too_deep(rt: HostRuntime) -> Result<(), Fail> {
+fn an_event_that_nests_too_deep_is_refused(rt: HostRuntime) -> Result<(), Fail> {
     let limit = Limit::new(98).ok_or("a limit")?;
     let records = deep_records(rt.alloc())?;
     let sending = Sending {
@@ -273,14 +273,14 @@ fn expect_three<R: Abort + AllocGlobal>(rt: &R, form: Form, bytes: &[u8]) -> Res
 }
 
 #[test]
-fn several_events(rt: HostRuntime) -> Result<(), Fail> {
+fn several_events_are_written_in_order(rt: HostRuntime) -> Result<(), Fail> {
     expect_three(&rt, Form::Plain, THREE_WRITTEN)?;
     expect_three(&rt, Form::LongChunks, THREE_IN_A_CHUNK)
 }
 
 // The second of three events is the first that 99 bytes can't hold.
 #[test]
-fn the_first_bad_event_is_told(rt: HostRuntime) -> Result<(), Fail> {
+fn the_first_event_without_a_record_is_reported(rt: HostRuntime) -> Result<(), Fail> {
     let limit = Limit::new(99).ok_or("a limit")?;
     let sending = Sending {
         records: THREE,
@@ -309,14 +309,14 @@ fn expect_none<R: Abort + AllocGlobal>(rt: &R, form: Form, bytes: &[u8]) -> Resu
 }
 
 #[test]
-fn no_events(rt: HostRuntime) -> Result<(), Fail> {
+fn no_events_are_an_empty_body(rt: HostRuntime) -> Result<(), Fail> {
     assert_eq!(rt; expect_none(&rt, Form::Plain, b"")?, 0);
     let _ = expect_none(&rt, Form::ByteChunks, b"0\r\n\r\n")?;
     Ok(())
 }
 
 #[test]
-fn faults_are_told(rt: HostRuntime) {
+fn each_fault_has_its_line(rt: HostRuntime) {
     let deep = SendFault::Encode {
         index: 6,
         why: EncodeFaultKind::TooDeep,

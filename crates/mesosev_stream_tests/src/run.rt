@@ -1,6 +1,5 @@
 //! What `check`, `show` and `convert` do over devices in memory that give and take a few bytes at a time, or fail.
 
-use crate::support::heartbeats;
 use mes_frame::{Limit, MemorySink, MemorySource, MemoryStop};
 use mes_stream::Framing;
 use mesosev_stream::{Detail, MAX_READS, RunOutcome, convert, finish, follow};
@@ -10,6 +9,16 @@ use std::test::Fail;
 
 /// A record of 20 bytes, 23 with its size line.
 const HEARTBEAT: &str = "20\n{\"type\":\"HEARTBEAT\"}";
+
+/// `count` of those records.
+fn heartbeats(alloc: Global, count: usize) -> Result<Vec<u8>, Fail> {
+    Ok(HEARTBEAT.as_bytes().repeat(alloc, count)?)
+}
+
+/// The text of these bytes, so that a failure prints it.
+fn as_text(bytes: &[u8]) -> Option<&str> {
+    str::from_utf8(bytes).ok()
+}
 
 /// What `show` prints of it.
 const LINES: &str = "1 HEARTBEAT\nevents 1 bytes 23\n";
@@ -48,7 +57,7 @@ fn expect_printed<R: Abort + AllocGlobal>(
     ended: RunOutcome,
 ) {
     let reported = followed(rt.alloc(), detail, source, out);
-    assert_eq!(rt; (out.bytes(), reported), (lines, ended));
+    assert_eq!(rt; (as_text(out.bytes()), reported), (as_text(lines), ended));
 }
 
 /// The same with a writer that does not stop.
@@ -86,7 +95,7 @@ fn expect_failed_read<R: Abort + AllocGlobal>(rt: &R, detail: Detail, taken: usi
 
 // The reader fails behind each front of the record, and behind all of it.
 #[test]
-fn a_reader_that_fails_is_told(rt: HostRuntime) -> Result<(), Fail> {
+fn a_reader_that_fails_is_reported(rt: HostRuntime) -> Result<(), Fail> {
     for taken in 0..=HEARTBEAT.len() {
         let line = format!(in rt.alloc(); "fault F14 Read after {taken}\n")?;
         expect_failed_read(&rt, Detail::Counts, taken, line.as_str());
@@ -148,8 +157,8 @@ fn expect_spent_by<R: Abort + AllocGlobal>(
     let mut source = MemorySource::new(HEARTBEAT.as_bytes(), 1);
     let ended = followed_by(rt.alloc(), max_reads, &mut source, out);
     assert_eq!(rt;
-        (out.bytes(), ended),
-        (lines.as_bytes(), RunOutcome::Status(1))
+        (as_text(out.bytes()), ended),
+        (Some(lines), RunOutcome::Status(1))
     );
     assert_eq!(rt; source.counts().calls, max_reads as u64);
 }
@@ -162,7 +171,7 @@ fn expect_spent<R: Abort + AllocGlobal>(rt: &R, max_reads: u32, lines: &str) {
 
 // As many reads as allowed were made, and another was needed; the events of those are printed.
 #[test]
-fn spent_reads_are_told(rt: HostRuntime) -> Result<(), Fail> {
+fn spent_reads_are_reported(rt: HostRuntime) -> Result<(), Fail> {
     for max_reads in 0..24 {
         let shown = if max_reads == 23 { "1 HEARTBEAT\n" } else { "" };
         let lines = format!(in rt.alloc(); "{shown}fault F15 ReadsSpent after {max_reads}\n")?;
@@ -237,7 +246,7 @@ fn lines_go_out_by_few_writes(rt: HostRuntime) -> Result<(), Fail> {
 /// Ends a run whose output failed behind 7 bytes, and asserts what this writer is told.
 fn expect_told_by<R: Abort>(rt: &R, closed: bool, err: &mut MemorySink, line: &str) {
     let status = finish(RunOutcome::OutputFailed(7), closed, err);
-    assert_eq!(rt; (err.bytes(), status), (line.as_bytes(), 1));
+    assert_eq!(rt; (as_text(err.bytes()), status), (Some(line), 1));
 }
 
 /// The same with a new writer.
@@ -247,7 +256,7 @@ fn expect_told<R: Abort + AllocGlobal>(rt: &R, closed: bool, line: &str) {
 }
 
 #[test]
-fn an_output_that_failed_is_told(rt: HostRuntime) {
+fn an_output_that_failed_is_reported(rt: HostRuntime) {
     expect_told(&rt, false, "write failed after 7\n");
     expect_told(&rt, true, "");
 }
@@ -275,8 +284,8 @@ fn expect_stopped_by<R: Abort + AllocGlobal>(
     line: &str,
 ) {
     let status = converted(rt.alloc(), out, err);
-    assert_eq!(rt; (out.bytes(), status), (front, 1));
-    assert_eq!(rt; err.bytes(), line.as_bytes());
+    assert_eq!(rt; (as_text(out.bytes()), status), (as_text(front), 1));
+    assert_eq!(rt; as_text(err.bytes()), Some(line));
 }
 
 /// The same with a writer that stops so behind this front of the record.
@@ -298,6 +307,6 @@ fn expect_stops<R: Abort + AllocGlobal>(rt: &R, record: &[u8]) -> Result<(), Fai
 }
 
 #[test]
-fn a_writer_that_stops_is_told(rt: HostRuntime) -> Result<(), Fail> {
+fn a_writer_that_stops_is_reported(rt: HostRuntime) -> Result<(), Fail> {
     expect_stops(&rt, HEARTBEAT.as_bytes())
 }
