@@ -1,5 +1,5 @@
 /*
- * What tests/c_library builds and runs over libmesosev. Input is standard input.
+ * What tests/c_library.py builds and runs over libmesosev. Input is standard input.
  *
  * With a ROOM that is not 0 events are told by mes_decoder_many, with room for so many at a time; else by mes_decoder_next.
  *

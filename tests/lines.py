@@ -1,7 +1,7 @@
 #!/usr/bin/env python3
 """Runs a built mesosev as a user does: words, input, and what it must print on standard output and standard error, and its status.
 
-Usage: lines PROGRAM. Each input is given as a file and through a pipe, a byte at a time. The last line is 'N passed, M failed'.
+Each input is given as a file and through a pipe, a byte at a time. The last line is 'N passed, M failed'.
 """
 import json
 import os
@@ -12,7 +12,9 @@ import subprocess
 import sys
 import tempfile
 
-BEAT = '20\n{"type":"HEARTBEAT"}'
+sys.dont_write_bytecode = True  # Nothing is left beside the scripts.
+from support import BEAT, Cases, chunked, parser, record
+
 # The record of 23 bytes in chunks of 7.
 BY_SEVEN = '7\r\n20\n{"ty\r\n7\r\npe":"HE\r\n7\r\nARTBEAT\r\n2\r\n"}\r\n0\r\n\r\n'
 # The same in chunks of one byte: 143 bytes.
@@ -28,16 +30,6 @@ REVIVE = '48\nC{"type":"REVIVE","framework_id":{"value":"F1"}}'
 # An update whose uuid has 3 bytes, for a task whose name has quotation marks.
 ODD_UPDATE = r'''127
 E{"type":"UPDATE","update":{"status":{"task_id":{"value":"a\"b"},"state":"TASK_LOST","agent_id":{"value":"A1"},"uuid":"AAEC"}}}'''
-
-
-def record(text):
-    return f"{len(text)}\n{text}"
-
-
-def chunked(text, most):
-    """The text as a chunked body of chunks of so many bytes."""
-    pieces = [text[start : start + most] for start in range(0, len(text), most)]
-    return "".join(f"{len(piece):x}\r\n{piece}\r\n" for piece in pieces) + "0\r\n\r\n"
 
 
 def nested(objects):
@@ -391,16 +383,10 @@ PIPE = 65536
 READ_AHEAD = 16384
 
 
-class Tests:
-    def __init__(self, program):
-        self.program, self.passed, self.failed = os.path.abspath(program), 0, 0
-
-    def expect(self, name, wanted, got):
-        if wanted == got:
-            self.passed += 1
-            return
-        self.failed += 1
-        print(f"failed: {name}\n  wanted: {wanted!r}\n  got: {got!r}")
+class Tests(Cases):
+    def __init__(self, program, word):
+        super().__init__(word)
+        self.program = os.path.abspath(program)
 
     def from_file(self, words, text):
         """What the command prints and answers, and how much of the input it has read."""
@@ -494,10 +480,29 @@ class Tests:
             out, err = running.communicate(timeout=60)
             return out.decode(), err.decode(), running.returncode
 
+    def mistaken(self, words, start="error: "):
+        """The same of a mistake, where standard error is compared with how it begins."""
+        out, err, status, read = self.from_file(words, BEAT)
+        return out, err[: len(start)], status, read
+
+    def asked(self, words, part):
+        """The same where a text is asked for, and whether it has this part."""
+        out, *others = self.from_file(words, BEAT)
+        return part in out, *others
+
+    def not_text(self, words):
+        ran = subprocess.run([self.program.encode(), *words], stdin=subprocess.DEVNULL, capture_output=True, timeout=60, check=False)
+        return ran.stdout, ran.stderr, ran.returncode
+
+    def mistake_to_full(self):
+        with open("/dev/full", "wb") as full:
+            ran = subprocess.run([self.program, "chek"], stdin=subprocess.DEVNULL, stdout=subprocess.PIPE, stderr=full, timeout=60, check=False)
+            return ran.stdout, ran.returncode
+
     def stream(self, words, text, wanted):
         name = f"{words}, {text[:60]!r}"
-        self.expect(name, wanted, self.from_file(words, text)[:3])
-        self.expect(f"{name} by bytes", wanted, self.from_pipe(words, text))
+        self.expect_of(name, wanted, lambda: self.from_file(words, text)[:3])
+        self.expect_of(f"{name} by bytes", wanted, self.from_pipe, words, text)
 
     def run(self):
         for words, text, out in GOOD:
@@ -507,59 +512,46 @@ class Tests:
         for words, text, err in TOLD:
             self.stream(words, text, ("", err, 1))
         for words in MISTAKES:
-            out, err, status, read = self.from_file(words, BEAT)
-            self.expect(f"mistake: {words}", ("", True, 2, 0), (out, err.startswith("error: "), status, read))
+            self.expect_of(f"mistake: {words}", ("", "error: ", 2, 0), self.mistaken, words)
         for words, line in BAD_VALUES:
-            self.expect(f"bad value: {words[:60]}", ("", line, 2, 0), self.from_file(words, BEAT))
+            self.expect_of(f"bad value: {words[:60]}", ("", line, 2, 0), self.from_file, words, BEAT)
         for words, part in ASKED:
-            out, err, status, read = self.from_file(words, BEAT)
-            self.expect(f"asked: {words}", (True, "", 0, 0), (part in out, err, status, read))
+            self.expect_of(f"asked: {words}", (True, "", 0, 0), self.asked, words, part)
         for words in NOT_TEXT:
-            ran = subprocess.run([self.program.encode(), *words], stdin=subprocess.DEVNULL, capture_output=True, timeout=60, check=False)
-            self.expect(f"no text: {words}", (b"", b"error: a word is not UTF-8\n", 2), (ran.stdout, ran.stderr, ran.returncode))
+            self.expect_of(f"no text: {words}", (b"", b"error: a word is not UTF-8\n", 2), self.not_text, words)
         for words, wanted in FOLDER:
-            self.expect(f"folder: {words}", wanted, self.from_folder(words))
+            self.expect_of(f"folder: {words}", wanted, self.from_folder, words)
         told = ("write failed after 0\n", 1)
         for words, text in PRINTING + WRITING:
-            self.expect(f"full: {words}", told, self.to_full(words, text))
-            self.expect(f"closed: {words}", told, self.to_closed(words, text))
-        self.expect("check to a pipe that is full", told, self.to_filled("check", BEAT))
-        for words, text in PRINTING:
-            self.expect(f"nobody: {words}", ("", 1), self.to_nobody(words, text)[:2])
-        for words, text in WRITING:
-            self.expect(f"nobody: {words}", told, self.to_nobody(words, text)[:2])
+            self.expect_of(f"full: {words}", told, self.to_full, words, text)
+            self.expect_of(f"closed: {words}", told, self.to_closed, words, text)
+            wanted = told if (words, text) in WRITING else ("", 1)
+            self.expect_of(f"nobody: {words}", wanted, lambda: self.to_nobody(words, text)[:2])
+        self.expect_of("check to a pipe that is full", told, self.to_filled, "check", BEAT)
         # Behind a read whose lines nobody takes there is no other.
-        self.expect("nobody, long", ("", 1, READ_AHEAD), self.to_nobody("show", 10000 * BEAT))
+        self.expect_of("nobody, long", ("", 1, READ_AHEAD), self.to_nobody, "show", 10000 * BEAT)
         self.outputs_fail_behind_some_bytes()
-        with open("/dev/full", "wb") as full:
-            ran = subprocess.run([self.program, "chek"], stdin=subprocess.DEVNULL, stdout=subprocess.PIPE, stderr=full, timeout=60, check=False)
-            self.expect("mistake to full", (b"", 1), (ran.stdout, ran.returncode))
+        self.expect_of("mistake to full", (b"", 1), self.mistake_to_full)
         # A record's event is shown once its last byte was read.
-        self.expect("at once", "1 HEARTBEAT\n2 HEARTBEAT\n", self.at_once("show", BEAT + BEAT + "20\n{"))
+        self.expect_of("at once", "1 HEARTBEAT\n2 HEARTBEAT\n", self.at_once, "show", BEAT + BEAT + "20\n{")
 
     def outputs_fail_behind_some_bytes(self):
         for words, text, lines in LONG:
-            name = f"{words}, {text[:60]!r}"
             for good in (1, 12, len(lines) // 2, len(lines) - 1):
                 wanted = (lines[:good], f"write failed after {good}\n", 1)
                 if good < len(lines):
-                    self.expect(f"{name} to {good} bytes", wanted, self.to_short(words, text, good))
-        for words, text, lines in LONG:
-            if len(lines) <= PIPE:
-                continue
-            out, *told = self.to_slow(words, text)
-            wanted = (True, True, f"write failed after {len(out)}\n", 1)
-            self.expect(f"{words} to a full pipe", wanted, (out == lines[: len(out)], 0 < len(out) < len(lines), *told))
+                    self.expect_of(f"{words}, {text[:60]!r} to {good} bytes", wanted, self.to_short, words, text, good)
+            if len(lines) > PIPE and self.is_chosen(name := f"{words} to a full pipe"):
+                out, *told = self.to_slow(words, text)
+                wanted = (True, True, f"write failed after {len(out)}\n", 1)
+                self.expect(name, wanted, (out == lines[: len(out)], 0 < len(out) < len(lines), *told))
 
 
 def main():
-    if len(sys.argv) != 2:
-        print(__doc__.strip(), file=sys.stderr)
-        return 2
-    tests = Tests(sys.argv[1])
+    arguments = parser(__doc__, "program").parse_args()
+    tests = Tests(arguments.program, arguments.word)
     tests.run()
-    print(f"{tests.passed} passed, {tests.failed} failed")
-    return 1 if tests.failed else 0
+    return tests.end()
 
 
 if __name__ == "__main__":

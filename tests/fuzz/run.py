@@ -1,8 +1,6 @@
 #!/usr/bin/env python3
 """Runs a built mesosev over inputs that are made at random, good ones and spoiled ones, and checks what holds of any input.
 
-Usage: run PROGRAM [--beside OTHER] [--seconds N] [--seed S] [--case N] [--keep]
-
 A seed makes the same inputs in the same order, and they end once the seconds (60) have passed. --case tries the case of that number
 alone. With --beside, OTHER runs each command on the same input too, and must print the same and end with the same status; `serve` is
 left to PROGRAM. What is checked, in turn:
@@ -21,9 +19,9 @@ The first case that fails ends it: it is told with its property, seed, number an
 temporary files, and with --keep to the folder seen beside this script too. Each file there, PROPERTY.KIND.NAME, is tried first, in
 its property as it was then and in all properties of its kind. Of a good input the kind has what is known of it: stream-3 has three
 events, log-3 three entries, and request-KILL is a KILL.
-The last line is 'N passed, M failed', of inputs; the status is 0 where nothing failed.
+With -k only the properties with WORD in their name are looked at. The last line is 'N passed, M failed', of inputs; the status is
+0 if nothing failed.
 """
-import argparse
 import itertools
 import os
 import random
@@ -38,8 +36,10 @@ import time
 from collections import Counter, namedtuple
 
 sys.dont_write_bytecode = True  # Nothing is left beside the scripts.
+sys.path.insert(0, os.path.dirname(os.path.dirname(os.path.abspath(__file__))))
 import heads
 import inputs
+from support import Cases, free_port, parser, read_all
 
 LIMIT = 10
 SEEN = os.path.join(os.path.dirname(os.path.abspath(__file__)), "seen")
@@ -347,25 +347,12 @@ def any_words(program, pick, given):
             expect("loopback of good events", b"net write failed\n", ran.out)
 
 
-def read_all(client):
-    came = b""
-    try:
-        while more := client.recv(65536):
-            came += more
-    except ConnectionResetError:
-        pass  # It has closed with bytes unread.
-    return came
-
-
 class Serving:
     """A `serve` that runs, and what came of each of its connections."""
 
     def __init__(self, program, pick, count):
-        with socket.socket() as free:
-            free.bind(("127.0.0.1", 0))
-            self.port = free.getsockname()[1]
         events = inputs.framed(pick, [(b"", inputs.event(pick)) for _ in range(6)], False)
-        self.pick, self.asked = pick, []
+        self.port, self.pick, self.asked = free_port(), pick, []
         self.running = program.start(["serve", "--port", str(self.port), "--count", str(count)], program.holding(events))
 
     def connect(self):
@@ -509,23 +496,24 @@ def shown_by(given, request):
     return [(data, known.get(data)) for data in ([request] if request is not None else known)]
 
 
-class Fuzz:
+class Fuzz(Cases):
     """The cases, and how many inputs of each property passed and failed."""
 
     def __init__(self, args):
+        super().__init__(args.word)
         self.program = Beside(args.program, args.beside) if args.beside else Program(args.program)
         self.args = args
-        self.passed, self.failed = Counter(), Counter()
+        self.good, self.bad = Counter(), Counter()
 
     def try_one(self, name, draw, given, where):
         """Tries an input; gives what shows a difference, nothing where there is none. What the property chooses is drawn by that text."""
         size = len(given.data) if given.kind == "request" else 1
-        self.passed[name] += size
+        self.good[name] += size
         try:
             PROPERTIES[name][0](self.program, random.Random(draw), given)
         except Exception as difference:  # one that this script did not expect is a difference too
-            self.passed[name] -= 1
-            self.failed[name] += 1
+            self.good[name] -= 1
+            self.bad[name] += 1
             print(f"failed: {name}, {where}: {difference if isinstance(difference, Difference) else repr(difference)}"[:4000], flush=True)
             return shown_by(given, getattr(difference, "data", None))
         return []
@@ -536,14 +524,16 @@ class Fuzz:
             name, given, label = kept_in(file)
             names = dict.fromkeys([name, *(it for it in PROPERTIES if given.kind in PROPERTIES[it][1])])
             draws = [label, *(f"{label} {number}" for number in range(5))]
-            for name, draw in itertools.product(names, draws):
+            for name, draw in itertools.product(filter(self.is_chosen, names), draws):
                 self.try_one(name, draw, given, file)
-                if self.failed:
+                if self.bad:
                     return
 
     def try_case(self, case):
         """The case of a number, which the seed and the number alone make."""
         name, label = ROUND[case % len(ROUND)], f"{self.args.seed}-{case}"
+        if not self.is_chosen(name):
+            return
         pick = random.Random(f"input {label}")
         given = inputs.MAKERS[pick.choice(PROPERTIES[name][1])](pick)
         for number, (data, known) in enumerate(self.try_one(name, label, given, f"seed {self.args.seed} case {case}")):
@@ -565,26 +555,22 @@ class Fuzz:
         self.try_seen()
         until = time.monotonic() + self.args.seconds
         for case in itertools.count():
-            if time.monotonic() >= until or self.failed:
+            if time.monotonic() >= until or self.bad:
                 return
             self.try_case(case)
 
 
 def main():
-    words = argparse.ArgumentParser(description=__doc__, formatter_class=argparse.RawDescriptionHelpFormatter)
-    words.add_argument("program")
-    words.add_argument("--beside")
-    words.add_argument("--seconds", type=float, default=60)
-    words.add_argument("--seed", type=int, default=1)
+    words = parser(__doc__, "program", seconds=60.0, seed=1)
+    words.add_argument("--beside", metavar="OTHER")
     words.add_argument("--case", type=int)
     words.add_argument("--keep", action="store_true")
     fuzz = Fuzz(words.parse_args())
     fuzz.run()
     for name in PROPERTIES:
-        print(f"{name}: {fuzz.passed[name]} passed, {fuzz.failed[name]} failed")
-    passed, failed = fuzz.passed.total(), fuzz.failed.total()
-    print(f"{passed} passed, {failed} failed")
-    return 1 if failed else 0
+        print(f"{name}: {fuzz.good[name]} passed, {fuzz.bad[name]} failed")
+    fuzz.passed, fuzz.failed = fuzz.good.total(), fuzz.bad.total()
+    return fuzz.end()
 
 
 if __name__ == "__main__":

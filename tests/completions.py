@@ -1,7 +1,7 @@
 #!/usr/bin/env python3
 """Compares what the files of completions/ complete with the help texts of a built mesosev: its subcommands, and the options of each.
 
-Usage: completions PROGRAM. bash is asked as a user asks it, and so is fish where it is there. The last line is 'N passed, M failed'.
+bash is asked as a user asks it, and so is fish if it is installed. The last line is 'N passed, M failed'.
 """
 import os
 import re
@@ -10,7 +10,9 @@ import subprocess
 import sys
 import tempfile
 
-TOP = os.path.dirname(os.path.dirname(os.path.abspath(__file__)))
+sys.dont_write_bytecode = True  # Nothing is left beside the scripts.
+from support import TOP, Cases, parser
+
 LIMIT = 60
 FILE = "stream.recordio"
 
@@ -57,11 +59,12 @@ class Fish:
         return listed(re.sub(r"\t.*", "", self.run(["fish", "--no-config", "-c", ASK_FISH, self.file, line])))
 
 
-class Tests:
+class Tests(Cases):
     """A folder with a file, and one where the program is found as mesosev."""
 
-    def __init__(self, folder, program):
-        self.home, self.passed, self.failed = folder, 0, 0
+    def __init__(self, folder, program, word):
+        super().__init__(word)
+        self.home = folder
         self.programs, self.folder = os.path.join(folder, "programs"), os.path.join(folder, "files")
         os.mkdir(self.programs)
         os.mkdir(self.folder)
@@ -76,13 +79,6 @@ class Tests:
         pipes = {"stdin": subprocess.DEVNULL, "stdout": subprocess.PIPE, "stderr": subprocess.STDOUT}
         ran = subprocess.run(words, cwd=self.folder, env=environment, timeout=LIMIT, check=False, **pipes)
         return ran.stdout.decode(errors="backslashreplace")
-
-    def expect(self, name, wanted, got):
-        if wanted == got:
-            self.passed += 1
-            return
-        self.failed += 1
-        print(f"failed: {name}\n  wanted: {wanted!r}\n  got: {got!r}")
 
     def help(self, command):
         """The help text of a subcommand, or with no name of them all."""
@@ -105,42 +101,39 @@ class Tests:
     def compare(self, shell):
         """What a shell completes, beside what the help texts have, in both directions."""
         commands = self.commands()
-        self.expect("the help text has commands", True, len(commands) > 1)
-        words = [word for word in shell.complete("mesosev ") if word[0] != "-"]
-        self.expect(f"{shell.name}: the subcommands", commands, words)
-        self.expect(f"{shell.name}: help", commands, shell.complete("mesosev help "))
-        self.expect(f"{shell.name}: help of one", [], shell.complete("mesosev help check "))
-        self.expect(f"{shell.name}: a part of a name", ["relog", "replay"], shell.complete("mesosev re"))
+        self.expect_of("the help text has commands", True, lambda: len(commands) > 1)
+        self.expect_of(f"{shell.name}: the subcommands", commands, lambda: [word for word in shell.complete("mesosev ") if word[0] != "-"])
+        self.expect_of(f"{shell.name}: help", commands, shell.complete, "mesosev help ")
+        self.expect_of(f"{shell.name}: help of one", [], shell.complete, "mesosev help check ")
+        self.expect_of(f"{shell.name}: a part of a name", ["relog", "replay"], shell.complete, "mesosev re")
         for command in ["", *commands]:
             self.compare_options(shell, command)
         for line in ["check ", "check --chunked ", "serve ", "help "]:
-            self.expect(f"{shell.name}: no file: {line}", False, FILE in shell.complete("mesosev " + line))
+            self.expect_of(f"{shell.name}: no file: {line}", False, lambda: FILE in shell.complete("mesosev " + line))
         for line in ["check <", "check < ", "check --chunked <str", "check --chunked < str"]:
-            self.expect(f"{shell.name}: a file: {line}", [FILE], shell.complete("mesosev " + line))
+            self.expect_of(f"{shell.name}: a file: {line}", [FILE], shell.complete, "mesosev " + line)
 
     def compare_options(self, shell, command):
         line = f"mesosev {command} " if command else "mesosev "
         names, valued = self.options(command)
-        self.expect(f"options of {line.strip()}", command != "help", "--help" in names)
-        self.expect(f"{shell.name}: {line}-", names, shell.complete(line + "-"))
-        self.expect(f"{shell.name}: {line}--", [name for name in names if name[:2] == "--"], shell.complete(line + "--"))
+        self.expect_of(f"options of {line.strip()}", command != "help", lambda: "--help" in names)
+        self.expect_of(f"{shell.name}: {line}-", names, shell.complete, line + "-")
+        self.expect_of(f"{shell.name}: {line}--", [name for name in names if name[:2] == "--"], shell.complete, line + "--")
         for name in valued:
             for start in [" ", "="]:
-                self.expect(f"{shell.name}: {line}{name}{start}", [], shell.complete(line + name + start))
+                self.expect_of(f"{shell.name}: {line}{name}{start}", [], shell.complete, line + name + start)
 
 
 def main():
-    if len(sys.argv) != 2:
-        sys.exit(__doc__)
+    arguments = parser(__doc__, "program").parse_args()
     with tempfile.TemporaryDirectory(prefix="mesosev-completions-") as folder:
-        tests = Tests(folder, os.path.abspath(sys.argv[1]))
+        tests = Tests(folder, os.path.abspath(arguments.program), arguments.word)
         tests.compare(Bash(tests.run))
         if shutil.which("fish"):
             tests.compare(Fish(tests.run))
         else:
-            print("skipped: fish: it is not installed")
-    print(f"{tests.passed} passed, {tests.failed} failed")
-    return 1 if tests.failed else 0
+            tests.skip("fish", "it is not installed")
+    return tests.end()
 
 
 if __name__ == "__main__":

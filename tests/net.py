@@ -1,8 +1,8 @@
 #!/usr/bin/env python3
 """Runs a built mesosev over sockets of this host: serve, subscribe and loopback against clients and servers of its own.
 
-Usage: net PROGRAM. Each wait has a limit of time, and nothing but 127.0.0.1 is reached. curl is tried where it is there. The last
-line is 'N passed, M failed'.
+Each wait has a limit of time, and nothing but 127.0.0.1 is reached. curl is tried if it is installed. A case is a method of
+`Tests`, and -k names it with blanks, as `-k "bad clients"`. The last line is 'N passed, M failed'.
 """
 import os
 import re
@@ -18,8 +18,10 @@ import tempfile
 import threading
 import time
 
+sys.dont_write_bytecode = True  # Nothing is left beside the scripts.
+from support import BEAT, Cases, chunked, free_port, parser, read_all, record
+
 LIMIT = 30
-BEAT = '20\n{"type":"HEARTBEAT"}'
 STREAM = "00000000-0000-4000-8000-%012x"
 FRAMEWORK = '"framework_id":{"value":"F1"}'
 SUBSCRIBED = '100\n{"type":"SUBSCRIBED","subscribed":{%s,"heartbeat_interval_seconds":15.0}}' % FRAMEWORK
@@ -50,10 +52,6 @@ def call(name, body):
     return '{"type":"%s",%s%s}' % (name, FRAMEWORK, "," + body if body else "")
 
 
-def record(text):
-    return f"{len(text)}\n{text}"
-
-
 def request(body, stream=None, method="POST", path="/api/v1/scheduler", length=True):
     """The bytes of a request."""
     head = f"{method} {path} HTTP/1.1\r\nHost: h\r\nContent-Type: application/json\r\n"
@@ -62,29 +60,6 @@ def request(body, stream=None, method="POST", path="/api/v1/scheduler", length=T
     if length:
         head += f"Content-Length: {len(body)}\r\n"
     return (head + "\r\n" + body).encode()
-
-
-def chunked(data, most):
-    pieces = [data[at : at + most] for at in range(0, len(data), most)]
-    return "".join("%x\r\n%s\r\n" % (len(it), it) for it in pieces) + "0\r\n\r\n"
-
-
-def free_port():
-    with socket.socket() as it:
-        it.bind(("127.0.0.1", 0))
-        return it.getsockname()[1]
-
-
-def read_all(client):
-    came = b""
-    while True:
-        try:
-            more = client.recv(65536)
-        except ConnectionResetError:
-            return came
-        if not more:
-            return came
-        came += more
 
 
 def feed(running, data):
@@ -199,16 +174,10 @@ class Answer:
             self.behind = read_all(client)
 
 
-class Tests:
-    def __init__(self, program):
-        self.program, self.passed, self.failed = os.path.abspath(program), 0, 0
-
-    def expect(self, name, wanted, got):
-        if wanted == got:
-            self.passed += 1
-            return
-        self.failed += 1
-        print(f"failed: {name}\n  wanted: {wanted!r}\n  got: {got!r}")
+class Tests(Cases):
+    def __init__(self, program, word):
+        super().__init__(word)
+        self.program = os.path.abspath(program)
 
     def run(self, words, text=""):
         ran = subprocess.run([self.program, *words], input=text.encode(), capture_output=True, timeout=LIMIT, check=False)
@@ -496,7 +465,7 @@ class Tests:
 
     def curl(self):
         if shutil.which("curl") is None:
-            print("skipped: curl: it is not installed")
+            self.skip("curl", "it is not installed")
             return
         serve, lines = Serve(self.program, 6 + 2 * len(CALLS), BEAT), ["400 -", "200 SUBSCRIBE"]
         serve.cut(b"")
@@ -527,20 +496,15 @@ class Tests:
 
 
 def main():
-    if len(sys.argv) != 2:
-        sys.exit(__doc__)
-    tests = Tests(sys.argv[1])
-    for test in [
+    arguments = parser(__doc__, "program").parse_args()
+    tests = Tests(arguments.program, arguments.word)
+    tests.run_chosen(
         tests.calls, tests.requests, tests.large_bodies, tests.cuts, tests.bad_clients, tests.resets, tests.resets_in_the_queue,
         tests.turns, tests.unprintable, tests.streams, tests.unwritable, tests.faults, tests.loopback,
         tests.heads, tests.answers_cut, tests.closed_streams, tests.circle, tests.curl,
-    ]:
-        try:
-            test()
-        except (OSError, subprocess.TimeoutExpired, IndexError, TypeError) as error:
-            tests.expect(test.__name__, "an end", repr(error))
-    print(f"{tests.passed} passed, {tests.failed} failed")
-    return 1 if tests.failed else 0
+        errors=(OSError, subprocess.TimeoutExpired, IndexError, TypeError),
+    )
+    return tests.end()
 
 
 if __name__ == "__main__":

@@ -1,8 +1,9 @@
 #!/usr/bin/env python3
 """Builds the C library by lib/build, and compares what it tells with what a built mesosev prints.
 
-Usage: tests/c_library [PROGRAM]. tests/c_reader.c is built over it and run, under valgrind too, and examples/reader.c, .cc and .go and the
-tests of lib/mesosev.py. What has no compiler, and valgrind where it is not there, is left out. The last line is 'N passed, M failed'.
+tests/c_reader.c is built over it and run, under valgrind too, and examples/reader.c, .cc and .go and the tests of lib/mesosev.py.
+What has no compiler, and valgrind if it is not installed, is left out. A case is one of the methods `symbols`, `readers`,
+`examples`, `pages` and `python`. The last line is 'N passed, M failed'.
 """
 import itertools
 import json
@@ -13,8 +14,10 @@ import subprocess
 import sys
 import tempfile
 
-HERE = os.path.dirname(os.path.abspath(__file__))
-TOP = os.path.dirname(HERE)
+sys.dont_write_bytecode = True  # Nothing is left beside the scripts.
+import support
+from support import TOP, Cases, chunked, parser, record
+
 NAMES = {
     "mes_version",
     "mes_check",
@@ -28,18 +31,9 @@ NAMES = {
 USUAL, MOST = 4_194_304, 67_108_864
 FRAMINGS = {0: [], 1: ["--chunked"]}
 VALGRIND = ["valgrind", "-q", "--error-exitcode=9", "--leak-check=full", "--show-leak-kinds=all", "--errors-for-leak-kinds=all"]
-BEAT = b'20\n{"type":"HEARTBEAT"}'
+BEAT = support.BEAT.encode()
 # An event of which 1,024 records fill a piece of 65,536 bytes.
 MANY, MANY_COUNT = b'{"type":"ERROR","error":{"message":"%s"}}' % (b"x" * 22), 5000
-
-
-def record(text):
-    return b"%d\n%s" % (len(text), text)
-
-
-def chunked(data, most=7):
-    pieces = [data[at : at + most] for at in range(0, len(data), most)]
-    return b"".join(b"%x\r\n%s\r\n" % (len(piece), piece) for piece in pieces) + b"0\r\n\r\n"
 
 
 def example(name):
@@ -54,7 +48,7 @@ STREAMS = {
     "the broken example": (0, USUAL, example("broken.recordio")),
     "nothing": (0, USUAL, b""),
     "no events in chunks": (1, USUAL, b"0\r\n\r\n"),
-    "bytes behind the end": (1, USUAL, chunked(BEAT) + b"HTTP"),
+    "bytes behind the end": (1, USUAL, chunked(BEAT, 7) + b"HTTP"),
     "F1": (1, USUAL, b"x"),
     "F2": (1, USUAL, b"1;" + b" " * 300),
     "F3": (1, USUAL, b"1" * 17),
@@ -63,11 +57,11 @@ STREAMS = {
     "F6": (1, USUAL, b"1\r\n2"),
     "F6 of no bytes": (1, USUAL, b""),
     "F7": (0, USUAL, BEAT + b"-"),
-    "F7 in chunks": (1, USUAL, chunked(BEAT + b"-")),
+    "F7 in chunks": (1, USUAL, chunked(BEAT + b"-", 7)),
     "F8": (0, USUAL, b"0" * 21),
     "F9": (0, 19, BEAT),
     "F10": (0, USUAL, BEAT + BEAT[:-1]),
-    "F10 in chunks": (1, USUAL, chunked(BEAT + BEAT[:-1])),
+    "F10 in chunks": (1, USUAL, chunked(BEAT + BEAT[:-1], 7)),
     "F11": (0, USUAL, BEAT + record(b'{"type":"HEARTBEAT",}')),
     "F11 of no data": (0, USUAL, BEAT + b"0\n"),
     "F11 too deep": (0, USUAL, record(b"[" * 129)),
@@ -90,19 +84,12 @@ BROKEN_CALLS = {
 }
 
 
-class Tests:
-    def __init__(self, program, folder):
+class Tests(Cases):
+    def __init__(self, program, folder, word):
+        super().__init__(word)
         self.program, self.folder = program, folder
         self.prefix = os.path.join(folder, "prefix")
-        self.passed = self.failed = 0
         self.environment = dict(os.environ, PKG_CONFIG_PATH=f"{self.prefix}/lib/pkgconfig", LD_LIBRARY_PATH=f"{self.prefix}/lib")
-
-    def expect(self, name, wanted, got):
-        if wanted == got:
-            self.passed += 1
-        else:
-            self.failed += 1
-            print(f"failed: {name}\n  wanted: {str(wanted)[:400]}\n  got: {str(got)[:400]}")
 
     def run(self, words, data=b""):
         return subprocess.run(words, input=data, stdout=subprocess.PIPE, stderr=subprocess.PIPE, env=self.environment)
@@ -194,7 +181,7 @@ class Tests:
             self.expect(f"without texts, room for {room}{how}", ("events 13 bytes 4250\n", b"0\n" * 13), (ran.stderr.decode(), ran.stdout))
 
     def readers(self):
-        words = [os.environ.get("CC", "cc"), "-std=c11", "-O2", "-g", "-Wall", "-Wextra", f"{HERE}/c_reader.c"]
+        words = [os.environ.get("CC", "cc"), "-std=c11", "-O2", "-g", "-Wall", "-Wextra", f"{TOP}/tests/c_reader.c"]
         static = self.compile("static_reader", [*words, f"-I{self.prefix}/include", f"{self.prefix}/lib/libmesosev.a"])
         shared = self.compile("shared_reader", [*words, *self.flags("--cflags", "--libs")])
         if static:
@@ -261,7 +248,7 @@ class Tests:
     def texts_refused(self, name, path, wanted, data):
         """Each growth refused in turn: an event has an empty line at least, and the stream goes on up to its end or fault F13."""
         library = os.path.join(self.folder, "refuse.so")
-        self.run([os.environ.get("CC", "cc"), "-shared", "-fPIC", "-o", library, f"{HERE}/refuse.c"])
+        self.run([os.environ.get("CC", "cc"), "-shared", "-fPIC", "-o", library, f"{TOP}/tests/refuse.c"])
         empty = 0
         for at in range(1, 120):
             environment = dict(self.environment, LD_PRELOAD=library, REFUSE_AT=str(at))
@@ -309,23 +296,14 @@ def split(texts):
 
 
 def main():
-    if len(sys.argv) > 2:
-        print(__doc__.strip(), file=sys.stderr)
-        return 2
-    program = os.path.abspath(sys.argv[1]) if len(sys.argv) == 2 else f"{TOP}/crates/mesosev/out/mesosev"
-    if not shutil.which(os.environ.get("CC", "cc")):
-        print("0 passed, 0 failed")
-        return 0
+    words = parser(__doc__)
+    words.add_argument("program", nargs="?", default=f"{TOP}/crates/mesosev/out/mesosev")
+    arguments = words.parse_args()
     with tempfile.TemporaryDirectory() as folder:
-        tests = Tests(program, folder)
-        if tests.build():
-            tests.symbols()
-            tests.readers()
-            tests.examples()
-            tests.pages()
-            tests.python()
-    print(f"{tests.passed} passed, {tests.failed} failed")
-    return 1 if tests.failed else 0
+        tests = Tests(os.path.abspath(arguments.program), folder, arguments.word)
+        if shutil.which(os.environ.get("CC", "cc")) and tests.build():
+            tests.run_chosen(tests.symbols, tests.readers, tests.examples, tests.pages, tests.python)
+    return tests.end()
 
 
 if __name__ == "__main__":

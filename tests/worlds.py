@@ -1,13 +1,12 @@
 #!/usr/bin/env python3
 """Compares the worlds that mes_double_worlds prints with a model of a session and a test master, and looks at the laws that hold of them.
 
-Usage: worlds PROGRAM | --try CRATE [--sample N] [--random N]. PROGRAM is mes_double_worlds as it was built: it reads moves as lines (docs/FORMAT.md),
-and is run once. CRATE is its folder: `rt try` compiles it with checks and without a proof, and runs it on some lists at a time. Each list of
-up to four of thirteen moves is made behind each of three beginnings; with --sample N every N-th of them alone. Then come random lists of up
-to 40 moves, 1500 where no number is given. The model is written after the description of the two ends and shares nothing with the program: its session
-keeps a history, and looks up there what is in hand and owed. Each list is one test. The last line is 'N passed, M failed'.
+PROGRAM is mes_double_worlds as it was built: it reads moves as lines (docs/FORMAT.md), and is run once. CRATE is its folder: `rt try` compiles it
+with checks and without a proof, and runs it on some lists at a time. Each list of up to four of thirteen moves is made after each of three
+beginnings, or with --sample N every N-th of them. Then come random lists of up to 40 moves. The model is written after the description of the
+two ends and shares nothing with the program: its session keeps a history, and looks up there what is in hand and owed. Each list is one case,
+and its name is its moves. The last line is 'N passed, M failed'.
 """
-import argparse
 import base64
 import copy
 import json
@@ -19,6 +18,9 @@ import subprocess
 import sys
 import tempfile
 from collections import namedtuple
+
+sys.dont_write_bytecode = True  # Nothing is left beside the scripts.
+from support import Cases, parser
 
 FRAMEWORK = "F1"
 STREAMS = ("1", "2")
@@ -555,8 +557,7 @@ class Run:
     """What the program is given, and what it must print."""
 
     def __init__(self):
-        self.given = []
-        self.wanted = []
+        self.given, self.wanted = [], []
 
     def add(self, moves, world):
         """One list; and the same once all that waits was heard and what may come again has come again."""
@@ -627,19 +628,18 @@ def try_crate(run, crate):
 
 
 def main():
-    words = argparse.ArgumentParser(description=__doc__, formatter_class=argparse.RawDescriptionHelpFormatter)
+    words = parser(__doc__, sample=1, random=1500)
     what = words.add_mutually_exclusive_group(required=True)
     what.add_argument("program", nargs="?")
     what.add_argument("--try", dest="crate")
-    words.add_argument("--sample", type=int, default=1)
-    words.add_argument("--random", type=int, default=1500)
     args = words.parse_args()
-    run = Run()
+    run, cases = Run(), Cases(args.word)
     for moves, world in lists(args.sample, args.random):
-        run.add(moves, world)
-    failed = run_program(run, args.program) if args.program else try_crate(run, args.crate)
-    print(f"{len(run.wanted) - failed} passed, {failed} failed")
-    return 1 if failed else 0
+        if cases.is_chosen("\n".join(it.line for it in moves)):
+            run.add(moves, world)
+    cases.failed = run_program(run, args.program) if args.program else try_crate(run, args.crate)
+    cases.passed = len(run.wanted) - cases.failed
+    return cases.end()
 
 
 if __name__ == "__main__":

@@ -1,12 +1,15 @@
 #!/usr/bin/env python3
 """Gives a built mesosev records as large as the largest limit allows, and looks at the memory that it takes.
 
-Usage: large PROGRAM. The last line is 'N passed, M failed'.
+The last line is 'N passed, M failed'.
 """
 import os
 import subprocess
 import sys
 import tempfile
+
+sys.dont_write_bytecode = True  # Nothing is left beside the scripts.
+from support import Cases, parser
 
 LIMIT = 67_108_864
 # What is resident at most: twice the record, and 4 MiB.
@@ -42,23 +45,20 @@ def run(program, words, event, size):
 
 
 def main():
-    if len(sys.argv) != 2:
-        print(__doc__.strip(), file=sys.stderr)
-        return 2
-    program = os.path.abspath(sys.argv[1])
-    passed = failed = 0
-    words = ["check", "--limit", str(LIMIT)]
-    for name, event in [("message", MESSAGE), ("unknown member", UNKNOWN)]:
-        printed, status, resident = run(program, words, event, LIMIT)
-        good = (printed, status) == (f"events 1 bytes {LIMIT + 9}\n", 0) and resident <= RESIDENT
-        passed, failed = passed + good, failed + (not good)
-        print(f"{'passed' if good else 'failed'}: {name} of {LIMIT} bytes: {printed.strip()}, status {status}, {resident / 2**20:.1f} MiB resident")
-    printed, status, _ = run(program, words, MESSAGE, LIMIT + 1)
-    good = (printed, status) == ("fault F9 RecordTooLarge after 9\n", 1)
-    passed, failed = passed + good, failed + (not good)
-    print(f"{'passed' if good else 'failed'}: one byte more: {printed.strip()}, status {status}")
-    print(f"{passed} passed, {failed} failed")
-    return 1 if failed else 0
+    arguments = parser(__doc__, "program").parse_args()
+    program, tests = os.path.abspath(arguments.program), Cases(arguments.word)
+    cases = [
+        ("message", MESSAGE, LIMIT, (f"events 1 bytes {LIMIT + 9}\n", 0)),
+        ("unknown member", UNKNOWN, LIMIT, (f"events 1 bytes {LIMIT + 9}\n", 0)),
+        ("one byte more", MESSAGE, LIMIT + 1, ("fault F9 RecordTooLarge after 9\n", 1)),
+    ]
+    for name, event, size, wanted in cases:
+        if tests.is_chosen(name):
+            printed, status, resident = run(program, ["check", "--limit", str(LIMIT)], event, size)
+            told = f": {printed.strip()}, status {status}, {resident / 2**20:.1f} MiB resident"
+            print(f"{name}{told}")
+            tests.count(name, (printed, status) == wanted and resident <= RESIDENT, told)
+    return tests.end()
 
 
 if __name__ == "__main__":

@@ -1,14 +1,15 @@
 #!/usr/bin/env python3
 """Runs a built mesosev again and again, and lets each growth of the heap fail in turn, alone and with all behind it.
 
-Usage: no_memory PROGRAM [ANSWERS [WORLDS]]. A run of PROGRAM must end as the one with ample memory does, or tell want of memory (F13) in its last
+A run of PROGRAM must end as the one with ample memory does, or tell want of memory (F13) in its last
 line, with status 1, after some of the same lines. `serve` is asked by a client and `subscribe` answered by a server of this script. ANSWERS
 is a built program that prints the answers of public calls, one in a line: each line must be that of the run with ample memory, or have
 `no memory` where memory was refused, and behind it what the call answered when it was asked again; where the line says behind how many
 bytes that was, these must be as many as the parts before and behind it leave. WORLDS is `mes_double_worlds` as it was built: each list of moves leads to
 the world of the run with ample memory, or of one it says `no memory`. Each growth of an input is refused alone, and of one that
 makes more than 4,000 so many, spread over all of them; with all behind them at most 200, spread likewise. Where any is left out a line says
-how many were refused. Needs a C compiler (cc); without one it says so and tries nothing. The last line is 'N passed, M failed'.
+how many were refused. Needs a C compiler (cc); without one it says so and tries nothing. A case has the name of what is run, as
+"check of some events". The last line is 'N passed, M failed'.
 """
 import concurrent.futures
 import functools
@@ -23,14 +24,17 @@ import tempfile
 import threading
 import time
 
-TOP = os.path.dirname(os.path.dirname(os.path.abspath(__file__)))
+sys.dont_write_bytecode = True  # Nothing is left beside the scripts.
+import support
+from support import TOP, Cases, chunked, parser, read_all, record
+
 # How long a run may take, in seconds.
 LIMIT = 120
 # How many growths of an input are refused alone, and how many with all behind them. Of one that makes more, they are spread over all.
 ALONE_MOST = 4000
 ALL_MOST = 200
 
-HEARTBEAT = b'20\n{"type":"HEARTBEAT"}'
+HEARTBEAT = support.BEAT.encode()
 UPDATE = (
     b'{"type":"UPDATE","update":{"status":{"task_id":{"value":"T1"},"state":"TASK_RUNNING","agent_id":{"value":"A1"},'
     b'"uuid":"AAECAwQFBgcICQoLDA0ODw=="}}}'
@@ -40,15 +44,6 @@ OFFERS = (
     b'"resources":[{"name":"cpus","type":"SCALAR","scalar":{"value":1.5},"role":"*"},'
     b'{"name":"ports","type":"RANGES","ranges":{"range":[{"begin":1,"end":2}]}}]}]}'
 )
-
-
-def record(text):
-    return b"%d\n" % len(text) + text
-
-
-def chunked(body, most):
-    pieces = [body[at : at + most] for at in range(0, len(body), most)]
-    return b"".join(b"%x\r\n%s\r\n" % (len(it), it) for it in pieces) + b"0\r\n\r\n"
 
 
 def offer(number, rest=b""):
@@ -356,19 +351,6 @@ def free_ports():
             except OSError:
                 continue
         yield port
-
-
-def read_all(client):
-    """What comes to a socket until its other end closes it."""
-    came = b""
-    while True:
-        try:
-            more = client.recv(65536)
-        except ConnectionResetError:
-            return came
-        if not more:
-            return came
-        came += more
 
 
 def ask(process, port, call):
@@ -748,43 +730,45 @@ def built_library(room):
     return library
 
 
-def results_of(room, pool, program, answers=None, worlds=None):
-    """What was wrong, by tries."""
-    for case in CASES:
-        yield try_case(program, room, pool, *case)
+def cases_of(room, pool, program, answers=None, worlds=None):
+    """The cases, each as its name and what returns what was wrong."""
+    of = functools.partial
+    for name, words, data in CASES:
+        yield f"{' '.join(words[:2])} of {name}", of(try_case, program, room, pool, name, words, data)
     ports = free_ports()
-    for case in SERVED:
-        yield try_served(program, room, pool, ports, *case)
-    for case in STREAMS.items():
-        yield try_shown(program, room, pool, *case)
-    yield try_spaces(program, room, pool)
-    yield try_run(program, room, pool)
-    yield try_lines(program, room, pool)
-    yield try_replay(program, room, pool, LOG)
-    yield try_replay(program, room, pool, BROKEN_LOG)
-    yield try_sizes(program, room)
+    for name, data, calls in SERVED:
+        yield f"serve of {name}", of(try_served, program, room, pool, ports, name, data, calls)
+    for name, data in STREAMS.items():
+        yield f"subscribe to {name}", of(try_shown, program, room, pool, name, data)
+    yield "check of spaces, by bytes", of(try_spaces, program, room, pool)
+    yield "check of a long text, by bytes", of(try_run, program, room, pool)
+    yield "show of lines, by events", of(try_lines, program, room, pool)
+    yield "replay of a log, by entries", of(try_replay, program, room, pool, LOG)
+    yield "replay of a broken log, by entries", of(try_replay, program, room, pool, BROKEN_LOG)
+    yield "check of sizes", of(try_sizes, program, room)
     if answers:
-        yield try_answers(answers, room, pool)
+        yield "worked examples", of(try_answers, answers, room, pool)
     if worlds:
-        yield try_worlds(worlds, room, pool)
+        yield "lists of moves", of(try_worlds, worlds, room, pool)
 
 
 def main():
-    if len(sys.argv) not in (2, 3, 4):
-        sys.exit(__doc__)
+    words = parser(__doc__, "program")
+    words.add_argument("answers", nargs="?")
+    words.add_argument("worlds", nargs="?")
+    arguments = words.parse_args()
+    tests = Cases(arguments.word)
     if shutil.which("cc") is None:
-        print("skipped: refused growths: there is no C compiler (cc)")
-        print("0 passed, 0 failed")
-        return 0
-    passed = failed = 0
+        tests.skip("refused growths", "there is no C compiler (cc)")
+        return tests.end()
     with tempfile.TemporaryDirectory() as room, concurrent.futures.ThreadPoolExecutor(os.cpu_count()) as pool:
         library = built_library(room)
-        for wrong in results_of(room, pool, *[Program(path, library) for path in sys.argv[1:]]):
-            for it in wrong[:5]:
-                print(f"failed: {it}")
-            passed, failed = passed + (not wrong), failed + bool(wrong)
-    print(f"{passed} passed, {failed} failed")
-    return 1 if failed else 0
+        programs = [Program(it, library) for it in (arguments.program, arguments.answers, arguments.worlds) if it]
+        for name, case in cases_of(room, pool, *programs):
+            if tests.is_chosen(name):
+                wrong = case()
+                tests.count(name, not wrong, "".join(f"\n  {it}" for it in wrong[:5]))
+    return tests.end()
 
 
 if __name__ == "__main__":

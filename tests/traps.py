@@ -1,7 +1,8 @@
 #!/usr/bin/env python3
 """Builds a small program as tools/checked builds mesosev, and has a check of each kind fail: it must end by a trap (SIGILL).
 
-Usage: traps. Without the toolchain it is skipped, with a line that says so. The last line is 'N passed, M failed'.
+Without the toolchain it is skipped, with a line that says so. A case is a kind of check, as `-k shift`. The last line is
+'N passed, M failed'.
 """
 import importlib.machinery
 import importlib.util
@@ -11,7 +12,9 @@ import subprocess
 import sys
 import tempfile
 
-TOP = os.path.dirname(os.path.dirname(os.path.abspath(__file__)))
+sys.dont_write_bytecode = True  # Nothing is left beside the scripts.
+from support import TOP, Cases, parser
+
 KINDS = "index slice sum difference product cast divisor remainder shift unwrap unreachable".split()
 # Five letters after the kind make its check fail, none do not.
 GOOD, BAD = "", "12345"
@@ -103,7 +106,6 @@ fn main(rt: HostRuntime) -> io::Result<()> {
 
 def builder():
     """tools/checked as a module."""
-    sys.dont_write_bytecode = True
     sys.path.insert(0, f"{TOP}/tools")
     loader = importlib.machinery.SourceFileLoader("checked", f"{TOP}/tools/checked")
     module = importlib.util.module_from_spec(importlib.util.spec_from_loader("checked", loader))
@@ -125,25 +127,18 @@ def build(folder):
 
 
 def main():
-    if len(sys.argv) != 1:
-        print(__doc__.strip(), file=sys.stderr)
-        return 2
+    tests = Cases(parser(__doc__).parse_args().word)
     if builder().toolchain.missing():
-        print("skipped: traps: " + builder().toolchain.missing())
-        print("0 passed, 0 failed")
-        return 0
-    passed = failed = 0
+        tests.skip("traps", builder().toolchain.missing())
+        return tests.end()
     with tempfile.TemporaryDirectory(prefix="mesosev-traps-") as folder:
         program = build(folder)
-        rows = [(kind, text) for kind in KINDS for text in (GOOD, BAD)]
-        for kind, text in rows:
-            ran = subprocess.run([program], input=f"{kind} {text}\n", capture_output=True, text=True, check=False)
-            good = ran.returncode == -signal.SIGILL if text == BAD else ran.returncode == 0 and ran.stdout.strip().isdigit()
-            passed, failed = passed + good, failed + (not good)
-            if not good:
-                print(f"failed: {kind} {text}: status {ran.returncode}, {ran.stdout!r}, {ran.stderr!r}")
-    print(f"{passed} passed, {failed} failed")
-    return 1 if failed else 0
+        for kind in filter(tests.is_chosen, KINDS):
+            for text in (GOOD, BAD):
+                ran = subprocess.run([program], input=f"{kind} {text}\n", capture_output=True, text=True, check=False)
+                good = ran.returncode == -signal.SIGILL if text == BAD else ran.returncode == 0 and ran.stdout.strip().isdigit()
+                tests.count(f"{kind} {text}", good, f": status {ran.returncode}, {ran.stdout!r}, {ran.stderr!r}")
+    return tests.end()
 
 
 if __name__ == "__main__":

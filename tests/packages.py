@@ -1,8 +1,8 @@
 #!/usr/bin/env python3
 """Tests ./install and packaging/build: everything that they install works, and is removed without a trace.
 
-Usage: tests/packages [--cache DIR]. The Debian packages are installed in a fresh Debian, which debootstrap makes. DIR caches it for
-later runs; the default is /var/tmp/mesosev-packages. A test that cannot run here prints 'skipped: NAME: why'. The last line is
+The Debian packages are installed in a fresh Debian, which debootstrap makes. The folder CACHE keeps it for later runs. A test that cannot run
+here prints 'skipped: NAME: why'. -k names the functions that `test_all` calls, as `-k "install choice"`. The last line is
 'N passed, M failed'.
 """
 import filecmp
@@ -19,7 +19,9 @@ import tempfile
 import zipfile
 import zlib
 
-TOP = os.path.dirname(os.path.dirname(os.path.abspath(__file__)))
+sys.dont_write_bytecode = True  # Nothing is left beside the scripts.
+from support import TOP, Cases, parser
+
 PROVED, CHECKED, LIBRARY = "crates/mesosev/out/mesosev", "crates/mesosev/out/checked/mesosev", "crates/mesosev_c/out/libmesosev_c.a"
 PROGRAM_FILES = {
     "bin/mesosev",
@@ -90,20 +92,10 @@ TYPES = types_of(STREAM)
 VERSION = re.search(r'^pub const VERSION: &str = "(.*)";$', read(f"{TOP}/crates/mesosev_args/src/args.rt").decode(), re.M)[1]
 
 
-class Tests:
-    def __init__(self, folder, cache):
+class Tests(Cases):
+    def __init__(self, folder, cache, word):
+        super().__init__(word)
         self.folder, self.cache = folder, cache
-        self.passed = self.failed = 0
-
-    def expect(self, name, wanted, got):
-        if wanted == got:
-            self.passed += 1
-        else:
-            self.failed += 1
-            print(f"failed: {name}\n  wanted: {str(wanted)[:1000]}\n  got: {str(got)[:1000]}")
-
-    def skip(self, name, why):
-        print(f"skipped: {name}: {why}")
 
     def run(self, words, data=b"", **environment):
         """Runs a command, and returns its status and its two outputs."""
@@ -198,6 +190,7 @@ def test_full_disk(tests, copy):
     """Checks that a file system with room for only some of the files gets none of them."""
     mount = f"{tests.folder}/small"
     os.mkdir(mount)
+    plant(copy, PROVED, "proved")
     script = 'mount -t tmpfs -o size=24k none "$1" && "$2" --prefix "$1"; echo $?; find "$1" -mindepth 1'
     status, output, error = tests.run(["unshare", "--mount", "sh", "-c", script, "sh", mount, f"{copy}/install"])
     if "unshare" in error or "mount:" in error:
@@ -210,7 +203,7 @@ def test_install_choice(tests, copy):
     """Checks which build ./install takes, where it installs the files, and which files --uninstall leaves."""
     home = f"{tests.folder}/home é"
     prefix = f"{home}/.local"
-    shutil.rmtree(f"{copy}/crates/mesosev/out")
+    shutil.rmtree(f"{copy}/crates/mesosev/out", ignore_errors=True)
     for path, kind in ((CHECKED, "the checked build, which is not proved,"), (PROVED, "the proved build")):
         plant(copy, path, kind)
         status, output, error = tests.run([f"{copy}/install"], HOME=home)
@@ -263,7 +256,7 @@ def test_build_refusals(tests, copy):
     """Runs packaging/build without proved builds, without a tool, and with usage errors."""
     target = f"{tests.folder}/no packages"
     words = [f"{copy}/packaging/build", "--out", target]
-    shutil.rmtree(f"{copy}/crates/mesosev/out")
+    shutil.rmtree(f"{copy}/crates/mesosev/out", ignore_errors=True)
     plant(copy, CHECKED, "checked")
     tests.expect_refused("packages of a checked build", ["(./prove)", "(./prove mesosev_c)"], words, target)
     plant(copy, PROVED, "proved")
@@ -449,14 +442,8 @@ def use_library(debian):
         debian.tests.expect(f"Debian: reader.c, {name}", TYPES, types_of_lines(texts))
 
 
-def test_all(tests):
-    copy = f"{tests.folder}/cöpy of it"
-    shutil.copytree(TOP, copy, symlinks=True, ignore=shutil.ignore_patterns("out", ".git", "__pycache__"))
-    test_install_refusals(tests, copy)
-    test_full_disk(tests, copy)
-    test_install_choice(tests, copy)
-    test_build_refusals(tests, copy)
-    test_install(tests)
+def test_packages(tests):
+    """Builds the packages, and tests each of them."""
     out = build_packages(tests)
     if out:
         debs = sorted(glob.glob(f"{out}/*.deb"))
@@ -466,19 +453,22 @@ def test_all(tests):
         test_debian(tests, debs)
 
 
+def test_all(tests):
+    copy = f"{tests.folder}/cöpy of it"
+    shutil.copytree(TOP, copy, symlinks=True, ignore=shutil.ignore_patterns("out", ".git", "__pycache__"))
+    tests.run_chosen(test_install_refusals, test_full_disk, test_install_choice, test_build_refusals, given=[tests, copy])
+    tests.run_chosen(test_install, test_packages, given=[tests])
+
+
 def main():
-    words = sys.argv[1:]
-    if words and (len(words) != 2 or words[0] != "--cache"):
-        print(__doc__.strip(), file=sys.stderr)
-        return 2
+    arguments = parser(__doc__, cache="/var/tmp/mesosev-packages").parse_args()
     # These would replace the files under test.
     for name in ("DESTDIR", "MESOSEV_LIBRARY", "PYTHONPATH"):
         os.environ.pop(name, None)
     with tempfile.TemporaryDirectory() as folder:
-        tests = Tests(folder, os.path.abspath(words[1]) if words else "/var/tmp/mesosev-packages")
+        tests = Tests(folder, os.path.abspath(arguments.cache), arguments.word)
         test_all(tests)
-    print(f"{tests.passed} passed, {tests.failed} failed")
-    return 1 if tests.failed else 0
+    return tests.end()
 
 
 if __name__ == "__main__":

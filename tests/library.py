@@ -2,15 +2,17 @@
 """Compares the code of docs/LIBRARY.md with crates/mesosev_guide, the program that holds its examples.
 
 Each block of the page that is indented by four spaces is to stand in one file of crates/mesosev_guide/src, as one run of its lines; a line `...`
-alone skips lines of the file. What stands between two lines ``` is of another language, and is not looked at here. Blanks at the ends of lines are not looked at. The last line is 'N passed, M failed', of blocks.
+alone skips lines of the file. What stands between two lines ``` is of another language, and is not looked at here. Blanks at the ends of lines are not looked at.
+A case is a block, and has the name of its first line. The last line is 'N passed, M failed', of blocks.
 """
 import glob
 import os
 import sys
 
-HERE = os.path.dirname(os.path.abspath(__file__))
+sys.dont_write_bytecode = True  # Nothing is left beside the scripts.
+from support import TOP, Cases, parser
+
 PAGE = "docs/LIBRARY.md"
-TOP = HERE if os.path.exists(os.path.join(HERE, PAGE)) else os.path.dirname(HERE)
 SOURCES = "crates/mesosev_guide/src/*.rt"
 INDENT = "    "
 FENCE = "```"
@@ -89,17 +91,15 @@ def fault_of(runs, texts):
 
 
 def main():
-    if len(sys.argv) != 1:
-        print(__doc__.strip(), file=sys.stderr)
-        return 2
+    tests = Cases(parser(__doc__).parse_args().word)
     texts = [lines_of(path) for path in sorted(glob.glob(os.path.join(TOP, SOURCES)))]
     blocks = blocks_of(lines_of(os.path.join(TOP, PAGE)))
-    faults = [fault_of(runs_of(block), texts) for block in blocks] or ["a page without a block"]
-    told = [fault for fault in faults if fault]
-    for fault in told:
-        print(f"failed: {PAGE}: {fault}")
-    print(f"{len(faults) - len(told)} passed, {len(told)} failed")
-    return 1 if told else 0
+    for block in blocks or [[(0, "")]]:
+        name = f"{PAGE}: {block[0][1]}"
+        if tests.is_chosen(name):
+            fault = fault_of(runs_of(block), texts)
+            tests.count(name, fault is None, f": {fault}")
+    return tests.end()
 
 
 if __name__ == "__main__":
