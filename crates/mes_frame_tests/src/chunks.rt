@@ -3,7 +3,7 @@ use crate::support::{as_text, told_end};
 use mes_frame::*;
 use std::alloc::{AllocError, Global};
 
-// The first answer that ends the body, and how many bytes had been taken then.
+// The first result that ends the body, and the number of bytes consumed by then.
 fn first_end(text: &[u8]) -> Option<(usize, ChunkOut)> {
     let mut state = ChunkState::new();
     for (at, byte) in text.iter().enumerate() {
@@ -18,7 +18,7 @@ fn first_end(text: &[u8]) -> Option<(usize, ChunkOut)> {
     None
 }
 
-// The room of the reader behind these bytes.
+// The room of the reader after these bytes.
 fn room_behind(text: &[u8]) -> u64 {
     let mut state = ChunkState::default();
     for byte in text {
@@ -27,7 +27,7 @@ fn room_behind(text: &[u8]) -> u64 {
     state.room()
 }
 
-// Bodies, and the first answer that ends each behind how many bytes had been taken then.
+// Bodies, and what ends each: the bytes consumed by then and the result.
 const ENDS: [(&[u8], &str); 22] = [
     (b"0\r\n\r\n", "5 Closed"),
     (b"000\r\n\r\n", "7 Closed"),
@@ -63,7 +63,7 @@ fn bodies_end_and_break_at_their_byte(rt: HostRuntime) -> Result<(), AllocError>
     Ok(())
 }
 
-// Fronts of bodies, and how many bytes of data come next.
+// Beginnings of bodies, and the number of data bytes that follow.
 const ROOMS: [(&[u8], u64); 5] = [
     (b"14 ;x\r\n", 20),
     (b"aF\t\r\n", 175),
@@ -80,7 +80,8 @@ fn chunks_have_room_for_their_data(rt: HostRuntime) {
     }
 }
 
-// Long bodies in parts, about the limits of lines and trailers; the answer that ends each; and how many bytes of data come next.
+// Long bodies in parts, about the limits of lines and trailers; what ends each; the data bytes that
+// follow.
 const LONG: [(&[&[u8]], &str, u64); 9] = [
     (&[b"1;", &[b'a'; 255]], "257 Fault(ChunkLineTooLong)", 0),
     (&[b"1;", &[b'a'; 254], b"\r\n"], "no end", 1),
@@ -105,7 +106,7 @@ const LONG: [(&[&[u8]], &str, u64); 9] = [
     ),
 ];
 
-// What is told of the answer that ends the body of these parts, and how many bytes of data come next.
+// What ends the body of these parts, as text, and the number of data bytes that follow.
 fn end_and_room(alloc: Global, parts: &[&[u8]]) -> Result<(String, u64), AllocError> {
     let body = parts.concat(alloc)?;
     let room = room_behind(&body);
@@ -121,7 +122,7 @@ fn lines_and_trailers_have_a_limit(rt: HostRuntime) -> Result<(), AllocError> {
     Ok(())
 }
 
-// The answer to each byte.
+// The result of each byte.
 fn steps<const N: usize>(state: &mut ChunkState, bytes: &[u8; N]) -> [ChunkOut; N] {
     let mut outs = [ChunkOut::Quiet; N];
     for (at, byte) in bytes.iter().enumerate() {
@@ -145,7 +146,7 @@ fn an_end_is_returned_again(rt: HostRuntime) {
     );
 }
 
-// A chunk of five bytes, and two chunks' ends: a run of data at once is as many steps.
+// A chunk of five bytes and two chunk ends: one run of data has the effect of its bytes one by one.
 #[test]
 fn data_of_chunks_passes_in_runs(rt: HostRuntime) {
     let mut run = ChunkState::new();
@@ -174,8 +175,8 @@ fn data_of_chunks_passes_in_runs(rt: HostRuntime) {
     );
 }
 
-// Adds the bytes of the body that the pieces hold; tells the answer that ends it and how many bytes had been taken then. Runs of
-// data pass at once.
+// Appends the data of the pieces to `body`, in runs. Returns the result that ends the body, and the
+// number of bytes consumed by then.
 fn read_pieces(
     body: &mut Vec<u8>,
     pieces: [&[u8]; 2],
@@ -220,7 +221,7 @@ const BODIES: [(&[u8], &[u8], &str); 5] = [
     (b"3\r\nabcX", b"abc", "7 Fault(BadChunkEnd)"),
 ];
 
-// Whether the pieces hold just these data, and end so.
+// Returns whether the pieces have exactly these data and this end.
 fn read_as(alloc: Global, pieces: [&[u8]; 2], data: &[u8], end: &str) -> Result<bool, AllocError> {
     let mut body = Vec::new(alloc);
     let ended = read_pieces(&mut body, pieces);

@@ -1,12 +1,13 @@
-//! Readers and writers of std as devices: each call of the device is one call of theirs, whose answer is handed on.
+//! Devices from std readers and writers: each call of the device is one call of the reader or
+//! writer.
 use mes_frame::*;
 use std::io;
 use std::io::{ErrorKind, Read, Write};
 
-/// How many bytes a device moves at most by a call.
+/// The most bytes that a call moves.
 const LARGEST: usize = 100;
 
-/// Gives at most `LARGEST` bytes a call, and is interrupted at one of its calls.
+/// A reader of at most `LARGEST` bytes a call, which is interrupted at one of its calls.
 #[derive(Drop)]
 struct Reader {
     calls: u64,
@@ -25,7 +26,7 @@ impl Read for Reader {
     }
 }
 
-/// Takes at most `LARGEST` bytes a call, and is interrupted at one of its calls.
+/// A writer of at most `LARGEST` bytes a call, which is interrupted at one of its calls.
 #[derive(Drop)]
 struct Writer {
     calls: u64,
@@ -46,7 +47,7 @@ impl Write for Writer {
     }
 }
 
-/// What a device answered: how many bytes, or that it was interrupted.
+/// Returns the bytes moved, or `None` if the call was interrupted.
 fn reported(answer: io::Result<usize>) -> Option<usize> {
     match answer {
         Ok(count) => Some(count),
@@ -60,7 +61,7 @@ fn reported(answer: io::Result<usize>) -> Option<usize> {
     }
 }
 
-/// Four calls, one of which was interrupted.
+/// Four calls, one of them interrupted.
 const FOUR_CALLS: Counts = Counts {
     calls: 4,
     failures: 1,

@@ -1,4 +1,4 @@
-//! Tests of framing by the public calls of `mes_frame`: worked examples of records, chunks, devices and writers.
+//! Tests of framing by the public calls of `mes_frame`: records, chunks, devices and writers.
 #![tactic(auto)]
 
 #[cfg(test)]

@@ -1,9 +1,9 @@
-//! Worked examples of devices over memory and over the readers and writers of std.
+//! Worked examples of devices in memory, and from std readers and writers.
 use crate::support::as_text;
 use mes_frame::*;
 use std::process::Abort;
 
-// How large the buffer of each read is, and how many bytes it gives.
+// The buffer size of each read, and the bytes that it returns.
 const READS: [(usize, usize); 5] = [(4, 3), (1, 1), (0, 0), (4, 1), (4, 0)];
 
 #[test]
@@ -30,7 +30,7 @@ fn a_memory_source_fails_after_the_given_bytes(rt: HostRuntime) {
     assert_eq!(rt; (counts.calls, counts.failures, counts.idle), (3, 2, 0));
 }
 
-// All of these bytes go out by so many calls.
+// Writes all bytes by this number of calls.
 fn expect_whole<R: Abort>(rt: &R, sink: &mut MemorySink, bytes: &[u8], calls: u64) {
     assert_eq!(rt; write_all(sink, bytes), Ok(()));
     assert_eq!(rt; as_text(sink.bytes()), as_text(bytes));
@@ -42,7 +42,7 @@ fn expect_whole<R: Abort>(rt: &R, sink: &mut MemorySink, bytes: &[u8], calls: u6
     assert_eq!(rt; sink.counts(), counts);
 }
 
-// The writer stops behind these of the bytes.
+// The writer stops after these of the bytes.
 fn expect_stop<R: Abort>(
     rt: &R,
     sink: &mut MemorySink,

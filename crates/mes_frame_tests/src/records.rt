@@ -1,9 +1,9 @@
-//! Worked examples of records.
+//! Worked examples of reading records.
 use crate::support::{as_text, told_end};
 use mes_frame::*;
 use std::test::Fail;
 
-// The first answer that ends a record or the stream, and how many bytes had been taken then.
+// The first result that ends a record or the stream, and the number of bytes consumed by then.
 fn first_end(limit: Limit, text: &[u8]) -> Option<(usize, RecordOut)> {
     let mut state = RecordState::new(limit);
     for (at, byte) in text.iter().enumerate() {
@@ -34,7 +34,7 @@ fn a_limit_is_1_byte_to_64_mib(rt: HostRuntime) {
     assert_eq!(rt; Limit::new(1).map_or(0, |limit| limit.get()), 1);
 }
 
-// A limit, bytes, and the first answer that ends a record or the stream behind how many bytes had been taken then.
+// A limit, bytes, and what ends a record or the stream: the bytes consumed by then and the result.
 const ENDS: [(u32, &[u8], &str); 10] = [
     (
         20,

@@ -1,8 +1,8 @@
-//! How bytes, and the end of a record or of a body, are printed.
+//! Bytes, and the end of a record or of a body, as text.
 use std::alloc::{AllocError, Global};
 use std::fmt::Debug;
 
-/// Prints how many bytes had been taken and the result that ended the input, or `no end`.
+/// Prints the number of bytes consumed and the result that ended the input, or `no end`.
 pub(crate) fn told_end<T: Debug + Copy>(
     alloc: Global,
     end: Option<(usize, T)>,
@@ -13,7 +13,7 @@ pub(crate) fn told_end<T: Debug + Copy>(
     }
 }
 
-/// The text of these bytes, so that a failure prints it.
+/// Returns the bytes as text, so that a failed test prints it.
 pub(crate) fn as_text(bytes: &[u8]) -> Option<&str> {
     str::from_utf8(bytes).ok()
 }

@@ -1,4 +1,4 @@
-//! Worked examples of what is written: records and chunked bodies.
+//! Worked examples of writing records and chunked bodies.
 
 ghost use Rattle.std.specs.Prelude.{◌≤◌};
 
@@ -12,7 +12,7 @@ fn stopped(sent: u64, why: WriteFaultKind) -> Result<(), WriteFault> {
     Err(WriteFault { sent, why })
 }
 
-/// The record is answered so, and these bytes go out.
+/// Checks the result of writing a record, and the bytes written.
 fn expect_record<R: Abort>(
     rt: &R,
     mut sink: MemorySink,
@@ -41,7 +41,7 @@ fn records_are_written(rt: HostRuntime) {
     );
 }
 
-/// The body in chunks of this size is answered so, and these bytes go out.
+/// Checks the result of writing a body in chunks of this size, and the bytes written.
 fn expect_body<R: Abort>(
     rt: &R,
     mut sink: MemorySink,
@@ -57,7 +57,7 @@ fn expect_body<R: Abort>(
     assert_eq!(rt; as_text(sink.bytes()), as_text(bytes));
 }
 
-/// That record in chunks of 10 bytes.
+/// The heartbeat in chunks of 10 bytes.
 const CHUNKS: &[u8] = b"a\r\n20\n{\"type\"\r\na\r\n:\"HEARTBEA\r\n3\r\nT\"}\r\n0\r\n\r\n";
 
 #[test]
@@ -104,8 +104,8 @@ fn each_front_of_a_body_is_exact(rt: HostRuntime) {
 
 #[test]
 fn small_chunks_are_gathered(rt: HostRuntime) {
-    // 3,000 chunks of 6 bytes and the last one of 5. Of the buffer's 8,192 bytes 1,365 chunks take 8,190, and the next line has no
-    // room, so it is written twice before its rest of 1,625.
+    // 3,000 chunks of 6 bytes, then the last chunk of 5. The buffer of 8,192 bytes has room for
+    // 1,365 chunks (8,190 bytes). It is written twice, then its rest of 1,625 bytes.
     let body = [b'x'; 3000];
     let mut sink = MemorySink::new(rt.alloc(), usize::MAX);
     assert_eq!(rt; write_chunked(&mut sink, &body, 1), Ok(()));

@@ -1,4 +1,4 @@
-//! Frameworks, what they are able to deal with, and when they want no offers.
+//! Frameworks, capabilities and filters.
 
 use crate::support::{expect_faults, expect_values};
 use mes_model::{Capability, Filters, FrameworkInfo};
@@ -18,7 +18,7 @@ const CAPABILITY_WRITTEN: &str = r#"{} => {}
 {"type":""} => {"type":""}
 "#;
 
-/// Faults of the rows of a framework that must be there.
+/// Faults of the required rows of a framework.
 const REQUIRED: &str = r#"null => . WrongKind
 [] => . WrongKind
 {"name":"n"} => user Missing
@@ -34,7 +34,7 @@ const REQUIRED: &str = r#"null => . WrongKind
 {"id":1,"user":"u"} => name Missing
 "#;
 
-/// Faults of the rows from the identifier to the checkpoint.
+/// Faults of the rows from `id` to `checkpoint`.
 const UP_TO_CHECKPOINT: &str = r#"{"user":"u","name":"n","id":"i"} => id WrongKind
 {"user":"u","name":"n","id":[]} => id WrongKind
 {"user":"u","name":"n","id":{}} => id.value Missing
@@ -61,7 +61,7 @@ const UP_TO_CHECKPOINT: &str = r#"{"user":"u","name":"n","id":"i"} => id WrongKi
 {"checkpoint":null,"user":"u","name":"n","checkpoint":null} => checkpoint Twice
 "#;
 
-/// Faults of the rows from the roles on.
+/// Faults of the rows from `roles` on.
 const FROM_ROLES: &str = r#"{"user":"u","name":"n","roles":"r"} => roles WrongKind
 {"user":"u","name":"n","roles":{}} => roles WrongKind
 {"user":"u","name":"n","roles":[1]} => roles[0] WrongKind
@@ -87,7 +87,7 @@ const FROM_ROLES: &str = r#"{"user":"u","name":"n","roles":"r"} => roles WrongKi
 {"capabilities":null,"user":"u","name":"n","capabilities":null} => capabilities Twice
 "#;
 
-/// Which of several faults comes first.
+/// The order of faults.
 const FIRST: &str = r#"{"capabilities":1,"principal":1,"user":"u","name":"n"} => principal WrongKind
 {"principal":1,"hostname":1,"user":"u","name":"n"} => hostname WrongKind
 {"hostname":1,"roles":1,"user":"u","name":"n"} => roles WrongKind

@@ -1,4 +1,5 @@
-//! Tests of the parts of messages by the public calls of `mes_model` and the crates that it re-exports: worked examples and rows of the formats.
+//! Tests of message parts by the public calls of `mes_model` and the crates that it re-exports:
+//! tables of JSON texts with their results.
 #![tactic(auto)]
 
 #[cfg(test)]

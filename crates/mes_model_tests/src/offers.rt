@@ -4,7 +4,7 @@ use crate::support::{expect_faults, expect_values};
 use mes_model::Offer;
 use std::test::Fail;
 
-/// Faults of the rows that must be there.
+/// Faults of the required rows.
 const REQUIRED: &str = r#"null => . WrongKind
 {"framework_id":{"value":"f"},"agent_id":{"value":"a"},"hostname":"h"} => id Missing
 {"id":null,"framework_id":{"value":"f"},"agent_id":{"value":"a"},"hostname":"h"} => id Missing

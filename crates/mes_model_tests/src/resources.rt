@@ -4,7 +4,7 @@ use crate::support::{expect_faults, expect_values};
 use mes_model::{Attribute, Resource};
 use std::test::Fail;
 
-/// Faults of the name, and which of several comes first.
+/// Faults of the name, and the order of faults.
 const NAMES: &str = r#"[] => . WrongKind
 {"type":"SET","set":{}} => name Missing
 {"name":null,"type":"SET","set":{}} => name Missing
@@ -24,7 +24,7 @@ const TYPES: &str = r#"{"name":"a"} => type Missing
 {"name":"a","type":"set","set":{}} => type UnknownName
 "#;
 
-/// Faults of the member that belongs to the type.
+/// Faults of the member that the type selects.
 const VALUES: &str = r#"{"name":"a","type":"SCALAR","set":{}} => scalar Missing
 {"name":"a","type":"SCALAR","scalar":null} => scalar Missing
 {"name":"a","type":"SCALAR","scalar":1} => scalar WrongKind
@@ -42,7 +42,7 @@ const VALUES: &str = r#"{"name":"a","type":"SCALAR","set":{}} => scalar Missing
 {"name":"a","type":"SET","set":{"item":["a",{}]}} => set.item[1] WrongKind
 "#;
 
-/// Faults of the rows behind a resource's value.
+/// Faults of the rows after the value.
 const ROWS: &str = r#"{"name":"a","type":"SET","set":{},"role":1} => role WrongKind
 {"name":"a","type":"SET","set":{},"role":"a","role":"a"} => role Twice
 {"name":"a","type":"SET","set":{},"allocation_info":"a"} => allocation_info WrongKind
@@ -76,11 +76,11 @@ const TEXTS: &str = r#"{"name":"a","type":"TEXT","set":{}} => text Missing
 {"name":"a","type":"TEXT","text":{"value":null}} => text.value Missing
 "#;
 
-/// A text of an attribute is no value of a resource.
+/// An attribute may be a text, a resource may not.
 const NO_TEXT: &str = r#"{"name":"a","type":"TEXT","text":{"value":"a"}} => type UnknownName
 "#;
 
-/// Values that resources and attributes both have; a value of another type may hold anything, and stand twice.
+/// Values that resources and attributes share. Members of other types are ignored, even duplicates.
 const BOTH_WRITTEN: &str =
     r#"{"scalar":{"value":1.5},"type":"SCALAR","name":"cpus"} => {"name":"cpus","type":"SCALAR","scalar":{"value":1.5}}
 {"name":"ports","type":"RANGES","scalar":1,"scalar":[],"ranges":{"range":[{"begin":1,"end":2}]}} => {"name":"ports","type":"RANGES","ranges":{"range":[{"begin":1,"end":2}]}}

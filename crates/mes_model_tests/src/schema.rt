@@ -1,4 +1,4 @@
-//! Paths, bytes, labels and kept objects, which each message is made of: the texts that they are read from and written as.
+//! What no contract shows: the JSON texts of paths, bytes, labels and retained objects.
 
 mod bytes;
 mod path;

@@ -1,4 +1,4 @@
-//! Statuses of tasks, their states, and what they owe.
+//! Statuses of tasks, their states, and the acknowledgements that they require.
 
 use crate::support::{expect_faults, expect_values, row_of, value_of};
 use mes_model::{OwedKey, Part, TaskState, TaskStatus};
@@ -24,7 +24,7 @@ const STATES: [(TaskState, &str); 14] = [
     (TaskState::Unknown, "TASK_UNKNOWN"),
 ];
 
-/// Names of no state.
+/// Names that no state has.
 const NO_STATES: [&str; 8] = [
     "",
     "RUNNING",
@@ -36,7 +36,7 @@ const NO_STATES: [&str; 8] = [
     "TASK_GONE_BY_OPERATORS",
 ];
 
-/// States as parts.
+/// Faults of a state.
 const STATE_FAULTS: &str = r#"null => . WrongKind
 true => . WrongKind
 3 => . WrongKind
@@ -53,7 +53,7 @@ const STATES_WRITTEN: &str = r#""TASK_STAGING" => "TASK_STAGING"
 "TASK_UNKNOWN" => "TASK_UNKNOWN"
 "#;
 
-/// Faults of the rows that must be there.
+/// Faults of the required rows.
 const REQUIRED: &str = r#"null => . WrongKind
 [] => . WrongKind
 {"state":"TASK_RUNNING"} => task_id Missing
@@ -77,7 +77,7 @@ const REQUIRED: &str = r#"null => . WrongKind
 {"message":1,"state":1,"task_id":1} => task_id WrongKind
 "#;
 
-/// Faults of the rows of texts and of bytes.
+/// Faults of the strings and of the bytes.
 const TEXTS: &str =
     r#"{"task_id":{"value":"t"},"state":"TASK_LOST","message":1} => message WrongKind
 {"task_id":{"value":"t"},"state":"TASK_LOST","message":"m","message":"m"} => message Twice
@@ -156,7 +156,7 @@ const WRITTEN: &str =
 /// The agent, the task and the uuid of a key.
 type Key = (&'static str, &'static str, &'static [u8]);
 
-/// A status, and the key that it owes.
+/// A status, and the key of the acknowledgement that it requires.
 type Owing = (&'static str, Option<Key>);
 
 const OWING: [Owing; 8] = [
@@ -195,12 +195,12 @@ const OWING: [Owing; 8] = [
     ),
 ];
 
-/// Two statuses that owe the same.
+/// Two statuses with the same key.
 const SAME: &str =
     r#"{"task_id":{"value":"t"},"state":"TASK_LOST","agent_id":{"value":"a"},"uuid":"Zm8="} => {"uuid":"Zm8=","agent_id":{"value":"a"},"healthy":true,"state":"TASK_GONE","task_id":{"value":"t"}}
 "#;
 
-/// Two that do not.
+/// Pairs of statuses with different keys.
 const OTHERS_OWED: &str =
     r#"{"task_id":{"value":"t"},"state":"TASK_LOST","agent_id":{"value":"a"},"uuid":"Zm8="} => {"task_id":{"value":"t"},"state":"TASK_LOST","agent_id":{"value":"b"},"uuid":"Zm8="}
 {"task_id":{"value":"t"},"state":"TASK_LOST","agent_id":{"value":"a"},"uuid":"Zm8="} => {"task_id":{"value":"tt"},"state":"TASK_LOST","agent_id":{"value":"a"},"uuid":"Zm8="}
@@ -209,19 +209,16 @@ const OTHERS_OWED: &str =
 {"task_id":{"value":"a"},"state":"TASK_LOST","agent_id":{"value":"t"},"uuid":"Zm8="} => {"task_id":{"value":"t"},"state":"TASK_LOST","agent_id":{"value":"a"},"uuid":"Zm8="}
 "#;
 
-/// The key that the status of a text owes, if it owes one.
 fn owed_key_of(alloc: Global, text: &str) -> Result<Option<OwedKey>, Fail> {
     let status: TaskStatus = value_of(alloc, text)?;
     Ok(status.owed_key(alloc)?)
 }
 
-/// Whether the status of a text owes a key.
 fn owes(alloc: Global, text: &str) -> Result<bool, Fail> {
     let status: TaskStatus = value_of(alloc, text)?;
     Ok(status.owes())
 }
 
-/// The key that the status of a text owes.
 fn key_of(alloc: Global, text: &str) -> Result<OwedKey, Fail> {
     match owed_key_of(alloc, text)? {
         Some(key) => Ok(key),
@@ -229,7 +226,6 @@ fn key_of(alloc: Global, text: &str) -> Result<OwedKey, Fail> {
     }
 }
 
-/// The parts of a key.
 fn parts(key: &OwedKey) -> (&str, &str, &[u8]) {
     (
         key.agent.value.as_str(),
@@ -271,7 +267,7 @@ fn the_first_fault_of_a_status_is_reported(rt: HostRuntime) -> Result<(), Fail> 
     expect_faults::<TaskStatus, HostRuntime>(&rt, OTHERS)
 }
 
-/// A fault lies at most so many steps below a status: that of a label's key.
+/// The deepest fault of a status is four steps below it: that of the key of a label.
 #[test]
 fn a_fault_is_at_most_4_steps_below_a_status(rt: HostRuntime) {
     assert_eq!(rt; <TaskStatus as Part>::STEPS, 4);
@@ -291,28 +287,28 @@ fn a_status_with_a_uuid_and_an_agent_owes_a_key(rt: HostRuntime) -> Result<(), F
     Ok(())
 }
 
-/// The status of the text owes this key.
 fn expect_owed<R: Abort + AllocGlobal>(rt: &R, text: &str, owed: Option<Key>) -> Result<(), Fail> {
     let key = owed_key_of(rt.alloc(), text)?;
     assert_eq!(rt; key.as_ref().map(parts), owed, "{text}");
     Ok(())
 }
 
-/// Whether the key of the first status is the same as that of the second, and the other way round.
+/// Compares the keys of two statuses, in both orders.
 fn are_same(alloc: Global, text: &str, other: &str) -> Result<(bool, bool), Fail> {
     let key = key_of(alloc, text)?;
     let other = key_of(alloc, other)?;
     Ok((key == other, other == key))
 }
 
-/// Whether the key of the status is the same as its copy, part by part.
+/// Returns whether the copy of a key equals the key, as a whole and part by part.
 fn is_copied(alloc: Global, text: &str) -> Result<bool, Fail> {
     let key = key_of(alloc, text)?;
     let copy = key.copy(alloc)?;
     Ok(key == copy && parts(&copy) == parts(&key))
 }
 
-/// The keys of the two statuses of a row are the same, or are not, and the first is the same as its copy.
+/// Checks whether the keys of the two statuses of a row are equal, and that the first equals its
+/// copy.
 fn expect_key<R: Abort + AllocGlobal>(rt: &R, row: &str, same: bool) -> Result<(), Fail> {
     let (text, other) = row_of(row)?;
     let both = are_same(rt.alloc(), text, other)?;
@@ -321,7 +317,6 @@ fn expect_key<R: Abort + AllocGlobal>(rt: &R, row: &str, same: bool) -> Result<(
     Ok(())
 }
 
-/// The same of each row.
 fn expect_keys<R: Abort + AllocGlobal>(rt: &R, rows: &str, same: bool) -> Result<(), Fail> {
     for row in rows.lines() {
         expect_key(rt, row, same)?;

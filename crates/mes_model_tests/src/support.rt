@@ -1,8 +1,8 @@
-//! The rows of tables, and what is expected of the text on one.
+//! Helpers of the tests of message parts.
 //!
-//! A table is a text with a row on each line: `TEXT => PATH WHY` for a text with a fault, `TEXT => WRITTEN` for one that is a value.
-//! A check of a table of literals takes as long as it has rows, and of one text no time. An event or a call that lives on in a
-//! function makes each later step of it dear to check, so the functions that make one are small.
+//! A table is a text with a row on each line: `TEXT => PATH REASON` for a text with a fault, and
+//! `TEXT => CANONICAL` for a valid one. The proof of a test of a table of literals takes time in
+//! proportion to its rows; one text takes none.
 
 ghost use Rattle.std.specs.Prelude.{◌≤◌};
 
@@ -15,19 +15,16 @@ use std::alloc::{AllocGlobal, Global};
 use std::process::Abort;
 use std::test::Fail;
 
-/// The two sides of a row.
 pub(crate) fn row_of(line: &str) -> Result<(&str, &str), Fail> {
     Ok(line.split_once(" => ").ok_or("a row has two sides")?)
 }
 
-/// The text of a tree.
 pub(crate) fn text_of(alloc: Global, tree: &Json) -> Result<Vec<u8>, Fail> {
     let mut out = Vec::new(alloc);
     write_text(tree, &mut out)?;
     Ok(out)
 }
 
-/// The tree is written so.
 pub(crate) fn expect_text<R: Abort>(
     rt: &R,
     alloc: Global,
@@ -39,7 +36,6 @@ pub(crate) fn expect_text<R: Abort>(
     Ok(())
 }
 
-/// The fault of an answer that tells one.
 pub(crate) fn part_fault_of<T: Drop>(answer: Result<T, PartFault>) -> Option<FieldFault> {
     match answer.err()? {
         PartFault::Field(fault) => Some(fault.into_inner()),
@@ -47,7 +43,7 @@ pub(crate) fn part_fault_of<T: Drop>(answer: Result<T, PartFault>) -> Option<Fie
     }
 }
 
-/// The fault is told, with this path and why.
+/// Checks the path and the reason of a fault.
 pub(crate) fn expect_fault<R: Abort>(
     rt: &R,
     text: &str,
@@ -66,7 +62,7 @@ pub(crate) fn expect_fault<R: Abort>(
     Ok(())
 }
 
-/// What a text is read as, from its tape.
+/// Reads a text from its tape.
 pub(crate) fn read<T: Part>(alloc: Global, text: &str) -> Result<Result<T, PartFault>, Fail>
     requires { T.STEPS ≤ MAX_PATH_STEPS }
 {
@@ -74,7 +70,6 @@ pub(crate) fn read<T: Part>(alloc: Global, text: &str) -> Result<Result<T, PartF
     Ok(T::read_from(alloc, &tape.root(), &PathBuilder::new()))
 }
 
-/// The value of a text that is one.
 pub(crate) fn value_of<T: Part>(alloc: Global, text: &str) -> Result<T, Fail>
     requires { T.STEPS ≤ MAX_PATH_STEPS }
 {
@@ -84,14 +79,14 @@ pub(crate) fn value_of<T: Part>(alloc: Global, text: &str) -> Result<T, Fail>
     }
 }
 
-/// The fault of a text that is no value.
+/// Returns the fault of an invalid text, read from its tape.
 pub(crate) fn fault_of<T: Part>(alloc: Global, text: &str) -> Result<Option<FieldFault>, Fail>
     requires { T.STEPS ≤ MAX_PATH_STEPS }
 {
     Ok(part_fault_of(read::<T>(alloc, text)?))
 }
 
-/// The same, read from its tree.
+/// Like [`fault_of`], but from its tree.
 fn fault_of_tree<T: Part>(alloc: Global, text: &str) -> Result<Option<FieldFault>, Fail>
     requires { T.STEPS ≤ MAX_PATH_STEPS }
 {
@@ -99,7 +94,7 @@ fn fault_of_tree<T: Part>(alloc: Global, text: &str) -> Result<Option<FieldFault
     Ok(part_fault_of(T::read(alloc, &tree, &Path::new())))
 }
 
-/// Each text has its first fault there, read from its tape and from its tree.
+/// Checks the first fault of each text, read from its tape and from its tree.
 pub(crate) fn expect_faults<T: Part, R: Abort + AllocGlobal>(
     rt: &R,
     faults: &str,
@@ -114,7 +109,6 @@ pub(crate) fn expect_faults<T: Part, R: Abort + AllocGlobal>(
     Ok(())
 }
 
-/// The value, written and read again.
 pub(crate) fn again<T: Part>(alloc: Global, value: &T) -> Result<T, Fail>
     requires { T.STEPS ≤ MAX_PATH_STEPS }
 {
@@ -124,7 +118,6 @@ pub(crate) fn again<T: Part>(alloc: Global, value: &T) -> Result<T, Fail>
     }
 }
 
-/// The copy of the value of a text.
 fn copy_of<T: Part>(alloc: Global, text: &str) -> Result<T, Fail>
     requires { T.STEPS ≤ MAX_PATH_STEPS }
 {
@@ -132,20 +125,18 @@ fn copy_of<T: Part>(alloc: Global, text: &str) -> Result<T, Fail>
     Ok(value.copy(alloc)?)
 }
 
-/// The text of the value's tree.
 fn text_of_tree<T: Part>(alloc: Global, value: &T) -> Result<Vec<u8>, Fail> {
     let tree = value.tree(alloc)?;
     text_of(alloc, &tree)
 }
 
-/// The text of the value, written without a tree.
 fn text_without_tree<T: Part>(alloc: Global, value: &T) -> Result<Vec<u8>, Fail> {
     let mut out = Vec::new(alloc);
     value.write_json(alloc, &mut out)?;
     Ok(out)
 }
 
-/// Each text is a value, and its copy is written so.
+/// Checks each row: the copy of the value has the canonical text.
 pub(crate) fn expect_values<T: Part, R: Abort + AllocGlobal>(
     rt: &R,
     values: &str,
@@ -159,7 +150,7 @@ pub(crate) fn expect_values<T: Part, R: Abort + AllocGlobal>(
     Ok(())
 }
 
-/// The value of the text is written so, by its tree and without one.
+/// Checks the text of a value, written from its tree and directly.
 fn expect_written<T: Part, R: Abort + AllocGlobal>(
     rt: &R,
     text: &str,
@@ -173,7 +164,7 @@ fn expect_written<T: Part, R: Abort + AllocGlobal>(
     Ok(())
 }
 
-/// The text of these bytes, so that a failure prints it.
+/// Returns the bytes as text, so that a failed test prints it.
 pub(crate) fn as_text(bytes: &[u8]) -> Option<&str> {
     str::from_utf8(bytes).ok()
 }

@@ -4,7 +4,7 @@ use crate::support::{expect_faults, expect_values};
 use mes_model::{Allocation, Id, Range, Ranges, Reservation, Scalar, Set, TextValue};
 use std::test::Fail;
 
-/// Faults of one required text, `value`.
+/// Faults of a message with one required string, `value`.
 const ONE_TEXT: &str = r#"[] => . WrongKind
 null => . WrongKind
 {} => value Missing

@@ -1,4 +1,4 @@
-//! Calls: what is written of each, its first fault, and what has no text that a record can hold.
+//! Calls: the canonical text of each, and calls without one that fits in a record.
 
 mod faults;
 
@@ -11,7 +11,7 @@ use mes_msg::{Accept, Call, EncodeFault, Limit, Operation};
 use std::alloc::Global;
 use std::test::Fail;
 
-/// Texts that are what their calls are written as.
+/// Canonical texts of calls.
 const OWN: &str =
     r#"{"type":"ACKNOWLEDGE","framework_id":{"value":"F1"},"acknowledge":{"agent_id":{"value":"A1"},"task_id":{"value":"T1"},"uuid":"AAECAwQFBgcICQoLDA0ODw=="}}
 {"type":"REVIVE","framework_id":{"value":"F1"}}
@@ -35,7 +35,7 @@ const OWN: &str =
 {"type":"TEARDOWN","framework_id":{"value":"\u0001\"\\é"}}
 "#;
 
-/// Texts with members that are null, unknown or in another order, and what their calls are written as.
+/// Texts with null, unknown or reordered members, and the canonical texts.
 const LOOSE: &str =
     r#"{"type":"\u0052EVIVE","framework_\u0069d":{"value":"F1"}} => {"type":"REVIVE","framework_id":{"value":"F1"}}
 {"type":"REVIVE","framework_id":{"value":"F1"},"revive":null} => {"type":"REVIVE","framework_id":{"value":"F1"}}
@@ -70,13 +70,13 @@ fn other_bytes_are_no_text(rt: HostRuntime) {
     assert_eq!(rt; text_fault_of(answer), Some((17, TextFaultKind::Byte)));
 }
 
-/// The text of the smallest call.
+/// The smallest call.
 const REVIVE: &str = r#"{"type":"REVIVE","framework_id":{"value":"F1"}}"#;
 
-/// The text of the next longer one.
+/// The next larger call.
 const SUPPRESS: &str = r#"{"type":"SUPPRESS","framework_id":{"value":"F1"}}"#;
 
-// The limit of a record is that of the whole text: 47 bytes are enough, and 46 are not.
+// The limit is that of the whole record: 47 bytes are enough, 46 are not.
 #[test]
 fn a_call_fits_a_limit_of_its_length(rt: HostRuntime) -> Result<(), Fail> {
     assert_eq!(rt; REVIVE.len(), 47);
@@ -85,7 +85,6 @@ fn a_call_fits_a_limit_of_its_length(rt: HostRuntime) -> Result<(), Fail> {
     expect_record::<Call, HostRuntime>(&rt, SUPPRESS, SUPPRESS)
 }
 
-/// The task of a text that is one.
 fn task_of(alloc: Global, text: &[u8]) -> Result<TaskInfo, Fail> {
     let tape = read_tape(alloc, text)?;
     match TaskInfo::read_from(alloc, &tape.root(), &PathBuilder::new()) {
@@ -94,7 +93,7 @@ fn task_of(alloc: Global, text: &[u8]) -> Result<TaskInfo, Fail> {
     }
 }
 
-/// A task whose executor is so many objects inside each other.
+/// Returns a task whose executor has this number of nested objects.
 fn deep_task(alloc: Global, objects: usize) -> Result<TaskInfo, Fail> {
     let text = nested(
         alloc,
@@ -105,21 +104,18 @@ fn deep_task(alloc: Global, objects: usize) -> Result<TaskInfo, Fail> {
     task_of(alloc, text.as_slice())
 }
 
-/// A list of one value.
 fn list_of_one<T: Drop>(alloc: Global, value: T) -> Result<List<T>, Fail> {
     let mut values = Vec::new(alloc);
     values.push(value)?;
     Ok(List::new(values))
 }
 
-/// The operation that launches it.
 fn deep_launch(alloc: Global, objects: usize) -> Result<Operation, Fail> {
     Ok(Operation::Launch {
         task_infos: list_of_one(alloc, deep_task(alloc, objects)?)?,
     })
 }
 
-/// What accepts by that operation.
 fn deep_accept(alloc: Global, objects: usize) -> Result<Accept, Fail> {
     let operations = list_of_one(alloc, deep_launch(alloc, objects)?)?;
     Ok(Accept {
@@ -129,7 +125,6 @@ fn deep_accept(alloc: Global, objects: usize) -> Result<Accept, Fail> {
     })
 }
 
-/// An ACCEPT of it.
 fn deep_call(alloc: Global, objects: usize) -> Result<Call, Fail> {
     Ok(Call::Accept {
         framework_id: Id {
@@ -139,13 +134,11 @@ fn deep_call(alloc: Global, objects: usize) -> Result<Call, Fail> {
     })
 }
 
-/// Whether the canonical text of the record is one of its type again.
 fn is_read_again<T: Record>(alloc: Global, record: T) -> Result<bool, Fail> {
     let text = canon(&record, alloc, Limit::LARGEST)?;
     Ok(T::of_text(alloc, text.as_slice()).is_ok())
 }
 
-/// Whether the record nests deeper than a text may.
 fn is_too_deep<T: Record>(alloc: Global, record: T) -> bool {
     matches!(
         record.canonical(alloc, Limit::LARGEST),
@@ -153,7 +146,7 @@ fn is_too_deep<T: Record>(alloc: Global, record: T) -> bool {
     )
 }
 
-// The executor stands inside seven objects and arrays.
+// The executor is inside seven objects and arrays.
 #[test]
 fn calls_nest_to_the_limit(rt: HostRuntime) -> Result<(), Fail> {
     let alloc = rt.alloc();

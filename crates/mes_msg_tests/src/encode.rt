@@ -1,4 +1,4 @@
-//! Events that have no canonical text, and the names of other events.
+//! Events without a canonical text, and the names of other events.
 
 use crate::record::{nested, record_of, refused, rewritten};
 use mes_json::{MAX_NESTING, Text};
@@ -7,10 +7,11 @@ use mes_msg::{EncodeFault, Event, Limit, OtherName};
 use std::alloc::Global;
 use std::test::Fail;
 
-/// The most objects inside each other that a `disk` of an OFFERS may be, as it is written: six objects and arrays stand around it.
+/// The most nested objects of a `disk` in a written OFFERS, where it is inside six objects and
+/// arrays.
 const MOST_OBJECTS: usize = MAX_NESTING - 6;
 
-/// An OFFERS in the form of the bare array, with one offer whose resource has a `disk` of so many objects inside each other.
+/// Returns an OFFERS in the bare-array form, with a `disk` of this number of nested objects.
 fn deep_offers(alloc: Global, objects: usize) -> Result<Vec<u8>, Fail> {
     nested(
         alloc,
@@ -20,12 +21,11 @@ fn deep_offers(alloc: Global, objects: usize) -> Result<Vec<u8>, Fail> {
     )
 }
 
-/// Why that event has no canonical text within the limit, if it has none.
 fn refused_deep(alloc: Global, objects: usize, limit: Limit) -> Result<Option<EncodeFault>, Fail> {
     refused::<Event>(alloc, deep_offers(alloc, objects)?.as_slice(), limit)
 }
 
-// In the text, five objects and arrays stand around `disk`, so that it is read; the body that is written is an object, one more.
+// In the text `disk` is inside five objects and arrays, so it is read. Written, it is inside six.
 #[test]
 fn deep_events_are_refused(rt: HostRuntime) -> Result<(), Fail> {
     let smallest = Limit::new(1).ok_or("a limit")?;
@@ -36,7 +36,7 @@ fn deep_events_are_refused(rt: HostRuntime) -> Result<(), Fail> {
     Ok(())
 }
 
-// What is written nests to the limit, and has 11 bytes more than the text: `{"offers":` and `}`.
+// The written text nests to the limit, and is longer by 11 bytes: `{"offers":` and `}`.
 #[test]
 fn events_nest_to_the_limit(rt: HostRuntime) -> Result<(), Fail> {
     let text = deep_offers(rt.alloc(), MOST_OBJECTS)?;
@@ -96,7 +96,7 @@ const OTHER: [&str; 6] = [
     "OFFERS ",
 ];
 
-/// Whether the name is handed back, since it is known.
+/// Returns whether the name is returned as the error, because it is known.
 fn is_handed_back(alloc: Global, name: &str) -> Result<bool, Fail> {
     let text = Text::new(String::from_str(alloc, name)?);
     match OtherName::new(text) {
@@ -105,7 +105,7 @@ fn is_handed_back(alloc: Global, name: &str) -> Result<bool, Fail> {
     }
 }
 
-/// Whether the name is that of another event, and so is its copy.
+/// Returns whether the name is that of another event, and so is its copy.
 fn is_other(alloc: Global, name: &str) -> Result<bool, Fail> {
     let text = Text::new(String::from_str(alloc, name)?);
     match OtherName::new(text) {

@@ -1,4 +1,4 @@
-//! Texts of no event, each with the place and the reason of its first fault.
+//! Invalid events, each with the path and the reason of its first fault.
 
 use crate::record::expect_faults;
 use crate::support::{field_fault_of, text_fault_of};
@@ -7,7 +7,7 @@ use mes_model_schema::FieldFaultKind;
 use mes_msg::Event;
 use std::test::Fail;
 
-/// Faults of the member `type`, and of what is no object.
+/// Faults of the member `type`, and values that are no objects.
 const TYPES: &str = r#"null => . WrongKind
 true => . WrongKind
 1 => . WrongKind
@@ -24,7 +24,6 @@ true => . WrongKind
 {"offers":1,"error":{}} => type Missing
 "#;
 
-/// Faults of SUBSCRIBED.
 const SUBSCRIBED: &str = r#"{"type":"SUBSCRIBED"} => subscribed Missing
 {"type":"SUBSCRIBED","subscribed":null} => subscribed Missing
 {"type":"SUBSCRIBED","subscribed":"m"} => subscribed WrongKind
@@ -45,7 +44,6 @@ const SUBSCRIBED: &str = r#"{"type":"SUBSCRIBED"} => subscribed Missing
 {"type":"SUBSCRIBED","subscribed":{"heartbeat_interval_seconds":-1}} => subscribed.framework_id Missing
 "#;
 
-/// Faults of OFFERS.
 const OFFERS: &str = r#"{"type":"OFFERS"} => offers Missing
 {"type":"OFFERS","offers":null} => offers Missing
 {"type":"OFFERS","offers":"m"} => offers WrongKind
@@ -67,7 +65,6 @@ const OFFERS: &str = r#"{"type":"OFFERS"} => offers Missing
 {"type":"OFFERS","offers":{"offers":[{"id":{"value":"O1"},"framework_id":{"value":"F1"},"agent_id":{"value":"A1"},"hostname":"h","resources":[{"name":"a","type":"SET","set":{},"reservations":[{"labels":{"labels":[{}]}}]}]}]}} => offers.offers[0].resources[0].reservations[0].labels.labels[0].key Missing
 "#;
 
-/// Faults of RESCIND.
 const RESCIND: &str = r#"{"type":"RESCIND"} => rescind Missing
 {"type":"RESCIND","rescind":null} => rescind Missing
 {"type":"RESCIND","rescind":"m"} => rescind WrongKind
@@ -81,7 +78,6 @@ const RESCIND: &str = r#"{"type":"RESCIND"} => rescind Missing
 {"type":"RESCIND","rescind":{"offer_id":{"value":null}}} => rescind.offer_id.value Missing
 "#;
 
-/// Faults of UPDATE.
 const UPDATE: &str = r#"{"type":"UPDATE"} => update Missing
 {"type":"UPDATE","update":{"status":{"task_id":{"value":"T1"},"state":"TASK_UNREACHABLE","labels":[],"unreachable_time":{"nanoseconds":1}}}} => update.status.labels WrongKind
 {"type":"UPDATE","update":{"status":{"task_id":{"value":"T1"},"state":"TASK_UNREACHABLE","labels":{"labels":[{"key":"k"}]},"unreachable_time":{}}}} => update.status.unreachable_time.nanoseconds Missing
@@ -104,7 +100,6 @@ const UPDATE: &str = r#"{"type":"UPDATE"} => update Missing
 {"type":"UPDATE","update":{"status":{"task_id":{"value":"T1"},"state":"TASK_RUNNING","healthy":0}}} => update.status.healthy WrongKind
 "#;
 
-/// Faults of MESSAGE.
 const MESSAGE: &str = r#"{"type":"MESSAGE"} => message Missing
 {"type":"MESSAGE","message":null} => message Missing
 {"type":"MESSAGE","message":"m"} => message WrongKind
@@ -131,7 +126,6 @@ const MESSAGE: &str = r#"{"type":"MESSAGE"} => message Missing
 {"type":"MESSAGE","message":{"data":"Zg","executor_id":7}} => message.agent_id Missing
 "#;
 
-/// Faults of FAILURE.
 const FAILURE: &str = r#"{"type":"FAILURE"} => failure Missing
 {"type":"FAILURE","failure":null} => failure Missing
 {"type":"FAILURE","failure":"m"} => failure WrongKind
@@ -153,7 +147,6 @@ const FAILURE: &str = r#"{"type":"FAILURE"} => failure Missing
 {"type":"FAILURE","failure":{"status":1.5,"executor_id":7}} => failure.executor_id WrongKind
 "#;
 
-/// Faults of ERROR.
 const ERROR: &str = r#"{"type":"ERROR"} => error Missing
 {"type":"ERROR","error":null} => error Missing
 {"type":"ERROR","error":"m"} => error WrongKind
@@ -179,7 +172,7 @@ fn the_first_fault_of_an_event_is_reported(rt: HostRuntime) -> Result<(), Fail> 
     expect_faults::<Event, HostRuntime>(&rt, ERROR)
 }
 
-/// Bytes that are no JSON text, the place and the reason.
+/// Bytes that are no JSON text, with the offset and the reason.
 const NO_TEXTS: [(&str, u64, TextFaultKind); 5] = [
     ("", 0, TextFaultKind::End),
     (r#"{"type":"HEARTBEAT""#, 19, TextFaultKind::End),
@@ -196,7 +189,7 @@ fn other_bytes_are_no_text(rt: HostRuntime) {
     }
 }
 
-// Arrays as deep as the limit are a text, of no event.
+// Arrays nested to the limit are a JSON text, but no event.
 #[test]
 fn arrays_are_no_event(rt: HostRuntime) -> Result<(), Fail> {
     let mut text = Vec::new(rt.alloc());
@@ -210,7 +203,7 @@ fn arrays_are_no_event(rt: HostRuntime) -> Result<(), Fail> {
     Ok(())
 }
 
-// Deeper ones are none.
+// Deeper arrays are no JSON text.
 #[test]
 fn deeper_arrays_are_no_text(rt: HostRuntime) {
     let answer = Event::read_record(rt.alloc(), &[b'['; MAX_NESTING + 1]);

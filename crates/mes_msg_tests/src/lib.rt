@@ -1,4 +1,5 @@
-//! Tests of events and calls by the public calls of `mes_msg`: worked examples and rows of the formats.
+//! Tests of events and calls by the public calls of `mes_msg`: tables of JSON texts with their
+//! results.
 #![tactic(auto)]
 
 #[cfg(test)]

@@ -1,4 +1,5 @@
-//! Events and calls read from JSON texts: what is written of each, or the path and the reason of the first fault.
+//! Events and calls read from JSON texts: the canonical text, or the path and the reason of the
+//! first fault.
 
 use crate::support::{as_text, expect_fault, field_fault_of, row_of};
 use mes_frame::MAX_RECORD_LIMIT;
@@ -10,15 +11,12 @@ use std::alloc::{AllocGlobal, Global};
 use std::process::Abort;
 use std::test::Fail;
 
-/// An event or a call, by the public calls of its type.
+/// An event or a call.
 pub(crate) trait Record: Part {
-    /// What a text is read as.
     fn of_text(alloc: Global, text: &[u8]) -> Result<Self, RecordFault>;
 
-    /// What a tree is read as.
     fn of_json(alloc: Global, tree: &Json) -> Result<Self, PartFault>;
 
-    /// The canonical text.
     fn canonical(&self, alloc: Global, limit: Limit) -> Result<Vec<u8>, EncodeFault>;
 }
 
@@ -50,7 +48,6 @@ impl Record for Call {
     }
 }
 
-/// Each text has its first fault there.
 pub(crate) fn expect_faults<T: Record, R: Abort + AllocGlobal>(
     rt: &R,
     faults: &str,
@@ -63,7 +60,7 @@ pub(crate) fn expect_faults<T: Record, R: Abort + AllocGlobal>(
     Ok(())
 }
 
-/// A text with so many objects inside each other between its two ends.
+/// Returns a text with this number of nested objects between a beginning and an end.
 pub(crate) fn nested(
     alloc: Global,
     front: &[u8],
@@ -83,7 +80,6 @@ pub(crate) fn nested(
     Ok(text)
 }
 
-/// The record of a text that is one.
 pub(crate) fn record_of<T: Record>(alloc: Global, text: &[u8]) -> Result<T, Fail> {
     match T::of_text(alloc, text) {
         Ok(record) => Ok(record),
@@ -91,7 +87,6 @@ pub(crate) fn record_of<T: Record>(alloc: Global, text: &[u8]) -> Result<T, Fail
     }
 }
 
-/// The record of the tree of a text.
 fn record_of_tree<T: Record>(alloc: Global, text: &str) -> Result<T, Fail> {
     let tree = read_text(alloc, text.as_bytes())?;
     match T::of_json(alloc, &tree) {
@@ -100,7 +95,6 @@ fn record_of_tree<T: Record>(alloc: Global, text: &str) -> Result<T, Fail> {
     }
 }
 
-/// The canonical text of a record that has one.
 pub(crate) fn canon<T: Record>(record: &T, alloc: Global, limit: Limit) -> Result<Vec<u8>, Fail> {
     match record.canonical(alloc, limit) {
         Ok(text) => Ok(text),
@@ -108,12 +102,12 @@ pub(crate) fn canon<T: Record>(record: &T, alloc: Global, limit: Limit) -> Resul
     }
 }
 
-/// The canonical text of the record of a text.
 pub(crate) fn rewritten<T: Record>(alloc: Global, text: &[u8]) -> Result<Vec<u8>, Fail> {
     canon(&record_of::<T>(alloc, text)?, alloc, Limit::LARGEST)
 }
 
-/// Why the record of a text has no canonical text within the limit, if it has none.
+/// Returns the reason for which the record of a text has no canonical text within the limit, if
+/// any.
 pub(crate) fn refused<T: Record>(
     alloc: Global,
     text: &[u8],
@@ -123,12 +117,12 @@ pub(crate) fn refused<T: Record>(
     Ok(record.canonical(alloc, limit).err())
 }
 
-/// Whether the record has more bytes than the limit.
 fn is_too_large<T: Record>(record: &T, alloc: Global, limit: Limit) -> bool {
     matches!(record.canonical(alloc, limit), Err(EncodeFault::TooLarge))
 }
 
-/// The record has this canonical text, within a limit of just its length, and none within a smaller one.
+/// Checks the canonical text, with a limit of exactly its length, and that one byte less is too
+/// small.
 fn expect_canon<T: Record, R: Abort + AllocGlobal>(
     rt: &R,
     record: &T,
@@ -143,7 +137,7 @@ fn expect_canon<T: Record, R: Abort + AllocGlobal>(
     Ok(())
 }
 
-/// The text is a record with this canonical text, and so are its copy and what its tree is read as.
+/// Checks the canonical text of the record of a text, of its copy, and of the record of its tree.
 pub(crate) fn expect_record<T: Record, R: Abort + AllocGlobal>(
     rt: &R,
     text: &str,
@@ -155,7 +149,6 @@ pub(crate) fn expect_record<T: Record, R: Abort + AllocGlobal>(
     expect_canon(rt, &record_of_tree::<T>(rt.alloc(), text)?, written)
 }
 
-/// The same of each text and its canonical text.
 pub(crate) fn expect_records<T: Record, R: Abort + AllocGlobal>(
     rt: &R,
     rows: &str,

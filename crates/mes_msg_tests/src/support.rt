@@ -1,8 +1,9 @@
-//! The rows of tables, and what is expected of the text on one.
+//! Helpers of the tests of events and calls.
 //!
-//! A table is a text with a row on each line: `TEXT => PATH WHY` for a text with a fault, `TEXT => WRITTEN` for one that is a record.
-//! A check of a table of literals takes as long as it has rows, and of one text no time. An event or a call that lives on in a
-//! function makes each later step of it dear to check, so the functions that make one are small.
+//! A table is a text with a row on each line: `TEXT => PATH REASON` for a text with a fault, and
+//! `TEXT => CANONICAL` for a valid one. The proof of a test of a table of literals takes time in
+//! proportion to its rows; one text takes none. An event or a call makes each later step of its
+//! function slow to prove, so the functions that make one are small.
 
 use arrayvec::ArrayString;
 use mes_json::TextFaultKind;
@@ -11,12 +12,10 @@ use mes_msg::RecordFault;
 use std::process::Abort;
 use std::test::Fail;
 
-/// The two sides of a row.
 pub(crate) fn row_of(line: &str) -> Result<(&str, &str), Fail> {
     Ok(line.split_once(" => ").ok_or("a row has two sides")?)
 }
 
-/// The fault of an answer that tells one of a field.
 pub(crate) fn field_fault_of<T: Drop>(answer: Result<T, RecordFault>) -> Option<FieldFault> {
     match answer.err()? {
         RecordFault::Field(fault) => Some(fault.into_inner()),
@@ -24,7 +23,6 @@ pub(crate) fn field_fault_of<T: Drop>(answer: Result<T, RecordFault>) -> Option<
     }
 }
 
-/// The byte and the reason of an answer that tells a fault of the text.
 pub(crate) fn text_fault_of<T: Drop>(
     answer: Result<T, RecordFault>,
 ) -> Option<(u64, TextFaultKind)> {
@@ -34,7 +32,7 @@ pub(crate) fn text_fault_of<T: Drop>(
     }
 }
 
-/// The fault is told, with this path and why.
+/// Checks the path and the reason of a fault.
 pub(crate) fn expect_fault<R: Abort>(
     rt: &R,
     text: &str,
@@ -53,7 +51,7 @@ pub(crate) fn expect_fault<R: Abort>(
     Ok(())
 }
 
-/// The text of these bytes, so that a failure prints it.
+/// Returns the bytes as text, so that a failed test prints it.
 pub(crate) fn as_text(bytes: &[u8]) -> Option<&str> {
     str::from_utf8(bytes).ok()
 }

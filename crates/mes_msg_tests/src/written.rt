@@ -1,4 +1,4 @@
-//! Events that are read, and the canonical text of each and of its copy.
+//! Events, and the canonical text of each and of its copy.
 
 use crate::record::expect_records;
 use mes_msg::Event;
@@ -29,7 +29,7 @@ const PLAIN: &str =
 {"type":"ERROR","error":{"message":"\u0061\/"}} => {"type":"ERROR","error":{"message":"a/"}}
 "#;
 
-/// HEARTBEAT, and events whose bodies are dropped.
+/// HEARTBEAT, and events whose bodies are ignored.
 const NAMES: &str = r#"{"type":"HEARTBEAT"} => {"type":"HEARTBEAT"}
  { "x":1, "type" : "HEARTBEAT", "x":2 }  => {"type":"HEARTBEAT"}
 {"type":"HEARTBEAT","offers":7,"error":{},"error":{}} => {"type":"HEARTBEAT"}
@@ -43,7 +43,7 @@ const NAMES: &str = r#"{"type":"HEARTBEAT"} => {"type":"HEARTBEAT"}
 {"type":"a\u0000\"é"} => {"type":"a\u0000\"é"}
 "#;
 
-/// OFFERS and UPDATE.
+/// OFFERS and UPDATE, with the parts in them.
 const PARTS: &str =
     r#"{"type":"OFFERS","offers":[{"id":{"value":"O1"},"framework_id":{"value":"F1"},"agent_id":{"value":"A1"},"hostname":"h"}]} => {"type":"OFFERS","offers":{"offers":[{"id":{"value":"O1"},"framework_id":{"value":"F1"},"agent_id":{"value":"A1"},"hostname":"h"}]}}
 {"type":"OFFERS","offers":{"offers":[{"id":{"value":"O1"},"framework_id":{"value":"F1"},"agent_id":{"value":"A1"},"hostname":"h"}]}} => {"type":"OFFERS","offers":{"offers":[{"id":{"value":"O1"},"framework_id":{"value":"F1"},"agent_id":{"value":"A1"},"hostname":"h"}]}}

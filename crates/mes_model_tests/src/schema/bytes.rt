@@ -1,4 +1,4 @@
-//! Bytes read from JSON strings and written as them, by the test vectors of RFC 4648 section 10.
+//! Bytes read from JSON strings and written back, by the test vectors of RFC 4648 section 10.
 
 ghost use Rattle.std.specs.Prelude.{◌<◌, ◌≤◌};
 
@@ -25,8 +25,8 @@ const VECTORS: [(&[u8], &str); 9] = [
     (&[0xFB, 0xFF], "\"+/8=\""),
 ];
 
-/// JSON texts that are no bytes: without padding, with too much or too little, with unused bits that aren't zero,
-/// in the URL-safe alphabet, with white space, with bytes behind the padding, of another JSON kind.
+/// Invalid texts: no padding, too much or too little, unused bits that are not zero, the URL-safe
+/// alphabet, white space, bytes after the padding. Some have another JSON kind.
 const REFUSED: &str = r#""Zg" => . BadBase64
 "Zg=" => . BadBase64
 "Zg===" => . BadBase64
@@ -48,17 +48,17 @@ null => . WrongKind
 /// The letters by their values (RFC 4648, table 1).
 const LETTERS: &[u8; 64] = b"ABCDEFGHIJKLMNOPQRSTUVWXYZabcdefghijklmnopqrstuvwxyz0123456789+/";
 
-/// The bytes that these encode: each four letters are three of them.
+/// The bytes that the letters encode: three for each four letters.
 const OCTETS: &[u8; 48] =
     b"\x00\x10\x83\x10\x51\x87\x20\x92\x8B\x30\xD3\x8F\x41\x14\x93\x51\x55\x97\x61\x96\x9B\x71\xD7\x9F\x82\x18\xA3\x92\x59\xA7\xA2\x9A\xAB\xB2\xDB\xAF\xC3\x1C\xB3\xD3\x5D\xB7\xE3\x9E\xBB\xF3\xDF\xBF";
 
-/// What may stand behind whole groups of letters, and the bytes that it encodes.
+/// The end of a text after whole groups of letters, and the bytes that it encodes.
 const LAST: [(&[u8], &[u8]); 3] = [(b"", b""), (b"/w==", b"\xFF"), (b"//8=", b"\xFF\xFF")];
 
-/// The characters beside the letters and between them, and those of the URL-safe alphabet.
+/// The characters next to the ranges of letters, and those of the URL-safe alphabet.
 const NO_LETTERS: &[u8; 12] = b" *,-.:@[_`{~";
 
-/// The bytes of a string of these letters and of what stands behind them.
+/// Reads a string of these letters and this end.
 fn read_letters(
     alloc: Global,
     letters: &[u8],
@@ -73,7 +73,6 @@ fn read_letters(
     Ok(Bytes::read_from(alloc, &tape.root(), &PathBuilder::new()))
 }
 
-/// The bytes of an answer that has some.
 fn bytes_of(answer: Result<Bytes, PartFault>) -> Result<Bytes, Fail> {
     match answer {
         Ok(bytes) => Ok(bytes),
@@ -81,7 +80,7 @@ fn bytes_of(answer: Result<Bytes, PartFault>) -> Result<Bytes, Fail> {
     }
 }
 
-/// So many groups of letters are read, whatever stands behind them.
+/// Checks that this number of groups is read, with each end.
 fn expect_groups<R: Abort>(rt: &R, alloc: Global, groups: usize) -> Result<(), Fail>
     requires { groups ≤ 16 }
 {
@@ -93,7 +92,7 @@ fn expect_groups<R: Abort>(rt: &R, alloc: Global, groups: usize) -> Result<(), F
     Ok(())
 }
 
-/// Where a character stands at this place that is no letter, the text is refused.
+/// Checks that a character that is no letter makes the text invalid, at this index.
 fn expect_refused<R: Abort>(rt: &R, alloc: Global, place: usize) -> Result<(), Fail>
     requires { place < 64 }
 {
@@ -106,7 +105,7 @@ fn expect_refused<R: Abort>(rt: &R, alloc: Global, place: usize) -> Result<(), F
     Ok(())
 }
 
-/// The same of a character of two bytes.
+/// Like [`expect_refused`], but with a character of two bytes.
 fn expect_wide_refused<R: Abort>(rt: &R, alloc: Global, place: usize) -> Result<(), Fail>
     requires { place < 63 }
 {
@@ -116,7 +115,6 @@ fn expect_wide_refused<R: Abort>(rt: &R, alloc: Global, place: usize) -> Result<
     expect_fault(rt, "two bytes", part_fault_of(answer), ". BadBase64")
 }
 
-/// The bytes are these, and are written so.
 fn expect_bytes<R: Abort>(
     rt: &R,
     alloc: Global,
@@ -132,7 +130,7 @@ fn expect_bytes<R: Abort>(
     expect_text(rt, alloc, &bytes.tree(alloc)?, text)
 }
 
-/// The bytes of the text are these, and so are their copy and what is read of them again.
+/// Checks the bytes of a text, their copy, and the bytes read back.
 fn expect_read<R: Abort>(rt: &R, alloc: Global, octets: &[u8], text: &str) -> Result<(), Fail> {
     let bytes: Bytes = value_of(alloc, text)?;
     expect_bytes(rt, alloc, &bytes, octets, text)?;

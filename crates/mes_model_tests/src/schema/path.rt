@@ -1,4 +1,4 @@
-//! Paths as they are printed.
+//! The printed form of paths.
 
 use arrayvec::ArrayString;
 use mes_model_schema::{Path, Step};

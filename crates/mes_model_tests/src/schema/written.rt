@@ -23,13 +23,13 @@ fn label(alloc: Global, key: &str, value: Option<&str>) -> Result<Label, Fail> {
     })
 }
 
-/// Writes the value's text behind what stands there; answers the depth told, and that of the tree.
+/// Appends the text of a value. Returns the depth reported, and the depth of its tree.
 fn write_direct<T: Part>(alloc: Global, value: &T, out: &mut Vec<u8>) -> Result<(u64, u64), Fail> {
     let deep = value.write_json(alloc, out)?;
     Ok((deep, value.tree(alloc)?.depth()))
 }
 
-/// The text is written so behind a byte that stands there, and the depth told is that of the tree.
+/// Checks the text appended to one byte, and that the depth reported is that of the tree.
 fn expect_direct<R: Abort, T: Part>(
     rt: &R,
     alloc: Global,
@@ -46,7 +46,7 @@ fn expect_direct<R: Abort, T: Part>(
     Ok(())
 }
 
-/// The value and its copy are written so, by its tree and without one.
+/// Checks the text of a value and of its copy, written from its tree and directly.
 fn expect_written<R: Abort, T: Part>(
     rt: &R,
     alloc: Global,
@@ -72,12 +72,11 @@ fn leaves_are_written(rt: HostRuntime) -> Result<(), Fail> {
     expect_written(&rt, alloc, Micros::of_units(1).unwrap(), "0.000001")
 }
 
-/// Adds a member of this name.
 fn put(members: &mut Vec<(Text, Json)>, name: Text, value: Json) -> Result<(), Fail> {
     Ok(members.push((name, value))?)
 }
 
-/// An object with two members of one name.
+/// Returns an object with two members of one name.
 fn twice(alloc: Global) -> Result<Json, Fail> {
     let mut members = Vec::new(alloc);
     put(&mut members, text(alloc, "a")?, Json::Null)?;
@@ -85,7 +84,7 @@ fn twice(alloc: Global) -> Result<Json, Fail> {
     Ok(Json::Map(members))
 }
 
-/// That object, kept.
+/// Returns that object as a `Kept`.
 fn kept(alloc: Global) -> Result<Kept, Fail> {
     match Kept::new(twice(alloc)?) {
         Ok(kept) => Ok(kept),
@@ -93,7 +92,6 @@ fn kept(alloc: Global) -> Result<Kept, Fail> {
     }
 }
 
-/// What is kept is written so.
 fn expect_kept<R: Abort>(rt: &R, alloc: Global, kept: Kept, expected: &str) -> Result<(), Fail> {
     let answer = expect_text(rt, alloc, kept.get(), expected);
     drop(kept);
@@ -109,7 +107,6 @@ fn objects_are_kept_whole(rt: HostRuntime) -> Result<(), Fail> {
     Ok(())
 }
 
-/// A label is written so.
 fn expect_label<R: Abort>(
     rt: &R,
     alloc: Global,
@@ -120,7 +117,6 @@ fn expect_label<R: Abort>(
     expect_written(rt, alloc, label(alloc, key, value)?, expected)
 }
 
-/// Two labels, of which one has a value.
 fn two_labels(alloc: Global) -> Result<Labels, Fail> {
     let mut labels = Vec::new(alloc);
     labels.push(label(alloc, "a", None)?)?;

@@ -1,10 +1,10 @@
-//! Texts of no call, each with the place and the reason of its first fault.
+//! Invalid calls, each with the path and the reason of its first fault.
 
 use crate::record::expect_faults;
 use mes_msg::Call;
 use std::test::Fail;
 
-/// Faults of the member `type`, and of what is no object.
+/// Faults of the member `type`, and values that are no objects.
 const TYPES: &str = r#"{"t\u0079pe":"REVIVE","type":"REVIVE"} => type Twice
 null => . WrongKind
 [] => . WrongKind
@@ -28,7 +28,7 @@ null => . WrongKind
 {"type":"REVIVE ","framework_id":{"value":"F1"}} => type LeftOut
 "#;
 
-/// Faults of the framework, which are told before those of the body.
+/// Faults of the framework id, which come before those of the body.
 const FRAMEWORKS: &str = r#"{"type":"TEARDOWN"} => framework_id Missing
 {"type":"TEARDOWN","framework_id":null} => framework_id Missing
 {"type":"TEARDOWN","framework_id":"F1"} => framework_id WrongKind
@@ -52,7 +52,6 @@ const FRAMEWORKS: &str = r#"{"type":"TEARDOWN"} => framework_id Missing
 {"type":"SUBSCRIBE","framework_id":{"value":"F1"},"framework_id":{"value":"F1"}} => framework_id Twice
 "#;
 
-/// Faults of SUBSCRIBE.
 const SUBSCRIBE: &str = r#"{"type":"SUBSCRIBE"} => subscribe Missing
 {"type":"SUBSCRIBE","subscribe":null} => subscribe Missing
 {"type":"SUBSCRIBE","framework_id":{"value":"F1"},"subscribe":[]} => subscribe WrongKind
@@ -64,7 +63,6 @@ const SUBSCRIBE: &str = r#"{"type":"SUBSCRIBE"} => subscribe Missing
 {"type":"SUBSCRIBE","subscribe":{"framework_info":{"user":"root","name":"n","capabilities":[{"type":7}]}}} => subscribe.framework_info.capabilities[0].type WrongKind
 "#;
 
-/// Faults of ACCEPT.
 const ACCEPT: &str = r#"{"type":"ACCEPT","framework_id":{"value":"F1"}} => accept Missing
 {"type":"ACCEPT","framework_id":{"value":"F1"},"accept":null} => accept Missing
 {"type":"ACCEPT","framework_id":{"value":"F1"},"accept":[]} => accept WrongKind
@@ -92,7 +90,6 @@ const ACCEPT: &str = r#"{"type":"ACCEPT","framework_id":{"value":"F1"}} => accep
 {"type":"ACCEPT","framework_id":{"value":"F1"},"accept":{"filters":7,"operations":7}} => accept.operations WrongKind
 "#;
 
-/// Faults of DECLINE.
 const DECLINE: &str = r#"{"type":"DECLINE","framework_id":{"value":"F1"}} => decline Missing
 {"type":"DECLINE","framework_id":{"value":"F1"},"decline":"O1"} => decline WrongKind
 {"type":"DECLINE","framework_id":{"value":"F1"},"decline":{"offer_ids":[{"value":1}]}} => decline.offer_ids[0].value WrongKind
@@ -100,7 +97,6 @@ const DECLINE: &str = r#"{"type":"DECLINE","framework_id":{"value":"F1"}} => dec
 {"type":"DECLINE","framework_id":{"value":"F1"},"decline":{"filters":7,"offer_ids":7}} => decline.offer_ids WrongKind
 "#;
 
-/// Faults of REVIVE.
 const REVIVE: &str =
     r#"{"type":"REVIVE","framework_id":{"value":"F1"},"revive":{}} => revive LeftOut
 {"type":"REVIVE","framework_id":{"value":"F1"},"revive":{"roles":["a"]}} => revive LeftOut
@@ -111,7 +107,6 @@ const REVIVE: &str =
 {"type":"REVIVE","framework_id":{"value":"F1"},"revive":null,"revive":null} => revive Twice
 "#;
 
-/// Faults of KILL.
 const KILL: &str = r#"{"type":"KILL","framework_id":{"value":"F1"}} => kill Missing
 {"type":"KILL","framework_id":{"value":"F1"},"kill":[]} => kill WrongKind
 {"type":"KILL","framework_id":{"value":"F1"},"kill":{}} => kill.task_id Missing
@@ -120,7 +115,6 @@ const KILL: &str = r#"{"type":"KILL","framework_id":{"value":"F1"}} => kill Miss
 {"type":"KILL","framework_id":{"value":"F1"},"kill":{"agent_id":7}} => kill.task_id Missing
 "#;
 
-/// Faults of ACKNOWLEDGE.
 const ACKNOWLEDGE: &str =
     r#"{"type":"ACKNOWLEDGE","framework_id":{"value":"F1"}} => acknowledge Missing
 {"type":"ACKNOWLEDGE","framework_id":{"value":"F1"},"acknowledge":"AA=="} => acknowledge WrongKind
@@ -135,7 +129,6 @@ const ACKNOWLEDGE: &str =
 {"type":"ACKNOWLEDGE","framework_id":{"value":"F1"},"acknowledge":{"agent_id":{"value":"A1"},"task_id":{"value":"T1"},"uuid":"AA==","uuid":"AA=="}} => acknowledge.uuid Twice
 "#;
 
-/// Faults of RECONCILE.
 const RECONCILE: &str = r#"{"type":"RECONCILE","framework_id":{"value":"F1"}} => reconcile Missing
 {"type":"RECONCILE","framework_id":{"value":"F1"},"reconcile":null} => reconcile Missing
 {"type":"RECONCILE","framework_id":{"value":"F1"},"reconcile":[]} => reconcile WrongKind
@@ -145,7 +138,6 @@ const RECONCILE: &str = r#"{"type":"RECONCILE","framework_id":{"value":"F1"}} =>
 {"type":"RECONCILE","framework_id":{"value":"F1"},"reconcile":{"tasks":[{"task_id":{"value":"T1"},"agent_id":7}]}} => reconcile.tasks[0].agent_id WrongKind
 "#;
 
-/// Faults of SUPPRESS.
 const SUPPRESS: &str =
     r#"{"type":"SUPPRESS","framework_id":{"value":"F1"},"suppress":{}} => suppress LeftOut
 {"type":"SUPPRESS","framework_id":{"value":"F1"},"suppress":{"roles":["a"]}} => suppress LeftOut
@@ -153,7 +145,6 @@ const SUPPRESS: &str =
 {"type":"SUPPRESS","framework_id":{"value":"F1"},"suppress":null,"suppress":null} => suppress Twice
 "#;
 
-/// Faults of SHUTDOWN.
 const SHUTDOWN: &str = r#"{"type":"SHUTDOWN","framework_id":{"value":"F1"}} => shutdown Missing
 {"type":"SHUTDOWN","framework_id":{"value":"F1"},"shutdown":[]} => shutdown WrongKind
 {"type":"SHUTDOWN","framework_id":{"value":"F1"},"shutdown":{}} => shutdown.executor_id Missing
@@ -162,7 +153,6 @@ const SHUTDOWN: &str = r#"{"type":"SHUTDOWN","framework_id":{"value":"F1"}} => s
 {"type":"SHUTDOWN","framework_id":{"value":"F1"},"shutdown":{"agent_id":7,"executor_id":{}}} => shutdown.executor_id.value Missing
 "#;
 
-/// Faults of MESSAGE.
 const MESSAGE: &str = r#"{"type":"MESSAGE","framework_id":{"value":"F1"}} => message Missing
 {"type":"MESSAGE","framework_id":{"value":"F1"},"message":"AAE="} => message WrongKind
 {"type":"MESSAGE","framework_id":{"value":"F1"},"message":{"executor_id":{"value":"E1"},"data":"AAE="}} => message.agent_id Missing
