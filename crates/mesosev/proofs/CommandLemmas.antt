@@ -5,6 +5,7 @@ use Rattle.mes_frame.specs.Devices.{Device}
 use Rattle.mesosev_stream.specs.Printing.{Prints}
 use Rattle.mesosev_args.specs.NamedOptions.{RefusesArgs}
 use Rattle.mesosev.specs.Running.{Runs}
+use Rattle.mesosev_stream.specs.declared.exit_status.ExitStatus.{ExitStatus}
 use Rattle.mesosev_stream.specs.declared.outcome.RunOutcome.{RunOutcome}
 use Rattle.mesosev.specs.Reporting.{Reports}
 use Rattle.mesosev_args.specs.declared.args.WordsFault.{WordsFault}
@@ -20,5 +21,5 @@ told_words words (BadValue option) input out printed err reported ended refused 
 told_words words NoMemory input out printed err reported ended refused lacks = inr (inr (inr (lacks.0, lacks.1, refl)))
 
 -- a text that is printed is the line
-pub prints_line : (old new : Device) (text line : List ℕ) (meant : ℕ) (ended : RunOutcome) → text ≡ line → Prints old new text meant ended → Prints old new line meant ended
+pub prints_line : (old new : Device) (text line : List ℕ) (meant : ExitStatus) (ended : RunOutcome) → text ≡ line → Prints old new text meant ended → Prints old new line meant ended
 prints_line old new text line meant ended same prints = subst (λ (t : List ℕ). Prints old new t meant ended) same prints

@@ -5,6 +5,7 @@ use Rattle.clap.specs.declared.error.Error.{Error}
 use Rattle.clap.specs.declared.error.kind.ErrorKind.TheVariants.{DisplayHelp, DisplayVersion}
 use Rattle.mes_frame.specs.Devices.{Device}
 use Rattle.mesosev_stream.specs.Printing.{Prints, LacksMemory}
+use Rattle.mesosev_stream.specs.declared.exit_status.ExitStatus.TheVariants as exit
 use Rattle.mesosev_stream.specs.declared.outcome.RunOutcome.{RunOutcome}
 use Rattle.mesosev_args.specs.declared.args.WordsFault.{WordsFault}
 use Rattle.mesosev_args.specs.declared.args.WordsFault.TheVariants.{Clap, BadValue, NoMemory}
@@ -13,11 +14,11 @@ use Rattle.mesosev_args.specs.declared.args.WordsFault.TheVariants.{Clap, BadVal
 abbrev pub IsMistake : Error → Type 0
 IsMistake error = (kind_of error ≢ DisplayHelp) × (kind_of error ≢ DisplayVersion)
 
--- an error of clap was told: a mistake on standard error with status 2, help on standard output with status 0
+-- an error of clap was told: a mistake on standard error as bad words, help on standard output as a good run
 abbrev pub ReportsError : Error → Device → Device → Device → Device → RunOutcome → Type 0
 ReportsError error out printed err reported ended =
-    (text : List ℕ) × ((IsMistake error × Prints err reported text 2 ended × (printed ≡ out))
-    ⊎ (¬ (IsMistake error) × Prints out printed text 0 ended × (reported ≡ err)))
+    (text : List ℕ) × ((IsMistake error × Prints err reported text exit.Usage ended × (printed ≡ out))
+    ⊎ (¬ (IsMistake error) × Prints out printed text exit.Success ended × (reported ≡ err)))
 
 -- the line of an option without a value in its range
 abbrev pub bad_value_line : List ℕ → List ℕ
@@ -28,7 +29,7 @@ abbrev pub Reports : WordsFault → Device → Device → Device → Device → 
 Reports (Clap error) out printed err reported ended =
     ReportsError error out printed err reported ended ⊎ (LacksMemory out printed ended × (reported ≡ err))
 Reports (BadValue option) out printed err reported ended =
-    (Prints err reported (bad_value_line option.now) 2 ended × (printed ≡ out)) ⊎ (LacksMemory out printed ended × (reported ≡ err))
+    (Prints err reported (bad_value_line option.now) exit.Usage ended × (printed ≡ out)) ⊎ (LacksMemory out printed ended × (reported ≡ err))
 Reports NoMemory out printed err reported ended = LacksMemory out printed ended × (reported ≡ err)
 
 -- the line where a word is no text

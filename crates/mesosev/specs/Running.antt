@@ -11,6 +11,8 @@ use Rattle.mesosev_log.specs.Relogging.{Relogs}
 use Rattle.mesosev_log.specs.Replaying.{Replays}
 use Rattle.mesosev_stream.specs.Printing.{Prints, Checks, Finishes, LacksMemory}
 use Rattle.mesosev_stream.specs.Showing.{Shows}
+use Rattle.mesosev_stream.specs.declared.exit_status.ExitStatus.{ExitStatus}
+use Rattle.mesosev_stream.specs.declared.exit_status.ExitStatus.TheVariants as exit
 use Rattle.mesosev_stream.specs.declared.outcome.RunOutcome.{RunOutcome}
 use Rattle.mesosev_stream.specs.declared.outcome.RunOutcome.TheVariants.{Status}
 use Rattle.mesosev_stream.specs.declared.limits.TheConstants.{MAX_READS}
@@ -20,15 +22,21 @@ use Rattle.mesosev.specs.Reporting.{ReportsError, bad_value_line}
 use Rattle.mesosev_args.specs.declared.args.Options.{Options}
 use Rattle.mesosev_args.specs.declared.args.Options.TheVariants.{Check, Show, Convert, Replay, Relog, Serve, Subscribe, Loopback}
 
+-- the number of an exit status: 0 for a good run, 1 for a fault, 2 for bad words
+abbrev pub status_number : ExitStatus → ℕ
+status_number exit.Success = 0
+status_number exit.Fault = 1
+status_number exit.Usage = 2
+
 -- what the options name was done; all but `convert` and `relog` leave standard error as it was
 abbrev pub Performs : Options → Device → Device → Device → Device → Device → Device → RunOutcome → Type 0
 Performs (Check framing limit) input rest out printed err reported ended = Checks framing limit MAX_READS input rest out printed ended × (reported ≡ err)
 Performs (Show framing limit) input rest out printed err reported ended = Shows framing limit MAX_READS input rest out printed ended × (reported ≡ err)
 Performs (Convert framing limit most) input rest out printed err reported ended =
-    (status : ℕ) × Converts framing limit most input rest out printed err reported status × (ended ≡ Status status)
+    (status : ExitStatus) × Converts framing limit most input rest out printed err reported status × (ended ≡ Status status)
 Performs (Replay limit) input rest out printed err reported ended = Replays limit input rest out printed ended × (reported ≡ err)
 Performs (Relog limit) input rest out printed err reported ended =
-    (status : ℕ) × Relogs limit input rest out printed err reported status × (ended ≡ Status status)
+    (status : ExitStatus) × Relogs limit input rest out printed err reported status × (ended ≡ Status status)
 Performs (Serve port count stream) input rest out printed err reported ended = Serves stream count input rest out printed ended × (reported ≡ err)
 Performs (Subscribe to user name reads) input rest out printed err reported ended =
     Subscribes to user name reads out printed ended × (rest ≡ input) × (reported ≡ err)
@@ -48,7 +56,7 @@ Runs words input rest out printed err reported ended =
     ⊎ ((error : Error) × IsAmong (kind_of error) (fault_of command_app words)
     × ReportsError error out printed err reported ended × (rest ≡ input))
     ⊎ ((option : Text) × (fault_of command_app words ≡ []) × NameNoOptions words × LackValue words option
-    × Prints err reported (bad_value_line option) 2 ended × (printed ≡ out) × (rest ≡ input))
+    × Prints err reported (bad_value_line option) exit.Usage ended × (printed ≡ out) × (rest ≡ input))
     ⊎ (LacksMemory out printed ended × (reported ≡ err) × (rest ≡ input))
 
 -- what was done leaves standard error as it was
@@ -56,5 +64,5 @@ abbrev pub LeavesError : (RunOutcome → Type 0) → Device → Device → RunOu
 LeavesError Does err reported ended = Does ended × (reported ≡ err)
 
 -- That was done, and told on standard error up to there; and then an output that failed was told behind it, where it is not closed.
-abbrev pub Ends : (Device → RunOutcome → Type 0) → Bool → Device → ℕ → Type 0
+abbrev pub Ends : (Device → RunOutcome → Type 0) → Bool → Device → ExitStatus → Type 0
 Ends Does closed last status = (reported : Device) × (ended : RunOutcome) × Does reported ended × Finishes closed reported last ended status

@@ -3,8 +3,12 @@
 
 mod run;
 
+ghost use Rattle.std.specs.Prelude.{◌≡◌};
+ghost use Rattle.std.specs.Process.{exit_status};
+ghost use Rattle.mesosev.specs.Running.{status_number};
+
 use mes_frame::FromStd;
-use mesosev_stream::Output;
+use mesosev_stream::{ExitStatus, Output};
 use run::{end_without_memory, end_without_text, run};
 use std::env;
 use std::fs::File;
@@ -15,27 +19,43 @@ use std::process::ExitCode;
 const READ_AHEAD: usize = 16_384;
 
 fn main(rt: HostRuntime) -> ExitCode {
-    let _places = [take_place(&rt), take_place(&rt), take_place(&rt)];
+    exit_code(run_process(&rt))
+}
+
+/// The number that the process ends with, which no other place gives: 0 for a good run, 1 for a fault, 2 for bad words.
+fn exit_code(status: ExitStatus) -> ExitCode
+    ensures { exit_status result ≡ status_number status }
+{
+    ExitCode::from(match status {
+        ExitStatus::Success => 0,
+        ExitStatus::Fault => 1,
+        ExitStatus::Usage => 2,
+    })
+}
+
+/// Runs the command with the words and the streams of the process.
+fn run_process(rt: &HostRuntime) -> ExitStatus {
+    let _places = [take_place(rt), take_place(rt), take_place(rt)];
     let mut out = Output::new(FromStd::new(rt.stdout()));
     let mut err = FromStd::new(rt.stderr());
-    let words = match env::args(&rt) {
+    let words = match env::args(rt) {
         Ok(args) => args.collect::<Vec<String>>(rt.alloc()),
         Err(error) => {
-            return ExitCode::from(if error.kind() == ErrorKind::OutOfMemory {
+            return if error.kind() == ErrorKind::OutOfMemory {
                 end_without_memory(&mut out, &mut err)
             } else {
                 end_without_text(&mut err)
-            });
+            };
         }
     };
     let Ok(words) = words else {
-        return ExitCode::from(end_without_memory(&mut out, &mut err));
+        return end_without_memory(&mut out, &mut err);
     };
     let Ok(input) = BufReader::with_capacity(rt.alloc(), READ_AHEAD, rt.stdin()) else {
-        return ExitCode::from(end_without_memory(&mut out, &mut err));
+        return end_without_memory(&mut out, &mut err);
     };
     let mut input = FromStd::new(input);
-    ExitCode::from(run(&rt, words.as_slice(), &mut input, &mut out, &mut err))
+    run(rt, words.as_slice(), &mut input, &mut out, &mut err)
 }
 
 /// Takes the place of a standard stream that is closed, if one is; else a socket would take it, and what is printed would go to its peer.

@@ -20,29 +20,26 @@ use mesosev_args::{
 use mesosev_log::{relog, replay};
 use mesosev_net::{loopback, serve, subscribe};
 use mesosev_stream::{
-    Detail, MAX_READS, Output, RunOutcome, SUCCESS, convert, finish, follow, out_of_memory,
+    Detail, ExitStatus, MAX_READS, Output, RunOutcome, convert, finish, follow, out_of_memory,
     print_text,
 };
 use std::alloc::{AllocGlobal, Global};
 use std::convert::AsStr;
 use std::net::{Net, TcpListener, TcpStream};
 
-/// The status of bad words.
-const USAGE_ERROR: u8 = 2;
-
 /// What is told where a word is not UTF-8.
 const NOT_TEXT: &str = "error: a word is not UTF-8\n";
 
-/// Runs the command and answers its exit status: 0 for a good run, 1 for a fault that was told in a line, or where an output
-/// failed, 2 for bad words. The first word is the program's name. An output that failed is told on standard error too, where it is
-/// not closed.
+/// Runs the command and answers its exit status: `Success` for a good run, `Fault` for a fault that was told in a line, or where an
+/// output failed, `Usage` for bad words. The first word is the program's name. An output that failed is told on standard error too,
+/// where it is not closed.
 pub fn run<R, W: AsStr, I: Source, O: Sink, E: Sink>(
     rt: &R,
     words: &[W],
     input: &mut I,
     out: &mut Output<O>,
     err: &mut E,
-) -> u8
+) -> ExitStatus
 where
     R: AllocGlobal + Net<Listener = TcpListener, Stream = TcpStream>,
     ensures runs { Ends (Runs (map W.text words.now)
@@ -164,7 +161,7 @@ fn follow_all<I: Source, O: Sink>(
 }
 
 /// Tells that memory was refused before any word was read, and answers the exit status.
-pub(crate) fn end_without_memory<O: Sink, E: Sink>(out: &mut Output<O>, err: &mut E) -> u8
+pub(crate) fn end_without_memory<O: Sink, E: Sink>(out: &mut Output<O>, err: &mut E) -> ExitStatus
     ensures { Ends (LeavesError (LacksMemory (output_of O.written O.counts out.old) (output_of O.written O.counts out.new)) (device_of E.written E.counts err.old))
         out.new.closed (device_of E.written E.counts err.new) result }
 {
@@ -173,11 +170,11 @@ pub(crate) fn end_without_memory<O: Sink, E: Sink>(out: &mut Output<O>, err: &mu
 }
 
 /// Tells on standard error that a word is no text, before any word is read, and answers the exit status.
-pub(crate) fn end_without_text<E: Sink>(err: &mut E) -> u8
-    ensures { Ends (λ reported ended. Prints (device_of E.written E.counts err.old) reported not_text_line 2 ended)
+pub(crate) fn end_without_text<E: Sink>(err: &mut E) -> ExitStatus
+    ensures { Ends (λ reported ended. Prints (device_of E.written E.counts err.old) reported not_text_line ExitStatus.Usage ended)
         false (device_of E.written E.counts err.new) result }
 {
-    let ended = print_text(err, NOT_TEXT, USAGE_ERROR);
+    let ended = ExitStatus::Usage.after(print_text(err, NOT_TEXT));
     finish(ended, false, err)
 }
 
@@ -191,7 +188,7 @@ fn tell<O: Sink, E: Sink>(alloc: Global, fault: &WordsFault, out: &mut O, err: &
     match fault {
         WordsFault::Clap(error) => report_error(alloc, error, out, err),
         WordsFault::BadValue(name) => match format!(in alloc; "bad value --{name}\n") {
-            Ok(text) => print_text(err, text.as_str(), USAGE_ERROR),
+            Ok(text) => ExitStatus::Usage.after(print_text(err, text.as_str())),
             Err(_) => out_of_memory(out),
         },
         WordsFault::NoMemory => out_of_memory(out),
@@ -216,8 +213,8 @@ fn report_error<O: Sink, E: Sink>(
         return out_of_memory(out);
     };
     if error.use_stderr() {
-        print_text(err, text.as_str(), USAGE_ERROR)
+        ExitStatus::Usage.after(print_text(err, text.as_str()))
     } else {
-        print_text(out, text.as_str(), SUCCESS)
+        ExitStatus::Success.after(print_text(out, text.as_str()))
     }
 }

@@ -12,7 +12,9 @@ use Rattle.mes_stream.specs.declared.fault.Report.{Report}
 use Rattle.mes_stream.specs.declared.fault.Stop.{Stop}
 use Rattle.mes_session.specs.Logs.{EndsLog}
 use Rattle.mes_session.specs.Writing.{IsLogOf, StopsLog}
-use Rattle.mesosev_stream.specs.Printing.{PrintsStatus}
+use Rattle.mesosev_stream.specs.Printing.{Tells}
+use Rattle.mesosev_stream.specs.declared.exit_status.ExitStatus.{ExitStatus}
+use Rattle.mesosev_stream.specs.declared.exit_status.ExitStatus.TheVariants as exit
 use Rattle.mesosev_stream.specs.declared.outcome.RunOutcome.{RunOutcome}
 use Rattle.mesosev_stream.specs.declared.limits.TheConstants.{MAX_READS}
 use Rattle.mesosev_log.specs.Replaying.{ReadsLogInput, ReplaysRead, Replays}
@@ -30,13 +32,13 @@ pub replays : (limit : ℕ) (input rest out printed : Device) (ended : RunOutcom
     → ((w : List ℕ) × ReadsLogInput limit input rest w entries outcome) → ReplaysRead entries outcome out printed ended → Replays limit input rest out printed ended
 replays limit input rest out printed ended entries outcome (w, reads) rests = (w, entries, outcome, reads, rests)
 
-pub relogs : (limit : ℕ) (input rest out written err reported : Device) (status : ℕ) (entries : List Entry) (outcome : Result Report Stop)
+pub relogs : (limit : ℕ) (input rest out written err reported : Device) (status : ExitStatus) (entries : List Entry) (outcome : Result Report Stop)
     → ((w : List ℕ) × ReadsLogInput limit input rest w entries outcome) → RelogsRead limit entries outcome out written err reported status → Relogs limit input rest out written err reported status
 relogs limit input rest out written err reported status entries outcome (w, reads) rests = (w, entries, outcome, reads, rests)
 
 module _ {W : Type 0} (written : W → Option (List ℕ)) (counts : W → Counts) where
   pub writes_all : (limit : ℕ) (entries : List Entry) (old new : W) (err : Device) → ((w : List ℕ) × IsLogOf limit entries w × WroteAll written counts old new w)
-      → WritesLog limit entries (device_of written counts old) (device_of written counts new) err err 0
+      → WritesLog limit entries (device_of written counts old) (device_of written counts new) err err exit.Success
   writes_all limit entries old new err (w, is, all) = inl (w, is, record { out = all.out; none_fails = all.none_fails; calls = all.calls }, refl, refl)
 
   stops : (limit : ℕ) (entries : List Entry) (old new : W) (fault : SendFault) → StopsLog written counts limit entries old new fault
@@ -45,6 +47,6 @@ module _ {W : Type 0} (written : W → Option (List ℕ)) (counts : W → Counts
   stops limit entries old new NoMemory same = ap (device_of written counts) same
   stops limit entries old new (Write fault) (w, is, some) = (w, is, record { out = some.out; last = some.last; calls = some.calls })
 
-  pub writes_none : (limit : ℕ) (entries : List Entry) (old new : W) (err reported : Device) (fault : SendFault) (status : ℕ) → StopsLog written counts limit entries old new fault
-      → PrintsStatus err reported (send_text fault ++ 10 ∷ []) 1 status → WritesLog limit entries (device_of written counts old) (device_of written counts new) err reported status
-  writes_none limit entries old new err reported fault status stopped prints = inr (fault, stops limit entries old new fault stopped, prints)
+  pub writes_none : (limit : ℕ) (entries : List Entry) (old new : W) (err reported : Device) (fault : SendFault) → StopsLog written counts limit entries old new fault
+      → Tells err reported (send_text fault ++ 10 ∷ []) → WritesLog limit entries (device_of written counts old) (device_of written counts new) err reported exit.Fault
+  writes_none limit entries old new err reported fault stopped told = inr (fault, stops limit entries old new fault stopped, told, refl)

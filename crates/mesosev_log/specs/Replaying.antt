@@ -12,6 +12,7 @@ use Rattle.mes_session.specs.Refusal.{Refusal}
 use Rattle.mes_session.specs.History.{Represents, IsLegal, StopsAt}
 use Rattle.mes_session.specs.Printed.{refusal_text, report_text}
 use Rattle.mesosev_stream.specs.Printing.{LacksMemory, Prints}
+use Rattle.mesosev_stream.specs.declared.exit_status.ExitStatus.TheVariants as exit
 use Rattle.mesosev_stream.specs.declared.outcome.RunOutcome.{RunOutcome}
 use Rattle.mesosev_stream.specs.declared.limits.TheConstants.{MAX_READS}
 
@@ -24,13 +25,13 @@ ReadsLogInput limit input rest w entries outcome = Consumes input.bytes rest.byt
 abbrev pub ReplaysEntries : List Entry → Device → Device → RunOutcome → Type 0
 ReplaysEntries entries out printed ended =
     ((held : Held) × IsLegal entries × Represents entries held
-    × (Prints out printed (report_text (length entries) held) 0 ended ⊎ LacksMemory out printed ended))
-    ⊎ ((before : ℕ) × (refusal : Refusal) × StopsAt entries before refusal × Prints out printed (refusal_text refusal before ++ 10 ∷ []) 1 ended)
+    × (Prints out printed (report_text (length entries) held) exit.Success ended ⊎ LacksMemory out printed ended))
+    ⊎ ((before : ℕ) × (refusal : Refusal) × StopsAt entries before refusal × Prints out printed (refusal_text refusal before ++ 10 ∷ []) exit.Fault ended)
 
 -- what became of the entries that were read: replayed, where the log was read to its end; else the fault was told
 abbrev pub ReplaysRead : List Entry → Result Report Stop → Device → Device → RunOutcome → Type 0
 ReplaysRead entries (Ok report) out printed ended = ReplaysEntries entries out printed ended
-ReplaysRead entries (Err stop) out printed ended = Prints out printed (fault_text stop.fault stop.used ++ 10 ∷ []) 1 ended
+ReplaysRead entries (Err stop) out printed ended = Prints out printed (fault_text stop.fault stop.used ++ 10 ∷ []) exit.Fault ended
 
 -- the bytes w were taken from the input and read as the entries of a log up to the outcome, and that became of them
 abbrev pub Replays : ℕ → Device → Device → Device → Device → RunOutcome → Type 0

@@ -6,18 +6,19 @@ ghost use Rattle.mesosev_log.specs.Relogging.{Relogs, WritesLog};
 use mes_frame::{Limit, Sink, Source};
 use mes_msg::Entry;
 use mes_session::{read_log, write_log};
-use mesosev_stream::{MAX_READS, SUCCESS, print_fault, print_send_fault};
+use mesosev_stream::{ExitStatus, MAX_READS, print_fault, print_send_fault};
 use std::alloc::Global;
 
 /// Reads a session log of either version to its end, and writes its entries as a log of version 2, under the same limit. Where it has a
-/// fault nothing is written, and the fault is told. Answers the status. Holds all entries.
+/// fault nothing is written, and the fault is told; where standard error fails in that, the status alone tells it. Answers the status.
+/// Holds all entries.
 pub fn relog<I: Source, O: Sink, E: Sink>(
     alloc: Global,
     limit: Limit,
     input: &mut I,
     out: &mut O,
     err: &mut E,
-) -> u8
+) -> ExitStatus
     ensures { Relogs limit
         (device_of I.left I.counts input.old) (device_of I.left I.counts input.new)
         (device_of O.written O.counts out.old) (device_of O.written O.counts out.new)
@@ -27,7 +28,10 @@ pub fn relog<I: Source, O: Sink, E: Sink>(
     let mut entries = Vec::new(alloc);
     match read_log(alloc, input, limit, MAX_READS, &mut entries) {
         Ok(_report) => send(alloc, entries.as_slice(), limit, out, err),
-        Err(stop) => print_fault(err, &stop.fault, stop.used).status(),
+        Err(stop) => {
+            let _ = print_fault(err, &stop.fault, stop.used);
+            ExitStatus::Fault
+        }
     }
 }
 
@@ -38,14 +42,17 @@ fn send<O: Sink, E: Sink>(
     limit: Limit,
     out: &mut O,
     err: &mut E,
-) -> u8
+) -> ExitStatus
     ensures { WritesLog limit entries.now
         (device_of O.written O.counts out.old) (device_of O.written O.counts out.new)
         (device_of E.written E.counts err.old) (device_of E.written E.counts err.new)
         result }
 {
     match write_log(alloc, out, entries, limit) {
-        Ok(()) => SUCCESS,
-        Err(fault) => print_send_fault(err, &fault).status(),
+        Ok(()) => ExitStatus::Success,
+        Err(fault) => {
+            let _ = print_send_fault(err, &fault);
+            ExitStatus::Fault
+        }
     }
 }

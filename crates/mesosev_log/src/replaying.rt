@@ -11,13 +11,12 @@ use mes_frame::{Limit, Sink, Source};
 use mes_msg::Entry;
 use mes_session::{Refusal, Session, read_log, refusal_line};
 use mesosev_stream::{
-    FAULT_STATUS, MAX_READS, RunOutcome, SUCCESS, out_of_memory, print_bytes, print_fault,
-    print_line,
+    ExitStatus, MAX_READS, RunOutcome, out_of_memory, print_bytes, print_fault, print_line,
 };
 use std::alloc::Global;
 
 /// Reads a session log of either version to its end, and prints the report of the session that it leads to. Where the log has a fault,
-/// or a call in it is refused, or memory is, that is told in its one line, and the status is 1. Holds all entries.
+/// or a call in it is refused, or memory is, that is told in its one line, and the status is `Fault`. Holds all entries.
 pub fn replay<I: Source, O: Sink>(
     alloc: Global,
     limit: Limit,
@@ -29,37 +28,37 @@ pub fn replay<I: Source, O: Sink>(
 {
     let mut entries = Vec::new(alloc);
     match read_log(alloc, input, limit, MAX_READS, &mut entries) {
-        Ok(_report) => print_replay(alloc, entries.as_slice(), out),
-        Err(stop) => print_fault(out, &stop.fault, stop.used),
+        Ok(_report) => report_replay(alloc, entries.as_slice(), out),
+        Err(stop) => ExitStatus::Fault.after(print_fault(out, &stop.fault, stop.used)),
     }
 }
 
-/// Prints what the entries lead to.
-fn print_replay<O: Sink>(alloc: Global, entries: &[Entry], out: &mut O) -> RunOutcome
+/// Tells what the entries lead to.
+fn report_replay<O: Sink>(alloc: Global, entries: &[Entry], out: &mut O) -> RunOutcome
     ensures { ReplaysEntries entries.now (device_of O.written O.counts out.old) (device_of O.written O.counts out.new) result }
 {
     match mes_session::replay(alloc, entries) {
-        Ok(session) => print_report(&session, entries.len() as u64, out),
-        Err((before, refusal)) => print_refusal(&refusal, before as u64, out),
+        Ok(session) => report_session(&session, entries.len() as u64, out),
+        Err((before, refusal)) => report_refusal(&refusal, before as u64, out),
     }
 }
 
-/// Prints the report of a session behind so many entries, with the status 0.
-fn print_report<O: Sink>(session: &Session, entries: u64, out: &mut O) -> RunOutcome
-    ensures { Prints (device_of O.written O.counts out.old) (device_of O.written O.counts out.new) (report_text entries session.now) 0 result
+/// Prints the report of a session behind so many entries. The status is `Success`, or `Fault` where memory was refused for it.
+fn report_session<O: Sink>(session: &Session, entries: u64, out: &mut O) -> RunOutcome
+    ensures { Prints (device_of O.written O.counts out.old) (device_of O.written O.counts out.new) (report_text entries session.now) ExitStatus.Success result
         ⊎ LacksMemory (device_of O.written O.counts out.old) (device_of O.written O.counts out.new) result }
 {
     match session.report(entries) {
-        Ok(lines) => print_bytes(out, lines.as_slice(), SUCCESS),
+        Ok(lines) => ExitStatus::Success.after(print_bytes(out, lines.as_slice())),
         Err(_) => out_of_memory(out),
     }
 }
 
-/// Prints the line of a refusal behind so many entries, with the status 1.
-fn print_refusal<O: Sink>(refusal: &Refusal, before: u64, out: &mut O) -> RunOutcome
-    ensures { Prints (device_of O.written O.counts out.old) (device_of O.written O.counts out.new) (refusal_text refusal.now before ++ 10 ∷ []) 1 result }
+/// Prints the line of a refusal behind so many entries. The status is `Fault`.
+fn report_refusal<O: Sink>(refusal: &Refusal, before: u64, out: &mut O) -> RunOutcome
+    ensures { Prints (device_of O.written O.counts out.old) (device_of O.written O.counts out.new) (refusal_text refusal.now before ++ 10 ∷ []) ExitStatus.Fault result }
 {
     let mut line = ArrayString::new();
     refusal_line(refusal, before, &mut line);
-    print_line(out, line.as_str(), FAULT_STATUS)
+    ExitStatus::Fault.after(print_line(out, line.as_str()))
 }

@@ -7,6 +7,7 @@ use Rattle.mes_frame.specs.Devices.{Device}
 use Rattle.mes_frame.specs.declared.limits.TheConstants.{DEFAULT_RECORD_LIMIT}
 use Rattle.mesosev_net.specs.Given.{Given}
 use Rattle.mesosev_stream.specs.Printing.{Prints}
+use Rattle.mesosev_stream.specs.declared.exit_status.ExitStatus.TheVariants as exit
 use Rattle.mesosev_stream.specs.declared.outcome.RunOutcome.{RunOutcome}
 use Rattle.mesosev_stream.specs.declared.limits.TheConstants.{MAX_READS}
 use Rattle.mes_stream.specs.Lines.{fault_text}
@@ -26,10 +27,10 @@ module _ (Does : List Event → Type 0) (input rest out printed : Device) (ended
     more,
     r,
     (consumes, ends),
-    subst (λ (q : Result Report Stop). MatchResult q (λ _. Does more) (λ stop. Prints out printed (fault_text stop.fault stop.used ++ 10 ∷ []) 1 ended)) (sym good)
+    subst (λ (q : Result Report Stop). MatchResult q (λ _. Does more) (λ stop. Prints out printed (fault_text stop.fault stop.used ++ 10 ∷ []) exit.Fault ended)) (sym good)
         (subst Does (same ∙ is ∙ ap (λ (front : List Event). front ++ more) none) does),
   )
 
-  pub given_fault : (stop : Stop) → Reads → r ≡ Err stop → Prints out printed (fault_text stop.fault stop.used ++ 10 ∷ []) 1 ended → Given Does input rest out printed ended
+  pub given_fault : (stop : Stop) → Reads → r ≡ Err stop → Prints out printed (fault_text stop.fault stop.used ++ 10 ∷ []) exit.Fault ended → Given Does input rest out printed ended
   given_fault stop (w, more, consumes, is, ends) bad prints =
-      (w, more, r, (consumes, ends), subst (λ (q : Result Report Stop). MatchResult q (λ _. Does more) (λ s. Prints out printed (fault_text s.fault s.used ++ 10 ∷ []) 1 ended)) (sym bad) prints)
+      (w, more, r, (consumes, ends), subst (λ (q : Result Report Stop). MatchResult q (λ _. Does more) (λ s. Prints out printed (fault_text s.fault s.used ++ 10 ∷ []) exit.Fault ended)) (sym bad) prints)

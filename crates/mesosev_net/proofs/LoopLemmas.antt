@@ -13,6 +13,7 @@ use Rattle.mesosev_net.specs.StreamIds.{ids_from}
 use Rattle.mesosev_net.specs.Subscribed.{SubscribesSome}
 use Rattle.mesosev_net.proofs.TurnLemmas.{served_some}
 use Rattle.mesosev_stream.specs.Printing.{LacksMemory, Prints}
+use Rattle.mesosev_stream.specs.declared.exit_status.ExitStatus.TheVariants as exit
 use Rattle.mesosev_stream.specs.declared.outcome.RunOutcome.{RunOutcome}
 use Rattle.mesosev_serve.specs.Lines.{write_failed_line}
 use Rattle.mesosev_serve.specs.Serving.{ServesOne}
@@ -61,7 +62,7 @@ answered first most given before input rest writer written out dropped later r r
 -- it was not answered, which was told
 pub unanswered : (first : List ℕ) (most : ℕ) (given : List Event) (before : MasterState) (input rest writer written out dropped : Device) (later : MasterState) (r : Result Served WriteFault)
     (reported printed : Device) (ended : RunOutcome) → before ≡ new_master test_framework (ids_from first 1) → is_whole r ≡ false
-    → ServesOne before given most input rest writer written out dropped later r → Prints reported printed write_failed_line 1 ended ⊎ LacksMemory reported printed ended
+    → ServesOne before given most input rest writer written out dropped later r → Prints reported printed write_failed_line exit.Fault ended ⊎ LacksMemory reported printed ended
     → AnswersLoop first most given reported printed ended
 unanswered first most given before input rest writer written out dropped later r reported printed ended same is serves (inl prints) =
     inr (inl (looped first most given before input rest writer written out dropped later r false same is serves, prints))

@@ -6,6 +6,7 @@ use Rattle.mes_frame.specs.declared.limits.TheConstants.{DEFAULT_RECORD_LIMIT}
 use Rattle.mes_model.specs.declared.framework_info.FrameworkInfo.{FrameworkInfo}
 use Rattle.mes_model.specs.Id.{Id}
 use Rattle.mesosev_stream.specs.Printing.{Prints, ReadsInput}
+use Rattle.mesosev_stream.specs.declared.exit_status.ExitStatus.TheVariants as exit
 use Rattle.mesosev_stream.specs.declared.outcome.RunOutcome.{RunOutcome}
 use Rattle.mesosev_stream.specs.declared.limits.TheConstants.{MAX_READS}
 use Rattle.mes_stream.specs.Lines.{fault_text}
@@ -19,7 +20,7 @@ abbrev pub Given : (List Event → Type 0) → Device → Device → Device → 
 Given Does input rest out printed ended =
     (w : List ℕ) × (events : List Event) × (outcome : Result Report Stop)
     × ReadsInput Plain DEFAULT_RECORD_LIMIT MAX_READS input rest w events outcome
-    × MatchResult outcome (λ report. Does events) (λ stop. Prints out printed (fault_text stop.fault stop.used ++ 10 ∷ []) 1 ended)
+    × MatchResult outcome (λ report. Does events) (λ stop. Prints out printed (fault_text stop.fault stop.used ++ 10 ∷ []) exit.Fault ended)
 
 -- the framework of a test master
 abbrev pub test_framework : Id

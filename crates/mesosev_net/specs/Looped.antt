@@ -14,6 +14,7 @@ use Rattle.mesosev_net.specs.ServedTurns.{ServesSome}
 use Rattle.mesosev_net.specs.StreamIds.{ids_from}
 use Rattle.mesosev_net.specs.declared.both_ends.TheConstants.{LOOPBACK_STREAM}
 use Rattle.mesosev_stream.specs.Printing.{LacksMemory, Prints}
+use Rattle.mesosev_stream.specs.declared.exit_status.ExitStatus.TheVariants as exit
 use Rattle.mesosev_stream.specs.declared.outcome.RunOutcome.{RunOutcome}
 use Rattle.mesosev_stream.specs.declared.limits.TheConstants.{MAX_READS}
 use Rattle.mesosev_serve.specs.Lines.{write_failed_line}
@@ -68,7 +69,7 @@ pub record ShowsSome (out printed : Device) (ended : RunOutcome) : Type 0 where
 abbrev pub AnswersLoop : List ℕ → ℕ → List Event → Device → Device → RunOutcome → Type 0
 AnswersLoop first most given out printed ended =
     (ServesLoop first most given true × ShowsSome out printed ended)
-    ⊎ (ServesLoop first most given false × Prints out printed write_failed_line 1 ended)
+    ⊎ (ServesLoop first most given false × Prints out printed write_failed_line exit.Fault ended)
     ⊎ LacksMemory out printed ended
 
 -- The events went from a test master to a scheduler that subscribed, in chunks of `most` bytes, and were shown there. Or the SUBSCRIBE was

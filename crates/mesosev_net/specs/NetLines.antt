@@ -2,6 +2,7 @@
 use Rattle.std.specs.Prelude.{◌≡◌, ◌⊎◌, ℕ, List, codes}
 use Rattle.mes_frame.specs.Devices.{Device}
 use Rattle.mesosev_stream.specs.Printing.{LacksMemory, Prints}
+use Rattle.mesosev_stream.specs.declared.exit_status.ExitStatus.TheVariants as exit
 use Rattle.mesosev_stream.specs.declared.outcome.RunOutcome.{RunOutcome}
 
 -- the address could not be listened on
@@ -20,6 +21,6 @@ connect_failed = codes "net connect failed\n"
 abbrev pub IsNetLine : List ℕ → Type 0
 IsNetLine line = (line ≡ bind_failed) ⊎ (line ≡ accept_failed) ⊎ (line ≡ connect_failed)
 
--- the line was printed, with the status 1
+-- the line was printed, and it is a fault
 abbrev pub ReportsNet : List ℕ → Device → Device → RunOutcome → Type 0
-ReportsNet line out printed ended = Prints out printed line 1 ended
+ReportsNet line out printed ended = Prints out printed line exit.Fault ended

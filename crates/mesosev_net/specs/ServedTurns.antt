@@ -10,6 +10,7 @@ use Rattle.mesosev_net.specs.NetLines.{ReportsNet, accept_failed, bind_failed}
 use Rattle.mesosev_net.specs.StreamIds.{ids_from}
 use Rattle.mesosev_net.specs.declared.serving.TheConstants.{STREAM_CHUNK}
 use Rattle.mesosev_stream.specs.Printing.{LacksMemory, ended_after}
+use Rattle.mesosev_stream.specs.declared.exit_status.ExitStatus.TheVariants as exit
 use Rattle.mesosev_stream.specs.declared.outcome.RunOutcome.{RunOutcome}
 use Rattle.mesosev_stream.specs.declared.outcome.RunOutcome.TheVariants.{Status, OutputFailed}
 use Rattle.mesosev_serve.specs.Serving.{ServesOne}
@@ -41,7 +42,7 @@ Turned (suc n) before given out printed later bytes =
 -- all of so many were served; or one of them was not, which ended it behind what was printed of those before
 abbrev pub ServesTurns : MasterState → List Event → ℕ → Device → Device → RunOutcome → Type 0
 ServesTurns before given count out printed ended =
-    ((later : MasterState) × (bytes : ℕ) × Turned count before given out printed later bytes × (ended ≡ Status 0))
+    ((later : MasterState) × (bytes : ℕ) × Turned count before given out printed later bytes × (ended ≡ Status exit.Success))
     ⊎ ((n : ℕ) × (between : MasterState) × (reported : Device) × (sum : ℕ) × (later : MasterState) × (last : RunOutcome) × (n < count)
     × Turned n before given out reported between sum × ServesNext between given reported printed later (Err last) × (ended ≡ ended_after sum last))
 

@@ -15,7 +15,7 @@ use mes_msg::Event;
 use mes_stream::read_plain;
 use mesosev_serve::{Served, WRITE_FAILED, report_unsent, send_subscribe, serve_one, show_answer};
 use mesosev_stream::{
-    ChunkSize, FAULT_STATUS, MAX_READS, RunOutcome, out_of_memory, print_fault, print_text,
+    ChunkSize, ExitStatus, MAX_READS, RunOutcome, out_of_memory, print_fault, print_text,
 };
 use std::alloc::{AllocGlobal, Global};
 use std::io::{self, BufReader};
@@ -38,8 +38,8 @@ pub const LOOPBACK_STREAM: u128 = 0x4000_8000_0000_0000_0001;
 /// Reads events from the input as plain RecordIO, and then lets a test master of the framework `F1` send them, in chunks of so many bytes,
 /// to a scheduler in the same process, over a socket, and shows what comes there, as `subscribe_over` does. The scheduler subscribes as
 /// user `root` and name `loopback`. Tells the first fault of the input; that the stream can't be encoded, or the SUBSCRIBE not be sent,
-/// `net write failed`; or why there is no connection; with the status 1. Holds all events, and their stream as it is sent. The memory of
-/// the events and of the master is left to the end of the process: to give it back piece by piece took a tenth of the time.
+/// `net write failed`; or why there is no connection; with the status `Fault`. Holds all events, and their stream as it is sent. The
+/// memory of the events and of the master is left to the end of the process: to give it back piece by piece took a tenth of the time.
 pub fn loopback<R, I: Source, O: Sink>(
     rt: &R,
     most: ChunkSize,
@@ -60,7 +60,7 @@ where
             mem::forget(events);
             ended
         }
-        Err(stop) => print_fault(out, &stop.fault, stop.used),
+        Err(stop) => ExitStatus::Fault.after(print_fault(out, &stop.fault, stop.used)),
     }
 }
 
@@ -79,7 +79,7 @@ where
     let alloc = rt.alloc();
     let pair = match connected_pair(rt) {
         Ok(pair) => pair,
-        Err(line) => return print_text(out, line, FAULT_STATUS),
+        Err(line) => return ExitStatus::Fault.after(print_text(out, line)),
     };
     let Ok(info) = framework_info(alloc, USER, NAME) else {
         return out_of_memory(out);
@@ -170,11 +170,11 @@ fn show_from<S: Source, O: Sink>(alloc: Global, reader: &mut S, out: &mut O) -> 
 
 /// Tells why there is no answer: it could not be encoded, or there was no memory to hold it.
 fn report_unanswered<O: Sink>(out: &mut O, refusals: u64) -> RunOutcome
-    ensures { Prints (device_of O.written O.counts out.old) (device_of O.written O.counts out.new) write_failed_line 1 result
+    ensures { Prints (device_of O.written O.counts out.old) (device_of O.written O.counts out.new) write_failed_line ExitStatus.Fault result
         ⊎ LacksMemory (device_of O.written O.counts out.old) (device_of O.written O.counts out.new) result }
 {
     if refusals == 0 {
-        print_text(out, WRITE_FAILED, FAULT_STATUS)
+        ExitStatus::Fault.after(print_text(out, WRITE_FAILED))
     } else {
         out_of_memory(out)
     }

@@ -17,7 +17,7 @@ use mes_msg::Event;
 use mes_stream::read_plain;
 use mesosev_serve::serve_one;
 use mesosev_stream::{
-    ChunkSize, FAULT_STATUS, MAX_READS, RunOutcome, SUCCESS, out_of_memory, print_fault, print_text,
+    ChunkSize, ExitStatus, MAX_READS, RunOutcome, out_of_memory, print_fault, print_text,
 };
 use std::alloc::{AllocGlobal, Global};
 use std::io::Read;
@@ -37,7 +37,7 @@ const UNREAD_READS: u32 = 4_096;
 /// connections, one after the other; its streams have this id and those that count up from it, and these events, in chunks of
 /// `STREAM_CHUNK` bytes. Of each connection a line is printed, as `serve_one` does. A connection is closed before the next one is taken,
 /// whatever became of it, and what its client does ends nothing. Tells the first fault of the input, or why there is no connection, with the
-/// status 1. Holds all events, and those that a stream sends.
+/// status `Fault`. Holds all events, and those that a stream sends.
 pub fn serve<R, I: Source, O: Sink>(
     rt: &R,
     port: u16,
@@ -55,7 +55,7 @@ where
     let mut events = Vec::new(alloc);
     match read_plain(alloc, input, Limit::USUAL, MAX_READS, &mut events) {
         Ok(_) => serve_events(rt, port, count, stream, events.as_slice(), out),
-        Err(stop) => print_fault(out, &stop.fault, stop.used),
+        Err(stop) => ExitStatus::Fault.after(print_fault(out, &stop.fault, stop.used)),
     }
 }
 
@@ -78,7 +78,7 @@ where
     };
     match TcpListener::bind(rt, SocketAddr::from(([127, 0, 0, 1], port))) {
         Ok(listener) => serve_turns(alloc, &listener, &mut master, events, count, out),
-        Err(_) => print_text(out, BIND_FAILED, FAULT_STATUS),
+        Err(_) => ExitStatus::Fault.after(print_text(out, BIND_FAILED)),
     }
 }
 
@@ -109,7 +109,7 @@ fn serve_turns<O: Sink>(
             Err(ended) => return ended.following(printed),
         }
     }
-    RunOutcome::Status(SUCCESS)
+    RunOutcome::Status(ExitStatus::Success)
 }
 
 /// Takes the next connection, serves it, and closes it. Answers how many bytes were printed of it.
@@ -125,7 +125,7 @@ fn serve_next<O: Sink>(
     ensures { ServesNext master.old events.now (device_of O.written O.counts out.old) (device_of O.written O.counts out.new) master.new result }
 {
     let Ok((stream, _peer)) = listener.accept() else {
-        return Err(print_text(out, ACCEPT_FAILED, FAULT_STATUS));
+        return Err(ExitStatus::Fault.after(print_text(out, ACCEPT_FAILED)));
     };
     let mut reader = FromStd::new(&stream);
     let mut writer = FromStd::new(&stream);

@@ -9,12 +9,13 @@ use mes_double_http::Host;
 use mes_frame::{FromStd, Sink};
 use mes_json::Text;
 use mesosev_serve::subscribe_over;
-use mesosev_stream::{FAULT_STATUS, RunOutcome, out_of_memory, print_text};
+use mesosev_stream::{ExitStatus, RunOutcome, out_of_memory, print_text};
 use std::alloc::AllocGlobal;
 use std::net::{Net, TcpListener, TcpStream};
 
 /// Connects to the host, subscribes a framework of this user and name there, and shows the events of the stream that comes as its answer, in
-/// at most so many reads behind its head, as `subscribe_over` does. Tells where the host could not be reached, with the status 1.
+/// at most so many reads behind its head, as `subscribe_over` does. Tells where the host could not be reached, with the status
+/// `Fault`.
 pub fn subscribe<R, O: Sink>(
     rt: &R,
     to: &Host,
@@ -33,7 +34,7 @@ where
     };
     let host = to.as_str();
     let Ok(stream) = TcpStream::connect(rt, host) else {
-        return print_text(out, CONNECT_FAILED, FAULT_STATUS);
+        return ExitStatus::Fault.after(print_text(out, CONNECT_FAILED));
     };
     let mut reader = FromStd::new(&stream);
     let mut writer = FromStd::new(&stream);

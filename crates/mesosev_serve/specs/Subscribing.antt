@@ -14,6 +14,7 @@ use Rattle.mes_msg.specs.declared.send_fault.SendFault.{SendFault}
 use Rattle.mes_msg.specs.declared.send_fault.SendFault.TheVariants as send
 use Rattle.mesosev_stream.specs.Printing.{Prints, LacksMemory}
 use Rattle.mesosev_stream.specs.Showing.{Shows}
+use Rattle.mesosev_stream.specs.declared.exit_status.ExitStatus.TheVariants as exit
 use Rattle.mesosev_stream.specs.declared.outcome.RunOutcome.{RunOutcome}
 use Rattle.mes_session.specs.Made.{subscribe_call}
 use Rattle.mesosev_serve.specs.Lines.{write_failed_line}
@@ -45,13 +46,13 @@ abbrev pub ShowsAnswer : ℕ → Device → Device → Device → Device → Run
 ShowsAnswer reads input rest out reported ended =
     (taken : List ℕ) × (following : Device) × Consumes input.bytes following.bytes taken
     × (((id : List ℕ) × OpensStream taken id × GaveEach (length taken) input.counts following.counts × Shows Chunked DEFAULT_RECORD_LIMIT reads following rest out reported ended)
-    ⊎ ((fault : HeadFault) × Refuses BreaksStream fault taken input.counts following.counts × (rest ≡ following) × Prints out reported (refused_line fault) 1 ended))
+    ⊎ ((fault : HeadFault) × Refuses BreaksStream fault taken input.counts following.counts × (rest ≡ following) × Prints out reported (refused_line fault) exit.Fault ended))
 
 -- what is told of a SUBSCRIBE that did not go out
 abbrev pub ReportsUnsent : SendFault → Device → Device → RunOutcome → Type 0
 ReportsUnsent send.NoMemory out reported ended = LacksMemory out reported ended
-ReportsUnsent (send.Encode index why) out reported ended = Prints out reported write_failed_line 1 ended
-ReportsUnsent (send.Write fault) out reported ended = Prints out reported write_failed_line 1 ended
+ReportsUnsent (send.Encode index why) out reported ended = Prints out reported write_failed_line exit.Fault ended
+ReportsUnsent (send.Write fault) out reported ended = Prints out reported write_failed_line exit.Fault ended
 
 -- It went out, and what came as its answer was shown. Or it did not, which was told, and nothing was read.
 abbrev pub SubscribesOver : FrameworkInfo → List ℕ → ℕ → Device → Device → Device → Device → Device → Device → RunOutcome → Type 0

@@ -17,7 +17,7 @@ use mes_msg::{Call, SendFault};
 use mes_session::Session;
 use mes_stream::Framing;
 use mesosev_stream::{
-    Detail, FAULT_STATUS, MAX_READS, RunOutcome, follow, out_of_memory, print_text,
+    Detail, ExitStatus, MAX_READS, RunOutcome, follow, out_of_memory, print_text,
 };
 use std::alloc::Global;
 
@@ -85,7 +85,7 @@ pub fn show_answer<R: Source, O: Sink>(
 {
     match read_head(reader) {
         Ok(_) => show_stream(alloc, reader, max_reads, out),
-        Err(fault) => print_refused(out, &fault),
+        Err(fault) => report_refused(out, &fault),
     }
 }
 
@@ -111,23 +111,21 @@ fn show_stream<R: Source, O: Sink>(
     )
 }
 
-/// Tells that a SUBSCRIBE did not go out: `net write failed`, or F13 after 0 where memory was refused. The status is 1.
+/// Tells that a SUBSCRIBE did not go out: `net write failed`, or F13 after 0 where memory was refused. The status is `Fault`.
 pub fn report_unsent<O: Sink>(out: &mut O, fault: &SendFault) -> RunOutcome
     ensures { ReportsUnsent fault.now (device_of O.written O.counts out.old) (device_of O.written O.counts out.new) result }
 {
     match fault {
         SendFault::NoMemory => out_of_memory(out),
-        SendFault::Encode { .. } | SendFault::Write(_) => print_text(
-            out,
-            WRITE_FAILED,
-            FAULT_STATUS,
-        ),
+        SendFault::Encode { .. } | SendFault::Write(_) => {
+            ExitStatus::Fault.after(print_text(out, WRITE_FAILED))
+        }
     }
 }
 
-/// Tells of a head that was refused. The status is 1.
-fn print_refused<O: Sink>(out: &mut O, fault: &HeadFault) -> RunOutcome
-    ensures { Prints (device_of O.written O.counts out.old) (device_of O.written O.counts out.new) (refused_line fault.now) 1 result }
+/// Tells of a head that was refused. The status is `Fault`.
+fn report_refused<O: Sink>(out: &mut O, fault: &HeadFault) -> RunOutcome
+    ensures { Prints (device_of O.written O.counts out.old) (device_of O.written O.counts out.new) (refused_line fault.now) ExitStatus.Fault result }
 {
     let mut why = ArrayString::new();
     fault.text(&mut why);
@@ -135,7 +133,7 @@ fn print_refused<O: Sink>(out: &mut O, fault: &HeadFault) -> RunOutcome
     line.push_str("refused ");
     line.push_str(why.as_str());
     line.push_str("\n");
-    print_text(out, line.as_str(), FAULT_STATUS)
+    ExitStatus::Fault.after(print_text(out, line.as_str()))
 }
 
 /// The SUBSCRIBE of a session that has heard nothing.

@@ -9,7 +9,7 @@ use mes_json::Text;
 use mes_model::{FrameworkInfo, Id, Part};
 use mes_msg::{Call, Event};
 use mesosev_serve::{serve_one, show_answer};
-use mesosev_stream::{ChunkSize, RunOutcome};
+use mesosev_stream::{ChunkSize, ExitStatus, RunOutcome};
 use std::alloc::{AllocGlobal, Global};
 use std::process::Abort;
 use std::test::Fail;
@@ -284,8 +284,9 @@ pub(crate) fn printed_of(
     let mut text = String::new(alloc);
     push_bytes(&mut text, out.bytes())?;
     match ended {
-        RunOutcome::Status(0) => {}
-        RunOutcome::Status(_) => text.push_str(" 1")?,
+        RunOutcome::Status(ExitStatus::Success) => {}
+        RunOutcome::Status(ExitStatus::Fault) => text.push_str(" 1")?,
+        RunOutcome::Status(ExitStatus::Usage) => text.push_str(" 2")?,
         RunOutcome::OutputFailed(_) => text.push_str(" failed")?,
     }
     Ok(text)

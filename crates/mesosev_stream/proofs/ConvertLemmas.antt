@@ -15,13 +15,15 @@ use Rattle.mes_stream.specs.declared.fault.Stop.{Stop}
 use Rattle.mes_stream.specs.declared.stream_reader.Framing.{Framing}
 use Rattle.mesosev_stream.specs.Converting.{Converts, IsConverted, Sends, SendsRead}
 use Rattle.mes_frame.specs.Devices.{Device, device_of}
-use Rattle.mesosev_stream.specs.Printing.{PrintsStatus}
+use Rattle.mesosev_stream.specs.Printing.{Tells}
+use Rattle.mesosev_stream.specs.declared.exit_status.ExitStatus.{ExitStatus}
+use Rattle.mesosev_stream.specs.declared.exit_status.ExitStatus.TheVariants as exit
 use Rattle.mesosev_stream.specs.declared.limits.TheConstants.{MAX_READS}
 
 module _ {W : Type 0} (written : W → Option (List ℕ)) (counts : W → Counts) where
   pub sends_all : (limit : ℕ) (most : Option ℕ) (events : List Event) (old new : W) (err : Device)
       → ((w : List ℕ) × IsConverted limit most events w × WroteAll written counts old new w)
-      → Sends limit most events (device_of written counts old) (device_of written counts new) err err 0
+      → Sends limit most events (device_of written counts old) (device_of written counts new) err err exit.Success
   sends_all limit most events old new err (w, is, all) = inl (w, is, record { out = all.out; none_fails = all.none_fails; calls = all.calls }, refl, refl)
 
   stops : (limit : ℕ) (most : Option ℕ) (events : List Event) (old new : W) (fault : SendFault)
@@ -31,13 +33,13 @@ module _ {W : Type 0} (written : W → Option (List ℕ)) (counts : W → Counts
   stops limit most events old new NoMemory same = ap (device_of written counts) same
   stops limit most events old new (Write fault) (w, is, some) = (w, is, record { out = some.out; last = some.last; calls = some.calls })
 
-  pub sends_none : (limit : ℕ) (most : Option ℕ) (events : List Event) (old new : W) (err reported : Device) (fault : SendFault) (status : ℕ)
-      → StopsSending written counts (IsConverted limit most events) limit events old new fault → PrintsStatus err reported (send_text fault ++ 10 ∷ []) 1 status
-      → Sends limit most events (device_of written counts old) (device_of written counts new) err reported status
-  sends_none limit most events old new err reported fault status stopped prints = inr (fault, stops limit most events old new fault stopped, prints)
+  pub sends_none : (limit : ℕ) (most : Option ℕ) (events : List Event) (old new : W) (err reported : Device) (fault : SendFault)
+      → StopsSending written counts (IsConverted limit most events) limit events old new fault → Tells err reported (send_text fault ++ 10 ∷ [])
+      → Sends limit most events (device_of written counts old) (device_of written counts new) err reported exit.Fault
+  sends_none limit most events old new err reported fault stopped told = inr (fault, stops limit most events old new fault stopped, told, refl)
 
 -- the events that were read were sent
-pub converts : (framing : Framing) (limit : ℕ) (most : Option ℕ) (input rest out written err reported : Device) (status : ℕ) (before events : List Event) (outcome : Result Report Stop) → before ≡ []
+pub converts : (framing : Framing) (limit : ℕ) (most : Option ℕ) (input rest out written err reported : Device) (status : ExitStatus) (before events : List Event) (outcome : Result Report Stop) → before ≡ []
     → ((w : List ℕ) × (more : List Event) × Consumes input.bytes rest.bytes w × (events ≡ before ++ more)
     × EndsReading framing Spells IsEventRefusal limit MAX_READS input.counts rest.counts rest.bytes w more outcome)
     → SendsRead limit most events outcome out written err reported status → Converts framing limit most input rest out written err reported status

@@ -32,6 +32,7 @@ use Rattle.mes_stream.proofs.Wider.{takes_wider}
 use Rattle.mesosev_stream.specs.Following.{Brings, IsFresh, GoesFrom, HasPrinted, PrintsEvents, StopsFrom, ended_of}
 use Rattle.mesosev_stream.specs.Printing.{IsCutOff, Prints, ended_after, outcome_line, outcome_status}
 use Rattle.mesosev_stream.specs.Showing.{lines_from, printed_from, Spelt, Follows}
+use Rattle.mesosev_stream.specs.declared.exit_status.ExitStatus.TheVariants as exit
 use Rattle.mesosev_stream.specs.declared.outcome.RunOutcome.{RunOutcome}
 use Rattle.mesosev_stream.specs.declared.outcome.RunOutcome.TheVariants.{OutputFailed}
 use Rattle.mesosev_stream.specs.declared.limits.TheConstants.{MAX_READS}
@@ -62,7 +63,7 @@ spelt_of : (framing : Framing) (limit : ℕ) (f : Reading EventReader) (w piece 
     → ReadingTakes HoldsData Spells IsEventRefusal f framing limit w values piece old now fed → Spelt framing limit (w ++ piece) (values ++ now)
 spelt_of framing limit f w piece values old now (Ok done) none (more, added, s) =
     (w ++ piece, [], sym (append-nil (w ++ piece)), lit≤ tt, inl (rw (added, none) (goes_of HoldsData Spells f.stream framing limit (w ++ piece) (values ++ more) s.0)))
-spelt_of framing limit f w piece values old now (Err reading_stop.RunOutcome) none (more, added, at) =
+spelt_of framing limit f w piece values old now (Err reading_stop.Ended) none (more, added, at) =
     let last = at.last in (at.stream, f.rest.items, at.is, omega (arith, last), inr (rw (added, none) at.ends))
 spelt_of framing limit f w piece values old now (Err (reading_stop.Fault fault)) none (more, added, at) =
     let s = at.stops in
@@ -268,12 +269,12 @@ module _ (framing : Framing) (limit reads : ℕ) (few : reads ≤ MAX_READS) (in
   follows_cut Spent fault ends is = absurd (cc)
 
   -- or memory was refused for those of one of them
-  pub follows_lacking : (end : ReadsEnd FollowStop) (late : Device) (ended : RunOutcome) → HasEnded end → ended_of end ≡ Err why.NoMemory → Prints mid late (fault_text NoMemory 0 ++ 10 ∷ []) 1 ended
+  pub follows_lacking : (end : ReadsEnd FollowStop) (late : Device) (ended : RunOutcome) → HasEnded end → ended_of end ≡ Err why.NoMemory → Prints mid late (fault_text NoMemory 0 ++ 10 ∷ []) exit.Fault ended
       → Follows first.detail framing limit reads input rest out late (ended_after now.lines.sent ended)
   follows_lacking (Stopped (PrintError why.NoMemory)) late ended (front, piece, at, stops, asked) is prints =
       let s = stops framing limit fresh in
       let went = goes_counted out mid (lines_from 1 (s.0 ++ s.1)) now.lines.sent s.6 in
-      rw s.5 (w, s.0, inr (inr (s.1, s.2, s.3, (consumes, record { front = front; piece = piece; read = at; had = s.4.had; has = rw at.is s.4.has }, asked), prints_behind out mid late (lines_from 1 (s.0 ++ s.1)) (fault_text NoMemory 0 ++ 10 ∷ []) now.lines.sent 1 ended went.0 went.1 prints)))
+      rw s.5 (w, s.0, inr (inr (s.1, s.2, s.3, (consumes, record { front = front; piece = piece; read = at; had = s.4.had; has = rw at.is s.4.has }, asked), prints_behind out mid late (lines_from 1 (s.0 ++ s.1)) (fault_text NoMemory 0 ++ 10 ∷ []) now.lines.sent exit.Fault ended went.0 went.1 prints)))
   follows_lacking (Stopped (PrintError (why.Output fault))) late ended ends is prints = absurd (cc)
   follows_lacking (Stopped (follow_stop.Reading reported)) late ended ends is prints = absurd (cc)
   follows_lacking AtEnd late ended ends is prints = absurd (cc)

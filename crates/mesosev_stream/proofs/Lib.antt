@@ -2,4 +2,5 @@ mod ConvertLemmas
 pub mod FewEvents
 mod FollowReads
 mod HoldLemmas
+pub mod PrintLemmas
 pub mod ShowLemmas

@@ -11,6 +11,7 @@ use Rattle.mes_stream.specs.Stream.{saturated}
 use Rattle.mes_frame.specs.Devices.{Device}
 use Rattle.mesosev_stream.specs.Printing.{GoesOut, IsCutOff, Prints, PrintsAfter, ended_after}
 use Rattle.mesosev_stream.specs.Showing.{lines_from}
+use Rattle.mesosev_stream.specs.declared.exit_status.ExitStatus.{ExitStatus}
 use Rattle.mesosev_stream.specs.declared.outcome.RunOutcome.{RunOutcome}
 use Rattle.mesosev_stream.specs.declared.outcome.RunOutcome.TheVariants.{Status, OutputFailed}
 
@@ -52,7 +53,7 @@ cut_more a b u v w sent cut =
     }
 
 -- printed behind a text that went out
-pub prints_behind : (a b c : Device) (v w : List ℕ) (before meant : ℕ) (ended : RunOutcome) → GoesOut a b v → before ≡ saturated (length v) → Prints b c w meant ended → PrintsAfter v a c w meant (ended_after before ended)
+pub prints_behind : (a b c : Device) (v w : List ℕ) (before : ℕ) (meant : ExitStatus) (ended : RunOutcome) → GoesOut a b v → before ≡ saturated (length v) → Prints b c w meant ended → PrintsAfter v a c w meant (ended_after before ended)
 prints_behind a b c v w before meant (Status status) first count (out, is) = (goes_both a b c v w first out, is)
 prints_behind a b c v w before meant (OutputFailed sent) first count cut =
     subst (λ (u : List ℕ). IsCutOff a c u w (saturated (before + sent))) (append-nil v) (goes_then_cut a b c v [] w before sent first count cut)

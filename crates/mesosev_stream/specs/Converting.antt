@@ -9,7 +9,9 @@ use Rattle.mes_stream.specs.declared.fault.Stop.{Stop}
 use Rattle.mes_msg.specs.declared.send_fault.SendFault.{SendFault}
 use Rattle.mes_stream.specs.declared.stream_reader.Framing.{Framing}
 use Rattle.mes_frame.specs.Devices.{Device}
-use Rattle.mesosev_stream.specs.Printing.{PrintsStatus, ReadsInput}
+use Rattle.mesosev_stream.specs.Printing.{ReadsInput, Tells}
+use Rattle.mesosev_stream.specs.declared.exit_status.ExitStatus.{ExitStatus}
+use Rattle.mesosev_stream.specs.declared.exit_status.ExitStatus.TheVariants as exit
 use Rattle.mesosev_stream.specs.declared.limits.TheConstants.{MAX_READS}
 
 -- the bytes w are the events, which are good, as plain RecordIO, or in chunks of a size
@@ -19,22 +21,22 @@ IsConverted limit (Some most) events w = IsStreamOf limit most events w
 
 -- The events were written, and nothing was told. Or one of them is not good, or memory was refused, and nothing was written, or
 -- the writer stopped behind a part of them: that was told.
-abbrev pub Sends : ℕ → Option ℕ → List Event → Device → Device → Device → Device → ℕ → Type 0
+abbrev pub Sends : ℕ → Option ℕ → List Event → Device → Device → Device → Device → ExitStatus → Type 0
 Sends limit most events out written err reported status =
     ((w : List ℕ) × IsConverted limit most events w × WroteAll {W = Device} (λ d. d.bytes) (λ d. d.counts) out written w
-    × (reported ≡ err) × (status ≡ 0))
+    × (reported ≡ err) × (status ≡ exit.Success))
     ⊎ ((fault : SendFault) × StopsSending {W = Device} (λ d. d.bytes) (λ d. d.counts) (IsConverted limit most events) limit events out written fault
-    × PrintsStatus err reported (send_text fault ++ 10 ∷ []) 1 status)
+    × Tells err reported (send_text fault ++ 10 ∷ []) × (status ≡ exit.Fault))
 
 -- what became of the events that were read: sent, where the stream was read to its end; else the fault was told, and nothing
 -- was written
-abbrev pub SendsRead : ℕ → Option ℕ → List Event → Result Report Stop → Device → Device → Device → Device → ℕ → Type 0
+abbrev pub SendsRead : ℕ → Option ℕ → List Event → Result Report Stop → Device → Device → Device → Device → ExitStatus → Type 0
 SendsRead limit most events (Ok report) out written err reported status = Sends limit most events out written err reported status
 SendsRead limit most events (Err stop) out written err reported status =
-    (written ≡ out) × PrintsStatus err reported (fault_text stop.fault stop.used ++ 10 ∷ []) 1 status
+    (written ≡ out) × Tells err reported (fault_text stop.fault stop.used ++ 10 ∷ []) × (status ≡ exit.Fault)
 
 -- the bytes w were taken from the input and read as the events up to the outcome, and that became of them
-abbrev pub Converts : Framing → ℕ → Option ℕ → Device → Device → Device → Device → Device → Device → ℕ → Type 0
+abbrev pub Converts : Framing → ℕ → Option ℕ → Device → Device → Device → Device → Device → Device → ExitStatus → Type 0
 Converts framing limit most input rest out written err reported status =
     (w : List ℕ) × (events : List Event) × (outcome : Result Report Stop) × ReadsInput framing limit MAX_READS input rest w events outcome
     × SendsRead limit most events outcome out written err reported status

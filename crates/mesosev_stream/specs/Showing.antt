@@ -15,6 +15,7 @@ use Rattle.mes_stream.specs.declared.fault.Fault.TheVariants.{NoMemory}
 use Rattle.mes_stream.specs.declared.fault.Report.{Report}
 use Rattle.mes_stream.specs.declared.fault.Stop.{Stop}
 use Rattle.mesosev_stream.specs.Printing.{IsCutOff, PrintsAfter, ReadsInput, Checks, outcome_line, outcome_status}
+use Rattle.mesosev_stream.specs.declared.exit_status.ExitStatus.TheVariants as exit
 use Rattle.mesosev_stream.specs.declared.outcome.RunOutcome.{RunOutcome}
 use Rattle.mesosev_stream.specs.declared.outcome.RunOutcome.TheVariants.{OutputFailed}
 use Rattle.mesosev_stream.specs.declared.follower.Detail.{Detail}
@@ -61,7 +62,7 @@ Shows framing limit reads input rest out printed ended =
     ⊎ ((last : List Event) × (sent : ℕ) × TakesEvents framing limit reads input rest w events last
     × IsCutOff out printed (lines_from 1 events) (lines_from (1 + length events) last) sent × (ended ≡ OutputFailed sent))
     ⊎ ((last : List Event) × (event : Event) × (more : List Event) × TakesEvents framing limit reads input rest w events (last ++ event ∷ more)
-    × PrintsAfter (lines_from 1 (events ++ last)) out printed (fault_text NoMemory 0 ++ 10 ∷ []) 1 ended))
+    × PrintsAfter (lines_from 1 (events ++ last)) out printed (fault_text NoMemory 0 ++ 10 ∷ []) exit.Fault ended))
 
 -- the events were checked, or shown
 abbrev pub Follows : Detail → Framing → ℕ → ℕ → Device → Device → Device → Device → RunOutcome → Type 0

@@ -6,8 +6,8 @@ ghost use Rattle.mesosev_stream.specs.Converting.{Converts, IsConverted, Sends};
 ghost use Rattle.mes_frame.specs.Devices.{device_of};
 
 use crate::chunk_size::ChunkSize;
+use crate::exit_status::ExitStatus;
 use crate::limits::MAX_READS;
-use crate::outcome::SUCCESS;
 use crate::print::{print_fault, print_send_fault};
 use mes_frame::{Limit, Sink, Source};
 use mes_msg::Event;
@@ -15,7 +15,8 @@ use mes_stream::{Framing, SendFault, read_events, write_plain, write_stream};
 use std::alloc::Global;
 
 /// Reads a stream to its end, and writes its events in canonical form: as plain RecordIO, or in chunks of `most` bytes.
-/// Where it has a fault nothing is written, and the fault is told. Answers the status. Holds all events.
+/// Where it has a fault nothing is written, and the fault is told; where standard error fails in that, the status alone tells it.
+/// Answers the status. Holds all events.
 pub fn convert<I: Source, O: Sink, E: Sink>(
     alloc: Global,
     framing: Framing,
@@ -24,7 +25,7 @@ pub fn convert<I: Source, O: Sink, E: Sink>(
     input: &mut I,
     out: &mut O,
     err: &mut E,
-) -> u8
+) -> ExitStatus
     ensures { Converts framing limit most
         (device_of I.left I.counts input.old) (device_of I.left I.counts input.new)
         (device_of O.written O.counts out.old) (device_of O.written O.counts out.new)
@@ -34,7 +35,10 @@ pub fn convert<I: Source, O: Sink, E: Sink>(
     let mut events = Vec::new(alloc);
     match read_events(alloc, input, framing, limit, MAX_READS, &mut events) {
         Ok(_report) => send(alloc, events.as_slice(), limit, most, out, err),
-        Err(stop) => print_fault(err, &stop.fault, stop.used).status(),
+        Err(stop) => {
+            let _ = print_fault(err, &stop.fault, stop.used);
+            ExitStatus::Fault
+        }
     }
 }
 
@@ -46,15 +50,18 @@ fn send<O: Sink, E: Sink>(
     most: Option<ChunkSize>,
     out: &mut O,
     err: &mut E,
-) -> u8
+) -> ExitStatus
     ensures { Sends limit most events.now
         (device_of O.written O.counts out.old) (device_of O.written O.counts out.new)
         (device_of E.written E.counts err.old) (device_of E.written E.counts err.new)
         result }
 {
     match write_events(alloc, events, limit, most, out) {
-        Ok(()) => SUCCESS,
-        Err(fault) => print_send_fault(err, &fault).status(),
+        Ok(()) => ExitStatus::Success,
+        Err(fault) => {
+            let _ = print_send_fault(err, &fault);
+            ExitStatus::Fault
+        }
     }
 }
 

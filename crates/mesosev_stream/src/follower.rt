@@ -10,7 +10,7 @@ ghost use Rattle.mesosev_stream.specs.Showing.{Follows, lines_from};
 use crate::limits::MAX_READS;
 use crate::line_buffer::LineBuffer;
 use crate::outcome::RunOutcome;
-use crate::print::{out_of_memory, print_outcome};
+use crate::print::{out_of_memory, report_outcome};
 use mes_frame::{Limit, Sink, Source, WriteFault};
 use mes_msg::Event;
 use mes_stream::{Consumer, EventReader, Framing, Reading, ReadingStop, ReadsEnd, read_device};
@@ -125,7 +125,7 @@ pub fn follow<I: Source, O: Sink>(
     match ended(read_device(input, max_reads, &mut follower, out)) {
         Ok(end) => {
             let events = follower.number.saturating_sub(1);
-            print_outcome(out, events, &follower.reading.outcome(end)).following(
+            report_outcome(out, events, &follower.reading.outcome(end)).following(
                 follower.lines.sent(),
             )
         }

@@ -4,6 +4,7 @@
 
 mod chunk_size;
 mod conversion;
+mod exit_status;
 mod follower;
 mod limits;
 mod line_buffer;
@@ -14,12 +15,13 @@ mod theorems;
 
 pub use chunk_size::ChunkSize;
 pub use conversion::convert;
+pub use exit_status::ExitStatus;
 pub use follower::{Detail, follow};
 pub use limits::{MAX_LINE_BUFFER, MAX_READS};
-pub use outcome::{FAULT_STATUS, RunOutcome, SUCCESS, finish};
+pub use outcome::{RunOutcome, finish};
 pub use output::Output;
 pub use print::{
-    out_of_memory, print_bytes, print_fault, print_line, print_outcome, print_send_fault,
-    print_text,
+    out_of_memory, print_bytes, print_fault, print_line, print_send_fault, print_text,
+    report_outcome,
 };
 pub use theorems::run_limits;

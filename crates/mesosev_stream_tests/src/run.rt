@@ -2,7 +2,7 @@
 
 use mes_frame::{Limit, MemorySink, MemorySource, MemoryStop};
 use mes_stream::Framing;
-use mesosev_stream::{Detail, MAX_READS, RunOutcome, convert, finish, follow};
+use mesosev_stream::{Detail, ExitStatus, MAX_READS, RunOutcome, convert, finish, follow};
 use std::alloc::{AllocGlobal, Global};
 use std::process::Abort;
 use std::test::Fail;
@@ -66,7 +66,7 @@ fn expect_status<R: Abort + AllocGlobal>(
     detail: Detail,
     source: &mut MemorySource<'_>,
     lines: &str,
-    status: u8,
+    status: ExitStatus,
 ) {
     let mut out = MemorySink::new(rt.alloc(), WRITE_SIZE);
     let ended = RunOutcome::Status(status);
@@ -76,7 +76,7 @@ fn expect_status<R: Abort + AllocGlobal>(
 /// Follows the record, given so many bytes by one read, and asserts what is printed.
 fn expect_lines<R: Abort + AllocGlobal>(rt: &R, detail: Detail, lines: &str, size: usize) {
     let mut source = MemorySource::new(HEARTBEAT.as_bytes(), size);
-    expect_status(rt, detail, &mut source, lines, 0);
+    expect_status(rt, detail, &mut source, lines, ExitStatus::Success);
 }
 
 #[test]
@@ -90,7 +90,7 @@ fn records_are_read_by_pieces(rt: HostRuntime) {
 /// Follows the record, whose reader fails behind so many bytes, and asserts what is printed.
 fn expect_failed_read<R: Abort + AllocGlobal>(rt: &R, detail: Detail, taken: usize, lines: &str) {
     let mut source = MemorySource::failing_after(HEARTBEAT.as_bytes(), 1, taken);
-    expect_status(rt, detail, &mut source, lines, 1);
+    expect_status(rt, detail, &mut source, lines, ExitStatus::Fault);
 }
 
 // The reader fails behind each front of the record, and behind all of it.
@@ -158,7 +158,7 @@ fn expect_spent_by<R: Abort + AllocGlobal>(
     let ended = followed_by(rt.alloc(), max_reads, &mut source, out);
     assert_eq!(rt;
         (as_text(out.bytes()), ended),
-        (Some(lines), RunOutcome::Status(1))
+        (Some(lines), RunOutcome::Status(ExitStatus::Fault))
     );
     assert_eq!(rt; source.counts().calls, max_reads as u64);
 }
@@ -204,7 +204,7 @@ fn a_stream_is_followed_by_few_reads(rt: HostRuntime) -> Result<(), Fail> {
         let bytes = heartbeats(rt.alloc(), records)?;
         let reads = bytes.len().div_ceil(512) as u64 + 1;
         let reported = reads_of_check(rt.alloc(), bytes.as_slice());
-        assert_eq!(rt; reported, (RunOutcome::Status(0), reads));
+        assert_eq!(rt; reported, (RunOutcome::Status(ExitStatus::Success), reads));
     }
     Ok(())
 }
@@ -246,7 +246,7 @@ fn lines_go_out_by_few_writes(rt: HostRuntime) -> Result<(), Fail> {
 /// Ends a run whose output failed behind 7 bytes, and asserts what this writer is told.
 fn expect_told_by<R: Abort>(rt: &R, closed: bool, err: &mut MemorySink, line: &str) {
     let status = finish(RunOutcome::OutputFailed(7), closed, err);
-    assert_eq!(rt; (as_text(err.bytes()), status), (Some(line), 1));
+    assert_eq!(rt; (as_text(err.bytes()), status), (Some(line), ExitStatus::Fault));
 }
 
 /// The same with a new writer.
@@ -262,7 +262,7 @@ fn an_output_that_failed_is_reported(rt: HostRuntime) {
 }
 
 /// Converts the record into plain RecordIO, and answers the status.
-fn converted(alloc: Global, out: &mut MemorySink, err: &mut MemorySink) -> u8 {
+fn converted(alloc: Global, out: &mut MemorySink, err: &mut MemorySink) -> ExitStatus {
     let mut source = MemorySource::new(HEARTBEAT.as_bytes(), 7);
     convert(
         alloc,
@@ -284,7 +284,7 @@ fn expect_stopped_by<R: Abort + AllocGlobal>(
     line: &str,
 ) {
     let status = converted(rt.alloc(), out, err);
-    assert_eq!(rt; (as_text(out.bytes()), status), (as_text(front), 1));
+    assert_eq!(rt; (as_text(out.bytes()), status), (as_text(front), ExitStatus::Fault));
     assert_eq!(rt; as_text(err.bytes()), Some(line));
 }
 

@@ -1,5 +1,7 @@
 use Rattle.std.proofs.Common.{◌≡◌, inl, refl, ◌∙◌}
 use Rattle.mes_frame.specs.Devices.{Device}
+use Rattle.mesosev_stream.specs.declared.exit_status.ExitStatus.TheVariants as exit
+use Rattle.mesosev_stream.proofs.PrintLemmas.{prints_meant}
 use Rattle.mesosev.specs.Reporting.{bad_value_line}
 use Rattle.mesosev.proofs.CommandLemmas.{prints_line}
 use Rattle.mesosev.proofs.run.tell.Goals as goal
@@ -9,4 +11,4 @@ returns-in-Ok g c =
     let line : c.as_str.result.now ≡ bad_value_line c.in-BadValue.name.now = c.as_str.ensures.value ∙ c.in-Ok.ensures.ok in
     let old : Device = record { bytes = g.E.Sink.written c.args.err.now; counts = g.E.Sink.counts c.args.err.now } in
     let new : Device = record { bytes = g.E.Sink.written c.print_text.new.out; counts = g.E.Sink.counts c.print_text.new.out } in
-    rw c.in-BadValue.is (inl (prints_line old new c.as_str.result.now (bad_value_line c.in-BadValue.name.now) 2 c.print_text.result line c.print_text.ensures, refl))
+    rw c.in-BadValue.is (inl (prints_line old new c.as_str.result.now (bad_value_line c.in-BadValue.name.now) exit.Usage c.after.result line (prints_meant old new c.as_str.result.now exit.Usage _ _ c.print_text.ensures c.after.ensures), refl))

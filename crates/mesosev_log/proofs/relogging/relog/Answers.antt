@@ -10,4 +10,4 @@ returns-in-Ok g c =
 pub returns : goal.returns
 returns g c =
     relogs c.args.limit _ _ _ _ _ _ _ c.read_log.new.entries.items (Err c.in-Err.stop) (read_all c.args.limit _ _ _ c.read_log.new.entries.items (Err c.in-Err.stop) c.new-entries.ensures.items c.in-Err.ensures)
-    (refl, (c.print_fault.result, c.print_fault.ensures, c.status.ensures))
+    (refl, (c.print_fault.result, c.print_fault.ensures), refl)

@@ -6,5 +6,5 @@ returns-in-Ok g c = writes_all g.O.Sink.written g.O.Sink.counts c.args.limit c.a
 
 pub returns-in-Err : goal.returns-in-Err
 returns-in-Err g c =
-    writes_none g.O.Sink.written g.O.Sink.counts c.args.limit c.args.entries.now c.args.out.now c.write_log.new.writer _ _ c.in-Err.fault c.status.result
-    c.in-Err.ensures.err (c.print_send_fault.result, c.print_send_fault.ensures, c.status.ensures)
+    writes_none g.O.Sink.written g.O.Sink.counts c.args.limit c.args.entries.now c.args.out.now c.write_log.new.writer _ _ c.in-Err.fault
+    c.in-Err.ensures.err (c.print_send_fault.result, c.print_send_fault.ensures)

@@ -1,6 +1,8 @@
 use Rattle.std.proofs.Common.{ℕ, List, subst}
 use Rattle.mes_frame.specs.Devices.{Device, device_of}
 use Rattle.mesosev_net.specs.Looped.{Loops, LoopsEvents, loopback_stream}
+use Rattle.mesosev_stream.specs.declared.exit_status.ExitStatus.TheVariants as exit
+use Rattle.mesosev_stream.proofs.PrintLemmas.{prints_meant}
 use Rattle.mesosev_net.proofs.GivenLemmas.{given_events, given_fault}
 use Rattle.mesosev_net.proofs.both_ends.loopback.Goals as goal
 
@@ -22,5 +24,5 @@ returns-in-Err g c =
     let rest : Device = device_of g.I.Source.left g.I.Source.counts c.read_plain.new.reader in
     let out : Device = device_of g.O.Sink.written g.O.Sink.counts c.args.out.now in
     let printed : Device = device_of g.O.Sink.written g.O.Sink.counts c.print_fault.new.out in
-    given_fault (λ events. LoopsEvents loopback_stream c.args.most events out printed c.print_fault.result) input rest out printed c.print_fault.result
-    c.new-events.result.items c.read_plain.new.events.items c.read_plain.result c.in-Err.stop c.read_plain.ensures.reads c.in-Err.is c.print_fault.ensures
+    given_fault (λ events. LoopsEvents loopback_stream c.args.most events out printed c.after.result) input rest out printed c.after.result
+    c.new-events.result.items c.read_plain.new.events.items c.read_plain.result c.in-Err.stop c.read_plain.ensures.reads c.in-Err.is (prints_meant out printed _ exit.Fault _ _ c.print_fault.ensures c.after.ensures)

@@ -1,5 +1,7 @@
 use Rattle.mes_frame.specs.Devices.{Device, device_of}
 use Rattle.mesosev_net.specs.ServedTurns.{Serves, ServesEvents}
+use Rattle.mesosev_stream.specs.declared.exit_status.ExitStatus.TheVariants as exit
+use Rattle.mesosev_stream.proofs.PrintLemmas.{prints_meant}
 use Rattle.mesosev_net.proofs.GivenLemmas.{given_events, given_fault}
 use Rattle.mesosev_net.proofs.serving.serve.Goals as goal
 
@@ -21,5 +23,5 @@ returns g c =
     let rest : Device = device_of g.I.Source.left g.I.Source.counts c.read_plain.new.reader in
     let out : Device = device_of g.O.Sink.written g.O.Sink.counts c.args.out.now in
     let printed : Device = device_of g.O.Sink.written g.O.Sink.counts c.print_fault.new.out in
-    given_fault (λ events. ServesEvents c.args.stream c.args.count events out printed c.print_fault.result) input rest out printed c.print_fault.result
-    c.new-events.result.items c.read_plain.new.events.items c.read_plain.result c.in-Err.stop c.read_plain.ensures.reads c.in-Err.is c.print_fault.ensures
+    given_fault (λ events. ServesEvents c.args.stream c.args.count events out printed c.after.result) input rest out printed c.after.result
+    c.new-events.result.items c.read_plain.new.events.items c.read_plain.result c.in-Err.stop c.read_plain.ensures.reads c.in-Err.is (prints_meant out printed _ exit.Fault _ _ c.print_fault.ensures c.after.ensures)

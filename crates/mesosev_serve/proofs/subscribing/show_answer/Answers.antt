@@ -10,4 +10,4 @@ returns-in-Ok g c =
 pub returns-in-Err : goal.returns-in-Err
 returns-in-Err g c =
     let h = c.in-Err.ensures in
-    (h.0, device_of g.R.Source.left g.R.Source.counts c.read_head.new.reader, h.1, inr (c.in-Err.fault, h.2, refl, c.print_refused.ensures))
+    (h.0, device_of g.R.Source.left g.R.Source.counts c.read_head.new.reader, h.1, inr (c.in-Err.fault, h.2, refl, c.report_refused.ensures))

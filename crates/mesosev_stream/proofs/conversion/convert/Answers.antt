@@ -8,4 +8,4 @@ returns-in-Ok g c =
 
 pub returns : goal.returns
 returns g c =
-    converts c.args.framing c.args.limit c.args.most _ _ _ _ _ _ _ _ c.read_events.new.events.items (Err c.in-Err.stop) c.new-events.ensures.items c.in-Err.ensures.reads (refl, (c.print_fault.result, c.print_fault.ensures, c.status.ensures))
+    converts c.args.framing c.args.limit c.args.most _ _ _ _ _ _ _ _ c.read_events.new.events.items (Err c.in-Err.stop) c.new-events.ensures.items c.in-Err.ensures.reads (refl, (c.print_fault.result, c.print_fault.ensures), refl)

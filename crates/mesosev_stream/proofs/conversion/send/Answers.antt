@@ -6,5 +6,5 @@ returns-in-Ok g c = sends_all g.O.Sink.written g.O.Sink.counts c.args.limit c.ar
 
 pub returns-in-Err : goal.returns-in-Err
 returns-in-Err g c =
-    sends_none g.O.Sink.written g.O.Sink.counts c.args.limit c.args.most c.args.events.now c.args.out.now c.write_events.new.out _ _ c.in-Err.fault c.status.result
-    c.in-Err.ensures.err (c.print_send_fault.result, c.print_send_fault.ensures, c.status.ensures)
+    sends_none g.O.Sink.written g.O.Sink.counts c.args.limit c.args.most c.args.events.now c.args.out.now c.write_events.new.out _ _ c.in-Err.fault
+    c.in-Err.ensures.err (c.print_send_fault.result, c.print_send_fault.ensures)

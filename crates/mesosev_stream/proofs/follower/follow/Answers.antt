@@ -11,8 +11,8 @@ pub returns-in-Ok : goal.returns-in-Ok
 returns-in-Ok g c =
     let h = c.read_device.ensures in
     rw (c.following.ensures, c.sent.ensures) (follows_outcome c.args.framing c.args.limit c.args.max_reads c.requires (device_of g.I.Source.left g.I.Source.counts c.args.input.now) (device_of g.I.Source.left g.I.Source.counts c.read_device.new.source)
-    (device_of g.O.Sink.written g.O.Sink.counts c.args.out.now) (device_of g.O.Sink.written g.O.Sink.counts c.read_device.new.to) (record { detail = c.args.detail; reading = c.new-2.result; events = c.new-3.result; text = c.new-4.result; lines = c.new-5.result; number = 1 }) c.read_device.new.consumer (record { represents = c.new-2.ensures; number = refl; events = c.new-3.ensures.items; lines = c.new-5.ensures.held; sent = c.new-5.ensures.sent }) h.0 h.1 c.read_device.result c.in-Ok.end c.outcome.result (device_of g.O.Sink.written g.O.Sink.counts c.print_outcome.new.out) c.saturating_sub-events.result c.print_outcome.result h.2
-    (sym c.ended.ensures ∙ c.in-Ok.is) (c.outcome.ensures.means nothing_ahead) c.saturating_sub-events.ensures c.print_outcome.ensures)
+    (device_of g.O.Sink.written g.O.Sink.counts c.args.out.now) (device_of g.O.Sink.written g.O.Sink.counts c.read_device.new.to) (record { detail = c.args.detail; reading = c.new-2.result; events = c.new-3.result; text = c.new-4.result; lines = c.new-5.result; number = 1 }) c.read_device.new.consumer (record { represents = c.new-2.ensures; number = refl; events = c.new-3.ensures.items; lines = c.new-5.ensures.held; sent = c.new-5.ensures.sent }) h.0 h.1 c.read_device.result c.in-Ok.end c.outcome.result (device_of g.O.Sink.written g.O.Sink.counts c.report_outcome.new.out) c.saturating_sub-events.result c.report_outcome.result h.2
+    (sym c.ended.ensures ∙ c.in-Ok.is) (c.outcome.ensures.means nothing_ahead) c.saturating_sub-events.ensures c.report_outcome.ensures)
 
 pub returns-in-Err-Output : goal.returns-in-Err-Output
 returns-in-Err-Output g c =
