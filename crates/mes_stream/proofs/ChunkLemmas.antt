@@ -92,7 +92,7 @@ module _ {R E : Type 0} (holds : R → List ℕ → Type 0) (spells : List ℕ �
         stops_data spells breaks ahead limit (w ++ take (used - 1) run) at.0 values (slice_index run (used - 1)) fault at.1 at.2 at.3
 
     -- what a body says of a run of data
-    pub run_says : (d new : ChunkedBody R) (w run : List ℕ) (values : List E) (used count : ℕ) (answer : Decoded E) (s : ChunkedRepresents holds spells ahead d w values) → length run ≡ count → count ≤ remaining_of d.chunks
+    pub run_says : (d new : ChunkedBody R) (w run : List ℕ) (values : List E) (used count : ℕ) (answer : Decoded E Fault) (s : ChunkedRepresents holds spells ahead d w values) → length run ≡ count → count ≤ remaining_of d.chunks
         → 0 < used → used ≤ count → ChunkRepresents new.chunks (w ++ take used run) (s.content ++ take used run)
         → SaysIn Plain (BodyRepresents holds spells ahead new.body) spells breaks ahead (limit_of new.body.records) s.content values run used answer → SaysIn Chunked (ChunkedRepresents holds spells ahead new) spells breaks ahead (limit_of new.body.records) w values run used answer
     run_says d new w run values used count out.More s len room some within chunks taken =
@@ -107,7 +107,7 @@ module _ {R E : Type 0} (holds : R → List ℕ → Type 0) (spells : List ℕ �
 
 module _ {E : Type 0} (framing : Framing) (Represents : List ℕ → List E → Type 0) (spells : List ℕ → E → Type 0) (breaks : List ℕ → RecordError → Type 0) (ahead limit : ℕ) where
   -- the same bytes seen behind others
-  pub says_as : (w v run rest : List ℕ) (values : List E) (used most : ℕ) (answer : Decoded E) → w ++ take used run ≡ v ++ take most rest → w ++ take (used - 1) run ≡ v ++ take (most - 1) rest
+  pub says_as : (w v run rest : List ℕ) (values : List E) (used most : ℕ) (answer : Decoded E Fault) → w ++ take used run ≡ v ++ take most rest → w ++ take (used - 1) run ≡ v ++ take (most - 1) rest
       → slice_index run (used - 1) ≡ slice_index rest (most - 1) → SaysIn framing Represents spells breaks ahead limit w values run used answer → SaysIn framing Represents spells breaks ahead limit v values rest most answer
   says_as w v run rest values used most out.More same front last h = subst (λ (y : List ℕ). Represents y values) same h
   says_as w v run rest values used most (out.Event value) same front last h = (
@@ -121,7 +121,7 @@ module _ {E : Type 0} (framing : Framing) (Represents : List ℕ → List E → 
       (subst (λ (c : ℕ). ByteStopsIn framing spells breaks ahead limit (w ++ take (used - 1) run) values c fault) last h)
 
   -- of a byte
-  pub says_first : (w rest : List ℕ) (values : List E) (answer : Decoded E) → 0 < length rest → SaysIn framing Represents spells breaks ahead limit w values (slice_index rest 0 ∷ []) 1 answer
+  pub says_first : (w rest : List ℕ) (values : List E) (answer : Decoded E Fault) → 0 < length rest → SaysIn framing Represents spells breaks ahead limit w values (slice_index rest 0 ∷ []) 1 answer
       → SaysIn framing Represents spells breaks ahead limit w values rest 1 answer
   says_first w [] values answer some h = absurd (omega (arith, some))
   says_first w (c ∷ rest) values answer some h = says_as w w (c ∷ []) (c ∷ rest) values 1 1 answer refl refl refl h
@@ -136,14 +136,14 @@ module _ {E : Type 0} (framing : Framing) (Represents : List ℕ → List E → 
   index_drop m n xs = grind (arith, common_steps)
 
   -- of a longer piece
-  pub says_more : (w rest : List ℕ) (values : List E) (used count : ℕ) (answer : Decoded E) → 0 < used → used ≤ count → SaysIn framing Represents spells breaks ahead limit w values (take count rest) used answer
+  pub says_more : (w rest : List ℕ) (values : List E) (used count : ℕ) (answer : Decoded E Fault) → 0 < used → used ≤ count → SaysIn framing Represents spells breaks ahead limit w values (take count rest) used answer
       → SaysIn framing Represents spells breaks ahead limit w values rest used answer
   says_more w rest values used count answer some within h =
       says_as w w (take count rest) rest values used used answer (ap (λ (y : List ℕ). w ++ y) (take_take used count rest within)) (ap (λ (y : List ℕ). w ++ y) (take_take (used - 1) count rest (omega (arith, within))))
       (index_take (used - 1) count rest (omega (arith, some, within))) h
 
   -- of what is left of a piece
-  pub says_on : (w piece : List ℕ) (values : List E) (at used : ℕ) (answer : Decoded E) → 0 < used → SaysIn framing Represents spells breaks ahead limit (w ++ take at piece) values (drop at piece) used answer
+  pub says_on : (w piece : List ℕ) (values : List E) (at used : ℕ) (answer : Decoded E Fault) → 0 < used → SaysIn framing Represents spells breaks ahead limit (w ++ take at piece) values (drop at piece) used answer
       → SaysIn framing Represents spells breaks ahead limit w values piece (at + used) answer
   says_on w piece values at used answer some h =
       let less : at + (used - 1) ≡ at + used - 1 = omega (arith, some) in

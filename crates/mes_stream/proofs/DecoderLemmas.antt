@@ -5,10 +5,11 @@ use Rattle.mes_stream.specs.Framings.{SaysIn}
 use Rattle.mes_stream.specs.declared.stream_reader.Framing.{Framing}
 use Rattle.mes_stream.specs.Decoders.{EndsBy}
 use Rattle.mes_stream.specs.declared.decoder.StreamEnd.{StreamEnd}
+use Rattle.mes_stream.specs.declared.fault.Fault.{Fault}
 use Rattle.mes_stream.specs.declared.progress.Decoded.{Decoded}
 use Rattle.mes_stream.specs.declared.progress.Decoded.TheVariants as out
 
-pub says_ended : {E : Type 0} (framing : Framing) (Old New : List ℕ → List E → Type 0) (spells : List ℕ → E → Type 0) (breaks : List ℕ → RecordError → Type 0) (ahead limit : ℕ) (w piece : List ℕ) (values : List E) (used : ℕ) (end : StreamEnd) (answer : Decoded E)
+pub says_ended : {E : Type 0} (framing : Framing) (Old New : List ℕ → List E → Type 0) (spells : List ℕ → E → Type 0) (breaks : List ℕ → RecordError → Type 0) (ahead limit : ℕ) (w piece : List ℕ) (values : List E) (used : ℕ) (end : StreamEnd) (answer : Decoded E Fault)
     → EndsBy (Some end) answer → SaysIn framing Old spells breaks ahead limit w values piece used answer → SaysIn framing New spells breaks ahead limit w values piece used answer
 says_ended framing Old New spells breaks ahead limit w piece values used end out.More ends h = let clash : Some end ≡ None = ends in absurd (cc)
 says_ended framing Old New spells breaks ahead limit w piece values used end (out.Event value) ends h = let clash : Some end ≡ None = ends in absurd (cc)
@@ -16,7 +17,7 @@ says_ended framing Old New spells breaks ahead limit w piece values used end out
 says_ended framing Old New spells breaks ahead limit w piece values used end (out.Fault fault) ends h = h
 
 -- what is said is kept where what stands is
-pub says_as_well : {E : Type 0} (framing : Framing) (Old New : List ℕ → List E → Type 0) (spells : List ℕ → E → Type 0) (breaks : List ℕ → RecordError → Type 0) (ahead limit : ℕ) (w piece : List ℕ) (values : List E) (used : ℕ) (answer : Decoded E)
+pub says_as_well : {E : Type 0} (framing : Framing) (Old New : List ℕ → List E → Type 0) (spells : List ℕ → E → Type 0) (breaks : List ℕ → RecordError → Type 0) (ahead limit : ℕ) (w piece : List ℕ) (values : List E) (used : ℕ) (answer : Decoded E Fault)
     → ((v : List ℕ) (vs : List E) → Old v vs → New v vs) → SaysIn framing Old spells breaks ahead limit w values piece used answer → SaysIn framing New spells breaks ahead limit w values piece used answer
 says_as_well framing Old New spells breaks ahead limit w piece values used out.More on h = on _ _ h
 says_as_well framing Old New spells breaks ahead limit w piece values used (out.Event value) on h = (on _ _ h.0, h.1)

@@ -22,10 +22,10 @@ module _ {E : Type 0} (spells : List ℕ → E → Type 0) (breaks : List ℕ �
   no_entry Chunked ahead limit w values c n (inl h) = none h.3.0.is.0 h.3.0.is.2
   no_entry Chunked ahead limit w values c n (inr h) = let clash : BadEntry n ≡ NoMemory = h.0 in absurd (cc)
 
-  pub none_said : (framing : Framing) (Represents : List ℕ → List E → Type 0) (ahead limit : ℕ) (w : List ℕ) (values : List E) (piece : List ℕ) (used : ℕ) (answer : Decoded E) (n : ℕ)
+  pub none_said : (framing : Framing) (Represents : List ℕ → List E → Type 0) (ahead limit : ℕ) (w : List ℕ) (values : List E) (piece : List ℕ) (used : ℕ) (answer : Decoded E Fault) (n : ℕ)
       → SaysIn framing Represents spells breaks ahead limit w values piece used answer → answer ≢ out.Fault (BadEntry n)
   none_said framing Represents ahead limit w values piece used answer n says is =
-      no_entry framing ahead limit _ values _ n (subst (λ (o : Decoded E). SaysIn framing Represents spells breaks ahead limit w values piece used o) is says)
+      no_entry framing ahead limit _ values _ n (subst (λ (o : Decoded E Fault). SaysIn framing Represents spells breaks ahead limit w values piece used o) is says)
 
   -- what the end of the input means is none
   no_entry_at_end : (framing : Framing) (limit : ℕ) (w : List ℕ) (values : List E) (n : ℕ) → InputEnds {T = Unit {0}} framing spells limit w values (Err (BadEntry n)) → ⊥

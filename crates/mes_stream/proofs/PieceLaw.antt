@@ -81,7 +81,7 @@ as_outcome : (limit : ℕ) (w : List ℕ) (events : List Event) (all : List ℕ)
     → Reached limit w (events ++ outcome.events) all outcome.used outcome.end
 as_outcome limit w events all outcome other is h = subst (λ (o : DecodeOutcome). Reached limit w (events ++ o.events) all o.used o.end) (sym is) h
 
-reached : (limit : ℕ) (d : RecordDecoder EventReader) (pieces : List (List ℕ)) (calls : List (ℕ × Decoded Event)) (outcome : DecodeOutcome) (w : List ℕ) (events : List Event) → DecoderRepresents HoldsData Spells d limit w events
+reached : (limit : ℕ) (d : RecordDecoder EventReader) (pieces : List (List ℕ)) (calls : List (ℕ × Decoded Event Fault)) (outcome : DecodeOutcome) (w : List ℕ) (events : List Event) → DecoderRepresents HoldsData Spells d limit w events
     → Decodes d pieces calls outcome → Reached limit w (events ++ outcome.events) (joined pieces) outcome.used outcome.end
 reached limit d [] [] outcome w events represents is =
     let live : Live Spells limit (w ++ []) (events ++ []) = rw (append-nil w, append-nil events) (live_at d.state limit w events represents) in
@@ -170,7 +170,7 @@ same_of limit w events others used more (Some (Failed fault)) (Some (Failed othe
     make_same events others (Some (Failed fault)) (Some (Failed other)) used more values (ap (λ (f : Fault). Some (Failed f)) faults) (omega (arith, places, some, too))
 
 pub one_decoding : ((limit : ℕ) (w : List ℕ) (reading other : StreamReading Event) → ReadsStream Spells IsEventRefusal 0 limit w reading → ReadsStream Spells IsEventRefusal 0 limit w other → reading ≡ other)
-    → (limit : ℕ) (first second : RecordDecoder EventReader) (pieces others : List (List ℕ)) (calls more : List (ℕ × Decoded Event)) (outcome other : DecodeOutcome)
+    → (limit : ℕ) (first second : RecordDecoder EventReader) (pieces others : List (List ℕ)) (calls more : List (ℕ × Decoded Event Fault)) (outcome other : DecodeOutcome)
     → DecoderRepresents HoldsData Spells first limit [] [] → DecoderRepresents HoldsData Spells second limit [] [] → joined pieces ≡ joined others
     → Decodes first pieces calls outcome → Decodes second others more other → HadMemory outcome → HadMemory other → outcome ≡ other
 one_decoding one limit first second pieces others calls more outcome other starts begins same decodes also memory too =

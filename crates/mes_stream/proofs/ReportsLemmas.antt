@@ -14,42 +14,41 @@ use Rattle.mes_stream.specs.declared.record_error.RecordError.{RecordError}
 use Rattle.mes_stream.specs.declared.stream_reader.Framing.{Framing}
 use Rattle.mes_stream.specs.declared.stream_reader.Framing.TheVariants.{Plain, Chunked}
 use Rattle.mes_stream.specs.declared.stream_reader.StreamReader.TheVariants as reader
+use Rattle.mes_stream.specs.declared.fault.Fault.{Fault}
 use Rattle.mes_stream.specs.declared.progress.Decoded.{Decoded}
 use Rattle.mes_stream.specs.declared.progress.Decoded.TheVariants as out
-use Rattle.mes_stream.specs.declared.progress.DecodeStatus.{DecodeStatus}
-use Rattle.mes_stream.specs.declared.progress.DecodeStatus.TheVariants.{More, RecordEnded, StreamEnded, Fault}
 use Rattle.mes_stream.proofs.ChunkLemmas.{run_says}
 use Rattle.mes_stream.proofs.DecoderLemmas.{says_as_well}
 
 module _ {R E : Type 0} (holds : R → List ℕ → Type 0) (spells : List ℕ → E → Type 0) (breaks : List ℕ → RecordError → Type 0) (ahead : ℕ) (framing : Framing) where
   -- the same bytes seen behind others
-  pub tells_as : (Represents : Body R → List ℕ → List E → Type 0) (body : Body R) (limit : ℕ) (w v run rest : List ℕ) (values : List E) (used most : ℕ) (s : DecodeStatus)
-      → ((after : Body R) (answer : Decoded E) → SaysIn framing (Represents after) spells breaks ahead limit w values run used answer → SaysIn framing (Represents after) spells breaks ahead limit v values rest most answer)
+  pub tells_as : (Represents : Body R → List ℕ → List E → Type 0) (body : Body R) (limit : ℕ) (w v run rest : List ℕ) (values : List E) (used most : ℕ) (s : Decoded (Unit {0}) Fault)
+      → ((after : Body R) (answer : Decoded E Fault) → SaysIn framing (Represents after) spells breaks ahead limit w values run used answer → SaysIn framing (Represents after) spells breaks ahead limit v values rest most answer)
       → Reports holds spells breaks ahead framing Represents body limit w values run used s → Reports holds spells breaks ahead framing Represents body limit v values rest most s
-  tells_as Represents body limit w v run rest values used most More each h = each body out.More h
-  tells_as Represents body limit w v run rest values used most RecordEnded each (r, kept, fits, so) = (r, kept, fits, λ after answer same ends. each after (record_answer after.done answer) (so after answer same ends))
-  tells_as Represents body limit w v run rest values used most StreamEnded each h = each body out.End h
-  tells_as Represents body limit w v run rest values used most (Fault fault) each h = each body (out.Fault fault) h
+  tells_as Represents body limit w v run rest values used most out.More each h = each body out.More h
+  tells_as Represents body limit w v run rest values used most (out.Event done) each (r, kept, fits, so) = (r, kept, fits, λ after answer same ends. each after (record_answer after.done answer) (so after answer same ends))
+  tells_as Represents body limit w v run rest values used most out.End each h = each body out.End h
+  tells_as Represents body limit w v run rest values used most (out.Fault fault) each h = each body (out.Fault fault) h
 
   -- and seen of another reader with that body
-  pub tells_of : (Represents Others : Body R → List ℕ → List E → Type 0) (body : Body R) (limit : ℕ) (w run : List ℕ) (values : List E) (used : ℕ) (s : DecodeStatus)
+  pub tells_of : (Represents Others : Body R → List ℕ → List E → Type 0) (body : Body R) (limit : ℕ) (w run : List ℕ) (values : List E) (used : ℕ) (s : Decoded (Unit {0}) Fault)
       → ((after : Body R) → after.records ≡ body.records → (v : List ℕ) (vs : List E) → Represents after v vs → Others after v vs)
       → Reports holds spells breaks ahead framing Represents body limit w values run used s → Reports holds spells breaks ahead framing Others body limit w values run used s
-  tells_of Represents Others body limit w run values used More each h = each body refl _ _ h
-  tells_of Represents Others body limit w run values used RecordEnded each (r, kept, fits, so) =
+  tells_of Represents Others body limit w run values used out.More each h = each body refl _ _ h
+  tells_of Represents Others body limit w run values used (out.Event done) each (r, kept, fits, so) =
       (r, kept, fits, λ after answer same ends. says_as_well framing (Represents after) (Others after) spells breaks ahead limit w run values used (record_answer after.done answer) (each after same) (so after answer same ends))
-  tells_of Represents Others body limit w run values used StreamEnded each h = h
-  tells_of Represents Others body limit w run values used (Fault fault) each h = h
+  tells_of Represents Others body limit w run values used out.End each h = h
+  tells_of Represents Others body limit w run values used (out.Fault fault) each h = h
 
 module _ {R E : Type 0} (holds : R → List ℕ → Type 0) (spells : List ℕ → E → Type 0) (breaks : List ℕ → RecordError → Type 0) (ahead : ℕ) where
   -- a run of data
-  pub run_tells : (d : ChunkedBody R) (chunks : ChunkState) (body : Body R) (w run : List ℕ) (values : List E) (used count : ℕ) (so_far : DecodeStatus) (s : ChunkedRepresents holds spells ahead d w values) → length run ≡ count → count ≤ remaining_of d.chunks
+  pub run_tells : (d : ChunkedBody R) (chunks : ChunkState) (body : Body R) (w run : List ℕ) (values : List E) (used count : ℕ) (told : Decoded (Unit {0}) Fault) (s : ChunkedRepresents holds spells ahead d w values) → length run ≡ count → count ≤ remaining_of d.chunks
       → 0 < used → used ≤ count → ChunkRepresents chunks (w ++ take used run) (s.content ++ take used run)
-      → Reports holds spells breaks ahead Plain (BodyRepresents holds spells ahead) body (limit_of body.records) s.content values run used so_far
-      → Reports holds spells breaks ahead Chunked (λ after. ChunkedRepresents holds spells ahead (record { chunks = chunks; body = after })) body (limit_of body.records) w values run used so_far
-  run_tells d chunks body w run values used count More s len room some within represents taken =
+      → Reports holds spells breaks ahead Plain (BodyRepresents holds spells ahead) body (limit_of body.records) s.content values run used told
+      → Reports holds spells breaks ahead Chunked (λ after. ChunkedRepresents holds spells ahead (record { chunks = chunks; body = after })) body (limit_of body.records) w values run used told
+  run_tells d chunks body w run values used count out.More s len room some within represents taken =
       run_says holds spells ahead breaks d (record { chunks = chunks; body = body }) w run values used count out.More s len room some within represents taken
-  run_tells d chunks body w run values used count RecordEnded s len room some within represents (r, kept, fits, so) = (
+  run_tells d chunks body w run values used count (out.Event done) s len room some within represents (r, kept, fits, so) = (
     r,
     kept,
     fits,
@@ -59,25 +58,25 @@ module _ {R E : Type 0} (holds : R → List ℕ → Type 0) (spells : List ℕ �
         (run_says holds spells ahead breaks d (record { chunks = chunks; body = after }) w run values used count (record_answer after.done answer) s len room some within represents
         (subst (λ (n : ℕ). SaysIn Plain (BodyRepresents holds spells ahead after) spells breaks ahead n s.content values run used (record_answer after.done answer)) (sym limit) (so after answer same ends))),
   )
-  run_tells d chunks body w run values used count StreamEnded s len room some within represents taken = absurd taken
-  run_tells d chunks body w run values used count (Fault fault) s len room some within represents taken =
+  run_tells d chunks body w run values used count out.End s len room some within represents taken = absurd taken
+  run_tells d chunks body w run values used count (out.Fault fault) s len room some within represents taken =
       run_says holds spells ahead breaks d (record { chunks = chunks; body = body }) w run values used count (out.Fault fault) s len room some within represents taken
 
   -- of a reader of either framing
-  pub plain_tells : (body : Body R) (framing : Framing) (limit : ℕ) (w run : List ℕ) (values : List E) (used : ℕ) (so_far : DecodeStatus) → framing ≡ Plain → limit_of body.records ≡ limit
-      → Reports holds spells breaks ahead Plain (BodyRepresents holds spells ahead) body (limit_of body.records) w values run used so_far
-      → Reports holds spells breaks ahead framing (λ after. StreamRepresents holds spells ahead (reader.Plain after) framing limit) body limit w values run used so_far
-  plain_tells body framing limit w run values used so_far is same h =
-      subst (λ (n : ℕ). Reports holds spells breaks ahead framing (λ after. StreamRepresents holds spells ahead (reader.Plain after) framing n) body n w values run used so_far) same
-      (subst (λ (f : Framing). Reports holds spells breaks ahead f (λ after. StreamRepresents holds spells ahead (reader.Plain after) f (limit_of body.records)) body (limit_of body.records) w values run used so_far) (sym is)
-      (tells_of holds spells breaks ahead Plain (BodyRepresents holds spells ahead) (λ after. StreamRepresents holds spells ahead (reader.Plain after) Plain (limit_of body.records)) body (limit_of body.records) w run values used so_far
+  pub plain_tells : (body : Body R) (framing : Framing) (limit : ℕ) (w run : List ℕ) (values : List E) (used : ℕ) (told : Decoded (Unit {0}) Fault) → framing ≡ Plain → limit_of body.records ≡ limit
+      → Reports holds spells breaks ahead Plain (BodyRepresents holds spells ahead) body (limit_of body.records) w values run used told
+      → Reports holds spells breaks ahead framing (λ after. StreamRepresents holds spells ahead (reader.Plain after) framing limit) body limit w values run used told
+  plain_tells body framing limit w run values used told is same h =
+      subst (λ (n : ℕ). Reports holds spells breaks ahead framing (λ after. StreamRepresents holds spells ahead (reader.Plain after) framing n) body n w values run used told) same
+      (subst (λ (f : Framing). Reports holds spells breaks ahead f (λ after. StreamRepresents holds spells ahead (reader.Plain after) f (limit_of body.records)) body (limit_of body.records) w values run used told) (sym is)
+      (tells_of holds spells breaks ahead Plain (BodyRepresents holds spells ahead) (λ after. StreamRepresents holds spells ahead (reader.Plain after) Plain (limit_of body.records)) body (limit_of body.records) w run values used told
       (λ after records v vs represents. (refl, represents, ap (λ (t : RecordState). limit_of t) records)) h))
 
-  pub chunked_tells : (d : ChunkedBody R) (framing : Framing) (limit : ℕ) (w run : List ℕ) (values : List E) (used : ℕ) (so_far : DecodeStatus) → framing ≡ Chunked → limit_of d.body.records ≡ limit
-      → Reports holds spells breaks ahead Chunked (λ after. ChunkedRepresents holds spells ahead (record { chunks = d.chunks; body = after })) d.body (limit_of d.body.records) w values run used so_far
-      → Reports holds spells breaks ahead framing (λ after. StreamRepresents holds spells ahead (reader.Chunked (record { chunks = d.chunks; body = after })) framing limit) d.body limit w values run used so_far
-  chunked_tells d framing limit w run values used so_far is same h =
-      subst (λ (n : ℕ). Reports holds spells breaks ahead framing (λ after. StreamRepresents holds spells ahead (reader.Chunked (record { chunks = d.chunks; body = after })) framing n) d.body n w values run used so_far) same
-      (subst (λ (f : Framing). Reports holds spells breaks ahead f (λ after. StreamRepresents holds spells ahead (reader.Chunked (record { chunks = d.chunks; body = after })) f (limit_of d.body.records)) d.body (limit_of d.body.records) w values run used so_far) (sym is)
-      (tells_of holds spells breaks ahead Chunked (λ after. ChunkedRepresents holds spells ahead (record { chunks = d.chunks; body = after })) (λ after. StreamRepresents holds spells ahead (reader.Chunked (record { chunks = d.chunks; body = after })) Chunked (limit_of d.body.records)) d.body (limit_of d.body.records) w run values used so_far
+  pub chunked_tells : (d : ChunkedBody R) (framing : Framing) (limit : ℕ) (w run : List ℕ) (values : List E) (used : ℕ) (told : Decoded (Unit {0}) Fault) → framing ≡ Chunked → limit_of d.body.records ≡ limit
+      → Reports holds spells breaks ahead Chunked (λ after. ChunkedRepresents holds spells ahead (record { chunks = d.chunks; body = after })) d.body (limit_of d.body.records) w values run used told
+      → Reports holds spells breaks ahead framing (λ after. StreamRepresents holds spells ahead (reader.Chunked (record { chunks = d.chunks; body = after })) framing limit) d.body limit w values run used told
+  chunked_tells d framing limit w run values used told is same h =
+      subst (λ (n : ℕ). Reports holds spells breaks ahead framing (λ after. StreamRepresents holds spells ahead (reader.Chunked (record { chunks = d.chunks; body = after })) framing n) d.body n w values run used told) same
+      (subst (λ (f : Framing). Reports holds spells breaks ahead f (λ after. StreamRepresents holds spells ahead (reader.Chunked (record { chunks = d.chunks; body = after })) f (limit_of d.body.records)) d.body (limit_of d.body.records) w values run used told) (sym is)
+      (tells_of holds spells breaks ahead Chunked (λ after. ChunkedRepresents holds spells ahead (record { chunks = d.chunks; body = after })) (λ after. StreamRepresents holds spells ahead (reader.Chunked (record { chunks = d.chunks; body = after })) Chunked (limit_of d.body.records)) d.body (limit_of d.body.records) w run values used told
       (λ after records v vs represents. (refl, represents, ap (λ (t : RecordState). limit_of t) records)) h))

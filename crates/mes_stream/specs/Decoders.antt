@@ -33,7 +33,7 @@ abbrev pub DecoderRepresents : {R E : Type 0} → (R → List ℕ → Type 0) �
 DecoderRepresents holds spells d limit w values = DecoderStateRepresents holds spells d.state limit w values
 
 -- what is answered from then on
-abbrev pub answer_of : {E : Type 0} → StreamEnd → Decoded E
+abbrev pub answer_of : {E : Type 0} → StreamEnd → Decoded E Fault
 answer_of Closed = out.End
 answer_of (Failed fault) = out.Fault fault
 
@@ -44,7 +44,7 @@ finish_of (Some Closed) = Ok tt
 finish_of (Some (Failed fault)) = Err fault
 
 -- the end that is kept behind an answer
-abbrev pub EndsBy : {E : Type 0} → Option StreamEnd → Decoded E → Type 0
+abbrev pub EndsBy : {E : Type 0} → Option StreamEnd → Decoded E Fault → Type 0
 EndsBy end out.More = end ≡ None
 EndsBy end (out.Event value) = end ≡ None
 EndsBy end out.End = end ≡ Some Closed

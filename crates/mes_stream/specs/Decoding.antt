@@ -6,6 +6,7 @@ use Rattle.mes_frame.specs.declared.chunk.ChunkState.{ChunkState}
 use Rattle.mes_stream.specs.Framings.{SaysIn, GoesBefore}
 use Rattle.mes_stream.specs.Taking.{BodyRepresents}
 use Rattle.mes_stream.specs.declared.chunked.ChunkedBody.{ChunkedBody}
+use Rattle.mes_stream.specs.declared.fault.Fault.{Fault}
 use Rattle.mes_stream.specs.declared.record_error.RecordError.{RecordError}
 use Rattle.mes_stream.specs.declared.stream_reader.Framing.TheVariants.{Chunked}
 use Rattle.mes_stream.specs.declared.progress.Decoded.{Decoded}
@@ -29,7 +30,7 @@ pub record Gathers (new : ChunkState) (w body piece : List ℕ) (used : ℕ) (ru
   pub each : (k : ℕ) → k < length run → IsDataAt w body piece (take k run) (slice_index places k)
 
 -- what a call says of the bytes that it used, in a chunked stream
-abbrev pub Says : {E : Type 0} → (List ℕ → List E → Type 0) → (List ℕ → E → Type 0) → (List ℕ → RecordError → Type 0) → ℕ → List ℕ → List E → List ℕ → ℕ → Decoded E → Type 0
+abbrev pub Says : {E : Type 0} → (List ℕ → List E → Type 0) → (List ℕ → E → Type 0) → (List ℕ → RecordError → Type 0) → ℕ → List ℕ → List E → List ℕ → ℕ → Decoded E Fault → Type 0
 Says Represents spells breaks limit w values piece used answer = SaysIn Chunked Represents spells breaks 0 limit w values piece used answer
 
 -- before the last byte that was used all is live with the same values

@@ -38,7 +38,7 @@ ByteStopsIn Chunked spells breaks ahead limit w values c fault = ChunkedStops sp
 
 -- What a call that uses so many bytes of a piece says of them, behind w, which goes on with the values: they were taken; a
 -- record ended with the last of them; the stream did; or the last of them stops the reading.
-abbrev pub SaysIn : {E : Type 0} → Framing → (List ℕ → List E → Type 0) → (List ℕ → E → Type 0) → (List ℕ → RecordError → Type 0) → ℕ → ℕ → List ℕ → List E → List ℕ → ℕ → Decoded E → Type 0
+abbrev pub SaysIn : {E : Type 0} → Framing → (List ℕ → List E → Type 0) → (List ℕ → E → Type 0) → (List ℕ → RecordError → Type 0) → ℕ → ℕ → List ℕ → List E → List ℕ → ℕ → Decoded E Fault → Type 0
 SaysIn framing Represents spells breaks ahead limit w values piece used out.More = Represents (w ++ take used piece) values
 SaysIn framing Represents spells breaks ahead limit w values piece used (out.Event value) =
     Represents (w ++ take used piece) (values ++ value ∷ [])

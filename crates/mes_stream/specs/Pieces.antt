@@ -10,12 +10,13 @@ use Rattle.mes_stream.specs.declared.decoder.RecordDecoder.{RecordDecoder}
 use Rattle.mes_stream.specs.declared.decoder.StreamEnd.{StreamEnd}
 use Rattle.mes_stream.specs.declared.decoder.StreamEnd.TheVariants.{Closed, Failed}
 use Rattle.mes_stream.specs.declared.event_reader.EventReader.{EventReader}
+use Rattle.mes_stream.specs.declared.fault.Fault.{Fault}
 use Rattle.mes_stream.specs.declared.fault.Fault.TheVariants.{NoMemory}
 use Rattle.mes_stream.specs.declared.progress.Decoded.{Decoded}
 use Rattle.mes_stream.specs.declared.progress.Decoded.TheVariants as out
 
 -- a call of `next` that used so many bytes of the piece and returned the answer: what the contract of `next` ensures of it
-pub record IsNext (old new : RecordDecoder EventReader) (piece : List ℕ) (used : ℕ) (answer : Decoded Event) : Type 0 where
+pub record IsNext (old new : RecordDecoder EventReader) (piece : List ℕ) (used : ℕ) (answer : Decoded Event Fault) : Type 0 where
   pub says : (limit : ℕ) (w : List ℕ) (events : List Event) → DecoderRepresents HoldsData Spells old limit w events
       → Says (DecoderRepresents HoldsData Spells new limit) Spells IsEventRefusal limit w events piece used answer
   pub more : answer ≡ out.More → used ≡ length piece
@@ -37,7 +38,7 @@ after_call used events rest = decoded (events ++ rest.events) rest.end (used + r
 
 -- The decoder was given the pieces in order, by one call after the other: each call was given a piece, or the bytes of it that the call
 -- before it did not use. After the end or a fault no more calls were made.
-abbrev pub Decodes : RecordDecoder EventReader → List (List ℕ) → List (ℕ × Decoded Event) → DecodeOutcome → Type 0
+abbrev pub Decodes : RecordDecoder EventReader → List (List ℕ) → List (ℕ × Decoded Event Fault) → DecodeOutcome → Type 0
 Decodes d [] [] outcome = outcome ≡ decoded [] None 0
 Decodes d [] (call ∷ calls) outcome = ⊥
 Decodes d (piece ∷ pieces) [] outcome = ⊥

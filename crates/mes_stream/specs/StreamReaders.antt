@@ -1,20 +1,18 @@
 -- What a reader of a stream stands for, and what it makes of a piece of it.
-use Rattle.std.specs.Prelude.{◌≡◌, ℕ, ◌+◌, ◌<◌, ◌≤◌, List, ◌++◌, length, take, Option, None, Some, Result, Ok, Err}
+use Rattle.std.specs.Prelude.{◌≡◌, ℕ, ◌+◌, ◌<◌, List, ◌++◌, length, take, Result, Ok, Err}
 use Rattle.mes_frame.specs.RecordState.{limit_of}
 use Rattle.mes_stream.specs.Taking.{BodyRepresents}
 use Rattle.mes_stream.specs.Decoding.{ChunkedRepresents}
 use Rattle.mes_stream.specs.Framings.{EndsIn, StopsWithin}
 use Rattle.mes_stream.specs.declared.body.Body.{Body}
+use Rattle.mes_stream.specs.declared.fault.Fault.{Fault}
 use Rattle.mes_stream.specs.declared.record_error.RecordError.{RecordError}
 use Rattle.mes_stream.specs.declared.stream_reader.Framing.{Framing}
 use Rattle.mes_stream.specs.declared.stream_reader.Framing.TheVariants.{Plain, Chunked}
 use Rattle.mes_stream.specs.declared.stream_reader.StreamReader.{StreamReader}
 use Rattle.mes_stream.specs.declared.stream_reader.StreamReader.TheVariants as reader
-use Rattle.mes_stream.specs.declared.progress.FaultAt.{FaultAt}
 use Rattle.mes_stream.specs.declared.progress.Decoded.{Decoded}
 use Rattle.mes_stream.specs.declared.progress.Decoded.TheVariants as out
-use Rattle.mes_stream.specs.declared.progress.PackedOut.{PackedOut}
-use Rattle.mes_stream.specs.declared.progress.PackedOut.TheVariants as small
 
 -- what reads the records, and the same reader with another
 abbrev pub body_of : {R : Type 0} → StreamReader R → Body R
@@ -33,41 +31,23 @@ StreamRepresents holds spells ahead (reader.Chunked chunked) framing limit w val
     (framing ≡ Chunked) × ChunkedRepresents holds spells ahead chunked w values × (limit_of chunked.body.records ≡ limit)
 
 -- What became of a piece behind w: all of it was taken; or a byte of it ended the stream, or stops the reading, and so many
--- bytes were used. The list got the values of the records that ended before.
-abbrev pub StreamFeeds : {R E : Type 0} → (R → List ℕ → Type 0) → (List ℕ → E → Type 0) → (List ℕ → RecordError → Type 0) → ℕ → StreamReader R → Framing → ℕ → List ℕ → List E → List ℕ → List E → List E → Result (Option ℕ) FaultAt → Type 0
-StreamFeeds {E = E} holds spells breaks ahead new framing limit w values piece old now (Ok None) =
+-- bytes were used. The list got the values of the records that ended before, so no event is told.
+abbrev pub StreamFeeds : {R E V : Type 0} → (R → List ℕ → Type 0) → (List ℕ → E → Type 0) → (List ℕ → RecordError → Type 0) → ℕ → StreamReader R → Framing → ℕ → List ℕ → List E → List ℕ → List E → List E → ℕ → Decoded V Fault → Type 0
+StreamFeeds {E = E} holds spells breaks ahead new framing limit w values piece old now used out.More =
     (more : List E) × (now ≡ old ++ more) × StreamRepresents holds spells ahead new framing limit (w ++ piece) (values ++ more)
-StreamFeeds {E = E} holds spells breaks ahead new framing limit w values piece old now (Ok (Some used)) =
+StreamFeeds holds spells breaks ahead new framing limit w values piece old now used (out.Event value) = ⊥
+StreamFeeds {E = E} holds spells breaks ahead new framing limit w values piece old now used out.End =
     (more : List E) × (now ≡ old ++ more) × (0 < used) × EndsIn framing spells limit (w ++ take used piece) (values ++ more)
-StreamFeeds {E = E} holds spells breaks ahead new framing limit w values piece old now (Err stop) =
-    (more : List E) × (now ≡ old ++ more) × (0 < stop.used)
-    × StopsWithin framing spells breaks ahead limit (w ++ piece) (values ++ more) stop.fault (length w + stop.used)
+StreamFeeds {E = E} holds spells breaks ahead new framing limit w values piece old now used (out.Fault fault) =
+    (more : List E) × (now ≡ old ++ more) × (0 < used)
+    × StopsWithin framing spells breaks ahead limit (w ++ piece) (values ++ more) fault (length w + used)
 
--- no more bytes were used than the piece has
-abbrev pub UsesWithin : ℕ → Result (Option ℕ) FaultAt → Type 0
-UsesWithin len (Ok None) = Unit {0}
-UsesWithin len (Ok (Some used)) = used ≤ len
-UsesWithin len (Err stop) = stop.used ≤ len
-
--- an answer, of one in little room
-abbrev pub out_of : {E : Type 0} → PackedOut E → Decoded E
-out_of small.More = out.More
-out_of (small.Event value) = out.Event value
-out_of small.End = out.End
-out_of (small.Fault fault) = out.Fault fault
-
--- Where a byte ended the stream or stops the reading nothing is kept: after the answer to a piece up to the end of a record; after
--- what became of a whole piece; and after a stop.
-abbrev pub KeepsNoneAfterAnswer : {E : Type 0} → ℕ → Decoded E → Type 0
+-- where a byte ended the stream or stops the reading nothing is kept: after an answer, and after a stop
+abbrev pub KeepsNoneAfterAnswer : {E : Type 0} → ℕ → Decoded E Fault → Type 0
 KeepsNoneAfterAnswer kept out.More = Unit {0}
 KeepsNoneAfterAnswer kept (out.Event value) = Unit {0}
 KeepsNoneAfterAnswer kept out.End = kept ≡ 0
 KeepsNoneAfterAnswer kept (out.Fault fault) = kept ≡ 0
-
-abbrev pub KeepsNoneAfterFeed : ℕ → Result (Option ℕ) FaultAt → Type 0
-KeepsNoneAfterFeed kept (Ok None) = Unit {0}
-KeepsNoneAfterFeed kept (Ok (Some used)) = kept ≡ 0
-KeepsNoneAfterFeed kept (Err stop) = kept ≡ 0
 
 abbrev pub KeepsNoneAfterStop : {A B : Type 0} → ℕ → Result A B → Type 0
 KeepsNoneAfterStop kept (Ok more) = Unit {0}

@@ -13,8 +13,6 @@ use Rattle.mes_stream.specs.declared.body.Body.{Body}
 use Rattle.mes_stream.specs.declared.stream_reader.Framing.{Framing}
 use Rattle.mes_stream.specs.declared.progress.Decoded.{Decoded}
 use Rattle.mes_stream.specs.declared.progress.Decoded.TheVariants as out
-use Rattle.mes_stream.specs.declared.progress.DecodeStatus.{DecodeStatus}
-use Rattle.mes_stream.specs.declared.progress.DecodeStatus.TheVariants as so_far
 use Rattle.mes_stream.specs.declared.body.Front.{Front}
 use Rattle.mes_stream.specs.declared.body.Front.TheVariants.{Size, Data, Empty, Bad}
 
@@ -62,21 +60,21 @@ EndsInto {E = E} holds spells breaks old new r before after (Err why) =
     (Ends {E = E} holds spells breaks old new r (Err why) ⊎ ((why ≡ refusal.NoMemory) × ((value : E) × Ends holds spells breaks old new r (Ok value)))) × (after ≡ before)
 
 -- what the end of the record of that number is for who reads it
-abbrev pub record_answer : {E : Type 0} → ℕ → Result E RecordError → Decoded E
+abbrev pub record_answer : {E : Type 0} → ℕ → Result E RecordError → Decoded E Fault
 record_answer number (Ok value) = out.Event value
 record_answer number (Err why) = out.Fault (fault_at_record number why)
 
 -- a record has ended, and whatever its value is read to, that is so
-abbrev pub HasEnded : {R E : Type 0} → (R → List ℕ → Type 0) → (List ℕ → E → Type 0) → (List ℕ → RecordError → Type 0) → Body R → (Body R → Decoded E → Type 0) → Type 0
+abbrev pub HasEnded : {R E : Type 0} → (R → List ℕ → Type 0) → (List ℕ → E → Type 0) → (List ℕ → RecordError → Type 0) → Body R → (Body R → Decoded E Fault → Type 0) → Type 0
 HasEnded {R} {E} holds spells breaks d IsSo =
     (r : List ℕ) × holds d.reader r × (length r < 2 ^ 64)
     × ((after : Body R) (answer : Result E RecordError) → after.records ≡ d.records → Ends holds spells breaks d after r answer → IsSo after (record_answer after.done answer))
 
 -- What became of the front of a piece, where the value of a record that ended with it is still to be read. What it stands for
 -- then is by its body.
-abbrev pub Reports : {R E : Type 0} → (R → List ℕ → Type 0) → (List ℕ → E → Type 0) → (List ℕ → RecordError → Type 0) → ℕ → Framing → (Body R → List ℕ → List E → Type 0) → Body R → ℕ → List ℕ → List E → List ℕ → ℕ → DecodeStatus → Type 0
-Reports holds spells breaks ahead framing Represents body limit w values piece used so_far.More = SaysIn framing (Represents body) spells breaks ahead limit w values piece used out.More
-Reports holds spells breaks ahead framing Represents body limit w values piece used so_far.RecordEnded =
+abbrev pub Reports : {R E : Type 0} → (R → List ℕ → Type 0) → (List ℕ → E → Type 0) → (List ℕ → RecordError → Type 0) → ℕ → Framing → (Body R → List ℕ → List E → Type 0) → Body R → ℕ → List ℕ → List E → List ℕ → ℕ → Decoded (Unit {0}) Fault → Type 0
+Reports holds spells breaks ahead framing Represents body limit w values piece used out.More = SaysIn framing (Represents body) spells breaks ahead limit w values piece used out.More
+Reports holds spells breaks ahead framing Represents body limit w values piece used (out.Event done) =
     HasEnded holds spells breaks body (λ after answer. SaysIn framing (Represents after) spells breaks ahead limit w values piece used answer)
-Reports holds spells breaks ahead framing Represents body limit w values piece used so_far.StreamEnded = SaysIn framing (Represents body) spells breaks ahead limit w values piece used out.End
-Reports holds spells breaks ahead framing Represents body limit w values piece used (so_far.Fault fault) = SaysIn framing (Represents body) spells breaks ahead limit w values piece used (out.Fault fault)
+Reports holds spells breaks ahead framing Represents body limit w values piece used out.End = SaysIn framing (Represents body) spells breaks ahead limit w values piece used out.End
+Reports holds spells breaks ahead framing Represents body limit w values piece used (out.Fault fault) = SaysIn framing (Represents body) spells breaks ahead limit w values piece used (out.Fault fault)

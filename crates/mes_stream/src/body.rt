@@ -12,7 +12,7 @@ ghost use Rattle.mes_stream.specs.Taking.{BodyRepresents, Fronts, IsWithin, Repo
 ghost use Rattle.mes_stream.specs.declared.stream_reader.Framing.TheVariants as framing;
 
 use crate::packed_fault::PackedFault;
-use crate::progress::{DecodeStatus, Progress};
+use crate::progress::{Decoded, Step};
 use crate::record_error::RecordError;
 use crate::record_reader::RecordReader;
 use mes_frame::{FrameFault, Limit, RecordOut, RecordState};
@@ -72,10 +72,10 @@ impl<R: RecordReader> Body<R> {
 
     /// Takes bytes of a size line or a run of data from the front of a run.
     #[inline(always)]
-    pub(crate) fn take(&mut self, run: &[u8]) -> Progress
+    pub(crate) fn take(&mut self, run: &[u8]) -> Step<(), PackedFault>
         requires { 0 < length run.now }
         ensures reports { (ahead : ℕ) (b : List ℕ) (values : List R.Value) → BodyRepresents R.holds R.spells ahead self.old b values
-            → Reports R.holds R.spells R.breaks ahead framing.Plain (BodyRepresents R.holds R.spells ahead) self.new (limit_of self.new.records) b values run.now result.used result.so_far }
+            → Reports R.holds R.spells R.breaks ahead framing.Plain (BodyRepresents R.holds R.spells ahead) self.new (limit_of self.new.records) b values run.now result.used result.out }
         // Up to the last byte that was used all is live.
         ensures before { (ahead : ℕ) (b : List ℕ) (values : List R.Value) → BodyRepresents R.holds R.spells ahead self.old b values
             → GoesBefore framing.Plain R.spells (limit_of self.new.records) b values run.now result.used }
@@ -83,27 +83,27 @@ impl<R: RecordReader> Body<R> {
         ensures limit { limit_of self.new.records ≡ limit_of self.old.records }
     {
         match front_of(&mut self.records, run) {
-            Front::Size { count } => Progress::more(count),
-            Front::Bad(fault) => Progress {
+            Front::Size { count } => Step::more(count),
+            Front::Bad(fault) => Step {
                 used: 1,
-                so_far: DecodeStatus::Fault(PackedFault::frame(fault)),
+                out: Decoded::Fault(PackedFault::frame(fault)),
             },
             Front::Empty => {
                 self.done = self.done.saturating_add(1);
                 let why = self.reader.empty_record_error();
-                Progress {
+                Step {
                     used: 1,
-                    so_far: DecodeStatus::Fault(self.refused(why)),
+                    out: Decoded::Fault(self.refused(why)),
                 }
             }
             Front::Data { count, last } => match self.reader.push_run(&run[..count]) {
-                Err(refused) => Progress::no_memory(refused),
-                Ok(()) => Progress {
+                Err(refused) => Step::no_memory(refused),
+                Ok(()) => Step {
                     used: count,
-                    so_far: if last {
-                        DecodeStatus::RecordEnded
+                    out: if last {
+                        Decoded::Event(())
                     } else {
-                        DecodeStatus::More
+                        Decoded::More
                     },
                 },
             },

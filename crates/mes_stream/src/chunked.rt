@@ -10,7 +10,7 @@ ghost use Rattle.mes_stream.specs.declared.stream_reader.Framing.TheVariants as 
 use crate::body::Body;
 use crate::limits::{MAX_GATHERED, MAX_SHORT_CHUNK};
 use crate::packed_fault::PackedFault;
-use crate::progress::{DecodeStatus, Progress};
+use crate::progress::{Decoded, Step};
 use crate::record_reader::RecordReader;
 use arrayvec::ArrayVec;
 use mes_frame::{ChunkOut, ChunkState};
@@ -36,11 +36,11 @@ impl<R: RecordReader> ChunkedBody<R> {
     }
 
     /// Takes short chunks, or bytes of the framing or a run of data, from the front of a piece.
-    pub(crate) fn take(&mut self, rest: &[u8]) -> Progress
+    pub(crate) fn take(&mut self, rest: &[u8]) -> Step<(), PackedFault>
         requires { 0 < length rest.now }
         ensures reports { (ahead : ℕ) (w : List ℕ) (values : List R.Value) → ChunkedRepresents R.holds R.spells ahead self.old w values
             → Reports R.holds R.spells R.breaks ahead framing.Chunked (λ body. ChunkedRepresents R.holds R.spells ahead (record { chunks = self.new.chunks; body = body }))
-            self.new.body (limit_of self.new.body.records) w values rest.now result.used result.so_far }
+            self.new.body (limit_of self.new.body.records) w values rest.now result.used result.out }
         ensures before { (ahead : ℕ) (w : List ℕ) (values : List R.Value) → ChunkedRepresents R.holds R.spells ahead self.old w values
             → LiveBefore R.spells (limit_of self.new.body.records) w values rest.now result.used }
         ensures used { (0 < result.used) × (result.used ≤ length rest.now) }
@@ -61,12 +61,12 @@ impl<R: RecordReader> ChunkedBody<R> {
     }
 
     // The same, where no data come next.
-    fn take_between(&mut self, rest: &[u8]) -> Progress
+    fn take_between(&mut self, rest: &[u8]) -> Step<(), PackedFault>
         requires some { 0 < length rest.now }
         requires none { remaining_of self.old.chunks ≡ 0 }
         ensures reports { (ahead : ℕ) (w : List ℕ) (values : List R.Value) → ChunkedRepresents R.holds R.spells ahead self.old w values
             → Reports R.holds R.spells R.breaks ahead framing.Chunked (λ body. ChunkedRepresents R.holds R.spells ahead (record { chunks = self.new.chunks; body = body }))
-            self.new.body (limit_of self.new.body.records) w values rest.now result.used result.so_far }
+            self.new.body (limit_of self.new.body.records) w values rest.now result.used result.out }
         ensures before { (ahead : ℕ) (w : List ℕ) (values : List R.Value) → ChunkedRepresents R.holds R.spells ahead self.old w values
             → LiveBefore R.spells (limit_of self.new.body.records) w values rest.now result.used }
         ensures used { (0 < result.used) × (result.used ≤ length rest.now) }
@@ -80,10 +80,10 @@ impl<R: RecordReader> ChunkedBody<R> {
     }
 
     // Takes chunks that are short and plain from the front of a piece, as far as they stand there and the record goes on behind them.
-    fn take_short(&mut self, rest: &[u8]) -> Progress
+    fn take_short(&mut self, rest: &[u8]) -> Step<(), PackedFault>
         ensures reports { (ahead : ℕ) (w : List ℕ) (values : List R.Value) → ChunkedRepresents R.holds R.spells ahead self.old w values
             → Reports R.holds R.spells R.breaks ahead framing.Chunked (λ body. ChunkedRepresents R.holds R.spells ahead (record { chunks = self.new.chunks; body = body }))
-            self.new.body (limit_of self.new.body.records) w values rest.now result.used result.so_far }
+            self.new.body (limit_of self.new.body.records) w values rest.now result.used result.out }
         ensures before { (ahead : ℕ) (w : List ℕ) (values : List R.Value) → ChunkedRepresents R.holds R.spells ahead self.old w values
             → LiveBefore R.spells (limit_of self.new.body.records) w values rest.now result.used }
         ensures none { result.used ≡ 0 → self.new ≡ self.old }
@@ -93,23 +93,23 @@ impl<R: RecordReader> ChunkedBody<R> {
         let most = self.body.room();
         let gathered = gather_short_chunks(&mut self.chunks, rest, most);
         if gathered.bytes.is_empty() {
-            return Progress::more(gathered.used);
+            return Step::more(gathered.used);
         }
         match self.body.pass(gathered.bytes.as_slice()) {
-            Ok(()) => Progress::more(gathered.used),
-            Err(refused) => Progress::no_memory(NoMemoryAt {
+            Ok(()) => Step::more(gathered.used),
+            Err(refused) => Step::no_memory(NoMemoryAt {
                 taken: gathered.places.as_slice()[refused.taken],
             }),
         }
     }
 
     // Takes bytes of the framing from the front of a piece.
-    fn take_framing(&mut self, rest: &[u8]) -> Progress
+    fn take_framing(&mut self, rest: &[u8]) -> Step<(), PackedFault>
         requires some { 0 < length rest.now }
         requires none { remaining_of self.old.chunks ≡ 0 }
         ensures reports { (ahead : ℕ) (w : List ℕ) (values : List R.Value) → ChunkedRepresents R.holds R.spells ahead self.old w values
             → Reports R.holds R.spells R.breaks ahead framing.Chunked (λ body. ChunkedRepresents R.holds R.spells ahead (record { chunks = self.new.chunks; body = body }))
-            self.new.body (limit_of self.new.body.records) w values rest.now result.used result.so_far }
+            self.new.body (limit_of self.new.body.records) w values rest.now result.used result.out }
         ensures before { (ahead : ℕ) (w : List ℕ) (values : List R.Value) → ChunkedRepresents R.holds R.spells ahead self.old w values
             → LiveBefore R.spells (limit_of self.new.body.records) w values rest.now result.used }
         ensures used { (0 < result.used) × (result.used ≤ length rest.now) }
@@ -117,32 +117,32 @@ impl<R: RecordReader> ChunkedBody<R> {
     {
         let framed = frame_run(&mut self.chunks, rest);
         if framed > 0 {
-            return Progress::more(framed);
+            return Step::more(framed);
         }
-        Progress {
+        Step {
             used: 1,
-            so_far: self.frame(rest[0]),
+            out: self.frame(rest[0]),
         }
     }
 
     // Takes a byte of the framing.
-    fn frame(&mut self, byte: u8) -> DecodeStatus
+    fn frame(&mut self, byte: u8) -> Decoded<(), PackedFault>
         ensures reports { (ahead : ℕ) (w : List ℕ) (values : List R.Value) → ChunkedRepresents R.holds R.spells ahead self.old w values → remaining_of self.old.chunks ≡ 0
             → Reports R.holds R.spells R.breaks ahead framing.Chunked (λ body. ChunkedRepresents R.holds R.spells ahead (record { chunks = self.new.chunks; body = body }))
             self.new.body (limit_of self.new.body.records) w values (byte ∷ []) 1 result }
         ensures body { self.new.body ≡ self.old.body }
     {
         match self.chunks.step(byte) {
-            ChunkOut::Quiet => DecodeStatus::More,
-            ChunkOut::Byte => DecodeStatus::More,
+            ChunkOut::Quiet => Decoded::More,
+            ChunkOut::Byte => Decoded::More,
             ChunkOut::Closed => {
                 if self.body.between() {
-                    DecodeStatus::StreamEnded
+                    Decoded::End
                 } else {
-                    DecodeStatus::Fault(PackedFault::ends_inside_record())
+                    Decoded::Fault(PackedFault::ends_inside_record())
                 }
             }
-            ChunkOut::Fault(fault) => DecodeStatus::Fault(PackedFault::frame(fault)),
+            ChunkOut::Fault(fault) => Decoded::Fault(PackedFault::frame(fault)),
         }
     }
 }

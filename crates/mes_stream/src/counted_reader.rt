@@ -13,7 +13,7 @@ use crate::device::{Consumer, ReadsEnd};
 use crate::fault::{Fault, Report, Stop};
 use crate::limits::{MAX_READ, MAX_REST};
 use crate::packed_fault::PackedFault;
-use crate::progress::{PackedOut, PackedStep};
+use crate::progress::{Decoded, Step};
 use crate::record_reader::RecordReader;
 use crate::stream_reader::{Framing, StreamReader};
 use arrayvec::ArrayVec;
@@ -99,16 +99,16 @@ impl<R: RecordReader> Reading<R> {
         // Where the reading has stopped nothing is kept.
         ensures kept { KeepsNoneAfterStop (held_by_reading R.kept self.new) result }
     {
-        let PackedStep { used, out } = self.stream.step(piece);
+        let Step { used, out } = self.stream.next(piece);
         self.used = self.used.saturating_add(used as u64);
         match out {
-            PackedOut::More => Ok(None),
-            PackedOut::Event(value) => Ok(Some(EndedRecord { value, used })),
-            PackedOut::End => {
+            Decoded::More => Ok(None),
+            Decoded::Event(value) => Ok(Some(EndedRecord { value, used })),
+            Decoded::End => {
                 self.keep_rest(&piece[used..]);
                 Err(ReadingStop::Ended)
             }
-            PackedOut::Fault(fault) => Err(ReadingStop::Fault(fault)),
+            Decoded::Fault(fault) => Err(ReadingStop::Fault(fault)),
         }
     }
 
@@ -121,20 +121,15 @@ impl<R: RecordReader> Reading<R> {
         // Where the reading has stopped nothing is kept.
         ensures kept { KeepsNoneAfterStop (held_by_reading R.kept self.new) result }
     {
-        match self.stream.feed(piece, values) {
-            Ok(None) => {
-                self.used = self.used.saturating_add(piece.len() as u64);
-                Ok(())
-            }
-            Ok(Some(end)) => {
-                self.used = self.used.saturating_add(end as u64);
-                self.keep_rest(&piece[end..]);
+        let Step { used, out } = self.stream.feed(piece, values);
+        self.used = self.used.saturating_add(used as u64);
+        match out {
+            Decoded::More => Ok(()),
+            Decoded::End => {
+                self.keep_rest(&piece[used..]);
                 Err(ReadingStop::Ended)
             }
-            Err(stop) => {
-                self.used = self.used.saturating_add(stop.used as u64);
-                Err(ReadingStop::Fault(stop.fault))
-            }
+            Decoded::Fault(fault) => Err(ReadingStop::Fault(fault)),
         }
     }
 
@@ -144,24 +139,16 @@ impl<R: RecordReader> Reading<R> {
         ensures used { self.new.used ≡ self.old.used }
         ensures kept { held_by_reading R.kept self.new ≡ 0 }
     {
-        let outcome = self.reported(end);
-        self.stream.release();
-        outcome
-    }
-
-    // The same, but what was kept stays.
-    fn reported(&mut self, end: ReadsEnd<ReadingStop>) -> Result<Report, Stop>
-        ensures means { (ahead : Ahead) → MeansAfter R.holds R.spells ahead self.old end result }
-        ensures used { self.new.used ≡ self.old.used }
-    {
         let used = self.used;
+        let finished = self.stream.finish();
+        self.stream.release();
         match end {
             ReadsEnd::Stopped(ReadingStop::Ended) => Ok(Report {
                 used,
                 rest: mem::replace(&mut self.rest, ArrayVec::new()),
             }),
             ReadsEnd::Stopped(ReadingStop::Fault(fault)) => Err(stop_at(fault.into_fault(), used)),
-            ReadsEnd::AtEnd => match self.stream.finish() {
+            ReadsEnd::AtEnd => match finished {
                 Ok(()) => Ok(Report {
                     used,
                     rest: ArrayVec::new(),

@@ -115,7 +115,7 @@ impl<R: RecordReader> RecordDecoder<R> {
         ensures again { IfSome (end_of self.old) (λ e. (result ≡ record { used = 0; out = answer_of e }) × (self.new ≡ self.old)) }
     {
         let step = match &mut self.state {
-            State::Going(stream) => stream.next(piece),
+            State::Going(stream) => stream.next(piece).unpacked(),
             State::Ended(end) => return Step {
                 used: 0,
                 out: end.answer(),

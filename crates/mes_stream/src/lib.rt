@@ -34,7 +34,7 @@ pub use limits::{MAX_COUNT_LINE, MAX_FAULT_LINE, MAX_READ, MAX_REST};
 pub use line::{count_line, fault_line, push_number, push_word};
 pub use mes_msg::{EncodeFaultKind, SendFault};
 pub use packed_fault::PackedFault;
-pub use progress::{Decoded, FaultAt, Step};
+pub use progress::{Decoded, Step};
 pub use record_error::RecordError;
 pub use record_reader::RecordReader;
 pub use send::{write_plain, write_stream};

@@ -7,7 +7,7 @@ ghost use Rattle.mes_stream.specs.Held.{held_by_stream};
 ghost use Rattle.mes_stream.specs.RecordValues.{IsRefused};
 ghost use Rattle.mes_stream.specs.Refusals.{fault_at_record};
 ghost use Rattle.mes_stream.specs.Stream.{saturated};
-ghost use Rattle.mes_stream.specs.StreamReaders.{StreamRepresents, StreamFeeds, UsesWithin, KeepsNoneAfterFeed, KeepsNoneAfterAnswer, body_of, with_body, out_of};
+ghost use Rattle.mes_stream.specs.StreamReaders.{StreamRepresents, StreamFeeds, KeepsNoneAfterAnswer, body_of, with_body};
 ghost use Rattle.mes_stream.specs.Taking.{Ends, EndsInto, Reports};
 ghost use Rattle.mes_stream.specs.declared.stream_reader.Framing.{Framing as FramingValue};
 
@@ -15,10 +15,11 @@ use crate::body::Body;
 use crate::chunked::ChunkedBody;
 use crate::fault::Fault;
 use crate::packed_fault::PackedFault;
-use crate::progress::{DecodeStatus, Decoded, FaultAt, PackedOut, PackedStep, Progress, Step};
+use crate::progress::{Decoded, Step};
 use crate::record_error::RecordError;
 use crate::record_reader::RecordReader;
 use mes_frame::Limit;
+use std::convert::Infallible;
 
 /// How the records of a stream come.
 #[derive(Clone, Copy, Debug, PartialEq, Eq)]
@@ -61,7 +62,7 @@ impl<R: RecordReader> StreamReader<R> {
     }
 
     /// Takes a piece up to the end of a record or of the stream, or a fault, or the piece's end: an answer behind each record.
-    pub fn next(&mut self, piece: &[u8]) -> Step<R::Value>
+    pub fn next(&mut self, piece: &[u8]) -> Step<R::Value, PackedFault>
         ensures says { (ahead : ℕ) (framing : FramingValue) (limit : ℕ) (w : List ℕ) (values : List R.Value) → StreamRepresents R.holds R.spells ahead self.old framing limit w values
             → SaysIn framing (StreamRepresents R.holds R.spells ahead self.new framing limit) R.spells R.breaks ahead limit w values piece.now result.used result.out }
         ensures before { (ahead : ℕ) (framing : FramingValue) (limit : ℕ) (w : List ℕ) (values : List R.Value) → StreamRepresents R.holds R.spells ahead self.old framing limit w values
@@ -72,102 +73,62 @@ impl<R: RecordReader> StreamReader<R> {
         // After the end or a fault nothing is kept.
         ensures kept { KeepsNoneAfterAnswer (held_by_stream R.kept self.new) result.out }
     {
-        let PackedStep { used, out } = self.step(piece);
-        let out = out.into_out();
+        let Step { used, out } = self.advance(piece);
+        let out = match out {
+            Decoded::More => Decoded::More,
+            Decoded::Event(()) => match self.end_record() {
+                Ok(value) => Decoded::Event(value),
+                Err(why) => Decoded::Fault(self.refuse(why)),
+            },
+            Decoded::End => Decoded::End,
+            Decoded::Fault(fault) => Decoded::Fault(fault),
+        };
         Step { used, out }
     }
 
-    /// The same, where a fault has little room.
-    pub(crate) fn step(&mut self, piece: &[u8]) -> PackedStep<R::Value>
-        ensures says { (ahead : ℕ) (framing : FramingValue) (limit : ℕ) (w : List ℕ) (values : List R.Value) → StreamRepresents R.holds R.spells ahead self.old framing limit w values
-            → SaysIn framing (StreamRepresents R.holds R.spells ahead self.new framing limit) R.spells R.breaks ahead limit w values piece.now result.used (out_of result.out) }
-        ensures before { (ahead : ℕ) (framing : FramingValue) (limit : ℕ) (w : List ℕ) (values : List R.Value) → StreamRepresents R.holds R.spells ahead self.old framing limit w values
-            → GoesBefore framing R.spells limit w values piece.now result.used }
-        ensures more { out_of result.out ≡ Decoded.More → result.used ≡ length piece.now }
-        ensures some { out_of result.out ≢ Decoded.More → 0 < result.used }
-        ensures used { result.used ≤ length piece.now }
-        ensures kept { KeepsNoneAfterAnswer (held_by_stream R.kept self.new) (out_of result.out) }
-    {
-        let step = self.step_inner(piece);
-        match &step.out {
-            PackedOut::More | PackedOut::Event(_) => {}
-            PackedOut::End | PackedOut::Fault(_) => self.release(),
-        }
-        step
-    }
-
-    // The same, but what was kept stays.
-    fn step_inner(&mut self, piece: &[u8]) -> PackedStep<R::Value>
-        ensures says { (ahead : ℕ) (framing : FramingValue) (limit : ℕ) (w : List ℕ) (values : List R.Value) → StreamRepresents R.holds R.spells ahead self.old framing limit w values
-            → SaysIn framing (StreamRepresents R.holds R.spells ahead self.new framing limit) R.spells R.breaks ahead limit w values piece.now result.used (out_of result.out) }
-        ensures before { (ahead : ℕ) (framing : FramingValue) (limit : ℕ) (w : List ℕ) (values : List R.Value) → StreamRepresents R.holds R.spells ahead self.old framing limit w values
-            → GoesBefore framing R.spells limit w values piece.now result.used }
-        ensures more { out_of result.out ≡ Decoded.More → result.used ≡ length piece.now }
-        ensures some { out_of result.out ≢ Decoded.More → 0 < result.used }
-        ensures used { result.used ≤ length piece.now }
-    {
-        let Progress { used, so_far } = self.advance(piece);
-        let out = match so_far {
-            DecodeStatus::More => PackedOut::More,
-            DecodeStatus::RecordEnded => match self.end_record() {
-                Ok(value) => PackedOut::Event(value),
-                Err(why) => PackedOut::Fault(self.refused(why)),
-            },
-            DecodeStatus::StreamEnded => PackedOut::End,
-            DecodeStatus::Fault(fault) => PackedOut::Fault(fault),
-        };
-        PackedStep { used, out }
-    }
-
-    /// Takes a piece, and adds the values of the records that end in it. Some where a byte of it ended the stream: so many bytes
-    /// were used, that one the last of them.
+    /// Takes a piece up to the end of the stream, or a fault, or the piece's end, and adds the values of the records that end in it to
+    /// the list: no answer is an event.
     pub fn feed(
         &mut self,
         piece: &[u8],
         values: &mut Vec<R::Value>,
-    ) -> Result<Option<usize>, FaultAt>
+    ) -> Step<Infallible, PackedFault>
         ensures feeds { (ahead : ℕ) (framing : FramingValue) (limit : ℕ) (w : List ℕ) (before : List R.Value) → StreamRepresents R.holds R.spells ahead self.old framing limit w before
-            → StreamFeeds R.holds R.spells (IsRefused R.spells R.breaks) ahead self.new framing limit w before piece.now values.old.items values.new.items result }
-        ensures within { UsesWithin (length piece.now) result }
-        ensures kept { KeepsNoneAfterFeed (held_by_stream R.kept self.new) result }
-    {
-        let fed = self.feed_inner(piece, values);
-        match &fed {
-            Ok(None) => {}
-            Ok(Some(_)) | Err(_) => self.release(),
-        }
-        fed
-    }
-
-    // The same, but what was kept stays.
-    fn feed_inner(
-        &mut self,
-        piece: &[u8],
-        values: &mut Vec<R::Value>,
-    ) -> Result<Option<usize>, FaultAt>
-        ensures feeds { (ahead : ℕ) (framing : FramingValue) (limit : ℕ) (w : List ℕ) (before : List R.Value) → StreamRepresents R.holds R.spells ahead self.old framing limit w before
-            → StreamFeeds R.holds R.spells (IsRefused R.spells R.breaks) ahead self.new framing limit w before piece.now values.old.items values.new.items result }
-        ensures within { UsesWithin (length piece.now) result }
+            → StreamFeeds R.holds R.spells (IsRefused R.spells R.breaks) ahead self.new framing limit w before piece.now values.old.items values.new.items result.used result.out }
+        ensures more { result.out ≡ Decoded.More → result.used ≡ length piece.now }
+        ensures used { result.used ≤ length piece.now }
+        ensures kept { KeepsNoneAfterAnswer (held_by_stream R.kept self.new) result.out }
     {
         let mut at = 0;
         while at < piece.len() {
             let taken = self.advance(&piece[at..]);
             at += taken.used;
-            match taken.so_far {
-                DecodeStatus::More => {}
-                DecodeStatus::RecordEnded => {
+            match taken.out {
+                Decoded::More => {}
+                Decoded::Event(()) => {
                     if let Err(why) = self.end_record_into(values) {
-                        return Err(FaultAt {
-                            fault: self.refused(why),
-                            used: at,
-                        });
+                        let out = Decoded::Fault(self.refuse(why));
+                        return Step { used: at, out };
                     }
                 }
-                DecodeStatus::StreamEnded => return Ok(Some(at)),
-                DecodeStatus::Fault(fault) => return Err(FaultAt { fault, used: at }),
+                Decoded::End => {
+                    return Step {
+                        used: at,
+                        out: Decoded::End,
+                    };
+                }
+                Decoded::Fault(fault) => {
+                    return Step {
+                        used: at,
+                        out: Decoded::Fault(fault),
+                    };
+                }
             }
         }
-        Ok(None)
+        Step {
+            used: at,
+            out: Decoded::More,
+        }
     }
 
     /// The input has no more bytes. Of plain records: Ok between two of them, else F10. Of a chunked stream, which has not
@@ -201,11 +162,11 @@ impl<R: RecordReader> StreamReader<R> {
     }
 
     // Takes the front of a piece.
-    fn take(&mut self, piece: &[u8]) -> Progress
+    fn take(&mut self, piece: &[u8]) -> Step<(), PackedFault>
         requires { 0 < length piece.now }
         ensures reports { (ahead : ℕ) (framing : FramingValue) (limit : ℕ) (w : List ℕ) (values : List R.Value) → StreamRepresents R.holds R.spells ahead self.old framing limit w values
             → Reports R.holds R.spells R.breaks ahead framing (λ body. StreamRepresents R.holds R.spells ahead (with_body self.new body) framing limit) (body_of self.new)
-            limit w values piece.now result.used result.so_far }
+            limit w values piece.now result.used result.out }
         ensures before { (ahead : ℕ) (framing : FramingValue) (limit : ℕ) (w : List ℕ) (values : List R.Value) → StreamRepresents R.holds R.spells ahead self.old framing limit w values
             → GoesBefore framing R.spells limit w values piece.now result.used }
         ensures used { (0 < result.used) × (result.used ≤ length piece.now) }
@@ -218,26 +179,44 @@ impl<R: RecordReader> StreamReader<R> {
 
     // Takes a piece up to the end of a record or of the stream, or what stops the reading, or the piece's end. The value of a
     // record that ended is still to be read.
-    fn advance(&mut self, piece: &[u8]) -> Progress
+    fn advance(&mut self, piece: &[u8]) -> Step<(), PackedFault>
         ensures reports { (ahead : ℕ) (framing : FramingValue) (limit : ℕ) (w : List ℕ) (values : List R.Value) → StreamRepresents R.holds R.spells ahead self.old framing limit w values
             → Reports R.holds R.spells R.breaks ahead framing (λ body. StreamRepresents R.holds R.spells ahead (with_body self.new body) framing limit) (body_of self.new)
-            limit w values piece.now result.used result.so_far }
+            limit w values piece.now result.used result.out }
         ensures before { (ahead : ℕ) (framing : FramingValue) (limit : ℕ) (w : List ℕ) (values : List R.Value) → StreamRepresents R.holds R.spells ahead self.old framing limit w values
             → GoesBefore framing R.spells limit w values piece.now result.used }
-        ensures more { result.so_far ≡ DecodeStatus.More → result.used ≡ length piece.now }
-        ensures some { result.so_far ≢ DecodeStatus.More → 0 < result.used }
+        ensures more { result.out ≡ Decoded.More → result.used ≡ length piece.now }
+        ensures some { result.out ≢ Decoded.More → 0 < result.used }
         ensures used { result.used ≤ length piece.now }
+        // After the end or a fault nothing is kept.
+        ensures kept { KeepsNoneAfterAnswer (held_by_stream R.kept self.new) result.out }
     {
         let mut at = 0;
         while at < piece.len() {
             let taken = self.take(&piece[at..]);
             at += taken.used;
-            match taken.so_far {
-                DecodeStatus::More => {}
-                so_far => return Progress { used: at, so_far },
+            match taken.out {
+                Decoded::More => {}
+                Decoded::Event(()) => {
+                    return Step {
+                        used: at,
+                        out: Decoded::Event(()),
+                    };
+                }
+                Decoded::End => return self.stop(at, Decoded::End),
+                Decoded::Fault(fault) => return self.stop(at, Decoded::Fault(fault)),
             }
         }
-        Progress::more(at)
+        Step::more(at)
+    }
+
+    // What is told where the stream ended or stops behind so many bytes of a piece: nothing is kept any more.
+    fn stop(&mut self, used: usize, out: Decoded<(), PackedFault>) -> Step<(), PackedFault>
+        ensures told { result ≡ record { used = used; out = out } }
+        ensures kept { held_by_stream R.kept self.new ≡ 0 }
+    {
+        self.release();
+        Step { used, out }
     }
 
     // The value of the record that has ended, or why it has none.
@@ -266,14 +245,17 @@ impl<R: RecordReader> StreamReader<R> {
         }
     }
 
-    // The fault of the record that has ended without a value.
-    fn refused(&self, why: RecordError) -> PackedFault
-        ensures { result ≡ fault_at_record (body_of self.now).done why }
+    // The fault of the record that has ended without a value. Nothing is kept any more.
+    fn refuse(&mut self, why: RecordError) -> PackedFault
+        ensures fault { result ≡ fault_at_record (body_of self.old).done why }
+        ensures kept { held_by_stream R.kept self.new ≡ 0 }
     {
-        match self {
+        let fault = match self {
             StreamReader::Plain(body) => body.refused(why),
             StreamReader::Chunked(chunked) => chunked.body.refused(why),
-        }
+        };
+        self.release();
+        fault
     }
 
     /// Keeps nothing any more.

@@ -14,6 +14,7 @@ ghost use Rattle.mes_stream.specs.Pieces.{DecodeOutcome, Decodes, HadMemory, joi
 ghost use Rattle.mes_stream.specs.declared.decoder.RecordDecoder.{RecordDecoder as DecoderValue};
 ghost use Rattle.mes_stream.specs.declared.event_reader.EventReader.{EventReader as ReaderValue};
 ghost use Rattle.mes_stream.specs.declared.progress.Decoded.{Decoded as Answer};
+ghost use Rattle.mes_stream.specs.declared.fault.Fault.{Fault};
 ghost use Rattle.mes_stream.specs.declared.fault.Report.{Report};
 ghost use Rattle.mes_stream.specs.declared.fault.Stop.{Stop};
 ghost use Rattle.mes_stream.specs.PlainReading.{IsDecided, IsExact, PlainReading, ReadsPlain};
@@ -91,7 +92,7 @@ pub fn one_answer()
 /// The bytes alone decide what a decoder returns, and not how they are cut: for two lists of pieces with the same concatenation, which may
 /// hold any bytes, it returns the same events, comes to the same end or fault, and uses the same number of bytes, if no allocation fails.
 pub fn one_decoding()
-    ensures { (limit : ℕ) (first second : DecoderValue ReaderValue) (pieces others : List (List ℕ)) (calls more : List (ℕ × Answer EventValue)) (outcome other : DecodeOutcome)
+    ensures { (limit : ℕ) (first second : DecoderValue ReaderValue) (pieces others : List (List ℕ)) (calls more : List (ℕ × Answer EventValue Fault)) (outcome other : DecodeOutcome)
         → DecoderRepresents HoldsData Spells first limit [] [] → DecoderRepresents HoldsData Spells second limit [] [] → joined pieces ≡ joined others
         → Decodes first pieces calls outcome → Decodes second others more other → HadMemory outcome → HadMemory other → outcome ≡ other }
 {

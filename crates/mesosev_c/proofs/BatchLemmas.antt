@@ -8,6 +8,7 @@ use Rattle.mes_msg.specs.Canon.{canonical_text, IsGood, IsEncodeFault}
 use Rattle.mes_msg.specs.EncodeFault.{EncodeFault}
 use Rattle.mes_msg.specs.EncodeFault.TheVariants.{NoMemory}
 use Rattle.mes_msg.specs.Event.{Event}
+use Rattle.mes_stream.specs.declared.fault.Fault.{Fault}
 use Rattle.mes_stream.specs.declared.progress.Decoded.{Decoded}
 use Rattle.mes_stream.specs.declared.progress.Decoded.TheVariants as out
 use Rattle.mesosev_c.specs.Adding.{KeepsTexts, LosesTexts, AddsText, AddsEvent, HasStatus}
@@ -57,7 +58,7 @@ not_fault : (status : ℕ) → IsEvent status → status ≤ 16 → ⊥
 not_fault status (inl e) is = absurd (omega arith)
 not_fault status (inr e) is = absurd (omega arith)
 
-out_without : (used : ℕ) (answer : Decoded Event) (one : Reporting) → IsEvent one.reported.status → ReportsOutput true used answer one.text one.reported → ReportsOutput true used answer [] (without one).reported
+out_without : (used : ℕ) (answer : Decoded Event Fault) (one : Reporting) → IsEvent one.reported.status → ReportsOutput true used answer one.text one.reported → ReportsOutput true used answer [] (without one).reported
 out_without used out.More one is h = absurd (not_more one.reported.status is h.0)
 out_without used (out.Event event) one is h = (h.0, inr (refl, refl, (NoMemory, tt)))
 out_without used out.End one is h = absurd (not_end one.reported.status is h.0)
@@ -190,19 +191,19 @@ adds_event texts event old new count before others at kind size inside kind_is s
 
 -- ---- the end
 
-no_event : (answer : Decoded Event) (status : ℕ) → ((event : Event) → answer ≡ out.Event event → ⊥) → HasStatus answer status → IsEvent status → ⊥
+no_event : (answer : Decoded Event Fault) (status : ℕ) → ((event : Event) → answer ≡ out.Event event → ⊥) → HasStatus answer status → IsEvent status → ⊥
 no_event out.More status none is event = not_more status event is
 no_event (out.Event e) status none is event = none e refl
 no_event out.End status none is event = not_end status event is
 no_event (out.Fault fault) status none is event = not_fault status event is.1
 
-tells_out : (texts : Bool) (used : ℕ) (answer : Decoded Event) (status : ℕ) → ((event : Event) → answer ≡ out.Event event → ⊥) → HasStatus answer status → let reported : Reported = record { status = status; kind = 0 } in ReportsOutput texts used answer [] reported
+tells_out : (texts : Bool) (used : ℕ) (answer : Decoded Event Fault) (status : ℕ) → ((event : Event) → answer ≡ out.Event event → ⊥) → HasStatus answer status → let reported : Reported = record { status = status; kind = 0 } in ReportsOutput texts used answer [] reported
 tells_out texts used out.More status none is = (is, refl, refl)
 tells_out texts used (out.Event e) status none is = absurd (none e refl)
 tells_out texts used out.End status none is = (is, refl, refl)
 tells_out texts used (out.Fault fault) status none is = (is.0, refl, inr refl)
 
-pub stops_there : (old new : TextDecoder) (mid : EventDecoder) (piece : List ℕ) (before after : List Row) (used count more status : ℕ) (answer : Decoded Event) → DecodeStatus old.texts old.decoder mid new.text.items piece before after used count → count < length before
+pub stops_there : (old new : TextDecoder) (mid : EventDecoder) (piece : List ℕ) (before after : List Row) (used count more status : ℕ) (answer : Decoded Event Fault) → DecodeStatus old.texts old.decoder mid new.text.items piece before after used count → count < length before
     → Takes mid new.decoder (drop used piece) more answer → ((event : Event) → answer ≡ out.Event event → ⊥) → HasStatus answer status → new.texts ≡ old.texts
     → ReportsBatch old new piece before after (record { status = status; count = count; used = used + more })
 stops_there old new mid piece before after used count more status answer h inside takes none is texts = record {

@@ -10,6 +10,7 @@ use Rattle.mes_stream.specs.StreamReaders.{StreamRepresents}
 use Rattle.mes_stream.specs.declared.event_reader.EventReader.{EventReader}
 use Rattle.mes_stream.specs.declared.stream_reader.Framing.{Framing}
 use Rattle.mes_stream.specs.declared.stream_reader.StreamReader.{StreamReader}
+use Rattle.mes_stream.specs.declared.fault.Fault.{Fault}
 use Rattle.mes_stream.specs.declared.progress.Decoded.{Decoded}
 use Rattle.mes_stream.specs.declared.progress.Decoded.TheVariants as out
 use Rattle.mesosev_c.specs.Decoders.{Takes, DecoderStateRepresents, EndsBy, answer_of}
@@ -39,11 +40,11 @@ ended used end piece = record {
   again = (refl, refl, refl);
 }
 
-pub takes_ended : (used : ℕ) (end : StreamEnd) (piece : List ℕ) (answer : Decoded Event) → answer ≡ answer_of end → let d : EventDecoder = record { state = state.Ended end; used = used } in Takes d d piece 0 answer
+pub takes_ended : (used : ℕ) (end : StreamEnd) (piece : List ℕ) (answer : Decoded Event Fault) → answer ≡ answer_of end → let d : EventDecoder = record { state = state.Ended end; used = used } in Takes d d piece 0 answer
 takes_ended used end piece answer is = rw is (ended used end piece)
 
 -- what is said, where the count is kept
-says_counted : (framing : Framing) (S : List ℕ → List Event → Type 0) (limit : ℕ) (w piece : List ℕ) (events : List Event) (used total : ℕ) (answer : Decoded Event) → total ≡ saturated (length (w ++ take used piece))
+says_counted : (framing : Framing) (S : List ℕ → List Event → Type 0) (limit : ℕ) (w piece : List ℕ) (events : List Event) (used total : ℕ) (answer : Decoded Event Fault) → total ≡ saturated (length (w ++ take used piece))
     → SaysIn framing S Spells IsEventRefusal 0 limit w events piece used answer → SaysIn framing (λ v vs. S v vs × (total ≡ saturated (length v))) Spells IsEventRefusal 0 limit w events piece used answer
 says_counted framing S limit w piece events used total out.More count h = (h, count)
 says_counted framing S limit w piece events used total (out.Event event) count h = ((h.0, count), h.1)
@@ -51,14 +52,14 @@ says_counted framing S limit w piece events used total out.End count h = h
 says_counted framing S limit w piece events used total (out.Fault fault) count h = h
 
 -- what is said, where the stream has ended
-says_last : (framing : Framing) (S T : List ℕ → List Event → Type 0) (limit : ℕ) (w piece : List ℕ) (events : List Event) (used : ℕ) (end : StreamEnd) (answer : Decoded Event) → EndsBy (Some end) answer
+says_last : (framing : Framing) (S T : List ℕ → List Event → Type 0) (limit : ℕ) (w piece : List ℕ) (events : List Event) (used : ℕ) (end : StreamEnd) (answer : Decoded Event Fault) → EndsBy (Some end) answer
     → SaysIn framing S Spells IsEventRefusal 0 limit w events piece used answer → SaysIn framing T Spells IsEventRefusal 0 limit w events piece used answer
 says_last framing S T limit w piece events used end out.More by h = let clash : Some end ≡ None = by in absurd (cc)
 says_last framing S T limit w piece events used end (out.Event event) by h = let clash : Some end ≡ None = by in absurd (cc)
 says_last framing S T limit w piece events used end out.End by h = h
 says_last framing S T limit w piece events used end (out.Fault fault) by h = h
 
-module _ (was : ℕ) (stream after : StreamReader EventReader) (piece : List ℕ) (used : ℕ) (answer : Decoded Event) (total : ℕ)
+module _ (was : ℕ) (stream after : StreamReader EventReader) (piece : List ℕ) (used : ℕ) (answer : Decoded Event Fault) (total : ℕ)
     (says : (ahead : ℕ) (framing : Framing) (limit : ℕ) (w : List ℕ) (events : List Event) → StreamRepresents HoldsData Spells ahead stream framing limit w events
     → SaysIn framing (StreamRepresents HoldsData Spells ahead after framing limit) Spells IsEventRefusal ahead limit w events piece used answer)
     (before : (ahead : ℕ) (framing : Framing) (limit : ℕ) (w : List ℕ) (events : List Event) → StreamRepresents HoldsData Spells ahead stream framing limit w events → GoesBefore framing Spells limit w events piece used)

@@ -1,6 +1,7 @@
 -- What one event more makes of the rows and the texts of those before it.
 use Rattle.std.specs.Prelude.{◌≡◌, ℕ, ◌+◌, ◌-◌, ◌≤◌, ◌⊎◌, List, [], ◌∷◌, ◌++◌, Bool, true, length, take, drop, map}
 use Rattle.mes_msg.specs.Event.{Event}
+use Rattle.mes_stream.specs.declared.fault.Fault.{Fault}
 use Rattle.mes_stream.specs.declared.progress.Decoded.{Decoded}
 use Rattle.mes_stream.specs.declared.progress.Decoded.TheVariants as out
 use Rattle.mesosev_c.specs.Batches.{IsEvent}
@@ -36,7 +37,7 @@ pub record AddsEvent (texts : Bool) (event : Event) (old new : List ℕ) (count 
   pub rows : after ≡ others ++ record { kind = number_of_event event; start = at; size = length new - at } ∷ drop (count + 1) before
 
 -- the status of an answer
-abbrev pub HasStatus : Decoded Event → ℕ → Type 0
+abbrev pub HasStatus : Decoded Event Fault → ℕ → Type 0
 HasStatus out.More status = status ≡ MORE
 HasStatus (out.Event event) status = status ≡ EVENT
 HasStatus out.End status = status ≡ END

@@ -34,7 +34,7 @@ abbrev pub Represents : EventDecoder → Framing → ℕ → List ℕ → List E
 Represents d framing limit w events = DecoderStateRepresents d.state framing limit w events × (d.used ≡ saturated (length w))
 
 -- what is answered to bytes from then on, and to the end of the input
-abbrev pub answer_of : StreamEnd → Decoded Event
+abbrev pub answer_of : StreamEnd → Decoded Event Fault
 answer_of Closed = out.End
 answer_of (Failed fault) = out.Fault fault
 
@@ -43,7 +43,7 @@ outcome_of Closed = Ok tt
 outcome_of (Failed fault) = Err fault
 
 -- the end that is kept behind an answer, and behind the end of the input
-abbrev pub EndsBy : Option StreamEnd → Decoded Event → Type 0
+abbrev pub EndsBy : Option StreamEnd → Decoded Event Fault → Type 0
 EndsBy end out.More = end ≡ None
 EndsBy end (out.Event event) = end ≡ None
 EndsBy end out.End = end ≡ Some Closed
@@ -54,7 +54,7 @@ end_by (Ok done) = Closed
 end_by (Err fault) = Failed fault
 
 -- what a decoder made of a piece: so many bytes were used, and they were that
-pub record Takes (old new : EventDecoder) (piece : List ℕ) (used : ℕ) (answer : Decoded Event) : Type 0 where
+pub record Takes (old new : EventDecoder) (piece : List ℕ) (used : ℕ) (answer : Decoded Event Fault) : Type 0 where
   -- what the answer means behind w, which goes on with the events
   pub says : (framing : Framing) (limit : ℕ) (w : List ℕ) (events : List Event) → Represents old framing limit w events
       → SaysIn framing (Represents new framing limit) Spells IsEventRefusal 0 limit w events piece used answer

@@ -31,7 +31,7 @@ abbrev pub ReportsPlain : ℕ → List ℕ → Reported → Type 0
 ReportsPlain status text reported = (reported.status ≡ status) × (reported.kind ≡ 0) × (text ≡ [])
 
 -- of what the bytes were that were used
-abbrev pub ReportsOutput : Bool → ℕ → Decoded Event → List ℕ → Reported → Type 0
+abbrev pub ReportsOutput : Bool → ℕ → Decoded Event Fault → List ℕ → Reported → Type 0
 ReportsOutput texts used out.More text reported = ReportsPlain MORE text reported
 ReportsOutput texts used (out.Event event) text reported = ReportsEvent texts event text reported
 ReportsOutput texts used out.End text reported = ReportsPlain END text reported
@@ -49,7 +49,7 @@ pub record KeepsAll (old new : TextDecoder) : Type 0 where
 
 -- a call of `next`, where texts are made or not: so many bytes were used, and that was told, with this text
 pub record ReportsStep (texts : Bool) (old new : EventDecoder) (piece : List ℕ) (used : ℕ) (reported : Reported) (text : List ℕ) : Type 0 where
-  pub out : Decoded Event
+  pub out : Decoded Event Fault
   pub takes : Takes old new piece used out
   pub reports : ReportsOutput texts new.used out text reported
 

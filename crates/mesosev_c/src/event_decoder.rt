@@ -99,7 +99,7 @@ impl EventDecoder {
         ensures { Takes self.old self.new piece.now result.used result.out }
     {
         let step = match &mut self.state {
-            State::Going(stream) => stream.next(piece),
+            State::Going(stream) => stream.next(piece).unpacked(),
             State::Ended(end) => {
                 return Step {
                     used: 0,

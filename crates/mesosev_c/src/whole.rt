@@ -58,6 +58,7 @@ fn read_all(stream: &mut StreamReader<EventReader>, bytes: &[u8]) -> Checked
                 };
             }
             Decoded::Fault(fault) => {
+                let fault = fault.into_fault();
                 let used = at as u64;
                 return Checked {
                     events,

@@ -14,9 +14,11 @@ pub(super) fn reader(alloc: Global, framing: Framing) -> Reader {
 
 /// Feeds a piece to a reader.
 pub(super) fn fed(reader: &mut Reader, piece: &[u8], events: &mut Vec<Event>) -> Fed {
-    match &reader.feed(piece, events) {
-        Ok(end) => Ok(*end),
-        Err(_) => Err(()),
+    let step = reader.feed(piece, events);
+    match step.out {
+        Decoded::More => Ok(None),
+        Decoded::End => Ok(Some(step.used)),
+        Decoded::Fault(_) => Err(()),
     }
 }
 
@@ -32,7 +34,7 @@ pub(super) fn kept(reader: &Reader) -> u64 {
 
 /// How many bytes of a piece a reader uses, and the name of its answer.
 fn answered(reader: &mut Reader, piece: &[u8]) -> (usize, &'static str) {
-    let step = reader.next(piece);
+    let step = reader.next(piece).unpacked();
     (step.used, name_of(&step.out))
 }
 
@@ -63,7 +65,7 @@ fn used_and_record(step: &Step<Event>) -> (usize, Option<u64>) {
 fn text_fault_behind(alloc: Global, done: u64) -> (usize, Option<u64>) {
     let body = Body::following(EventReader::new(alloc), Limit::USUAL, done);
     let mut reader = StreamReader::Plain(body);
-    let step = reader.next(b"1\n[");
+    let step = reader.next(b"1\n[").unpacked();
     drop(reader);
     used_and_record(&step)
 }

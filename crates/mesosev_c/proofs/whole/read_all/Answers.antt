@@ -41,7 +41,7 @@ returns-in-Fault c = λ framing limit s.
     let said = rw rest at (rw c.in-Fault.is at (c.next-used.ensures.says 0 framing limit (take c.loop-at.at c.args.bytes.now) h.events h.represents)) in
     let some : 0 < c.next-used.result.used = (rw c.in-Fault.is at c.next-used.ensures.some) (λ more. absurd (cc)) in
     let live = rw rest at (c.next-used.ensures.before 0 framing limit (take c.loop-at.at c.args.bytes.now) h.events h.represents (c.next-used.result.used - 1) (omega (arith, some))) in
-    (h.events, h.counted, stops_amid framing limit c.args.bytes.now _ c.loop-at.at c.loop-at.events c.next-used.result.used h (omega (arith, c.next-used.ensures.used, ap length rest)) c.in-Fault.fault some live said)
+    (h.events, h.counted, rw c.into_fault-fault.ensures (stops_amid framing limit c.args.bytes.now _ c.loop-at.at c.loop-at.events c.next-used.result.used h (omega (arith, c.next-used.ensures.used, ap length rest)) c.in-Fault.fault some live said))
 
 pub returns : goal.returns
 returns c = λ framing limit s.

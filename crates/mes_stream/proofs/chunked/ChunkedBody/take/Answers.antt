@@ -23,9 +23,9 @@ returns-clause-reports g c = λ ahead w values s.
     let inside : used ≤ length run = c.take-taken.ensures.used.1 in
     let within : used ≤ c.if-room-rest.count = omega (arith, inside, len) in
     let Represents : Body g.row.R.Denot → List ℕ → List g.row.R-Value.Denot → Type 0 = λ body. ChunkedRepresents g.R.RecordReader.holds g.R.RecordReader.spells ahead (record { chunks = c.pass.new.self; body = body }) in
-    tells_as g.R.RecordReader.holds g.R.RecordReader.spells g.R.RecordReader.breaks ahead Chunked Represents c.take-taken.new.self (limit_of c.take-taken.new.self.records) w w run c.args.rest.now values used used c.take-taken.result.so_far
+    tells_as g.R.RecordReader.holds g.R.RecordReader.spells g.R.RecordReader.breaks ahead Chunked Represents c.take-taken.new.self (limit_of c.take-taken.new.self.records) w w run c.args.rest.now values used used c.take-taken.result.out
     (λ after answer h. says_more Chunked (Represents after) g.R.RecordReader.spells g.R.RecordReader.breaks ahead (limit_of c.take-taken.new.self.records) w c.args.rest.now values used c.if-room-rest.count answer some within h)
-    (run_tells g.R.RecordReader.holds g.R.RecordReader.spells g.R.RecordReader.breaks ahead c.args.self.now c.pass.new.self c.take-taken.new.self w run values used c.if-room-rest.count c.take-taken.result.so_far s len fits.0 some within
+    (run_tells g.R.RecordReader.holds g.R.RecordReader.spells g.R.RecordReader.breaks ahead c.args.self.now c.pass.new.self c.take-taken.new.self w run values used c.if-room-rest.count c.take-taken.result.out s len fits.0 some within
     (c.pass.ensures.passes w s.content (take used run) (length-take-le used run inside) s.chunks) (c.take-taken.ensures.reports ahead s.content values s.body))
 
 pub returns-clause-before : goal.returns-clause-before

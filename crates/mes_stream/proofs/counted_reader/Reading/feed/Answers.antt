@@ -3,32 +3,33 @@ use Rattle.std.proofs.lemmas.List.{take_rest}
 use Rattle.mes_stream.proofs.ReadingLemmas.{ends_at}
 use Rattle.mes_stream.proofs.counted_reader.Reading.feed.Goals as goal
 
-pub returns-in-Ok-None-clause-takes : goal.returns-in-Ok-None-clause-takes
-returns-in-Ok-None-clause-takes g c = λ ahead framing limit w before s.
-    let fed = rw c.in-Ok-None.field-0-is at (c.in-Ok-None.ensures.feeds ahead.records framing limit w before s.0) in
+pub returns-in-More-clause-takes : goal.returns-in-More-clause-takes
+returns-in-More-clause-takes g c = λ ahead framing limit w before s.
+    let fed = rw c.in-More.is at (c.feed-used.ensures.feeds ahead.records framing limit w before s.0) in
+    let all = c.feed-used.ensures.more c.in-More.is in
     let counted = s.1 in
-    (fed.0, fed.1, (fed.2, omega (arith, counted, c.saturating_add-self.ensures, length-append w c.args.piece.now)))
+    (fed.0, fed.1, (fed.2, omega (arith, all, counted, c.saturating_add-self.ensures, length-append w c.args.piece.now)))
 
-pub returns-in-Ok-Some-clause-takes : goal.returns-in-Ok-Some-clause-takes
-returns-in-Ok-Some-clause-takes g c = λ ahead framing limit w before s.
-    let fed = rw c.in-Ok-Some.field-0-is at (c.in-Ok-Some.ensures.feeds ahead.records framing limit w before s.0) in (
+pub returns-in-End-clause-takes : goal.returns-in-End-clause-takes
+returns-in-End-clause-takes g c = λ ahead framing limit w before s.
+    let fed = rw c.in-End.is at (c.feed-used.ensures.feeds ahead.records framing limit w before s.0) in (
       fed.0,
       fed.1,
-      ends_at framing g.R.RecordReader.spells ahead limit w c.args.piece.now (before ++ fed.0) c.args.self.now.used c.in-Ok-Some.end _ _ fed.2
-          (rw c.in-Ok-Some.field-0-is at c.in-Ok-Some.ensures.within) c.requires s.1 (c.keep_rest.ensures.used ∙ c.saturating_add-self-in-Ok-Some.ensures) (c.keep_rest.ensures.rest ∙ take_rest c.args.piece.now c.in-Ok-Some.end) fed.3,
+      ends_at framing g.R.RecordReader.spells ahead limit w c.args.piece.now (before ++ fed.0) c.args.self.now.used c.feed-used.result.used _ _ fed.2
+          c.feed-used.ensures.used c.requires s.1 (c.keep_rest.ensures.used ∙ c.saturating_add-self.ensures) (c.keep_rest.ensures.rest ∙ take_rest c.args.piece.now c.feed-used.result.used) fed.3,
     )
 
-pub returns-in-Err-clause-takes : goal.returns-in-Err-clause-takes
-returns-in-Err-clause-takes g c = λ ahead framing limit w before s.
-    let fed = c.in-Err.ensures.feeds ahead.records framing limit w before s.0 in
+pub returns-in-Fault-clause-takes : goal.returns-in-Fault-clause-takes
+returns-in-Fault-clause-takes g c = λ ahead framing limit w before s.
+    let fed = rw c.in-Fault.is at (c.feed-used.ensures.feeds ahead.records framing limit w before s.0) in
     let one = fed.2 in
     let small = c.requires in
     let counted = s.1 in (
       fed.0,
       fed.1,
       record {
-        n = length w + c.in-Err.stop.used;
-        count = c.saturating_add-self-in-Err.ensures ∙ omega (arith, counted);
+        n = length w + c.feed-used.result.used;
+        count = c.saturating_add-self.ensures ∙ omega (arith, counted);
         stops = fed.3;
         last = omega (arith, one, small, length-append w c.args.piece.now);
       },

@@ -8,7 +8,7 @@ use Rattle.mes_stream.proofs.stream_reader.StreamReader.take.Goals as goal
 pub returns-in-Plain-clause-reports : goal.returns-in-Plain-clause-reports
 returns-in-Plain-clause-reports g c = λ ahead framing limit w values s.
     let t = rw c.in-Plain.is at s in
-    plain_tells g.R.RecordReader.holds g.R.RecordReader.spells g.R.RecordReader.breaks ahead c.take.new.self framing limit w c.args.piece.now values c.take.result.used c.take.result.so_far t.0 (c.take.ensures.limit ∙ t.2) (c.take.ensures.reports ahead w values t.1)
+    plain_tells g.R.RecordReader.holds g.R.RecordReader.spells g.R.RecordReader.breaks ahead c.take.new.self framing limit w c.args.piece.now values c.take.result.used c.take.result.out t.0 (c.take.ensures.limit ∙ t.2) (c.take.ensures.reports ahead w values t.1)
 
 pub returns-in-Plain-clause-before : goal.returns-in-Plain-clause-before
 returns-in-Plain-clause-before g c = λ ahead framing limit w values s.
@@ -19,7 +19,7 @@ returns-in-Plain-clause-before g c = λ ahead framing limit w values s.
 pub returns-in-Chunked-clause-reports : goal.returns-in-Chunked-clause-reports
 returns-in-Chunked-clause-reports g c = λ ahead framing limit w values s.
     let t = rw c.in-Chunked.is at s in
-    chunked_tells g.R.RecordReader.holds g.R.RecordReader.spells g.R.RecordReader.breaks ahead c.take-in-Chunked.new.self framing limit w c.args.piece.now values c.take-in-Chunked.result.used c.take-in-Chunked.result.so_far t.0 (c.take-in-Chunked.ensures.limit ∙ t.2) (c.take-in-Chunked.ensures.reports ahead w values t.1)
+    chunked_tells g.R.RecordReader.holds g.R.RecordReader.spells g.R.RecordReader.breaks ahead c.take-in-Chunked.new.self framing limit w c.args.piece.now values c.take-in-Chunked.result.used c.take-in-Chunked.result.out t.0 (c.take-in-Chunked.ensures.limit ∙ t.2) (c.take-in-Chunked.ensures.reports ahead w values t.1)
 
 pub returns-in-Chunked-clause-before : goal.returns-in-Chunked-clause-before
 returns-in-Chunked-clause-before g c = λ ahead framing limit w values s.

@@ -1,7 +1,7 @@
 use Rattle.std.proofs.Common.{◌≡◌, ◌-◌, ◌≤◌, ℕ, List, ◌++◌, length, take}
 use Rattle.mes_stream.specs.StreamReaders.{StreamRepresents}
 use Rattle.mes_stream.specs.declared.stream_reader.Framing.{Framing}
-use Rattle.mes_stream.proofs.stream_reader.StreamReader.feed_inner.Given as goal
+use Rattle.mes_stream.proofs.stream_reader.StreamReader.feed.Given as goal
 
 abbrev pub invariant-loop-at : goal.invariant-loop-at
 invariant-loop-at g l =
