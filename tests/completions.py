@@ -81,7 +81,7 @@ class Tests(Cases):
         return ran.stdout.decode(errors="backslashreplace")
 
     def help(self, command):
-        """The help text of a subcommand, or with no name of them all."""
+        """The help text of a subcommand, or with name on of them all."""
         return self.run(["mesosev", command, "--help"] if command else ["mesosev", "--help"])
 
     def commands(self):

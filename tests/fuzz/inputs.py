@@ -416,7 +416,7 @@ FIELDS = [
     b"Transfer-Encoding: chunked", b"transfer-encoding: identity", b"Transfer-Encoding:", b"Content-Length: +47", b"Content-Length: 0x2f",
     b"Content-Length: 1, 1", b"content-length: 0", b"Content-Length: 99999999999999999999", b"Content-Length: 1048577", b"Content-Length : 4",
     b"Content-Type: text/plain", b"Mesos-Stream-Id:", b"Mesos-Stream-Id: " + b"s" * 129, b"Mesos-Stream-Id: a b", b" folded", b"\tfolded", b"no colon",
-    b": no name", b"A: \0", b"A: \x7f\xff", b"\xc3\xa9: v",
+    b": name on", b"A: \0", b"A: \x7f\xff", b"\xc3\xa9: v",
     b"A: b\rc", b"Expect: 100-continue", b"", b"A: " + b"a" * 16300, b"\r\n".join([b"A: b"] * 60), b"\r\n".join([b"A: b"] * 61), b"\r\n".join([b"A: b"] * 70),
 ]
 

@@ -13,7 +13,7 @@ use Rattle.mes_msg.specs.declared.entry.Entry.TheVariants.{Heard}
 use Rattle.mes_session_state.specs.Held.{same_key, is_owed, with_key}
 use Rattle.mes_session.specs.History.{owed_by}
 use Rattle.mes_session.proofs.HistoryLemmas.{key-exact, key-self}
-use Rattle.mes_double_master.specs.Masters.{is_unacknowledged, reconciled_event}
+use Rattle.mes_double_master.specs.Masters.{has_update, reconciled_event}
 use Rattle.mes_double.proofs.ListLemmas.{or-none}
 
 -- ---- unacknowledged keys
@@ -114,23 +114,23 @@ told-none k (status ∷ statuses) =
 
 -- ---- keys that the master knows
 
-pub owing-more : (owing : List (OwedKey × TaskStatus)) (key : OwedKey) (status : TaskStatus) (k : OwedKey) → is_unacknowledged owing k ≡ true → is_unacknowledged (owing ++ (key, status) ∷ []) k ≡ true
+pub owing-more : (owing : List (OwedKey × TaskStatus)) (key : OwedKey) (status : TaskStatus) (k : OwedKey) → has_update owing k ≡ true → has_update (owing ++ (key, status) ∷ []) k ≡ true
 owing-more [] key status k e = absurd (cc)
 owing-more (x ∷ owing) key status k e = by (same_key k x.0) refl e (owing-more owing key status k)
   where
-    by : (b : Bool) → same_key k x.0 ≡ b → is_unacknowledged (x ∷ owing) k ≡ true → (is_unacknowledged owing k ≡ true → is_unacknowledged (owing ++ (key, status) ∷ []) k ≡ true) → is_unacknowledged (x ∷ owing ++ (key, status) ∷ []) k ≡ true
+    by : (b : Bool) → same_key k x.0 ≡ b → has_update (x ∷ owing) k ≡ true → (has_update owing k ≡ true → has_update (owing ++ (key, status) ∷ []) k ≡ true) → has_update (x ∷ owing ++ (key, status) ∷ []) k ≡ true
     by true f e rest = rw f refl
-    by false f e rest = rw f (rest (let g : is_unacknowledged owing k ≡ true = rw f at e in g))
+    by false f e rest = rw f (rest (let g : has_update owing k ≡ true = rw f at e in g))
 
-pub owing-last : (owing : List (OwedKey × TaskStatus)) (key : OwedKey) (status : TaskStatus) (k : OwedKey) → same_key k key ≡ true → is_unacknowledged (owing ++ (key, status) ∷ []) k ≡ true
+pub owing-last : (owing : List (OwedKey × TaskStatus)) (key : OwedKey) (status : TaskStatus) (k : OwedKey) → same_key k key ≡ true → has_update (owing ++ (key, status) ∷ []) k ≡ true
 owing-last [] key status k e = rw e refl
 owing-last (x ∷ owing) key status k e = by (same_key k x.0) refl (owing-last owing key status k e)
   where
-    by : (b : Bool) → same_key k x.0 ≡ b → is_unacknowledged (owing ++ (key, status) ∷ []) k ≡ true → is_unacknowledged (x ∷ owing ++ (key, status) ∷ []) k ≡ true
+    by : (b : Bool) → same_key k x.0 ≡ b → has_update (owing ++ (key, status) ∷ []) k ≡ true → has_update (x ∷ owing ++ (key, status) ∷ []) k ≡ true
     by true f rest = rw f refl
     by false f rest = rw f rest
 
-pub owing-there : (owing : List (OwedKey × TaskStatus)) (i : ℕ) (x : OwedKey × TaskStatus) (k : OwedKey) → slice_get owing i ≡ Some x → same_key k x.0 ≡ true → is_unacknowledged owing k ≡ true
+pub owing-there : (owing : List (OwedKey × TaskStatus)) (i : ℕ) (x : OwedKey × TaskStatus) (k : OwedKey) → slice_get owing i ≡ Some x → same_key k x.0 ≡ true → has_update owing k ≡ true
 owing-there [] i x k there e = absurd (cc)
 owing-there (y ∷ owing) zero x k there e =
     let same : y ≡ x = (let f : Some y ≡ Some x = there in cc) in
@@ -138,7 +138,7 @@ owing-there (y ∷ owing) zero x k there e =
     rw f refl
 owing-there (y ∷ owing) (suc i) x k there e = by (same_key k y.0) refl (owing-there owing i x k there e)
   where
-    by : (b : Bool) → same_key k y.0 ≡ b → is_unacknowledged owing k ≡ true → is_unacknowledged (y ∷ owing) k ≡ true
+    by : (b : Bool) → same_key k y.0 ≡ b → has_update owing k ≡ true → has_update (y ∷ owing) k ≡ true
     by true f rest = rw f refl
     by false f rest = rw f rest
 

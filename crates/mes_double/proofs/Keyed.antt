@@ -15,7 +15,7 @@ use Rattle.mes_session_state.specs.Calls.{acknowledged_by}
 use Rattle.mes_session_state.specs.Refusals.{Answers}
 use Rattle.mes_session.specs.History.{owed_by, acknowledges}
 use Rattle.mes_session.proofs.HistoryLemmas.{key-exact}
-use Rattle.mes_double_master.specs.Masters.{MasterState, MasterAnswer, plain, subscribed, update_event, asked_for, is_unacknowledged, acknowledged, key_in, carried_out}
+use Rattle.mes_double_master.specs.Masters.{MasterState, MasterAnswer, plain, subscribed, update_event, asked_for, has_update, acknowledged, key_in, carried_out}
 use Rattle.mes_double.specs.declared.moves.Move.{Move}
 use Rattle.mes_double.specs.declared.sent.Sent.{Sent}
 use Rattle.mes_double.specs.Worlds.{is_done}
@@ -33,15 +33,15 @@ pub record Keyed (c : Course) : Type 0 where
   pub owed : (k : OwedKey) → is_owed k c.world.session.owed ≡ true → tells_key k c.heard ≡ true
   pub sent : (i : ℕ) (p : Sent) (k : OwedKey) → slice_get c.world.sent i ≡ Some p → acknowledged_by p.call ≡ Some k → tells_key k c.heard ≡ true
   -- each received or queued key is known to the master
-  pub heard : (k : OwedKey) → tells_key k c.heard ≡ true → is_unacknowledged c.world.master.owing k ≡ true
-  pub waits : (k : OwedKey) → tells_key k c.world.waiting ≡ true → is_unacknowledged c.world.master.owing k ≡ true
+  pub heard : (k : OwedKey) → tells_key k c.heard ≡ true → has_update c.world.master.owing k ≡ true
+  pub waits : (k : OwedKey) → tells_key k c.world.waiting ≡ true → has_update c.world.master.owing k ≡ true
   pub owing : (i : ℕ) (x : OwedKey × TaskStatus) → slice_get c.world.master.owing i ≡ Some x → owed_key_of x.1 ≡ Some x.0
   -- each arrival is of the call sent at its index, and an ACKNOWLEDGE with status 202 is recorded
   pub place : (i : ℕ) (a : Arrival) → slice_get c.arrivals i ≡ Some a → slice_get c.world.sent a.index ≡ Some a.sent
   pub done : (i : ℕ) (a : Arrival) (k : OwedKey) → slice_get c.arrivals i ≡ Some a → a.status ≡ 202 → acknowledged_by a.sent.call ≡ Some k → is_owed k c.world.master.acked ≡ true
 
-following : (c : Course) → Keyed c → (e : Event) (owing : List (OwedKey × TaskStatus)) → ((k : OwedKey) → is_unacknowledged c.world.master.owing k ≡ true → is_unacknowledged owing k ≡ true)
-    → ((k : OwedKey) → is_owed k (owed_by (Heard e)) ≡ true → is_unacknowledged owing k ≡ true) → (k : OwedKey) → tells_key k (c.world.waiting ++ e ∷ []) ≡ true → is_unacknowledged owing k ≡ true
+following : (c : Course) → Keyed c → (e : Event) (owing : List (OwedKey × TaskStatus)) → ((k : OwedKey) → has_update c.world.master.owing k ≡ true → has_update owing k ≡ true)
+    → ((k : OwedKey) → is_owed k (owed_by (Heard e)) ≡ true → has_update owing k ≡ true) → (k : OwedKey) → tells_key k (c.world.waiting ++ e ∷ []) ≡ true → has_update owing k ≡ true
 following c j e owing more known k t = elim (reports-more k c.world.waiting e t) [
   | inl f ↦ more k (j.waits k f)
   | inr f ↦ known k f
@@ -72,7 +72,7 @@ module _ (c : Course) (j : Keyed c) where
 
   hear-keyed : (e : Event) (events : List Event) → c.world.waiting ≡ e ∷ events → Keyed (to_heard c e events)
   hear-keyed e events w =
-      let waits_all : (k : OwedKey) → tells_key k (e ∷ events) ≡ true → is_unacknowledged c.world.master.owing k ≡ true =
+      let waits_all : (k : OwedKey) → tells_key k (e ∷ events) ≡ true → has_update c.world.master.owing k ≡ true =
       λ k t. j.waits k (ap (tells_key k) w ∙ t) in
       record {
         acked = λ k t. reports-still k c.heard (e ∷ []) (j.acked k t);
@@ -114,9 +114,9 @@ module _ (c : Course) (j : Keyed c) where
       acked = λ k e. j.acked k (ap (is_owed k) (sym acked) ∙ e);
       owed = j.owed;
       sent = j.sent;
-      heard = λ k e. ap (λ (l : List (OwedKey × TaskStatus)). is_unacknowledged l k) owing ∙ j.heard k e;
+      heard = λ k e. ap (λ (l : List (OwedKey × TaskStatus)). has_update l k) owing ∙ j.heard k e;
       waits = λ k e. elim (or_cases (tells_key k c.world.waiting) (tells_key k a.events) (sym (reports-append k c.world.waiting a.events) ∙ e)) [
-        | inl f ↦ ap (λ (l : List (OwedKey × TaskStatus)). is_unacknowledged l k) owing ∙ j.waits k f
+        | inl f ↦ ap (λ (l : List (OwedKey × TaskStatus)). has_update l k) owing ∙ j.waits k f
         | inr f ↦ apart _ f (none k)
       ];
       owing = λ i x e. j.owing i x (ap (λ (l : List (OwedKey × TaskStatus)). slice_get l i) (sym owing) ∙ e);
@@ -141,7 +141,7 @@ module _ (c : Course) (j : Keyed c) where
     acknowledge-keyed : (key : OwedKey) → acknowledged_by p.call ≡ Some key → Keyed (to_answered c index p (plain 202 (acknowledged c.world.master key)))
     acknowledge-keyed key names_key =
         let heard_key : tells_key key c.heard ≡ true = j.sent index p key there names_key in
-        let known : is_unacknowledged c.world.master.owing key ≡ true = j.heard key heard_key in
+        let known : has_update c.world.master.owing key ≡ true = j.heard key heard_key in
         let acked_are : (acknowledged c.world.master key).acked ≡ with_key c.world.master.acked key = ap (λ (b : Bool). if b then with_key c.world.master.acked key else c.world.master.acked) known in
         record {
           acked = λ k e. elim (owed-put k c.world.master.acked key (ap (is_owed k) (sym acked_are) ∙ e)) [
@@ -182,14 +182,14 @@ carry-keyed c j index p there = by p.call p.stream there
 
 module _ (c : Course) (j : Keyed c) where
   send-keyed : (offered : List Id) (m : MasterState) (e : Event) → m.owing ≡ c.world.master.owing → m.acked ≡ c.world.master.acked
-      → ((k : OwedKey) → is_owed k (owed_by (Heard e)) ≡ true → is_unacknowledged c.world.master.owing k ≡ true)
+      → ((k : OwedKey) → is_owed k (owed_by (Heard e)) ≡ true → has_update c.world.master.owing k ≡ true)
       → Keyed (record c { world = record c.world { master = m; waiting = c.world.waiting ++ e ∷ [] } })
   send-keyed offered m e owing acked known = record {
     acked = λ k t. j.acked k (ap (is_owed k) (sym acked) ∙ t);
     owed = j.owed;
     sent = j.sent;
-    heard = λ k t. ap (λ (l : List (OwedKey × TaskStatus)). is_unacknowledged l k) owing ∙ j.heard k t;
-    waits = λ k t. ap (λ (l : List (OwedKey × TaskStatus)). is_unacknowledged l k) owing ∙ following c j e c.world.master.owing (λ l f. f) known k t;
+    heard = λ k t. ap (λ (l : List (OwedKey × TaskStatus)). has_update l k) owing ∙ j.heard k t;
+    waits = λ k t. ap (λ (l : List (OwedKey × TaskStatus)). has_update l k) owing ∙ following c j e c.world.master.owing (λ l f. f) known k t;
     owing = λ i x t. j.owing i x (ap (λ (l : List (OwedKey × TaskStatus)). slice_get l i) (sym owing) ∙ t);
     place = j.place;
     done = λ i a k there status names_key. ap (is_owed k) acked ∙ j.done i a k there status names_key;
@@ -198,15 +198,15 @@ module _ (c : Course) (j : Keyed c) where
   owing-keyed : (m : MasterState) (status : TaskStatus) (key : OwedKey) → owed_key_of status ≡ Some key → m.owing ≡ c.world.master.owing ++ (key, status) ∷ [] → m.acked ≡ c.world.master.acked
       → Keyed (record c { world = record c.world { master = m; waiting = c.world.waiting ++ update_event status ∷ [] } })
   owing-keyed m status key some owing acked =
-      let more : (k : OwedKey) → is_unacknowledged c.world.master.owing k ≡ true → is_unacknowledged m.owing k ≡ true =
-      λ k e. ap (λ (l : List (OwedKey × TaskStatus)). is_unacknowledged l k) owing ∙ owing-more c.world.master.owing key status k e in
+      let more : (k : OwedKey) → has_update c.world.master.owing k ≡ true → has_update m.owing k ≡ true =
+      λ k e. ap (λ (l : List (OwedKey × TaskStatus)). has_update l k) owing ∙ owing-more c.world.master.owing key status k e in
       record {
         acked = λ k t. j.acked k (ap (is_owed k) (sym acked) ∙ t);
         owed = j.owed;
         sent = j.sent;
         heard = λ k t. more k (j.heard k t);
         waits = following c j (update_event status) m.owing more
-            (λ k t. ap (λ (l : List (OwedKey × TaskStatus)). is_unacknowledged l k) owing
+            (λ k t. ap (λ (l : List (OwedKey × TaskStatus)). has_update l k) owing
             ∙ owing-last c.world.master.owing key status k (sym (or-none (same_key k key)) ∙ told-key status (Some key) some k t));
         owing = λ i x t. elim (front-or-last c.world.master.owing (key, status) i x (ap (λ (l : List (OwedKey × TaskStatus)). slice_get l i) (sym owing) ∙ t)) [
           | inl f ↦ j.owing i x f

@@ -10,7 +10,7 @@ use Rattle.mes_double.proofs.JoinedRuns.{hand-agrees, all-agrees}
 use Rattle.mes_double.proofs.Keyed.{acked-heard}
 use Rattle.mes_double.proofs.RanLemmas.{launched-once, taken-once}
 use Rattle.mes_double.proofs.RepeatLemmas.{moves-nothing}
-use Rattle.mes_double.proofs.RunningLemmas.{DecodeStatus, so-far-whole}
+use Rattle.mes_double.proofs.RunningLemmas.{MovesSoFar, so-far-whole}
 
 pub promises-kept : (framework : Id) (ids : List (List ℕ)) (list : List Move) (c : Course) → IsCourse framework ids list c → KeepsPromises c
 promises-kept framework ids list c is = record {
@@ -23,7 +23,7 @@ promises-kept framework ids list c is = record {
   same = all-agrees framework ids list c is;
 }
 
-pub so-far-kept : (framework : Id) (ids : List (List ℕ)) (list : List Move) (index : ℕ) (world : WorldState) → DecodeStatus framework ids (take index list) index world → length list ≤ index
+pub so-far-kept : (framework : Id) (ids : List (List ℕ)) (list : List Move) (index : ℕ) (world : WorldState) → MovesSoFar framework ids (take index list) index world → length list ≤ index
     → (c : Course) × IsCourse framework ids list c × KeepsPromises c × (c.world ≡ world)
 so-far-kept framework ids list index world s past =
     let whole : (c : Course) × IsCourse framework ids list c × (c.world ≡ world) = so-far-whole framework ids list index world s past in

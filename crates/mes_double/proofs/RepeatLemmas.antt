@@ -14,7 +14,7 @@ use Rattle.mes_session_fit.specs.Launched.{launched, launched_by}
 use Rattle.mes_session_state.specs.Held.{name_of, names, without_offers, is_owed, with_key}
 use Rattle.mes_session_state.specs.Calls.{named_by, acknowledged_by}
 use Rattle.mes_session_state.specs.Refusals.{ids_of}
-use Rattle.mes_double_master.specs.Masters.{MasterState, MasterAnswer, is_there, all_there, new_tasks, launchable, is_unacknowledged, key_in, carried_out, is_subscribe, handled}
+use Rattle.mes_double_master.specs.Masters.{MasterState, MasterAnswer, is_there, all_there, new_tasks, launchable, has_update, key_in, carried_out, is_subscribe, handled}
 use Rattle.mes_double.specs.declared.moves.Move.{Move}
 use Rattle.mes_double.specs.Worlds.{WorldState, skip, is_done, answer_to, answering, arriving}
 use Rattle.mes_double.specs.Courses.{Arrival, Course, IsCourse}
@@ -86,7 +86,7 @@ module _ (m : MasterState) (call : Call) (repeats : may_repeat call ≡ true) (n
       by (of.Acknowledge f body) r none known = record {
         outstanding = refl;
         launched = refl;
-        acked = same (is_unacknowledged m.owing (key_in body));
+        acked = same (has_update m.owing (key_in body));
       }
         where
           same : (b : Bool) → (if b then with_key m.acked (key_in body) else m.acked) ≡ m.acked

@@ -58,13 +58,13 @@ few w later moves.Resubscribe h = subst (λ (x : WorldState). x.skipped ≤ w.sk
 
 -- ---- the moves so far
 
-pub record DecodeStatus (framework : Id) (ids : List (List ℕ)) (made : List Move) (count : ℕ) (world : WorldState) : Type 0 where
+pub record MovesSoFar (framework : Id) (ids : List (List ℕ)) (made : List Move) (count : ℕ) (world : WorldState) : Type 0 where
   pub course : Course
   pub leads : IsCourse framework ids made course
   pub is : course.world ≡ world
   pub skipped : world.skipped ≤ count
 
-pub so-far-begun : (framework : Id) (ids : List (List ℕ)) (world : WorldState) → world ≡ new_world framework ids → DecodeStatus framework ids [] 0 world
+pub so-far-begun : (framework : Id) (ids : List (List ℕ)) (world : WorldState) → world ≡ new_world framework ids → MovesSoFar framework ids [] 0 world
 so-far-begun framework ids world is = record {
   course = begun framework ids;
   leads = refl;
@@ -72,8 +72,8 @@ so-far-begun framework ids world is = record {
   skipped = (let e : world.skipped ≡ 0 = ap (λ (w : WorldState). w.skipped) is in omega arith);
 }
 
-pub so-far-more : (framework : Id) (ids : List (List ℕ)) (made : List Move) (count : ℕ) (world later : WorldState) (move : Move) → DecodeStatus framework ids made count world
-    → Happens world move later → DecodeStatus framework ids (made ++ move ∷ []) (count + 1) later
+pub so-far-more : (framework : Id) (ids : List (List ℕ)) (made : List Move) (count : ℕ) (world later : WorldState) (move : Move) → MovesSoFar framework ids made count world
+    → Happens world move later → MovesSoFar framework ids (made ++ move ∷ []) (count + 1) later
 so-far-more framework ids made count world later move s h =
     let happens : Happens s.course.world move later = subst (λ (w : WorldState). Happens w move later) (sym s.is) h in
     let next : Course = record { world = later; heard = s.course.heard ++ heard_by s.course.world move; arrivals = s.course.arrivals ++ arrived_by s.course.world move } in
@@ -92,11 +92,11 @@ take-past [] (suc n) past = refl
 take-past (move ∷ list) zero past = absurd (omega (arith, past))
 take-past (move ∷ list) (suc n) past = ap (λ (l : List Move). move ∷ l) (take-past list n (omega (arith, past)))
 
-module _ (framework : Id) (ids : List (List ℕ)) (list : List Move) (index : ℕ) (world : WorldState) (s : DecodeStatus framework ids (take index list) index world) where
+module _ (framework : Id) (ids : List (List ℕ)) (list : List Move) (index : ℕ) (world : WorldState) (s : MovesSoFar framework ids (take index list) index world) where
   pub so-far-next : (move : Move) (later : WorldState) → index < length list → move ≡ get_or list index move → Happens world move later
-      → DecodeStatus framework ids (take (index + 1) list) (index + 1) later
+      → MovesSoFar framework ids (take (index + 1) list) (index + 1) later
   so-far-next move later within is h =
-      subst (λ (l : List Move). DecodeStatus framework ids l (index + 1) later) (sym (take_more list index move within ∙ ap (λ (z : Move). take index list ++ z ∷ []) (sym is)))
+      subst (λ (l : List Move). MovesSoFar framework ids l (index + 1) later) (sym (take_more list index move within ∙ ap (λ (z : Move). take index list ++ z ∷ []) (sym is)))
       (so-far-more framework ids (take index list) index world later move s h)
 
   pub so-far-whole : length list ≤ index → (c : Course) × IsCourse framework ids list c × (c.world ≡ world)

@@ -17,7 +17,7 @@ use Rattle.mes_session.specs.History.{after}
 use Rattle.mes_session.specs.Made.{subscribe_call}
 use Rattle.mes_double_master.specs.declared.refusal.MasterRefusal.{MasterRefusal}
 use Rattle.mes_double_master.specs.declared.refusal.MasterRefusal.TheVariants.{NoStream, OfferTwice, NoSuchOffer, UpdateTwice, NoSuchUpdate}
-use Rattle.mes_double_master.specs.Masters.{MasterState, MasterAnswer, plain, subscribed, update_event, is_there, is_unacknowledged, carried_out, is_subscribe}
+use Rattle.mes_double_master.specs.Masters.{MasterState, MasterAnswer, plain, subscribed, update_event, is_there, has_update, carried_out, is_subscribe}
 use Rattle.mes_double_master.specs.Sending.{Sends, on_stream, offer_ids, is_duplicate, made, offers_sent, rescind_sent, reported, reported_unacknowledged, updated, update_sent, waiting, resent, resend_sent}
 use Rattle.mes_double_master.proofs.AgainLemmas.{IsOpen}
 use Rattle.mes_double.specs.declared.moves.Move.{Move}
@@ -123,7 +123,7 @@ module _ (c d : Course) where
     update-turn : (status : TaskStatus) → d.world ≡ sending c.world (update_sent c.world.master status) → Turn c d
     update-turn status e = on-stream _ e (λ f. by f (owed_key_of status) refl)
       where
-        owing : (key : OwedKey) → d.world ≡ sending c.world (updated c.world.master status (Some key)) → owed_key_of status ≡ Some key → (b : Bool) → is_unacknowledged c.world.master.owing key ≡ b → Turn c d
+        owing : (key : OwedKey) → d.world ≡ sending c.world (updated c.world.master status (Some key)) → owed_key_of status ≡ Some key → (b : Bool) → has_update c.world.master.owing key ≡ b → Turn c d
         owing key f k true g = refused-turn _ UpdateTwice f (ap (λ (b : Bool). if b then Err UpdateTwice else Ok (update_event status, reported_unacknowledged c.world.master key status)) g)
         owing key f k false g =
             tells_owing status key k
@@ -131,7 +131,7 @@ module _ (c d : Course) where
 
         by : d.world ≡ sending c.world (updated c.world.master status (owed_key_of status)) → (o : Option OwedKey) → owed_key_of status ≡ o → Turn c d
         by f None k = reports status k (sent-turn _ _ _ f (ap (updated c.world.master status) k))
-        by f (Some key) k = owing key (f ∙ ap (λ (o : Option OwedKey). sending c.world (updated c.world.master status o)) k) k (is_unacknowledged c.world.master.owing key) refl
+        by f (Some key) k = owing key (f ∙ ap (λ (o : Option OwedKey). sending c.world (updated c.world.master status o)) k) k (has_update c.world.master.owing key) refl
 
     resend-turn : (index : ℕ) → d.world ≡ sending c.world (resend_sent c.world.master index) → Turn c d
     resend-turn index e = on-stream _ e (λ f. by f (slice_get (waiting c.world.master.owing c.world.master.acked) index) refl)

@@ -18,7 +18,7 @@ use Rattle.mes_double.specs.declared.moves.Move.{Move}
 use Rattle.mes_double.specs.declared.sent.Sent.{Sent}
 use Rattle.mes_double.specs.Worlds.{WorldState, is_done, answer_to}
 use Rattle.mes_double.specs.Memory.{HearingWants, WishingWants, ArrivingWants, MayWant, WantsMemory}
-use Rattle.mes_double.proofs.RunningLemmas.{DecodeStatus}
+use Rattle.mes_double.proofs.RunningLemmas.{MovesSoFar}
 
 module _ {T E : Type 0} where
   pub anyway : {P : Type 0} (result : Result T E) → P → OnErr result P
@@ -60,7 +60,7 @@ handled-wants w v index p same is reported =
     by (inr f) = ap is_done f.0
 
 -- the moves so far lead to a world in which an allocation may fail in the next
-pub so-far-wants : (framework : Id) (ids : List (List ℕ)) (list : List Move) (index : ℕ) (world : WorldState) → DecodeStatus framework ids (take index list) index world
+pub so-far-wants : (framework : Id) (ids : List (List ℕ)) (list : List Move) (index : ℕ) (world : WorldState) → MovesSoFar framework ids (take index list) index world
     → (move : Move) → index < length list → move ≡ get_or list index move → MayWant world move → WantsMemory framework ids list
 so-far-wants framework ids list index world s move within is wants = record {
   index = index;

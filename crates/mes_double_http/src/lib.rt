@@ -12,14 +12,14 @@
 //! ([`HeadFault`]). The tests check that a written call is read back. The crate `mes_double_master`
 //! has the master's state. The tests are in `mes_double_http_tests`.
 
-mod answer_writer;
+mod response_writer;
 mod body;
 mod call_writer;
 mod fault;
 mod fields;
 mod head;
 mod host;
-mod length;
+mod content_length;
 mod limits;
 mod lines;
 mod media_type;
@@ -30,7 +30,7 @@ mod stream_id;
 mod target;
 mod theorems;
 
-pub use answer_writer::{write_ok, write_status};
+pub use response_writer::{write_ok, write_status};
 pub use call_writer::write_call;
 pub use fault::HeadFault;
 pub use host::Host;

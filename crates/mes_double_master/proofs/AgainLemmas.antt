@@ -12,7 +12,7 @@ use Rattle.mes_msg.specs.Call.TheVariants as of
 use Rattle.mes_session_fit.specs.Launched.{launched, launched_by}
 use Rattle.mes_session_state.specs.Held.{name_of, offer_in, names, without_offers, same_key, with_key}
 use Rattle.mes_session_state.specs.Calls.{framework_of}
-use Rattle.mes_double_master.specs.Masters.{MasterState, MasterAnswer, plain, subscribed, all_there, launchable, accepted, declined, is_unacknowledged, acknowledged, key_in, agrees, carried_out, is_named, in_stream, is_subscribe, answered, handled}
+use Rattle.mes_double_master.specs.Masters.{MasterState, MasterAnswer, plain, subscribed, all_there, launchable, accepted, declined, has_update, acknowledged, key_in, agrees, carried_out, is_named, in_stream, is_subscribe, answered, handled}
 
 -- ---- a text equals itself
 
@@ -68,9 +68,9 @@ key_twice (l ∷ ls) k = by (same_key k l) refl (key_twice ls k)
     by false e rest = rw (e, e) (ap (λ (r : List OwedKey). l ∷ r) rest)
 
 pub acknowledged_twice : (m : MasterState) (k : OwedKey) → acknowledged (acknowledged m k) k ≡ acknowledged m k
-acknowledged_twice m k = by (is_unacknowledged m.owing k) refl
+acknowledged_twice m k = by (has_update m.owing k) refl
   where
-    by : (b : Bool) → is_unacknowledged m.owing k ≡ b → acknowledged (acknowledged m k) k ≡ acknowledged m k
+    by : (b : Bool) → has_update m.owing k ≡ b → acknowledged (acknowledged m k) k ≡ acknowledged m k
     by true e = rw e (λ i. record m { acked = key_twice m.acked k i })
     by false e = rw e refl
 

@@ -20,7 +20,7 @@ use Rattle.mes_session_state.specs.Calls.{framework_of}
 use Rattle.mes_session_state.specs.Refusals.{is_among, is_duplicated, ids_of}
 use Rattle.mes_double_master_state.proofs.IdLemmas.{comes_more}
 use Rattle.mes_double_master.specs.declared.refusal.MasterRefusal.TheVariants.{OfferTwice, NoSuchOffer}
-use Rattle.mes_double_master.specs.Masters.{MasterState, MasterAnswer, plain, subscribed, is_there, all_there, named, new_tasks, launchable, accepted, declined, is_unacknowledged, agrees, carried_out, is_named, in_stream, is_subscribe, handled}
+use Rattle.mes_double_master.specs.Masters.{MasterState, MasterAnswer, plain, subscribed, is_there, all_there, named, new_tasks, launchable, accepted, declined, has_update, agrees, carried_out, is_named, in_stream, is_subscribe, handled}
 use Rattle.mes_double_master.specs.Sending.{Sends, on_stream, offer_ids, is_duplicate, made, reported, reported_unacknowledged, updated, waiting, resent}
 use Rattle.mes_double_master.specs.Runs.{new_master, Deed, Past, after_call, after_sending, after, past_of, LaunchedOnce, TakenOnce}
 use Rattle.mes_double_master.specs.Runs.Deed.{handles, offers, rescinds, updates, resends}
@@ -246,9 +246,9 @@ kept past m e f g s = record {
 
 sound-updated : (past : Past) (status : TaskStatus) (key : Option OwedKey) → Sound past → Sound (after_sending past (updated past.master status key))
 sound-updated past status None s = kept past (reported past.master status) refl refl refl s
-sound-updated past status (Some key) s = by (is_unacknowledged past.master.owing key) refl
+sound-updated past status (Some key) s = by (has_update past.master.owing key) refl
   where
-    by : (b : Bool) → is_unacknowledged past.master.owing key ≡ b → Sound (after_sending past (updated past.master status (Some key)))
+    by : (b : Bool) → has_update past.master.owing key ≡ b → Sound (after_sending past (updated past.master status (Some key)))
     by true e = rw e s
     by false e = rw e (kept past (reported_unacknowledged past.master key status) refl refl refl s)
 

@@ -18,7 +18,7 @@ use Rattle.mes_session_state.specs.Calls.{framework_of}
 use Rattle.mes_session_state.specs.Refusals.{ids_of}
 pub use Rattle.mes_double_master_state.specs.Ids.{same_id, new_tasks}
 pub use Rattle.mes_double_master_state.specs.Events.{interval, subscribed_event, update_event, reconciled_event, last_of, asked_for}
-pub use Rattle.mes_double_master_state.specs.Updates.{is_unacknowledged, key_in}
+pub use Rattle.mes_double_master_state.specs.Updates.{has_update, key_in}
 
 -- the state of a master
 pub record MasterState : Type 0 where
@@ -104,7 +104,7 @@ declined m ids = record {
 -- ---- ACKNOWLEDGE
 
 abbrev pub acknowledged : MasterState → OwedKey → MasterState
-acknowledged m key = record m { acked = if is_unacknowledged m.owing key then with_key m.acked key else m.acked }
+acknowledged m key = record m { acked = if has_update m.owing key then with_key m.acked key else m.acked }
 
 -- ---- RECONCILE
 

@@ -13,7 +13,7 @@ pub use Rattle.mes_double_master_state.specs.Ids.{offer_ids, is_duplicate}
 pub use Rattle.mes_double_master_state.specs.Updates.{waiting}
 use Rattle.mes_double_master.specs.declared.refusal.MasterRefusal.{MasterRefusal}
 use Rattle.mes_double_master.specs.declared.refusal.MasterRefusal.TheVariants.{NoStream, OfferTwice, NoSuchOffer, UpdateTwice, NoSuchUpdate}
-use Rattle.mes_double_master.specs.Masters.{MasterState, same_id, is_there, is_unacknowledged, update_event}
+use Rattle.mes_double_master.specs.Masters.{MasterState, same_id, is_there, has_update, update_event}
 
 -- an event and the new state of its master, or a refusal
 abbrev pub Sends : Type 0
@@ -46,7 +46,7 @@ reported_unacknowledged m key status = record (reported m status) { owing = m.ow
 
 abbrev pub updated : MasterState → TaskStatus → Option OwedKey → Sends
 updated m status None = Ok (update_event status, reported m status)
-updated m status (Some key) = if is_unacknowledged m.owing key then Err UpdateTwice else Ok (update_event status, reported_unacknowledged m key status)
+updated m status (Some key) = if has_update m.owing key then Err UpdateTwice else Ok (update_event status, reported_unacknowledged m key status)
 
 abbrev pub update_sent : MasterState → TaskStatus → Sends
 update_sent m status = on_stream m (updated m status (owed_key_of status))

@@ -8,7 +8,7 @@ mod sending;
 use indexmap::{IndexMap, IndexSet};
 use mes_double_http::StreamId;
 use mes_model::{Id, Offer, OwedKey, TaskStatus};
-use mes_session_state::{OutstandingOffers, PendingAcknowledgements};
+use mes_session_state::{OutstandingOffers, UpdateKeys};
 use std::alloc::Global;
 use std::marker::Model;
 use uuid::Uuid;
@@ -31,7 +31,7 @@ pub struct Master {
     /// The updates that require an acknowledgement, acknowledged or not.
     owing: IndexMap<OwedKey, TaskStatus>,
     launched: IndexSet<Id>,
-    acked: PendingAcknowledgements,
+    acked: UpdateKeys,
 }
 
 impl Model for Master {
@@ -73,7 +73,7 @@ impl Master {
             latest: IndexMap::new(alloc),
             owing: IndexMap::new(alloc),
             launched: IndexSet::new(alloc),
-            acked: PendingAcknowledgements::new(alloc),
+            acked: UpdateKeys::new(alloc),
         }
     }
 

@@ -7,8 +7,8 @@ use Rattle.mes_msg.specs.Acknowledge.{Acknowledge}
 use Rattle.mes_session_state.specs.Held.{same_key, is_owed}
 
 -- whether an update has the key, acknowledged or not
-abbrev pub is_unacknowledged : List (OwedKey × TaskStatus) → OwedKey → Bool
-is_unacknowledged owing key = is_some (lookup (same_key key) owing)
+abbrev pub has_update : List (OwedKey × TaskStatus) → OwedKey → Bool
+has_update owing key = is_some (lookup (same_key key) owing)
 
 abbrev pub key_in : Acknowledge → OwedKey
 key_in body = record { agent = body.agent_id; task = body.task_id; uuid = body.uuid }

@@ -4,14 +4,14 @@ ghost use Rattle.std.specs.Map.{lookup};
 ghost use Rattle.indexmap.specs.IndexMap.{spare, insert_entry};
 ghost use Rattle.mes_session_state.specs.Held.{same_key};
 ghost use Rattle.mes_double_master_state.specs.Ids.{same_id};
-ghost use Rattle.mes_double_master_state.specs.Updates.{is_unacknowledged, key_in, waiting};
+ghost use Rattle.mes_double_master_state.specs.Updates.{has_update, key_in, waiting};
 
 use indexmap::IndexMap;
 use mes_model::{Id, OwedKey, TaskStatus};
 use mes_model_schema::Part;
 use mes_model_schema::json::NoMemory;
 use mes_msg::Acknowledge;
-use mes_session_state::PendingAcknowledgements;
+use mes_session_state::UpdateKeys;
 use std::alloc::Global;
 
 /// Returns the key of the acknowledged update.
@@ -26,8 +26,8 @@ pub fn key_in(alloc: Global, body: &Acknowledge) -> Result<OwedKey, NoMemory>
 }
 
 /// Returns whether there is an update with the key, acknowledged or not.
-pub fn is_unacknowledged(owing: &IndexMap<OwedKey, TaskStatus>, key: &OwedKey) -> bool
-    ensures { result ≡ is_unacknowledged owing.now.entries key.now }
+pub fn has_update(owing: &IndexMap<OwedKey, TaskStatus>, key: &OwedKey) -> bool
+    ensures { result ≡ has_update owing.now.entries key.now }
 {
     owing.contains_key(key)
 }
@@ -74,9 +74,9 @@ fn put_entry(owing: &mut IndexMap<OwedKey, TaskStatus>, key: OwedKey, status: Ta
 }
 
 /// Appends an update with a new key within the spare capacity.
-fn push_unacknowledged(owing: &mut IndexMap<OwedKey, TaskStatus>, key: OwedKey, status: TaskStatus)
+fn push_update(owing: &mut IndexMap<OwedKey, TaskStatus>, key: OwedKey, status: TaskStatus)
     requires room { 0 < spare owing.old }
-    requires other { is_unacknowledged owing.old.entries key ≡ false }
+    requires other { has_update owing.old.entries key ≡ false }
     ensures { owing.new.entries ≡ owing.old.entries ++ (key, status) ∷ [] }
 {
     put_entry(owing, key, status);
@@ -84,14 +84,14 @@ fn push_unacknowledged(owing: &mut IndexMap<OwedKey, TaskStatus>, key: OwedKey, 
 
 /// Records the status as the last of its task, and as an update that requires an acknowledgement.
 /// Its key must be new. Errors: `NoMemory` if an allocation fails; nothing is then changed.
-pub fn record_unacknowledged(
+pub fn record_update(
     alloc: Global,
     latest: &mut IndexMap<Id, TaskStatus>,
     owing: &mut IndexMap<OwedKey, TaskStatus>,
     key: OwedKey,
     status: &TaskStatus,
 ) -> Result<(), NoMemory>
-    requires { is_unacknowledged owing.old.entries key ≡ false }
+    requires { has_update owing.old.entries key ≡ false }
     // On success: the status replaces the last one of its task, or is appended.
     ensures latest { OnOk result (latest.new.entries ≡ insert_entry same_id latest.old.entries status.now.task_id status.now) }
     ensures owing { OnOk result (owing.new.entries ≡ owing.old.entries ++ (key, status.now) ∷ []) }
@@ -101,14 +101,14 @@ pub fn record_unacknowledged(
     let copied = status.copy(alloc)?;
     reserve_one(owing)?;
     note(alloc, latest, status)?;
-    push_unacknowledged(owing, key, copied);
+    push_update(owing, key, copied);
     Ok(())
 }
 
 /// Returns the update at an index among the unacknowledged ones.
 pub fn pending_at<'a>(
     owing: &'a IndexMap<OwedKey, TaskStatus>,
-    acked: &PendingAcknowledgements,
+    acked: &UpdateKeys,
     index: usize,
 ) -> Option<&'a TaskStatus>
     // The update at the index among those whose keys are not in `acked`.

@@ -19,7 +19,7 @@ use crate::push_error::PushError;
 use crate::push_run::RunStop;
 use crate::reader::Reader;
 use crate::tape::{Node, Tape};
-use crate::texts::Texts;
+use crate::text_buffer::Texts;
 use crate::value::Json;
 use std::alloc::Global;
 use std::marker::Model;

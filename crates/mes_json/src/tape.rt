@@ -11,7 +11,7 @@ mod spell;
 use crate::cursor::Element;
 use crate::limits::{MAX_REUSED_CAPACITY, MAX_TEXTS};
 use crate::memory::NoMemory;
-use crate::texts::Texts;
+use crate::text_buffer::Texts;
 use std::alloc::Global;
 use std::marker::Model;
 use std::{mem, str};

@@ -5,7 +5,7 @@ use std::process::Abort;
 use std::test::Fail;
 
 /// The content of a value: its kind in a word, and the text of a boolean, a number or a string.
-type PrintProgress = (&'static str, &'static str);
+type ShownValue = (&'static str, &'static str);
 
 fn word_of(kind: ValueKind) -> &'static str {
     match kind {
@@ -45,12 +45,12 @@ fn given<'a>(element: &Element<'a>) -> &'a str {
 }
 
 /// Returns whether the value has this content.
-fn shows(element: &Element<'_>, shown: &PrintProgress) -> bool {
+fn shows(element: &Element<'_>, shown: &ShownValue) -> bool {
     let (word, text) = *shown;
     word_of(element.kind()) == word && calls(element) == call_of(word) && given(element) == text
 }
 
-fn expect_items<R: Abort>(rt: &R, mut items: Items<'_>, expected: &[PrintProgress]) {
+fn expect_items<R: Abort>(rt: &R, mut items: Items<'_>, expected: &[ShownValue]) {
     for shown in expected {
         let item = items.next().expect(rt, "an item");
         assert!(rt; shows(&item, shown), "{shown:?}");
@@ -59,7 +59,7 @@ fn expect_items<R: Abort>(rt: &R, mut items: Items<'_>, expected: &[PrintProgres
     assert!(rt; items.next().is_none());
 }
 
-fn expect_members<R: Abort>(rt: &R, mut members: Members<'_>, expected: &[(&str, PrintProgress)]) {
+fn expect_members<R: Abort>(rt: &R, mut members: Members<'_>, expected: &[(&str, ShownValue)]) {
     for (name, shown) in expected {
         let (found, value) = members.next().expect(rt, "a member");
         assert_eq!(rt; found, *name);
@@ -69,27 +69,27 @@ fn expect_members<R: Abort>(rt: &R, mut members: Members<'_>, expected: &[(&str,
     assert!(rt; members.next().is_none());
 }
 
-const NULL: PrintProgress = ("null", "");
+const NULL: ShownValue = ("null", "");
 
-const FALSE: PrintProgress = ("truth", "false");
+const FALSE: ShownValue = ("truth", "false");
 
-const TRUE: PrintProgress = ("truth", "true");
+const TRUE: ShownValue = ("truth", "true");
 
-const ARRAY: PrintProgress = ("list", "");
+const ARRAY: ShownValue = ("list", "");
 
-const OBJECT: PrintProgress = ("map", "");
+const OBJECT: ShownValue = ("map", "");
 
-const ONE: PrintProgress = ("number", "1");
+const ONE: ShownValue = ("number", "1");
 
-const TWO: PrintProgress = ("number", "2");
+const TWO: ShownValue = ("number", "2");
 
-const NUMBER: PrintProgress = ("number", "-1.50E+2");
+const NUMBER: ShownValue = ("number", "-1.50E+2");
 
-const DIGIT: PrintProgress = ("text", "1");
+const DIGIT: ShownValue = ("text", "1");
 
-const WORD: PrintProgress = ("text", "a\u{e9}\"");
+const WORD: ShownValue = ("text", "a\u{e9}\"");
 
-const EMPTY: PrintProgress = ("text", "");
+const EMPTY: ShownValue = ("text", "");
 
 #[test]
 fn each_kind_of_value_is_shown_in_place(rt: HostRuntime) -> Result<(), Fail> {

@@ -6,7 +6,7 @@ use mes_model_schema::fixed::Micros;
 use mes_model_schema::json::{self, Element, NoMemory, Text};
 use mes_model_schema::{
     ConstructFrom, List, OptionalRow, Part, PartFault, PathBuilder, RepeatedRow, RequiredRow,
-    RequiredRowRef, RowList, RowRefs, Rows1, Rows9, made, message_text, message_tree, pairs,
+    RequiredRowRef, RowList, RowRefList, Rows1, Rows9, made, message_text, message_tree, pairs,
     read_message,
 };
 use std::alloc::Global;

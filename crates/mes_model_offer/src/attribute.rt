@@ -8,7 +8,7 @@ use mes_model_schema::back::message_reads_back;
 use mes_model_schema::json::{self, Element, NoMemory, Text};
 use mes_model_schema::{
     Choice, ConstructFrom, FieldFaultKind, Found, Part, PartFault, PathBuilder, RequiredRow,
-    RequiredRowRef, RowList, RowRefs, Typed, TypedRef, made, message_text, message_tree,
+    RequiredRowRef, RowList, RowRefList, Typed, TypedRef, made, message_text, message_tree,
     push_type_tree, put, read_message, required, type_of, type_refusal, write_case_text,
 };
 use std::alloc::Global;

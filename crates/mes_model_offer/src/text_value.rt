@@ -3,7 +3,7 @@
 use mes_model_schema::back::message_reads_back;
 use mes_model_schema::json::{self, Element, NoMemory, Text};
 use mes_model_schema::{
-    ConstructFrom, Part, PartFault, PathBuilder, RequiredRow, RequiredRowRef, RowList, RowRefs,
+    ConstructFrom, Part, PartFault, PathBuilder, RequiredRow, RequiredRowRef, RowList, RowRefList,
     Rows1, made, message_text, message_tree, pairs, read_message,
 };
 use std::alloc::Global;

@@ -3,7 +3,7 @@
 use mes_model_schema::back::message_reads_back;
 use mes_model_schema::json::{self, Element, NoMemory, Text};
 use mes_model_schema::{
-    ConstructFrom, Labels, OptionalRow, Part, PartFault, PathBuilder, RowList, RowRefs, Rows4,
+    ConstructFrom, Labels, OptionalRow, Part, PartFault, PathBuilder, RowList, RowRefList, Rows4,
     made, message_text, message_tree, pairs, read_message,
 };
 use std::alloc::Global;

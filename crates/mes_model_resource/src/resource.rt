@@ -10,7 +10,7 @@ use mes_model_schema::back::message_reads_back;
 use mes_model_schema::json::{self, Element, NoMemory, Text};
 use mes_model_schema::{
     Boxed, Choice, ConstructFrom, FieldFaultKind, Flag, Found, Kept, List, OptionalRow, Part,
-    PartFault, PathBuilder, RepeatedRow, RequiredRow, RequiredRowRef, RowList, RowRefs, Rows8,
+    PartFault, PathBuilder, RepeatedRow, RequiredRow, RequiredRowRef, RowList, RowRefList, Rows8,
     Typed, TypedRef, made, message_text, message_tree, pairs, push_type_tree, put, read_message,
     required, type_of, type_refusal, write_case_text,
 };

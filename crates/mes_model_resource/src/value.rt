@@ -5,7 +5,7 @@ use mes_model_schema::fixed::Thousandths;
 use mes_model_schema::json::{self, Element, NoMemory, Text};
 use mes_model_schema::{
     ConstructFrom, List, Part, PartFault, PathBuilder, RepeatedRow, RequiredRow, RequiredRowRef,
-    RowList, RowRefs, Rows1, Rows2, made, message_text, message_tree, pairs, read_message,
+    RowList, RowRefList, Rows1, Rows2, made, message_text, message_tree, pairs, read_message,
 };
 use std::alloc::Global;
 

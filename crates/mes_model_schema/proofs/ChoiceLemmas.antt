@@ -10,8 +10,8 @@ use Rattle.mes_model_schema.specs.FieldLaws.{after}
 use Rattle.mes_model_schema.specs.Parts.{Gives}
 use Rattle.mes_model_schema.proofs.RowLemmas.{gives_bound}
 use Rattle.mes_model_schema.specs.declared.field.FieldFault.{FieldFault}
-use Rattle.mes_model_schema.specs.declared.found.Found.{Found}
-use Rattle.mes_model_schema.specs.declared.found.Found.TheVariants.{Nothing}
+use Rattle.mes_model_schema.specs.declared.found_rows.Found.{Found}
+use Rattle.mes_model_schema.specs.declared.found_rows.Found.TheVariants.{Nothing}
 use Rattle.mes_model_schema.specs.declared.part.PartFault.{PartFault}
 use Rattle.mes_model_schema.specs.declared.part.PartFault.TheVariants.{Field, NoMemory}
 

@@ -16,8 +16,8 @@ use Rattle.mes_model_schema.specs.Leaves.{members_at}
 use Rattle.mes_model_schema.specs.Objects.{members_in}
 use Rattle.mes_model_schema.specs.FoundRows.{IsFound, noted, noted_if}
 use Rattle.mes_model_schema.specs.declared.field.FieldFaultKind.TheVariants.{WrongKind}
-use Rattle.mes_model_schema.specs.declared.found.Found.{Found}
-use Rattle.mes_model_schema.specs.declared.found.Found.TheVariants.{Nothing, One, More}
+use Rattle.mes_model_schema.specs.declared.found_rows.Found.{Found}
+use Rattle.mes_model_schema.specs.declared.found_rows.Found.TheVariants.{Nothing, One, More}
 
 -- ---- the members of a place
 

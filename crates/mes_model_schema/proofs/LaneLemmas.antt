@@ -8,7 +8,7 @@ use lib.Lanes.{zip2, sel_l, mask_l, top, Each1}
 use Rattle.base64.specs.Tables.{all_below}
 use Rattle.base64.proofs.Tables.{all_below_at}
 use Rattle.mes_model_schema.specs.LetterValues.{letter_of, value_of, IsLetter}
-use Rattle.mes_model_schema.specs.declared.blocks.TheConstants.{BY_LOW, BY_HIGH, TO_VALUE}
+use Rattle.mes_model_schema.specs.declared.base64_blocks.TheConstants.{BY_LOW, BY_HIGH, TO_VALUE}
 
 -- sixteen bytes
 abbrev pub IsBlock : List ℕ → Type 0

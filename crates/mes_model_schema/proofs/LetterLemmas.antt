@@ -11,7 +11,7 @@ use Rattle.base64.specs.GeneralPurpose.{IsBytes, encode_of, engine_symbols}
 use Rattle.base64.specs.Engines.{standard}
 use Rattle.base64.proofs.Tables.{all_below_at}
 use Rattle.base64.proofs.EngineFacts.{encode_of-append}
-use Rattle.mes_model_schema.specs.declared.letters.TheConstants.{NO, FIRST, SECOND, THIRD, FOURTH}
+use Rattle.mes_model_schema.specs.declared.base64_letters.TheConstants.{NO, FIRST, SECOND, THIRD, FOURTH}
 
 -- ---- the tables
 

@@ -19,7 +19,7 @@ use Rattle.mes_model_schema.specs.FoundRows.{IsFound, IsSole}
 use Rattle.mes_model_schema.specs.Parts.{Gives, Refuses}
 use Rattle.mes_model_schema.proofs.PartLemmas.{gives_refused}
 use Rattle.mes_model_schema.specs.declared.field.FieldFault.{FieldFault}
-use Rattle.mes_model_schema.specs.declared.found.Found.{Found}
+use Rattle.mes_model_schema.specs.declared.found_rows.Found.{Found}
 use Rattle.mes_model_schema.specs.declared.read_row.Unique.{Unique}
 use Rattle.mes_model_schema.specs.declared.read_row.Unique.TheVariants.{Present}
 use Rattle.mes_model_schema.specs.declared.part.PartFault.{PartFault}

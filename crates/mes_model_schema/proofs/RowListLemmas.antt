@@ -11,8 +11,8 @@ use Rattle.mes_model_schema.specs.Paths.{IsPlace}
 use Rattle.mes_model_schema.specs.Paths.Place.{name}
 use Rattle.mes_model_schema.specs.RowNames.{are_short, are_names, name_at, stand_at}
 use Rattle.mes_model_schema.specs.NameLaws.{distinct, names_equal}
-use Rattle.mes_model_schema.specs.declared.found.Found.{Found}
-use Rattle.mes_model_schema.specs.declared.found.Found.TheVariants.{Nothing}
+use Rattle.mes_model_schema.specs.declared.found_rows.Found.{Found}
+use Rattle.mes_model_schema.specs.declared.found_rows.Found.TheVariants.{Nothing}
 
 both : (a b : Bool) → (a && b) ≡ true → (a ≡ true) × (b ≡ true)
 both true b e = (refl, e)

@@ -8,8 +8,8 @@ use Rattle.mes_model_schema.specs.Fields.{values_named, fault}
 use Rattle.mes_model_schema.specs.Leaves.{members_at}
 use Rattle.mes_model_schema.specs.declared.field.FieldFault.{FieldFault}
 use Rattle.mes_model_schema.specs.declared.field.FieldFaultKind.TheVariants.{Twice}
-use Rattle.mes_model_schema.specs.declared.found.Found.{Found}
-use Rattle.mes_model_schema.specs.declared.found.Found.TheVariants.{Nothing, One, More}
+use Rattle.mes_model_schema.specs.declared.found_rows.Found.{Found}
+use Rattle.mes_model_schema.specs.declared.found_rows.Found.TheVariants.{Nothing, One, More}
 use Rattle.mes_model_schema.specs.declared.read_row.Unique.{Unique}
 use Rattle.mes_model_schema.specs.declared.read_row.Unique.TheVariants.{Absent, Present, Repeated}
 use Rattle.mes_model_schema.specs.declared.part.PartFault.{PartFault}

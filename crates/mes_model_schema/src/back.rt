@@ -6,7 +6,7 @@ ghost use Rattle.mes_model_schema.specs.Rows.{ReturnsSome, ReturnsEach};
 
 use crate::list::List;
 use crate::part::Part;
-use crate::row_refs::RowRefs;
+use crate::row_ref_list::RowRefList;
 
 /// Shows that the value, if there is one, is read back from its tree. Does not allocate.
 pub fn some_reads_back<T: Part>(value: &Option<T>)
@@ -27,7 +27,7 @@ pub fn list_reads_back<T: Part>(values: &List<T>)
 }
 
 /// Shows that each value of a message's rows is read back from its tree. Does not allocate.
-pub fn message_reads_back<R: RowRefs>(names: &[&str], rows: &R)
+pub fn message_reads_back<R: RowRefList>(names: &[&str], rows: &R)
     ensures { (R.table (map (λ n. n.now) names.now) 0).Back (R.values rows.now) }
 {
     rows.rows_read_back();

@@ -7,8 +7,8 @@ ghost use Rattle.mes_model_schema.specs.BinaryLaws.{lawful_base64_bytes};
 ghost use Rattle.mes_model_schema.specs.Kinds.{Returns};
 
 use crate::field::FieldFaultKind;
-use crate::groups::decoded;
-use crate::leaf::text_in;
+use crate::base64_text::decoded;
+use crate::plain_values::text_in;
 use crate::part::{Part, PartFault};
 use crate::path_builder::PathBuilder;
 use crate::refusal::refusal_at;

@@ -9,7 +9,7 @@ ghost use Rattle.mes_model_schema.specs.RowLaws.{LawfulTable};
 ghost use Rattle.mes_model_schema.specs.Rows.{Table};
 ghost use Rattle.mes_model_schema.specs.Written.{pairs_view, Continues};
 
-use crate::found::Found;
+use crate::found_rows::Found;
 use crate::limits::MAX_PATH_STEPS;
 use crate::part::PartFault;
 use crate::path_builder::PathBuilder;

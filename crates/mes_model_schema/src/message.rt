@@ -14,12 +14,12 @@ ghost use Rattle.mes_model_schema.specs.RowNames.{are_names};
 
 use crate::append::close_object;
 use crate::choice::Choice;
-use crate::found::{find_rows, nothing_found};
+use crate::found_rows::{find_rows, nothing_found};
 use crate::limits::{MAX_PATH_STEPS, MAX_ROWS};
 use crate::part::PartFault;
 use crate::path_builder::PathBuilder;
 use crate::row_list::RowList;
-use crate::row_refs::RowRefs;
+use crate::row_ref_list::RowRefList;
 use crate::write_row::whole_object;
 use mes_json::{Element, Json, NoMemory};
 use std::alloc::Global;
@@ -59,7 +59,7 @@ pub fn read_message<R: RowList, M: ConstructFrom<R::Values>, const N: usize>(
 }
 
 /// Builds the JSON object of a message from the values of its rows.
-pub fn message_tree<R: RowRefs>(alloc: Global, names: &[&str], rows: &R) -> Result<Json, NoMemory>
+pub fn message_tree<R: RowRefList>(alloc: Global, names: &[&str], rows: &R) -> Result<Json, NoMemory>
     requires { R.COUNT ≡ length names.now }
     // On success: the object of the members that the table writes.
     ensures tree { IfOk result (λ t. view t
@@ -72,7 +72,7 @@ pub fn message_tree<R: RowRefs>(alloc: Global, names: &[&str], rows: &R) -> Resu
 }
 
 /// Appends the text of a message from the values of its rows, and returns its nesting depth.
-pub fn message_text<R: RowRefs>(
+pub fn message_text<R: RowRefList>(
     alloc: Global,
     names: &[&str],
     rows: &R,

@@ -14,7 +14,7 @@ ghost use Rattle.mes_model_schema.specs.Kinds.{Returns};
 ghost use Rattle.mes_model_schema.specs.Parts.{Gives};
 
 use crate::field::FieldFaultKind;
-use crate::leaf::number_in;
+use crate::plain_values::number_in;
 use crate::part::{Part, PartFault};
 use crate::path_builder::PathBuilder;
 use crate::refusal::refusal_at;

@@ -15,7 +15,7 @@ ghost use Rattle.mes_model_schema.specs.FoundRows.{IsFound, IsSole};
 ghost use Rattle.mes_model_schema.specs.Parts.{Gives, Shows};
 
 use crate::field::FieldFaultKind;
-use crate::found::{Found, find_rows, nothing_found};
+use crate::found_rows::{Found, find_rows, nothing_found};
 use crate::limits::MAX_PATH_STEPS;
 use crate::list::List;
 use crate::part::{Part, PartFault};

@@ -8,7 +8,7 @@ ghost use Rattle.mes_model_schema.specs.Parts.{Gives};
 ghost use Rattle.mes_model_schema.specs.Paths.{Place, IsPlace};
 ghost use Rattle.mes_model_schema.specs.Rows.{Table, need, maybe, many, flag};
 
-use crate::found::Found;
+use crate::found_rows::Found;
 use crate::limits::MAX_PATH_STEPS;
 use crate::list::List;
 use crate::part::{Part, PartFault};

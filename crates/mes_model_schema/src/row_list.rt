@@ -7,7 +7,7 @@ ghost use Rattle.mes_model_schema.specs.Parts.{Gives};
 ghost use Rattle.mes_model_schema.specs.RowNames.{are_short, name_at};
 ghost use Rattle.mes_model_schema.specs.Rows.{Table, no_rows, ◌⨾◌};
 
-use crate::found::Found;
+use crate::found_rows::Found;
 use crate::limits::MAX_PATH_STEPS;
 use crate::part::PartFault;
 use crate::path_builder::PathBuilder;

@@ -6,11 +6,11 @@ ghost use Rattle.mes_model_schema.specs.Rows.{◌⨾◌};
 
 use crate::append::deeper;
 use crate::choice::Choice;
-use crate::found::Found;
+use crate::found_rows::Found;
 use crate::part::PartFault;
 use crate::path_builder::PathBuilder;
 use crate::row_list::RowList;
-use crate::row_refs::RowRefs;
+use crate::row_ref_list::RowRefList;
 use mes_json::{Json, NoMemory, Text};
 use std::alloc::Global;
 use std::marker::PhantomData;
@@ -48,7 +48,7 @@ impl<C: Choice, T: RowList> RowList for Typed<C, T> {
 #[derive(Drop)]
 pub struct TypedRef<'a, C, T>(pub &'a C, pub T);
 
-impl<'a, C: Choice, T: RowRefs> RowRefs for TypedRef<'a, C, T> {
+impl<'a, C: Choice, T: RowRefList> RowRefList for TypedRef<'a, C, T> {
     type Values = (C, T::Values);
 
     ghost table = { λ ns i. C.table ⨾ T.table ns (i + C.COUNT) };

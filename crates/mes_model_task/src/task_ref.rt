@@ -5,7 +5,7 @@ use mes_model_schema::back::message_reads_back;
 use mes_model_schema::json::{self, Element, NoMemory};
 use mes_model_schema::{
     ConstructFrom, OptionalRow, Part, PartFault, PathBuilder, RequiredRow, RequiredRowRef, RowList,
-    RowRefs, Rows2, made, message_text, message_tree, pairs, read_message,
+    RowRefList, Rows2, made, message_text, message_tree, pairs, read_message,
 };
 use std::alloc::Global;
 

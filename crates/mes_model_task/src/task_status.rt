@@ -12,7 +12,7 @@ use mes_model_schema::fixed::Micros;
 use mes_model_schema::json::{self, Element, NoMemory, Text};
 use mes_model_schema::{
     Bytes, ConstructFrom, Labels, OptionalRow, Part, PartFault, PathBuilder, RequiredRow,
-    RequiredRowRef, RowList, RowRefs, Rows13, made, message_text, message_tree, pairs,
+    RequiredRowRef, RowList, RowRefList, Rows13, made, message_text, message_tree, pairs,
     read_message,
 };
 use std::alloc::Global;

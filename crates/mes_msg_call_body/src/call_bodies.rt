@@ -7,7 +7,7 @@ use mes_model_schema::back::message_reads_back;
 use mes_model_schema::json::{self, Element, NoMemory};
 use mes_model_schema::{
     Bytes, ConstructFrom, List, OptionalRow, Part, PartFault, PathBuilder, RepeatedRow,
-    RequiredRow, RequiredRowRef, RowList, RowRefs, Rows1, Rows2, Rows3, made, message_text,
+    RequiredRow, RequiredRowRef, RowList, RowRefList, Rows1, Rows2, Rows3, made, message_text,
     message_tree, pairs, read_message,
 };
 use std::alloc::Global;

@@ -7,7 +7,7 @@ use mes_model_schema::fixed::Micros;
 use mes_model_schema::json::{self, Element, NoMemory, Text};
 use mes_model_schema::{
     Boxed, ConstructFrom, OptionalRow, Part, PartFault, PathBuilder, RequiredRow, RequiredRowRef,
-    RowList, RowRefs, Rows1, Rows2, Rows3, made, message_text, message_tree, pairs, read_message,
+    RowList, RowRefList, Rows1, Rows2, Rows3, made, message_text, message_tree, pairs, read_message,
 };
 use mes_model_task::TaskStatus;
 use std::alloc::Global;

@@ -5,7 +5,7 @@ use mes_model_schema::back::message_reads_back;
 use mes_model_schema::json::{self, Element, NoMemory};
 use mes_model_schema::{
     Bytes, ConstructFrom, Part, PartFault, PathBuilder, RequiredRow, RequiredRowRef, RowList,
-    RowRefs, Rows3, made, message_text, message_tree, pairs, read_message,
+    RowRefList, Rows3, made, message_text, message_tree, pairs, read_message,
 };
 use std::alloc::Global;
 

@@ -32,14 +32,14 @@ module _ {X : Type 0} where
   get-is (y ∷ ys) (suc i) x h e = get-is ys i x (omega arith) e
 
 -- the state after the first entries of a history
-pub record DecodeStatus (h : List Entry) (s : Held) : Type 0 where
+pub record EntriesSoFar (h : List Entry) (s : Held) : Type 0 where
   pub legal : IsLegal h
   pub represents : Represents h s
 
-pub so_far-nil : (s : Held) → Represents [] s → DecodeStatus [] s
+pub so_far-nil : (s : Held) → Represents [] s → EntriesSoFar [] s
 so_far-nil s represents = record { legal = λ i call fault e r. absurd (cc); represents = represents }
 
-legal-push : (h : List Entry) (s : Held) (e : Entry) → DecodeStatus h s → Passes s e → IsLegal (h ++ e ∷ [])
+legal-push : (h : List Entry) (s : Held) (e : Entry) → EntriesSoFar h s → Passes s e → IsLegal (h ++ e ∷ [])
 legal-push h s e far passes i call fault is refused = elim (get-push h e i (Said call) is) [
   | inl p ↦ far.legal i call fault p.0 (subst (λ (g : List Entry). RefusedAfter g call fault) p.1 refused)
   | inr p ↦ (let r : RefusedAfter h call fault = subst (λ (g : List Entry). RefusedAfter g call fault) p.1 refused in
@@ -48,12 +48,12 @@ legal-push h s e far passes i call fault is refused = elim (get-push h e i (Said
       q fault (subst (λ (t : Held). IsRefused t call fault) same r.2).is)
 ]
 
-pub so_far-push : (h : List Entry) (s t : Held) (e : Entry) (i : ℕ) → slice_get h i ≡ Some e → DecodeStatus (take i h) s → Passes s e → t ≡ after s e → DecodeStatus (take (i + 1) h) t
+pub so_far-push : (h : List Entry) (s t : Held) (e : Entry) (i : ℕ) → slice_get h i ≡ Some e → EntriesSoFar (take i h) s → Passes s e → t ≡ after s e → EntriesSoFar (take (i + 1) h) t
 so_far-push h s t e i is far passes next =
-    subst (λ (g : List Entry). DecodeStatus g t) (sym (take-get h i e is) ∙ ap (λ (n : ℕ). take n h) (sym (add-one i)))
+    subst (λ (g : List Entry). EntriesSoFar g t) (sym (take-get h i e is) ∙ ap (λ (n : ℕ). take n h) (sym (add-one i)))
     (record { legal = legal-push (take i h) s e far passes; represents = subst (λ (u : Held). Represents (take i h ++ e ∷ []) u) (sym next) (Represents-push (take i h) s e far.represents) })
 
-pub stops : (h : List Entry) (s : Held) (e : Entry) (i : ℕ) (reported : Refusal) → slice_get h i ≡ Some e → DecodeStatus (take i h) s → IsTurnedAway s e reported → StopsAt h i reported
+pub stops : (h : List Entry) (s : Held) (e : Entry) (i : ℕ) (reported : Refusal) → slice_get h i ≡ Some e → EntriesSoFar (take i h) s → IsTurnedAway s e reported → StopsAt h i reported
 stops h s e i reported is far turned = record { front = far.legal; entry = e; is = is; stopped = go e turned }
   where
     go : (d : Entry) → IsTurnedAway s d reported → IsStopped (take i h) d reported
@@ -72,5 +72,5 @@ take-past [] (suc n) h = refl
 take-past (x ∷ xs) zero h = absurd (omega arith)
 take-past {X = X} (x ∷ xs) (suc n) h = ap (λ (ys : List X). x ∷ ys) (take-past xs n (omega arith))
 
-pub legal-whole : (h : List Entry) (s : Held) (n : ℕ) → length h ≤ n → DecodeStatus (take n h) s → IsLegal h
+pub legal-whole : (h : List Entry) (s : Held) (n : ℕ) → length h ≤ n → EntriesSoFar (take n h) s → IsLegal h
 legal-whole h s n past far = subst IsLegal (take-past h n past) far.legal

@@ -11,7 +11,7 @@ use mes_json::NoMemory;
 use mes_model::{Id, Offer, OwedKey};
 use mes_model_schema::{List, Part};
 use mes_msg::{Call, Entry, Event, Rescind, Subscribed, Update};
-use mes_session_state::{CallCheck, OutstandingOffers, PendingAcknowledgements, Refusal};
+use mes_session_state::{CallCheck, OutstandingOffers, UpdateKeys, Refusal};
 use std::alloc::Global;
 use std::marker::Model;
 
@@ -24,7 +24,7 @@ pub struct Session {
     pub(crate) framework: Option<Id>,
     connected: bool,
     hand: OutstandingOffers,
-    owed: PendingAcknowledgements,
+    owed: UpdateKeys,
 }
 
 impl Model for Session {
@@ -50,7 +50,7 @@ impl Session {
             framework: None,
             connected: false,
             hand: OutstandingOffers::new(alloc),
-            owed: PendingAcknowledgements::new(alloc),
+            owed: UpdateKeys::new(alloc),
         }
     }
 

@@ -26,7 +26,7 @@ use Rattle.mes_session_log.specs.Encoding.{AddsEntry, IsEntryFault, IsMessageUnf
 use Rattle.mes_session_log_entry.specs.Entries.{SpellsEntry}
 use Rattle.mes_session_log.specs.Writing.{entry_data, entry_records, log_bytes, IsFit, EntryFits, EntryUnfit, AllFit, IsFirstUnfit, IsLogOf, IsUnwritten}
 use Rattle.mes_session_log_entry.specs.declared.first_reader.FirstRecord.TheVariants as first
-use Rattle.mes_session_log_entry.specs.declared.letters.TheConstants.{EVENT, CALL, BROKEN, HEADER}
+use Rattle.mes_session_log_entry.specs.declared.record_letters.TheConstants.{EVENT, CALL, BROKEN, HEADER}
 
 -- ---- one entry
 

@@ -17,7 +17,7 @@ use Rattle.mes_msg.specs.declared.send_fault.SendFault.{SendFault}
 use Rattle.mes_msg.specs.declared.send_fault.SendFault.TheVariants.{Encode, NoMemory, Write}
 use Rattle.mes_stream.specs.Sending.{WroteSome}
 use Rattle.mes_session_log.specs.Logs.{IsLog}
-use Rattle.mes_session_log_entry.specs.declared.letters.TheConstants.{EVENT, CALL, BROKEN, HEADER}
+use Rattle.mes_session_log_entry.specs.declared.record_letters.TheConstants.{EVENT, CALL, BROKEN, HEADER}
 
 -- the data of an entry: its letter and the canonical text
 abbrev pub entry_data : Entry → List ℕ

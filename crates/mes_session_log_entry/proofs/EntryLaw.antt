@@ -16,7 +16,7 @@ use Rattle.mes_stream.specs.declared.record_error.RecordError.TheVariants as ref
 use Rattle.mes_session_log_entry.specs.Entries.{IsBreak, SpellsEntry, IsBadEntry, IsMessageFault, EntryBreaks, SpellsFirst, FirstBreaks}
 use Rattle.mes_session_log_entry.specs.declared.first_reader.FirstRecord.{FirstRecord}
 use Rattle.mes_session_log_entry.specs.declared.first_reader.FirstRecord.TheVariants as first
-use Rattle.mes_session_log_entry.specs.declared.letters.TheConstants.{EVENT, CALL, BROKEN, HEADER}
+use Rattle.mes_session_log_entry.specs.declared.record_letters.TheConstants.{EVENT, CALL, BROKEN, HEADER}
 
 -- bytes are a text of one value or have one fault, and not both
 pub record OneMessage {V : Type 0} (k : Kind V) : Type 0 where

@@ -22,9 +22,9 @@ use Rattle.mes_stream.specs.declared.record_error.RecordError.{RecordError}
 use Rattle.mes_stream.specs.declared.record_error.RecordError.TheVariants as refusal
 use Rattle.mes_session_log_entry.specs.Entries.{AfterLetter, BeginsMessage}
 use Rattle.mes_session_log_entry.specs.Lettered.{HasText, HoldsAt, LetteredBreaks, IsTextRefusal}
-use Rattle.mes_session_log_entry.specs.declared.letters.TheConstants.{EVENT, CALL}
-use Rattle.mes_session_log_entry.specs.declared.lettered.Place.{Place}
-use Rattle.mes_session_log_entry.specs.declared.lettered.Place.TheVariants as place
+use Rattle.mes_session_log_entry.specs.declared.record_letters.TheConstants.{EVENT, CALL}
+use Rattle.mes_session_log_entry.specs.declared.lettered_text.Place.{Place}
+use Rattle.mes_session_log_entry.specs.declared.lettered_text.Place.TheVariants as place
 
 pub shorter : (letter : ℕ) (text r : List ℕ) → r ≡ letter ∷ text → length r < 2 ^ 64 → length text < 2 ^ 64
 shorter letter text r is short = let size = ap length is in omega (arith, size, short)

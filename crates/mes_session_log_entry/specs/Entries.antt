@@ -14,7 +14,7 @@ use Rattle.mes_stream.specs.declared.record_error.RecordError.{RecordError}
 use Rattle.mes_stream.specs.declared.record_error.RecordError.TheVariants as refusal
 use Rattle.mes_session_log_entry.specs.declared.first_reader.FirstRecord.{FirstRecord}
 use Rattle.mes_session_log_entry.specs.declared.first_reader.FirstRecord.TheVariants as first
-use Rattle.mes_session_log_entry.specs.declared.letters.TheConstants.{EVENT, CALL, BROKEN, HEADER}
+use Rattle.mes_session_log_entry.specs.declared.record_letters.TheConstants.{EVENT, CALL, BROKEN, HEADER}
 
 -- the data are the letter and then a text for which `Is` holds
 abbrev pub AfterLetter : ℕ → (List ℕ → Type 0) → List ℕ → Type 0

@@ -13,12 +13,12 @@ use Rattle.mes_stream.specs.Held.{fixed}
 use Rattle.mes_stream.specs.declared.record_error.RecordError.{RecordError}
 use Rattle.mes_stream.specs.declared.record_error.RecordError.TheVariants as refusal
 use Rattle.mes_session_log_entry.specs.Entries.{AfterLetter, BeginsMessage, IsOther, IsMessageFault}
-use Rattle.mes_session_log_entry.specs.declared.letters.TheConstants.{EVENT, CALL}
-use Rattle.mes_session_log_entry.specs.declared.lettered.Lettered.{Lettered}
-use Rattle.mes_session_log_entry.specs.declared.lettered.Lettered.TheVariants as lettered
-use Rattle.mes_session_log_entry.specs.declared.lettered.LetteredReader.{LetteredReader}
-use Rattle.mes_session_log_entry.specs.declared.lettered.Place.{Place}
-use Rattle.mes_session_log_entry.specs.declared.lettered.Place.TheVariants as place
+use Rattle.mes_session_log_entry.specs.declared.record_letters.TheConstants.{EVENT, CALL}
+use Rattle.mes_session_log_entry.specs.declared.lettered_text.Lettered.{Lettered}
+use Rattle.mes_session_log_entry.specs.declared.lettered_text.Lettered.TheVariants as lettered
+use Rattle.mes_session_log_entry.specs.declared.lettered_text.LetteredReader.{LetteredReader}
+use Rattle.mes_session_log_entry.specs.declared.lettered_text.Place.{Place}
+use Rattle.mes_session_log_entry.specs.declared.lettered_text.Place.TheVariants as place
 
 -- the lexer has consumed the text, and no allocation failed
 pub record HasText (lexer : Lexer) (text : List ℕ) : Type 0 where

@@ -5,8 +5,8 @@ ghost use Rattle.mes_json.specs.Inner.{inner};
 ghost use Rattle.mes_session_log_entry.specs.Entries.{EntryBreaks, SpellsEntry};
 ghost use Rattle.mes_session_log_entry.specs.Lettered.{HoldsLettered, kept_text};
 
-use crate::lettered::{Lettered, LetteredReader};
-use crate::letters::BROKEN;
+use crate::lettered_text::{Lettered, LetteredReader};
+use crate::record_letters::BROKEN;
 use mes_json::NoMemoryAt;
 use mes_msg::Entry;
 use mes_stream::{RecordError, RecordReader};

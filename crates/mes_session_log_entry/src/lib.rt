@@ -13,11 +13,11 @@
 
 mod entry_reader;
 mod first_reader;
-mod lettered;
-mod letters;
+mod lettered_text;
+mod record_letters;
 mod theorems;
 
 pub use entry_reader::EntryReader;
 pub use first_reader::{FirstReader, FirstRecord};
-pub use letters::{BROKEN, CALL, EVENT, HEADER};
+pub use record_letters::{BROKEN, CALL, EVENT, HEADER};
 pub use theorems::{entry_reading_is_unique, log_letters};

@@ -4,7 +4,7 @@ ghost use Rattle.std.specs.Prelude.{◌≡◌, ℕ};
 ghost use Rattle.mes_stream.specs.PlainReading.{IsDecided, IsExact};
 ghost use Rattle.mes_session_log_entry.specs.Entries.{EntryBreaks, FirstBreaks, SpellsEntry, SpellsFirst};
 
-use crate::letters::{BROKEN, CALL, EVENT, HEADER};
+use crate::record_letters::{BROKEN, CALL, EVENT, HEADER};
 use mes_msg::{Call, Event, message_reading_is_unique};
 
 /// Proves the values of the letters: `E`, `C` and `B` of entries, and `2` of the header.

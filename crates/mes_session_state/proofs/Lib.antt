@@ -1,5 +1,5 @@
 pub mod SlotLemmas
-pub mod PendingLemmas
+pub mod UpdateKeyLemmas
 pub mod LookLemmas
 pub mod DuplicateLemmas
 pub mod NamedLemmas

@@ -10,7 +10,7 @@ ghost use Rattle.mes_session_state.specs.Refusals.{IsOtherFramework, IsOtherSubs
 use crate::duplicates::{is_duplicated, task_is_duplicated};
 use crate::named_offers::{NamedOffers, missing, on_other_agent, two_agents};
 use crate::outstanding_offers::OutstandingOffers;
-use crate::pending_acknowledgements::PendingAcknowledgements;
+use crate::update_keys::UpdateKeys;
 use crate::refusal::Refusal;
 use mes_model::{Id, OwedKey, TaskInfo};
 use mes_msg::Call;
@@ -23,7 +23,7 @@ pub struct CallCheck<'a> {
     framework: Option<&'a Id>,
     connected: bool,
     hand: &'a OutstandingOffers,
-    owed: &'a PendingAcknowledgements,
+    owed: &'a UpdateKeys,
 }
 
 impl<'a> Model for CallCheck<'a> {
@@ -45,7 +45,7 @@ impl<'a> CallCheck<'a> {
         framework: Option<&'a Id>,
         connected: bool,
         hand: &'a OutstandingOffers,
-        owed: &'a PendingAcknowledgements,
+        owed: &'a UpdateKeys,
     ) -> CallCheck<'a>
         // The value is the state with these parts.
         ensures { result ≡ record { framework = option_copied framework.entry; connected = connected; hand = hand.now; owed = owed.now } }

@@ -15,7 +15,7 @@ use Rattle.mes_stream.specs.Taking.{BodyRepresents, Ends, EndsInto, record_answe
 use Rattle.mes_stream.specs.declared.record_error.RecordError.{RecordError}
 use Rattle.mes_stream.specs.declared.record_error.RecordError.TheVariants as refusal
 use Rattle.mes_stream.specs.declared.fault.Fault.{Fault}
-use Rattle.mes_stream.specs.declared.body.Body.{Body}
+use Rattle.mes_stream.specs.declared.record_body.Body.{Body}
 use Rattle.mes_stream.proofs.PlainLaw.{same_last}
 
 -- a front of a front

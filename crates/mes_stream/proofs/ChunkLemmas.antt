@@ -16,11 +16,11 @@ use Rattle.mes_stream.specs.Taking.{BodyRepresents}
 use Rattle.mes_stream.specs.Decoding.{ChunkedRepresents}
 use Rattle.mes_stream.specs.declared.fault.Fault.{Fault}
 use Rattle.mes_stream.specs.declared.fault.Fault.TheVariants.{Frame, EndsInsideChunks, EndsInsideRecord, Text, Field, NoMemory, Read, ReadsSpent, BadEntry}
-use Rattle.mes_stream.specs.declared.chunked.ChunkedBody.{ChunkedBody}
+use Rattle.mes_stream.specs.declared.chunked_body.ChunkedBody.{ChunkedBody}
 use Rattle.mes_stream.specs.declared.stream_reader.Framing.{Framing}
 use Rattle.mes_stream.specs.declared.stream_reader.Framing.TheVariants.{Plain, Chunked}
-use Rattle.mes_stream.specs.declared.progress.Decoded.{Decoded}
-use Rattle.mes_stream.specs.declared.progress.Decoded.TheVariants as out
+use Rattle.mes_stream.specs.declared.step.Decoded.{Decoded}
+use Rattle.mes_stream.specs.declared.step.Decoded.TheVariants as out
 use Rattle.mes_stream.proofs.BodyLemmas.{live_of, piece_on}
 
 -- the whole piece

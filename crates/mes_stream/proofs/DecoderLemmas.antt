@@ -6,8 +6,8 @@ use Rattle.mes_stream.specs.declared.stream_reader.Framing.{Framing}
 use Rattle.mes_stream.specs.Decoders.{EndsBy}
 use Rattle.mes_stream.specs.declared.decoder.StreamEnd.{StreamEnd}
 use Rattle.mes_stream.specs.declared.fault.Fault.{Fault}
-use Rattle.mes_stream.specs.declared.progress.Decoded.{Decoded}
-use Rattle.mes_stream.specs.declared.progress.Decoded.TheVariants as out
+use Rattle.mes_stream.specs.declared.step.Decoded.{Decoded}
+use Rattle.mes_stream.specs.declared.step.Decoded.TheVariants as out
 
 pub says_ended : {E : Type 0} (framing : Framing) (Old New : List ℕ → List E → Type 0) (spells : List ℕ → E → Type 0) (breaks : List ℕ → RecordError → Type 0) (ahead limit : ℕ) (w piece : List ℕ) (values : List E) (used : ℕ) (end : StreamEnd) (answer : Decoded E Fault)
     → EndsBy (Some end) answer → SaysIn framing Old spells breaks ahead limit w values piece used answer → SaysIn framing New spells breaks ahead limit w values piece used answer

@@ -12,8 +12,8 @@ use Rattle.mes_stream.specs.declared.record_error.RecordError.{RecordError}
 use Rattle.mes_stream.specs.declared.record_error.RecordError.TheVariants as refusal
 use Rattle.mes_stream.specs.declared.stream_reader.Framing.{Framing}
 use Rattle.mes_stream.specs.declared.stream_reader.Framing.TheVariants.{Plain, Chunked}
-use Rattle.mes_stream.specs.declared.progress.Decoded.{Decoded}
-use Rattle.mes_stream.specs.declared.progress.Decoded.TheVariants as out
+use Rattle.mes_stream.specs.declared.step.Decoded.{Decoded}
+use Rattle.mes_stream.specs.declared.step.Decoded.TheVariants as out
 
 module _ {E : Type 0} (spells : List ℕ → E → Type 0) (breaks : List ℕ → RecordError → Type 0) (none : (r : List ℕ) → breaks r refusal.BadEntry → ⊥) where
   no_entry : (framing : Framing) (ahead limit : ℕ) (w : List ℕ) (values : List E) (c n : ℕ) → ByteStopsIn framing spells breaks ahead limit w values c (BadEntry n) → ⊥

@@ -4,7 +4,7 @@ use Rattle.mes_frame.specs.ChunkState.{ChunkRepresents, PassesFraming}
 use Rattle.mes_frame.specs.declared.chunk.ChunkState.{ChunkState}
 use Rattle.mes_frame.specs.RecordState.{limit_of}
 use Rattle.mes_stream.specs.Decoding.{ChunkedRepresents, LiveBefore}
-use Rattle.mes_stream.specs.declared.chunked.ChunkedBody.{ChunkedBody}
+use Rattle.mes_stream.specs.declared.chunked_body.ChunkedBody.{ChunkedBody}
 use Rattle.mes_stream.proofs.BodyLemmas.{live_of}
 
 module _ {R E : Type 0} (holds : R → List ℕ → Type 0) (spells : List ℕ → E → Type 0) (ahead : ℕ) where

@@ -14,8 +14,8 @@ use Rattle.mes_stream.specs.Chunked.{ChunkedStops}
 use Rattle.mes_stream.specs.Decoding.{ChunkedRepresents, IsDataAt, Gathers, LiveBefore}
 use Rattle.mes_stream.specs.Stream.{BodyLive, InRecordData, MayFail}
 use Rattle.mes_stream.specs.Taking.{BodyRepresents}
-use Rattle.mes_stream.specs.declared.body.Body.{Body}
-use Rattle.mes_stream.specs.declared.chunked.ChunkedBody.{ChunkedBody}
+use Rattle.mes_stream.specs.declared.record_body.Body.{Body}
+use Rattle.mes_stream.specs.declared.chunked_body.ChunkedBody.{ChunkedBody}
 use Rattle.mes_stream.specs.declared.fault.Fault.TheVariants.{NoMemory}
 use Rattle.mes_stream.specs.declared.record_error.RecordError.{RecordError}
 use Rattle.mes_stream.specs.declared.record_error.RecordError.TheVariants as refusal
@@ -102,7 +102,7 @@ places_inside places used each k within =
     ]
 
 -- what was taken so far, from the state `old` on
-pub record DecodeStatus (old new : ChunkState) (piece : List ℕ) (most used : ℕ) (run places : List ℕ) : Type 0 where
+pub record GatheredSoFar (old new : ChunkState) (piece : List ℕ) (most used : ℕ) (run places : List ℕ) : Type 0 where
   pub inside : used ≤ length piece
   pub few : 0 < length run → length run < most
   pub short : length run ≤ used
@@ -111,7 +111,7 @@ pub record DecodeStatus (old new : ChunkState) (piece : List ℕ) (most used : �
   pub none : used ≡ 0 → new ≡ old
   pub gathers : (w body : List ℕ) → ChunkRepresents old w body → Gathers new w body piece used run places
 
-pub so_far_none : (s : ChunkState) (piece : List ℕ) (most : ℕ) → DecodeStatus s s piece most 0 [] []
+pub so_far_none : (s : ChunkState) (piece : List ℕ) (most : ℕ) → GatheredSoFar s s piece most 0 [] []
 so_far_none s piece most = record {
   inside = omega arith;
   few = λ some. absurd (omega (arith, some));
@@ -122,8 +122,8 @@ so_far_none s piece most = record {
   gathers = λ w body represents. gathers_none s w body piece represents;
 }
 
-pub so_far_framing : (old mid new : ChunkState) (piece run places : List ℕ) (most used count : ℕ) → DecodeStatus old mid piece most used run places → count ≤ length (drop used piece)
-    → ((w body : List ℕ) → ChunkRepresents mid w body → PassesFraming new w body (drop used piece) count) → (count ≡ 0 → new ≡ mid) → DecodeStatus old new piece most (used + count) run places
+pub so_far_framing : (old mid new : ChunkState) (piece run places : List ℕ) (most used count : ℕ) → GatheredSoFar old mid piece most used run places → count ≤ length (drop used piece)
+    → ((w body : List ℕ) → ChunkRepresents mid w body → PassesFraming new w body (drop used piece) count) → (count ≡ 0 → new ≡ mid) → GatheredSoFar old new piece most (used + count) run places
 so_far_framing old mid new piece run places most used count before within passes none =
     let inside = before.inside in
     let short = before.short in
@@ -139,9 +139,9 @@ so_far_framing old mid new piece run places most used count before within passes
           gathers_framing mid new w body piece run places used count gathered (passes (w ++ take used piece) (body ++ run) gathered.represents);
     }
 
-pub so_far_byte : (old mid new : ChunkState) (piece run places : List ℕ) (most used : ℕ) → DecodeStatus old mid piece most used run places → used < length piece → length run + 1 < most
+pub so_far_byte : (old mid new : ChunkState) (piece run places : List ℕ) (most used : ℕ) → GatheredSoFar old mid piece most used run places → used < length piece → length run + 1 < most
     → ((w body p : List ℕ) → length p ≡ 1 → ChunkRepresents mid w body → ChunkRepresents new (w ++ p) (body ++ p))
-    → DecodeStatus old new piece most (used + 1) (run ++ slice_index piece used ∷ []) (places ++ used ∷ [])
+    → GatheredSoFar old new piece most (used + 1) (run ++ slice_index piece used ∷ []) (places ++ used ∷ [])
 so_far_byte old mid new piece run places most used before inside room passes =
     let b : ℕ = slice_index piece used in
     let len = length-append run (b ∷ []) in

@@ -20,8 +20,8 @@ use Rattle.mes_stream.specs.declared.event_reader.EventReader.{EventReader}
 use Rattle.mes_stream.specs.declared.fault.Fault.{Fault}
 use Rattle.mes_stream.specs.declared.fault.Fault.TheVariants.{NoMemory}
 use Rattle.mes_stream.specs.declared.stream_reader.Framing.TheVariants.{Chunked}
-use Rattle.mes_stream.specs.declared.progress.Decoded.{Decoded}
-use Rattle.mes_stream.specs.declared.progress.Decoded.TheVariants as out
+use Rattle.mes_stream.specs.declared.step.Decoded.{Decoded}
+use Rattle.mes_stream.specs.declared.step.Decoded.TheVariants as out
 use Rattle.mes_stream.proofs.BodyLemmas.{run_split}
 use Rattle.mes_stream.proofs.ChunkLemmas.{says_more, says_on, take_whole}
 use Rattle.mes_stream.proofs.StreamLemmas.{goes_of}

@@ -8,15 +8,15 @@ use Rattle.mes_stream.specs.Decoding.{ChunkedRepresents}
 use Rattle.mes_stream.specs.Framings.{SaysIn}
 use Rattle.mes_stream.specs.StreamReaders.{StreamRepresents}
 use Rattle.mes_stream.specs.Taking.{BodyRepresents, Reports, record_answer}
-use Rattle.mes_stream.specs.declared.body.Body.{Body}
-use Rattle.mes_stream.specs.declared.chunked.ChunkedBody.{ChunkedBody}
+use Rattle.mes_stream.specs.declared.record_body.Body.{Body}
+use Rattle.mes_stream.specs.declared.chunked_body.ChunkedBody.{ChunkedBody}
 use Rattle.mes_stream.specs.declared.record_error.RecordError.{RecordError}
 use Rattle.mes_stream.specs.declared.stream_reader.Framing.{Framing}
 use Rattle.mes_stream.specs.declared.stream_reader.Framing.TheVariants.{Plain, Chunked}
 use Rattle.mes_stream.specs.declared.stream_reader.StreamReader.TheVariants as reader
 use Rattle.mes_stream.specs.declared.fault.Fault.{Fault}
-use Rattle.mes_stream.specs.declared.progress.Decoded.{Decoded}
-use Rattle.mes_stream.specs.declared.progress.Decoded.TheVariants as out
+use Rattle.mes_stream.specs.declared.step.Decoded.{Decoded}
+use Rattle.mes_stream.specs.declared.step.Decoded.TheVariants as out
 use Rattle.mes_stream.proofs.ChunkLemmas.{run_says}
 use Rattle.mes_stream.proofs.DecoderLemmas.{says_as_well}
 

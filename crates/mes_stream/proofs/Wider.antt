@@ -9,7 +9,7 @@ use Rattle.mes_stream.specs.Reading.{Ahead, nothing_ahead, ByteEndsAfter, EndsRe
 use Rattle.mes_stream.specs.RecordValues.{IsRefused}
 use Rattle.mes_stream.specs.Refusals.{fault_at_record}
 use Rattle.mes_stream.specs.Taking.{Ends, EndsInto, record_answer}
-use Rattle.mes_stream.specs.declared.body.Body.{Body}
+use Rattle.mes_stream.specs.declared.record_body.Body.{Body}
 use Rattle.mes_stream.specs.declared.fault.Fault.{Fault}
 use Rattle.mes_stream.specs.declared.fault.Fault.TheVariants.{Frame, EndsInsideChunks, EndsInsideRecord, Text, Field, NoMemory, Read, ReadsSpent, BadEntry}
 use Rattle.mes_stream.specs.declared.fault.Report.{Report}

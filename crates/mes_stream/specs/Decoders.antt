@@ -13,8 +13,8 @@ use Rattle.mes_stream.specs.declared.decoder.State.{State}
 use Rattle.mes_stream.specs.declared.decoder.State.TheVariants as state
 use Rattle.mes_stream.specs.declared.decoder.StreamEnd.{StreamEnd}
 use Rattle.mes_stream.specs.declared.decoder.StreamEnd.TheVariants.{Closed, Failed}
-use Rattle.mes_stream.specs.declared.progress.Decoded.{Decoded}
-use Rattle.mes_stream.specs.declared.progress.Decoded.TheVariants as out
+use Rattle.mes_stream.specs.declared.step.Decoded.{Decoded}
+use Rattle.mes_stream.specs.declared.step.Decoded.TheVariants as out
 
 abbrev pub end_at : {R : Type 0} → State R → Option StreamEnd
 end_at (state.Going stream) = None

@@ -5,11 +5,11 @@ use Rattle.mes_frame.specs.ChunkState.{ChunkRepresents}
 use Rattle.mes_frame.specs.declared.chunk.ChunkState.{ChunkState}
 use Rattle.mes_stream.specs.Framings.{SaysIn, GoesBefore}
 use Rattle.mes_stream.specs.Taking.{BodyRepresents}
-use Rattle.mes_stream.specs.declared.chunked.ChunkedBody.{ChunkedBody}
+use Rattle.mes_stream.specs.declared.chunked_body.ChunkedBody.{ChunkedBody}
 use Rattle.mes_stream.specs.declared.fault.Fault.{Fault}
 use Rattle.mes_stream.specs.declared.record_error.RecordError.{RecordError}
 use Rattle.mes_stream.specs.declared.stream_reader.Framing.TheVariants.{Chunked}
-use Rattle.mes_stream.specs.declared.progress.Decoded.{Decoded}
+use Rattle.mes_stream.specs.declared.step.Decoded.{Decoded}
 
 -- the reader has taken w, whose data so far are records that spell the values and perhaps the front of one more
 pub record ChunkedRepresents {R E : Type 0} (holds : R → List ℕ → Type 0) (spells : List ℕ → E → Type 0) (ahead : ℕ) (d : ChunkedBody R) (w : List ℕ) (values : List E) : Type 0 where

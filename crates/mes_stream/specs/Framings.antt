@@ -6,8 +6,8 @@ use Rattle.mes_stream.specs.Stream.{Records, BodyLive, EndsInside, EndsRecord, H
 use Rattle.mes_stream.specs.Chunked.{IsStream, Live, EndsWith, ChunkedStops}
 use Rattle.mes_stream.specs.declared.fault.Fault.{Fault}
 use Rattle.mes_stream.specs.declared.fault.Fault.TheVariants.{EndsInsideChunks, EndsInsideRecord}
-use Rattle.mes_stream.specs.declared.progress.Decoded.{Decoded}
-use Rattle.mes_stream.specs.declared.progress.Decoded.TheVariants as out
+use Rattle.mes_stream.specs.declared.step.Decoded.{Decoded}
+use Rattle.mes_stream.specs.declared.step.Decoded.TheVariants as out
 use Rattle.mes_stream.specs.declared.stream_reader.Framing.{Framing}
 use Rattle.mes_stream.specs.declared.stream_reader.Framing.TheVariants.{Plain, Chunked}
 

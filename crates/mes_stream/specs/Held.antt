@@ -1,8 +1,8 @@
 -- How many bytes of records a reader holds: the sum over all its fields. Each definition takes its type apart and names every field, so a
 -- field that is added needs a term here.
 use Rattle.std.specs.Prelude.{ℕ, ◌+◌}
-use Rattle.mes_stream.specs.declared.body.Body.{Body}
-use Rattle.mes_stream.specs.declared.chunked.ChunkedBody.{ChunkedBody}
+use Rattle.mes_stream.specs.declared.record_body.Body.{Body}
+use Rattle.mes_stream.specs.declared.chunked_body.ChunkedBody.{ChunkedBody}
 use Rattle.mes_stream.specs.declared.decoder.RecordDecoder.{RecordDecoder}
 use Rattle.mes_stream.specs.declared.decoder.State.{State}
 use Rattle.mes_stream.specs.declared.decoder.State.TheVariants as state

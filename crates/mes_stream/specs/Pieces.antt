@@ -12,8 +12,8 @@ use Rattle.mes_stream.specs.declared.decoder.StreamEnd.TheVariants.{Closed, Fail
 use Rattle.mes_stream.specs.declared.event_reader.EventReader.{EventReader}
 use Rattle.mes_stream.specs.declared.fault.Fault.{Fault}
 use Rattle.mes_stream.specs.declared.fault.Fault.TheVariants.{NoMemory}
-use Rattle.mes_stream.specs.declared.progress.Decoded.{Decoded}
-use Rattle.mes_stream.specs.declared.progress.Decoded.TheVariants as out
+use Rattle.mes_stream.specs.declared.step.Decoded.{Decoded}
+use Rattle.mes_stream.specs.declared.step.Decoded.TheVariants as out
 
 -- a call of `next` that used so many bytes of the piece and returned the answer: what the contract of `next` ensures of it
 pub record IsNext (old new : RecordDecoder EventReader) (piece : List ℕ) (used : ℕ) (answer : Decoded Event Fault) : Type 0 where

@@ -4,15 +4,15 @@ use Rattle.mes_frame.specs.RecordState.{limit_of}
 use Rattle.mes_stream.specs.Taking.{BodyRepresents}
 use Rattle.mes_stream.specs.Decoding.{ChunkedRepresents}
 use Rattle.mes_stream.specs.Framings.{EndsIn, StopsWithin}
-use Rattle.mes_stream.specs.declared.body.Body.{Body}
+use Rattle.mes_stream.specs.declared.record_body.Body.{Body}
 use Rattle.mes_stream.specs.declared.fault.Fault.{Fault}
 use Rattle.mes_stream.specs.declared.record_error.RecordError.{RecordError}
 use Rattle.mes_stream.specs.declared.stream_reader.Framing.{Framing}
 use Rattle.mes_stream.specs.declared.stream_reader.Framing.TheVariants.{Plain, Chunked}
 use Rattle.mes_stream.specs.declared.stream_reader.StreamReader.{StreamReader}
 use Rattle.mes_stream.specs.declared.stream_reader.StreamReader.TheVariants as reader
-use Rattle.mes_stream.specs.declared.progress.Decoded.{Decoded}
-use Rattle.mes_stream.specs.declared.progress.Decoded.TheVariants as out
+use Rattle.mes_stream.specs.declared.step.Decoded.{Decoded}
+use Rattle.mes_stream.specs.declared.step.Decoded.TheVariants as out
 
 -- what reads the records, and the same reader with another
 abbrev pub body_of : {R : Type 0} → StreamReader R → Body R

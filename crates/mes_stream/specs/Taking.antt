@@ -9,12 +9,12 @@ use Rattle.mes_stream.specs.Stream.{saturated, Records}
 use Rattle.mes_stream.specs.declared.fault.Fault.{Fault}
 use Rattle.mes_stream.specs.Refusals.{fault_at_record}
 use Rattle.mes_stream.specs.Framings.{SaysIn}
-use Rattle.mes_stream.specs.declared.body.Body.{Body}
+use Rattle.mes_stream.specs.declared.record_body.Body.{Body}
 use Rattle.mes_stream.specs.declared.stream_reader.Framing.{Framing}
-use Rattle.mes_stream.specs.declared.progress.Decoded.{Decoded}
-use Rattle.mes_stream.specs.declared.progress.Decoded.TheVariants as out
-use Rattle.mes_stream.specs.declared.body.Front.{Front}
-use Rattle.mes_stream.specs.declared.body.Front.TheVariants.{Size, Data, Empty, Bad}
+use Rattle.mes_stream.specs.declared.step.Decoded.{Decoded}
+use Rattle.mes_stream.specs.declared.step.Decoded.TheVariants as out
+use Rattle.mes_stream.specs.declared.record_body.Front.{Front}
+use Rattle.mes_stream.specs.declared.record_body.Front.TheVariants.{Size, Data, Empty, Bad}
 
 -- it has taken the bytes b, which are records that spell the values and perhaps the front of one more
 pub record BodyRepresents {R E : Type 0} (holds : R → List ℕ → Type 0) (spells : List ℕ → E → Type 0) (ahead : ℕ) (d : Body R) (b : List ℕ) (values : List E) : Type 0 where

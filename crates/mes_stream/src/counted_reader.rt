@@ -13,7 +13,7 @@ use crate::device::{Consumer, ReadsEnd};
 use crate::fault::{Fault, Report, Stop};
 use crate::limits::{MAX_READ, MAX_REST};
 use crate::packed_fault::PackedFault;
-use crate::progress::{Decoded, Step};
+use crate::step::{Decoded, Step};
 use crate::record_reader::RecordReader;
 use crate::stream_reader::{Framing, StreamReader};
 use arrayvec::ArrayVec;

@@ -10,7 +10,7 @@ ghost use Rattle.mes_msg.specs.Events.{Spells};
 
 use crate::event_reader::EventReader;
 use crate::fault::Fault;
-use crate::progress::{Decoded, Step};
+use crate::step::{Decoded, Step};
 use crate::record_error::RecordError;
 use crate::record_reader::RecordReader;
 use crate::stream_reader::{Framing, StreamReader};

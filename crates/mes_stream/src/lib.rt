@@ -2,8 +2,8 @@
 //! The event stream of the Apache Mesos v1 scheduler API, read to events or to the first fault: plain RecordIO or a chunked body,
 //! from a device or in pieces; and events written as such streams.
 
-mod body;
-mod chunked;
+mod record_body;
+mod chunked_body;
 mod counted_reader;
 mod decoder;
 mod device;
@@ -13,7 +13,7 @@ mod fault;
 mod limits;
 mod line;
 mod packed_fault;
-mod progress;
+mod step;
 mod record_error;
 mod record_reader;
 mod send;
@@ -22,8 +22,8 @@ mod stream;
 mod stream_reader;
 mod theorems;
 
-pub use body::Body;
-pub use chunked::ChunkedBody;
+pub use record_body::Body;
+pub use chunked_body::ChunkedBody;
 pub use counted_reader::{EndedRecord, Reading, ReadingStop};
 pub use decoder::{Decoder, RecordDecoder};
 pub use device::{Consumer, ReadsEnd, read_device};
@@ -34,7 +34,7 @@ pub use limits::{MAX_COUNT_LINE, MAX_FAULT_LINE, MAX_READ, MAX_REST};
 pub use line::{count_line, fault_line, push_number, push_word};
 pub use mes_msg::{EncodeFaultKind, SendFault};
 pub use packed_fault::PackedFault;
-pub use progress::{Decoded, Step};
+pub use step::{Decoded, Step};
 pub use record_error::RecordError;
 pub use record_reader::RecordReader;
 pub use send::{write_plain, write_stream};

@@ -11,11 +11,11 @@ ghost use Rattle.mes_stream.specs.StreamReaders.{StreamRepresents, StreamFeeds, 
 ghost use Rattle.mes_stream.specs.Taking.{Ends, EndsInto, Reports};
 ghost use Rattle.mes_stream.specs.declared.stream_reader.Framing.{Framing as FramingValue};
 
-use crate::body::Body;
-use crate::chunked::ChunkedBody;
+use crate::record_body::Body;
+use crate::chunked_body::ChunkedBody;
 use crate::fault::Fault;
 use crate::packed_fault::PackedFault;
-use crate::progress::{Decoded, Step};
+use crate::step::{Decoded, Step};
 use crate::record_error::RecordError;
 use crate::record_reader::RecordReader;
 use mes_frame::Limit;

@@ -13,7 +13,7 @@ ghost use Rattle.mes_stream.specs.EventData.{HoldsData};
 ghost use Rattle.mes_stream.specs.Pieces.{DecodeOutcome, Decodes, HadMemory, joined};
 ghost use Rattle.mes_stream.specs.declared.decoder.RecordDecoder.{RecordDecoder as DecoderValue};
 ghost use Rattle.mes_stream.specs.declared.event_reader.EventReader.{EventReader as ReaderValue};
-ghost use Rattle.mes_stream.specs.declared.progress.Decoded.{Decoded as Answer};
+ghost use Rattle.mes_stream.specs.declared.step.Decoded.{Decoded as Answer};
 ghost use Rattle.mes_stream.specs.declared.fault.Fault.{Fault};
 ghost use Rattle.mes_stream.specs.declared.fault.Report.{Report};
 ghost use Rattle.mes_stream.specs.declared.fault.Stop.{Stop};

@@ -9,8 +9,8 @@ use Rattle.mes_msg.specs.EncodeFault.{EncodeFault}
 use Rattle.mes_msg.specs.EncodeFault.TheVariants.{NoMemory}
 use Rattle.mes_msg.specs.Event.{Event}
 use Rattle.mes_stream.specs.declared.fault.Fault.{Fault}
-use Rattle.mes_stream.specs.declared.progress.Decoded.{Decoded}
-use Rattle.mes_stream.specs.declared.progress.Decoded.TheVariants as out
+use Rattle.mes_stream.specs.declared.step.Decoded.{Decoded}
+use Rattle.mes_stream.specs.declared.step.Decoded.TheVariants as out
 use Rattle.mesosev_c.specs.Adding.{KeepsTexts, LosesTexts, AddsText, AddsEvent, HasStatus}
 use Rattle.mesosev_c.specs.Batches.{IsEvent, ReportsEach, ReportsBatch}
 use Rattle.mesosev_c.specs.Decoders.{Takes}
@@ -86,14 +86,14 @@ row_same e f g = cc
 -- ---- a loop over the piece
 
 -- so many events were told by so many bytes
-pub record DecodeStatus (texts : Bool) (old now : EventDecoder) (text piece : List ℕ) (before after : List Row) (used count : ℕ) : Type 0 where
+pub record BatchSoFar (texts : Bool) (old now : EventDecoder) (text piece : List ℕ) (before after : List Row) (used count : ℕ) : Type 0 where
   pub events : List Reporting
   pub each : ReportsEach texts old now piece used events
   pub counted : count ≡ length events
   pub rows : after ≡ rows_of 0 events ++ drop count before
   pub whole : text ≡ texts_of events
 
-pub so_far_none : (texts : Bool) (old : EventDecoder) (piece : List ℕ) (rows : List Row) → DecodeStatus texts old old [] piece rows rows 0 0
+pub so_far_none : (texts : Bool) (old : EventDecoder) (piece : List ℕ) (rows : List Row) → BatchSoFar texts old old [] piece rows rows 0 0
 so_far_none texts old piece rows = record { events = []; each = (refl, refl); counted = refl; rows = refl; whole = refl }
 
 kind_of_event : (texts : Bool) (event : Event) (one : Reporting) → ReportsEvent texts event one.text one.reported → one.reported.kind ≡ number_of_event event
@@ -104,7 +104,7 @@ event_step : (texts : Bool) (mid new : EventDecoder) (piece : List ℕ) (more : 
 event_step texts mid new piece more event one takes reports = record { out = out.Event event; takes = takes; reports = reports }
 
 module _ (texts : Bool) (old mid new : EventDecoder) (text grown piece : List ℕ) (before rows after : List Row) (used count more : ℕ) (event : Event)
-    (h : DecodeStatus texts old mid text piece before rows used count) (inside : count < length before) (takes : Takes mid new (drop used piece) more (out.Event event)) where
+    (h : BatchSoFar texts old mid text piece before rows used count) (inside : count < length before) (takes : Takes mid new (drop used piece) more (out.Event event)) where
   front : take count rows ≡ rows_of 0 h.events
   front =
       let at : count ≡ length (rows_of 0 h.events) = h.counted ∙ sym (length-rows 0 h.events) in
@@ -124,7 +124,7 @@ module _ (texts : Bool) (old mid new : EventDecoder) (text grown piece : List �
       ∙ ap (λ rs. rs ++ drop (count + 1) before) (ap (λ rs. rs ++ row ∷ []) same ∙ ap (λ r. rows_of 0 events ++ r ∷ []) this ∙ sym (rows_more 0 events one))
 
   so_far_keeps : (at : ℕ) (others : List Row) → KeepsTexts texts event text grown (take count rows) others at → after ≡ others ++ record { kind = number_of_event event; start = at; size = length grown - at } ∷ drop (count + 1) rows
-      → DecodeStatus texts old new grown piece before after (used + more) (count + 1)
+      → BatchSoFar texts old new grown piece before after (used + more) (count + 1)
   so_far_keeps at others k is = record {
     events = h.events ++ k.one ∷ [];
     each = each_more texts h.events old mid new piece used more k.one h.each k.is_event (event_step texts mid new (drop used piece) more event k.one takes k.reports);
@@ -138,7 +138,7 @@ module _ (texts : Bool) (old mid new : EventDecoder) (text grown piece : List �
   }
 
   so_far_loses : (at : ℕ) (others : List Row) → LosesTexts texts grown (take count rows) others at → after ≡ others ++ record { kind = number_of_event event; start = at; size = length grown - at } ∷ drop (count + 1) rows
-      → DecodeStatus texts old new grown piece before after (used + more) (count + 1)
+      → BatchSoFar texts old new grown piece before after (used + more) (count + 1)
   so_far_loses at others l is =
       let one : Reporting = record { reported = record { status = NO_TEXT; kind = number_of_event event }; text = [] } in
       let events : List Reporting = map without h.events in
@@ -156,12 +156,12 @@ module _ (texts : Bool) (old mid new : EventDecoder) (text grown piece : List �
         whole = l.text ∙ sym (texts_more events one ∙ append-nil (texts_of events) ∙ none);
       }
 
-  so_far_adds : AddsEvent texts event text grown count rows after → DecodeStatus texts old new grown piece before after (used + more) (count + 1)
+  so_far_adds : AddsEvent texts event text grown count rows after → BatchSoFar texts old new grown piece before after (used + more) (count + 1)
   so_far_adds a = elim a.adds [ inl k ↦ so_far_keeps a.at a.others k a.rows | inr l ↦ so_far_loses a.at a.others l a.rows ]
 
-  pub so_far_more : (now : Bool) (kept : EventDecoder) → now ≡ texts → kept ≡ new → AddsEvent now event text grown count rows after → DecodeStatus texts old kept grown piece before after (used + more) (count + 1)
+  pub so_far_more : (now : Bool) (kept : EventDecoder) → now ≡ texts → kept ≡ new → AddsEvent now event text grown count rows after → BatchSoFar texts old kept grown piece before after (used + more) (count + 1)
   so_far_more now kept same keeps a =
-      subst (λ (d : EventDecoder). DecodeStatus texts old d grown piece before after (used + more) (count + 1)) (sym keeps) (so_far_adds (subst (λ (b : Bool). AddsEvent b event text grown count rows after) same a))
+      subst (λ (d : EventDecoder). BatchSoFar texts old d grown piece before after (used + more) (count + 1)) (sym keeps) (so_far_adds (subst (λ (b : Bool). AddsEvent b event text grown count rows after) same a))
 
 -- ---- a text more
 
@@ -203,7 +203,7 @@ tells_out texts used (out.Event e) status none is = absurd (none e refl)
 tells_out texts used out.End status none is = (is, refl, refl)
 tells_out texts used (out.Fault fault) status none is = (is.0, refl, inr refl)
 
-pub stops_there : (old new : TextDecoder) (mid : EventDecoder) (piece : List ℕ) (before after : List Row) (used count more status : ℕ) (answer : Decoded Event Fault) → DecodeStatus old.texts old.decoder mid new.text.items piece before after used count → count < length before
+pub stops_there : (old new : TextDecoder) (mid : EventDecoder) (piece : List ℕ) (before after : List Row) (used count more status : ℕ) (answer : Decoded Event Fault) → BatchSoFar old.texts old.decoder mid new.text.items piece before after used count → count < length before
     → Takes mid new.decoder (drop used piece) more answer → ((event : Event) → answer ≡ out.Event event → ⊥) → HasStatus answer status → new.texts ≡ old.texts
     → ReportsBatch old new piece before after (record { status = status; count = count; used = used + more })
 stops_there old new mid piece before after used count more status answer h inside takes none is texts = record {

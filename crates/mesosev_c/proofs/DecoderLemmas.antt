@@ -11,8 +11,8 @@ use Rattle.mes_stream.specs.declared.event_reader.EventReader.{EventReader}
 use Rattle.mes_stream.specs.declared.stream_reader.Framing.{Framing}
 use Rattle.mes_stream.specs.declared.stream_reader.StreamReader.{StreamReader}
 use Rattle.mes_stream.specs.declared.fault.Fault.{Fault}
-use Rattle.mes_stream.specs.declared.progress.Decoded.{Decoded}
-use Rattle.mes_stream.specs.declared.progress.Decoded.TheVariants as out
+use Rattle.mes_stream.specs.declared.step.Decoded.{Decoded}
+use Rattle.mes_stream.specs.declared.step.Decoded.TheVariants as out
 use Rattle.mesosev_c.specs.Decoders.{Takes, DecoderStateRepresents, EndsBy, answer_of}
 use Rattle.mesosev_c.specs.declared.event_decoder.EventDecoder.{EventDecoder}
 use Rattle.mesosev_c.specs.declared.event_decoder.State.TheVariants as state

@@ -2,8 +2,8 @@
 use Rattle.std.specs.Prelude.{◌≡◌, ℕ, ◌+◌, ◌-◌, ◌≤◌, ◌⊎◌, List, [], ◌∷◌, ◌++◌, Bool, true, length, take, drop, map}
 use Rattle.mes_msg.specs.Event.{Event}
 use Rattle.mes_stream.specs.declared.fault.Fault.{Fault}
-use Rattle.mes_stream.specs.declared.progress.Decoded.{Decoded}
-use Rattle.mes_stream.specs.declared.progress.Decoded.TheVariants as out
+use Rattle.mes_stream.specs.declared.step.Decoded.{Decoded}
+use Rattle.mes_stream.specs.declared.step.Decoded.TheVariants as out
 use Rattle.mesosev_c.specs.Batches.{IsEvent}
 use Rattle.mesosev_c.specs.Numbers.{MORE, EVENT, END, number_of_event, number_of_fault}
 use Rattle.mesosev_c.specs.Rows.{Reporting, without_text}

@@ -3,9 +3,9 @@ use Rattle.std.specs.Prelude.{◌≡◌, ℕ, ◌<◌, ◌≤◌, Result, Ok, Er
 use Rattle.mes_frame.specs.declared.limits.TheConstants.{MIN_RECORD_LIMIT, MAX_RECORD_LIMIT}
 use Rattle.mes_stream.specs.declared.stream_reader.Framing.{Framing}
 use Rattle.mes_stream.specs.declared.stream_reader.Framing.TheVariants.{Plain, Chunked}
-use Rattle.mesosev_c.specs.declared.asking.DecoderOptions.{DecoderOptions}
-use Rattle.mesosev_c.specs.declared.asking.BadOption.{BadOption}
-use Rattle.mesosev_c.specs.declared.asking.BadOption.TheVariants as refused
+use Rattle.mesosev_c.specs.declared.option_numbers.DecoderOptions.{DecoderOptions}
+use Rattle.mesosev_c.specs.declared.option_numbers.BadOption.{BadOption}
+use Rattle.mesosev_c.specs.declared.option_numbers.BadOption.TheVariants as refused
 use Rattle.mesosev_c.specs.Numbers.{BAD_LIMIT, BAD_FRAMING}
 
 -- a record limit may have so many bytes

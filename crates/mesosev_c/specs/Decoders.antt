@@ -9,8 +9,8 @@ use Rattle.mes_stream.specs.Stream.{saturated}
 use Rattle.mes_stream.specs.StreamReaders.{StreamRepresents}
 use Rattle.mes_stream.specs.declared.fault.Fault.{Fault}
 use Rattle.mes_stream.specs.declared.stream_reader.Framing.{Framing}
-use Rattle.mes_stream.specs.declared.progress.Decoded.{Decoded}
-use Rattle.mes_stream.specs.declared.progress.Decoded.TheVariants as out
+use Rattle.mes_stream.specs.declared.step.Decoded.{Decoded}
+use Rattle.mes_stream.specs.declared.step.Decoded.TheVariants as out
 use Rattle.mesosev_c.specs.declared.event_decoder.EventDecoder.{EventDecoder}
 use Rattle.mesosev_c.specs.declared.event_decoder.State.{State}
 use Rattle.mesosev_c.specs.declared.event_decoder.State.TheVariants as state

@@ -7,8 +7,8 @@ use Rattle.mesosev_c.specs.Decoders.{Represents}
 use Rattle.mesosev_c.specs.Inputs.{ReportsInput}
 use Rattle.mesosev_c.specs.Numbers.{SUCCESS, NO_MEMORY}
 use Rattle.mesosev_c.specs.Reporting.{ReportsNext, ReportsFinish}
-use Rattle.mesosev_c.specs.declared.asking.DecoderOptions.{DecoderOptions}
-use Rattle.mesosev_c.specs.declared.asking.BadOption.{BadOption}
+use Rattle.mesosev_c.specs.declared.option_numbers.DecoderOptions.{DecoderOptions}
+use Rattle.mesosev_c.specs.declared.option_numbers.BadOption.{BadOption}
 use Rattle.mesosev_c.specs.declared.exports.Answer.{Answer}
 use Rattle.mesosev_c.specs.declared.exports.Answers.{Answers}
 use Rattle.mesosev_c.specs.declared.exports.Counts.{Counts}

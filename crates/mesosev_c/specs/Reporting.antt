@@ -6,8 +6,8 @@ use Rattle.mes_msg.specs.EncodeFault.{EncodeFault}
 use Rattle.mes_msg.specs.Event.{Event}
 use Rattle.mes_stream.specs.Lines.{fault_text}
 use Rattle.mes_stream.specs.declared.fault.Fault.{Fault}
-use Rattle.mes_stream.specs.declared.progress.Decoded.{Decoded}
-use Rattle.mes_stream.specs.declared.progress.Decoded.TheVariants as out
+use Rattle.mes_stream.specs.declared.step.Decoded.{Decoded}
+use Rattle.mes_stream.specs.declared.step.Decoded.TheVariants as out
 use Rattle.mesosev_c.specs.Decoders.{Takes, EndsInput}
 use Rattle.mesosev_c.specs.Numbers.{MORE, EVENT, END, NO_TEXT, number_of_event, number_of_fault}
 use Rattle.mesosev_c.specs.declared.event_decoder.EventDecoder.{EventDecoder}

@@ -6,7 +6,7 @@ ghost use Rattle.mes_msg_record.specs.Texts.{IsFaultOf, canonical_of};
 ghost use Rattle.mes_stream.specs.Refusals.{fault_at_record, refusal_of};
 ghost use Rattle.mesosev_c.specs.CallTexts.{IsReportedCall, IsReportedText, PutsCall};
 
-use crate::room::put_text;
+use crate::caller_buffer::put_text;
 use crate::statuses::{NO_TEXT, SUCCESS, fault_number};
 use arrayvec::ArrayString;
 use mes_frame::Limit;

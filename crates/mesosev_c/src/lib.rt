@@ -2,19 +2,19 @@
 //! What a C program calls to read the event stream of the Apache Mesos v1 scheduler API: a whole input at once, a decoder behind a
 //! handle, and one call. `lib/mesosev.h` tells a C programmer of them; `lib/mesosev.c` stands in front and refuses null pointers.
 
-mod asking;
+mod option_numbers;
 mod calls;
 mod event_decoder;
 mod event_text;
 mod exports;
 mod handle;
-mod room;
+mod caller_buffer;
 mod rows;
 mod statuses;
 mod text_decoder;
 mod whole;
 
-pub use asking::{BadOption, DecoderOptions, parse_options};
+pub use option_numbers::{BadOption, DecoderOptions, parse_options};
 pub use calls::{ReportedCall, report_call};
 pub use event_decoder::{EventDecoder, StreamEnd};
 pub use exports::{

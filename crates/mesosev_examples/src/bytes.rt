@@ -1,6 +1,6 @@
 //! The bytes that a row asks of.
 
-use crate::told::Reported;
+use crate::outcome::Reported;
 use arrayvec::ArrayVec;
 
 /// The most bytes that a row asks of, or that are written for one.

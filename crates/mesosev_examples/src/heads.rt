@@ -1,7 +1,7 @@
 //! Heads that are read: of a stream, of an answer to another call, and of a request.
 
 use crate::bytes::bytes_of;
-use crate::told::Reported;
+use crate::outcome::Reported;
 use crate::words::Words;
 use mes_double_http::{Request, StreamId, read_answer, read_head, read_request};
 use mes_frame::MemorySource;

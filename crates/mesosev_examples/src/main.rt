@@ -2,7 +2,7 @@
 //! answered. Where memory was refused, the line says so and the row is asked again; docs/FORMAT.md has the lines.
 #![tactic(auto)]
 
-mod asking;
+mod parsing;
 mod bytes;
 mod heads;
 mod held;
@@ -18,14 +18,14 @@ mod rows;
 mod sessions;
 mod streams;
 mod texts;
-mod told;
+mod outcome;
 mod words;
 mod writing;
 
 use rows::ROWS;
 use std::alloc::Global;
 use std::io;
-use told::Reported;
+use outcome::Reported;
 use words::Words;
 
 fn main(rt: HostRuntime) -> io::Result<()> {

@@ -1,7 +1,7 @@
 //! Arrays in each other, as deep as they may nest and deeper, read at once and by the byte.
 
 use crate::messages::{behind_word, event_of, text_of, tree_of};
-use crate::told::Reported;
+use crate::outcome::Reported;
 use crate::words::Words;
 use mes_model_schema::json::{self, Lexer, MAX_NESTING, ReadFault};
 use std::alloc::Global;

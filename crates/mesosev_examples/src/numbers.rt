@@ -1,6 +1,6 @@
 //! Numbers, as texts and as thousandths.
 
-use crate::told::Reported;
+use crate::outcome::Reported;
 use crate::words::Words;
 use arrayvec::ArrayString;
 use mes_model_schema::fixed::{NumFault, Thousandths};

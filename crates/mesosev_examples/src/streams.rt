@@ -2,7 +2,7 @@
 
 use crate::bytes::bytes_of;
 use crate::messages::say_event;
-use crate::told::Reported;
+use crate::outcome::Reported;
 use crate::words::Words;
 use arrayvec::ArrayString;
 use mes_frame::{DEFAULT_RECORD_LIMIT, MAX_CHUNK_LINE, MAX_TRAILERS, MemorySource};

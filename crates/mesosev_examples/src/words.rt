@@ -1,6 +1,6 @@
 //! A row's answer in words.
 
-use crate::told::Reported;
+use crate::outcome::Reported;
 use arrayvec::ArrayString;
 use itoa::Buffer;
 

@@ -17,15 +17,15 @@ use Rattle.mes_msg.specs.Event.{Event}
 use Rattle.mes_msg.specs.Event.TheVariants as event
 use Rattle.mes_session.specs.Held.{name_of, offer_in, with_offers, without_offer}
 use Rattle.mes_double_master.specs.declared.refusal.MasterRefusal.TheVariants.{NoStream, OfferTwice, NoSuchOffer, UpdateTwice}
-use Rattle.mes_double_master.specs.Masters.{MasterState, MasterAnswer, same_id, is_there, is_unacknowledged, plain, subscribed, subscribed_event, update_event, in_stream, is_named, is_subscribe, handled}
+use Rattle.mes_double_master.specs.Masters.{MasterState, MasterAnswer, same_id, is_there, has_update, plain, subscribed, subscribed_event, update_event, in_stream, is_named, is_subscribe, handled}
 use Rattle.mes_double_master.specs.Sending.{Sends, on_stream, offer_ids, is_duplicate, made, reported, reported_unacknowledged, updated}
 use Rattle.mesosev_serve.specs.Opening.{Streamed, and_sent, and_given, and_all_given, opening}
 use Rattle.mesosev_serve.specs.OneStream.{IsSublist, offers_by, offered_in, rescinds_by, rescinded_in, owing_of, owing_by, owing_in, rescind_of, is_among, IsNewUpdate, MayFollow, AllFollow, IsOneStream, IsStreamReply}
 use Rattle.mesosev_serve.specs.Replying.{Service, Replies, service, streamed, reply_to_fault, reply_to_text}
 use Rattle.mesosev_serve.specs.declared.request.ParsedRequest.{ParsedRequest}
 use Rattle.mesosev_serve.specs.declared.request.ParsedRequest.TheVariants.{NoRequest, NoCall, Calls}
-use Rattle.mesosev_serve.specs.declared.reply.Reply.{Reply}
-use Rattle.mesosev_serve.specs.declared.reply.Reply.TheVariants.{Status}
+use Rattle.mesosev_serve.specs.declared.response.Reply.{Reply}
+use Rattle.mesosev_serve.specs.declared.response.Reply.TheVariants.{Status}
 use Rattle.mes_double_http.specs.declared.fault.HeadFault.{HeadFault}
 use Rattle.mes_double_http.specs.declared.fault.HeadFault.TheVariants as fault
 use Rattle.mes_msg.specs.RecordFault.{RecordFault}
@@ -285,18 +285,18 @@ module _ (m : MasterState) (front : List Event) (s : Streamed) (k : Stands m fro
       (λ now known. moved m now _ _ _ _ _ _ (brings-none offers_by front (update_event status) refl) (brings-none rescinds_by front (update_event status) refl) (brings owing_by front (update_event status)) known)
       (by (owed_key_of status)))
     where
-      owing : (key : OwedKey) (b : Bool) → is_unacknowledged s.master.owing key ≡ b
-          → Step s (and_sent s (if b then Err UpdateTwice else Ok (update_event status, reported_unacknowledged s.master key status))) (update_event status) (is_unacknowledged (m.owing ++ owing_in front) key ≡ false)
+      owing : (key : OwedKey) (b : Bool) → has_update s.master.owing key ≡ b
+          → Step s (and_sent s (if b then Err UpdateTwice else Ok (update_event status, reported_unacknowledged s.master key status))) (update_event status) (has_update (m.owing ++ owing_in front) key ≡ false)
           (λ x. Known m (offered_in front) (rescinded_in front) (owing_in front ++ (key, status) ∷ []) x)
       owing key true again = skipped refl
       owing key false again =
-          sent refl (subst (λ (l : List (OwedKey × TaskStatus)). is_unacknowledged l key ≡ false) k.owing_is again)
+          sent refl (subst (λ (l : List (OwedKey × TaskStatus)). has_update l key ≡ false) k.owing_is again)
           (owing-known m _ _ _ s.master k status key)
 
       by : (key : Option OwedKey) → Step s (and_sent s (updated s.master status key)) (update_event status) (IsNewUpdate (m.owing ++ owing_in front) key)
           (λ x. Known m (offered_in front) (rescinded_in front) (owing_in front ++ owing_of status key) x)
       by None = sent refl tt (told-known m _ _ _ s.master k status)
-      by (Some key) = owing key (is_unacknowledged s.master.owing key) refl
+      by (Some key) = owing key (has_update s.master.owing key) refl
 
   -- one that goes out as it is
   other-step : (e : Event) → offers_by e ≡ [] → rescinds_by e ≡ [] → owing_by e ≡ [] → Stands m (front ++ e ∷ []) s.master

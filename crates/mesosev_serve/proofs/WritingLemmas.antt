@@ -15,9 +15,9 @@ use Rattle.mes_double_http.specs.Texts.{ok_text}
 use Rattle.mes_stream.proofs.SendLemmas.{stream_of}
 use Rattle.mes_stream.specs.Sending.{IsPlainOf}
 use Rattle.mesosev_serve.specs.Writing.{Wrote, Stopped, Writes, WritesRecords}
-use Rattle.mesosev_serve.specs.declared.reply.Reply.TheVariants.{Stream}
-use Rattle.mesosev_serve.specs.declared.writing.SendError.{SendError}
-use Rattle.mesosev_serve.specs.declared.writing.SendError.TheVariants as unsent
+use Rattle.mesosev_serve.specs.declared.response.Reply.TheVariants.{Stream}
+use Rattle.mesosev_serve.specs.declared.response_writer.SendError.{SendError}
+use Rattle.mesosev_serve.specs.declared.response_writer.SendError.TheVariants as unsent
 
 -- ---- a text that went out by one write or more
 

@@ -7,11 +7,11 @@ use Rattle.mes_frame.specs.declared.write.WriteFault.{WriteFault}
 use Rattle.mesosev_serve.specs.Writing.{Stopped, Wrote}
 use Rattle.mesosev_serve.specs.declared.request.ParsedRequest.{ParsedRequest}
 use Rattle.mesosev_serve.specs.declared.request.ParsedRequest.TheVariants.{Calls}
-use Rattle.mesosev_serve.specs.declared.reply.Reply.{Reply}
-use Rattle.mesosev_serve.specs.declared.reply.Reply.TheVariants.{Nothing, Status, Stream}
+use Rattle.mesosev_serve.specs.declared.response.Reply.{Reply}
+use Rattle.mesosev_serve.specs.declared.response.Reply.TheVariants.{Nothing, Status, Stream}
 use Rattle.mesosev_serve.specs.declared.connection.Served.{Served}
-use Rattle.mesosev_serve.specs.declared.writing.SendError.{SendError}
-use Rattle.mesosev_serve.specs.declared.writing.SendError.TheVariants as unsent
+use Rattle.mesosev_serve.specs.declared.response_writer.SendError.{SendError}
+use Rattle.mesosev_serve.specs.declared.response_writer.SendError.TheVariants as unsent
 
 -- the name of the call's type
 abbrev pub call_name : Call → List ℕ

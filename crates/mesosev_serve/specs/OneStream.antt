@@ -7,10 +7,10 @@ use Rattle.mes_model.specs.TaskStatus.{TaskStatus}
 use Rattle.mes_model.specs.Owed.{owed_key_of}
 use Rattle.mes_msg.specs.Event.{Event}
 use Rattle.mes_msg.specs.Event.TheVariants as event
-use Rattle.mes_double_master.specs.Masters.{MasterState, same_id, is_unacknowledged, subscribed_event}
+use Rattle.mes_double_master.specs.Masters.{MasterState, same_id, has_update, subscribed_event}
 use Rattle.mes_double_master.specs.Sending.{offer_ids, is_duplicate}
-use Rattle.mesosev_serve.specs.declared.reply.Reply.{Reply}
-use Rattle.mesosev_serve.specs.declared.reply.Reply.TheVariants.{Stream}
+use Rattle.mesosev_serve.specs.declared.response.Reply.{Reply}
+use Rattle.mesosev_serve.specs.declared.response.Reply.TheVariants.{Stream}
 
 -- `part` has some events of `whole`, in the same order. Each event of `whole` is used at most once.
 abbrev pub IsSublist : List Event → List Event → Type 0
@@ -58,7 +58,7 @@ is_among d ids = list_any (same_id d) ids
 -- no update before it requires the same acknowledgement
 abbrev pub IsNewUpdate : List (OwedKey × TaskStatus) → Option OwedKey → Type 0
 IsNewUpdate owing None = Unit {0}
-IsNewUpdate owing (Some key) = is_unacknowledged owing key ≡ false
+IsNewUpdate owing (Some key) = has_update owing key ≡ false
 
 -- An event may follow the events `front` on a stream of a master that was in the state m before the stream. There is no second
 -- SUBSCRIBED. An offer has a new identifier: the master never made an offer with it, neither on this stream nor before. A RESCIND names an

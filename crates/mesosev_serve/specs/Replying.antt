@@ -10,8 +10,8 @@ use Rattle.mes_msg.specs.RecordFault.TheVariants as unread
 use Rattle.mesosev_serve.specs.Opening.{Streamed, and_all_given, opening}
 use Rattle.mesosev_serve.specs.declared.request.ParsedRequest.{ParsedRequest}
 use Rattle.mesosev_serve.specs.declared.request.ParsedRequest.TheVariants.{NoRequest, NoCall, Calls}
-use Rattle.mesosev_serve.specs.declared.reply.Reply.{Reply}
-use Rattle.mesosev_serve.specs.declared.reply.Reply.TheVariants.{Nothing, Status, Stream}
+use Rattle.mesosev_serve.specs.declared.response.Reply.{Reply}
+use Rattle.mesosev_serve.specs.declared.response.Reply.TheVariants.{Nothing, Status, Stream}
 
 -- A request that was refused: 404 to another target, 405 to another method, nothing where the reader failed or ended in the body, or
 -- memory was refused; else 400.

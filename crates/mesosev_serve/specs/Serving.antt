@@ -11,9 +11,9 @@ use Rattle.mesosev_serve.specs.OneStream.{IsStreamReply}
 use Rattle.mesosev_serve.specs.Replying.{Replies}
 use Rattle.mesosev_serve.specs.Writing.{Writes}
 use Rattle.mesosev_serve.specs.declared.request.ParsedRequest.{ParsedRequest}
-use Rattle.mesosev_serve.specs.declared.reply.Reply.{Reply}
+use Rattle.mesosev_serve.specs.declared.response.Reply.{Reply}
 use Rattle.mesosev_serve.specs.declared.connection.Served.{Served}
-use Rattle.mesosev_serve.specs.declared.writing.SendError.{SendError}
+use Rattle.mesosev_serve.specs.declared.response_writer.SendError.{SendError}
 
 -- These devices and masters are those before and after a connection that was given these events for a stream in chunks of `most` bytes.
 pub record ServesOne (before : MasterState) (given : List Event) (most : ℕ) (input rest writer written out reported : Device) (later : MasterState) (served : Result Served WriteFault) : Type 0 where

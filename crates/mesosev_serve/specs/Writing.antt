@@ -9,10 +9,10 @@ use Rattle.mes_msg.specs.declared.send_fault.EncodeFaultKind.{EncodeFaultKind}
 use Rattle.mes_msg.specs.declared.send_fault.SendFault.{SendFault}
 use Rattle.mes_msg.specs.declared.send_fault.SendFault.TheVariants as send
 use Rattle.mes_stream.specs.Sending.{IsFirstBad, IsStreamOf, WroteAll, WroteSome}
-use Rattle.mesosev_serve.specs.declared.reply.Reply.{Reply}
-use Rattle.mesosev_serve.specs.declared.reply.Reply.TheVariants.{Nothing, Status, Stream}
-use Rattle.mesosev_serve.specs.declared.writing.SendError.{SendError}
-use Rattle.mesosev_serve.specs.declared.writing.SendError.TheVariants as unsent
+use Rattle.mesosev_serve.specs.declared.response.Reply.{Reply}
+use Rattle.mesosev_serve.specs.declared.response.Reply.TheVariants.{Nothing, Status, Stream}
+use Rattle.mesosev_serve.specs.declared.response_writer.SendError.{SendError}
+use Rattle.mesosev_serve.specs.declared.response_writer.SendError.TheVariants as unsent
 
 -- w went out whole
 abbrev pub Wrote : Device → Device → List ℕ → Type 0

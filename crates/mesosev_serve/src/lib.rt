@@ -5,13 +5,13 @@ mod connection;
 mod handshake;
 mod lines;
 mod outgoing;
-mod reply;
-mod replying;
+mod response;
+mod respond;
 mod request;
 mod serve;
 mod subscribing;
 mod theorems;
-mod writing;
+mod response_writer;
 
 pub use connection::Served;
 pub use lines::WRITE_FAILED;

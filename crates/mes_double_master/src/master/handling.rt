@@ -12,7 +12,7 @@ use http::StatusCode;
 use mes_double_http::StreamId;
 use mes_double_master_state::events;
 use mes_double_master_state::ids::launch;
-use mes_double_master_state::updates::{is_unacknowledged, key_in};
+use mes_double_master_state::updates::{has_update, key_in};
 use mes_json::NoMemory;
 use mes_model::{Id, TaskRef};
 use mes_msg::{Acknowledge, Call, Operation};
@@ -126,7 +126,7 @@ impl Master {
         ensures err { OnErr result (self.new ≡ self.old) }
     {
         let key = key_in(self.alloc, body)?;
-        if is_unacknowledged(&self.owing, &key) {
+        if has_update(&self.owing, &key) {
             self.acked.add(key)?;
         }
         Ok(Answer::plain(self.alloc, StatusCode::ACCEPTED))

@@ -1,7 +1,7 @@
 //! The events that a test master sends without a call.
 ghost use Rattle.std.specs.Prelude.{◌≡◌, ◌≢◌, ◌⊎◌, ◌++◌, [], ◌∷◌, false, Ok, Err, IsOk, IsSome, IfSome, IfNone, IfOk, IfErr, OnOk, OnErr};
 ghost use Rattle.mes_double_master.specs.declared.refusal.MasterRefusal.TheVariants.{NoMemory as no_memory};
-ghost use Rattle.mes_double_master.specs.Masters.{is_unacknowledged, update_event};
+ghost use Rattle.mes_double_master.specs.Masters.{has_update, update_event};
 ghost use Rattle.mes_double_master.specs.Sending.{offer_ids, is_duplicate, made, offers_sent, rescind_sent, reported, reported_unacknowledged, update_sent, resend_sent};
 
 use super::Master;
@@ -9,7 +9,7 @@ use crate::refusal::MasterRefusal;
 use mes_double_master_state::events;
 use mes_double_master_state::ids::{ids_of_offers, is_duplicate, put_new, reserve};
 use mes_double_master_state::updates::{
-    is_unacknowledged, note, pending_at, record_unacknowledged,
+    has_update, note, pending_at, record_update,
 };
 use mes_json::{NoMemory, Text};
 use mes_model::{Id, Offer, TaskStatus};
@@ -135,10 +135,10 @@ impl Master {
         let Some(key) = status.owed_key(self.alloc)? else {
             return Ok(note(self.alloc, &mut self.latest, status)?);
         };
-        if is_unacknowledged(&self.owing, &key) {
+        if has_update(&self.owing, &key) {
             return Err(MasterRefusal::UpdateTwice);
         }
-        Ok(record_unacknowledged(self.alloc, &mut self.latest, &mut self.owing, key, status)?)
+        Ok(record_update(self.alloc, &mut self.latest, &mut self.owing, key, status)?)
     }
 
     /// Returns again the UPDATE at an index among the unacknowledged ones. Errors: no stream (M1),

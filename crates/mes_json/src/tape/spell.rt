@@ -8,10 +8,10 @@ ghost use Rattle.mes_json.specs.Spell.{HasNoText, text_token, IsTextOf};
 ghost use Rattle.mes_json.specs.View.{view, items_view, members_view};
 
 use crate::memory::NoMemory;
-use crate::nodes::Nodes;
+use crate::node_buffer::Nodes;
 use crate::tape::{Node, Tape, text_place};
 use crate::text::Text;
-use crate::texts::Texts;
+use crate::text_buffer::Texts;
 use crate::value::Json;
 use std::alloc::Global;
 use std::marker::Model;

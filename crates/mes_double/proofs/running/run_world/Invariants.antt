@@ -1,7 +1,7 @@
 use Rattle.std.proofs.Common.{take}
-use Rattle.mes_double.proofs.RunningLemmas.{DecodeStatus}
+use Rattle.mes_double.proofs.RunningLemmas.{MovesSoFar}
 use Rattle.mes_double.proofs.running.run_world.Given as goal
 
 -- the world after the moves so far
 abbrev pub invariant-loop-next : goal.invariant-loop-next
-invariant-loop-next l = DecodeStatus l.fn.framework l.fn.ids.items (take l.next-index l.moves) l.next-index l.world
+invariant-loop-next l = MovesSoFar l.fn.framework l.fn.ids.items (take l.next-index l.moves) l.next-index l.world

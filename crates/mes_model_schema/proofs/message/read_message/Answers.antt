@@ -1,7 +1,7 @@
 use Rattle.std.proofs.Common.{List, sym, ap, subst, refl}
 use Rattle.mes_model_schema.specs.FoundRows.{FindsAll}
 use Rattle.mes_model_schema.specs.Leaves.{members_at}
-use Rattle.mes_model_schema.specs.declared.found.Found.{Found}
+use Rattle.mes_model_schema.specs.declared.found_rows.Found.{Found}
 use Rattle.mes_model_schema.proofs.RowLemmas.{gives_bound, refused_bound}
 use Rattle.mes_model_schema.proofs.RowListLemmas.{texts_of}
 use Rattle.mes_model_schema.proofs.message.read_message.Goals as goal

@@ -1,7 +1,7 @@
 use Rattle.std.proofs.Common.{List, sym, ap, subst}
 use Rattle.mes_model_schema.specs.FoundRows.{FindsAll}
 use Rattle.mes_model_schema.specs.Leaves.{members_at}
-use Rattle.mes_model_schema.specs.declared.found.Found.{Found}
+use Rattle.mes_model_schema.specs.declared.found_rows.Found.{Found}
 use Rattle.mes_model_schema.proofs.RowLemmas.{refused_bound}
 use Rattle.mes_model_schema.proofs.RowListLemmas.{texts_of, each_found}
 use Rattle.mes_model_schema.proofs.message.read_typed.Goals as goal

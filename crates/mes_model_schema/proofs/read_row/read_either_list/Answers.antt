@@ -3,8 +3,8 @@ use Rattle.std.proofs.lemmas.List.{get_or_default}
 use Rattle.mes_json.specs.Tree.{Tree}
 use Rattle.mes_model_schema.specs.Rows.{many, message}
 use Rattle.mes_model_schema.specs.Parts.{Gives}
-use Rattle.mes_model_schema.specs.declared.found.Found.{Found}
-use Rattle.mes_model_schema.specs.declared.found.Found.TheVariants.{Nothing}
+use Rattle.mes_model_schema.specs.declared.found_rows.Found.{Found}
+use Rattle.mes_model_schema.specs.declared.found_rows.Found.TheVariants.{Nothing}
 use Rattle.mes_model_schema.specs.Leaves.{members_at}
 use Rattle.mes_model_schema.proofs.RowLemmas.{found_as, refused_bound}
 use Rattle.mes_model_schema.proofs.EitherLemmas.{gives_array, gives_object}

@@ -1,7 +1,7 @@
 use Rattle.std.proofs.Common.{take}
-use Rattle.mes_session.proofs.ReplayLemmas.{DecodeStatus}
+use Rattle.mes_session.proofs.ReplayLemmas.{EntriesSoFar}
 use Rattle.mes_session.proofs.replaying.replay.Given as goal
 
 -- the entries so far are legal, and the session is theirs
 abbrev pub invariant-loop-index : goal.invariant-loop-index
-invariant-loop-index l = DecodeStatus (take l.index l.entries) l.session
+invariant-loop-index l = EntriesSoFar (take l.index l.entries) l.session

@@ -7,7 +7,7 @@ use Rattle.mes_stream.specs.declared.decoder.RecordDecoder.{RecordDecoder}
 use Rattle.mes_stream.specs.declared.decoder.State.TheVariants as state
 use Rattle.mes_stream.specs.declared.stream_reader.Framing.TheVariants.{Chunked}
 use Rattle.mes_stream.specs.declared.fault.Fault.{Fault}
-use Rattle.mes_stream.specs.declared.progress.Decoded.{Decoded}
+use Rattle.mes_stream.specs.declared.step.Decoded.{Decoded}
 use Rattle.mes_stream.proofs.ChunkLemmas.{take_whole}
 use Rattle.mes_stream.proofs.DecoderLemmas.{says_ended}
 use Rattle.mes_stream.proofs.EntryLemmas.{none_said}

@@ -1,8 +1,8 @@
 use Rattle.std.proofs.Common.{ℕ, ◌+◌, List, ◌++◌, length, take, drop, ap, arith, length-drop}
 use Rattle.std.proofs.lemmas.List.{take_rest}
 use Rattle.mes_stream.specs.StreamReaders.{StreamRepresents, with_body, body_of}
-use Rattle.mes_stream.specs.declared.body.Body.{Body}
-use Rattle.mes_stream.specs.declared.progress.Decoded.TheVariants as out
+use Rattle.mes_stream.specs.declared.record_body.Body.{Body}
+use Rattle.mes_stream.specs.declared.step.Decoded.TheVariants as out
 use Rattle.mes_stream.proofs.ChunkLemmas.{says_on, before_on}
 use Rattle.mes_stream.proofs.StreamLemmas.{same_body}
 use Rattle.mes_stream.proofs.ReportsLemmas.{tells_as}

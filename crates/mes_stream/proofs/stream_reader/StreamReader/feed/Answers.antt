@@ -4,8 +4,8 @@ use Rattle.std.proofs.lemmas.List.{take_rest}
 use Rattle.mes_stream.specs.Framings.{EndsIn}
 use Rattle.mes_stream.specs.RecordValues.{IsRefused}
 use Rattle.mes_stream.specs.StreamReaders.{StreamRepresents, body_of, with_body}
-use Rattle.mes_stream.specs.declared.body.Body.{Body}
-use Rattle.mes_stream.specs.declared.progress.Decoded.TheVariants as out
+use Rattle.mes_stream.specs.declared.record_body.Body.{Body}
+use Rattle.mes_stream.specs.declared.step.Decoded.TheVariants as out
 use Rattle.mes_stream.proofs.BodyLemmas.{stops_in, piece_on, value_on}
 use Rattle.mes_stream.proofs.StreamLemmas.{same_body}
 use Rattle.mes_stream.proofs.Wider.{refused_into, stops_wider}

@@ -1,6 +1,6 @@
 use Rattle.std.proofs.Common.{refl, ◌∙◌, ap}
 use Rattle.mes_frame.specs.RecordState.{limit_of}
-use Rattle.mes_stream.specs.declared.body.Body.{Body}
+use Rattle.mes_stream.specs.declared.record_body.Body.{Body}
 use Rattle.mes_stream.proofs.stream_reader.StreamReader.following.Goals as goal
 
 pub returns-in-Chunked : goal.returns-in-Chunked

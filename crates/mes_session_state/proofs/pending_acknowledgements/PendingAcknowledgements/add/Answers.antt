@@ -1,7 +1,0 @@
-use Rattle.std.proofs.Common.{◌∙◌, ap}
-use Rattle.mes_session_state.specs.Held.{with_key}
-use Rattle.mes_session_state.proofs.PendingLemmas.{put_key}
-use Rattle.mes_session_state.proofs.pending_acknowledgements.PendingAcknowledgements.add.Goals as goal
-
-pub returns-clause-ok : goal.returns-clause-ok
-returns-clause-ok c = c.in_ok-insert.ensures.keys ∙ put_key c.args.key c.self.inside.keys.keys ∙ ap (λ ks. with_key ks c.args.key) c.self.view_is

@@ -1,0 +1,110 @@
+//! A reply written.
+
+ghost use Rattle.std.specs.Prelude.{◌≤◌};
+ghost use Rattle.mes_frame.specs.Devices.{device_of};
+ghost use Rattle.mesosev_serve.specs.Writing.{Writes, WritesRecords};
+ghost use Rattle.mesosev_serve.specs.declared.response.Reply.TheVariants as reply;
+
+use crate::outgoing::Outgoing;
+use crate::response::Reply;
+use http::StatusCode;
+use mes_double_http::{StreamId, write_ok, write_status};
+use mes_frame::{Limit, MAX_CHUNK, MIN_CHUNK, Sink, WriteFault, write_chunked};
+use mes_msg::SendFault;
+use mes_stream::encode_each;
+use mesosev_stream::ChunkSize;
+use std::alloc::Global;
+
+/// Why a reply did not go out whole.
+#[derive(Clone, Copy, Debug, PartialEq, Eq)]
+pub(crate) enum SendError {
+    /// Memory was refused, and nothing was written.
+    NoMemory,
+    /// An event of its stream has no record, and nothing was written.
+    Encode,
+    /// The writer stopped.
+    Write,
+}
+
+impl From<WriteFault> for SendError {
+    ghost use Rattle.std.specs.Prelude.{◌≡◌};
+    ghost use Rattle.mesosev_serve.specs.declared.response_writer.SendError.TheVariants.{Write};
+
+    ghost from_gives = { λ _ unsent. unsent ≡ Write };
+
+    fn from(_stopped: WriteFault) -> SendError {
+        SendError::Write
+    }
+}
+
+impl From<SendFault> for SendError {
+    ghost use Rattle.std.specs.Prelude.{◌≡◌};
+    ghost use Rattle.mesosev_serve.specs.Writing.{unsent_of};
+
+    ghost from_gives = { λ fault unsent. unsent ≡ unsent_of fault };
+
+    fn from(fault: SendFault) -> SendError {
+        match fault {
+            SendFault::NoMemory => SendError::NoMemory,
+            SendFault::Encode { .. } => SendError::Encode,
+            SendFault::Write(_) => SendError::Write,
+        }
+    }
+}
+
+/// Writes a reply: a stream in chunks of `most` bytes, all of whose events are encoded before the first byte is written.
+pub(crate) fn write_reply<W: Sink>(
+    alloc: Global,
+    reply: &Reply<'_>,
+    most: ChunkSize,
+    writer: &mut W,
+) -> Result<(), SendError>
+    ensures { Writes most reply.now (device_of W.written W.counts writer.old) (device_of W.written W.counts writer.new) result }
+{
+    match reply {
+        Reply::Nothing => Ok(()),
+        Reply::Status(code) => write_head(*code, writer),
+        Reply::Stream(id, events) => write_stream(alloc, id, events, most, writer),
+    }
+}
+
+/// Writes a reply that is a status alone.
+fn write_head<W: Sink>(code: StatusCode, writer: &mut W) -> Result<(), SendError>
+    ensures { Writes 1 (reply.Status code) (device_of W.written W.counts writer.old) (device_of W.written W.counts writer.new) result }
+{
+    write_status(writer, code)?;
+    Ok(())
+}
+
+/// Writes a reply that is a stream.
+fn write_stream<W: Sink>(
+    alloc: Global,
+    id: &StreamId,
+    events: &Outgoing<'_>,
+    most: ChunkSize,
+    writer: &mut W,
+) -> Result<(), SendError>
+    ensures { Writes most (reply.Stream id.now events.now) (device_of W.written W.counts writer.old) (device_of W.written W.counts writer.new) result }
+{
+    let Ok(all) = events.all(alloc) else {
+        return Err(SendError::NoMemory);
+    };
+    let records = encode_each(alloc, all.as_slice(), Limit::USUAL)?;
+    write_records(id, records.as_slice(), most.get(), writer)
+}
+
+/// Writes the head of a stream, and behind it the records in chunks.
+fn write_records<W: Sink>(
+    id: &StreamId,
+    records: &[u8],
+    most: u32,
+    writer: &mut W,
+) -> Result<(), SendError>
+    requires least { MIN_CHUNK ≤ most }
+    requires greatest { most ≤ MAX_CHUNK }
+    ensures { WritesRecords most id.now records.now (device_of W.written W.counts writer.old) (device_of W.written W.counts writer.new) result }
+{
+    write_ok(writer, id)?;
+    write_chunked(writer, records, most)?;
+    Ok(())
+}
