@@ -56,7 +56,7 @@ kind_view c kind.TheVariants.OpeningArray = m.ByteClass.opening_array
 kind_view c kind.TheVariants.ClosingArray = m.ByteClass.closing_array
 kind_view c kind.TheVariants.Colon = m.ByteClass.colon
 kind_view c kind.TheVariants.Comma = m.ByteClass.comma
-kind_view c (kind.TheVariants.LiteralState w) = m.ByteClass.begins (word_view w)
+kind_view c (kind.TheVariants.Literal w) = m.ByteClass.begins (word_view w)
 kind_view c (kind.TheVariants.Digits part) = m.ByteClass.begins (digits part (c ∷ []))
 kind_view c kind.TheVariants.Other = m.ByteClass.other
 

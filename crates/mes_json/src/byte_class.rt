@@ -18,7 +18,7 @@ pub(crate) enum ByteClass {
     Colon,
     Comma,
     /// The first byte of a literal.
-    LiteralState(LiteralState),
+    Literal(LiteralState),
     /// The first byte of a number, with the number's state after it.
     Digits(NumberState),
     Other,
@@ -41,9 +41,9 @@ impl ByteClass {
             b'-' => ByteClass::Digits(NumberState::AfterMinus),
             b'0' => ByteClass::Digits(NumberState::AfterZero),
             b'1'..=b'9' => ByteClass::Digits(NumberState::InWhole),
-            b'n' => ByteClass::LiteralState(LiteralState::N),
-            b't' => ByteClass::LiteralState(LiteralState::T),
-            b'f' => ByteClass::LiteralState(LiteralState::F),
+            b'n' => ByteClass::Literal(LiteralState::N),
+            b't' => ByteClass::Literal(LiteralState::T),
+            b'f' => ByteClass::Literal(LiteralState::F),
             _ => ByteClass::Other,
         }
     }

@@ -351,7 +351,7 @@ impl Reader {
                 Node::List { length: 0 },
                 ReaderState::FirstItem,
             ),
-            ByteClass::LiteralState(word) => {
+            ByteClass::Literal(word) => {
                 self.at = ReaderState::Literal(word);
                 Ok(())
             }

@@ -79,7 +79,7 @@ impl Session {
     pub fn hand_at(&self, index: usize) -> Option<&Offer>
         ensures { option_copied result ≡ slice_get self.now.hand index }
     {
-        self.hand.at(index)
+        self.hand.get(index)
     }
 
     /// Returns the outstanding offer with this identifier, in a time independent of their number.
@@ -100,7 +100,7 @@ impl Session {
     pub fn owed_at(&self, index: usize) -> Option<&OwedKey>
         ensures { option_copied result ≡ slice_get self.now.owed index }
     {
-        self.owed.at(index)
+        self.owed.get(index)
     }
 
     /// Applies an event received from the master:

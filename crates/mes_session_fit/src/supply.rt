@@ -41,7 +41,7 @@ impl Supply {
         if self.offer >= offers.count() {
             return false;
         }
-        let resources = offers.at(self.offer).resources.as_slice();
+        let resources = offers.get(self.offer).resources.as_slice();
         if self.resource >= resources.len() {
             self.offer += 1;
             self.resource = 0;
@@ -53,7 +53,7 @@ impl Supply {
     }
 
     /// Takes an amount; returns `false` if less remains.
-    fn take<O: OfferList>(&mut self, offers: &O, key: &Resource, wanted: u64) -> bool
+    fn draw<O: OfferList>(&mut self, offers: &O, key: &Resource, wanted: u64) -> bool
         ensures enough { IsTrue result → wanted + rest (key_of key.now) (O.offers offers.now) self.new ≡ rest (key_of key.now) (O.offers offers.now) self.old }
         ensures short { IsFalse result → rest (key_of key.now) (O.offers offers.now) self.old < wanted }
     {
@@ -79,7 +79,7 @@ impl Supply {
         ensures short { IsFalse result → rest (key_of key.now) (O.offers offers.now) self.old < amount (key_of key.now) resources.now }
     {
         for resource in resources {
-            if !self.take(offers, key, amount_under(key, resource)) {
+            if !self.draw(offers, key, amount_under(key, resource)) {
                 return false;
             }
         }

@@ -117,7 +117,7 @@ fn offers_have_item<O: OfferList>(offers: &O, key: &Resource, item: &Text) -> bo
     ensures { result ≡ has_piece (key_of key.now) (item_piece item.now) (offered (O.offers offers.now)) }
 {
     for index in 0..offers.count() {
-        if resources_have_item(offers.at(index).resources.as_slice(), key, item) {
+        if resources_have_item(offers.get(index).resources.as_slice(), key, item) {
             return true;
         }
     }

@@ -114,7 +114,7 @@ impl Consumer<Vec<Entry>> for LogReading {
 
     ghost stops = { λ first start now to w piece stop. LogGathersLast first start.items now to.items w piece stop };
 
-    fn take(&mut self, piece: &[u8], entries: &mut Vec<Entry>) -> Result<(), LogStop> {
+    fn consume(&mut self, piece: &[u8], entries: &mut Vec<Entry>) -> Result<(), LogStop> {
         self.feed(piece, entries)
     }
 }

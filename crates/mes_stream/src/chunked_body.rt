@@ -36,7 +36,7 @@ impl<R: RecordReader> ChunkedBody<R> {
     }
 
     /// Takes short chunks, or bytes of the framing or a run of data, from the front of a piece.
-    pub(crate) fn take(&mut self, rest: &[u8]) -> Step<(), PackedFault>
+    pub(crate) fn consume(&mut self, rest: &[u8]) -> Step<(), PackedFault>
         requires { 0 < length rest.now }
         ensures reports { (ahead : ℕ) (w : List ℕ) (values : List R.Value) → ChunkedRepresents R.holds R.spells ahead self.old w values
             → Reports R.holds R.spells R.breaks ahead framing.Chunked (λ body. ChunkedRepresents R.holds R.spells ahead (record { chunks = self.new.chunks; body = body }))
@@ -55,7 +55,7 @@ impl<R: RecordReader> ChunkedBody<R> {
         } else {
             rest.len()
         };
-        let taken = self.body.take(&rest[..count]);
+        let taken = self.body.consume(&rest[..count]);
         self.chunks.pass(taken.used as u64);
         taken
     }

@@ -181,7 +181,7 @@ impl<R: RecordReader> Consumer<Vec<R::Value>> for Reading<R> {
 
     ghost stops = { λ first start now to w piece stop. GathersLast R.holds R.spells (IsRefused R.spells R.breaks) R.kept first start.items now to.items w piece stop };
 
-    fn take(&mut self, piece: &[u8], values: &mut Vec<R::Value>) -> Result<(), ReadingStop> {
+    fn consume(&mut self, piece: &[u8], values: &mut Vec<R::Value>) -> Result<(), ReadingStop> {
         self.feed(piece, values)
     }
 }

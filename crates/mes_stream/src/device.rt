@@ -19,7 +19,7 @@ pub trait Consumer<T> {
     ghost stops: { Self → T → Self → T → List ℕ → List ℕ → Self.Stop → Type 0 };
 
     /// Takes what one read gave.
-    fn take(&mut self, piece: &[u8], to: &mut T) -> Result<(), Self::Stop>
+    fn consume(&mut self, piece: &[u8], to: &mut T) -> Result<(), Self::Stop>
         requires some { 0 < length piece.now }
         requires most { length piece.now ≤ MAX_READ }
         ensures more { (first : Self) (start : T) (w : List ℕ) → goes first start self.old to.old w → OnOk result (goes first start self.new to.new (w ++ piece.now)) }
@@ -60,7 +60,7 @@ pub fn read_device<S: Source, T, C: Consumer<T>>(
         if taken == 0 {
             return ReadsEnd::AtEnd;
         }
-        if let Err(stop) = consumer.take(&buffer[..taken], to) {
+        if let Err(stop) = consumer.consume(&buffer[..taken], to) {
             return ReadsEnd::Stopped(stop);
         }
     }

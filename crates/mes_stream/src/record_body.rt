@@ -72,7 +72,7 @@ impl<R: RecordReader> Body<R> {
 
     /// Takes bytes of a size line or a run of data from the front of a run.
     #[inline(always)]
-    pub(crate) fn take(&mut self, run: &[u8]) -> Step<(), PackedFault>
+    pub(crate) fn consume(&mut self, run: &[u8]) -> Step<(), PackedFault>
         requires { 0 < length run.now }
         ensures reports { (ahead : ℕ) (b : List ℕ) (values : List R.Value) → BodyRepresents R.holds R.spells ahead self.old b values
             → Reports R.holds R.spells R.breaks ahead framing.Plain (BodyRepresents R.holds R.spells ahead) self.new (limit_of self.new.records) b values run.now result.used result.out }

@@ -162,7 +162,7 @@ impl<R: RecordReader> StreamReader<R> {
     }
 
     // Takes the front of a piece.
-    fn take(&mut self, piece: &[u8]) -> Step<(), PackedFault>
+    fn consume(&mut self, piece: &[u8]) -> Step<(), PackedFault>
         requires { 0 < length piece.now }
         ensures reports { (ahead : ℕ) (framing : FramingValue) (limit : ℕ) (w : List ℕ) (values : List R.Value) → StreamRepresents R.holds R.spells ahead self.old framing limit w values
             → Reports R.holds R.spells R.breaks ahead framing (λ body. StreamRepresents R.holds R.spells ahead (with_body self.new body) framing limit) (body_of self.new)
@@ -172,8 +172,8 @@ impl<R: RecordReader> StreamReader<R> {
         ensures used { (0 < result.used) × (result.used ≤ length piece.now) }
     {
         match self {
-            StreamReader::Plain(body) => body.take(piece),
-            StreamReader::Chunked(chunked) => chunked.take(piece),
+            StreamReader::Plain(body) => body.consume(piece),
+            StreamReader::Chunked(chunked) => chunked.consume(piece),
         }
     }
 
@@ -193,7 +193,7 @@ impl<R: RecordReader> StreamReader<R> {
     {
         let mut at = 0;
         while at < piece.len() {
-            let taken = self.take(&piece[at..]);
+            let taken = self.consume(&piece[at..]);
             at += taken.used;
             match taken.out {
                 Decoded::More => {}

@@ -76,7 +76,7 @@ impl<O: Sink> Consumer<O> for Follower {
 
     ghost stops = { λ first out now printed w piece stop. StopsFrom first (device_of O.written O.counts out) now (device_of O.written O.counts printed) w piece stop };
 
-    fn take(&mut self, piece: &[u8], out: &mut O) -> Result<(), FollowStop> {
+    fn consume(&mut self, piece: &[u8], out: &mut O) -> Result<(), FollowStop> {
         let fed = self.reading.feed(piece, &mut self.events);
         match print_events(
             self.detail,

@@ -18,19 +18,19 @@ returns-then-taken-eq0 g c =
     (g.C.Consumer.stops c.args.consumer.now c.args.to.now c.reads.consumer c.reads.to) (rw c.if-taken-eq0.true at c.in-Ok.ensures.bytes.0) (c.in-Ok.ensures.bytes.1 c.if-taken-eq0.true (omega (arith, c.fetch.auto.buffer, c.reads.invariant.0)))
     (rw c.if-taken-eq0.true at c.in-Ok.ensures.counted)
 
-pub returns-in-Err-take : goal.returns-in-Err-take
-returns-in-Err-take g c =
+pub returns-in-Err-consume : goal.returns-in-Err-consume
+returns-in-Err-consume g c =
     let r = c.reads.invariant.1 in
-    reads_stop (g.C.Consumer.goes c.args.consumer.now c.args.to.now c.reads.consumer c.reads.to) (g.C.Consumer.goes c.args.consumer.now c.args.to.now c.take.new.self c.take.new.to) (g.S.Source.left c.args.source.now) (g.S.Source.left c.reads.source) (g.S.Source.left c.fetch.new.self) (g.S.Source.counts c.args.source.now) (g.S.Source.counts c.reads.source) (g.S.Source.counts c.fetch.new.self)
+    reads_stop (g.C.Consumer.goes c.args.consumer.now c.args.to.now c.reads.consumer c.reads.to) (g.C.Consumer.goes c.args.consumer.now c.args.to.now c.consume.new.self c.consume.new.to) (g.S.Source.left c.args.source.now) (g.S.Source.left c.reads.source) (g.S.Source.left c.fetch.new.self) (g.S.Source.counts c.args.source.now) (g.S.Source.counts c.reads.source) (g.S.Source.counts c.fetch.new.self)
     c.reads.counter c.args.max_reads (length c.reads.buffer) c.reads.invariant.1 c.reads-test.true (omega (arith, c.reads.invariant.0))
-    (g.C.Consumer.stops c.args.consumer.now c.args.to.now c.take.new.self c.take.new.to) c.in-Ok.taken c.fetch.new.buffer c.in-Err-take.stop (omega (arith, c.if-taken-eq0.false)) c.in-Ok.ensures.within (omega (arith, c.fetch.auto.buffer, c.reads.invariant.0)) c.in-Ok.ensures.bytes.0 c.in-Ok.ensures.counted
-    (c.in-Err-take.ensures.stop c.args.consumer.now c.args.to.now r.w r.goes)
+    (g.C.Consumer.stops c.args.consumer.now c.args.to.now c.consume.new.self c.consume.new.to) c.in-Ok.taken c.fetch.new.buffer c.in-Err-consume.stop (omega (arith, c.if-taken-eq0.false)) c.in-Ok.ensures.within (omega (arith, c.fetch.auto.buffer, c.reads.invariant.0)) c.in-Ok.ensures.bytes.0 c.in-Ok.ensures.counted
+    (c.in-Err-consume.ensures.stop c.args.consumer.now c.args.to.now r.w r.goes)
 
 pub reads-preserved : goal.reads-preserved
 reads-preserved g c =
     let r = c.reads.invariant.1 in (
       c.fetch.auto.buffer ∙ c.reads.invariant.0,
-      reads_more (g.C.Consumer.goes c.args.consumer.now c.args.to.now c.reads.consumer c.reads.to) (g.C.Consumer.goes c.args.consumer.now c.args.to.now c.take.new.self c.take.new.to) (g.S.Source.left c.args.source.now) (g.S.Source.left c.reads.source) (g.S.Source.left c.fetch.new.self) (g.S.Source.counts c.args.source.now) (g.S.Source.counts c.reads.source) (g.S.Source.counts c.fetch.new.self)
+      reads_more (g.C.Consumer.goes c.args.consumer.now c.args.to.now c.reads.consumer c.reads.to) (g.C.Consumer.goes c.args.consumer.now c.args.to.now c.consume.new.self c.consume.new.to) (g.S.Source.left c.args.source.now) (g.S.Source.left c.reads.source) (g.S.Source.left c.fetch.new.self) (g.S.Source.counts c.args.source.now) (g.S.Source.counts c.reads.source) (g.S.Source.counts c.fetch.new.self)
           c.reads.counter c.args.max_reads (length c.reads.buffer) c.reads.invariant.1 c.reads-test.true (omega (arith, c.reads.invariant.0))
           c.in-Ok.taken c.fetch.new.buffer (omega (arith, c.if-taken-eq0.false)) c.in-Ok.ensures.within (omega (arith, c.fetch.auto.buffer, c.reads.invariant.0)) c.in-Ok.ensures.bytes.0 c.in-Ok.ensures.counted
           (c.in_default.ensures.more c.args.consumer.now c.args.to.now r.w r.goes),

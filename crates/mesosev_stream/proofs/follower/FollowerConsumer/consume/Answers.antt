@@ -1,7 +1,7 @@
 use Rattle.std.proofs.Common.{refl}
 use Rattle.mes_frame.specs.Devices.{device_of}
 use Rattle.mesosev_stream.proofs.FollowReads.{events_taken, follows_on, follows_to, follows_cut_off, follows_without}
-use Rattle.mesosev_stream.proofs.follower.FollowerConsumer.take.Goals as goal
+use Rattle.mesosev_stream.proofs.follower.FollowerConsumer.consume.Goals as goal
 
 pub returns-in-Err-clause-stop : goal.returns-in-Err-clause-stop
 returns-in-Err-clause-stop g c = λ first start w h.

@@ -1,7 +1,7 @@
 use Rattle.std.proofs.Common.{◌≡◌, ◌+◌}
 use Rattle.mes_session_fit.specs.Keys.{key_of}
 use Rattle.mes_session_fit.specs.Pouring.{rest, steps}
-use Rattle.mes_session_fit.proofs.supply.Supply.take.Given as goal
+use Rattle.mes_session_fit.proofs.supply.Supply.draw.Given as goal
 
 -- the amount taken so far and the rest are the original amount
 abbrev pub invariant-loop-self : goal.invariant-loop-self

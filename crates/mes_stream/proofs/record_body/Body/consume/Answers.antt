@@ -9,8 +9,8 @@ use Rattle.mes_stream.specs.declared.record_body.Body.{Body}
 use Rattle.mes_stream.specs.declared.record_error.RecordError.TheVariants as refusal
 use Rattle.mes_stream.specs.declared.stream_reader.Framing.TheVariants.{Plain}
 use Rattle.mes_stream.proofs.BodyLemmas.{take_take, data_live, data_next, size_live, stands_on, ends_as, whole_fits}
-use Rattle.mes_stream.proofs.record_body.Body.take.Goals as goal
-use Rattle.mes_stream.proofs.record_body.Body.take.Goals.{then-last, else-last}
+use Rattle.mes_stream.proofs.record_body.Body.consume.Goals as goal
+use Rattle.mes_stream.proofs.record_body.Body.consume.Goals.{then-last, else-last}
 
 pub returns-in-Size-clause-before : goal.returns-in-Size-clause-before
 returns-in-Size-clause-before g c = λ ahead b values s n first.
