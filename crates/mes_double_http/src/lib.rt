@@ -12,25 +12,24 @@
 //! ([`HeadFault`]). The tests check that a written call is read back. The crate `mes_double_master`
 //! has the master's state. The tests are in `mes_double_http_tests`.
 
-mod response_writer;
 mod body;
 mod call_writer;
+mod content_length;
 mod fault;
 mod fields;
 mod head;
 mod host;
-mod content_length;
 mod limits;
 mod lines;
 mod media_type;
 mod request;
 mod response;
+mod response_writer;
 mod rules;
 mod stream_id;
 mod target;
 mod theorems;
 
-pub use response_writer::{write_ok, write_status};
 pub use call_writer::write_call;
 pub use fault::HeadFault;
 pub use host::Host;
@@ -39,5 +38,6 @@ pub use limits::{
 };
 pub use request::{Request, read_request};
 pub use response::{read_answer, read_head};
+pub use response_writer::{write_ok, write_status};
 pub use stream_id::StreamId;
 pub use theorems::http_limits;

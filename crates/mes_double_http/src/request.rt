@@ -9,9 +9,9 @@ ghost use Rattle.mes_double_http.specs.Requests.{BreaksCall, IsCall, IsWholeCall
 ghost use Rattle.mes_double_http.specs.Stops.{IsRequestTaken};
 
 use crate::body::take_body;
+use crate::content_length::body_length;
 use crate::fault::HeadFault;
 use crate::head::take_request;
-use crate::content_length::body_length;
 use crate::limits::{MAX_BODY, MAX_FIELDS};
 use crate::rules::{is_json, stream_named};
 use crate::stream_id::StreamId;

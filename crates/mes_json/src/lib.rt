@@ -17,7 +17,9 @@
 //! RFC's grammar.
 
 mod byte_class;
+mod canonical_length;
 mod characters;
+mod container_lengths;
 mod copy;
 mod cursor;
 mod depth;
@@ -25,8 +27,6 @@ mod digits;
 mod equality;
 mod escape;
 mod fault;
-mod canonical_length;
-mod container_lengths;
 mod lexer;
 mod limits;
 mod literal;
@@ -39,7 +39,6 @@ mod number_text;
 mod plain_scan;
 mod push_error;
 mod push_run;
-mod whole_text;
 mod reader;
 mod reader_state;
 mod short_string;
@@ -54,17 +53,17 @@ mod utf8;
 mod value;
 mod value_kind;
 mod whitespace;
+mod whole_text;
 mod write;
 mod write_string;
 
+pub use canonical_length::text_length;
 pub use cursor::{Element, Items, Members};
 pub use fault::{ReadFault, TextFault, TextFaultKind};
-pub use canonical_length::text_length;
 pub use lexer::Lexer;
 pub use limits::{MAX_INLINE_TEXT, MAX_NESTING, MAX_REUSED_CAPACITY, MAX_TEXTS};
 pub use memory::{NoMemory, NoMemoryAt};
 pub use number_text::NumText;
-pub use whole_text::{read_tape, read_text};
 pub use tape::Tape;
 pub use text::Text;
 pub use theorems::{
@@ -72,5 +71,6 @@ pub use theorems::{
 };
 pub use value::Json;
 pub use value_kind::ValueKind;
+pub use whole_text::{read_tape, read_text};
 pub use write::write_text;
 pub use write_string::{hex_digit, write_str};

@@ -6,11 +6,11 @@ ghost use Rattle.mes_model_schema.specs.Binary.{base64_bytes};
 ghost use Rattle.mes_model_schema.specs.BinaryLaws.{lawful_base64_bytes};
 ghost use Rattle.mes_model_schema.specs.Kinds.{Returns};
 
-use crate::field::FieldFaultKind;
 use crate::base64_text::decoded;
-use crate::plain_values::text_in;
+use crate::field::FieldFaultKind;
 use crate::part::{Part, PartFault};
 use crate::path_builder::PathBuilder;
+use crate::plain_values::text_in;
 use crate::refusal::refusal_at;
 use base64::DecodeAllocError;
 use base64::engine::general_purpose::STANDARD;

@@ -20,32 +20,32 @@
 mod append;
 pub mod back;
 mod base64_blocks;
+mod base64_letters;
+mod base64_text;
 mod boxed;
 mod bytes;
 mod choice;
 mod field;
 pub mod first_fault;
 mod found_rows;
-mod base64_text;
 mod kept;
 mod label;
-mod plain_values;
-mod text_and_bool;
-mod base64_letters;
 mod limits;
 mod list;
 mod message;
 mod numbers;
-mod row_tuples;
 mod part;
 mod path;
 mod path_builder;
+mod plain_values;
 mod read_row;
 mod refusal;
 mod row;
 mod row_list;
 mod row_ref;
 mod row_ref_list;
+mod row_tuples;
+mod text_and_bool;
 mod theorems;
 mod typed;
 mod write_row;
@@ -61,7 +61,6 @@ pub use field::{FieldFault, FieldFaultKind};
 pub use found_rows::{Found, find_rows, nothing_found};
 pub use kept::Kept;
 pub use label::{Label, Labels};
-pub use plain_values::text_in;
 pub use limits::{MAX_PATH_NAME, MAX_PATH_STEPS, MAX_PATH_TEXT, MAX_ROWS};
 pub use list::List;
 pub use mes_fixed as fixed;
@@ -69,13 +68,10 @@ pub use mes_json as json;
 pub use message::{
     ConstructFrom, message_text, message_tree, read_message, read_typed, typed_text, typed_tree,
 };
-pub use row_tuples::{
-    Rows1, Rows2, Rows3, Rows4, Rows5, Rows6, Rows7, Rows8, Rows9, Rows10, Rows11, Rows12, Rows13,
-    Rows14, Rows15, Rows16,
-};
 pub use part::{Part, PartFault};
 pub use path::{Path, Step};
 pub use path_builder::PathBuilder;
+pub use plain_values::text_in;
 pub use read_row::{
     flagged, left_out, optional, read_either_list, read_items, repeated, required, type_of,
 };
@@ -84,6 +80,10 @@ pub use row::{Flag, OptionalRow, RepeatedRow, RequiredRow, Row};
 pub use row_list::RowList;
 pub use row_ref::{RequiredRowRef, RowRef};
 pub use row_ref_list::RowRefList;
+pub use row_tuples::{
+    Rows1, Rows2, Rows3, Rows4, Rows5, Rows6, Rows7, Rows8, Rows9, Rows10, Rows11, Rows12, Rows13,
+    Rows14, Rows15, Rows16,
+};
 pub use theorems::{
     either_list_reading_is_unique, either_list_returned, list_reading_is_unique, list_returned,
     most_steps, one_answer, part_limits, read_list, read_part, returned, value_returned,

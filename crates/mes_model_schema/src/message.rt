@@ -59,7 +59,11 @@ pub fn read_message<R: RowList, M: ConstructFrom<R::Values>, const N: usize>(
 }
 
 /// Builds the JSON object of a message from the values of its rows.
-pub fn message_tree<R: RowRefList>(alloc: Global, names: &[&str], rows: &R) -> Result<Json, NoMemory>
+pub fn message_tree<R: RowRefList>(
+    alloc: Global,
+    names: &[&str],
+    rows: &R,
+) -> Result<Json, NoMemory>
     requires { R.COUNT ≡ length names.now }
     // On success: the object of the members that the table writes.
     ensures tree { IfOk result (λ t. view t

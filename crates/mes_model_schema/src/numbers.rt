@@ -14,9 +14,9 @@ ghost use Rattle.mes_model_schema.specs.Kinds.{Returns};
 ghost use Rattle.mes_model_schema.specs.Parts.{Gives};
 
 use crate::field::FieldFaultKind;
-use crate::plain_values::number_in;
 use crate::part::{Part, PartFault};
 use crate::path_builder::PathBuilder;
+use crate::plain_values::number_in;
 use crate::refusal::refusal_at;
 use arrayvec::ArrayString;
 use itoa::Buffer;

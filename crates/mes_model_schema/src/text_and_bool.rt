@@ -4,9 +4,9 @@ ghost use Rattle.std.specs.Prelude.{◌≡◌};
 ghost use Rattle.mes_model_schema.specs.Leaves.{texts, booleans};
 ghost use Rattle.mes_model_schema.specs.KindLaws.{lawful_texts, lawful_booleans};
 
-use crate::plain_values::{boolean_in, text_in};
 use crate::part::{Part, PartFault};
 use crate::path_builder::PathBuilder;
+use crate::plain_values::{boolean_in, text_in};
 use mes_json::{Element, Json, NoMemory, Text, write_str};
 use std::alloc::Global;
 

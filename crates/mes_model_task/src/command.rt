@@ -3,8 +3,8 @@
 use mes_model_schema::back::message_reads_back;
 use mes_model_schema::json::{self, Element, NoMemory, Text};
 use mes_model_schema::{
-    ConstructFrom, List, OptionalRow, Part, PartFault, PathBuilder, RepeatedRow, RowList, RowRefList,
-    Rows3, made, message_text, message_tree, pairs, read_message,
+    ConstructFrom, List, OptionalRow, Part, PartFault, PathBuilder, RepeatedRow, RowList,
+    RowRefList, Rows3, made, message_text, message_tree, pairs, read_message,
 };
 use std::alloc::Global;
 

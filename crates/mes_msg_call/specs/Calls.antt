@@ -15,12 +15,12 @@ use Rattle.mes_msg_record.specs.Messages.{message_body, lawful_message_body}
 use Rattle.mes_msg_call_body.specs.CallBodies.{subscribe, accept, decline, kill, acknowledge, reconcile, shutdown, lawful_subscribe, lawful_accept, lawful_decline, lawful_kill, lawful_acknowledge, lawful_reconcile, lawful_shutdown}
 use Rattle.mes_msg_record.specs.declared.message.Message.{Message}
 use Rattle.mes_msg_call_body.specs.declared.subscribe.Subscribe.{Subscribe}
-use Rattle.mes_msg_call_body.specs.declared.call_bodies.Accept.{Accept}
-use Rattle.mes_msg_call_body.specs.declared.call_bodies.Decline.{Decline}
-use Rattle.mes_msg_call_body.specs.declared.call_bodies.Kill.{Kill}
-use Rattle.mes_msg_call_body.specs.declared.call_bodies.Acknowledge.{Acknowledge}
-use Rattle.mes_msg_call_body.specs.declared.call_bodies.Reconcile.{Reconcile}
-use Rattle.mes_msg_call_body.specs.declared.call_bodies.Shutdown.{Shutdown}
+use Rattle.mes_msg_call_body.specs.declared.accept.Accept.{Accept}
+use Rattle.mes_msg_call_body.specs.declared.decline.Decline.{Decline}
+use Rattle.mes_msg_call_body.specs.declared.kill.Kill.{Kill}
+use Rattle.mes_msg_call_body.specs.declared.acknowledge.Acknowledge.{Acknowledge}
+use Rattle.mes_msg_call_body.specs.declared.reconcile.Reconcile.{Reconcile}
+use Rattle.mes_msg_call_body.specs.declared.shutdown.Shutdown.{Shutdown}
 use Rattle.mes_msg_call.specs.declared.call.Call.{Call}
 use Rattle.mes_msg_call.specs.declared.call.Call.TheVariants as of
 

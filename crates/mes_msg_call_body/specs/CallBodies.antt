@@ -11,12 +11,12 @@ use Rattle.mes_model.specs.Ids.{id, lawful_id}
 use Rattle.mes_model.specs.Tasks.{task_ref, lawful_task_ref}
 use Rattle.mes_msg_call_body.specs.Operations.{operation, lawful_operation}
 use Rattle.mes_msg_call_body.specs.declared.subscribe.Subscribe.{Subscribe}
-use Rattle.mes_msg_call_body.specs.declared.call_bodies.Accept.{Accept}
-use Rattle.mes_msg_call_body.specs.declared.call_bodies.Decline.{Decline}
-use Rattle.mes_msg_call_body.specs.declared.call_bodies.Kill.{Kill}
-use Rattle.mes_msg_call_body.specs.declared.call_bodies.Acknowledge.{Acknowledge}
-use Rattle.mes_msg_call_body.specs.declared.call_bodies.Reconcile.{Reconcile}
-use Rattle.mes_msg_call_body.specs.declared.call_bodies.Shutdown.{Shutdown}
+use Rattle.mes_msg_call_body.specs.declared.accept.Accept.{Accept}
+use Rattle.mes_msg_call_body.specs.declared.decline.Decline.{Decline}
+use Rattle.mes_msg_call_body.specs.declared.kill.Kill.{Kill}
+use Rattle.mes_msg_call_body.specs.declared.acknowledge.Acknowledge.{Acknowledge}
+use Rattle.mes_msg_call_body.specs.declared.reconcile.Reconcile.{Reconcile}
+use Rattle.mes_msg_call_body.specs.declared.shutdown.Shutdown.{Shutdown}
 
 -- SUBSCRIBE has framework_info
 abbrev pub subscribe_layout : Layout Subscribe

@@ -1,7 +1,7 @@
 #![tactic(auto)]
 //! The bodies of the calls of the Apache Mesos v1 scheduler API in JSON.
 //!
-//! - `call_bodies`: the bodies, except MESSAGE (crate `mes_msg_record`).
+//! - a file for each body, except MESSAGE (crate `mes_msg_record`).
 //! - `operation`: the operations of ACCEPT; LAUNCH is the only one that is supported.
 //!
 //! Each body is read from a token tape, copied, and written as a JSON tree or as text. The crate
@@ -11,10 +11,20 @@
 //!
 //! Programs use the crate `mes_msg`. The tests are in `mes_msg_tests`.
 
-mod call_bodies;
+mod accept;
+mod acknowledge;
+mod decline;
+mod kill;
 mod operation;
+mod reconcile;
+mod shutdown;
 mod subscribe;
 
-pub use call_bodies::{Accept, Acknowledge, Decline, Kill, Reconcile, Shutdown};
+pub use accept::Accept;
+pub use acknowledge::Acknowledge;
+pub use decline::Decline;
+pub use kill::Kill;
 pub use operation::Operation;
+pub use reconcile::Reconcile;
+pub use shutdown::Shutdown;
 pub use subscribe::Subscribe;

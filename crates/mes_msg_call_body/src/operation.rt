@@ -1,4 +1,4 @@
-//! The operations on accepted offers. They are part of ACCEPT in `call_bodies.rt`.
+//! The operations on accepted offers. They are part of ACCEPT (`accept.rt`).
 ghost use Rattle.std.specs.Prelude.{◌≡◌, IfOk, OnOk};
 ghost use Rattle.mes_model_schema.specs.View.{view};
 ghost use Rattle.mes_model_schema.specs.Appended.{Appends, AppendsMembers};

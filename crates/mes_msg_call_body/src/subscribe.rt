@@ -1,4 +1,4 @@
-//! The body of SUBSCRIBE, with the rows of its table. The other bodies are in `call_bodies.rt`.
+//! The body of SUBSCRIBE, with the rows of its table. Each other body has a file of its own.
 
 use mes_model::FrameworkInfo;
 use mes_model_schema::back::message_reads_back;

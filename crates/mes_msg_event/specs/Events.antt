@@ -11,12 +11,12 @@ use Rattle.mes_msg_event_body.specs.Offer.{Offer}
 use Rattle.mes_msg_event_body.specs.Bodies.{subscribed, rescind, update, failure, error_body, lawful_subscribed, lawful_rescind, lawful_update, lawful_failure, lawful_error_body}
 use Rattle.mes_msg_event_body.specs.Offers.{offers, lawful_offers}
 use Rattle.mes_msg_record.specs.Messages.{message_body, lawful_message_body}
-use Rattle.mes_msg_event_body.specs.declared.bodies.Subscribed.{Subscribed}
-use Rattle.mes_msg_event_body.specs.declared.bodies.Rescind.{Rescind}
-use Rattle.mes_msg_event_body.specs.declared.bodies.Update.{Update}
+use Rattle.mes_msg_event_body.specs.declared.subscribed.Subscribed.{Subscribed}
+use Rattle.mes_msg_event_body.specs.declared.rescind.Rescind.{Rescind}
+use Rattle.mes_msg_event_body.specs.declared.update.Update.{Update}
 use Rattle.mes_msg_record.specs.declared.message.Message.{Message}
-use Rattle.mes_msg_event_body.specs.declared.bodies.Failure.{Failure}
-use Rattle.mes_msg_event_body.specs.declared.bodies.ErrorBody.{ErrorBody}
+use Rattle.mes_msg_event_body.specs.declared.failure.Failure.{Failure}
+use Rattle.mes_msg_event_body.specs.declared.error_body.ErrorBody.{ErrorBody}
 use Rattle.mes_msg_event.specs.declared.event.Event.{Event}
 use Rattle.mes_msg_event.specs.declared.event.Event.TheVariants as of
 use Rattle.mes_msg_record.specs.declared.record.RecordFault.{RecordFault}

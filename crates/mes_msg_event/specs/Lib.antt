@@ -1,8 +1,8 @@
-pub use Rattle.mes_msg_event_body.specs.declared.bodies.ErrorBody
-pub use Rattle.mes_msg_event_body.specs.declared.bodies.Failure
-pub use Rattle.mes_msg_event_body.specs.declared.bodies.Rescind
-pub use Rattle.mes_msg_event_body.specs.declared.bodies.Subscribed
-pub use Rattle.mes_msg_event_body.specs.declared.bodies.Update
+pub use Rattle.mes_msg_event_body.specs.declared.error_body.ErrorBody
+pub use Rattle.mes_msg_event_body.specs.declared.failure.Failure
+pub use Rattle.mes_msg_event_body.specs.declared.rescind.Rescind
+pub use Rattle.mes_msg_event_body.specs.declared.subscribed.Subscribed
+pub use Rattle.mes_msg_event_body.specs.declared.update.Update
 pub mod Canon
 pub mod Events
 pub mod FirstFaults

@@ -9,11 +9,11 @@ use Rattle.mes_model_schema.specs.Layouts.{Layout, needs, may_have, no_more, ◌
 use Rattle.mes_model_schema.specs.KindLaws.{lawful_texts}
 use Rattle.mes_model_resource.specs.Ids.{id, lawful_id}
 use Rattle.mes_model_task.specs.TaskStatuses.{task_status, lawful_task_status}
-use Rattle.mes_msg_event_body.specs.declared.bodies.Subscribed.{Subscribed}
-use Rattle.mes_msg_event_body.specs.declared.bodies.Rescind.{Rescind}
-use Rattle.mes_msg_event_body.specs.declared.bodies.Update.{Update}
-use Rattle.mes_msg_event_body.specs.declared.bodies.Failure.{Failure}
-use Rattle.mes_msg_event_body.specs.declared.bodies.ErrorBody.{ErrorBody}
+use Rattle.mes_msg_event_body.specs.declared.subscribed.Subscribed.{Subscribed}
+use Rattle.mes_msg_event_body.specs.declared.rescind.Rescind.{Rescind}
+use Rattle.mes_msg_event_body.specs.declared.update.Update.{Update}
+use Rattle.mes_msg_event_body.specs.declared.failure.Failure.{Failure}
+use Rattle.mes_msg_event_body.specs.declared.error_body.ErrorBody.{ErrorBody}
 
 -- SUBSCRIBED has framework_id, and optionally heartbeat_interval_seconds (in millionths)
 abbrev pub subscribed_layout : Layout Subscribed

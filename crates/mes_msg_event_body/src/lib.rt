@@ -1,7 +1,7 @@
 #![tactic(auto)]
 //! The bodies of the events of the Apache Mesos v1 scheduler API in JSON.
 //!
-//! - `bodies`: SUBSCRIBED, RESCIND, UPDATE, FAILURE and ERROR.
+//! - `subscribed`, `rescind`, `update`, `failure`, `error_body`: the body of that name.
 //! - `offers`: OFFERS.
 //! - `other_name`: the name of an event type whose body is not read.
 //!
@@ -12,10 +12,18 @@
 //!
 //! Programs use the crate `mes_msg`. The tests are in `mes_msg_tests`.
 
-mod bodies;
+mod error_body;
+mod failure;
 mod offers;
 mod other_name;
+mod rescind;
+mod subscribed;
+mod update;
 
-pub use bodies::{ErrorBody, Failure, Rescind, Subscribed, Update};
+pub use error_body::ErrorBody;
+pub use failure::Failure;
 pub use offers::{Offers, offers_read_back, offers_text, offers_tree};
 pub use other_name::OtherName;
+pub use rescind::Rescind;
+pub use subscribed::Subscribed;
+pub use update::Update;

@@ -1,4 +1,4 @@
-//! The body of OFFERS. The other bodies are in `bodies.rt`.
+//! The body of OFFERS. Each other body has a file of its own beside this one.
 ghost use Rattle.std.specs.Prelude.{◌≡◌, IfOk, OnOk};
 ghost use Rattle.mes_model_schema.specs.View.{view};
 ghost use Rattle.mes_model_schema.specs.Appended.{Appends};

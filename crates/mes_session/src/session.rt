@@ -11,7 +11,7 @@ use mes_json::NoMemory;
 use mes_model::{Id, Offer, OwedKey};
 use mes_model_schema::{List, Part};
 use mes_msg::{Call, Entry, Event, Rescind, Subscribed, Update};
-use mes_session_state::{CallCheck, OutstandingOffers, UpdateKeys, Refusal};
+use mes_session_state::{CallCheck, OutstandingOffers, Refusal, UpdateKeys};
 use std::alloc::Global;
 use std::marker::Model;
 

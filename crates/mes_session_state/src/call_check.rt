@@ -10,8 +10,8 @@ ghost use Rattle.mes_session_state.specs.Refusals.{IsOtherFramework, IsOtherSubs
 use crate::duplicates::{is_duplicated, task_is_duplicated};
 use crate::named_offers::{NamedOffers, missing, on_other_agent, two_agents};
 use crate::outstanding_offers::OutstandingOffers;
-use crate::update_keys::UpdateKeys;
 use crate::refusal::Refusal;
+use crate::update_keys::UpdateKeys;
 use mes_model::{Id, OwedKey, TaskInfo};
 use mes_msg::Call;
 use mes_session_fit::{TaskGroup, first_breach};

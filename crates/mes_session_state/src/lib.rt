@@ -14,13 +14,13 @@ mod call_check;
 mod duplicates;
 mod named_offers;
 mod outstanding_offers;
-mod update_keys;
 mod refusal;
 mod slot;
 mod theorems;
+mod update_keys;
 
 pub use call_check::CallCheck;
 pub use outstanding_offers::OutstandingOffers;
-pub use update_keys::UpdateKeys;
 pub use refusal::Refusal;
 pub use theorems::refusal_laws;
+pub use update_keys::UpdateKeys;

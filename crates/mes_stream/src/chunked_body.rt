@@ -7,11 +7,11 @@ ghost use Rattle.mes_stream.specs.Taking.{BodyRepresents, Reports};
 ghost use Rattle.mes_stream.specs.Decoding.{ChunkedRepresents, Gathers, LiveBefore};
 ghost use Rattle.mes_stream.specs.declared.stream_reader.Framing.TheVariants as framing;
 
-use crate::record_body::Body;
 use crate::limits::{MAX_GATHERED, MAX_SHORT_CHUNK};
 use crate::packed_fault::PackedFault;
-use crate::step::{Decoded, Step};
+use crate::record_body::Body;
 use crate::record_reader::RecordReader;
+use crate::step::{Decoded, Step};
 use arrayvec::ArrayVec;
 use mes_frame::{ChunkOut, ChunkState};
 use mes_json::NoMemoryAt;

@@ -10,9 +10,9 @@ ghost use Rattle.mes_msg.specs.Events.{Spells};
 
 use crate::event_reader::EventReader;
 use crate::fault::Fault;
-use crate::step::{Decoded, Step};
 use crate::record_error::RecordError;
 use crate::record_reader::RecordReader;
+use crate::step::{Decoded, Step};
 use crate::stream_reader::{Framing, StreamReader};
 use mes_frame::Limit;
 use std::alloc::Global;

@@ -2,7 +2,6 @@
 //! The event stream of the Apache Mesos v1 scheduler API, read to events or to the first fault: plain RecordIO or a chunked body,
 //! from a device or in pieces; and events written as such streams.
 
-mod record_body;
 mod chunked_body;
 mod counted_reader;
 mod decoder;
@@ -13,16 +12,16 @@ mod fault;
 mod limits;
 mod line;
 mod packed_fault;
-mod step;
+mod record_body;
 mod record_error;
 mod record_reader;
 mod send;
 mod send_fault_line;
+mod step;
 mod stream;
 mod stream_reader;
 mod theorems;
 
-pub use record_body::Body;
 pub use chunked_body::ChunkedBody;
 pub use counted_reader::{EndedRecord, Reading, ReadingStop};
 pub use decoder::{Decoder, RecordDecoder};
@@ -34,11 +33,12 @@ pub use limits::{MAX_COUNT_LINE, MAX_FAULT_LINE, MAX_READ, MAX_REST};
 pub use line::{count_line, fault_line, push_number, push_word};
 pub use mes_msg::{EncodeFaultKind, SendFault};
 pub use packed_fault::PackedFault;
-pub use step::{Decoded, Step};
+pub use record_body::Body;
 pub use record_error::RecordError;
 pub use record_reader::RecordReader;
 pub use send::{write_plain, write_stream};
 pub use send_fault_line::send_line;
+pub use step::{Decoded, Step};
 pub use stream::{read_events, read_plain, read_stream};
 pub use stream_reader::{Framing, StreamReader};
 pub use theorems::{

@@ -12,9 +12,9 @@ ghost use Rattle.mes_stream.specs.Taking.{BodyRepresents, Fronts, IsWithin, Repo
 ghost use Rattle.mes_stream.specs.declared.stream_reader.Framing.TheVariants as framing;
 
 use crate::packed_fault::PackedFault;
-use crate::step::{Decoded, Step};
 use crate::record_error::RecordError;
 use crate::record_reader::RecordReader;
+use crate::step::{Decoded, Step};
 use mes_frame::{FrameFault, Limit, RecordOut, RecordState};
 use mes_json::NoMemoryAt;
 

@@ -11,13 +11,13 @@ ghost use Rattle.mes_stream.specs.StreamReaders.{StreamRepresents, StreamFeeds, 
 ghost use Rattle.mes_stream.specs.Taking.{Ends, EndsInto, Reports};
 ghost use Rattle.mes_stream.specs.declared.stream_reader.Framing.{Framing as FramingValue};
 
-use crate::record_body::Body;
 use crate::chunked_body::ChunkedBody;
 use crate::fault::Fault;
 use crate::packed_fault::PackedFault;
-use crate::step::{Decoded, Step};
+use crate::record_body::Body;
 use crate::record_error::RecordError;
 use crate::record_reader::RecordReader;
+use crate::step::{Decoded, Step};
 use mes_frame::Limit;
 use std::convert::Infallible;
 

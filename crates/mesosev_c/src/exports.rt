@@ -6,10 +6,10 @@ ghost use Rattle.mesosev_c.specs.Exports.{AnswersCheck, AnswersNew, AnswersNext,
 ghost use Rattle.mesosev_c.specs.Inputs.{line_of, status_of, used_of};
 ghost use Rattle.mesosev_c.specs.Rooms.{with_text};
 
-use crate::option_numbers::parse_options;
+use crate::caller_buffer::put_text;
 use crate::calls::report_call;
 use crate::handle::{Handle, Slot};
-use crate::caller_buffer::put_text;
+use crate::option_numbers::parse_options;
 use crate::rows::Row;
 use crate::statuses::{NO_MEMORY, SUCCESS};
 use crate::text_decoder::{Batch, Reported, TextDecoder};

@@ -1,9 +1,9 @@
 //! Session logs: read, replayed and written.
 
-use crate::parsing::look_at;
 use crate::bytes::{Bytes, bytes_of};
 use crate::messages::{call_text, event_text};
 use crate::outcome::{Reported, refusal_behind};
+use crate::parsing::look_at;
 use crate::words::Words;
 use crate::writing::tell_sent;
 use mes_frame::{FromStd, MemorySource};

@@ -2,7 +2,6 @@
 //! answered. Where memory was refused, the line says so and the row is asked again; docs/FORMAT.md has the lines.
 #![tactic(auto)]
 
-mod parsing;
 mod bytes;
 mod heads;
 mod held;
@@ -13,19 +12,20 @@ mod messages;
 mod nesting;
 mod numbers;
 mod offers;
+mod outcome;
+mod parsing;
 mod pieces;
 mod rows;
 mod sessions;
 mod streams;
 mod texts;
-mod outcome;
 mod words;
 mod writing;
 
+use outcome::Reported;
 use rows::ROWS;
 use std::alloc::Global;
 use std::io;
-use outcome::Reported;
 use words::Words;
 
 fn main(rt: HostRuntime) -> io::Result<()> {

@@ -1,11 +1,11 @@
 //! A test master: what it answers and sends, and what it has then.
 
-use crate::parsing::{ask_twice, change, look_at};
 use crate::held::held_by_master;
 use crate::messages::{call_of, event_of, say_event};
+use crate::outcome::Reported;
+use crate::parsing::{ask_twice, change, look_at};
 use crate::streams::tell_events;
 use crate::texts::text_named;
-use crate::outcome::Reported;
 use crate::words::Words;
 use mes_double_http::StreamId;
 use mes_double_master::{Answer, Master, MasterRefusal};

@@ -1,7 +1,7 @@
 //! Events, calls and resources, read from their texts and written again.
 
-use crate::parsing::look_at;
 use crate::outcome::Reported;
+use crate::parsing::look_at;
 use crate::words::Words;
 use mes_model::{Part, Path, Resource};
 use mes_model_schema::json::{self, NoMemory, read_text, write_text};

@@ -1,9 +1,9 @@
 //! Chunked bodies that come in pieces.
 
-use crate::parsing::look_at;
 use crate::bytes::bytes_of;
 use crate::messages::say_event;
 use crate::outcome::{Reported, fault_behind};
+use crate::parsing::look_at;
 use crate::words::Words;
 use mes_msg::{Event, Limit};
 use mes_stream::{Decoded, Decoder, Fault, Step};

@@ -1,11 +1,11 @@
 //! Sessions: what they hear, the calls that they make, and what they hold then.
 
-use crate::parsing::{ask_twice, change, look_at};
 use crate::held::held_by_session;
 use crate::making::make;
 use crate::messages::{call_of, event_of, say_call};
-use crate::texts::text_named;
 use crate::outcome::Reported;
+use crate::parsing::{ask_twice, change, look_at};
+use crate::texts::text_named;
 use crate::words::Words;
 use mes_msg::{Call, Event};
 use mes_session::Session;

@@ -1,9 +1,9 @@
 //! Events, chunks, calls and heads that are written.
 
-use crate::parsing::look_at;
 use crate::bytes::{Bytes, bytes_of};
 use crate::messages::call_of;
 use crate::outcome::Reported;
+use crate::parsing::look_at;
 use crate::words::Words;
 use arrayvec::ArrayVec;
 use http::StatusCode;

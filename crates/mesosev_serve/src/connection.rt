@@ -5,8 +5,8 @@ ghost use Rattle.mes_frame.specs.Devices.{device_of};
 ghost use Rattle.mesosev_serve.specs.Lines.{Reports, is_answered, served_lines};
 
 use crate::lines::served_lines;
-use crate::response::Reply;
 use crate::request::ParsedRequest;
+use crate::response::Reply;
 use crate::response_writer::SendError;
 use mes_frame::{Sink, WriteFault, write_all};
 

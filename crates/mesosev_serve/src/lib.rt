@@ -5,13 +5,13 @@ mod connection;
 mod handshake;
 mod lines;
 mod outgoing;
-mod response;
-mod respond;
 mod request;
+mod respond;
+mod response;
+mod response_writer;
 mod serve;
 mod subscribing;
 mod theorems;
-mod response_writer;
 
 pub use connection::Served;
 pub use lines::WRITE_FAILED;

@@ -3,8 +3,8 @@
 ghost use Rattle.std.specs.Prelude.{◌≡◌, ◌≤◌, ◌++◌, length, codes};
 ghost use Rattle.mesosev_serve.specs.Lines.{served_line, served_lines};
 
-use crate::response::Reply;
 use crate::request::ParsedRequest;
+use crate::response::Reply;
 use crate::response_writer::SendError;
 use arrayvec::ArrayString;
 use itoa::Buffer;

@@ -9,8 +9,8 @@ ghost use Rattle.mesosev_serve.specs.Replying.{Replies, IsService, Lacks, reply_
 
 use crate::handshake::send_all;
 use crate::outgoing::Outgoing;
-use crate::response::Reply;
 use crate::request::ParsedRequest;
+use crate::response::Reply;
 use http::StatusCode;
 use mes_double_http::{HeadFault, StreamId};
 use mes_double_master::Master;

@@ -4,8 +4,8 @@ ghost use Rattle.mes_frame.specs.Devices.{device_of};
 ghost use Rattle.mesosev_serve.specs.Serving.{ServesOne};
 
 use crate::connection::{Served, report_served};
-use crate::respond::reply_to;
 use crate::request::ask;
+use crate::respond::reply_to;
 use crate::response_writer::write_reply;
 use mes_double_master::Master;
 use mes_frame::{Sink, Source, WriteFault};

@@ -246,7 +246,10 @@ fn lines_go_out_by_few_writes(rt: HostRuntime) -> Result<(), Fail> {
 /// Ends a run whose output failed behind 7 bytes, and asserts what this writer is told.
 fn expect_told_by<R: Abort>(rt: &R, closed: bool, err: &mut MemorySink, line: &str) {
     let status = finish(RunOutcome::OutputFailed(7), closed, err);
-    assert_eq!(rt; (as_text(err.bytes()), status), (Some(line), ExitStatus::Fault));
+    assert_eq!(rt;
+        (as_text(err.bytes()), status),
+        (Some(line), ExitStatus::Fault)
+    );
 }
 
 /// The same with a new writer.
@@ -284,7 +287,10 @@ fn expect_stopped_by<R: Abort + AllocGlobal>(
     line: &str,
 ) {
     let status = converted(rt.alloc(), out, err);
-    assert_eq!(rt; (as_text(out.bytes()), status), (as_text(front), ExitStatus::Fault));
+    assert_eq!(rt;
+        (as_text(out.bytes()), status),
+        (as_text(front), ExitStatus::Fault)
+    );
     assert_eq!(rt; as_text(err.bytes()), Some(line));
 }
 

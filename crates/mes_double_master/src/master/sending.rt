@@ -8,9 +8,7 @@ use super::Master;
 use crate::refusal::MasterRefusal;
 use mes_double_master_state::events;
 use mes_double_master_state::ids::{ids_of_offers, is_duplicate, put_new, reserve};
-use mes_double_master_state::updates::{
-    has_update, note, pending_at, record_update,
-};
+use mes_double_master_state::updates::{has_update, note, pending_at, record_update};
 use mes_json::{NoMemory, Text};
 use mes_model::{Id, Offer, TaskStatus};
 use mes_model_schema::Part;
