@@ -27,7 +27,8 @@ pub fn run_world(
     moves: &[Move],
 ) -> Result<World, NoMemory>
     // On success: the final world of the moves, whose course keeps all promises.
-    ensures ok { IfOk result (λ world. (c : Course) × IsCourse framework ids.items moves.now c × KeepsPromises c × (c.world ≡ world)) }
+    ensures ok { IfOk result (λ world. (c : Course) × IsCourse framework ids.items moves.now c
+        × KeepsPromises c × (c.world ≡ world)) }
     ensures memory { OnErr result (WantsMemory framework ids.items moves.now) }
 {
     let mut world = World::new(alloc, framework, ids);

@@ -18,23 +18,32 @@ use mes_session_state::refusal_laws;
 /// Each list of moves has exactly one course.
 pub fn world_laws()
     // Each list of moves has a course.
-    ensures some { (framework : Id) (ids : List (List ℕ)) (list : List Move) → (c : Course) × IsCourse framework ids list c }
+    ensures some { (framework : Id) (ids : List (List ℕ)) (list : List Move)
+        → (c : Course) × IsCourse framework ids list c }
     // Each list of moves has at most one course.
-    ensures one { (framework : Id) (ids : List (List ℕ)) (list : List Move) (c d : Course) → IsCourse framework ids list c → IsCourse framework ids list d → c ≡ d }
+    ensures one { (framework : Id) (ids : List (List ℕ)) (list : List Move) (c d : Course)
+        → IsCourse framework ids list c → IsCourse framework ids list d → c ≡ d }
     // Each acknowledged update was received.
-    ensures acked { (framework : Id) (ids : List (List ℕ)) (list : List Move) (c : Course) → IsCourse framework ids list c → AckedWereHeard c }
+    ensures acked { (framework : Id) (ids : List (List ℕ)) (list : List Move) (c : Course)
+        → IsCourse framework ids list c → AckedWereHeard c }
     // No task is launched twice.
-    ensures launched { (framework : Id) (ids : List (List ℕ)) (list : List Move) (c : Course) → IsCourse framework ids list c → LaunchedOnce c }
+    ensures launched { (framework : Id) (ids : List (List ℕ)) (list : List Move) (c : Course)
+        → IsCourse framework ids list c → LaunchedOnce c }
     // No offer is taken twice.
-    ensures taken { (framework : Id) (ids : List (List ℕ)) (list : List Move) (c : Course) → IsCourse framework ids list c → TakenOnce c }
+    ensures taken { (framework : Id) (ids : List (List ℕ)) (list : List Move) (c : Course)
+        → IsCourse framework ids list c → TakenOnce c }
     // The tasks of a call fit the offers it took.
-    ensures fits { (framework : Id) (ids : List (List ℕ)) (list : List Move) (c : Course) → IsCourse framework ids list c → WhatRanFits c }
+    ensures fits { (framework : Id) (ids : List (List ℕ)) (list : List Move) (c : Course)
+        → IsCourse framework ids list c → WhatRanFits c }
     // A repeated call changes nothing.
-    ensures again { (framework : Id) (ids : List (List ℕ)) (list : List Move) (c : Course) → IsCourse framework ids list c → AgainMovesNothing c }
+    ensures again { (framework : Id) (ids : List (List ℕ)) (list : List Move) (c : Course)
+        → IsCourse framework ids list c → AgainMovesNothing c }
     // On a current stream the session's offers are the outstanding ones without those in transit.
-    ensures agrees { (framework : Id) (ids : List (List ℕ)) (list : List Move) (c : Course) → IsCourse framework ids list c → HandAgrees c }
+    ensures agrees { (framework : Id) (ids : List (List ℕ)) (list : List Move) (c : Course)
+        → IsCourse framework ids list c → HandAgrees c }
     // With nothing in transit, the session's offers are the outstanding ones.
-    ensures same { (framework : Id) (ids : List (List ℕ)) (list : List Move) (c : Course) → IsCourse framework ids list c → AllAgrees c }
+    ensures same { (framework : Id) (ids : List (List ℕ)) (list : List Move) (c : Course)
+        → IsCourse framework ids list c → AllAgrees c }
 {
     refusal_laws();
 }

@@ -18,7 +18,8 @@ pub(crate) fn take_body<S: Source>(
 ) -> Result<Vec<u8>, HeadFault>
     ensures { (taken : List ℕ) × Consumes (S.left reader.old) (S.left reader.new) taken
         × MatchResult result
-        (λ body. (body.items ≡ taken) × (length taken ≡ size) × AllGive (S.counts reader.old) (S.counts reader.new))
+        (λ body. (body.items ≡ taken) × (length taken ≡ size)
+        × AllGive (S.counts reader.old) (S.counts reader.new))
         (λ f. StopsBody size f taken (S.counts reader.old) (S.counts reader.new)) }
 {
     let mut body = Vec::new(alloc);
@@ -36,7 +37,8 @@ fn take_part<S: Source>(reader: &mut S, left: usize, body: &mut Vec<u8>) -> Resu
     requires { 0 < left }
     ensures { (part : List ℕ) × Consumes (S.left reader.old) (S.left reader.new) part
         × MatchResult result
-        (λ _. (body.new.items ≡ body.old.items ++ part) × (0 < length part) × (length part ≤ left) × AllGive (S.counts reader.old) (S.counts reader.new))
+        (λ _. (body.new.items ≡ body.old.items ++ part) × (0 < length part) × (length part ≤ left)
+        × AllGive (S.counts reader.old) (S.counts reader.new))
         (λ f. StopsPart left f part (S.counts reader.old) (S.counts reader.new)) }
 {
     let mut buffer = [0; MAX_BODY_READ];

@@ -25,11 +25,13 @@ pub fn write_call<W: Sink>(
     requires greatest { length host.now ≤ MAX_HOST }
     requires visible { All IsVisible host.now }
     // On success: the call fits, and the whole request is written.
-    ensures ok { OnOk result (WroteCall W.written W.counts host.now (option_map (λ id. id.now) stream.entry) call.now writer.old writer.new) }
+    ensures ok { OnOk result (WroteCall W.written W.counts host.now
+        (option_map (λ id. id.now) stream.entry) call.now writer.old writer.new) }
 
     // Each error: the call does not fit, or out of memory; the writer was not called. Or the writer
     // stopped after the first `sent` bytes.
-    ensures err { IfErr result (StopsCall W.written W.counts host.now (option_map (λ id. id.now) stream.entry) call.now writer.old writer.new) }
+    ensures err { IfErr result (StopsCall W.written W.counts host.now
+        (option_map (λ id. id.now) stream.entry) call.now writer.old writer.new) }
 {
     let request = request_of(alloc, host, stream, call)?;
     write_all(writer, request.as_slice())?;
@@ -42,7 +44,8 @@ fn request_of(
     stream: Option<&StreamId>,
     call: &Call,
 ) -> Result<Vec<u8>, SendFault>
-    ensures ok { IfOk result (λ bytes. bytes.items ≡ call_bytes host.now (option_map (λ id. id.now) stream.entry) call.now) }
+    ensures ok { IfOk result (λ bytes. bytes.items
+        ≡ call_bytes host.now (option_map (λ id. id.now) stream.entry) call.now) }
     ensures good { IfOk result (λ _. IsGoodCall call.now) }
     ensures err { IfErr result (IsUnmade call.now) }
 {
@@ -80,7 +83,9 @@ fn request_bytes(
     stream: Option<&StreamId>,
     body: &[u8],
 ) -> Result<Vec<u8>, AllocError>
-    ensures { IfOk result (λ bytes. bytes.items ≡ call_head host.now (option_map (λ id. id.now) stream.entry) (length body.now) ++ body.now) }
+    ensures { IfOk result (λ bytes. bytes.items
+        ≡ call_head host.now (option_map (λ id. id.now) stream.entry) (length body.now)
+        ++ body.now) }
 {
     let mut bytes = Vec::new(alloc);
     push_front(&mut bytes, host)?;
@@ -102,7 +107,8 @@ fn push_front(bytes: &mut Vec<u8>, host: &str) -> Result<(), AllocError>
 
 /// Appends the line with the stream id, if given.
 fn push_stream(bytes: &mut Vec<u8>, stream: Option<&StreamId>) -> Result<(), AllocError>
-    ensures { OnOk result (bytes.new.items ≡ bytes.old.items ++ stream_line (option_map (λ id. id.now) stream.entry)) }
+    ensures { OnOk result (bytes.new.items
+        ≡ bytes.old.items ++ stream_line (option_map (λ id. id.now) stream.entry)) }
 {
     match stream {
         Some(id) => push_stream_line(bytes, id.as_str()),

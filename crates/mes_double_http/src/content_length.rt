@@ -14,7 +14,8 @@ pub(crate) fn body_length(bytes: &[u8], headers: &[HeaderSpan]) -> Option<u32>
     requires { All (IsHeaderWithin (length bytes.now)) headers.now }
     ensures { MatchOption result
         ((n : ℕ) → ReportsLength (map (header_bytes bytes.now) headers.now) n → ⊥)
-        (λ reported. (n : ℕ) × ReportsLength (map (header_bytes bytes.now) headers.now) n × (reported ≡ min n (MAX_BODY + 1))) }
+        (λ reported. (n : ℕ) × ReportsLength (map (header_bytes bytes.now) headers.now) n
+        × (reported ≡ min n (MAX_BODY + 1))) }
 {
     match find_field(bytes, headers, b"transfer-encoding") {
         Named::Nothing => {}
@@ -28,7 +29,8 @@ pub(crate) fn body_length(bytes: &[u8], headers: &[HeaderSpan]) -> Option<u32>
 
 /// Returns the number of a Content-Length, or `MAX_BODY + 1` for any larger one.
 fn length_of(value: &[u8]) -> Option<u32>
-    ensures { MatchOption result ((n : ℕ) → IsLength value.now n → ⊥) (λ reported. (n : ℕ) × IsLength value.now n × (reported ≡ min n (MAX_BODY + 1))) }
+    ensures { MatchOption result ((n : ℕ) → IsLength value.now n
+        → ⊥) (λ reported. (n : ℕ) × IsLength value.now n × (reported ≡ min n (MAX_BODY + 1))) }
 {
     if value.is_empty() || value.len() > MAX_LENGTH_DIGITS {
         return None;

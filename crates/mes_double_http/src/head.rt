@@ -47,8 +47,10 @@ pub(crate) fn take_response<S: Source>(
 ) -> Result<ResponseSpans, HeadStop>
     ensures took { Consumes (S.left reader.old) (S.left reader.new) taken.new.items }
     ensures ok { IfOk result (IsResponseTaken taken.new.items headers.new) }
-    ensures ok_counts { IfOk result (λ _. GaveEach (length taken.new.items) (S.counts reader.old) (S.counts reader.new)) }
-    ensures err { IfErr result (λ stop. StopsResponse stop taken.new.items (S.counts reader.old) (S.counts reader.new)) }
+    ensures ok_counts { IfOk result
+        (λ _. GaveEach (length taken.new.items) (S.counts reader.old) (S.counts reader.new)) }
+    ensures err { IfErr result (λ stop. StopsResponse stop taken.new.items (S.counts reader.old)
+        (S.counts reader.new)) }
 {
     taken.clear();
     while taken.len() < MAX_HEAD {
@@ -77,7 +79,8 @@ pub(crate) fn take_request<S: Source>(
     ensures took { Consumes (S.left reader.old) (S.left reader.new) taken.new.items }
     ensures ok { IfOk result (IsRequestTaken taken.new.items headers.new) }
     ensures ok_counts { IfOk result (λ _. AllGive (S.counts reader.old) (S.counts reader.new)) }
-    ensures err { IfErr result (λ stop. StopsRequest stop taken.new.items (S.counts reader.old) (S.counts reader.new)) }
+    ensures err { IfErr result (λ stop. StopsRequest stop taken.new.items (S.counts reader.old)
+        (S.counts reader.new)) }
 {
     taken.clear();
     while taken.len() < MAX_HEAD {
@@ -102,7 +105,8 @@ pub(crate) fn take_request<S: Source>(
 }
 
 fn take_byte<S: Source>(reader: &mut S) -> Result<u8, HeadStop>
-    ensures ok { IfOk result (λ byte. Consumes (S.left reader.old) (S.left reader.new) (byte ∷ [])) }
+    ensures ok { IfOk result (λ byte. Consumes (S.left reader.old) (S.left reader.new) (byte
+        ∷ [])) }
     ensures ok_counts { IfOk result (λ _. GaveEach 1 (S.counts reader.old) (S.counts reader.new)) }
     ensures err { IfErr result (λ stop. Consumes (S.left reader.old) (S.left reader.new) []
         × StopsByte stop (S.counts reader.old) (S.counts reader.new)) }

@@ -42,7 +42,8 @@ pub fn read_request<S: Source>(alloc: Global, reader: &mut S) -> Result<Request,
     // On success: exactly a valid head and its body were read. Each error: the first fault.
     ensures { (taken : List ℕ) × Consumes (S.left reader.old) (S.left reader.new) taken
         × MatchResult result
-        (λ request. IsWholeCall taken request.stream request.body.items × AllGive (S.counts reader.old) (S.counts reader.new))
+        (λ request. IsWholeCall taken request.stream request.body.items
+        × AllGive (S.counts reader.old) (S.counts reader.new))
         (λ f. RefusesCall f taken (S.counts reader.old) (S.counts reader.new)) }
 {
     let announced = take_announced(reader)?;
@@ -58,7 +59,8 @@ pub fn read_request<S: Source>(alloc: Global, reader: &mut S) -> Result<Request,
 fn take_announced<S: Source>(reader: &mut S) -> Result<Announced, HeadFault>
     ensures { (taken : List ℕ) × Consumes (S.left reader.old) (S.left reader.new) taken
         × MatchResult result
-        (λ a. (h : RequestHead) × IsRequest taken h × IsCall h a.length a.stream × AllGive (S.counts reader.old) (S.counts reader.new))
+        (λ a. (h : RequestHead) × IsRequest taken h × IsCall h a.length a.stream
+        × AllGive (S.counts reader.old) (S.counts reader.new))
         (λ f. RefusesCall f taken (S.counts reader.old) (S.counts reader.new)) }
 {
     let mut taken = ArrayVec::new();
@@ -76,7 +78,8 @@ fn announced_by(
     head: &RequestSpans,
 ) -> Result<Announced, HeadFault>
     requires { IsRequestTaken taken.now headers.now head.now }
-    ensures { (h : RequestHead) × IsRequest taken.now h × MatchResult result (λ a. IsCall h a.length a.stream) (λ f. BreaksCall f h) }
+    ensures { (h : RequestHead) × IsRequest taken.now h
+        × MatchResult result (λ a. IsCall h a.length a.stream) (λ f. BreaksCall f h) }
 {
     if head.path.of(taken) != b"/api/v1/scheduler".as_slice() {
         return Err(HeadFault::WrongPath);

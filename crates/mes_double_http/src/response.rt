@@ -29,7 +29,8 @@ pub fn read_head<S: Source>(reader: &mut S) -> Result<StreamId, HeadFault>
     // On success: exactly a valid head was read, a byte per call. Each error: the first fault.
     ensures { (taken : List ℕ) × Consumes (S.left reader.old) (S.left reader.new) taken
         × MatchResult result
-        (λ id. OpensStream taken id × GaveEach (length taken) (S.counts reader.old) (S.counts reader.new))
+        (λ id. OpensStream taken id × GaveEach (length taken) (S.counts reader.old)
+        (S.counts reader.new))
         (λ f. Refuses BreaksStream f taken (S.counts reader.old) (S.counts reader.new)) }
 {
     let mut taken = ArrayVec::new();
@@ -64,7 +65,8 @@ fn stream_opened(
     head: &ResponseSpans,
 ) -> Result<StreamId, HeadFault>
     requires { IsResponseTaken taken.now headers.now head.now }
-    ensures { (h : ResponseHead) × IsResponse taken.now h × MatchResult result (IsOkStream h) (λ f. BreaksStream f h) }
+    ensures { (h : ResponseHead) × IsResponse taken.now h
+        × MatchResult result (IsOkStream h) (λ f. BreaksStream f h) }
 {
     let fields = &headers[..head.headers];
     expect_status(head.code, OK)?;

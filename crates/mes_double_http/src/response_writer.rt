@@ -16,7 +16,8 @@ use mes_frame::{Sink, WriteFault, write_all};
 /// id. Does not allocate.
 pub fn write_ok<W: Sink>(writer: &mut W, id: &StreamId) -> Result<(), WriteFault>
     // On success: the head is written, and no call of the writer failed or accepted 0 bytes.
-    ensures ok { OnOk result (Appends (W.written writer.old) (W.written writer.new) (ok_text id.now)) }
+    ensures ok { OnOk result (Appends (W.written writer.old) (W.written writer.new)
+        (ok_text id.now)) }
     ensures ok_counts { OnOk result (NoneFails (W.counts writer.old) (W.counts writer.new)) }
 
     // Each error: the first `sent` bytes are written, and one call of the writer failed as `why`
@@ -24,7 +25,8 @@ pub fn write_ok<W: Sink>(writer: &mut W, id: &StreamId) -> Result<(), WriteFault
     ensures err { IfErr result (λ f. (f.sent < length (ok_text id.now))
         × Appends (W.written writer.old) (W.written writer.new) (take f.sent (ok_text id.now))) }
     // Exactly one call failed, or accepted 0 bytes.
-    ensures err_counts { IfErr result (λ f. StopsWrite f.why (W.counts writer.old) (W.counts writer.new)) }
+    ensures err_counts { IfErr result
+        (λ f. StopsWrite f.why (W.counts writer.old) (W.counts writer.new)) }
     ensures calls { CallsFor (length (ok_text id.now)) (W.counts writer.old) (W.counts writer.new) }
 {
     let head = ok_head(id.as_str());
@@ -34,17 +36,21 @@ pub fn write_ok<W: Sink>(writer: &mut W, id: &StreamId) -> Result<(), WriteFault
 /// Writes the head of a response with this status and no body. Does not allocate.
 pub fn write_status<W: Sink>(writer: &mut W, status: StatusCode) -> Result<(), WriteFault>
     // On success: the head is written, and no call of the writer failed or accepted 0 bytes.
-    ensures ok { OnOk result (Appends (W.written writer.old) (W.written writer.new) (status_text status)) }
+    ensures ok { OnOk result (Appends (W.written writer.old) (W.written writer.new)
+        (status_text status)) }
     ensures ok_counts { OnOk result (NoneFails (W.counts writer.old) (W.counts writer.new)) }
 
     // Each error: the first `sent` bytes are written, and one call of the writer failed as `why`
     // states.
     ensures err { IfErr result (λ f. (f.sent < length (status_text status))
-        × Appends (W.written writer.old) (W.written writer.new) (take f.sent (status_text status))) }
+        × Appends (W.written writer.old) (W.written writer.new)
+        (take f.sent (status_text status))) }
     // Exactly one call failed, or accepted 0 bytes.
-    ensures err_counts { IfErr result (λ f. StopsWrite f.why (W.counts writer.old) (W.counts writer.new)) }
+    ensures err_counts { IfErr result
+        (λ f. StopsWrite f.why (W.counts writer.old) (W.counts writer.new)) }
     // The number of calls is bounded by the length of the head.
-    ensures calls { CallsFor (length (status_text status)) (W.counts writer.old) (W.counts writer.new) }
+    ensures calls { CallsFor (length (status_text status)) (W.counts writer.old)
+        (W.counts writer.new) }
 {
     let head = status_head(status);
     write_all(writer, head.as_str().as_bytes())

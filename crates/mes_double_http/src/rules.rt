@@ -42,7 +42,8 @@ pub(crate) fn stream_named(
 ) -> Result<Option<StreamId>, HeadFault>
     requires { All (IsHeaderWithin (length bytes.now)) headers.now }
     ensures { MatchResult result (MayNameStream (map (header_bytes bytes.now) headers.now))
-        (λ f. (f ≡ NoStreamId) × ((id : Option (List ℕ)) → MayNameStream (map (header_bytes bytes.now) headers.now) id → ⊥)) }
+        (λ f. (f ≡ NoStreamId) × ((id : Option (List ℕ))
+        → MayNameStream (map (header_bytes bytes.now) headers.now) id → ⊥)) }
 {
     match find_field(bytes, headers, b"mesos-stream-id") {
         Named::Nothing => Ok(None),
@@ -57,7 +58,8 @@ pub(crate) fn stream_named(
 /// Returns the stream id, if there is exactly one and it is valid.
 pub(crate) fn stream_required(bytes: &[u8], headers: &[HeaderSpan]) -> Option<StreamId>
     requires { All (IsHeaderWithin (length bytes.now)) headers.now }
-    ensures { MatchOption result ((id : List ℕ) → NamesStream (map (header_bytes bytes.now) headers.now) id → ⊥)
+    ensures { MatchOption result ((id : List ℕ)
+        → NamesStream (map (header_bytes bytes.now) headers.now) id → ⊥)
         (NamesStream (map (header_bytes bytes.now) headers.now)) }
 {
     match stream_named(bytes, headers) {

@@ -18,7 +18,8 @@ pub(crate) fn ends_in_target(taken: &[u8]) -> bool
 fn after_space(taken: &[u8]) -> Option<&[u8]>
     ensures { MatchOption result
         (AllPass is_no_space taken.now)
-        (λ rest. (front : List ℕ) × (taken.now ≡ front ++ space ∷ rest.now) × AllPass is_no_space front) }
+        (λ rest. (front : List ℕ) × (taken.now ≡ front ++ space ∷ rest.now)
+        × AllPass is_no_space front) }
 {
     match space_in(taken) {
         Some(place) => Some(&taken[place + 1..]),

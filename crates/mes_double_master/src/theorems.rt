@@ -15,13 +15,19 @@ ghost use Rattle.mes_double_master.specs.Runs.{Deed, past_of, LaunchedOnce, Take
 /// - if the tasks of a call fit the offers that it takes, the launched tasks do too.
 pub fn master_laws()
     // No task is launched twice.
-    ensures launched { (framework : Id) (ids : List (List ℕ)) (deeds : List Deed) → LaunchedOnce (past_of framework ids deeds) }
+    ensures launched { (framework : Id) (ids : List (List ℕ)) (deeds : List Deed)
+        → LaunchedOnce (past_of framework ids deeds) }
     // No offer is taken twice.
-    ensures taken { (framework : Id) (ids : List (List ℕ)) (deeds : List Deed) → TakenOnce (past_of framework ids deeds) }
+    ensures taken { (framework : Id) (ids : List (List ℕ)) (deeds : List Deed)
+        → TakenOnce (past_of framework ids deeds) }
     // A repeated call changes nothing.
-    ensures again { (m : MasterState) (call : Call) (given : option (List ℕ)) → (handled m call given).status ≡ 202
-        → (handled (handled m call given).master call given).master ≡ (handled m call given).master }
+    ensures again { (m : MasterState) (call : Call) (given : option (List ℕ))
+        → (handled m call given).status ≡ 202
+        → (handled (handled m call given).master call given).master
+        ≡ (handled m call given).master }
     // The launched tasks fit the offers taken, in any order.
-    ensures fits { (m : MasterState) (call : Call) (given : option (List ℕ)) (offers : List Offer) → IsPermutation offers (handled m call given).took
-        → Fits offers (tasks_of call) → Fits (handled m call given).took (handled m call given).ran }
+    ensures fits { (m : MasterState) (call : Call) (given : option (List ℕ)) (offers : List Offer)
+        → IsPermutation offers (handled m call given).took
+        → Fits offers (tasks_of call) → Fits (handled m call given).took
+        (handled m call given).ran }
 {}

@@ -58,7 +58,8 @@ fn reconciled(alloc: Global, status: &TaskStatus) -> Result<Event, NoMemory>
 
 /// Returns such an UPDATE of the last status of each task.
 fn reconciled_all(alloc: Global, latest: &IndexMap<Id, TaskStatus>) -> Result<Vec<Event>, NoMemory>
-    ensures { IfOk result (λ events. events.items ≡ map reconciled_event (values_of latest.now.entries)) }
+    ensures { IfOk result (λ events. events.items
+        ≡ map reconciled_event (values_of latest.now.entries)) }
 {
     let mut events = Vec::new(alloc);
     for index in 0..latest.len() {
@@ -77,7 +78,9 @@ fn push_reconciled(
     latest: &IndexMap<Id, TaskStatus>,
     task: &TaskRef,
 ) -> Result<(), NoMemory>
-    ensures { OnOk result (events.new.items ≡ events.old.items ++ map reconciled_event (filter_map (last_of latest.now.entries) (task.now ∷ []))) }
+    ensures { OnOk result (events.new.items
+        ≡ events.old.items ++ map reconciled_event
+        (filter_map (last_of latest.now.entries) (task.now ∷ []))) }
 {
     let Some(status) = latest.get(&task.task_id) else {
         return Ok(());
@@ -92,7 +95,8 @@ fn reconciled_of(
     latest: &IndexMap<Id, TaskStatus>,
     tasks: &[TaskRef],
 ) -> Result<Vec<Event>, NoMemory>
-    ensures { IfOk result (λ events. events.items ≡ map reconciled_event (filter_map (last_of latest.now.entries) tasks.now)) }
+    ensures { IfOk result (λ events. events.items
+        ≡ map reconciled_event (filter_map (last_of latest.now.entries) tasks.now)) }
 {
     let mut events = Vec::new(alloc);
     for task in tasks {
@@ -108,7 +112,8 @@ pub fn reconcile(
     tasks: &[TaskRef],
 ) -> Result<Vec<Event>, NoMemory>
     // On success: the last statuses that the RECONCILE asks for, without UUIDs.
-    ensures { IfOk result (λ events. events.items ≡ map reconciled_event (asked_for latest.now.entries tasks.now)) }
+    ensures { IfOk result (λ events. events.items
+        ≡ map reconciled_event (asked_for latest.now.entries tasks.now)) }
 {
     if tasks.is_empty() {
         reconciled_all(alloc, latest)

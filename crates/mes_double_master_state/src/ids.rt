@@ -22,7 +22,8 @@ fn has_id(offers: &[Offer], id: &Id) -> bool
 
 /// Returns whether an offer's identifier was used before or is used by a later offer.
 fn is_repeated(offered: &IndexSet<Id>, offer: &Offer, following: &[Offer]) -> bool
-    ensures { result ≡ (is_among offer.now.id offered.now.keys || is_among offer.now.id (offer_ids following.now)) }
+    ensures { result ≡ (is_among offer.now.id offered.now.keys || is_among offer.now.id
+        (offer_ids following.now)) }
 {
     offered.contains(&offer.id) || has_id(following, &offer.id)
 }
@@ -119,7 +120,9 @@ pub fn launch(
     operations: &[Operation],
 ) -> Result<(), NoMemory>
     // On success: the identifiers of the new tasks are appended.
-    ensures ok { OnOk result (known.new.keys ≡ known.old.keys ++ ids_of (new_tasks known.old.keys (launched launched_by operations.now))) }
+    ensures ok { OnOk result (known.new.keys
+        ≡ known.old.keys ++ ids_of (new_tasks known.old.keys
+        (launched launched_by operations.now))) }
     ensures err { OnErr result (known.new.keys ≡ known.old.keys) }
 {
     let ids = task_ids(alloc, operations)?;

@@ -40,7 +40,8 @@ pub fn note(
     status: &TaskStatus,
 ) -> Result<(), NoMemory>
     // On success: the status replaces the last one of its task, or is appended.
-    ensures ok { OnOk result (latest.new.entries ≡ insert_entry same_id latest.old.entries status.now.task_id status.now) }
+    ensures ok { OnOk result (latest.new.entries
+        ≡ insert_entry same_id latest.old.entries status.now.task_id status.now) }
     ensures err { OnErr result (latest.new.entries ≡ latest.old.entries) }
 {
     let task = status.task_id.copy(alloc)?;
@@ -93,10 +94,12 @@ pub fn record_update(
 ) -> Result<(), NoMemory>
     requires { has_update owing.old.entries key ≡ false }
     // On success: the status replaces the last one of its task, or is appended.
-    ensures latest { OnOk result (latest.new.entries ≡ insert_entry same_id latest.old.entries status.now.task_id status.now) }
+    ensures latest { OnOk result (latest.new.entries
+        ≡ insert_entry same_id latest.old.entries status.now.task_id status.now) }
     ensures owing { OnOk result (owing.new.entries ≡ owing.old.entries ++ (key, status.now) ∷ []) }
     // Each error: nothing is changed.
-    ensures err { OnErr result ((latest.new.entries ≡ latest.old.entries) × (owing.new.entries ≡ owing.old.entries)) }
+    ensures err { OnErr result ((latest.new.entries ≡ latest.old.entries)
+        × (owing.new.entries ≡ owing.old.entries)) }
 {
     let copied = status.copy(alloc)?;
     reserve_one(owing)?;
@@ -112,7 +115,8 @@ pub fn pending_at<'a>(
     index: usize,
 ) -> Option<&'a TaskStatus>
     // The update at the index among those whose keys are not in `acked`.
-    ensures { option_copied result ≡ option_map (λ e. e.1) (slice_get (waiting owing.now.entries acked.now) index) }
+    ensures { option_copied result ≡ option_map (λ e. e.1)
+        (slice_get (waiting owing.now.entries acked.now) index) }
 {
     let mut before = index;
     for at in 0..owing.len() {

@@ -139,8 +139,10 @@ impl Decimal {
     fn scaled(&self, places: usize) -> Option<Scaled>
         requires digits { AllDigits 10 self.now.digits.items }
         requires places { places ≤ 6 }
-        ensures some { IfSome result (IsCut (multiplied self.now places) (divisor self.now places)) }
-        ensures none { IfNone result (IsHuge (multiplied self.now places) (divisor self.now places)) }
+        ensures some { IfSome result (IsCut (multiplied self.now places)
+            (divisor self.now places)) }
+        ensures none { IfNone result (IsHuge (multiplied self.now places)
+            (divisor self.now places)) }
     {
         let raised = self.raised(places);
         let lowered = self.lowered();
@@ -166,9 +168,11 @@ impl Decimal {
     pub fn rounded(&self, places: usize) -> Option<u64>
         requires digits { AllDigits 10 self.now.digits.items }
         requires places { places ≤ 6 }
-        ensures some { IfSome result (HalfUp (multiplied self.now places) (divisor self.now places)) }
+        ensures some { IfSome result (HalfUp (multiplied self.now places)
+            (divisor self.now places)) }
         ensures none { IfNone result
-            ((n : ℕ) × HalfUp (multiplied self.now places) (divisor self.now places) n × (2 ^ 64 ≤ n)) }
+            ((n : ℕ) × HalfUp (multiplied self.now places) (divisor self.now places) n
+            × (2 ^ 64 ≤ n)) }
     {
         let scaled = self.scaled(places)?;
         match scaled.cut {

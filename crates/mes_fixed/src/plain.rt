@@ -14,7 +14,8 @@ use crate::limits::MAX_NUMBER_TEXT;
 #[inline(always)]
 pub fn plain_units(text: &[u8], places: usize) -> Option<u64>
     requires { places ≤ 6 }
-    ensures { IfSome result (λ units. units ≤ MAX_UNITS → Reads (GivesUnits places) text.now units) }
+    ensures { IfSome result (λ units. units ≤ MAX_UNITS
+        → Reads (GivesUnits places) text.now units) }
 {
     if text.len() > MAX_NUMBER_TEXT {
         return None;
@@ -69,7 +70,8 @@ fn may_be_int(digits: &[u8]) -> bool
 /// on.
 #[inline(always)]
 fn with_digits(value: u64, digits: &[u8]) -> Option<u64>
-    ensures digits { IfSome result (λ more. AllDigits 10 digits.now × (more ≡ digits_value_after 10 value digits.now)) }
+    ensures digits { IfSome result (λ more. AllDigits 10 digits.now
+        × (more ≡ digits_value_after 10 value digits.now)) }
     ensures bound { IfSome result (λ more. more < 2 ^ 64) }
 {
     let mut more = value;

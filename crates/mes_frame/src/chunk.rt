@@ -87,7 +87,8 @@ impl ChunkState {
     #[inline(always)]
     pub fn next_chunk(&mut self, piece: &[u8]) -> usize
         // The bytes read are framing, without data; every prefix of them is an open body.
-        ensures passes { (w body : List ℕ) → ChunkRepresents self.old w body → PassesFraming self.new w body piece.now result }
+        ensures passes { (w body : List ℕ) → ChunkRepresents self.old w body
+            → PassesFraming self.new w body piece.now result }
         // If any byte was read, the next one is data.
         ensures ahead { 0 < result → 0 < remaining_of self.new }
         ensures none { result ≡ 0 → self.new ≡ self.old }
@@ -147,7 +148,9 @@ impl Phase {
     // Returns the offset in `piece` at which a chunk's line begins: 0, or 2 after a CRLF.
     #[inline(always)]
     fn line_start(self, piece: &[u8]) -> Option<usize>
-        ensures passes { IfSome result (λ start. (w body : List ℕ) → ChunkRepresents (state_at self) w body → PassesFraming (state_at (Phase.Size 0 0)) w body piece.now start) }
+        ensures passes { IfSome result (λ start. (w body : List ℕ)
+            → ChunkRepresents (state_at self) w body
+            → PassesFraming (state_at (Phase.Size 0 0)) w body piece.now start) }
         ensures within { IfSome result (λ start. start ≤ length piece.now) }
     {
         match self {
@@ -165,7 +168,8 @@ impl Phase {
 
     // Returns the phase after one more byte, and the byte's role.
     fn after(self, byte: u8) -> (Phase, ChunkOut)
-        ensures steps { (x d : List ℕ) → PhaseRepresents self x d → PhaseSteps result.0 x d byte result.1 }
+        ensures steps { (x d : List ℕ) → PhaseRepresents self x d
+            → PhaseSteps result.0 x d byte result.1 }
         ensures data { OutWith (remaining_at self) result.1 }
         ensures again { IfSome (end_at self) (λ out. (result.0 ≡ self) × (result.1 ≡ out)) }
     {
@@ -196,7 +200,9 @@ struct PlainLine {
 #[inline(always)]
 fn plain_line(piece: &[u8], start: usize) -> Option<PlainLine>
     requires { start ≤ length piece.now }
-    ensures passes { IfSome result (λ line. (w body : List ℕ) → PassesFraming (state_at (Phase.Size 0 0)) w body piece.now start → PassesFraming (state_at (Phase.Data line.size)) w body piece.now line.end) }
+    ensures passes { IfSome result (λ line. (w body : List ℕ)
+        → PassesFraming (state_at (Phase.Size 0 0)) w body piece.now start
+        → PassesFraming (state_at (Phase.Data line.size)) w body piece.now line.end) }
     ensures some { IfSome result (λ line. 0 < line.size) }
     ensures within { IfSome result (λ line. (0 < line.end) × (line.end ≤ length piece.now)) }
 {
@@ -230,7 +236,8 @@ fn digit_of(byte: u8) -> Option<u8>
 }
 
 fn after_size(count: u16, size: u64, byte: u8) -> (Phase, ChunkOut)
-    ensures steps { (x d : List ℕ) → PhaseRepresents (Phase.Size count size) x d → PhaseSteps result.0 x d byte result.1 }
+    ensures steps { (x d : List ℕ) → PhaseRepresents (Phase.Size count size) x d
+        → PhaseSteps result.0 x d byte result.1 }
     ensures data { OutWith 0 result.1 }
 {
     if byte == b'\r' && count > 0 {
@@ -258,7 +265,8 @@ fn after_size(count: u16, size: u64, byte: u8) -> (Phase, ChunkOut)
 fn after_digit(count: u16, size: u64, byte: u8, digit: u8) -> (Phase, ChunkOut)
     requires digit { (digit_value byte ≡ digit) × (digit < 16) }
     requires room { count < MAX_CHUNK_LINE }
-    ensures steps { (x d : List ℕ) → PhaseRepresents (Phase.Size count size) x d → PhaseSteps result.0 x d byte result.1 }
+    ensures steps { (x d : List ℕ) → PhaseRepresents (Phase.Size count size) x d
+        → PhaseSteps result.0 x d byte result.1 }
     ensures data { OutWith 0 result.1 }
 {
     if size > u64::MAX >> 4 {
@@ -272,7 +280,8 @@ fn after_digit(count: u16, size: u64, byte: u8, digit: u8) -> (Phase, ChunkOut)
 }
 
 fn after_extension(count: u16, size: u64, byte: u8) -> (Phase, ChunkOut)
-    ensures steps { (x d : List ℕ) → PhaseRepresents (Phase.Extension count size) x d → PhaseSteps result.0 x d byte result.1 }
+    ensures steps { (x d : List ℕ) → PhaseRepresents (Phase.Extension count size) x d
+        → PhaseSteps result.0 x d byte result.1 }
     ensures data { OutWith 0 result.1 }
 {
     if byte == b'\r' {
@@ -294,7 +303,8 @@ fn after_extension(count: u16, size: u64, byte: u8) -> (Phase, ChunkOut)
 }
 
 fn after_line(size: u64, byte: u8) -> (Phase, ChunkOut)
-    ensures steps { (x d : List ℕ) → PhaseRepresents (Phase.LineEnd size) x d → PhaseSteps result.0 x d byte result.1 }
+    ensures steps { (x d : List ℕ) → PhaseRepresents (Phase.LineEnd size) x d
+        → PhaseSteps result.0 x d byte result.1 }
     ensures data { OutWith 0 result.1 }
 {
     if byte != b'\n' {
@@ -313,7 +323,8 @@ fn after_line(size: u64, byte: u8) -> (Phase, ChunkOut)
 }
 
 fn after_data(left: u64, byte: u8) -> (Phase, ChunkOut)
-    ensures steps { (x d : List ℕ) → PhaseRepresents (Phase.Data left) x d → PhaseSteps result.0 x d byte result.1 }
+    ensures steps { (x d : List ℕ) → PhaseRepresents (Phase.Data left) x d
+        → PhaseSteps result.0 x d byte result.1 }
     ensures data { OutWith left result.1 }
 {
     if left > 0 {
@@ -326,7 +337,8 @@ fn after_data(left: u64, byte: u8) -> (Phase, ChunkOut)
 }
 
 fn after_data_cr(byte: u8) -> (Phase, ChunkOut)
-    ensures steps { (x d : List ℕ) → PhaseRepresents Phase.DataEnd x d → PhaseSteps result.0 x d byte result.1 }
+    ensures steps { (x d : List ℕ) → PhaseRepresents Phase.DataEnd x d
+        → PhaseSteps result.0 x d byte result.1 }
     ensures data { OutWith 0 result.1 }
 {
     if byte != b'\n' {
@@ -336,7 +348,8 @@ fn after_data_cr(byte: u8) -> (Phase, ChunkOut)
 }
 
 fn after_trailer(used: u16, begun: bool, byte: u8) -> (Phase, ChunkOut)
-    ensures steps { (x d : List ℕ) → PhaseRepresents (Phase.Trailer used begun) x d → PhaseSteps result.0 x d byte result.1 }
+    ensures steps { (x d : List ℕ) → PhaseRepresents (Phase.Trailer used begun) x d
+        → PhaseSteps result.0 x d byte result.1 }
     ensures data { OutWith 0 result.1 }
 {
     match byte {
@@ -356,7 +369,8 @@ fn after_trailer(used: u16, begun: bool, byte: u8) -> (Phase, ChunkOut)
 }
 
 fn after_trailer_cr(used: u16, byte: u8) -> (Phase, ChunkOut)
-    ensures steps { (x d : List ℕ) → PhaseRepresents (Phase.TrailerEnd used) x d → PhaseSteps result.0 x d byte result.1 }
+    ensures steps { (x d : List ℕ) → PhaseRepresents (Phase.TrailerEnd used) x d
+        → PhaseSteps result.0 x d byte result.1 }
     ensures data { OutWith 0 result.1 }
 {
     if used >= MAX_TRAILERS {
@@ -375,7 +389,8 @@ fn after_trailer_cr(used: u16, byte: u8) -> (Phase, ChunkOut)
 }
 
 fn after_end_cr(byte: u8) -> (Phase, ChunkOut)
-    ensures steps { (x d : List ℕ) → PhaseRepresents Phase.End x d → PhaseSteps result.0 x d byte result.1 }
+    ensures steps { (x d : List ℕ) → PhaseRepresents Phase.End x d
+        → PhaseSteps result.0 x d byte result.1 }
     ensures data { OutWith 0 result.1 }
 {
     if byte != b'\n' {

@@ -21,17 +21,20 @@ pub fn write_chunked<W: Sink>(writer: &mut W, body: &[u8], most: u32) -> Result<
     requires least { MIN_CHUNK ≤ most }
     requires greatest { most ≤ MAX_CHUNK }
     // On success: the whole body was written, and no call failed or wrote nothing.
-    ensures ok { OnOk result ((w : List ℕ) × IsFrames body.now most w × Appends (W.written writer.old) (W.written writer.new) w) }
+    ensures ok { OnOk result ((w : List ℕ) × IsFrames body.now most w
+        × Appends (W.written writer.old) (W.written writer.new) w) }
     ensures ok_counts { OnOk result (NoneFails (W.counts writer.old) (W.counts writer.new)) }
 
     // On error: exactly the first `sent` bytes were written (`sent` saturates at 2^64 - 1), and one
     // call failed as `why` says.
     ensures err { IfErr result (λ f. (w : List ℕ) × IsFrames body.now most w
         × WroteFront (W.written writer.old) (W.written writer.new) w f.sent) }
-    ensures err_counts { IfErr result (λ f. StopsWrite f.why (W.counts writer.old) (W.counts writer.new)) }
+    ensures err_counts { IfErr result
+        (λ f. StopsWrite f.why (W.counts writer.old) (W.counts writer.new)) }
 
     // At least one call was made, and at most one for each byte.
-    ensures calls { (w : List ℕ) × IsFrames body.now most w × CallsFor (length w) (W.counts writer.old) (W.counts writer.new) }
+    ensures calls { (w : List ℕ) × IsFrames body.now most w
+        × CallsFor (length w) (W.counts writer.old) (W.counts writer.new) }
 {
     let mut buffer = ChunkBuffer::new();
     let mut rest = body;
@@ -50,9 +53,12 @@ fn write_piece<W: Sink>(
     piece: &[u8],
     buffer: &mut ChunkBuffer,
 ) -> Result<(), WriteFault>
-    ensures ok { OnOk result (Passes (W.written writer.old) (W.written writer.new) (W.counts writer.old) (W.counts writer.new)
-        (buffer.old.held.items ++ piece_bytes piece.now) buffer.new.held.items buffer.old.sent buffer.new.sent) }
-    ensures err { IfErr result (λ f. Stops (W.written writer.old) (W.written writer.new) (W.counts writer.old) (W.counts writer.new)
+    ensures ok { OnOk result (Passes (W.written writer.old) (W.written writer.new)
+        (W.counts writer.old) (W.counts writer.new)
+        (buffer.old.held.items ++ piece_bytes piece.now) buffer.new.held.items buffer.old.sent
+        buffer.new.sent) }
+    ensures err { IfErr result (λ f. Stops (W.written writer.old) (W.written writer.new)
+        (W.counts writer.old) (W.counts writer.new)
         (buffer.old.held.items ++ piece_bytes piece.now) buffer.old.sent f) }
 {
     let mut digits = [0; MAX_CHUNK_LINE_WRITTEN];

@@ -20,7 +20,8 @@ pub trait Source {
     fn fetch(&mut self, buffer: &mut [u8]) -> io::Result<usize>
         ensures within { IfOk result (λ n. n ≤ length buffer.new) }
         ensures bytes { ReadConsumes (left self.old) (left self.new) result buffer.new }
-        ensures counted { CountsCall (counts self.old) (counts self.new) (length buffer.old) result };
+        ensures counted { CountsCall (counts self.old) (counts self.new) (length buffer.old)
+            result };
 }
 
 /// A writer of bytes that counts its calls.
@@ -35,5 +36,6 @@ pub trait Sink {
     fn put(&mut self, bytes: &[u8]) -> io::Result<usize>
         ensures within { IfOk result (λ n. n ≤ length bytes.now) }
         ensures bytes { WriteAppends (written self.old) (written self.new) result bytes.now }
-        ensures counted { CountsCall (counts self.old) (counts self.new) (length bytes.now) result };
+        ensures counted { CountsCall (counts self.old) (counts self.new) (length bytes.now)
+            result };
 }

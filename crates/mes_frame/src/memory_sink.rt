@@ -91,7 +91,8 @@ impl Sink for MemorySink {
     fn put(&mut self, bytes: &[u8]) -> io::Result<usize>
         ensures within { IfOk result (λ n. n ≤ length bytes.now) }
         ensures bytes { WriteAppends (written_of self.old) (written_of self.new) result bytes.now }
-        ensures counted { CountsCall (writes_of self.old) (writes_of self.new) (length bytes.now) result }
+        ensures counted { CountsCall (writes_of self.old) (writes_of self.new) (length bytes.now)
+            result }
         ensures takes { SinkTakes self.old self.new (length bytes.now) result }
     {
         let answer = self.take(bytes);

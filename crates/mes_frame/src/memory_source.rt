@@ -71,7 +71,8 @@ impl Source for MemorySource<'_> {
     fn fetch(&mut self, buffer: &mut [u8]) -> io::Result<usize>
         ensures within { IfOk result (λ n. n ≤ length buffer.new) }
         ensures bytes { ReadConsumes (left_of self.old) (left_of self.new) result buffer.new }
-        ensures counted { CountsCall (reads_of self.old) (reads_of self.new) (length buffer.old) result }
+        ensures counted { CountsCall (reads_of self.old) (reads_of self.new) (length buffer.old)
+            result }
         ensures gives { SourceGives self.old self.new (length buffer.old) result }
     {
         let answer = self.give(buffer);

@@ -17,8 +17,10 @@ pub(crate) fn write_part<W: Sink>(
     ensures ok { OnOk result (Appends (W.written writer.old) (W.written writer.new) bytes.now) }
     ensures ok_counts { OnOk result (NoneFails (W.counts writer.old) (W.counts writer.new)) }
     ensures ok_sent { IfOk result (λ all. all ≡ up sent (length bytes.now)) }
-    ensures err { IfErr result (λ f. WrotePart (W.written writer.old) (W.written writer.new) bytes.now sent f.sent) }
-    ensures err_counts { IfErr result (λ f. StopsWrite f.why (W.counts writer.old) (W.counts writer.new)) }
+    ensures err { IfErr result (λ f. WrotePart (W.written writer.old) (W.written writer.new)
+        bytes.now sent f.sent) }
+    ensures err_counts { IfErr result
+        (λ f. StopsWrite f.why (W.counts writer.old) (W.counts writer.new)) }
     ensures calls { CallsFor (length bytes.now) (W.counts writer.old) (W.counts writer.new) }
 {
     match write_all(writer, bytes) {

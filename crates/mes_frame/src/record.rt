@@ -65,7 +65,8 @@ impl RecordState {
             → RecordSteps self.new x r byte result }
 
         // The byte is data exactly if `room` was not 0.
-        ensures data { (x r : List ℕ) → RecordStands self.old x r → OutWith (remaining_of self.old) result }
+        ensures data { (x r : List ℕ) → RecordStands self.old x r
+            → OutWith (remaining_of self.old) result }
 
         // After a fault, every step returns the same fault and changes nothing.
         ensures again { IfSome (fault_of self.old)
@@ -82,7 +83,8 @@ impl RecordState {
     /// Returns whether no byte of the next record has been read. False after a fault.
     pub fn between(&self) -> bool
         // True exactly if x, the bytes of the current record so far, is empty.
-        ensures represents { (x r : List ℕ) → RecordStands self.now x r → (IsTrue result ↔ (x ≡ [])) }
+        ensures represents { (x r : List ℕ) → RecordStands self.now x r
+            → (IsTrue result ↔ (x ≡ [])) }
         ensures failed { IsSome (fault_of self.now) → result ≡ false }
     {
         match self.phase {
@@ -120,7 +122,8 @@ impl RecordState {
 
         // Every shorter prefix of the skipped bytes leaves an unfinished record.
         ensures fronts { (x r p : List ℕ) (k : ℕ) → length p ≡ count → k < count
-            → RecordStands self.old x r → Begun (x ++ take k p) (r ++ take k p) (limit_of self.old) }
+            → RecordStands self.old x r → Begun (x ++ take k p) (r
+            ++ take k p) (limit_of self.old) }
         ensures room { remaining_of self.new + count ≡ remaining_of self.old }
         ensures none { count ≡ 0 → (result ≡ false) × (self.new ≡ self.old) }
 
@@ -151,8 +154,10 @@ impl Phase {
     fn after(self, byte: u8, limit: Limit) -> (Phase, RecordOut)
         ensures steps { (x r : List ℕ) → PhaseRepresents self limit x r
             → RecordSteps (state_at limit result.0) x r byte result.1 }
-        ensures data { (x r : List ℕ) → PhaseRepresents self limit x r → OutWith (remaining_at self) result.1 }
-        ensures again { IfSome (fault_at self) (λ f. (result.0 ≡ self) × (result.1 ≡ RecordOut.Fault f)) }
+        ensures data { (x r : List ℕ) → PhaseRepresents self limit x r
+            → OutWith (remaining_at self) result.1 }
+        ensures again { IfSome (fault_at self) (λ f. (result.0 ≡ self)
+            × (result.1 ≡ RecordOut.Fault f)) }
     {
         match self {
             Phase::Size { digits, value } => after_size(digits, value, byte, limit),

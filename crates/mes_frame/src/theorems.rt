@@ -29,7 +29,8 @@ pub fn record_is_unique()
 /// whole one, or have a first fault.
 pub fn record_reading_is_unique()
     // There is a reading.
-    ensures some { (limit : ℕ) (w : List ℕ) → (reading : RecordReading) × ReadsRecord limit w reading }
+    ensures some { (limit : ℕ) (w : List ℕ)
+        → (reading : RecordReading) × ReadsRecord limit w reading }
     // Any two readings are equal.
     ensures one { (limit : ℕ) (w : List ℕ) (reading other : RecordReading)
         → ReadsRecord limit w reading → ReadsRecord limit w other → reading ≡ other }
@@ -59,15 +60,18 @@ pub fn chunk_reading_is_unique()
 /// the end nor a fault was returned for them.
 pub fn chunk_state_is_unique()
     ensures begun { (s : ChunkState) (w body : List ℕ) → ChunkRepresents s w body → IsOpen w body }
-    ensures sound { (s : ChunkState) (w body : List ℕ) → ChunkRepresents s w body → end_of s ≡ None }
+    ensures sound { (s : ChunkState) (w body : List ℕ) → ChunkRepresents s w body
+        → end_of s ≡ None }
     // Two states with the same bytes are equal, and so is their data.
-    ensures one { (s t : ChunkState) (w body other : List ℕ) → ChunkRepresents s w body → ChunkRepresents t w other
+    ensures one { (s t : ChunkState) (w body other : List ℕ) → ChunkRepresents s w body
+        → ChunkRepresents t w other
         → (s ≡ t) × (body ≡ other) }
 {}
 
 /// Proves the limits of records, of chunked bodies that are read, and of chunks that are written.
 pub fn frame_limits()
-    ensures records { (MIN_RECORD_LIMIT ≡ 1) × (DEFAULT_RECORD_LIMIT ≡ 4194304) × (MAX_RECORD_LIMIT ≡ 67108864) }
+    ensures records { (MIN_RECORD_LIMIT ≡ 1) × (DEFAULT_RECORD_LIMIT ≡ 4194304)
+        × (MAX_RECORD_LIMIT ≡ 67108864) }
     ensures digits { MAX_SIZE_DIGITS ≡ 20 }
     ensures line { MAX_CHUNK_LINE ≡ 256 }
     ensures trailers { MAX_TRAILERS ≡ 4096 }
@@ -78,12 +82,15 @@ pub fn frame_limits()
 /// Proves that a body and a chunk size determine the written bytes.
 pub fn framing_is_unique()
     ensures some { (body : List ℕ) (most : ℕ) → 1 ≤ most → (w : List ℕ) × IsFrames body most w }
-    ensures one { (body w v : List ℕ) (most : ℕ) → IsFrames body most w → IsFrames body most v → w ≡ v }
+    ensures one { (body w v : List ℕ) (most : ℕ) → IsFrames body most w → IsFrames body most v
+        → w ≡ v }
 {}
 
 /// Proves that written bytes are read back. Chunks are a body with the same data; a record is one
 /// under every limit that its data do not exceed.
 pub fn written_is_read()
-    ensures chunks { (body w : List ℕ) (most : ℕ) → most < 2 ^ 64 → IsFrames body most w → IsChunked w body }
-    ensures records { (r : List ℕ) (limit : ℕ) → length r < 2 ^ 64 → length r ≤ limit → IsRecord (record_bytes r) r limit }
+    ensures chunks { (body w : List ℕ) (most : ℕ) → most < 2 ^ 64 → IsFrames body most w
+        → IsChunked w body }
+    ensures records { (r : List ℕ) (limit : ℕ) → length r < 2 ^ 64 → length r ≤ limit
+        → IsRecord (record_bytes r) r limit }
 {}

@@ -30,7 +30,8 @@ pub fn write_all<W: Sink>(writer: &mut W, bytes: &[u8]) -> Result<(), WriteFault
     // On error: exactly the first `sent` bytes were written, and one call failed as `why` says.
     ensures err { IfErr result (λ f. (f.sent < length bytes.now)
         × Appends (W.written writer.old) (W.written writer.new) (take f.sent bytes.now)) }
-    ensures err_counts { IfErr result (λ f. StopsWrite f.why (W.counts writer.old) (W.counts writer.new)) }
+    ensures err_counts { IfErr result
+        (λ f. StopsWrite f.why (W.counts writer.old) (W.counts writer.new)) }
 
     // At most one call was made for each byte, and at least one unless `bytes` is empty.
     ensures calls { CallsFor (length bytes.now) (W.counts writer.old) (W.counts writer.new) }

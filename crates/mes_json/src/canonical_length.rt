@@ -42,7 +42,8 @@ fn capacity_after_value(json: &Json, room: usize) -> Option<usize>
 
 #[cycle(length)]
 fn capacity_after_items(items: &[Json], room: usize) -> Option<usize>
-    ensures some { IfSome result (λ free. free + length (canonical_items (items_view items.now)) ≡ room) }
+    ensures some { IfSome result (λ free. free + length (canonical_items (items_view items.now))
+        ≡ room) }
     ensures none { IfNone result (room < length (canonical_items (items_view items.now))) }
 {
     let mut free = room;
@@ -57,7 +58,8 @@ fn capacity_after_items(items: &[Json], room: usize) -> Option<usize>
 
 #[cycle(length)]
 fn capacity_after_members(members: &[(Text, Json)], room: usize) -> Option<usize>
-    ensures some { IfSome result (λ free. free + length (canonical_members (members_view members.now)) ≡ room) }
+    ensures some { IfSome result (λ free. free
+        + length (canonical_members (members_view members.now)) ≡ room) }
     ensures none { IfNone result (room < length (canonical_members (members_view members.now))) }
 {
     let mut free = room;
@@ -72,7 +74,8 @@ fn capacity_after_members(members: &[(Text, Json)], room: usize) -> Option<usize
 
 #[cycle(length)]
 fn capacity_after_member(name: &Text, value: &Json, room: usize) -> Option<usize>
-    ensures some { IfSome result (λ free. free + length (member_text name.now (view value.now)) ≡ room) }
+    ensures some { IfSome result (λ free. free + length (member_text name.now (view value.now))
+        ≡ room) }
     ensures none { IfNone result (room < length (member_text name.now (view value.now))) }
 {
     let room = capacity_after_quoted(name, room)?;

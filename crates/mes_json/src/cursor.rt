@@ -39,7 +39,8 @@ impl<'a> Model for Element<'a> {
 
     ghost view = { λ e. tokens_held e.texts.now e.nodes.now };
 
-    ghost invariant = { λ e. AllByRecursion (HasSpan e.texts.now) e.nodes.now × TellLengths e.nodes.now };
+    ghost invariant = { λ e. AllByRecursion (HasSpan e.texts.now) e.nodes.now
+        × TellLengths e.nodes.now };
 }
 
 impl<'a> Element<'a> {
@@ -99,7 +100,8 @@ impl<'a> Element<'a> {
 
     /// Returns the text of the number as written, or `None` for any other kind.
     pub fn as_number(&self) -> Option<&'a str>
-        ensures { (t : Tree) → BeginsWith self.now t → option_map (λ n. n.now) result ≡ as_number t }
+        ensures { (t : Tree) → BeginsWith self.now t
+            → option_map (λ n. n.now) result ≡ as_number t }
     {
         match first(self.nodes) {
             Node::Number { from, to } => Some(span_text(self.texts, from, to)),
@@ -252,7 +254,8 @@ impl<'a> Members<'a> {
     /// Returns the next member's name and value, or `None` at the end. Takes constant time on a
     /// tape that was read.
     pub fn next(&mut self) -> Option<(&'a str, Element<'a>)>
-        ensures member { (ms : members) → BeginsMembers self.old ms → NextMember ms (option_map (λ m. (m.0.now, m.1)) result) self.new }
+        ensures member { (ms : members) → BeginsMembers self.old ms
+            → NextMember ms (option_map (λ m. (m.0.now, m.1)) result) self.new }
         ensures shorter { OnSome result (length self.new < length self.old) }
     {
         let name = self.next.name()?;

@@ -44,7 +44,8 @@ pub(crate) fn digit_run(bytes: &[u8]) -> usize
 pub(crate) fn number_run(bytes: &[u8]) -> (usize, NumberState)
     ensures inside { result.0 ≤ length bytes.now }
     ensures leads { part_after AtStart (take result.0 bytes.now) ≡ Some result.1 }
-    ensures maximal { result.0 < length bytes.now → number_next result.1 (letter_of (slice_index bytes.now result.0)) ≡ None }
+    ensures maximal { result.0 < length bytes.now
+        → number_next result.1 (letter_of (slice_index bytes.now result.0)) ≡ None }
 {
     let mut part = NumberState::AtStart;
     for (place, byte) in bytes.iter().enumerate() {

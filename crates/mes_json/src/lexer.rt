@@ -68,11 +68,15 @@ impl LexerState {
     #[inline(always)]
     fn take(&mut self, alloc: Global, count: u64) -> Result<Tape, ReadFault>
         requires { IsPossible (count, self.old) }
-        ensures read { (p : List ℕ) → Represents count self.old p → IfOk result (λ tape. (t : Tree) × IsText MAX_NESTING p t × (tape ≡ tokens t)) }
-        ensures only { (p : List ℕ) → Represents count self.old p → (t : Tree) → IsText MAX_NESTING p t
+        ensures read { (p : List ℕ) → Represents count self.old p
+            → IfOk result (λ tape. (t : Tree) × IsText MAX_NESTING p t × (tape ≡ tokens t)) }
+        ensures only { (p : List ℕ) → Represents count self.old p → (t : Tree)
+            → IsText MAX_NESTING p t
             → MatchResult result (λ tape. tape ≡ tokens t) (λ e. e ≡ ReadFault.NoMemory) }
-        ensures fault { (p : List ℕ) → Represents count self.old p → IfErr result (λ e. IsLexFault MAX_NESTING p e) }
-        ensures reported { (p : List ℕ) → Represents count self.old p → (Begins MAX_NESTING p → ⊥) → (HasNoMemory self.old → ⊥) → result ≢ Err ReadFault.NoMemory }
+        ensures fault { (p : List ℕ) → Represents count self.old p
+            → IfErr result (λ e. IsLexFault MAX_NESTING p e) }
+        ensures reported { (p : List ℕ) → Represents count self.old p → (Begins MAX_NESTING p → ⊥)
+            → (HasNoMemory self.old → ⊥) → result ≢ Err ReadFault.NoMemory }
         ensures memory { HasNoMemory self.old → result ≡ Err ReadFault.NoMemory }
     {
         match self {
@@ -158,7 +162,8 @@ impl Lexer {
         ensures reports { Reports result self.new }
         ensures stays { IsOutOfMemory self.old → IsOutOfMemory self.new }
         // After an error in the text, no push runs out of memory.
-        ensures swallows { (p : List ℕ) → HasLexed self.old p → (Begins MAX_NESTING p → ⊥) → (IsOutOfMemory self.old → ⊥) → IsOutOfMemory self.new → ⊥ }
+        ensures swallows { (p : List ℕ) → HasLexed self.old p → (Begins MAX_NESTING p → ⊥)
+            → (IsOutOfMemory self.old → ⊥) → IsOutOfMemory self.new → ⊥ }
     {
         match &mut self.state {
             LexerState::Reading(reader) => match reader.step(byte) {
@@ -191,12 +196,15 @@ impl Lexer {
         ensures reports { Reports result self.new }
         ensures stays { IsOutOfMemory self.old → IsOutOfMemory self.new }
         // After an error in the text, no push runs out of memory.
-        ensures swallows { (p : List ℕ) → HasLexed self.old p → (Begins MAX_NESTING p → ⊥) → (IsOutOfMemory self.old → ⊥) → IsOutOfMemory self.new → ⊥ }
+        ensures swallows { (p : List ℕ) → HasLexed self.old p → (Begins MAX_NESTING p → ⊥)
+            → (IsOutOfMemory self.old → ⊥) → IsOutOfMemory self.new → ⊥ }
         // On error: `taken` is the offset of the first byte not pushed.
-        ensures taken { IfErr result (λ refused. 0 < length bytes.now → refused.taken < length bytes.now) }
+        ensures taken { IfErr result (λ refused. 0 < length bytes.now
+            → refused.taken < length bytes.now) }
         // On the first error: the bytes before `taken` were pushed, and some text begins with all
         // bytes so far.
-        ensures before { (p : List ℕ) → HasLexed self.old p → (IsOutOfMemory self.old → ⊥) → IfErr result (λ refused. Begins MAX_NESTING (p ++ take refused.taken bytes.now)) }
+        ensures before { (p : List ℕ) → HasLexed self.old p → (IsOutOfMemory self.old → ⊥)
+            → IfErr result (λ refused. Begins MAX_NESTING (p ++ take refused.taken bytes.now)) }
         ensures again { IsOutOfMemory self.old → IfErr result (λ refused. refused.taken ≡ 0) }
     {
         match &mut self.state {
@@ -229,7 +237,8 @@ impl Lexer {
     pub fn held(&self) -> u64
         ensures count { result ≡ held self.now }
         // 0 after an error in the text or a failed allocation.
-        ensures fault { (p : List ℕ) → HasLexed self.now p → (Begins MAX_NESTING p → ⊥) → result ≡ 0 }
+        ensures fault { (p : List ℕ) → HasLexed self.now p → (Begins MAX_NESTING p → ⊥)
+            → result ≡ 0 }
         ensures memory { IsOutOfMemory self.now → result ≡ 0 }
     {
         match &self.state {
@@ -242,18 +251,21 @@ impl Lexer {
     /// Ends the text. Returns its tree, or its first error.
     pub fn finish(self) -> Result<Json, ReadFault>
         // On success: the bytes are a JSON text of this value.
-        ensures read { (p : List ℕ) → HasLexed self p → IfOk result (λ json. IsText MAX_NESTING p (view json)) }
+        ensures read { (p : List ℕ) → HasLexed self p
+            → IfOk result (λ json. IsText MAX_NESTING p (view json)) }
         // Every JSON text is read, unless an allocation fails.
         ensures only { (p : List ℕ) → HasLexed self p → (t : Tree) → IsText MAX_NESTING p t
             → MatchResult result (λ json. view json ≡ t) (λ e. e ≡ ReadFault.NoMemory) }
 
         // On error: the offset of the first error, saturating at 2^64 - 1, and its reason; or
         // `NoMemory`.
-        ensures fault { (p : List ℕ) → HasLexed self p → IfErr result (λ e. IsLexFault MAX_NESTING p e) }
+        ensures fault { (p : List ℕ) → HasLexed self p
+            → IfErr result (λ e. IsLexFault MAX_NESTING p e) }
 
         // If no push failed, an error in the text is returned rather than `NoMemory`. After a
         // failed push, `NoMemory` is returned.
-        ensures reported { (p : List ℕ) → HasLexed self p → (Begins MAX_NESTING p → ⊥) → (IsOutOfMemory self → ⊥) → result ≢ Err ReadFault.NoMemory }
+        ensures reported { (p : List ℕ) → HasLexed self p → (Begins MAX_NESTING p → ⊥)
+            → (IsOutOfMemory self → ⊥) → result ≢ Err ReadFault.NoMemory }
         ensures memory { IsOutOfMemory self → result ≡ Err ReadFault.NoMemory }
     {
         let alloc = self.alloc;
@@ -264,16 +276,19 @@ impl Lexer {
     /// Ends the text. Returns its tape, or its first error.
     pub fn end(mut self) -> Result<Tape, ReadFault>
         // On success: the bytes are a JSON text of the value that has the tape's tokens.
-        ensures read { (p : List ℕ) → HasLexed self p → IfOk result (λ tape. (t : Tree) × IsText MAX_NESTING p t × (tape ≡ tokens t)) }
+        ensures read { (p : List ℕ) → HasLexed self p
+            → IfOk result (λ tape. (t : Tree) × IsText MAX_NESTING p t × (tape ≡ tokens t)) }
         // Every JSON text is read, unless an allocation fails.
         ensures only { (p : List ℕ) → HasLexed self p → (t : Tree) → IsText MAX_NESTING p t
             → MatchResult result (λ tape. tape ≡ tokens t) (λ e. e ≡ ReadFault.NoMemory) }
 
         // On error: as in `finish`.
-        ensures fault { (p : List ℕ) → HasLexed self p → IfErr result (λ e. IsLexFault MAX_NESTING p e) }
+        ensures fault { (p : List ℕ) → HasLexed self p
+            → IfErr result (λ e. IsLexFault MAX_NESTING p e) }
         // If no push failed, an error in the text is returned rather than `NoMemory`. After a
         // failed push, `NoMemory` is returned.
-        ensures reported { (p : List ℕ) → HasLexed self p → (Begins MAX_NESTING p → ⊥) → (IsOutOfMemory self → ⊥) → result ≢ Err ReadFault.NoMemory }
+        ensures reported { (p : List ℕ) → HasLexed self p → (Begins MAX_NESTING p → ⊥)
+            → (IsOutOfMemory self → ⊥) → result ≢ Err ReadFault.NoMemory }
         ensures memory { IsOutOfMemory self → result ≡ Err ReadFault.NoMemory }
     {
         self.take()
@@ -284,15 +299,18 @@ impl Lexer {
     #[inline(always)]
     pub fn take(&mut self) -> Result<Tape, ReadFault>
         // On success: as in `end`.
-        ensures read { (p : List ℕ) → HasLexed self.old p → IfOk result (λ tape. (t : Tree) × IsText MAX_NESTING p t × (tape ≡ tokens t)) }
+        ensures read { (p : List ℕ) → HasLexed self.old p
+            → IfOk result (λ tape. (t : Tree) × IsText MAX_NESTING p t × (tape ≡ tokens t)) }
         // Every JSON text is read, unless an allocation fails.
         ensures only { (p : List ℕ) → HasLexed self.old p → (t : Tree) → IsText MAX_NESTING p t
             → MatchResult result (λ tape. tape ≡ tokens t) (λ e. e ≡ ReadFault.NoMemory) }
         // On error: as in `finish`.
-        ensures fault { (p : List ℕ) → HasLexed self.old p → IfErr result (λ e. IsLexFault MAX_NESTING p e) }
+        ensures fault { (p : List ℕ) → HasLexed self.old p
+            → IfErr result (λ e. IsLexFault MAX_NESTING p e) }
         // If no push failed, an error in the text is returned rather than `NoMemory`. After a
         // failed push, `NoMemory` is returned.
-        ensures reported { (p : List ℕ) → HasLexed self.old p → (Begins MAX_NESTING p → ⊥) → (IsOutOfMemory self.old → ⊥) → result ≢ Err ReadFault.NoMemory }
+        ensures reported { (p : List ℕ) → HasLexed self.old p → (Begins MAX_NESTING p → ⊥)
+            → (IsOutOfMemory self.old → ⊥) → result ≢ Err ReadFault.NoMemory }
         ensures refused { IsOutOfMemory self.old → result ≡ Err ReadFault.NoMemory }
         ensures lexed { HasLexed self.new [] }
         ensures memory { IsOutOfMemory self.new → ⊥ }

@@ -30,7 +30,8 @@ pub(crate) enum LiteralStep {
 impl LiteralState {
     /// Returns the effect of the next byte, or `None` if the literal has another byte there.
     pub(crate) fn next(self, byte: u8) -> Option<LiteralStep>
-        ensures { (fs : List Frame) → on_token fs (word_view self) byte ≡ option_map (λ said. state fs (said_view said)) result }
+        ensures { (fs : List Frame) → on_token fs (word_view self) byte
+            ≡ option_map (λ said. state fs (said_view said)) result }
     {
         match (self, byte) {
             (LiteralState::N, b'u') => Some(LiteralStep::More(LiteralState::Nu)),

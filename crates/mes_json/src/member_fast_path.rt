@@ -184,7 +184,8 @@ impl Reader {
     fn enter_following(&mut self, byte: u8) -> bool
         requires at { self.old.at ≡ ReaderState.After }
         requires fits { Fits self.old }
-        ensures gives { result ≡ true → step MAX_NESTING (state_view self.old) byte ≡ Some (state_view self.new) }
+        ensures gives { result ≡ true → step MAX_NESTING (state_view self.old) byte
+            ≡ Some (state_view self.new) }
         ensures fits { result ≡ true → Fits self.new }
         ensures stays { result ≡ false → Stays self.old self.new }
     {
@@ -258,7 +259,8 @@ impl Reader {
     fn open_object(&mut self) -> bool
         requires at { self.old.at ≡ ReaderState.Value }
         requires fits { Fits self.old }
-        ensures gives { result ≡ true → step MAX_NESTING (state_view self.old) 123 ≡ Some (state_view self.new) }
+        ensures gives { result ≡ true → step MAX_NESTING (state_view self.old) 123
+            ≡ Some (state_view self.new) }
         ensures fits { result ≡ true → Fits self.new }
         ensures at { result ≡ true → self.new.at ≡ ReaderState.FirstName }
         ensures stays { result ≡ false → Stays self.old self.new }
@@ -271,7 +273,8 @@ impl Reader {
     #[inline(always)]
     fn open(&mut self) -> bool
         ensures room { result ≡ true → length self.old.nesting.items < MAX_NESTING }
-        ensures puts { result ≡ true → Puts self.old (self.old.nesting.items ++ Open.Object ∷ []) (Node.Map 0) ReaderState.FirstName self.new }
+        ensures puts { result ≡ true → Puts self.old (self.old.nesting.items ++ Open.Object
+            ∷ []) (Node.Map 0) ReaderState.FirstName self.new }
         ensures stays { result ≡ false → Stays self.old self.new }
     {
         if self.nesting.is_full() {
@@ -290,7 +293,8 @@ impl Reader {
         requires at { self.old.at ≡ ReaderState.After }
         requires fits { Fits self.old }
         requires inside { innermost self.old.nesting.items ≡ Some Open.Object }
-        ensures gives { result ≡ true → step MAX_NESTING (state_view self.old) 125 ≡ Some (state_view self.new) }
+        ensures gives { result ≡ true → step MAX_NESTING (state_view self.old) 125
+            ≡ Some (state_view self.new) }
         ensures fits { result ≡ true → Fits self.new }
         ensures stays { result ≡ false → Stays self.old self.new }
     {
@@ -302,7 +306,8 @@ impl Reader {
         requires at { self.old.at ≡ ReaderState.After }
         requires fits { Fits self.old }
         requires inside { innermost self.old.nesting.items ≡ Some Open.Array }
-        ensures gives { result ≡ true → step MAX_NESTING (state_view self.old) 93 ≡ Some (state_view self.new) }
+        ensures gives { result ≡ true → step MAX_NESTING (state_view self.old) 93
+            ≡ Some (state_view self.new) }
         ensures fits { result ≡ true → Fits self.new }
         ensures stays { result ≡ false → Stays self.old self.new }
     {
@@ -314,7 +319,8 @@ impl Reader {
     #[inline(always)]
     fn close(&mut self) -> bool
         requires { self.old.at ≡ ReaderState.After }
-        ensures puts { result ≡ true → Puts self.old (outer self.old.nesting.items) Node.End ReaderState.After self.new }
+        ensures puts { result ≡ true → Puts self.old (outer self.old.nesting.items) Node.End
+            ReaderState.After self.new }
         ensures stays { result ≡ false → Stays self.old self.new }
     {
         if let Err(_) = self.nodes.put(Node::End) {

@@ -31,7 +31,11 @@ impl Model for Nodes {
 
     ghost Value = { nodes_seen };
 
-    ghost view = { λ n. record { items = map unreported n.nodes.items; room = vec_capacity n.nodes } };
+    ghost view = { λ n. record {
+      items = map unreported n.nodes.items;
+      room = vec_capacity
+          n.nodes;
+    } };
 
     ghost invariant = { λ n. AreBegun (reverse n.begins.items) n.nodes.items };
 }
@@ -59,8 +63,10 @@ impl Nodes {
 
     /// Returns the nodes with their lengths, and leaves none.
     pub(crate) fn take(&mut self, alloc: Global) -> Vec<Node>
-        ensures held { (texts : List ℕ) → tokens_held texts result.items ≡ tokens_held texts self.old.items }
-        ensures spans { (texts : List ℕ) → AllByRecursion (HasSpan texts) self.old.items → AllByRecursion (HasSpan texts) result.items }
+        ensures held { (texts : List ℕ)
+            → tokens_held texts result.items ≡ tokens_held texts self.old.items }
+        ensures spans { (texts : List ℕ) → AllByRecursion (HasSpan texts) self.old.items
+            → AllByRecursion (HasSpan texts) result.items }
         ensures reported { TellLengths result.items }
         ensures left { self.new.items ≡ [] }
     {

@@ -39,7 +39,8 @@ impl Reader {
     fn begin_digits(&mut self, bytes: &[u8], count: usize, part: NumberState) -> bool
         requires { count ≤ length bytes.now }
         ensures some { result ≡ true → 0 < count }
-        ensures begins { result ≡ true → Begins self.old (take count bytes.now) (ReaderState.Digits part) self.new }
+        ensures begins { result ≡ true → Begins self.old (take count bytes.now)
+            (ReaderState.Digits part) self.new }
         ensures stays { result ≡ false → Stays self.old self.new }
     {
         let start = self.text.len();
@@ -57,7 +58,8 @@ impl Reader {
     fn take_following_number(&mut self, part: NumberState, bytes: &[u8], from: usize) -> usize
         requires at { self.old.at ≡ ReaderState.Digits part }
         requires inside { from ≤ length bytes.now }
-        requires ends { from < length bytes.now → number_next part (letter_of (slice_index bytes.now from)) ≡ None }
+        requires ends { from < length bytes.now
+            → number_next part (letter_of (slice_index bytes.now from)) ≡ None }
         requires fits { Fits self.old }
         requires reached { Reached self.old }
         ensures { RunsTo self.old bytes.now from result self.new }
@@ -81,7 +83,8 @@ impl Reader {
         requires ends { number_next part (letter_of byte) ≡ None }
         requires fits { Fits self.old }
         requires reached { Reached self.old }
-        ensures gives { result ≡ true → step MAX_NESTING (state_view self.old) byte ≡ Some (state_view self.new) }
+        ensures gives { result ≡ true → step MAX_NESTING (state_view self.old) byte
+            ≡ Some (state_view self.new) }
         ensures fits { result ≡ true → Fits self.new }
         ensures stays { result ≡ false → Stays self.old self.new }
     {
@@ -117,7 +120,8 @@ impl Reader {
     #[inline(always)]
     fn close_following(&mut self, node: Node) -> bool
         requires { unreported node ≡ node }
-        ensures puts { result ≡ true → Puts (with_value node self.old) (outer self.old.nesting.items) Node.End ReaderState.After self.new }
+        ensures puts { result ≡ true → Puts (with_value node self.old)
+            (outer self.old.nesting.items) Node.End ReaderState.After self.new }
         ensures stays { result ≡ false → Stays self.old self.new }
     {
         if let Err(NoMemory) = self.nodes.put_both(node, Node::End) {

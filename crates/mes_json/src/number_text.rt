@@ -30,7 +30,8 @@ impl NumText {
     /// Checks that `text` is a number, or returns `text` as the error. Does not allocate.
     pub fn new(text: String) -> Result<NumText, String>
         // On success: the text is a number, and the result has its bytes.
-        ensures ok { IfOk result (λ number. (number ≡ string_bytes text) × IsNumber (string_bytes text)) }
+        ensures ok { IfOk result (λ number. (number ≡ string_bytes text)
+            × IsNumber (string_bytes text)) }
         // On error: `text` is returned, and is not a number.
         ensures err { IfErr result (λ again. (again ≡ text) × (IsNumber (string_bytes text) → ⊥)) }
     {

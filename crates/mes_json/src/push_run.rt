@@ -23,7 +23,8 @@ impl Reader {
     pub(crate) fn take_all(&mut self, bytes: &[u8]) -> Result<(), ReadFault>
         requires fits { Fits self.old }
         requires reached { Reached self.old }
-        ensures runs { OnOk result (run MAX_NESTING (state_view self.old) bytes.now ≡ Some (state_view self.new)) }
+        ensures runs { OnOk result (run MAX_NESTING (state_view self.old) bytes.now
+            ≡ Some (state_view self.new)) }
         ensures fits { OnOk result (Fits self.new) }
         ensures fault { IfErr result (λ e. StopsIn (state_view self.old) bytes.now e) }
     {
@@ -39,12 +40,15 @@ impl Reader {
     pub(crate) fn take_bytes(&mut self, bytes: &[u8]) -> Result<(), RunStop>
         requires fits { Fits self.old }
         requires reached { Reached self.old }
-        ensures runs { OnOk result (run MAX_NESTING (state_view self.old) bytes.now ≡ Some (state_view self.new)) }
+        ensures runs { OnOk result (run MAX_NESTING (state_view self.old) bytes.now
+            ≡ Some (state_view self.new)) }
         ensures fits { OnOk result (Fits self.new) }
-        ensures fault { IfErr result (λ e. StopsIn (state_view self.old) bytes.now (fault_at e.place e.stop)) }
+        ensures fault { IfErr result (λ e. StopsIn (state_view self.old) bytes.now
+            (fault_at e.place e.stop)) }
         ensures inside { IfErr result (λ e. e.place < length bytes.now) }
         // The bytes before the error were read.
-        ensures before { IfErr result (λ e. (s : State) × (run MAX_NESTING (state_view self.old) (take e.place bytes.now) ≡ Some s)) }
+        ensures before { IfErr result (λ e. (s : State)
+            × (run MAX_NESTING (state_view self.old) (take e.place bytes.now) ≡ Some s)) }
     {
         let mut place = 0;
         while place < bytes.len() {

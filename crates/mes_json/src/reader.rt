@@ -575,7 +575,8 @@ impl Reader {
 
     #[inline(always)]
     fn leave(&mut self) -> Result<(), PushError>
-        ensures ok { OnOk result (Puts self.old (outer self.old.nesting.items) Node.End ReaderState.After self.new) }
+        ensures ok { OnOk result (Puts self.old (outer self.old.nesting.items) Node.End
+            ReaderState.After self.new) }
         ensures err { IfErr result (λ e. e ≡ no_memory) }
     {
         self.nesting.pop();
@@ -597,7 +598,8 @@ impl Reader {
     #[inline(always)]
     fn end_string(&mut self, purpose: Purpose) -> Result<(), PushError>
         requires { self.old.start ≤ length self.old.text.items }
-        ensures ok { OnOk result (Puts self.old self.old.nesting.items (string_node purpose self.old) (following_string purpose) self.new) }
+        ensures ok { OnOk result (Puts self.old self.old.nesting.items
+            (string_node purpose self.old) (following_string purpose) self.new) }
         ensures err { IfErr result (λ e. e ≡ no_memory) }
     {
         Ok(self.close_string(purpose)?)
@@ -607,7 +609,8 @@ impl Reader {
     #[inline(always)]
     fn close_string(&mut self, purpose: Purpose) -> Result<(), NoMemory>
         requires { self.old.start ≤ length self.old.text.items }
-        ensures ok { OnOk result (Puts self.old self.old.nesting.items (string_node purpose self.old) (following_string purpose) self.new) }
+        ensures ok { OnOk result (Puts self.old self.old.nesting.items
+            (string_node purpose self.old) (following_string purpose) self.new) }
         ensures err { OnErr result (Stays self.old self.new) }
     {
         let (from, to) = text_span(self.start, self.text.len())?;
@@ -635,7 +638,8 @@ impl Reader {
 
     pub(crate) fn end_number(&mut self) -> Result<(), NoMemory>
         requires { self.old.start ≤ length self.old.text.items }
-        ensures ok { OnOk result (Puts self.old self.old.nesting.items (Node.Number self.old.start (length self.old.text.items)) ReaderState.After self.new) }
+        ensures ok { OnOk result (Puts self.old self.old.nesting.items
+            (Node.Number self.old.start (length self.old.text.items)) ReaderState.After self.new) }
         ensures err { OnErr result (Stays self.old self.new) }
     {
         let (from, to) = text_span(self.start, self.text.len())?;

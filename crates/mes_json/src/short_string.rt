@@ -15,7 +15,8 @@ impl Reader {
     #[inline(always)]
     pub(crate) fn short_run(&self, bytes: &[u8], from: usize) -> Option<usize>
         requires { from ≤ length bytes.now }
-        ensures block { IfSome result (λ count. (count < BLOCK) × (from + BLOCK ≤ length bytes.now)) }
+        ensures block { IfSome result (λ count. (count < BLOCK)
+            × (from + BLOCK ≤ length bytes.now)) }
         ensures whole { IfSome result (λ count. StandAlone (take count (drop from bytes.now))) }
         ensures quote { IfSome result (λ count. slice_index bytes.now (from + count) ≡ 34) }
         ensures room { IfSome result (λ _. HasRoom self.now) }
@@ -87,8 +88,10 @@ impl Reader {
         requires few { count < BLOCK }
         requires block { BLOCK ≤ length bytes.now }
         requires room { HasRoom self.old }
-        ensures puts { result ≡ true → Puts (within_string purpose (take count bytes.now) self.old) self.old.nesting.items
-            (string_node purpose (within_string purpose (take count bytes.now) self.old)) at self.new }
+        ensures puts { result ≡ true → Puts (within_string purpose (take count bytes.now) self.old)
+            self.old.nesting.items
+            (string_node purpose (within_string purpose (take count bytes.now) self.old)) at
+            self.new }
         ensures stays { result ≡ false → Stays self.old self.new }
     {
         let start = self.text.len();

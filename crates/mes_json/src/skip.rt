@@ -17,7 +17,8 @@ pub(crate) fn first(nodes: &[Node]) -> Node
 /// Returns the nodes after the value that begins with the first node.
 pub(crate) fn following_value(nodes: &[Node]) -> &[Node]
     requires { TellLengths nodes.now }
-    ensures held { (texts : List ℕ) → tokens_held texts result.now ≡ following 0 (tokens_held texts nodes.now) }
+    ensures held { (texts : List ℕ)
+        → tokens_held texts result.now ≡ following 0 (tokens_held texts nodes.now) }
     ensures rest { (n : ℕ) × (result.now ≡ drop n nodes.now) }
 {
     &nodes[nodes_of_value(nodes)..]
@@ -27,7 +28,8 @@ pub(crate) fn following_value(nodes: &[Node]) -> &[Node]
 #[inline(always)]
 fn nodes_of_value(nodes: &[Node]) -> usize
     requires { TellLengths nodes.now }
-    ensures following { (texts : List ℕ) → following 0 (tokens_held texts nodes.now) ≡ drop result (tokens_held texts nodes.now) }
+    ensures following { (texts : List ℕ)
+        → following 0 (tokens_held texts nodes.now) ≡ drop result (tokens_held texts nodes.now) }
     ensures inside { result ≤ length nodes.now }
 {
     match nodes.first() {
@@ -41,7 +43,8 @@ fn nodes_of_value(nodes: &[Node]) -> usize
 
 /// Like `nodes_of_value`, but counts to the node after which nothing is open.
 fn count_nodes(nodes: &[Node]) -> usize
-    ensures following { (texts : List ℕ) → following 0 (tokens_held texts nodes.now) ≡ drop result (tokens_held texts nodes.now) }
+    ensures following { (texts : List ℕ)
+        → following 0 (tokens_held texts nodes.now) ≡ drop result (tokens_held texts nodes.now) }
     ensures inside { result ≤ length nodes.now }
 {
     let mut depth = 0;

@@ -64,7 +64,8 @@ impl Model for Tape {
 
     ghost view = { λ t. tokens_held t.texts.items t.nodes.items };
 
-    ghost invariant = { λ t. AllByRecursion (HasSpan t.texts.items) t.nodes.items × TellLengths t.nodes.items };
+    ghost invariant = { λ t. AllByRecursion (HasSpan t.texts.items) t.nodes.items
+        × TellLengths t.nodes.items };
 }
 
 impl Tape {

@@ -15,7 +15,8 @@ use crate::limits::{MAX_INLINE_TEXT, MAX_NESTING, MAX_REUSED_CAPACITY, MAX_TEXTS
 /// Proves that bytes are a JSON text of exactly one tree, or have exactly one first error.
 pub fn text_reading_is_unique()
     // The bytes are a text or have a first error; either is unique.
-    ensures some { (d : ℕ) (b : List ℕ) → ((t : Tree) × IsText d b t) ⊎ ((f : Fault) × IsFault d b f) }
+    ensures some { (d : ℕ) (b : List ℕ)
+        → ((t : Tree) × IsText d b t) ⊎ ((f : Fault) × IsFault d b f) }
     ensures tree { (d : ℕ) (b : List ℕ) (t u : Tree) → IsText d b t → IsText d b u → t ≡ u }
     ensures fault { (d : ℕ) (b : List ℕ) (f g : Fault) → IsFault d b f → IsFault d b g → f ≡ g }
 {}
@@ -33,7 +34,8 @@ pub fn lexer_bound(lexer: &Lexer)
 
 /// Proves that a lexer buffers nothing after an error in the text or a failed allocation.
 pub fn lexer_releases(lexer: &Lexer)
-    ensures fault { (p : List ℕ) → HasLexed lexer.now p → (Begins MAX_NESTING p → ⊥) → HoldsNothing lexer.now }
+    ensures fault { (p : List ℕ) → HasLexed lexer.now p → (Begins MAX_NESTING p → ⊥)
+        → HoldsNothing lexer.now }
     ensures memory { IsOutOfMemory lexer.now → HoldsNothing lexer.now }
 {}
 
@@ -47,5 +49,6 @@ pub fn inner_grows()
 /// Proves the limits: 128 levels of nesting, and the limits on the memory of texts and tapes.
 pub fn json_limits()
     ensures nesting { MAX_NESTING ≡ 128 }
-    ensures memory { (MAX_INLINE_TEXT ≡ 16) × (MAX_TEXTS ≡ 4294967295) × (MAX_REUSED_CAPACITY ≡ 16777216) }
+    ensures memory { (MAX_INLINE_TEXT ≡ 16) × (MAX_TEXTS ≡ 4294967295)
+        × (MAX_REUSED_CAPACITY ≡ 16777216) }
 {}

@@ -70,7 +70,8 @@ struct TreeBuilder {
 impl TreeBuilder {
     fn apply(&mut self, alloc: Global, texts: &[u8], node: Node) -> Result<(), NoMemory>
         requires { HasSpan texts.now node }
-        ensures { OnOk result (building_view self.new ≡ apply texts.now node (building_view self.old)) }
+        ensures { OnOk result (building_view self.new
+            ≡ apply texts.now node (building_view self.old)) }
     {
         match node {
             Node::Null => self.whole(Json::Null),
@@ -95,7 +96,8 @@ impl TreeBuilder {
     }
 
     fn whole(&mut self, json: Json) -> Result<(), NoMemory>
-        ensures { OnOk result (building_view self.new ≡ valued (after (view json)) (value_due (building_view self.old))) }
+        ensures { OnOk result (building_view self.new
+            ≡ valued (after (view json)) (value_due (building_view self.old))) }
     {
         match &mut self.inner {
             Inner::Array(items) => items.push(json)?,
@@ -110,7 +112,8 @@ impl TreeBuilder {
     }
 
     fn named(&mut self, name: Text)
-        ensures { building_view self.new ≡ in_object (λ ms. named ms name) (name_due (building_view self.old)) }
+        ensures { building_view self.new
+            ≡ in_object (λ ms. named ms name) (name_due (building_view self.old)) }
     {
         match &mut self.inner {
             Inner::Object(_, due) => match due {
@@ -125,7 +128,8 @@ impl TreeBuilder {
 
     /// Opens an object or an array, and pushes the one around it onto the stack.
     fn open(&mut self, alloc: Global, opened: Inner) -> Result<(), NoMemory>
-        ensures { OnOk result ((a : at) → Opens opened a → building_view self.new ≡ valued a (value_due (building_view self.old))) }
+        ensures { OnOk result ((a : at) → Opens opened a
+            → building_view self.new ≡ valued a (value_due (building_view self.old))) }
     {
         match mem::replace(&mut self.inner, opened) {
             Inner::Array(items) => self.outer.push(Outer::Array(items))?,
@@ -171,7 +175,8 @@ impl TreeBuilder {
     /// Adds the value of the closed object or array to the one around it, which becomes the
     /// innermost.
     fn close(&mut self, json: Json) -> Result<(), NoMemory>
-        ensures { OnOk result (building_view self.new ≡ state (frames_view self.old.outer.items) (after (view json))) }
+        ensures { OnOk result (building_view self.new
+            ≡ state (frames_view self.old.outer.items) (after (view json))) }
     {
         match self.outer.pop() {
             Some(Outer::Array(mut items)) => {

@@ -33,7 +33,8 @@ pub fn read_text(alloc: Global, bytes: &[u8]) -> Result<Json, ReadFault>
 /// Like [`read_text`], but returns a tape and builds no tree.
 pub fn read_tape(alloc: Global, bytes: &[u8]) -> Result<Tape, ReadFault>
     // On success: the bytes are a JSON text of the value that has the tape's tokens.
-    ensures read { IfOk result (λ tape. (t : Tree) × IsText MAX_NESTING bytes.now t × (tape ≡ tokens t)) }
+    ensures read { IfOk result (λ tape. (t : Tree) × IsText MAX_NESTING bytes.now t
+        × (tape ≡ tokens t)) }
     // Every JSON text is read, unless an allocation fails.
     ensures only { (t : Tree) → IsText MAX_NESTING bytes.now t
         → MatchResult result (λ tape. tape ≡ tokens t) (λ e. e ≡ ReadFault.NoMemory) }

@@ -16,13 +16,15 @@ use crate::write_string::{append, write_quoted};
 /// Appends the canonical text: no white space, members in order, numbers as written, and only the
 /// necessary escapes. Changes nothing if an allocation fails. Recurses as deep as the value nests.
 pub fn write_text(json: &Json, out: &mut Vec<u8>) -> Result<(), NoMemory>
-    ensures written { IfOk result (λ _. out.new.items ≡ out.old.items ++ canonical (view json.now)) }
+    ensures written { IfOk result (λ _. out.new.items
+        ≡ out.old.items ++ canonical (view json.now)) }
     ensures unchanged { IfErr result (λ _. out.new.items ≡ out.old.items) }
     ensures writable { OnOk result (IsWritable (view json.now)) }
 
     // The canonical text is a JSON text of the value, at any nesting limit that the value does not
     // exceed.
-    ensures text { IfOk result (λ _. (d : ℕ) → depth (view json.now) ≤ d → IsText d (canonical (view json.now)) (view json.now)) }
+    ensures text { IfOk result (λ _. (d : ℕ) → depth (view json.now) ≤ d
+        → IsText d (canonical (view json.now)) (view json.now)) }
 {
     let before = out.len();
     match write_value(json, out) {
@@ -36,7 +38,8 @@ pub fn write_text(json: &Json, out: &mut Vec<u8>) -> Result<(), NoMemory>
 
 #[cycle(write)]
 fn write_value(json: &Json, out: &mut Vec<u8>) -> Result<(), NoMemory>
-    ensures written { IfOk result (λ _. out.new.items ≡ out.old.items ++ canonical (view json.now)) }
+    ensures written { IfOk result (λ _. out.new.items
+        ≡ out.old.items ++ canonical (view json.now)) }
     ensures writable { IfOk result (λ _. IsWritable (view json.now)) }
     ensures front { Extends out.old.items out.new.items }
 {
@@ -61,7 +64,8 @@ fn write_value(json: &Json, out: &mut Vec<u8>) -> Result<(), NoMemory>
 
 #[cycle(write)]
 fn write_items(items: &[Json], out: &mut Vec<u8>) -> Result<(), NoMemory>
-    ensures written { IfOk result (λ _. out.new.items ≡ out.old.items ++ canonical_items (items_view items.now)) }
+    ensures written { IfOk result (λ _. out.new.items
+        ≡ out.old.items ++ canonical_items (items_view items.now)) }
     ensures writable { IfOk result (λ _. AreWritable (items_view items.now)) }
     ensures front { Extends out.old.items out.new.items }
 {
@@ -77,7 +81,8 @@ fn write_items(items: &[Json], out: &mut Vec<u8>) -> Result<(), NoMemory>
 
 #[cycle(write)]
 fn write_members(members: &[(Text, Json)], out: &mut Vec<u8>) -> Result<(), NoMemory>
-    ensures written { IfOk result (λ _. out.new.items ≡ out.old.items ++ canonical_members (members_view members.now)) }
+    ensures written { IfOk result (λ _. out.new.items
+        ≡ out.old.items ++ canonical_members (members_view members.now)) }
     ensures writable { IfOk result (λ _. AreWritableMembers (members_view members.now)) }
     ensures front { Extends out.old.items out.new.items }
 {
@@ -93,7 +98,8 @@ fn write_members(members: &[(Text, Json)], out: &mut Vec<u8>) -> Result<(), NoMe
 
 #[cycle(write)]
 fn write_member(name: &Text, value: &Json, out: &mut Vec<u8>) -> Result<(), NoMemory>
-    ensures written { IfOk result (λ _. out.new.items ≡ out.old.items ++ member_text name.now (view value.now)) }
+    ensures written { IfOk result (λ _. out.new.items
+        ≡ out.old.items ++ member_text name.now (view value.now)) }
     ensures writable { IfOk result (λ _. IsUtf8 name.now × IsWritable (view value.now)) }
     ensures front { Extends out.old.items out.new.items }
 {

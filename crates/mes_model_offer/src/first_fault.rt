@@ -13,10 +13,12 @@ ghost use Rattle.mes_model_offer.specs.Offers.{offer};
 /// An attribute has a fault if it is not an object, or the first row that is not read has the
 /// fault.
 pub fn attribute_breaks()
-    ensures { (at : List Place) (t : Tree) (f : FieldFault) → Breaks attribute at t f ↔ OfMessage OfAttribute at t f }
+    ensures { (at : List Place) (t : Tree) (f : FieldFault)
+        → Breaks attribute at t f ↔ OfMessage OfAttribute at t f }
 {}
 
 /// An offer has a fault if it is not an object, or the first row that is not read has the fault.
 pub fn offer_breaks()
-    ensures { (at : List Place) (t : Tree) (f : FieldFault) → Breaks offer at t f ↔ OfMessage OfOffer at t f }
+    ensures { (at : List Place) (t : Tree) (f : FieldFault)
+        → Breaks offer at t f ↔ OfMessage OfOffer at t f }
 {}

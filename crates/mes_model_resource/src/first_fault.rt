@@ -11,5 +11,6 @@ ghost use Rattle.mes_model_resource.specs.FirstFaults.{OfResource};
 
 /// A resource has a fault if it is not an object, or the first row that is not read has the fault.
 pub fn resource_breaks()
-    ensures { (at : List Place) (t : Tree) (f : FieldFault) → Breaks resource at t f ↔ OfMessage OfResource at t f }
+    ensures { (at : List Place) (t : Tree) (f : FieldFault)
+        → Breaks resource at t f ↔ OfMessage OfResource at t f }
 {}

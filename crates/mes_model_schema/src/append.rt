@@ -28,7 +28,8 @@ pub fn write_row_text<T: Part>(
     value: &T,
     out: &mut Vec<u8>,
 ) -> Result<u64, NoMemory>
-    ensures members { IfOk result (λ deep. AppendsMembers out.old.items ((need name.now T.kind).members value.now) out.new.items deep) }
+    ensures members { IfOk result (λ deep. AppendsMembers out.old.items
+        ((need name.now T.kind).members value.now) out.new.items deep) }
     ensures back { OnOk result ((need name.now T.kind).Back value.now) }
 {
     append_name(name, out)?;
@@ -43,7 +44,8 @@ pub fn write_optional_text<T: Part>(
     value: &Option<T>,
     out: &mut Vec<u8>,
 ) -> Result<u64, NoMemory>
-    ensures members { IfOk result (λ deep. AppendsMembers out.old.items ((maybe name.now T.kind).members value.now) out.new.items deep) }
+    ensures members { IfOk result (λ deep. AppendsMembers out.old.items
+        ((maybe name.now T.kind).members value.now) out.new.items deep) }
     ensures back { OnOk result ((maybe name.now T.kind).Back value.now) }
 {
     match value {
@@ -59,7 +61,8 @@ pub fn write_repeated_text<T: Part>(
     values: &List<T>,
     out: &mut Vec<u8>,
 ) -> Result<u64, NoMemory>
-    ensures members { IfOk result (λ deep. AppendsMembers out.old.items ((many name.now T.kind).members values.now) out.new.items deep) }
+    ensures members { IfOk result (λ deep. AppendsMembers out.old.items
+        ((many name.now T.kind).members values.now) out.new.items deep) }
     ensures back { OnOk result ((many name.now T.kind).Back values.now) }
 {
     if values.is_empty() {
@@ -71,7 +74,8 @@ pub fn write_repeated_text<T: Part>(
 
 /// Appends the member of a flag, `{}`, and nothing if the flag is unset.
 pub fn write_flag_text(name: &str, set: bool, out: &mut Vec<u8>) -> Result<u64, NoMemory>
-    ensures { IfOk result (λ deep. AppendsMembers out.old.items ((flag name.now).members set) out.new.items deep) }
+    ensures { IfOk result (λ deep. AppendsMembers out.old.items ((flag name.now).members set)
+        out.new.items deep) }
 {
     if !set {
         return Ok(0);
@@ -84,7 +88,8 @@ pub fn write_flag_text(name: &str, set: bool, out: &mut Vec<u8>) -> Result<u64, 
 /// Appends the member `type`, which selects the other members of a typed value.
 #[tactic(auto, using(crate::proofs::AppendLemmas::one_member, crate::proofs::AppendLemmas::a_string))]
 pub fn write_type_text(kind: &str, out: &mut Vec<u8>) -> Result<u64, NoMemory>
-    ensures { IfOk result (λ deep. AppendsMembers out.old.items ((type_name, string kind.now) ∷ []) out.new.items deep) }
+    ensures { IfOk result (λ deep. AppendsMembers out.old.items ((type_name, string kind.now)
+        ∷ []) out.new.items deep) }
 {
     append_name("type", out)?;
     write_str(kind, out)?;
@@ -100,7 +105,8 @@ pub fn write_case_text<T: Part>(
     body: &T,
     out: &mut Vec<u8>,
 ) -> Result<u64, NoMemory>
-    ensures members { IfOk result (λ deep. AppendsMembers out.old.items ((type_name, string kind.now) ∷ (name.now, T.kind.tree body.now) ∷ []) out.new.items deep) }
+    ensures members { IfOk result (λ deep. AppendsMembers out.old.items
+        ((type_name, string kind.now) ∷ (name.now, T.kind.tree body.now) ∷ []) out.new.items deep) }
     ensures back { OnOk result (Returns T.kind body.now) }
 {
     let first = write_type_text(kind, out)?;
@@ -114,7 +120,8 @@ pub fn list_text<T: Part>(
     values: &List<T>,
     out: &mut Vec<u8>,
 ) -> Result<u64, NoMemory>
-    ensures text { IfOk result (λ deep. Appends out.old.items ((list_of T.kind).tree values.now) out.new.items deep) }
+    ensures text { IfOk result (λ deep. Appends out.old.items ((list_of T.kind).tree values.now)
+        out.new.items deep) }
     // On success: each value is read back from its own tree.
     ensures back { OnOk result (ReturnsEach T.kind values.now) }
 {
@@ -125,7 +132,8 @@ pub fn list_text<T: Part>(
 
 /// Appends each item of a list after a comma.
 fn append_items<T: Part>(alloc: Global, values: &[T], out: &mut Vec<u8>) -> Result<u64, NoMemory>
-    ensures items { IfOk result (λ deep. AppendsItems out.old.items (map T.kind.tree values.now) out.new.items deep) }
+    ensures items { IfOk result (λ deep. AppendsItems out.old.items (map T.kind.tree values.now)
+        out.new.items deep) }
     ensures back { OnOk result (ReturnsEach T.kind values.now) }
 {
     let mut deepest = 0;
@@ -139,7 +147,8 @@ fn append_items<T: Part>(alloc: Global, values: &[T], out: &mut Vec<u8>) -> Resu
 
 /// Appends a comma, a quoted name and a colon.
 pub fn append_name(name: &str, out: &mut Vec<u8>) -> Result<(), NoMemory>
-    ensures text { OnOk result (out.new.items ≡ out.old.items ++ 44 ∷ (quoted_text name.now ++ 58 ∷ [])) }
+    ensures text { OnOk result (out.new.items
+        ≡ out.old.items ++ 44 ∷ (quoted_text name.now ++ 58 ∷ [])) }
     ensures utf8 { OnOk result (IsUtf8 name.now) }
 {
     out.push(b',')?;
@@ -161,7 +170,8 @@ pub fn deeper(one: u64, other: u64) -> u64
 pub fn close_object(deepest: u64, start: usize, out: &mut Vec<u8>) -> Result<u64, NoMemory>
     // If `out` had `start` bytes before the members: on success the text of the object follows
     // those bytes.
-    ensures { (old : list ℕ) (ms : list (list ℕ × Tree)) → length old ≡ start → AppendsMembers old ms out.old.items deepest
+    ensures { (old : list ℕ) (ms : list (list ℕ × Tree)) → length old ≡ start
+        → AppendsMembers old ms out.old.items deepest
         → IfOk result (λ deep. Appends old (object (members_of ms)) out.new.items deep) }
 {
     close(b'{', start, b'}', out)?;
@@ -172,7 +182,8 @@ pub fn close_object(deepest: u64, start: usize, out: &mut Vec<u8>) -> Result<u64
 /// [`close_object`].
 #[tactic(auto, using(crate::proofs::AppendLemmas::whole_array))]
 fn close_array(deepest: u64, start: usize, out: &mut Vec<u8>) -> Result<u64, NoMemory>
-    ensures { (old : list ℕ) (ts : list Tree) → length old ≡ start → AppendsItems old ts out.old.items deepest
+    ensures { (old : list ℕ) (ts : list Tree) → length old ≡ start
+        → AppendsItems old ts out.old.items deepest
         → IfOk result (λ deep. Appends old (array (items_of ts)) out.new.items deep) }
 {
     close(b'[', start, b']', out)?;

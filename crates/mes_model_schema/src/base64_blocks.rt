@@ -30,7 +30,8 @@ pub(crate) fn decode_blocks(text: &[u8], octets: &mut [u8]) -> usize
     requires { (length text.now + 3) / 4 * 3 ≡ length octets.old }
     ensures ahead { 4 * result ≤ (length text.now - 1) / 4 }
     ensures in_octets { 12 * result ≤ length octets.new }
-    ensures front { take (16 * result) text.now ≡ encode_of standard (take (12 * result) octets.new) }
+    ensures front { take (16 * result) text.now
+        ≡ encode_of standard (take (12 * result) octets.new) }
 {
     let blocks = text.len().saturating_sub(5) / 16;
     for block in 0..blocks {
@@ -68,7 +69,8 @@ fn values(letters: u8x16) -> u8x16
 #[inline(always)]
 fn packed(values: u8x16) -> u8x16
     ensures lanes { length result ≡ 16 }
-    ensures exact { Each1 (λ v. v < 64) values → map letter_of values ≡ encode_of standard (take 12 result) }
+    ensures exact { Each1 (λ v. v < 64) values
+        → map letter_of values ≡ encode_of standard (take 12 result) }
 {
     let upper = values.dot4(u8x16::from_array([
         64, 1, 0, 0, 64, 1, 0, 0, 64, 1, 0, 0, 64, 1, 0, 0,

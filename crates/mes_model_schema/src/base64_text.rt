@@ -71,7 +71,8 @@ fn decode_front(text: &[u8], octets: &mut [u8]) -> usize
 /// Returns the sum of the table entries of four bytes, less than `NO` if all are letters.
 fn group_bytes(text: &[u8], at: usize) -> u32
     requires { at + 4 ≤ length text.now }
-    ensures { result < NO → take 4 (drop at text.now) ≡ encode_of standard (take 3 (to_le_bytes w32 result)) }
+    ensures { result < NO → take 4 (drop at text.now)
+        ≡ encode_of standard (take 3 (to_le_bytes w32 result)) }
 {
     FIRST[text[at] as usize]
         + SECOND[text[at + 1] as usize]
@@ -84,7 +85,8 @@ fn group_bytes(text: &[u8], at: usize) -> u32
 fn last_group(text: &[u8]) -> Option<(usize, u32)>
     ensures four { IfSome result (λ r. length text.now ≡ 4) }
     ensures few { IfSome result (λ r. r.0 ≤ 3) }
-    ensures exact { IfSome result (λ r. text.now ≡ encode_of standard (take r.0 (to_le_bytes w32 r.1))) }
+    ensures exact { IfSome result (λ r. text.now
+        ≡ encode_of standard (take r.0 (to_le_bytes w32 r.1))) }
 {
     if text.len() != 4 {
         return None;

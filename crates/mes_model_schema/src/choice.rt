@@ -41,7 +41,8 @@ pub trait Choice: Drop {
     ) -> Result<Self, PartFault>
         requires room { length path.now + STEPS ≤ MAX_PATH_STEPS }
         requires all { COUNT ≤ length found.now }
-        ensures { (ms : Members) → FindsEach 0 names ms found.now → Gives (table.read path.now ms) result };
+        ensures { (ms : Members) → FindsEach 0 names ms found.now
+            → Gives (table.read path.now ms) result };
 
     /// Appends the member `type` and the members of that type. On `NoMemory` only some may be
     /// appended.
@@ -50,14 +51,17 @@ pub trait Choice: Drop {
         members: &mut Vec<(Text, Json)>,
         alloc: Global,
     ) -> Result<(), NoMemory>
-        ensures members { OnOk result (pairs_view members.new.items ≡ pairs_view members.old.items ++ table.members self.now) }
-        ensures front { IfErr result (λ _. Continues (pairs_view members.old.items) (pairs_view members.new.items)) }
+        ensures members { OnOk result (pairs_view members.new.items
+            ≡ pairs_view members.old.items ++ table.members self.now) }
+        ensures front { IfErr result (λ _. Continues (pairs_view members.old.items)
+            (pairs_view members.new.items)) }
         ensures back { OnOk result (table.Back self.now) };
 
     /// Appends the texts of those members, each after a comma, and returns the greatest depth of
     /// their values. On `NoMemory` the content of `out` is unspecified.
     fn write_choice_text(&self, alloc: Global, out: &mut Vec<u8>) -> Result<u64, NoMemory>
-        ensures members { IfOk result (λ deep. AppendsMembers out.old.items (table.members self.now) out.new.items deep) }
+        ensures members { IfOk result (λ deep. AppendsMembers out.old.items (table.members self.now)
+            out.new.items deep) }
         ensures back { OnOk result (table.Back self.now) };
 
     /// Copies the value.

@@ -48,52 +48,66 @@ impl<F> AnyChoice<F> for Brand {
 
 /// A string, a boolean or a whole object has only one fault: the value has another JSON kind.
 pub fn kind_breaks()
-    ensures text { (at : List Place) (t : Tree) (f : FieldFault) → Breaks texts at t f ↔ OtherKind (IsString t) at f }
-    ensures truth { (at : List Place) (t : Tree) (f : FieldFault) → Breaks booleans at t f ↔ OtherKind (IsBoolean t) at f }
-    ensures object { (at : List Place) (t : Tree) (f : FieldFault) → Breaks objects at t f ↔ OtherKind (IsObject t) at f }
+    ensures text { (at : List Place) (t : Tree) (f : FieldFault)
+        → Breaks texts at t f ↔ OtherKind (IsString t) at f }
+    ensures truth { (at : List Place) (t : Tree) (f : FieldFault)
+        → Breaks booleans at t f ↔ OtherKind (IsBoolean t) at f }
+    ensures object { (at : List Place) (t : Tree) (f : FieldFault)
+        → Breaks objects at t f ↔ OtherKind (IsObject t) at f }
 {}
 
 /// A number or bytes field has two faults: another JSON kind, or a number out of range or invalid
 /// base64.
 pub fn value_breaks()
-    ensures whole { (at : List Place) (t : Tree) (f : FieldFault) → Breaks whole at t f ↔ ValueBreaks IsNumber NumberRange whole at t f }
-    ensures signed { (at : List Place) (t : Tree) (f : FieldFault) → Breaks signed32 at t f ↔ ValueBreaks IsNumber NumberRange signed32 at t f }
+    ensures whole { (at : List Place) (t : Tree) (f : FieldFault)
+        → Breaks whole at t f ↔ ValueBreaks IsNumber NumberRange whole at t f }
+    ensures signed { (at : List Place) (t : Tree) (f : FieldFault)
+        → Breaks signed32 at t f ↔ ValueBreaks IsNumber NumberRange signed32 at t f }
     // A decimal number: its fault is another JSON kind, or a number out of range.
     ensures units { (places : ℕ) (at : List Place) (t : Tree) (f : FieldFault)
         → Breaks (fixed places) at t f ↔ ValueBreaks IsNumber NumberRange (fixed places) at t f }
-    ensures bytes { (at : List Place) (t : Tree) (f : FieldFault) → Breaks base64_bytes at t f ↔ ValueBreaks IsString BadBase64 base64_bytes at t f }
+    ensures bytes { (at : List Place) (t : Tree) (f : FieldFault)
+        → Breaks base64_bytes at t f ↔ ValueBreaks IsString BadBase64 base64_bytes at t f }
 {}
 
 /// A required member has a fault if it occurs twice, is missing, or its value has the fault.
 pub fn needed_row_breaks<T: Part>()
-    ensures { (n : List ℕ) (at : List Place) (ms : Members) (f : FieldFault) → RowsBreak (need n T.kind) at ms f ↔ NeedBreaks T.kind n at ms f }
+    ensures { (n : List ℕ) (at : List Place) (ms : Members) (f : FieldFault)
+        → RowsBreak (need n T.kind) at ms f ↔ NeedBreaks T.kind n at ms f }
 {}
 
 /// An optional member has a fault if it occurs twice or its value has the fault.
 pub fn optional_row_breaks<T: Part>()
-    ensures { (n : List ℕ) (at : List Place) (ms : Members) (f : FieldFault) → RowsBreak (maybe n T.kind) at ms f ↔ OptionalBreaks T.kind n at ms f }
+    ensures { (n : List ℕ) (at : List Place) (ms : Members) (f : FieldFault)
+        → RowsBreak (maybe n T.kind) at ms f ↔ OptionalBreaks T.kind n at ms f }
 {}
 
 /// The member of a list, which may be absent, has a fault if it occurs twice or its list has one.
 pub fn list_row_breaks<T: Part>()
-    ensures { (n : List ℕ) (at : List Place) (ms : Members) (f : FieldFault) → RowsBreak (many n T.kind) at ms f ↔ OptionalBreaks (list_of T.kind) n at ms f }
+    ensures { (n : List ℕ) (at : List Place) (ms : Members) (f : FieldFault)
+        → RowsBreak (many n T.kind) at ms f ↔ OptionalBreaks (list_of T.kind) n at ms f }
 {}
 
 /// A flag has a fault if its member occurs twice or is not an object.
 pub fn flag_row_breaks()
-    ensures { (n : List ℕ) (at : List Place) (ms : Members) (f : FieldFault) → RowsBreak (flag n) at ms f ↔ OptionalBreaks objects n at ms f }
+    ensures { (n : List ℕ) (at : List Place) (ms : Members) (f : FieldFault)
+        → RowsBreak (flag n) at ms f ↔ OptionalBreaks objects n at ms f }
 {}
 
 /// An unsupported member has a fault if it occurs twice, or once with any value but `null`.
 pub fn left_out_row_breaks()
-    ensures row { (n : List ℕ) (at : List Place) (ms : Members) (f : FieldFault) → RowsBreak (maybe n left_out) at ms f ↔ OptionalBreaks left_out n at ms f }
-    ensures value { (at : List Place) (t : Tree) (f : FieldFault) → Breaks left_out at t f ↔ IsAt at LeftOut f }
+    ensures row { (n : List ℕ) (at : List Place) (ms : Members) (f : FieldFault)
+        → RowsBreak (maybe n left_out) at ms f ↔ OptionalBreaks left_out n at ms f }
+    ensures value { (at : List Place) (t : Tree) (f : FieldFault)
+        → Breaks left_out at t f ↔ IsAt at LeftOut f }
 {}
 
 /// Consecutive rows have the fault of the first part or, if that is read, of the second.
 pub fn joined_rows_break<F, G, R: AnyRows<F>, S: AnyRows<G>>()
-    ensures both { (at : List Place) (ms : Members) (f : FieldFault) → RowsBreak (R.table ⨾ S.table) at ms f ↔ JoinedBreak R.table S.table at ms f }
-    ensures none { (at : List Place) (ms : Members) (f : FieldFault) → RowsBreak no_rows at ms f → ⊥ }
+    ensures both { (at : List Place) (ms : Members) (f : FieldFault)
+        → RowsBreak (R.table ⨾ S.table) at ms f ↔ JoinedBreak R.table S.table at ms f }
+    ensures none { (at : List Place) (ms : Members) (f : FieldFault) → RowsBreak no_rows at ms f
+        → ⊥ }
 {}
 
 /// Rows whose values are converted to another type have the same faults as the rows themselves.
@@ -105,22 +119,26 @@ pub fn made_rows_break<F, G, R: AnyRows<F>>()
 
 /// A message has a fault if it is not an object or its rows have the fault.
 pub fn message_breaks<F, R: AnyRows<F>>()
-    ensures { (at : List Place) (t : Tree) (f : FieldFault) → Breaks (message R.table) at t f ↔ MessageBreaks R.table at t f }
+    ensures { (at : List Place) (t : Tree) (f : FieldFault)
+        → Breaks (message R.table) at t f ↔ MessageBreaks R.table at t f }
 {}
 
 /// A list has a fault if it is not an array, or its first invalid item has the fault.
 pub fn list_breaks<T: Part>()
-    ensures { (at : List Place) (t : Tree) (f : FieldFault) → Breaks (list_of T.kind) at t f ↔ ListBreaks T.kind at t f }
+    ensures { (at : List Place) (t : Tree) (f : FieldFault)
+        → Breaks (list_of T.kind) at t f ↔ ListBreaks T.kind at t f }
 {}
 
 /// A list in either form, an array or an object with that array, has the fault of its form.
 pub fn either_list_breaks<T: Part>()
-    ensures { (n : List ℕ) (at : List Place) (t : Tree) (f : FieldFault) → Breaks (either_list n T.kind) at t f ↔ EitherListBreaks n T.kind at t f }
+    ensures { (n : List ℕ) (at : List Place) (t : Tree) (f : FieldFault)
+        → Breaks (either_list n T.kind) at t f ↔ EitherListBreaks n T.kind at t f }
 {}
 
 /// A typed value has a fault if its row `type` has the fault, or the rows of its type have it.
 pub fn typed_rows_break<F, C: AnyChoice<F>>()
-    ensures { (at : List Place) (ms : Members) (f : FieldFault) → RowsBreak (typed C.choice) at ms f ↔ TypedBreak C.choice at ms f }
+    ensures { (at : List Place) (ms : Members) (f : FieldFault)
+        → RowsBreak (typed C.choice) at ms f ↔ TypedBreak C.choice at ms f }
 {}
 
 /// A type selects the rows whose fault is reported. An unknown type has a fault of its own, or
@@ -128,24 +146,30 @@ pub fn typed_rows_break<F, C: AnyChoice<F>>()
 pub fn case_breaks<F, G, R: AnyRows<F>, C: AnyChoice<G>>()
     // The rows of the type that was found have the fault, or those of the other types.
     ensures of { (this : List ℕ) (at : List Place) (kind : List ℕ) (ms : Members) (f : FieldFault)
-        → ChoiceBreaks (case this R.table C.choice) at kind ms f ↔ CaseBreaks this R.table C.choice at kind ms f }
+        → ChoiceBreaks (case this R.table C.choice) at kind ms f
+        ↔ CaseBreaks this R.table C.choice at kind ms f }
     // Types that are all known: another type has this fault, in the row `type`.
-    ensures unknown { (why : FieldFaultKind) (at : List Place) (kind : List ℕ) (ms : Members) (f : FieldFault)
+    ensures unknown { (why : FieldFaultKind) (at : List Place) (kind : List ℕ) (ms : Members)
+        (f : FieldFault)
         → ChoiceBreaks (no_other why) at kind ms f ↔ IsAt (below at type_name) why f }
     // Types with others kept by name: another type has no fault.
-    ensures kept { (known : List (List ℕ)) (at : List Place) (kind : List ℕ) (ms : Members) (f : FieldFault)
+    ensures kept { (known : List (List ℕ)) (at : List Place) (kind : List ℕ) (ms : Members)
+        (f : FieldFault)
         → ChoiceBreaks (others known) at kind ms f → ⊥ }
 {}
 
 /// A label has a fault if it is not an object, or `key` or `value` has the fault, in this order.
 pub fn label_breaks()
     // `key` occurs twice, is missing or is no string; or `value` occurs twice or is no string.
-    ensures { (at : List Place) (t : Tree) (f : FieldFault) → Breaks label at t f ↔ (OtherKind (IsObject t) at f
+    ensures { (at : List Place) (t : Tree) (f : FieldFault)
+        → Breaks label at t f ↔ (OtherKind (IsObject t) at f
         ⊎ ((ms : Members) × (t ≡ object ms) × (NeedBreaks texts (codes "key") at ms f
-        ⊎ (AreRead (need (codes "key") texts) ms × OptionalBreaks texts (codes "value") at ms f)))) }
+        ⊎ (AreRead (need (codes "key") texts) ms
+        × OptionalBreaks texts (codes "value") at ms f)))) }
 {}
 
 /// Labels have a fault if they are not an object, `labels` occurs twice, or its list has the fault.
 pub fn labels_break()
-    ensures { (at : List Place) (t : Tree) (f : FieldFault) → Breaks labels at t f ↔ OfMessage (ListThen (codes "labels") label NoRows) at t f }
+    ensures { (at : List Place) (t : Tree) (f : FieldFault)
+        → Breaks labels at t f ↔ OfMessage (ListThen (codes "labels") label NoRows) at t f }
 {}

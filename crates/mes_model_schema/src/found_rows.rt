@@ -67,7 +67,8 @@ pub fn find_rows<'a, const N: usize>(
     requires once { distinct (map (λ n. n.now) names.now) ≡ true }
     requires nothing { (i : ℕ) → slice_index_or found.old.items i Nothing ≡ Nothing }
     ensures all { length found.new.items ≡ length found.old.items }
-    ensures finds { (t : Tree) → BeginsWith element.now t → FindsRows (map (λ n. n.now) names.now) path.now t found.new.items result }
+    ensures finds { (t : Tree) → BeginsWith element.now t
+        → FindsRows (map (λ n. n.now) names.now) path.now t found.new.items result }
 {
     let Some(mut members) = element.members() else {
         return Err(refusal_at(alloc, path, FieldFaultKind::WrongKind));
@@ -107,7 +108,8 @@ fn note_member<'a, const N: usize>(
     requires once { distinct (map (λ n. n.now) names.now) ≡ true }
     ensures all { length found.new.items ≡ length found.old.items }
     ensures notes { (i : ℕ) → i < length names.now → slice_index_or found.new.items i Nothing
-        ≡ noted_if (bytes_eq name.now (slice_index_or (map (λ n. n.now) names.now) i [])) value.now (slice_index_or found.old.items i Nothing) }
+        ≡ noted_if (bytes_eq name.now (slice_index_or (map (λ n. n.now) names.now) i [])) value.now
+        (slice_index_or found.old.items i Nothing) }
 {
     for (i, row) in names.iter().enumerate() {
         if name == *row {

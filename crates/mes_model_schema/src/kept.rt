@@ -42,7 +42,8 @@ impl Kept {
     pub fn new(json: Json) -> Result<Kept, Json>
         ensures ok { IfOk result (λ kept. view json ≡ object kept) }
         // On error: the value is returned unchanged, and it is not an object.
-        ensures err { IfErr result (λ again. (again ≡ json) × ((ms : Members) → view json ≡ object ms → ⊥)) }
+        ensures err { IfErr result (λ again. (again ≡ json)
+            × ((ms : Members) → view json ≡ object ms → ⊥)) }
     {
         match json {
             Json::Map(_) => Ok(Kept { json }),
@@ -53,8 +54,10 @@ impl Kept {
     /// Copies the object at a position of a tape. Returns `None` if the value there is not an
     /// object, without allocating.
     pub fn at_place(alloc: Global, element: &Element<'_>) -> Result<Option<Kept>, NoMemory>
-        ensures ok { (t : Tree) → BeginsWith element.now t → IfOk result (λ found. found ≡ as_members t) }
-        ensures other { (t : Tree) → BeginsWith element.now t → as_members t ≡ None → result ≡ Ok None }
+        ensures ok { (t : Tree) → BeginsWith element.now t
+            → IfOk result (λ found. found ≡ as_members t) }
+        ensures other { (t : Tree) → BeginsWith element.now t → as_members t ≡ None
+            → result ≡ Ok None }
     {
         if element.members().is_none() {
             return Ok(None);

@@ -200,7 +200,8 @@ fn labels_tree(alloc: Global, list: &List<Label>) -> Result<Json, NoMemory>
 /// Appends the text of that object, and returns its nesting depth.
 #[tactic(auto, using(crate::specs::Labels::labels_back), unfolding(crate::specs::Labels::labels))]
 fn labels_text(alloc: Global, list: &List<Label>, out: &mut Vec<u8>) -> Result<u64, NoMemory>
-    ensures text { IfOk result (λ deep. Appends out.old.items (labels.tree list.now) out.new.items deep) }
+    ensures text { IfOk result (λ deep. Appends out.old.items (labels.tree list.now) out.new.items
+        deep) }
     // On success: it is read back.
     ensures back { OnOk result (Returns labels list.now) }
 {

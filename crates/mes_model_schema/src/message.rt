@@ -67,7 +67,8 @@ pub fn message_tree<R: RowRefList>(
     requires { R.COUNT ≡ length names.now }
     // On success: the object of the members that the table writes.
     ensures tree { IfOk result (λ t. view t
-        ≡ object (members_of ((R.table (map (λ n. n.now) names.now) 0).members (R.values rows.now)))) }
+        ≡ object (members_of ((R.table (map (λ n. n.now) names.now) 0).members
+        (R.values rows.now)))) }
     ensures back { OnOk result ((R.table (map (λ n. n.now) names.now) 0).Back (R.values rows.now)) }
 {
     let mut members = Vec::new(alloc);
@@ -85,7 +86,8 @@ pub fn message_text<R: RowRefList>(
     requires { R.COUNT ≡ length names.now }
     // On success: the canonical text of that object is appended.
     ensures text { IfOk result (λ deep. Appends out.old.items
-        (object (members_of ((R.table (map (λ n. n.now) names.now) 0).members (R.values rows.now)))) out.new.items deep) }
+        (object (members_of ((R.table (map (λ n. n.now) names.now) 0).members (R.values rows.now))))
+        out.new.items deep) }
     ensures back { OnOk result ((R.table (map (λ n. n.now) names.now) 0).Back (R.values rows.now)) }
 {
     let start = out.len();
@@ -106,7 +108,8 @@ pub fn read_typed<C: Choice, const N: usize>(
     requires each { length names.now ≡ N }
     requires names { are_names (map (λ n. n.now) names.now) ≡ true }
     requires fits { map (λ n. n.now) names.now ≡ C.names }
-    ensures { (t : Tree) → BeginsWith element.now t → Gives ((message C.table).read path.now t) result }
+    ensures { (t : Tree) → BeginsWith element.now t
+        → Gives ((message C.table).read path.now t) result }
 {
     let mut found = nothing_found::<N>();
     find_rows(alloc, element, names, path, &mut found)?;
@@ -125,7 +128,8 @@ pub fn typed_tree<C: Choice>(alloc: Global, value: &C) -> Result<Json, NoMemory>
 
 /// Appends the text of such a value, and returns its nesting depth.
 pub fn typed_text<C: Choice>(alloc: Global, value: &C, out: &mut Vec<u8>) -> Result<u64, NoMemory>
-    ensures text { IfOk result (λ deep. Appends out.old.items ((message C.table).tree value.now) out.new.items deep) }
+    ensures text { IfOk result (λ deep. Appends out.old.items ((message C.table).tree value.now)
+        out.new.items deep) }
     ensures back { OnOk result (C.table.Back value.now) }
 {
     let start = out.len();

@@ -223,7 +223,8 @@ fn number_tree(alloc: Global, text: &str) -> Result<Json, NoMemory>
 /// Appends the text of a decimal number.
 #[tactic(auto, using(crate::proofs::NumberPlaces::reads_is_number), unfolding(crate::specs::Numbers::fixed))]
 fn append_fixed<const P: u32>(value: Fixed<P>, out: &mut Vec<u8>) -> Result<u64, NoMemory>
-    ensures text { IfOk result (λ deep. Appends out.old.items ((fixed P).tree value.entry) out.new.items deep) }
+    ensures text { IfOk result (λ deep. Appends out.old.items ((fixed P).tree value.entry)
+        out.new.items deep) }
     ensures back { OnOk result (Returns (fixed P) value.entry) }
 {
     let mut text = ArrayString::new();

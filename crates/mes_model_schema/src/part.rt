@@ -86,7 +86,8 @@ pub trait Part: Drop {
     /// Appends the canonical text of that tree and returns its nesting depth. On `NoMemory` the
     /// content of `out` is unspecified.
     fn write_json(&self, alloc: Global, out: &mut Vec<u8>) -> Result<u64, NoMemory>
-        ensures text { IfOk result (λ deep. Appends out.old.items (kind.tree self.now) out.new.items deep) }
+        ensures text { IfOk result (λ deep. Appends out.old.items (kind.tree self.now) out.new.items
+            deep) }
         // On success: the value is read back from the tree.
         ensures back { OnOk result (Returns kind self.now) }
     {

@@ -48,7 +48,8 @@ impl Model for Path {
 
     ghost view = { λ p. map place_of (take p.len p.steps) };
 
-    ghost invariant = { λ p. (length p.steps ≡ MAX_PATH_STEPS) × (p.len ≤ MAX_PATH_STEPS) × IsPath (map place_of (take p.len p.steps)) };
+    ghost invariant = { λ p. (length p.steps ≡ MAX_PATH_STEPS) × (p.len ≤ MAX_PATH_STEPS)
+        × IsPath (map place_of (take p.len p.steps)) };
 }
 
 impl Path {

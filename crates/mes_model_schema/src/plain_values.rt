@@ -20,7 +20,8 @@ pub fn text_in<'a>(
     element: &Element<'a>,
     path: &PathBuilder<'_>,
 ) -> Result<&'a str, PartFault>
-    ensures { (t : Tree) → BeginsWith element.now t → Shows (λ s. s.now) (text_of path.now t) result }
+    ensures { (t : Tree) → BeginsWith element.now t
+        → Shows (λ s. s.now) (text_of path.now t) result }
 {
     match element.as_text() {
         Some(text) => Ok(text),
@@ -35,7 +36,8 @@ pub(crate) fn number_in<'a>(
     element: &Element<'a>,
     path: &PathBuilder<'_>,
 ) -> Result<&'a str, PartFault>
-    ensures { (t : Tree) → BeginsWith element.now t → Shows (λ n. n.now) (number_of path.now t) result }
+    ensures { (t : Tree) → BeginsWith element.now t
+        → Shows (λ n. n.now) (number_of path.now t) result }
 {
     match element.as_number() {
         Some(number) => Ok(number),

@@ -36,7 +36,8 @@ pub fn required<T: Part>(
 ) -> Result<T, PartFault>
     requires room { length path.now + 1 + T.STEPS ≤ MAX_PATH_STEPS }
     requires step { IsPlace (Place.name name.now) }
-    ensures { (ms : Members) → IsFound found.now (values_named name.now ms) → Gives (required name.now T.kind path.now ms) result }
+    ensures { (ms : Members) → IsFound found.now (values_named name.now ms)
+        → Gives (required name.now T.kind path.now ms) result }
 {
     match unique_value(found) {
         Unique::Present(value) => T::read_from(alloc, &value, &path.with(Step::Name(name))),
@@ -55,7 +56,8 @@ pub fn optional<T: Part>(
 ) -> Result<Option<T>, PartFault>
     requires room { length path.now + 1 + T.STEPS ≤ MAX_PATH_STEPS }
     requires step { IsPlace (Place.name name.now) }
-    ensures { (ms : Members) → IsFound found.now (values_named name.now ms) → Gives (optional name.now T.kind path.now ms) result }
+    ensures { (ms : Members) → IsFound found.now (values_named name.now ms)
+        → Gives (optional name.now T.kind path.now ms) result }
 {
     match unique_value(found) {
         Unique::Present(value) => {
@@ -77,7 +79,8 @@ pub fn repeated<T: Part>(
 ) -> Result<List<T>, PartFault>
     requires room { length path.now + 2 + T.STEPS ≤ MAX_PATH_STEPS }
     requires step { IsPlace (Place.name name.now) }
-    ensures { (ms : Members) → IsFound found.now (values_named name.now ms) → Gives (repeated name.now T.kind path.now ms) result }
+    ensures { (ms : Members) → IsFound found.now (values_named name.now ms)
+        → Gives (repeated name.now T.kind path.now ms) result }
 {
     match unique_value(found) {
         Unique::Present(value) => read_items(alloc, &value, &path.with(Step::Name(name))),
@@ -97,7 +100,8 @@ pub fn flagged(
 ) -> Result<bool, PartFault>
     requires room { length path.now < MAX_PATH_STEPS }
     requires step { IsPlace (Place.name name.now) }
-    ensures { (ms : Members) → IsFound found.now (values_named name.now ms) → Shows (λ x. x) (flagged name.now path.now ms) result }
+    ensures { (ms : Members) → IsFound found.now (values_named name.now ms)
+        → Shows (λ x. x) (flagged name.now path.now ms) result }
 {
     match unique_value(found) {
         Unique::Present(value) => match value.members() {
@@ -117,7 +121,8 @@ pub fn type_of<'a>(
     path: &PathBuilder<'_>,
 ) -> Result<&'a str, PartFault>
     requires { length path.now < MAX_PATH_STEPS }
-    ensures { (ms : Members) → IsFound found.now (values_named type_name ms) → Shows (λ s. s.now) (required type_name texts path.now ms) result }
+    ensures { (ms : Members) → IsFound found.now (values_named type_name ms)
+        → Shows (λ s. s.now) (required type_name texts path.now ms) result }
 {
     match unique_value(found) {
         Unique::Present(value) => match value.as_text() {
@@ -139,7 +144,8 @@ pub fn read_items<T: Part>(
     path: &PathBuilder<'_>,
 ) -> Result<List<T>, PartFault>
     requires { length path.now + 1 + T.STEPS ≤ MAX_PATH_STEPS }
-    ensures { (t : Tree) → BeginsWith element.now t → Gives ((list_of T.kind).read path.now t) result }
+    ensures { (t : Tree) → BeginsWith element.now t
+        → Gives ((list_of T.kind).read path.now t) result }
 {
     let Some(mut items) = element.items() else {
         return Err(refusal_at(alloc, path, FieldFaultKind::WrongKind));
@@ -162,7 +168,8 @@ pub fn read_either_list<T: Part>(
 ) -> Result<List<T>, PartFault>
     requires room { length path.now + 2 + T.STEPS ≤ MAX_PATH_STEPS }
     requires step { IsPlace (Place.name name.now) }
-    ensures { (t : Tree) → BeginsWith element.now t → Gives ((either_list name.now T.kind).read path.now t) result }
+    ensures { (t : Tree) → BeginsWith element.now t
+        → Gives ((either_list name.now T.kind).read path.now t) result }
 {
     if element.items().is_some() {
         return read_items(alloc, element, path);
@@ -193,7 +200,8 @@ pub fn left_out(
 ) -> Result<(), PartFault>
     requires room { length path.now < MAX_PATH_STEPS }
     requires step { IsPlace (Place.name name.now) }
-    ensures { (ms : Members) → IsFound found.now (values_named name.now ms) → Shows (λ _. None) (optional name.now left_out path.now ms) result }
+    ensures { (ms : Members) → IsFound found.now (values_named name.now ms)
+        → Shows (λ _. None) (optional name.now left_out path.now ms) result }
 {
     match unique_value(found) {
         Unique::Present(_) => Err(row_refusal(alloc, path, name, FieldFaultKind::LeftOut)),
@@ -205,7 +213,8 @@ pub fn left_out(
 /// Returns the only value that was found, if it is not `null`.
 #[tactic(auto, using(crate::proofs::ValueLemmas::single_none, crate::proofs::ValueLemmas::single_null, crate::proofs::ValueLemmas::single_one, crate::proofs::ValueLemmas::single_twice))]
 fn unique_value<'a>(found: &Found<'a>) -> Unique<'a>
-    ensures { (at : list Place) (ts : list Tree) → IsFound found.now ts → IsSole at (single at ts) result }
+    ensures { (at : list Place) (ts : list Tree) → IsFound found.now ts
+        → IsSole at (single at ts) result }
 {
     match found {
         Found::Nothing => Unique::Absent,

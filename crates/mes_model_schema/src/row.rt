@@ -37,7 +37,8 @@ pub trait Row {
     ) -> Result<Self::Value, PartFault>
         requires room { length path.now + STEPS ≤ MAX_PATH_STEPS }
         requires step { IsPlace (Place.name name.now) }
-        ensures { (ms : Members) → IsFound found.now (values_named name.now ms) → Gives ((table name.now).read path.now ms) result };
+        ensures { (ms : Members) → IsFound found.now (values_named name.now ms)
+            → Gives ((table name.now).read path.now ms) result };
 }
 
 /// A required member.

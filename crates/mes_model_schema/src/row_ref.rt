@@ -33,14 +33,17 @@ pub trait RowRef {
         alloc: Global,
         name: &str,
     ) -> Result<(), NoMemory>
-        ensures members { OnOk result (pairs_view members.new.items ≡ pairs_view members.old.items ++ (table name.now).members (value self.now)) }
-        ensures unchanged { IfErr result (λ _. pairs_view members.new.items ≡ pairs_view members.old.items) }
+        ensures members { OnOk result (pairs_view members.new.items
+            ≡ pairs_view members.old.items ++ (table name.now).members (value self.now)) }
+        ensures unchanged { IfErr result (λ _. pairs_view members.new.items
+            ≡ pairs_view members.old.items) }
         ensures back { OnOk result ((table name.now).Back (value self.now)) };
 
     /// Appends the text of that member after a comma and returns the depth of its value. On
     /// `NoMemory` the content of `out` is unspecified.
     fn write_row_text(&self, alloc: Global, name: &str, out: &mut Vec<u8>) -> Result<u64, NoMemory>
-        ensures members { IfOk result (λ deep. AppendsMembers out.old.items ((table name.now).members (value self.now)) out.new.items deep) }
+        ensures members { IfOk result (λ deep. AppendsMembers out.old.items
+            ((table name.now).members (value self.now)) out.new.items deep) }
         ensures back { OnOk result ((table name.now).Back (value self.now)) };
 
     /// Copies the value.

@@ -37,9 +37,12 @@ pub trait RowRefList {
         requires { first + COUNT ≤ length names.now }
         // On success: the members that the table writes are appended.
         ensures members { OnOk result (pairs_view members.new.items
-            ≡ pairs_view members.old.items ++ (table (map (λ n. n.now) names.now) first).members (values self.now)) }
-        ensures front { IfErr result (λ _. Continues (pairs_view members.old.items) (pairs_view members.new.items)) }
-        ensures back { OnOk result ((table (map (λ n. n.now) names.now) first).Back (values self.now)) };
+            ≡ pairs_view members.old.items ++ (table (map (λ n. n.now) names.now) first).members
+            (values self.now)) }
+        ensures front { IfErr result (λ _. Continues (pairs_view members.old.items)
+            (pairs_view members.new.items)) }
+        ensures back { OnOk result ((table (map (λ n. n.now) names.now) first).Back
+            (values self.now)) };
 
     /// Appends the texts of those members, each after a comma, and returns the greatest depth of
     /// their values. On `NoMemory` the content of `out` is unspecified.
@@ -53,8 +56,10 @@ pub trait RowRefList {
         requires { first + COUNT ≤ length names.now }
         // On success: the texts of the members that the table writes are appended.
         ensures members { IfOk result (λ deep. AppendsMembers out.old.items
-            ((table (map (λ n. n.now) names.now) first).members (values self.now)) out.new.items deep) }
-        ensures back { OnOk result ((table (map (λ n. n.now) names.now) first).Back (values self.now)) };
+            ((table (map (λ n. n.now) names.now) first).members (values self.now)) out.new.items
+            deep) }
+        ensures back { OnOk result ((table (map (λ n. n.now) names.now) first).Back
+            (values self.now)) };
 
     /// Copies the values.
     fn copy_rows(&self, alloc: Global) -> Result<Self::Values, NoMemory>
@@ -63,7 +68,8 @@ pub trait RowRefList {
     /// Shows that, under any names, each value of the rows is read back from its tree. Does not
     /// allocate.
     fn rows_read_back(&self)
-        ensures { (names : list (list ℕ)) (first : ℕ) → (table names first).Back (values self.now) };
+        ensures { (names : list (list ℕ)) (first : ℕ)
+            → (table names first).Back (values self.now) };
 }
 
 impl RowRefList for () {

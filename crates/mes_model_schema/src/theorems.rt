@@ -33,7 +33,8 @@ pub fn most_steps<T: Part>()
 
 /// A value that is read back from its own tree is read back at any path.
 pub fn returned<T: Part>()
-    ensures { (at : list Place) (value : T) → Returns T.kind value → T.kind.read at (T.kind.tree value) ≡ Ok value }
+    ensures { (at : list Place) (value : T) → Returns T.kind value
+        → T.kind.read at (T.kind.tree value) ≡ Ok value }
 {}
 
 /// Law: the value is read back from the tree that it is written as. Does not allocate.
@@ -99,5 +100,6 @@ pub fn read_list<T: Part>(alloc: Global, json: &Json, path: &Path) -> Result<Lis
 /// Paths have at most 16 steps, names of 31 bytes and texts of 512 bytes; messages have at most 64
 /// rows.
 pub fn part_limits()
-    ensures { (MAX_PATH_STEPS ≡ 16) × (MAX_PATH_NAME ≡ 31) × (MAX_PATH_TEXT ≡ 512) × (MAX_ROWS ≡ 64) }
+    ensures { (MAX_PATH_STEPS ≡ 16) × (MAX_PATH_NAME ≡ 31) × (MAX_PATH_TEXT ≡ 512)
+        × (MAX_ROWS ≡ 64) }
 {}

@@ -21,8 +21,10 @@ pub fn put<T: Part>(
     name: &str,
     value: &T,
 ) -> Result<(), NoMemory>
-    ensures members { OnOk result (pairs_view members.new.items ≡ pairs_view members.old.items ++ (need name.now T.kind).members value.now) }
-    ensures unchanged { IfErr result (λ _. pairs_view members.new.items ≡ pairs_view members.old.items) }
+    ensures members { OnOk result (pairs_view members.new.items
+        ≡ pairs_view members.old.items ++ (need name.now T.kind).members value.now) }
+    ensures unchanged { IfErr result (λ _. pairs_view members.new.items
+        ≡ pairs_view members.old.items) }
     ensures back { OnOk result ((need name.now T.kind).Back value.now) }
 {
     let tree = value.tree(alloc)?;
@@ -36,8 +38,10 @@ pub fn push_optional_tree<T: Part>(
     name: &str,
     value: &Option<T>,
 ) -> Result<(), NoMemory>
-    ensures members { OnOk result (pairs_view members.new.items ≡ pairs_view members.old.items ++ (maybe name.now T.kind).members value.now) }
-    ensures unchanged { IfErr result (λ _. pairs_view members.new.items ≡ pairs_view members.old.items) }
+    ensures members { OnOk result (pairs_view members.new.items
+        ≡ pairs_view members.old.items ++ (maybe name.now T.kind).members value.now) }
+    ensures unchanged { IfErr result (λ _. pairs_view members.new.items
+        ≡ pairs_view members.old.items) }
     ensures back { OnOk result ((maybe name.now T.kind).Back value.now) }
 {
     match value {
@@ -53,8 +57,10 @@ pub fn push_repeated_tree<T: Part>(
     name: &str,
     values: &List<T>,
 ) -> Result<(), NoMemory>
-    ensures members { OnOk result (pairs_view members.new.items ≡ pairs_view members.old.items ++ (many name.now T.kind).members values.now) }
-    ensures unchanged { IfErr result (λ _. pairs_view members.new.items ≡ pairs_view members.old.items) }
+    ensures members { OnOk result (pairs_view members.new.items
+        ≡ pairs_view members.old.items ++ (many name.now T.kind).members values.now) }
+    ensures unchanged { IfErr result (λ _. pairs_view members.new.items
+        ≡ pairs_view members.old.items) }
     ensures back { OnOk result ((many name.now T.kind).Back values.now) }
 {
     if values.is_empty() {
@@ -71,8 +77,10 @@ pub fn push_flag_tree(
     name: &str,
     set: bool,
 ) -> Result<(), NoMemory>
-    ensures members { OnOk result (pairs_view members.new.items ≡ pairs_view members.old.items ++ (flag name.now).members set) }
-    ensures unchanged { IfErr result (λ _. pairs_view members.new.items ≡ pairs_view members.old.items) }
+    ensures members { OnOk result (pairs_view members.new.items
+        ≡ pairs_view members.old.items ++ (flag name.now).members set) }
+    ensures unchanged { IfErr result (λ _. pairs_view members.new.items
+        ≡ pairs_view members.old.items) }
 {
     if set {
         push_member(members, alloc, name, whole_object(Vec::new(alloc)))
@@ -87,8 +95,10 @@ pub fn push_type_tree(
     alloc: Global,
     kind: &str,
 ) -> Result<(), NoMemory>
-    ensures members { OnOk result (pairs_view members.new.items ≡ pairs_view members.old.items ++ (type_name, string kind.now) ∷ []) }
-    ensures unchanged { IfErr result (λ _. pairs_view members.new.items ≡ pairs_view members.old.items) }
+    ensures members { OnOk result (pairs_view members.new.items
+        ≡ pairs_view members.old.items ++ (type_name, string kind.now) ∷ []) }
+    ensures unchanged { IfErr result (λ _. pairs_view members.new.items
+        ≡ pairs_view members.old.items) }
 {
     let kind = Text::of(alloc, kind)?;
     push_member(members, alloc, "type", Json::Text(kind))
@@ -143,8 +153,10 @@ fn push_member(
     name: &str,
     tree: Json,
 ) -> Result<(), NoMemory>
-    ensures members { OnOk result (pairs_view members.new.items ≡ pairs_view members.old.items ++ (name.now, view tree) ∷ []) }
-    ensures unchanged { IfErr result (λ _. pairs_view members.new.items ≡ pairs_view members.old.items) }
+    ensures members { OnOk result (pairs_view members.new.items
+        ≡ pairs_view members.old.items ++ (name.now, view tree) ∷ []) }
+    ensures unchanged { IfErr result (λ _. pairs_view members.new.items
+        ≡ pairs_view members.old.items) }
 {
     let name = Text::of(alloc, name)?;
     members.push((name, tree))?;

@@ -15,10 +15,12 @@ ghost use Rattle.mes_model_task.specs.TaskStatuses.{task_status};
 /// A state has a fault if it is not a string (`WrongKind`), or not the name of a state
 /// (`UnknownName`).
 pub fn state_breaks()
-    ensures { (at : List Place) (t : Tree) (f : FieldFault) → Breaks states at t f ↔ ValueBreaks IsString UnknownName states at t f }
+    ensures { (at : List Place) (t : Tree) (f : FieldFault)
+        → Breaks states at t f ↔ ValueBreaks IsString UnknownName states at t f }
 {}
 
 /// A status has a fault if it is not an object, or the first row that is not read has the fault.
 pub fn task_status_breaks()
-    ensures { (at : List Place) (t : Tree) (f : FieldFault) → Breaks task_status at t f ↔ OfMessage OfStatus at t f }
+    ensures { (at : List Place) (t : Tree) (f : FieldFault)
+        → Breaks task_status at t f ↔ OfMessage OfStatus at t f }
 {}

@@ -13,12 +13,15 @@ use mes_msg_record::RecordFault;
 /// fault. Running out of memory does not count as a fault of the bytes.
 pub fn message_reading_is_unique<T: Part>()
     // Any bytes have a value or a fault.
-    ensures some { (b : List ℕ) → ((v : T) × IsTextOf T.kind b v) ⊎ ((why : Fault) × (why ≢ RecordFault.NoMemory) × IsFaultOf T.kind b why) }
+    ensures some { (b : List ℕ) → ((v : T) × IsTextOf T.kind b v)
+        ⊎ ((why : Fault) × (why ≢ RecordFault.NoMemory) × IsFaultOf T.kind b why) }
     ensures value { (b : List ℕ) (v w : T) → IsTextOf T.kind b v → IsTextOf T.kind b w → v ≡ w }
     // Any bytes have at most one fault.
-    ensures why { (b : List ℕ) (f g : Fault) → f ≢ RecordFault.NoMemory → g ≢ RecordFault.NoMemory → IsFaultOf T.kind b f → IsFaultOf T.kind b g → f ≡ g }
+    ensures why { (b : List ℕ) (f g : Fault) → f ≢ RecordFault.NoMemory → g ≢ RecordFault.NoMemory
+        → IsFaultOf T.kind b f → IsFaultOf T.kind b g → f ≡ g }
     // No bytes have both a value and a fault.
-    ensures apart { (b : List ℕ) (v : T) (f : Fault) → f ≢ RecordFault.NoMemory → IsTextOf T.kind b v → IsFaultOf T.kind b f → ⊥ }
+    ensures apart { (b : List ℕ) (v : T) (f : Fault) → f ≢ RecordFault.NoMemory
+        → IsTextOf T.kind b v → IsFaultOf T.kind b f → ⊥ }
 {
     text_reading_is_unique();
 }

@@ -125,7 +125,8 @@ impl Call {
         // On success: the bytes are a JSON text of the call.
         ensures ok { IfOk result (IsTextOf call bytes.now) }
         // If the bytes are a JSON text of a call, only a failed allocation can prevent its return.
-        ensures only { (c : Call) → IsTextOf call bytes.now c → MatchResult result (λ r. r ≡ c) (λ e. e ≡ RecordFault.NoMemory) }
+        ensures only { (c : Call) → IsTextOf call bytes.now c
+            → MatchResult result (λ r. r ≡ c) (λ e. e ≡ RecordFault.NoMemory) }
 
         // Each error: the bytes are not a JSON text, or not a call, with the place of the first
         // fault.
@@ -152,7 +153,9 @@ impl Call {
         ensures good { IfOk result (λ _. Fits call self.now limit) }
         ensures spells { IfOk result (λ text. IsTextOf call text.items self.now) }
         // If the call fits, the only error is a failed allocation.
-        ensures only { Fits call self.now limit → MatchResult result (λ text. text.items ≡ canonical_of call self.now) (λ e. e ≡ EncodeFault.NoMemory) }
+        ensures only { Fits call self.now limit
+            → MatchResult result (λ text. text.items ≡ canonical_of call self.now) (λ e. e
+            ≡ EncodeFault.NoMemory) }
 
         // Each error: nested too deep, else too large, or an allocation failed.
         ensures err { IfErr result (IsRefusalOf call self.now limit) }
@@ -430,7 +433,8 @@ fn read_call<T: Part>(
     requires framework { length path.now + 2 ≤ MAX_PATH_STEPS }
     requires body { length path.now + 1 + T.STEPS ≤ MAX_PATH_STEPS }
     requires step { IsPlace (Place.name name.now) }
-    ensures { (ms : Members) → IsFound framework.now (values_named (codes "framework_id") ms) → IsFound body.now (values_named name.now ms)
+    ensures { (ms : Members) → IsFound framework.now (values_named (codes "framework_id") ms)
+        → IsFound body.now (values_named name.now ms)
         → Gives ((with_body name.now T.kind).read path.now ms) result }
 {
     let framework_id = required(alloc, framework, "framework_id", path)?;
@@ -448,9 +452,12 @@ fn read_bare(
 ) -> Result<Id, PartFault>
     requires room { length path.now + 2 ≤ MAX_PATH_STEPS }
     requires step { IsPlace (Place.name name.now) }
-    ensures ok { (ms : Members) → IsFound framework.now (values_named (codes "framework_id") ms) → IsFound body.now (values_named name.now ms)
-        → IfOk result (λ framework_id. (without_body name.now).read path.now ms ≡ Ok (framework_id, None)) }
-    ensures err { (ms : Members) → IsFound framework.now (values_named (codes "framework_id") ms) → IsFound body.now (values_named name.now ms)
+    ensures ok { (ms : Members) → IsFound framework.now (values_named (codes "framework_id") ms)
+        → IsFound body.now (values_named name.now ms)
+        → IfOk result (λ framework_id. (without_body name.now).read path.now ms
+        ≡ Ok (framework_id, None)) }
+    ensures err { (ms : Members) → IsFound framework.now (values_named (codes "framework_id") ms)
+        → IsFound body.now (values_named name.now ms)
         → IfErr result (λ e. Gives ((without_body name.now).read path.now ms) (Err e)) }
 {
     let framework_id = required(alloc, framework, "framework_id", path)?;
@@ -466,8 +473,10 @@ fn put_head(
     framework_id: &Id,
 ) -> Result<(), NoMemory>
     ensures members { OnOk result (pairs_view members.new.items
-        ≡ pairs_view members.old.items ++ (type_name, string kind.now) ∷ (codes "framework_id", id.tree framework_id.now) ∷ []) }
-    ensures front { IfErr result (λ _. Continues (pairs_view members.old.items) (pairs_view members.new.items)) }
+        ≡ pairs_view members.old.items ++ (type_name, string kind.now)
+        ∷ (codes "framework_id", id.tree framework_id.now) ∷ []) }
+    ensures front { IfErr result (λ _. Continues (pairs_view members.old.items)
+        (pairs_view members.new.items)) }
     ensures back { OnOk result (Returns id framework_id.now) }
 {
     push_type_tree(members, alloc, kind)?;
@@ -484,8 +493,11 @@ fn put_call<T: Part>(
     body: &T,
 ) -> Result<(), NoMemory>
     ensures members { OnOk result (pairs_view members.new.items
-        ≡ pairs_view members.old.items ++ (type_name, string kind.now) ∷ (codes "framework_id", id.tree framework_id.now) ∷ (name.now, T.kind.tree body.now) ∷ []) }
-    ensures front { IfErr result (λ _. Continues (pairs_view members.old.items) (pairs_view members.new.items)) }
+        ≡ pairs_view members.old.items ++ (type_name, string kind.now)
+        ∷ (codes "framework_id", id.tree framework_id.now) ∷ (name.now, T.kind.tree body.now)
+        ∷ []) }
+    ensures front { IfErr result (λ _. Continues (pairs_view members.old.items)
+        (pairs_view members.new.items)) }
     ensures framework { OnOk result (Returns id framework_id.now) }
     ensures back { OnOk result (Returns T.kind body.now) }
 {

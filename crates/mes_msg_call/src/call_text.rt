@@ -44,7 +44,8 @@ pub(crate) fn append_head(
     out: &mut Vec<u8>,
 ) -> Result<u64, NoMemory>
     ensures members { IfOk result (λ deep. AppendsMembers out.old.items
-        ((type_name, string kind.now) ∷ (codes "framework_id", id.tree framework_id.now) ∷ []) out.new.items deep) }
+        ((type_name, string kind.now) ∷ (codes "framework_id", id.tree framework_id.now)
+        ∷ []) out.new.items deep) }
     ensures back { OnOk result (Returns id framework_id.now) }
 {
     write_case_text(alloc, kind, "framework_id", framework_id, out)
@@ -61,7 +62,8 @@ pub(crate) fn append_call<T: Part>(
     out: &mut Vec<u8>,
 ) -> Result<u64, NoMemory>
     ensures members { IfOk result (λ deep. AppendsMembers out.old.items
-        ((type_name, string kind.now) ∷ (codes "framework_id", id.tree framework_id.now) ∷ (name.now, T.kind.tree body.now) ∷ []) out.new.items deep) }
+        ((type_name, string kind.now) ∷ (codes "framework_id", id.tree framework_id.now)
+        ∷ (name.now, T.kind.tree body.now) ∷ []) out.new.items deep) }
     ensures framework { OnOk result (Returns id framework_id.now) }
     ensures back { OnOk result (Returns T.kind body.now) }
 {

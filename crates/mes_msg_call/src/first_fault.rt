@@ -13,5 +13,6 @@ ghost use Rattle.mes_msg_call.specs.FirstFaults.{OfCall};
 /// `type` has a fault, or a later member has one. All members before the faulty one are read.
 pub fn call_breaks()
     // A tree at a path has a fault if and only if it is the first in the order of the table.
-    ensures { (at : List Place) (t : Tree) (f : FieldFault) → Breaks call at t f ↔ OfMessage OfCall at t f }
+    ensures { (at : List Place) (t : Tree) (f : FieldFault)
+        → Breaks call at t f ↔ OfMessage OfCall at t f }
 {}

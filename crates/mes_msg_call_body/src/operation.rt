@@ -231,7 +231,8 @@ fn append_launch(
     task_infos: &List<TaskInfo>,
     out: &mut Vec<u8>,
 ) -> Result<u64, NoMemory>
-    ensures members { IfOk result (λ deep. AppendsMembers out.old.items (operation_rows.members (Operation.Launch task_infos.now)) out.new.items deep) }
+    ensures members { IfOk result (λ deep. AppendsMembers out.old.items
+        (operation_rows.members (Operation.Launch task_infos.now)) out.new.items deep) }
     ensures back { OnOk result (operation_rows.Back (Operation.Launch task_infos.now)) }
 {
     let first = write_type_text("LAUNCH", out)?;
@@ -247,7 +248,8 @@ fn launch_text(
     task_infos: &List<TaskInfo>,
     out: &mut Vec<u8>,
 ) -> Result<u64, NoMemory>
-    ensures text { IfOk result (λ deep. Appends out.old.items (launch.tree task_infos.now) out.new.items deep) }
+    ensures text { IfOk result (λ deep. Appends out.old.items (launch.tree task_infos.now)
+        out.new.items deep) }
     // On success: the text reads back to the same tasks.
     ensures back { OnOk result (Returns launch task_infos.now) }
 {

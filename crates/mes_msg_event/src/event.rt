@@ -212,8 +212,11 @@ fn put_body<T: Part>(
     name: &'static str,
     body: &T,
 ) -> Result<(), NoMemory>
-    ensures members { OnOk result (pairs_view members.new.items ≡ pairs_view members.old.items ++ (type_name, string kind.now) ∷ (name.now, T.kind.tree body.now) ∷ []) }
-    ensures front { IfErr result (λ _. Continues (pairs_view members.old.items) (pairs_view members.new.items)) }
+    ensures members { OnOk result (pairs_view members.new.items
+        ≡ pairs_view members.old.items ++ (type_name, string kind.now)
+        ∷ (name.now, T.kind.tree body.now) ∷ []) }
+    ensures front { IfErr result (λ _. Continues (pairs_view members.old.items)
+        (pairs_view members.new.items)) }
     ensures back { OnOk result (Returns T.kind body.now) }
 {
     push_type_tree(members, alloc, kind)?;
@@ -226,8 +229,10 @@ fn put_offers(
     alloc: Global,
     list: &List<Offer>,
 ) -> Result<(), NoMemory>
-    ensures members { OnOk result (pairs_view members.new.items ≡ pairs_view members.old.items ++ event_rows.members (Event.Offers list.now)) }
-    ensures front { IfErr result (λ _. Continues (pairs_view members.old.items) (pairs_view members.new.items)) }
+    ensures members { OnOk result (pairs_view members.new.items
+        ≡ pairs_view members.old.items ++ event_rows.members (Event.Offers list.now)) }
+    ensures front { IfErr result (λ _. Continues (pairs_view members.old.items)
+        (pairs_view members.new.items)) }
     ensures back { OnOk result (event_rows.Back (Event.Offers list.now)) }
 {
     push_type_tree(members, alloc, "OFFERS")?;
@@ -241,7 +246,8 @@ fn put_offers(
 /// deeper.
 #[tactic(auto, using(mes_model_schema::proofs::AppendLemmas::both_members))]
 fn append_offers(alloc: Global, list: &List<Offer>, out: &mut Vec<u8>) -> Result<u64, NoMemory>
-    ensures members { IfOk result (λ deep. AppendsMembers out.old.items (event_rows.members (Event.Offers list.now)) out.new.items deep) }
+    ensures members { IfOk result (λ deep. AppendsMembers out.old.items
+        (event_rows.members (Event.Offers list.now)) out.new.items deep) }
     ensures back { OnOk result (event_rows.Back (Event.Offers list.now)) }
 {
     let first = write_type_text("OFFERS", out)?;

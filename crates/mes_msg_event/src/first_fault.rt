@@ -13,5 +13,6 @@ ghost use Rattle.mes_msg_event.specs.FirstFaults.{OfEvent};
 /// `type` has a fault, or the body of its type has one.
 pub fn event_breaks()
     // A tree at a path has a fault if and only if it is the first in the order of the table.
-    ensures { (at : List Place) (t : Tree) (f : FieldFault) → Breaks event at t f ↔ OfMessage OfEvent at t f }
+    ensures { (at : List Place) (t : Tree) (f : FieldFault)
+        → Breaks event at t f ↔ OfMessage OfEvent at t f }
 {}

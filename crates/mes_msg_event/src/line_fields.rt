@@ -25,7 +25,8 @@ pub fn put_word(word: &str, line: &mut Vec<u8>) -> Result<(), NoMemory>
 
 /// Appends a space and a text as canonical JSON, in quotation marks.
 pub(crate) fn put_text(text: &str, line: &mut Vec<u8>) -> Result<(), NoMemory>
-    ensures { IfOk result (λ _. line.new.items ≡ line.old.items ++ (codes " " ++ quoted_text text.now)) }
+    ensures { IfOk result (λ _. line.new.items
+        ≡ line.old.items ++ (codes " " ++ quoted_text text.now)) }
 {
     line.extend_from_slice(b" ")?;
     write_str(text, line)
@@ -40,7 +41,8 @@ pub fn put_id(id: &Id, line: &mut Vec<u8>) -> Result<(), NoMemory>
 
 /// Appends a space and an identifier, or `-` if there is none.
 pub(crate) fn put_some_id(id: &Option<Id>, line: &mut Vec<u8>) -> Result<(), NoMemory>
-    ensures { IfOk result (λ _. line.new.items ≡ line.old.items ++ (codes " " ++ or_dash id_text id.now)) }
+    ensures { IfOk result (λ _. line.new.items
+        ≡ line.old.items ++ (codes " " ++ or_dash id_text id.now)) }
 {
     match id {
         Some(id) => put_id(id, line),
@@ -57,7 +59,8 @@ pub fn put_number(number: u64, line: &mut Vec<u8>) -> Result<(), NoMemory>
 
 /// Appends a space and a signed whole number, or `-` if there is none.
 pub(crate) fn put_some_signed(number: Option<i32>, line: &mut Vec<u8>) -> Result<(), NoMemory>
-    ensures { IfOk result (λ _. line.new.items ≡ line.old.items ++ (codes " " ++ or_dash signed_decimal number)) }
+    ensures { IfOk result (λ _. line.new.items
+        ≡ line.old.items ++ (codes " " ++ or_dash signed_decimal number)) }
 {
     match number {
         Some(number) => put_word(Buffer::new().format(number), line),
@@ -68,7 +71,8 @@ pub(crate) fn put_some_signed(number: Option<i32>, line: &mut Vec<u8>) -> Result
 /// Appends a space and a number of seconds, or `-` if there is none.
 #[tactic(auto, unfolding(crate::specs::ShowLines::seconds_text))]
 pub(crate) fn put_some_seconds(seconds: &Option<Micros>, line: &mut Vec<u8>) -> Result<(), NoMemory>
-    ensures { IfOk result (λ _. line.new.items ≡ line.old.items ++ (codes " " ++ or_dash seconds_text seconds.now)) }
+    ensures { IfOk result (λ _. line.new.items
+        ≡ line.old.items ++ (codes " " ++ or_dash seconds_text seconds.now)) }
 {
     match seconds {
         Some(seconds) => {
@@ -82,7 +86,8 @@ pub(crate) fn put_some_seconds(seconds: &Option<Micros>, line: &mut Vec<u8>) -> 
 
 /// Appends a space and a UUID, or `-` if there is none.
 pub(crate) fn put_some_uuid(uuid: &Option<Bytes>, line: &mut Vec<u8>) -> Result<(), NoMemory>
-    ensures { IfOk result (λ _. line.new.items ≡ line.old.items ++ (codes " " ++ or_dash uuid_text uuid.now)) }
+    ensures { IfOk result (λ _. line.new.items
+        ≡ line.old.items ++ (codes " " ++ or_dash uuid_text uuid.now)) }
 {
     match uuid {
         Some(bytes) => put_uuid(bytes.as_slice(), line),
@@ -94,7 +99,8 @@ pub(crate) fn put_some_uuid(uuid: &Option<Bytes>, line: &mut Vec<u8>) -> Result<
 /// `hex:` and two digits a byte.
 pub fn put_uuid(bytes: &[u8], line: &mut Vec<u8>) -> Result<(), NoMemory>
     // On success: the hyphenated form of 16 bytes, else hexadecimal digits.
-    ensures { IfOk result (λ _. line.new.items ≡ line.old.items ++ (codes " " ++ uuid_text bytes.now)) }
+    ensures { IfOk result (λ _. line.new.items
+        ≡ line.old.items ++ (codes " " ++ uuid_text bytes.now)) }
 {
     match Uuid::from_slice(bytes) {
         Ok(uuid) => put_word(

@@ -18,7 +18,8 @@ impl Event {
         ensures ok { IfOk result (Spells bytes.now) }
         // If the bytes are a JSON text of an event, only a failed allocation can prevent its
         // return.
-        ensures only { (ev : Event) → Spells bytes.now ev → MatchResult result (λ e. e ≡ ev) (λ e. e ≡ RecordFault.NoMemory) }
+        ensures only { (ev : Event) → Spells bytes.now ev
+            → MatchResult result (λ e. e ≡ ev) (λ e. e ≡ RecordFault.NoMemory) }
 
         // Each error: the bytes are not a JSON text, or not an event, with the place of the first
         // fault.
@@ -45,7 +46,9 @@ impl Event {
         ensures good { IfOk result (λ _. IsGood self.now limit) }
         ensures spells { IfOk result (λ text. Spells text.items self.now) }
         // If the event fits, the only error is a failed allocation.
-        ensures only { IsGood self.now limit → MatchResult result (λ text. text.items ≡ canonical_text self.now) (λ e. e ≡ EncodeFault.NoMemory) }
+        ensures only { IsGood self.now limit
+            → MatchResult result (λ text. text.items ≡ canonical_text self.now) (λ e. e
+            ≡ EncodeFault.NoMemory) }
 
         // Each error: nested too deep, else too large, or an allocation failed.
         ensures err { IfErr result (IsEncodeFault self.now limit) }

@@ -34,7 +34,8 @@ impl Event {
     /// Errors: `NoMemory` if an allocation fails; part of the lines may then have been appended.
     pub fn push_lines(&self, number: u64, lines: &mut Vec<u8>) -> Result<(), NoMemory>
         // On success: exactly the lines of the event are appended.
-        ensures { IfOk result (λ _. lines.new.items ≡ lines.old.items ++ event_lines number self.now) }
+        ensures { IfOk result (λ _. lines.new.items
+            ≡ lines.old.items ++ event_lines number self.now) }
     {
         lines.extend_from_slice(Buffer::new().format(number).as_bytes())?;
         put_event(self, lines)?;
@@ -89,7 +90,8 @@ fn put_event(event: &Event, line: &mut Vec<u8>) -> Result<(), NoMemory>
 }
 
 fn put_update(status: &TaskStatus, line: &mut Vec<u8>) -> Result<(), NoMemory>
-    ensures { IfOk result (λ _. line.new.items ≡ line.old.items ++ spaced (update_words status.now)) }
+    ensures { IfOk result (λ _. line.new.items
+        ≡ line.old.items ++ spaced (update_words status.now)) }
 {
     put_word("UPDATE", line)?;
     put_id(&status.task_id, line)?;
@@ -98,7 +100,8 @@ fn put_update(status: &TaskStatus, line: &mut Vec<u8>) -> Result<(), NoMemory>
 }
 
 fn put_offers(offers: &[Offer], lines: &mut Vec<u8>) -> Result<(), NoMemory>
-    ensures { IfOk result (λ _. lines.new.items ≡ lines.old.items ++ flat_map offer_line offers.now) }
+    ensures { IfOk result (λ _. lines.new.items
+        ≡ lines.old.items ++ flat_map offer_line offers.now) }
 {
     for offer in offers {
         put_offer(offer, lines)?;

@@ -99,7 +99,8 @@ pub fn offers_tree(alloc: Global, list: &List<Offer>) -> Result<json::Json, NoMe
 #[tactic(auto, using(crate::specs::Offers::offers_back), unfolding(crate::specs::Offers::offers))]
 pub fn offers_text(alloc: Global, list: &List<Offer>, out: &mut Vec<u8>) -> Result<u64, NoMemory>
     // On success: the text of the tree is appended, and the depth is returned.
-    ensures text { IfOk result (λ deep. Appends out.old.items (offers.tree list.now) out.new.items deep) }
+    ensures text { IfOk result (λ deep. Appends out.old.items (offers.tree list.now) out.new.items
+        deep) }
     // On success: the text reads back to the same offers.
     ensures back { OnOk result (Returns offers list.now) }
 {

@@ -40,7 +40,9 @@ pub fn canonical_bytes<T: Part>(
     ensures fits { IfOk result (λ _. Fits T.kind value.now limit) }
     ensures again { IfOk result (λ text. IsTextOf T.kind text.items value.now) }
     // If the value fits, the only error is a failed allocation.
-    ensures only { Fits T.kind value.now limit → MatchResult result (λ text. text.items ≡ canonical_of T.kind value.now) (λ e. e ≡ EncodeFault.NoMemory) }
+    ensures only { Fits T.kind value.now limit
+        → MatchResult result (λ text. text.items ≡ canonical_of T.kind value.now) (λ e. e
+        ≡ EncodeFault.NoMemory) }
     ensures err { IfErr result (IsRefusalOf T.kind value.now limit) }
 {
     let mut text = Vec::new(alloc);
@@ -60,7 +62,9 @@ pub fn canonical_into<T: Part>(
     ensures fits { OnOk result (Fits T.kind value.now limit) }
     ensures again { OnOk result (IsTextOf T.kind text.new.items value.now) }
     // If the value fits, the only error is a failed allocation.
-    ensures only { Fits T.kind value.now limit → MatchResult result (λ _. text.new.items ≡ canonical_of T.kind value.now) (λ e. e ≡ EncodeFault.NoMemory) }
+    ensures only { Fits T.kind value.now limit
+        → MatchResult result (λ _. text.new.items ≡ canonical_of T.kind value.now) (λ e. e
+        ≡ EncodeFault.NoMemory) }
     ensures err { IfErr result (IsRefusalOf T.kind value.now limit) }
 {
     text.clear();

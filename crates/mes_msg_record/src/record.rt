@@ -50,7 +50,8 @@ pub fn read_bytes<T: Part>(alloc: Global, bytes: &[u8]) -> Result<T, RecordFault
     requires { T.STEPS ≤ MAX_PATH_STEPS }
     ensures ok { IfOk result (IsTextOf T.kind bytes.now) }
     // If the bytes are a JSON text of a value, only a failed allocation can prevent its return.
-    ensures only { (v : T) → IsTextOf T.kind bytes.now v → MatchResult result (λ r. r ≡ v) (λ e. e ≡ RecordFault.NoMemory) }
+    ensures only { (v : T) → IsTextOf T.kind bytes.now v
+        → MatchResult result (λ r. r ≡ v) (λ e. e ≡ RecordFault.NoMemory) }
     ensures err { IfErr result (IsFaultOf T.kind bytes.now) }
 {
     let tape = read_tape(alloc, bytes)?;

@@ -41,9 +41,13 @@ impl Session {
         filters: Option<&Filters>,
     ) -> Result<Call, Refusal>
         // On success: the ACCEPT of these arguments; it is applied.
-        ensures ok { IfOk result (λ call. Made (λ framework. accept_call framework ids.now tasks.now (option_copied filters.entry)) self.old self.new call) }
+        ensures ok { IfOk result (λ call. Made
+            (λ framework. accept_call framework ids.now tasks.now (option_copied filters.entry))
+            self.old self.new call) }
         // Each error: the first reason against the call; the session is unchanged.
-        ensures err { IfErr result (λ refusal. NotMade (λ framework. accept_call framework ids.now tasks.now (option_copied filters.entry)) self.old self.new refusal) }
+        ensures err { IfErr result (λ refusal. NotMade
+            (λ framework. accept_call framework ids.now tasks.now (option_copied filters.entry))
+            self.old self.new refusal) }
     {
         if let Some(refusal) = self.standing().refusal_of_accept(ids, tasks) {
             return Err(refusal);
@@ -56,9 +60,13 @@ impl Session {
     /// out of memory (S8).
     pub fn decline(&mut self, ids: &[Id], filters: Option<&Filters>) -> Result<Call, Refusal>
         // On success: the DECLINE of these arguments; it is applied.
-        ensures ok { IfOk result (λ call. Made (λ framework. decline_call framework ids.now (option_copied filters.entry)) self.old self.new call) }
+        ensures ok { IfOk result (λ call. Made
+            (λ framework. decline_call framework ids.now (option_copied filters.entry)) self.old
+            self.new call) }
         // Each error: the first reason against the call; the session is unchanged.
-        ensures err { IfErr result (λ refusal. NotMade (λ framework. decline_call framework ids.now (option_copied filters.entry)) self.old self.new refusal) }
+        ensures err { IfErr result (λ refusal. NotMade
+            (λ framework. decline_call framework ids.now (option_copied filters.entry)) self.old
+            self.new refusal) }
     {
         if let Some(refusal) = self.standing().refusal_of_decline(ids) {
             return Err(refusal);
@@ -70,9 +78,11 @@ impl Session {
     /// Makes a REVIVE. Errors: not subscribed (S1), else out of memory (S8).
     pub fn revive(&mut self) -> Result<Call, Refusal>
         // On success: the REVIVE of the framework; it is applied.
-        ensures ok { IfOk result (λ call. Made (λ framework. Call.Revive framework) self.old self.new call) }
+        ensures ok { IfOk result (λ call. Made (λ framework. Call.Revive framework) self.old
+            self.new call) }
         // Each error: the first reason against the call; the session is unchanged.
-        ensures err { IfErr result (λ refusal. NotMade (λ framework. Call.Revive framework) self.old self.new refusal) }
+        ensures err { IfErr result (λ refusal. NotMade (λ framework. Call.Revive framework) self.old
+            self.new refusal) }
     {
         if let Some(refusal) = self.standing().refusal_of_plain() {
             return Err(refusal);
@@ -85,9 +95,13 @@ impl Session {
     /// memory (S8).
     pub fn kill(&mut self, task: &Id, agent: Option<&Id>) -> Result<Call, Refusal>
         // On success: the KILL of these arguments; it is applied.
-        ensures ok { IfOk result (λ call. Made (λ framework. kill_call framework task.now (option_copied agent.entry)) self.old self.new call) }
+        ensures ok { IfOk result (λ call. Made
+            (λ framework. kill_call framework task.now (option_copied agent.entry)) self.old
+            self.new call) }
         // Each error: the first reason against the call; the session is unchanged.
-        ensures err { IfErr result (λ refusal. NotMade (λ framework. kill_call framework task.now (option_copied agent.entry)) self.old self.new refusal) }
+        ensures err { IfErr result (λ refusal. NotMade
+            (λ framework. kill_call framework task.now (option_copied agent.entry)) self.old
+            self.new refusal) }
     {
         if let Some(refusal) = self.standing().refusal_of_plain() {
             return Err(refusal);
@@ -100,9 +114,11 @@ impl Session {
     /// update (S7), else out of memory (S8).
     pub fn acknowledge(&mut self, key: &OwedKey) -> Result<Call, Refusal>
         // On success: the ACKNOWLEDGE of the key; it is applied.
-        ensures ok { IfOk result (λ call. Made (λ framework. acknowledge_call framework key.now) self.old self.new call) }
+        ensures ok { IfOk result (λ call. Made (λ framework. acknowledge_call framework key.now)
+            self.old self.new call) }
         // Each error: the first reason against the call; the session is unchanged.
-        ensures err { IfErr result (λ refusal. NotMade (λ framework. acknowledge_call framework key.now) self.old self.new refusal) }
+        ensures err { IfErr result (λ refusal. NotMade
+            (λ framework. acknowledge_call framework key.now) self.old self.new refusal) }
     {
         if let Some(refusal) = self.standing().refusal_of_acknowledge(key) {
             return Err(refusal);
@@ -115,9 +131,11 @@ impl Session {
     /// allowed. Errors: not subscribed (S1), else out of memory (S8).
     pub fn reconcile(&mut self, tasks: &[TaskRef]) -> Result<Call, Refusal>
         // On success: the RECONCILE of these tasks; it is applied.
-        ensures ok { IfOk result (λ call. Made (λ framework. reconcile_call framework tasks.now) self.old self.new call) }
+        ensures ok { IfOk result (λ call. Made (λ framework. reconcile_call framework tasks.now)
+            self.old self.new call) }
         // Each error: the first reason against the call; the session is unchanged.
-        ensures err { IfErr result (λ refusal. NotMade (λ framework. reconcile_call framework tasks.now) self.old self.new refusal) }
+        ensures err { IfErr result (λ refusal. NotMade
+            (λ framework. reconcile_call framework tasks.now) self.old self.new refusal) }
     {
         if let Some(refusal) = self.standing().refusal_of_plain() {
             return Err(refusal);
@@ -129,9 +147,11 @@ impl Session {
     /// Makes a TEARDOWN. Errors: not subscribed (S1), else out of memory (S8).
     pub fn teardown(&mut self) -> Result<Call, Refusal>
         // On success: the TEARDOWN of the framework; it is applied.
-        ensures ok { IfOk result (λ call. Made (λ framework. Call.Teardown framework) self.old self.new call) }
+        ensures ok { IfOk result (λ call. Made (λ framework. Call.Teardown framework) self.old
+            self.new call) }
         // Each error: the first reason against the call; the session is unchanged.
-        ensures err { IfErr result (λ refusal. NotMade (λ framework. Call.Teardown framework) self.old self.new refusal) }
+        ensures err { IfErr result (λ refusal. NotMade (λ framework. Call.Teardown framework)
+            self.old self.new refusal) }
     {
         if let Some(refusal) = self.standing().refusal_of_plain() {
             return Err(refusal);
@@ -143,9 +163,11 @@ impl Session {
     /// Makes a SUPPRESS. Errors: not subscribed (S1), else out of memory (S8).
     pub fn suppress(&mut self) -> Result<Call, Refusal>
         // On success: the SUPPRESS of the framework; it is applied.
-        ensures ok { IfOk result (λ call. Made (λ framework. Call.Suppress framework) self.old self.new call) }
+        ensures ok { IfOk result (λ call. Made (λ framework. Call.Suppress framework) self.old
+            self.new call) }
         // Each error: the first reason against the call; the session is unchanged.
-        ensures err { IfErr result (λ refusal. NotMade (λ framework. Call.Suppress framework) self.old self.new refusal) }
+        ensures err { IfErr result (λ refusal. NotMade (λ framework. Call.Suppress framework)
+            self.old self.new refusal) }
     {
         if let Some(refusal) = self.standing().refusal_of_plain() {
             return Err(refusal);
@@ -157,9 +179,12 @@ impl Session {
     /// Makes a SHUTDOWN of an executor. Errors: not subscribed (S1), else out of memory (S8).
     pub fn shutdown(&mut self, executor: &Id, agent: &Id) -> Result<Call, Refusal>
         // On success: the SHUTDOWN of these arguments; it is applied.
-        ensures ok { IfOk result (λ call. Made (λ framework. shutdown_call framework executor.now agent.now) self.old self.new call) }
+        ensures ok { IfOk result (λ call. Made
+            (λ framework. shutdown_call framework executor.now agent.now) self.old self.new call) }
         // Each error: the first reason against the call; the session is unchanged.
-        ensures err { IfErr result (λ refusal. NotMade (λ framework. shutdown_call framework executor.now agent.now) self.old self.new refusal) }
+        ensures err { IfErr result (λ refusal. NotMade
+            (λ framework. shutdown_call framework executor.now agent.now) self.old self.new
+            refusal) }
     {
         if let Some(refusal) = self.standing().refusal_of_plain() {
             return Err(refusal);
@@ -172,9 +197,13 @@ impl Session {
     /// (S8).
     pub fn message(&mut self, agent: &Id, executor: &Id, data: &[u8]) -> Result<Call, Refusal>
         // On success: the MESSAGE of these arguments; it is applied.
-        ensures ok { IfOk result (λ call. Made (λ framework. message_call framework agent.now executor.now «data».now) self.old self.new call) }
+        ensures ok { IfOk result (λ call. Made
+            (λ framework. message_call framework agent.now executor.now «data».now) self.old
+            self.new call) }
         // Each error: the first reason against the call; the session is unchanged.
-        ensures err { IfErr result (λ refusal. NotMade (λ framework. message_call framework agent.now executor.now «data».now) self.old self.new refusal) }
+        ensures err { IfErr result (λ refusal. NotMade
+            (λ framework. message_call framework agent.now executor.now «data».now) self.old
+            self.new refusal) }
     {
         if let Some(refusal) = self.standing().refusal_of_plain() {
             return Err(refusal);
@@ -192,8 +221,10 @@ impl Session {
 
     /// Applies a call that is allowed and could be made.
     fn say(&mut self, call: Result<Call, NoMemory>) -> Result<Call, Refusal>
-        ensures ok { IfOk result (λ made. (call ≡ Ok made) × (self.new ≡ after self.old (Said made))) }
-        ensures err { IfErr result (λ refusal. (refusal ≡ Refusal.NoMemory) × (self.new ≡ self.old)) }
+        ensures ok { IfOk result (λ made. (call ≡ Ok made)
+            × (self.new ≡ after self.old (Said made))) }
+        ensures err { IfErr result (λ refusal. (refusal ≡ Refusal.NoMemory)
+            × (self.new ≡ self.old)) }
     {
         let call = call?;
         self.apply(&call);

@@ -30,7 +30,8 @@ impl Session {
 }
 
 fn put_entries(entries: u64, lines: &mut Vec<u8>) -> Result<(), NoMemory>
-    ensures { IfOk result (λ _. lines.new.items ≡ lines.old.items ++ report_line (codes "entries") (decimal entries ∷ [])) }
+    ensures { IfOk result (λ _. lines.new.items
+        ≡ lines.old.items ++ report_line (codes "entries") (decimal entries ∷ [])) }
 {
     lines.extend_from_slice(b"entries")?;
     put_number(entries, lines)?;
@@ -39,7 +40,8 @@ fn put_entries(entries: u64, lines: &mut Vec<u8>) -> Result<(), NoMemory>
 }
 
 fn put_framework(framework: &Option<Id>, lines: &mut Vec<u8>) -> Result<(), NoMemory>
-    ensures { IfOk result (λ _. lines.new.items ≡ lines.old.items ++ report_line (codes "framework") (or_dash id_text framework.now ∷ [])) }
+    ensures { IfOk result (λ _. lines.new.items
+        ≡ lines.old.items ++ report_line (codes "framework") (or_dash id_text framework.now ∷ [])) }
 {
     lines.extend_from_slice(b"framework")?;
     match framework {
@@ -51,7 +53,8 @@ fn put_framework(framework: &Option<Id>, lines: &mut Vec<u8>) -> Result<(), NoMe
 }
 
 fn put_hand(session: &Session, lines: &mut Vec<u8>) -> Result<(), NoMemory>
-    ensures { IfOk result (λ _. lines.new.items ≡ lines.old.items ++ flat_map hand_line session.now.hand) }
+    ensures { IfOk result (λ _. lines.new.items
+        ≡ lines.old.items ++ flat_map hand_line session.now.hand) }
 {
     for index in 0..session.hand_len() {
         if let Some(offer) = session.hand_at(index) {
@@ -71,7 +74,8 @@ fn put_offer(offer: &Offer, lines: &mut Vec<u8>) -> Result<(), NoMemory>
 }
 
 fn put_owed(session: &Session, lines: &mut Vec<u8>) -> Result<(), NoMemory>
-    ensures { IfOk result (λ _. lines.new.items ≡ lines.old.items ++ flat_map owed_line session.now.owed) }
+    ensures { IfOk result (λ _. lines.new.items
+        ≡ lines.old.items ++ flat_map owed_line session.now.owed) }
 {
     for index in 0..session.owed_len() {
         if let Some(key) = session.owed_at(index) {

@@ -36,7 +36,12 @@ impl Model for Session {
 
     ghost coded = { Prim.hlevel (codes, members_code) };
 
-    ghost view = { λ s. record { framework = s.framework; connected = s.connected; hand = s.hand; owed = s.owed } };
+    ghost view = { λ s. record {
+      framework = s.framework;
+      connected = s.connected;
+      hand = s.hand;
+      owed = s.owed;
+    } };
 }
 
 impl Session {

@@ -15,14 +15,18 @@ use mes_session_state::refusal_laws;
 pub fn session_laws()
     ensures some { (h : List Entry) → (held : Held) × Represents h held }
     // A history has at most one state.
-    ensures one { (h : List Entry) (held other : Held) → Represents h held → Represents h other → held ≡ other }
+    ensures one { (h : List Entry) (held other : Held) → Represents h held → Represents h other
+        → held ≡ other }
     // After a history, a call has at most one reason to be refused.
-    ensures refused { (h : List Entry) (call : Call) (fault other : Refusal) → RefusedAfter h call fault → RefusedAfter h call other → fault ≡ other }
+    ensures refused { (h : List Entry) (call : Call) (fault other : Refusal)
+        → RefusedAfter h call fault → RefusedAfter h call other → fault ≡ other }
     // An offer is outstanding if and only if an entry brought it and no later entry removed it.
-    ensures hand { (h : List Entry) (held : Held) (name : List ℕ) → Represents h held → is_some (offer_in held.hand name) ≡ true ↔ ((i : ℕ) × IsOfferedBy h name i) }
+    ensures hand { (h : List Entry) (held : Held) (name : List ℕ) → Represents h held
+        → is_some (offer_in held.hand name) ≡ true ↔ ((i : ℕ) × IsOfferedBy h name i) }
     // An update is unacknowledged if and only if an entry required it and no later entry
     // acknowledged it.
-    ensures owed { (h : List Entry) (held : Held) (key : OwedKey) → Represents h held → is_owed key held.owed ≡ true ↔ ((i : ℕ) × IsOwedBy h key i) }
+    ensures owed { (h : List Entry) (held : Held) (key : OwedKey) → Represents h held
+        → is_owed key held.owed ≡ true ↔ ((i : ℕ) × IsOwedBy h key i) }
 {
     refusal_laws();
 }

@@ -63,7 +63,8 @@ pub fn make_accept(
     filters: Option<&Filters>,
 ) -> Result<Call, NoMemory>
     // On success: the ACCEPT of these arguments.
-    ensures { IfOk result (λ call. call ≡ accept_call framework.now ids.now tasks.now (option_copied filters.entry)) }
+    ensures { IfOk result (λ call. call
+        ≡ accept_call framework.now ids.now tasks.now (option_copied filters.entry)) }
 {
     let framework_id = framework.copy(alloc)?;
     let offer_ids = copies_of(alloc, ids)?;
@@ -87,7 +88,8 @@ pub fn make_decline(
     filters: Option<&Filters>,
 ) -> Result<Call, NoMemory>
     // On success: the DECLINE of these arguments.
-    ensures { IfOk result (λ call. call ≡ decline_call framework.now ids.now (option_copied filters.entry)) }
+    ensures { IfOk result (λ call. call
+        ≡ decline_call framework.now ids.now (option_copied filters.entry)) }
 {
     let framework_id = framework.copy(alloc)?;
     let offer_ids = copies_of(alloc, ids)?;
@@ -114,7 +116,8 @@ pub fn make_kill(
     agent: Option<&Id>,
 ) -> Result<Call, NoMemory>
     // On success: the KILL of these arguments.
-    ensures { IfOk result (λ call. call ≡ kill_call framework.now task.now (option_copied agent.entry)) }
+    ensures { IfOk result (λ call. call
+        ≡ kill_call framework.now task.now (option_copied agent.entry)) }
 {
     let framework_id = framework.copy(alloc)?;
     let task_id = task.copy(alloc)?;
@@ -201,7 +204,8 @@ pub fn make_message(
     data: &[u8],
 ) -> Result<Call, NoMemory>
     // On success: the MESSAGE of these arguments.
-    ensures { IfOk result (λ call. call ≡ message_call framework.now agent.now executor.now «data».now) }
+    ensures { IfOk result (λ call. call
+        ≡ message_call framework.now agent.now executor.now «data».now) }
 {
     let framework_id = framework.copy(alloc)?;
     let agent_id = agent.copy(alloc)?;

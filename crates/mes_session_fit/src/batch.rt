@@ -36,7 +36,8 @@ pub(crate) struct Batch {
 /// Adds ranges; returns `false` if some do not fit.
 fn add_ranges(taken: &mut Taken, ranges: &[Range]) -> bool
     ensures kept { (x : ℕ) → in_ends x taken.old.items ≡ true → in_ends x taken.new.items ≡ true }
-    ensures added { IsTrue result → (x : ℕ) → in_ranges x ranges.now ≡ true → in_ends x taken.new.items ≡ true }
+    ensures added { IsTrue result → (x : ℕ) → in_ranges x ranges.now ≡ true
+        → in_ends x taken.new.items ≡ true }
 {
     for range in ranges {
         let ends = Ends {
@@ -52,7 +53,8 @@ fn add_ranges(taken: &mut Taken, ranges: &[Range]) -> bool
 
 fn add_value(taken: &mut Taken, value: &ResourceValue) -> bool
     ensures kept { (x : ℕ) → in_ends x taken.old.items ≡ true → in_ends x taken.new.items ≡ true }
-    ensures added { IsTrue result → (x : ℕ) → piece_in (point x) value.now ≡ true → in_ends x taken.new.items ≡ true }
+    ensures added { IsTrue result → (x : ℕ) → piece_in (point x) value.now ≡ true
+        → in_ends x taken.new.items ≡ true }
 {
     match value {
         ResourceValue::Ranges(ranges) => add_ranges(taken, ranges.range.as_slice()),
@@ -62,7 +64,8 @@ fn add_value(taken: &mut Taken, value: &ResourceValue) -> bool
 
 fn add_resources(taken: &mut Taken, resources: &[Resource]) -> bool
     ensures kept { (x : ℕ) → in_ends x taken.old.items ≡ true → in_ends x taken.new.items ≡ true }
-    ensures added { IsTrue result → (x : ℕ) → has_point x resources.now ≡ true → in_ends x taken.new.items ≡ true }
+    ensures added { IsTrue result → (x : ℕ) → has_point x resources.now ≡ true
+        → in_ends x taken.new.items ≡ true }
 {
     for resource in resources {
         if !add_value(taken, &resource.value) {
@@ -75,7 +78,8 @@ fn add_resources(taken: &mut Taken, resources: &[Resource]) -> bool
 /// Adds the ranges of tasks up to the first task that does not fit, and returns the number added.
 fn add_tasks(taken: &mut Taken, tasks: &[TaskInfo]) -> usize
     ensures within { result ≤ length tasks.now }
-    ensures added { (x : ℕ) → has_point x (asked (take result tasks.now)) ≡ true → in_ends x taken.new.items ≡ true }
+    ensures added { (x : ℕ) → has_point x (asked (take result tasks.now)) ≡ true
+        → in_ends x taken.new.items ≡ true }
 {
     for index in 0..tasks.len() {
         if !add_resources(taken, tasks[index].resources.as_slice()) {
@@ -129,7 +133,8 @@ fn resources_are_apart(taken: &[Ends], resources: &[Resource]) -> bool
 }
 
 fn tasks_are_apart(taken: &[Ends], tasks: &[TaskInfo]) -> bool
-    ensures { IsTrue result → Apart (λ x. in_ends x taken.now) (λ x. has_point x (asked tasks.now)) }
+    ensures { IsTrue result → Apart (λ x. in_ends x taken.now)
+        (λ x. has_point x (asked tasks.now)) }
 {
     for task in tasks {
         if !resources_are_apart(taken, task.resources.as_slice()) {
@@ -140,7 +145,8 @@ fn tasks_are_apart(taken: &[Ends], tasks: &[TaskInfo]) -> bool
 }
 
 fn groups_are_apart<L: TaskGroup>(taken: &[Ends], launches: &[L]) -> bool
-    ensures { IsTrue result → Apart (λ x. in_ends x taken.now) (λ x. has_point x (asked (launched L.tasks launches.now))) }
+    ensures { IsTrue result → Apart (λ x. in_ends x taken.now)
+        (λ x. has_point x (asked (launched L.tasks launches.now))) }
 {
     for group in launches {
         if !tasks_are_apart(taken, group.tasks()) {

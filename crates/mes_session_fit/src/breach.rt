@@ -35,8 +35,12 @@ fn exceeds_first_time<O: OfferList, L: TaskGroup>(
     resource: &Resource,
 ) -> bool
     requires { IsInRange L.tasks launches.now at index }
-    ensures yes { IsTrue result → amount (key_of resource.now) (offered (O.offers offers.now)) < amount (key_of resource.now) (asked (launched L.tasks launches.now)) }
-    ensures no { IsFalse result → (list_any (is_of (key_of resource.now)) (asked (take (place L.tasks launches.now at index) (launched L.tasks launches.now)) ++ own.now) ≡ true) ⊎ (amount (key_of resource.now) (asked (launched L.tasks launches.now)) ≤ amount (key_of resource.now) (offered (O.offers offers.now))) }
+    ensures yes { IsTrue result → amount (key_of resource.now) (offered (O.offers offers.now))
+        < amount (key_of resource.now) (asked (launched L.tasks launches.now)) }
+    ensures no { IsFalse result → (list_any (is_of (key_of resource.now))
+        (asked (take (place L.tasks launches.now at index) (launched L.tasks launches.now))
+        ++ own.now) ≡ true) ⊎ (amount (key_of resource.now) (asked (launched L.tasks launches.now))
+        ≤ amount (key_of resource.now) (offered (O.offers offers.now))) }
 {
     match &resource.value {
         ResourceValue::Scalar(_) => {
@@ -63,11 +67,15 @@ fn breaks<O: OfferList, L: TaskGroup>(
     requires is_index { IsInRange L.tasks launches.now at index }
     requires inside { index < batch.end }
     requires batch { IsBatch L.tasks launches.now at batch }
-    requires free { IsTrue batch.apart → FreeFrom L.tasks launches.now at batch.end (λ x. has_point x task.now.resources) }
-    requires is { slice_get (launched L.tasks launches.now) (place L.tasks launches.now at index) ≡ Some task.now }
+    requires free { IsTrue batch.apart
+        → FreeFrom L.tasks launches.now at batch.end (λ x. has_point x task.now.resources) }
+    requires is { slice_get (launched L.tasks launches.now) (place L.tasks launches.now at index)
+        ≡ Some task.now }
     requires within { resource < length task.now.resources }
-    requires first { NoneAhead (O.offers offers.now) (launched L.tasks launches.now) (place L.tasks launches.now at index) resource }
-    ensures { IsTrue result ↔ BreaksAt (O.offers offers.now) (launched L.tasks launches.now) (place L.tasks launches.now at index) resource }
+    requires first { NoneAhead (O.offers offers.now) (launched L.tasks launches.now)
+        (place L.tasks launches.now at index) resource }
+    ensures { IsTrue result ↔ BreaksAt (O.offers offers.now) (launched L.tasks launches.now)
+        (place L.tasks launches.now at index) resource }
 {
     let resources = task.resources.as_slice();
     let own = &resources[..resource];
@@ -94,11 +102,16 @@ fn breach_of_task<O: OfferList, L: TaskGroup>(
     requires is_index { IsInRange L.tasks launches.now at index }
     requires inside { index < batch.end }
     requires batch { IsBatch L.tasks launches.now at batch }
-    requires free { IsTrue batch.apart → FreeFrom L.tasks launches.now at batch.end (λ x. has_point x task.now.resources) }
-    requires is { slice_get (launched L.tasks launches.now) (place L.tasks launches.now at index) ≡ Some task.now }
-    requires first { NoneBefore (O.offers offers.now) (launched L.tasks launches.now) (place L.tasks launches.now at index) }
-    ensures some { IfSome result (λ j. IsFirstBreach (O.offers offers.now) (launched L.tasks launches.now) (place L.tasks launches.now at index) j) }
-    ensures none { IfNone result (NoneBefore (O.offers offers.now) (launched L.tasks launches.now) (place L.tasks launches.now at index + 1)) }
+    requires free { IsTrue batch.apart
+        → FreeFrom L.tasks launches.now at batch.end (λ x. has_point x task.now.resources) }
+    requires is { slice_get (launched L.tasks launches.now) (place L.tasks launches.now at index)
+        ≡ Some task.now }
+    requires first { NoneBefore (O.offers offers.now) (launched L.tasks launches.now)
+        (place L.tasks launches.now at index) }
+    ensures some { IfSome result (λ j. IsFirstBreach (O.offers offers.now)
+        (launched L.tasks launches.now) (place L.tasks launches.now at index) j) }
+    ensures none { IfNone result (NoneBefore (O.offers offers.now) (launched L.tasks launches.now)
+        (place L.tasks launches.now at index + 1)) }
 {
     for resource in 0..task.resources.len() {
         if breaks(offers, near, launches, at, index, batch, task, resource) {
@@ -116,9 +129,12 @@ fn breach_of_group<O: OfferList, L: TaskGroup>(
     at: usize,
 ) -> Option<(usize, usize)>
     requires within { at < length launches.now }
-    requires first { NoneBefore (O.offers offers.now) (launched L.tasks launches.now) (place L.tasks launches.now at 0) }
-    ensures some { IfSome result (λ p. IsFirstBreach (O.offers offers.now) (launched L.tasks launches.now) (place L.tasks launches.now at p.0) p.1) }
-    ensures none { IfNone result (NoneBefore (O.offers offers.now) (launched L.tasks launches.now) (place L.tasks launches.now (at + 1) 0)) }
+    requires first { NoneBefore (O.offers offers.now) (launched L.tasks launches.now)
+        (place L.tasks launches.now at 0) }
+    ensures some { IfSome result (λ p. IsFirstBreach (O.offers offers.now)
+        (launched L.tasks launches.now) (place L.tasks launches.now at p.0) p.1) }
+    ensures none { IfNone result (NoneBefore (O.offers offers.now) (launched L.tasks launches.now)
+        (place L.tasks launches.now (at + 1) 0)) }
 {
     let tasks = launches[at].tasks();
     let mut batch = Batch {
@@ -152,7 +168,8 @@ fn breach_of_group<O: OfferList, L: TaskGroup>(
 /// the tasks and of the offers.
 pub fn first_breach<O: OfferList, L: TaskGroup>(offers: &O, launches: &[L]) -> Option<Breach>
     // On `Some`: the first resource that does not fit.
-    ensures some { IfSome result (λ b. (i : ℕ) × (b.task ≡ as_index i) × IsFirstBreach (O.offers offers.now) (launched L.tasks launches.now) i b.resource) }
+    ensures some { IfSome result (λ b. (i : ℕ) × (b.task ≡ as_index i)
+        × IsFirstBreach (O.offers offers.now) (launched L.tasks launches.now) i b.resource) }
     ensures none { IfNone result (Fits (O.offers offers.now) (launched L.tasks launches.now)) }
 {
     let mut before: usize = 0;

@@ -92,7 +92,8 @@ fn last_coverage<O: OfferList>(
     at: u64,
     wanted: u64,
 ) -> Option<u64>
-    ensures { IfSome result (λ end. Reaches (λ x. has_piece (key_of key.now) (point x) (offered (O.offers offers.now))) at (Some end)) }
+    ensures { IfSome result (λ end. Reaches
+        (λ x. has_piece (key_of key.now) (point x) (offered (O.offers offers.now))) at (Some end)) }
 {
     let first = near.saturating_sub(NEAR_OFFERS);
     let end = near.saturating_add(NEAR_OFFERS).min(offers.count());
@@ -114,7 +115,8 @@ fn coverage<O: OfferList>(
     at: u64,
     wanted: u64,
 ) -> Option<u64>
-    ensures { Reaches (λ x. has_piece (key_of key.now) (point x) (offered (O.offers offers.now))) at result }
+    ensures { Reaches (λ x. has_piece (key_of key.now) (point x) (offered (O.offers offers.now))) at
+        result }
 {
     let mut reach = None;
     for index in 0..offers.count() {
@@ -137,7 +139,8 @@ pub(crate) fn offer_reach<O: OfferList>(
     at: u64,
     wanted: u64,
 ) -> Option<u64>
-    ensures { Reaches (λ x. has_piece (key_of key.now) (point x) (offered (O.offers offers.now))) at result }
+    ensures { Reaches (λ x. has_piece (key_of key.now) (point x) (offered (O.offers offers.now))) at
+        result }
 {
     match last_coverage(offers, near, key, at, wanted) {
         Some(end) => Some(end),

@@ -51,7 +51,8 @@ pub(crate) fn has_key_before<L: TaskGroup>(
     key: &Resource,
 ) -> bool
     requires { IsInRange L.tasks launches.now at task }
-    ensures { result ≡ list_any (is_of (key_of key.now)) (asked (take (place L.tasks launches.now at task) (launched L.tasks launches.now))) }
+    ensures { result ≡ list_any (is_of (key_of key.now))
+        (asked (take (place L.tasks launches.now at task) (launched L.tasks launches.now))) }
 {
     let tasks = launches[at].tasks();
     groups_have_key(&launches[..at], key) || tasks_have_key(&tasks[..task], key)
@@ -60,7 +61,10 @@ pub(crate) fn has_key_before<L: TaskGroup>(
 /// Returns whether a later task takes a piece of this resource.
 fn overlaps_later<L: TaskGroup>(launches: &[L], at: usize, task: usize, resource: &Resource) -> bool
     requires { IsInRange L.tasks launches.now at task }
-    ensures { Meets (λ p. piece_in p resource.now.value) (λ p. has_piece (key_of resource.now) p (asked (drop (place L.tasks launches.now at task + 1) (launched L.tasks launches.now)))) result }
+    ensures { Meets (λ p. piece_in p resource.now.value)
+        (λ p. has_piece (key_of resource.now) p
+        (asked (drop (place L.tasks launches.now at task + 1) (launched L.tasks launches.now))))
+        result }
 {
     if let ResourceValue::Scalar(_) = &resource.value {
         return false;
@@ -81,8 +85,12 @@ pub(crate) fn meets_another<L: TaskGroup>(
     requires is_index { IsInRange L.tasks launches.now at task }
     requires inside { task < batch.end }
     requires is { IsBatch L.tasks launches.now at batch }
-    requires free { IsTrue batch.apart → FreeFrom L.tasks launches.now at batch.end (λ x. piece_in (point x) resource.now.value) }
-    ensures { Meets (λ p. piece_in p resource.now.value) (λ p. has_piece (key_of resource.now) p (asked (drop (place L.tasks launches.now at task + 1) (launched L.tasks launches.now)))) result }
+    requires free { IsTrue batch.apart
+        → FreeFrom L.tasks launches.now at batch.end (λ x. piece_in (point x) resource.now.value) }
+    ensures { Meets (λ p. piece_in p resource.now.value)
+        (λ p. has_piece (key_of resource.now) p
+        (asked (drop (place L.tasks launches.now at task + 1) (launched L.tasks launches.now))))
+        result }
 {
     match &resource.value {
         ResourceValue::Ranges(_) if batch.apart => {

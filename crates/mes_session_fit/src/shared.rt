@@ -74,7 +74,8 @@ fn values_meet(value: &ResourceValue, other: &ResourceValue) -> bool
 
 /// Returns whether resources of the same key have a piece of this one.
 fn resources_meet(resource: &Resource, others: &[Resource]) -> bool
-    ensures { Meets (λ p. piece_in p resource.now.value) (λ p. has_piece (key_of resource.now) p others.now) result }
+    ensures { Meets (λ p. piece_in p resource.now.value)
+        (λ p. has_piece (key_of resource.now) p others.now) result }
 {
     for other in others {
         if values_meet(&resource.value, &other.value) && same_key(resource, other) {
@@ -85,7 +86,8 @@ fn resources_meet(resource: &Resource, others: &[Resource]) -> bool
 }
 
 pub(crate) fn tasks_meet(resource: &Resource, tasks: &[TaskInfo]) -> bool
-    ensures { Meets (λ p. piece_in p resource.now.value) (λ p. has_piece (key_of resource.now) p (asked tasks.now)) result }
+    ensures { Meets (λ p. piece_in p resource.now.value)
+        (λ p. has_piece (key_of resource.now) p (asked tasks.now)) result }
 {
     for task in tasks {
         if resources_meet(resource, task.resources.as_slice()) {
@@ -96,7 +98,8 @@ pub(crate) fn tasks_meet(resource: &Resource, tasks: &[TaskInfo]) -> bool
 }
 
 pub(crate) fn groups_meet<L: TaskGroup>(resource: &Resource, launches: &[L]) -> bool
-    ensures { Meets (λ p. piece_in p resource.now.value) (λ p. has_piece (key_of resource.now) p (asked (launched L.tasks launches.now))) result }
+    ensures { Meets (λ p. piece_in p resource.now.value)
+        (λ p. has_piece (key_of resource.now) p (asked (launched L.tasks launches.now))) result }
 {
     for group in launches {
         if tasks_meet(resource, group.tasks()) {

@@ -34,8 +34,10 @@ impl Supply {
     /// Advances by a resource or an offer; returns `false` at the end.
     fn step<O: OfferList>(&mut self, offers: &O, key: &Resource) -> bool
         requires { self.old.left ≡ 0 }
-        ensures same { IsTrue result → rest (key_of key.now) (O.offers offers.now) self.new ≡ rest (key_of key.now) (O.offers offers.now) self.old }
-        ensures less { IsTrue result → steps (O.offers offers.now) self.new < steps (O.offers offers.now) self.old }
+        ensures same { IsTrue result → rest (key_of key.now) (O.offers offers.now) self.new
+            ≡ rest (key_of key.now) (O.offers offers.now) self.old }
+        ensures less { IsTrue result → steps (O.offers offers.now) self.new
+            < steps (O.offers offers.now) self.old }
         ensures end { IsFalse result → rest (key_of key.now) (O.offers offers.now) self.old ≡ 0 }
     {
         if self.offer >= offers.count() {
@@ -54,8 +56,11 @@ impl Supply {
 
     /// Takes an amount; returns `false` if less remains.
     fn draw<O: OfferList>(&mut self, offers: &O, key: &Resource, wanted: u64) -> bool
-        ensures enough { IsTrue result → wanted + rest (key_of key.now) (O.offers offers.now) self.new ≡ rest (key_of key.now) (O.offers offers.now) self.old }
-        ensures short { IsFalse result → rest (key_of key.now) (O.offers offers.now) self.old < wanted }
+        ensures enough { IsTrue result → wanted
+            + rest (key_of key.now) (O.offers offers.now) self.new
+            ≡ rest (key_of key.now) (O.offers offers.now) self.old }
+        ensures short { IsFalse result → rest (key_of key.now) (O.offers offers.now) self.old
+            < wanted }
     {
         let mut wanted = wanted;
         while self.left < wanted {
@@ -75,8 +80,11 @@ impl Supply {
         key: &Resource,
         resources: &[Resource],
     ) -> bool
-        ensures enough { IsTrue result → amount (key_of key.now) resources.now + rest (key_of key.now) (O.offers offers.now) self.new ≡ rest (key_of key.now) (O.offers offers.now) self.old }
-        ensures short { IsFalse result → rest (key_of key.now) (O.offers offers.now) self.old < amount (key_of key.now) resources.now }
+        ensures enough { IsTrue result → amount (key_of key.now) resources.now
+            + rest (key_of key.now) (O.offers offers.now) self.new
+            ≡ rest (key_of key.now) (O.offers offers.now) self.old }
+        ensures short { IsFalse result → rest (key_of key.now) (O.offers offers.now) self.old
+            < amount (key_of key.now) resources.now }
     {
         for resource in resources {
             if !self.draw(offers, key, amount_under(key, resource)) {
@@ -87,8 +95,11 @@ impl Supply {
     }
 
     fn take_tasks<O: OfferList>(&mut self, offers: &O, key: &Resource, tasks: &[TaskInfo]) -> bool
-        ensures enough { IsTrue result → amount (key_of key.now) (asked tasks.now) + rest (key_of key.now) (O.offers offers.now) self.new ≡ rest (key_of key.now) (O.offers offers.now) self.old }
-        ensures short { IsFalse result → rest (key_of key.now) (O.offers offers.now) self.old < amount (key_of key.now) (asked tasks.now) }
+        ensures enough { IsTrue result → amount (key_of key.now) (asked tasks.now)
+            + rest (key_of key.now) (O.offers offers.now) self.new
+            ≡ rest (key_of key.now) (O.offers offers.now) self.old }
+        ensures short { IsFalse result → rest (key_of key.now) (O.offers offers.now) self.old
+            < amount (key_of key.now) (asked tasks.now) }
     {
         for task in tasks {
             if !self.take_resources(offers, key, task.resources.as_slice()) {
@@ -104,8 +115,12 @@ impl Supply {
         key: &Resource,
         launches: &[L],
     ) -> bool
-        ensures enough { IsTrue result → amount (key_of key.now) (asked (launched L.tasks launches.now)) + rest (key_of key.now) (O.offers offers.now) self.new ≡ rest (key_of key.now) (O.offers offers.now) self.old }
-        ensures short { IsFalse result → rest (key_of key.now) (O.offers offers.now) self.old < amount (key_of key.now) (asked (launched L.tasks launches.now)) }
+        ensures enough { IsTrue result → amount (key_of key.now)
+            (asked (launched L.tasks launches.now))
+            + rest (key_of key.now) (O.offers offers.now) self.new
+            ≡ rest (key_of key.now) (O.offers offers.now) self.old }
+        ensures short { IsFalse result → rest (key_of key.now) (O.offers offers.now) self.old
+            < amount (key_of key.now) (asked (launched L.tasks launches.now)) }
     {
         for group in launches {
             if !self.take_tasks(offers, key, group.tasks()) {
@@ -126,8 +141,11 @@ pub(crate) fn exceeds<O: OfferList, L: TaskGroup>(
     task: usize,
 ) -> bool
     requires is_index { IsInRange L.tasks launches.now at task }
-    requires first { list_any (is_of (key_of key.now)) (asked (take (place L.tasks launches.now at task) (launched L.tasks launches.now))) ≡ false }
-    ensures { IsTrue result ↔ amount (key_of key.now) (offered (O.offers offers.now)) < amount (key_of key.now) (asked (launched L.tasks launches.now)) }
+    requires first { list_any (is_of (key_of key.now))
+        (asked (take (place L.tasks launches.now at task) (launched L.tasks launches.now)))
+        ≡ false }
+    ensures { IsTrue result ↔ amount (key_of key.now) (offered (O.offers offers.now))
+        < amount (key_of key.now) (asked (launched L.tasks launches.now)) }
 {
     let mut supply = Supply {
         offer: 0,

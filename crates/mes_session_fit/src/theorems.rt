@@ -10,10 +10,13 @@ ghost use Rattle.mes_session_fit.specs.Fits.{Fits, BreaksAt, IsFirstBreach};
 /// Proves when tasks fit their offers, and properties of the first resource that does not fit.
 pub fn fits_laws()
     // Tasks fit if and only if no resource breaks the rule.
-    ensures breach { (offers : List Offer) (tasks : List TaskInfo) → Fits offers tasks ↔ ((i j : ℕ) → BreaksAt offers tasks i j → ⊥) }
+    ensures breach { (offers : List Offer) (tasks : List TaskInfo)
+        → Fits offers tasks ↔ ((i j : ℕ) → BreaksAt offers tasks i j → ⊥) }
     // At most one resource is the first that breaks the rule.
-    ensures one { (offers : List Offer) (tasks : List TaskInfo) (i j k l : ℕ) → IsFirstBreach offers tasks i j → IsFirstBreach offers tasks k l → (i ≡ k) × (j ≡ l) }
+    ensures one { (offers : List Offer) (tasks : List TaskInfo) (i j k l : ℕ)
+        → IsFirstBreach offers tasks i j → IsFirstBreach offers tasks k l → (i ≡ k) × (j ≡ l) }
     // The order of the offers does not matter.
-    ensures order { (offers others : List Offer) (tasks : List TaskInfo) → IsPermutation offers others → Fits offers tasks → Fits others tasks }
+    ensures order { (offers others : List Offer) (tasks : List TaskInfo)
+        → IsPermutation offers others → Fits offers tasks → Fits others tasks }
     ensures keys { (j k : Key) → keys_agree j k ≡ true ↔ j ≡ k }
 {}

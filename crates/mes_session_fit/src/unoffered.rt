@@ -16,7 +16,8 @@ use mes_model::{Range, Resource, ResourceValue};
 /// Returns how far the points after `end` are in the ranges or in the resources of the key.
 fn go_on(ranges: &[Range], resources: &[Resource], key: &Resource, end: u64, wanted: u64) -> u64
     ensures on { end ≤ result }
-    ensures all { (x : ℕ) → end < x → x ≤ result → (in_ranges x ranges.now || has_piece (key_of key.now) (point x) resources.now) ≡ true }
+    ensures all { (x : ℕ) → end < x → x ≤ result
+        → (in_ranges x ranges.now || has_piece (key_of key.now) (point x) resources.now) ≡ true }
 {
     if end >= wanted {
         return end;
@@ -39,8 +40,10 @@ fn reach_on<O: OfferList>(
     at: u64,
     wanted: u64,
 ) -> Option<u64>
-    requires { (x : ℕ) → (in_ranges x front.now || has_piece (key_of key.now) (point x) own.now) ≡ true → has_piece (key_of key.now) (point x) (offered (O.offers offers.now)) ≡ true }
-    ensures { Reaches (λ x. has_piece (key_of key.now) (point x) (offered (O.offers offers.now))) at result }
+    requires { (x : ℕ) → (in_ranges x front.now || has_piece (key_of key.now) (point x) own.now)
+        ≡ true → has_piece (key_of key.now) (point x) (offered (O.offers offers.now)) ≡ true }
+    ensures { Reaches (λ x. has_piece (key_of key.now) (point x) (offered (O.offers offers.now))) at
+        result }
 {
     match offer_reach(offers, near, key, at, wanted) {
         None => None,
@@ -58,8 +61,10 @@ fn is_range_unoffered<O: OfferList>(
     front: &[Range],
     range: &Range,
 ) -> bool
-    requires { (x : ℕ) → (in_ranges x front.now || has_piece (key_of key.now) (point x) own.now) ≡ true → has_piece (key_of key.now) (point x) (offered (O.offers offers.now)) ≡ true }
-    ensures { Lacks (λ x. in_range x range.now) (λ x. has_piece (key_of key.now) (point x) (offered (O.offers offers.now))) result }
+    requires { (x : ℕ) → (in_ranges x front.now || has_piece (key_of key.now) (point x) own.now)
+        ≡ true → has_piece (key_of key.now) (point x) (offered (O.offers offers.now)) ≡ true }
+    ensures { Lacks (λ x. in_range x range.now)
+        (λ x. has_piece (key_of key.now) (point x) (offered (O.offers offers.now))) result }
 {
     let mut at = range.first;
     while at <= range.last {
@@ -85,8 +90,10 @@ fn are_ranges_unoffered<O: OfferList>(
     key: &Resource,
     ranges: &[Range],
 ) -> bool
-    requires { (x : ℕ) → has_piece (key_of key.now) (point x) own.now ≡ true → has_piece (key_of key.now) (point x) (offered (O.offers offers.now)) ≡ true }
-    ensures { Lacks (λ x. in_ranges x ranges.now) (λ x. has_piece (key_of key.now) (point x) (offered (O.offers offers.now))) result }
+    requires { (x : ℕ) → has_piece (key_of key.now) (point x) own.now ≡ true
+        → has_piece (key_of key.now) (point x) (offered (O.offers offers.now)) ≡ true }
+    ensures { Lacks (λ x. in_ranges x ranges.now)
+        (λ x. has_piece (key_of key.now) (point x) (offered (O.offers offers.now))) result }
 {
     for index in 0..ranges.len() {
         if is_range_unoffered(offers, near, own, key, &ranges[..index], &ranges[index]) {
@@ -114,7 +121,8 @@ fn resources_have_item(resources: &[Resource], key: &Resource, item: &Text) -> b
 }
 
 fn offers_have_item<O: OfferList>(offers: &O, key: &Resource, item: &Text) -> bool
-    ensures { result ≡ has_piece (key_of key.now) (item_piece item.now) (offered (O.offers offers.now)) }
+    ensures { result ≡ has_piece (key_of key.now) (item_piece item.now)
+        (offered (O.offers offers.now)) }
 {
     for index in 0..offers.count() {
         if resources_have_item(offers.get(index).resources.as_slice(), key, item) {
@@ -126,7 +134,8 @@ fn offers_have_item<O: OfferList>(offers: &O, key: &Resource, item: &Text) -> bo
 
 /// Returns whether the offers lack one of the items.
 fn are_items_unoffered<O: OfferList>(offers: &O, key: &Resource, items: &[Text]) -> bool
-    ensures { Lacks (λ n. in_items n items.now) (λ n. has_piece (key_of key.now) (item_piece n) (offered (O.offers offers.now))) result }
+    ensures { Lacks (λ n. in_items n items.now)
+        (λ n. has_piece (key_of key.now) (item_piece n) (offered (O.offers offers.now))) result }
 {
     for item in items {
         if !offers_have_item(offers, key, item) {
@@ -144,8 +153,10 @@ pub(crate) fn is_unoffered<O: OfferList>(
     own: &[Resource],
     resource: &Resource,
 ) -> bool
-    requires { (x : ℕ) → has_piece (key_of resource.now) (point x) own.now ≡ true → has_piece (key_of resource.now) (point x) (offered (O.offers offers.now)) ≡ true }
-    ensures { Lacks (λ p. piece_in p resource.now.value) (λ p. has_piece (key_of resource.now) p (offered (O.offers offers.now))) result }
+    requires { (x : ℕ) → has_piece (key_of resource.now) (point x) own.now ≡ true
+        → has_piece (key_of resource.now) (point x) (offered (O.offers offers.now)) ≡ true }
+    ensures { Lacks (λ p. piece_in p resource.now.value)
+        (λ p. has_piece (key_of resource.now) p (offered (O.offers offers.now))) result }
 {
     match &resource.value {
         ResourceValue::Scalar(_) => false,

@@ -62,7 +62,8 @@ fn put_message<T: Part>(
     limit: Limit,
     log: &mut Vec<u8>,
 ) -> Result<(), EncodeFault>
-    ensures ok { OnOk result (log.new.items ≡ log.old.items ++ record_bytes (letter ∷ canonical_of T.kind message.now)) }
+    ensures ok { OnOk result (log.new.items
+        ≡ log.old.items ++ record_bytes (letter ∷ canonical_of T.kind message.now)) }
     ensures fit { OnOk result (IsFit T.kind limit message.now) }
     ensures again { OnOk result (IsTextOf T.kind (canonical_of T.kind message.now) message.now) }
     ensures short { OnOk result (length (canonical_of T.kind message.now) < 2 ^ 64 - 1) }

@@ -57,8 +57,10 @@ impl LogReading {
     /// Consumes the bytes of one read and appends the entries of the records that end in them.
     fn feed(&mut self, piece: &[u8], entries: &mut Vec<Entry>) -> Result<(), LogStop>
         requires { length piece.now ≤ MAX_READ }
-        ensures takes { (limit : ℕ) (w : List ℕ) (before : List EntryValue) → LogRepresents self.old limit w before
-            → StageTakes self.new.stage limit w before piece.now entries.old.items entries.new.items result }
+        ensures takes { (limit : ℕ) (w : List ℕ) (before : List EntryValue)
+            → LogRepresents self.old limit w before
+            → StageTakes self.new.stage limit w before piece.now entries.old.items entries.new.items
+            result }
         ensures limit { self.new.limit ≡ self.old.limit }
     {
         match self.begin(piece, entries)? {
@@ -71,8 +73,10 @@ impl LogReading {
     // `None` if the record is still incomplete.
     fn begin(&mut self, piece: &[u8], entries: &mut Vec<Entry>) -> Result<Option<usize>, LogStop>
         requires { length piece.now ≤ MAX_READ }
-        ensures begins { (limit : ℕ) (w : List ℕ) (before : List EntryValue) → LogRepresents self.old limit w before
-            → StageBegins self.new.stage limit w before piece.now entries.old.items entries.new.items result }
+        ensures begins { (limit : ℕ) (w : List ℕ) (before : List EntryValue)
+            → LogRepresents self.old limit w before
+            → StageBegins self.new.stage limit w before piece.now entries.old.items
+            entries.new.items result }
         ensures within { IfOk result (λ used. IfSome used (λ n. n ≤ length piece.now)) }
         ensures limit { self.new.limit ≡ self.old.limit }
     {
@@ -112,7 +116,8 @@ impl Consumer<Vec<Entry>> for LogReading {
 
     ghost goes = { λ first start now to w. LogGathers first start.items now to.items w };
 
-    ghost stops = { λ first start now to w piece stop. LogGathersLast first start.items now to.items w piece stop };
+    ghost stops = { λ first start now to w piece stop. LogGathersLast first start.items now to.items
+        w piece stop };
 
     fn consume(&mut self, piece: &[u8], entries: &mut Vec<Entry>) -> Result<(), LogStop> {
         self.feed(piece, entries)
@@ -123,8 +128,10 @@ impl Stage {
     // Consumes the part of a piece after the first record.
     fn feed(&mut self, piece: &[u8], entries: &mut Vec<Entry>) -> Result<(), LogStop>
         requires { length piece.now ≤ MAX_READ }
-        ensures { (limit : ℕ) (w : List ℕ) (before : List EntryValue) → RestRepresents self.old limit w before
-            → StageTakes self.new limit w before piece.now entries.old.items entries.new.items result }
+        ensures { (limit : ℕ) (w : List ℕ) (before : List EntryValue)
+            → RestRepresents self.old limit w before
+            → StageTakes self.new limit w before piece.now entries.old.items entries.new.items
+            result }
     {
         match self {
             Stage::First(_) => Ok(()),
@@ -174,7 +181,8 @@ fn stage_after(
     used: u64,
     entries: &mut Vec<Entry>,
 ) -> Result<Stage, LogStop>
-    ensures ok { IfOk result (λ stage. (head content : List ℕ) → IsRecord head content limit → SpellsFirst content first → used ≡ saturated (length head)
+    ensures ok { IfOk result (λ stage. (head content : List ℕ) → IsRecord head content limit
+        → SpellsFirst content first → used ≡ saturated (length head)
         → RestRepresents stage limit head (entries_in first)) }
     ensures ok_entries { OnOk result (entries.new.items ≡ entries.old.items ++ entries_in first) }
     ensures err { IfErr result (λ stop. stop ≡ LogStop.NoMemory) }

@@ -34,7 +34,8 @@ pub fn read_log<S: Source>(
     ensures { (w : List ℕ) × (more : List EntryValue)
         × Consumes (S.left reader.old) (S.left reader.new) w
         × (entries.new.items ≡ entries.old.items ++ more)
-        × EndsLog limit max_reads (S.counts reader.old) (S.counts reader.new) (S.left reader.new) w more result }
+        × EndsLog limit max_reads (S.counts reader.old) (S.counts reader.new) (S.left reader.new) w
+        more result }
 {
     let mut reading = LogReading::new(alloc, limit);
     let end = read_device(reader, max_reads, &mut reading, entries);

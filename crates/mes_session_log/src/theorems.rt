@@ -14,11 +14,14 @@ use mes_stream::plain_reading_is_unique;
 /// certain entries. Exactly one of these holds, in exactly one way.
 pub fn log_reading_is_unique()
     // Any bytes have a reading.
-    ensures some { (limit : ℕ) (w : List ℕ) → (reading : PlainReading EntryValue) × ReadsLog limit w reading }
+    ensures some { (limit : ℕ) (w : List ℕ)
+        → (reading : PlainReading EntryValue) × ReadsLog limit w reading }
     // Any bytes have at most one reading.
-    ensures one { (limit : ℕ) (w : List ℕ) (reading other : PlainReading EntryValue) → ReadsLog limit w reading → ReadsLog limit w other → reading ≡ other }
+    ensures one { (limit : ℕ) (w : List ℕ) (reading other : PlainReading EntryValue)
+        → ReadsLog limit w reading → ReadsLog limit w other → reading ≡ other }
     // A whole log is read to its entries.
-    ensures whole { (limit : ℕ) (w : List ℕ) (entries : List EntryValue) → IsLog limit w entries → LogGoes limit w entries }
+    ensures whole { (limit : ℕ) (w : List ℕ) (entries : List EntryValue) → IsLog limit w entries
+        → LogGoes limit w entries }
 {
     entry_reading_is_unique();
     record_reading_is_unique();

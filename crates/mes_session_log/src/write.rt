@@ -18,11 +18,13 @@ pub fn write_log<W: Sink>(
     limit: Limit,
 ) -> Result<(), SendFault>
     // On success: each entry fits the limit, and the whole log is written.
-    ensures ok { OnOk result ((w : List ℕ) × IsLogOf limit entries.now w × WroteAll W.written W.counts writer.old writer.new w) }
+    ensures ok { OnOk result ((w : List ℕ) × IsLogOf limit entries.now w
+        × WroteAll W.written W.counts writer.old writer.new w) }
 
     // Each error: the first entry that does not fit, or out of memory; the writer was not called.
     // Or the writer stopped after the first `sent` bytes.
-    ensures err { IfErr result (StopsLog W.written W.counts limit entries.now writer.old writer.new) }
+    ensures err { IfErr result (StopsLog W.written W.counts limit entries.now writer.old
+        writer.new) }
 {
     let log = encode_log(alloc, entries, limit)?;
     write_all(writer, log.as_slice())?;

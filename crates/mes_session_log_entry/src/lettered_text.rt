@@ -63,11 +63,14 @@ impl LetteredReader {
 
     pub(crate) fn push_run(&mut self, bytes: &[u8]) -> Result<(), NoMemoryAt>
         // On success: the run is consumed.
-        ensures ok { OnOk result ((r : List ℕ) → HoldsLettered self.old r → HoldsLettered self.new (r ++ bytes.now)) }
+        ensures ok { OnOk result ((r : List ℕ) → HoldsLettered self.old r
+            → HoldsLettered self.new (r ++ bytes.now)) }
         // Each error: an allocation failed at byte `taken` of the run.
-        ensures err { IfErr result (λ refused. 0 < length bytes.now → refused.taken < length bytes.now) }
+        ensures err { IfErr result (λ refused. 0 < length bytes.now
+            → refused.taken < length bytes.now) }
         // The data before that byte begin as an event or a call.
-        ensures before { (r : List ℕ) → HoldsLettered self.old r → IfErr result (λ refused. BeginsMessage (r ++ take refused.taken bytes.now)) }
+        ensures before { (r : List ℕ) → HoldsLettered self.old r
+            → IfErr result (λ refused. BeginsMessage (r ++ take refused.taken bytes.now)) }
     {
         if !self.is_at_start() {
             return self.push_after(bytes);
@@ -102,9 +105,12 @@ impl LetteredReader {
 
     // Consumes a run of the data after the first byte.
     fn push_after(&mut self, bytes: &[u8]) -> Result<(), NoMemoryAt>
-        ensures ok { OnOk result ((r : List ℕ) → r ≢ [] → HoldsLettered self.old r → HoldsLettered self.new (r ++ bytes.now)) }
-        ensures err { IfErr result (λ refused. 0 < length bytes.now → refused.taken < length bytes.now) }
-        ensures before { (r : List ℕ) → r ≢ [] → HoldsLettered self.old r → IfErr result (λ refused. BeginsMessage (r ++ take refused.taken bytes.now)) }
+        ensures ok { OnOk result ((r : List ℕ) → r ≢ [] → HoldsLettered self.old r
+            → HoldsLettered self.new (r ++ bytes.now)) }
+        ensures err { IfErr result (λ refused. 0 < length bytes.now
+            → refused.taken < length bytes.now) }
+        ensures before { (r : List ℕ) → r ≢ [] → HoldsLettered self.old r
+            → IfErr result (λ refused. BeginsMessage (r ++ take refused.taken bytes.now)) }
     {
         match self.place {
             Place::Event => self.lexer.push_run(bytes),
@@ -122,8 +128,10 @@ impl LetteredReader {
 
     /// Ends the data and returns their value or fault.
     pub(crate) fn finish(&mut self) -> Result<Lettered, RecordError>
-        ensures ok { (r : List ℕ) → HoldsLettered self.old r → length r < 2 ^ 64 → IfOk result (SpellsLettered r) }
-        ensures err { (r : List ℕ) → HoldsLettered self.old r → length r < 2 ^ 64 → IfErr result (LetteredBreaks r) }
+        ensures ok { (r : List ℕ) → HoldsLettered self.old r → length r < 2 ^ 64
+            → IfOk result (SpellsLettered r) }
+        ensures err { (r : List ℕ) → HoldsLettered self.old r → length r < 2 ^ 64
+            → IfErr result (LetteredBreaks r) }
         // On success: the reader is ready for the next record.
         ensures next { OnOk result (HoldsLettered self.new []) }
     {
@@ -181,8 +189,10 @@ fn offset_after(letter: u8) -> Place
 // Reads the lexer's text as a message, and resets the lexer for the next text.
 fn end_text<T: Part>(alloc: Global, lexer: &mut Lexer) -> Result<T, RecordError>
     requires { T.STEPS ≤ MAX_PATH_STEPS }
-    ensures ok { (text : List ℕ) → HasText lexer.old text → length text < 2 ^ 64 → IfOk result (IsTextOf T.kind text) }
-    ensures err { (text : List ℕ) → HasText lexer.old text → length text < 2 ^ 64 → IfErr result (IsTextRefusal T.kind text) }
+    ensures ok { (text : List ℕ) → HasText lexer.old text → length text < 2 ^ 64
+        → IfOk result (IsTextOf T.kind text) }
+    ensures err { (text : List ℕ) → HasText lexer.old text → length text < 2 ^ 64
+        → IfErr result (IsTextRefusal T.kind text) }
     ensures next { OnOk result (HasText lexer.new []) }
 {
     let tape = lexer.take()?;

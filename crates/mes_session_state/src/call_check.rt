@@ -36,7 +36,12 @@ impl<'a> Model for CallCheck<'a> {
 
     ghost coded = { Prim.hlevel (codes, members_code) };
 
-    ghost view = { λ s. record { framework = option_copied s.framework; connected = s.connected; hand = s.hand.now; owed = s.owed.now } };
+    ghost view = { λ s. record {
+      framework = option_copied s.framework;
+      connected = s.connected;
+      hand = s.hand.now;
+      owed = s.owed.now;
+    } };
 }
 
 impl<'a> CallCheck<'a> {
@@ -48,7 +53,12 @@ impl<'a> CallCheck<'a> {
         owed: &'a UpdateKeys,
     ) -> CallCheck<'a>
         // The value is the state with these parts.
-        ensures { result ≡ record { framework = option_copied framework.entry; connected = connected; hand = hand.now; owed = owed.now } }
+        ensures { result ≡ record {
+          framework = option_copied framework.entry;
+          connected = connected;
+          hand = hand.now;
+          owed = owed.now;
+        } }
     {
         CallCheck {
             framework,
@@ -84,7 +94,9 @@ impl<'a> CallCheck<'a> {
     /// has one LAUNCH of `tasks`, or no operation if `tasks` is empty.
     pub fn refusal_of_accept(&self, ids: &[Id], tasks: &[TaskInfo]) -> Option<Refusal>
         // The first reason against this ACCEPT, whatever its filters.
-        ensures answers { (framework : IdValue) (filters : option Filters) → IsOwn self.now framework → Answers self.now (accept_call framework ids.now tasks.now filters) result }
+        ensures answers { (framework : IdValue) (filters : option Filters)
+            → IsOwn self.now framework → Answers self.now
+            (accept_call framework ids.now tasks.now filters) result }
         ensures known { IfNone result (IsSome self.now.framework) }
     {
         if self.is_disconnected() {
@@ -96,7 +108,9 @@ impl<'a> CallCheck<'a> {
     /// Like [`CallCheck::refusal`], but for a DECLINE of these offers by the known framework.
     pub fn refusal_of_decline(&self, ids: &[Id]) -> Option<Refusal>
         // The first reason against this DECLINE, whatever its filters.
-        ensures answers { (framework : IdValue) (filters : option Filters) → IsOwn self.now framework → Answers self.now (decline_call framework ids.now filters) result }
+        ensures answers { (framework : IdValue) (filters : option Filters)
+            → IsOwn self.now framework → Answers self.now (decline_call framework ids.now filters)
+            result }
         ensures known { IfNone result (IsSome self.now.framework) }
     {
         if self.is_disconnected() {
@@ -108,7 +122,8 @@ impl<'a> CallCheck<'a> {
     /// Like [`CallCheck::refusal`], but for the ACKNOWLEDGE of this update by the known framework.
     pub fn refusal_of_acknowledge(&self, key: &OwedKey) -> Option<Refusal>
         // The first reason against this ACKNOWLEDGE.
-        ensures answers { (framework : IdValue) → IsOwn self.now framework → Answers self.now (acknowledge_call framework key.now) result }
+        ensures answers { (framework : IdValue) → IsOwn self.now framework
+            → Answers self.now (acknowledge_call framework key.now) result }
         ensures known { IfNone result (IsSome self.now.framework) }
     {
         if self.is_disconnected() {
@@ -125,7 +140,8 @@ impl<'a> CallCheck<'a> {
     /// or MESSAGE of the known framework. The only possible reason is S1.
     pub fn refusal_of_plain(&self) -> Option<Refusal>
         // The first reason against any of these calls.
-        ensures answers { (framework : IdValue) (call : CallValue) → IsOwn self.now framework → framework_of call ≡ Some framework → IsPlain call → Answers self.now call result }
+        ensures answers { (framework : IdValue) (call : CallValue) → IsOwn self.now framework
+            → framework_of call ≡ Some framework → IsPlain call → Answers self.now call result }
         ensures known { IfNone result (IsSome self.now.framework) }
     {
         if self.is_disconnected() {
@@ -136,7 +152,8 @@ impl<'a> CallCheck<'a> {
 
     /// Returns whether no SUBSCRIBED was received since the stream was disconnected.
     fn is_disconnected(&self) -> bool
-        ensures strange { (framework : IdValue) → IsOwn self.now framework → IsTrue result ↔ IsOtherFramework self.now framework }
+        ensures strange { (framework : IdValue) → IsOwn self.now framework
+            → IsTrue result ↔ IsOtherFramework self.now framework }
         ensures known { IsFalse result → IsSome self.now.framework }
     {
         !self.connected || self.framework.is_none()
@@ -182,7 +199,13 @@ impl<'a> CallCheck<'a> {
 
     /// Returns the first of S2 to S6 that applies to an ACCEPT of these offers with these tasks.
     fn fault_of_accept<L: TaskGroup>(&self, ids: &[Id], launches: &[L]) -> Option<Refusal>
-        ensures { ReportsFirst (IsFaultyIn self.now (record { named = ids.now; accepted = ids.now; tasks = launched L.tasks launches.now; acknowledged = None })) result }
+        ensures { ReportsFirst (IsFaultyIn self.now
+            (record {
+              named = ids.now;
+              accepted = ids.now;
+              tasks = launched L.tasks launches.now;
+              acknowledged = None;
+            })) result }
     {
         if is_duplicated(ids) || task_is_duplicated(launches) {
             return Some(Refusal::NamedTwice);
@@ -206,7 +229,8 @@ impl<'a> CallCheck<'a> {
 
     /// Returns the first of S2 and S3 that applies to a DECLINE of these offers.
     fn fault_of_decline(&self, ids: &[Id]) -> Option<Refusal>
-        ensures { ReportsFirst (IsFaultyIn self.now (record { named = ids.now; accepted = []; tasks = []; acknowledged = None })) result }
+        ensures { ReportsFirst (IsFaultyIn self.now
+            (record { named = ids.now; accepted = []; tasks = []; acknowledged = None })) result }
     {
         if is_duplicated(ids) {
             return Some(Refusal::NamedTwice);

@@ -124,8 +124,10 @@ pub(crate) fn on_other_agent<L: TaskGroup>(
     offers: &NamedOffers<'_>,
     launches: &[L],
 ) -> Option<usize>
-    ensures some { IfSome result (λ n. (i : ℕ) × (n ≡ as_index i) × IsFirstAt (is_elsewhere offers.now) (launched L.tasks launches.now) i) }
-    ensures none { IfNone result (list_any (is_elsewhere offers.now) (launched L.tasks launches.now) ≡ false) }
+    ensures some { IfSome result (λ n. (i : ℕ) × (n ≡ as_index i)
+        × IsFirstAt (is_elsewhere offers.now) (launched L.tasks launches.now) i) }
+    ensures none { IfNone result (list_any (is_elsewhere offers.now) (launched L.tasks launches.now)
+        ≡ false) }
 {
     let mut before: usize = 0;
     for at in 0..launches.len() {

@@ -81,7 +81,8 @@ fn put_one(slots: &mut Slots, name: String, slot: Slot)
     requires settled { AreSettled slots.old.entries }
     requires own { AreSettled ((name, slot) ∷ []) }
     ensures settled { AreSettled slots.new.entries }
-    ensures put { offers_in slots.new.entries ≡ put bytes_eq name_of (offers_in slots.old.entries) slot.offer }
+    ensures put { offers_in slots.new.entries
+        ≡ put bytes_eq name_of (offers_in slots.old.entries) slot.offer }
     ensures room { spare slots.old ≤ spare slots.new + 1 }
 {
     slots.insert(name, slot).unwrap();
@@ -93,7 +94,8 @@ pub(crate) fn put_all(slots: &mut Slots, copied: Vec<(String, Slot)>)
     requires settled { AreSettled slots.old.entries }
     requires own { AreSettled copied.items }
     ensures settled { AreSettled slots.new.entries }
-    ensures put { offers_in slots.new.entries ≡ with_offers (offers_in slots.old.entries) (offers_in copied.items) }
+    ensures put { offers_in slots.new.entries
+        ≡ with_offers (offers_in slots.old.entries) (offers_in copied.items) }
 {
     for (name, slot) in copied {
         put_one(slots, name, slot);

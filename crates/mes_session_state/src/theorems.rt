@@ -9,5 +9,6 @@ ghost use Rattle.mes_session_state.specs.Refusals.{IsRefused};
 /// Proves that a call is refused for at most one reason.
 pub fn refusal_laws()
     // In each state, a call has at most one reason to be refused.
-    ensures { (held : Held) (call : Call) (fault other : Refusal) → IsRefused held call fault → IsRefused held call other → fault ≡ other }
+    ensures { (held : Held) (call : Call) (fault other : Refusal) → IsRefused held call fault
+        → IsRefused held call other → fault ≡ other }
 {}

@@ -66,7 +66,8 @@ impl UpdateKeys {
     /// Returns whether the key of this agent, task and UUID is present. The search is linear.
     pub fn has(&self, agent: &Id, task: &Id, uuid: &Bytes) -> bool
         // Whether the key with this agent, task and UUID is present.
-        ensures { result ≡ is_owed (record { agent = agent.now; task = task.now; uuid = uuid.now }) self.now }
+        ensures { result ≡ is_owed (record { agent = agent.now; task = task.now; uuid = uuid.now })
+            self.now }
     {
         self.keys
             .as_slice()
@@ -89,11 +90,17 @@ impl UpdateKeys {
     /// allocate.
     pub fn remove_key(&mut self, agent: &Id, task: &Id, uuid: &Bytes)
         // The key with this agent, task and UUID is removed.
-        ensures { self.new ≡ without_key (record { agent = agent.now; task = task.now; uuid = uuid.now }) self.old }
+        ensures { self.new ≡ without_key
+            (record { agent = agent.now; task = task.now; uuid = uuid.now }) self.old }
     {
         self.keys.retain(
             |key: &OwedKey| -> bool
-                ensures { result ≡ not (same_key (record { agent = agent.entry.now; task = task.entry.now; uuid = uuid.entry.now }) key.now) }
+                ensures { result ≡ not (same_key
+                    (record {
+                      agent = agent.entry.now;
+                      task = task.entry.now;
+                      uuid = uuid.entry.now;
+                    }) key.now) }
             { !is_key(key, agent, task, uuid) },
         );
     }
@@ -102,7 +109,8 @@ impl UpdateKeys {
 /// Returns whether the key is of this agent, task and UUID. The UUID differs most often, so it is
 /// compared first.
 fn is_key(key: &OwedKey, agent: &Id, task: &Id, uuid: &Bytes) -> bool
-    ensures { result ≡ same_key (record { agent = agent.now; task = task.now; uuid = uuid.now }) key.now }
+    ensures { result ≡ same_key (record { agent = agent.now; task = task.now; uuid = uuid.now })
+        key.now }
 {
     uuid == &key.uuid && agent == &key.agent && task == &key.task
 }

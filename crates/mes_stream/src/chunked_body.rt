@@ -26,7 +26,8 @@ pub struct ChunkedBody<R> {
 impl<R: RecordReader> ChunkedBody<R> {
     /// Before the first byte.
     pub(crate) fn new(body: Body<R>) -> ChunkedBody<R>
-        ensures represents { (ahead : ℕ) → BodyRepresents R.holds R.spells ahead body [] [] → ChunkedRepresents R.holds R.spells ahead result [] [] }
+        ensures represents { (ahead : ℕ) → BodyRepresents R.holds R.spells ahead body [] []
+            → ChunkedRepresents R.holds R.spells ahead result [] [] }
         ensures body { result.body ≡ body }
     {
         ChunkedBody {
@@ -38,10 +39,15 @@ impl<R: RecordReader> ChunkedBody<R> {
     /// Takes short chunks, or bytes of the framing or a run of data, from the front of a piece.
     pub(crate) fn consume(&mut self, rest: &[u8]) -> Step<(), PackedFault>
         requires { 0 < length rest.now }
-        ensures reports { (ahead : ℕ) (w : List ℕ) (values : List R.Value) → ChunkedRepresents R.holds R.spells ahead self.old w values
-            → Reports R.holds R.spells R.breaks ahead framing.Chunked (λ body. ChunkedRepresents R.holds R.spells ahead (record { chunks = self.new.chunks; body = body }))
-            self.new.body (limit_of self.new.body.records) w values rest.now result.used result.out }
-        ensures before { (ahead : ℕ) (w : List ℕ) (values : List R.Value) → ChunkedRepresents R.holds R.spells ahead self.old w values
+        ensures reports { (ahead : ℕ) (w : List ℕ) (values : List R.Value)
+            → ChunkedRepresents R.holds R.spells ahead self.old w values
+            → Reports R.holds R.spells R.breaks ahead framing.Chunked
+            (λ body. ChunkedRepresents R.holds R.spells ahead
+            (record { chunks = self.new.chunks; body = body }))
+            self.new.body (limit_of self.new.body.records) w values rest.now result.used
+            result.out }
+        ensures before { (ahead : ℕ) (w : List ℕ) (values : List R.Value)
+            → ChunkedRepresents R.holds R.spells ahead self.old w values
             → LiveBefore R.spells (limit_of self.new.body.records) w values rest.now result.used }
         ensures used { (0 < result.used) × (result.used ≤ length rest.now) }
         ensures limit { limit_of self.new.body.records ≡ limit_of self.old.body.records }
@@ -64,10 +70,15 @@ impl<R: RecordReader> ChunkedBody<R> {
     fn take_between(&mut self, rest: &[u8]) -> Step<(), PackedFault>
         requires some { 0 < length rest.now }
         requires none { remaining_of self.old.chunks ≡ 0 }
-        ensures reports { (ahead : ℕ) (w : List ℕ) (values : List R.Value) → ChunkedRepresents R.holds R.spells ahead self.old w values
-            → Reports R.holds R.spells R.breaks ahead framing.Chunked (λ body. ChunkedRepresents R.holds R.spells ahead (record { chunks = self.new.chunks; body = body }))
-            self.new.body (limit_of self.new.body.records) w values rest.now result.used result.out }
-        ensures before { (ahead : ℕ) (w : List ℕ) (values : List R.Value) → ChunkedRepresents R.holds R.spells ahead self.old w values
+        ensures reports { (ahead : ℕ) (w : List ℕ) (values : List R.Value)
+            → ChunkedRepresents R.holds R.spells ahead self.old w values
+            → Reports R.holds R.spells R.breaks ahead framing.Chunked
+            (λ body. ChunkedRepresents R.holds R.spells ahead
+            (record { chunks = self.new.chunks; body = body }))
+            self.new.body (limit_of self.new.body.records) w values rest.now result.used
+            result.out }
+        ensures before { (ahead : ℕ) (w : List ℕ) (values : List R.Value)
+            → ChunkedRepresents R.holds R.spells ahead self.old w values
             → LiveBefore R.spells (limit_of self.new.body.records) w values rest.now result.used }
         ensures used { (0 < result.used) × (result.used ≤ length rest.now) }
         ensures limit { limit_of self.new.body.records ≡ limit_of self.old.body.records }
@@ -81,10 +92,15 @@ impl<R: RecordReader> ChunkedBody<R> {
 
     // Takes chunks that are short and plain from the front of a piece, as far as they stand there and the record goes on behind them.
     fn take_short(&mut self, rest: &[u8]) -> Step<(), PackedFault>
-        ensures reports { (ahead : ℕ) (w : List ℕ) (values : List R.Value) → ChunkedRepresents R.holds R.spells ahead self.old w values
-            → Reports R.holds R.spells R.breaks ahead framing.Chunked (λ body. ChunkedRepresents R.holds R.spells ahead (record { chunks = self.new.chunks; body = body }))
-            self.new.body (limit_of self.new.body.records) w values rest.now result.used result.out }
-        ensures before { (ahead : ℕ) (w : List ℕ) (values : List R.Value) → ChunkedRepresents R.holds R.spells ahead self.old w values
+        ensures reports { (ahead : ℕ) (w : List ℕ) (values : List R.Value)
+            → ChunkedRepresents R.holds R.spells ahead self.old w values
+            → Reports R.holds R.spells R.breaks ahead framing.Chunked
+            (λ body. ChunkedRepresents R.holds R.spells ahead
+            (record { chunks = self.new.chunks; body = body }))
+            self.new.body (limit_of self.new.body.records) w values rest.now result.used
+            result.out }
+        ensures before { (ahead : ℕ) (w : List ℕ) (values : List R.Value)
+            → ChunkedRepresents R.holds R.spells ahead self.old w values
             → LiveBefore R.spells (limit_of self.new.body.records) w values rest.now result.used }
         ensures none { result.used ≡ 0 → self.new ≡ self.old }
         ensures used { result.used ≤ length rest.now }
@@ -107,10 +123,15 @@ impl<R: RecordReader> ChunkedBody<R> {
     fn take_framing(&mut self, rest: &[u8]) -> Step<(), PackedFault>
         requires some { 0 < length rest.now }
         requires none { remaining_of self.old.chunks ≡ 0 }
-        ensures reports { (ahead : ℕ) (w : List ℕ) (values : List R.Value) → ChunkedRepresents R.holds R.spells ahead self.old w values
-            → Reports R.holds R.spells R.breaks ahead framing.Chunked (λ body. ChunkedRepresents R.holds R.spells ahead (record { chunks = self.new.chunks; body = body }))
-            self.new.body (limit_of self.new.body.records) w values rest.now result.used result.out }
-        ensures before { (ahead : ℕ) (w : List ℕ) (values : List R.Value) → ChunkedRepresents R.holds R.spells ahead self.old w values
+        ensures reports { (ahead : ℕ) (w : List ℕ) (values : List R.Value)
+            → ChunkedRepresents R.holds R.spells ahead self.old w values
+            → Reports R.holds R.spells R.breaks ahead framing.Chunked
+            (λ body. ChunkedRepresents R.holds R.spells ahead
+            (record { chunks = self.new.chunks; body = body }))
+            self.new.body (limit_of self.new.body.records) w values rest.now result.used
+            result.out }
+        ensures before { (ahead : ℕ) (w : List ℕ) (values : List R.Value)
+            → ChunkedRepresents R.holds R.spells ahead self.old w values
             → LiveBefore R.spells (limit_of self.new.body.records) w values rest.now result.used }
         ensures used { (0 < result.used) × (result.used ≤ length rest.now) }
         ensures limit { limit_of self.new.body.records ≡ limit_of self.old.body.records }
@@ -127,8 +148,12 @@ impl<R: RecordReader> ChunkedBody<R> {
 
     // Takes a byte of the framing.
     fn frame(&mut self, byte: u8) -> Decoded<(), PackedFault>
-        ensures reports { (ahead : ℕ) (w : List ℕ) (values : List R.Value) → ChunkedRepresents R.holds R.spells ahead self.old w values → remaining_of self.old.chunks ≡ 0
-            → Reports R.holds R.spells R.breaks ahead framing.Chunked (λ body. ChunkedRepresents R.holds R.spells ahead (record { chunks = self.new.chunks; body = body }))
+        ensures reports { (ahead : ℕ) (w : List ℕ) (values : List R.Value)
+            → ChunkedRepresents R.holds R.spells ahead self.old w values
+            → remaining_of self.old.chunks ≡ 0
+            → Reports R.holds R.spells R.breaks ahead framing.Chunked
+            (λ body. ChunkedRepresents R.holds R.spells ahead
+            (record { chunks = self.new.chunks; body = body }))
             self.new.body (limit_of self.new.body.records) w values (byte ∷ []) 1 result }
         ensures body { self.new.body ≡ self.old.body }
     {
@@ -162,7 +187,8 @@ fn gather_short_chunks(chunks: &mut ChunkState, piece: &[u8], most: usize) -> Sh
         → Gathers chunks.new w body piece.now result.used result.bytes.items result.places.items }
     ensures few { 0 < length result.bytes.items → length result.bytes.items < most }
     ensures places { length result.places.items ≡ length result.bytes.items }
-    ensures inside { (k : ℕ) → k < length result.places.items → slice_index result.places.items k < result.used }
+    ensures inside { (k : ℕ) → k < length result.places.items
+        → slice_index result.places.items k < result.used }
     ensures none { result.used ≡ 0 → (chunks.new ≡ chunks.old) × (result.bytes.items ≡ []) }
     ensures within { result.used ≤ length piece.now }
 {
@@ -191,7 +217,8 @@ fn gather_short_chunks(chunks: &mut ChunkState, piece: &[u8], most: usize) -> Sh
 
 // Takes the bytes of the framing at the front of a piece, up to one that ends the stream or stops the reading: how many there are.
 fn frame_run(chunks: &mut ChunkState, rest: &[u8]) -> usize
-    ensures passes { (w body : List ℕ) → ChunkRepresents chunks.old w body → PassesFraming chunks.new w body rest.now result }
+    ensures passes { (w body : List ℕ) → ChunkRepresents chunks.old w body
+        → PassesFraming chunks.new w body rest.now result }
     ensures none { result ≡ 0 → chunks.new ≡ chunks.old }
     ensures within { result ≤ length rest.now }
 {

@@ -61,7 +61,8 @@ impl<R: RecordReader> Reading<R> {
     /// the bytes that were used count from there.
     pub fn following(framing: Framing, records: R, limit: Limit, done: u64, used: u64) -> Reading<R>
         requires { R.holds records [] }
-        ensures { (ahead : Ahead) → done ≡ saturated ahead.records → used ≡ saturated ahead.bytes → ReadingRepresentsAfter R.holds R.spells ahead result framing limit [] [] }
+        ensures { (ahead : Ahead) → done ≡ saturated ahead.records → used ≡ saturated ahead.bytes
+            → ReadingRepresentsAfter R.holds R.spells ahead result framing limit [] [] }
     {
         Reading {
             stream: StreamReader::following(framing, records, limit, done),
@@ -74,7 +75,9 @@ impl<R: RecordReader> Reading<R> {
     /// stream or stopped it, as its report or fault tells.
     pub fn used(&self) -> u64
         ensures count { result ≡ self.now.used }
-        ensures taken { (ahead : Ahead) (framing : FramingValue) (limit : ℕ) (w : List ℕ) (values : List R.Value) → ReadingRepresentsAfter R.holds R.spells ahead self.now framing limit w values
+        ensures taken { (ahead : Ahead) (framing : FramingValue) (limit : ℕ) (w : List ℕ)
+            (values : List R.Value) → ReadingRepresentsAfter R.holds R.spells ahead self.now framing
+            limit w values
             → result ≡ saturated (ahead.bytes + length w) }
     {
         self.used
@@ -83,7 +86,9 @@ impl<R: RecordReader> Reading<R> {
     /// How many bytes of the record that has begun are kept: none where the reading has stopped.
     pub fn held(&self) -> u64
         ensures count { result ≡ held_by_reading R.kept self.now }
-        ensures most { (ahead : Ahead) (framing : FramingValue) (limit : ℕ) (w : List ℕ) (values : List R.Value) → ReadingRepresentsAfter R.holds R.spells ahead self.now framing limit w values
+        ensures most { (ahead : Ahead) (framing : FramingValue) (limit : ℕ) (w : List ℕ)
+            (values : List R.Value) → ReadingRepresentsAfter R.holds R.spells ahead self.now framing
+            limit w values
             → HoldsIn framing R.spells R.room limit w values result }
     {
         self.stream.held()
@@ -93,8 +98,11 @@ impl<R: RecordReader> Reading<R> {
     /// ended the stream, or stops the reading.
     pub fn next(&mut self, piece: &[u8]) -> Result<Option<EndedRecord<R::Value>>, ReadingStop>
         requires { length piece.now ≤ MAX_READ }
-        ensures reads { (ahead : Ahead) (framing : FramingValue) (limit : ℕ) (w : List ℕ) (values : List R.Value) → ReadingRepresentsAfter R.holds R.spells ahead self.old framing limit w values
-            → ReadingTakesRecord R.holds R.spells R.breaks ahead self.new framing limit w values piece.now result }
+        ensures reads { (ahead : Ahead) (framing : FramingValue) (limit : ℕ) (w : List ℕ)
+            (values : List R.Value) → ReadingRepresentsAfter R.holds R.spells ahead self.old framing
+            limit w values
+            → ReadingTakesRecord R.holds R.spells R.breaks ahead self.new framing limit w values
+            piece.now result }
         ensures within { EndsWithin (length piece.now) result }
         // Where the reading has stopped nothing is kept.
         ensures kept { KeepsNoneAfterStop (held_by_reading R.kept self.new) result }
@@ -116,8 +124,11 @@ impl<R: RecordReader> Reading<R> {
     /// or stops the reading.
     pub fn feed(&mut self, piece: &[u8], values: &mut Vec<R::Value>) -> Result<(), ReadingStop>
         requires { length piece.now ≤ MAX_READ }
-        ensures takes { (ahead : Ahead) (framing : FramingValue) (limit : ℕ) (w : List ℕ) (before : List R.Value) → ReadingRepresentsAfter R.holds R.spells ahead self.old framing limit w before
-            → ReadingTakesAfter R.holds R.spells (IsRefused R.spells R.breaks) ahead self.new framing limit w before piece.now values.old.items values.new.items result }
+        ensures takes { (ahead : Ahead) (framing : FramingValue) (limit : ℕ) (w : List ℕ)
+            (before : List R.Value) → ReadingRepresentsAfter R.holds R.spells ahead self.old framing
+            limit w before
+            → ReadingTakesAfter R.holds R.spells (IsRefused R.spells R.breaks) ahead self.new
+            framing limit w before piece.now values.old.items values.new.items result }
         // Where the reading has stopped nothing is kept.
         ensures kept { KeepsNoneAfterStop (held_by_reading R.kept self.new) result }
     {
@@ -177,9 +188,11 @@ impl<R: RecordReader> Reading<R> {
 impl<R: RecordReader> Consumer<Vec<R::Value>> for Reading<R> {
     type Stop = ReadingStop;
 
-    ghost goes = { λ first start now to w. Gathers R.holds R.spells first start.items now to.items w };
+    ghost goes = { λ first start now to w. Gathers R.holds R.spells first start.items now to.items
+        w };
 
-    ghost stops = { λ first start now to w piece stop. GathersLast R.holds R.spells (IsRefused R.spells R.breaks) R.kept first start.items now to.items w piece stop };
+    ghost stops = { λ first start now to w piece stop. GathersLast R.holds R.spells
+        (IsRefused R.spells R.breaks) R.kept first start.items now to.items w piece stop };
 
     fn consume(&mut self, piece: &[u8], values: &mut Vec<R::Value>) -> Result<(), ReadingStop> {
         self.feed(piece, values)

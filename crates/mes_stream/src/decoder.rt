@@ -88,31 +88,39 @@ impl<R: RecordReader> RecordDecoder<R> {
     /// answered again by every later call, which uses no byte.
     pub fn next(&mut self, piece: &[u8]) -> Step<R::Value>
         // What each answer means behind w, which is live with the values.
-        ensures says { (limit : ℕ) (w : List ℕ) (values : List R.Value) → DecoderRepresents R.holds R.spells self.old limit w values
-            → Says (DecoderRepresents R.holds R.spells self.new limit) R.spells R.breaks limit w values piece.now result.used result.out }
+        ensures says { (limit : ℕ) (w : List ℕ) (values : List R.Value)
+            → DecoderRepresents R.holds R.spells self.old limit w values
+            → Says (DecoderRepresents R.holds R.spells self.new limit) R.spells R.breaks limit w
+            values piece.now result.used result.out }
 
         // Up to the last byte that was used all is live with the same values.
-        ensures before { (limit : ℕ) (w : List ℕ) (values : List R.Value) → DecoderRepresents R.holds R.spells self.old limit w values
+        ensures before { (limit : ℕ) (w : List ℕ) (values : List R.Value)
+            → DecoderRepresents R.holds R.spells self.old limit w values
             → LiveBefore R.spells limit w values piece.now result.used }
 
         // More is wanted only behind the whole piece, and what was used then is live.
         ensures more { result.out ≡ Decoded.More → result.used ≡ length piece.now }
-        ensures live { (limit : ℕ) (w : List ℕ) (values : List R.Value) → DecoderRepresents R.holds R.spells self.old limit w values
+        ensures live { (limit : ℕ) (w : List ℕ) (values : List R.Value)
+            → DecoderRepresents R.holds R.spells self.old limit w values
             → result.out ≡ Decoded.More → Live R.spells limit (w ++ piece.now) values }
 
         // Each other answer comes with a byte; an event always does.
         ensures event { (value : R.Value) → result.out ≡ Decoded.Event value → 0 < result.used }
-        ensures some { (limit : ℕ) (w : List ℕ) (values : List R.Value) → DecoderRepresents R.holds R.spells self.old limit w values
+        ensures some { (limit : ℕ) (w : List ℕ) (values : List R.Value)
+            → DecoderRepresents R.holds R.spells self.old limit w values
             → result.out ≢ Decoded.More → 0 < result.used }
         ensures used { result.used ≤ length piece.now }
 
         // A reader whose records are never a bad entry, as that of events, tells none: F16 never comes.
-        ensures entries { (limit : ℕ) (w : List ℕ) (values : List R.Value) → DecoderRepresents R.holds R.spells self.old limit w values
-            → ((r : List ℕ) → R.breaks r RecordError.BadEntry → ⊥) → (n : ℕ) → result.out ≢ Decoded.Fault (Fault.BadEntry n) }
+        ensures entries { (limit : ℕ) (w : List ℕ) (values : List R.Value)
+            → DecoderRepresents R.holds R.spells self.old limit w values
+            → ((r : List ℕ) → R.breaks r RecordError.BadEntry → ⊥) → (n : ℕ)
+            → result.out ≢ Decoded.Fault (Fault.BadEntry n) }
 
         // The end or a fault is kept, and answered again.
         ensures ends { EndsBy (end_of self.new) result.out }
-        ensures again { IfSome (end_of self.old) (λ e. (result ≡ record { used = 0; out = answer_of e }) × (self.new ≡ self.old)) }
+        ensures again { IfSome (end_of self.old)
+            (λ e. (result ≡ record { used = 0; out = answer_of e }) × (self.new ≡ self.old)) }
     {
         let step = match &mut self.state {
             State::Going(stream) => stream.next(piece).unpacked(),
@@ -141,7 +149,8 @@ impl<R: RecordReader> RecordDecoder<R> {
     /// How many bytes of the record that has begun are kept, not counting spare room: for events at most those inside its
     /// texts and numbers.
     pub fn held(&self) -> u64
-        ensures held { (limit : ℕ) (w : List ℕ) (values : List R.Value) → DecoderRepresents R.holds R.spells self.now limit w values
+        ensures held { (limit : ℕ) (w : List ℕ) (values : List R.Value)
+            → DecoderRepresents R.holds R.spells self.now limit w values
             → HoldsOf R.spells R.room limit w values result }
         // It is what the reader of records keeps; after the end or a fault that `next` told nothing is.
         ensures count { result ≡ held_by_decoder R.kept self.now }

@@ -22,8 +22,10 @@ pub trait Consumer<T> {
     fn consume(&mut self, piece: &[u8], to: &mut T) -> Result<(), Self::Stop>
         requires some { 0 < length piece.now }
         requires most { length piece.now ≤ MAX_READ }
-        ensures more { (first : Self) (start : T) (w : List ℕ) → goes first start self.old to.old w → OnOk result (goes first start self.new to.new (w ++ piece.now)) }
-        ensures stop { (first : Self) (start : T) (w : List ℕ) → goes first start self.old to.old w → IfErr result (stops first start self.new to.new w piece.now) };
+        ensures more { (first : Self) (start : T) (w : List ℕ) → goes first start self.old to.old w
+            → OnOk result (goes first start self.new to.new (w ++ piece.now)) }
+        ensures stop { (first : Self) (start : T) (w : List ℕ) → goes first start self.old to.old w
+            → IfErr result (stops first start self.new to.new w piece.now) };
 }
 
 /// How the reads of a device ended.
@@ -48,7 +50,8 @@ pub fn read_device<S: Source, T, C: Consumer<T>>(
 ) -> ReadsEnd<C::Stop>
     requires { C.goes consumer.old to.old consumer.old to.old [] }
     ensures { (w : List ℕ) × Consumes (S.left source.old) (S.left source.new) w
-        × EndsReads (C.goes consumer.old to.old consumer.new to.new) (C.stops consumer.old to.old consumer.new to.new) max_reads
+        × EndsReads (C.goes consumer.old to.old consumer.new to.new)
+        (C.stops consumer.old to.old consumer.new to.new) max_reads
         (S.counts source.old) (S.counts source.new) (S.left source.new) w result }
 {
     let mut buffer = [0; MAX_READ];

@@ -39,7 +39,8 @@ pub fn event_refs(alloc: Global, events: &[Event]) -> Result<Vec<&Event>, NoMemo
 
 /// The records of the canonical texts of events that need not stand side by side, as of `encode_events`.
 pub fn encode_each(alloc: Global, events: &[&Event], limit: Limit) -> Result<Vec<u8>, SendFault>
-    ensures ok { IfOk result (λ body. IsPlainOf limit (map (λ event. event.now) events.now) body.items) }
+    ensures ok { IfOk result (λ body. IsPlainOf limit (map (λ event. event.now) events.now)
+        body.items) }
     ensures err { IfErr result (IsUnsent limit (map (λ event. event.now) events.now)) }
 {
     let mut body = Vec::new(alloc);
@@ -60,9 +61,11 @@ fn put_event(
     text: &mut Vec<u8>,
     body: &mut Vec<u8>,
 ) -> Result<(), EncodeFault>
-    ensures ok { OnOk result (body.new.items ≡ body.old.items ++ record_bytes (canonical_text event.now)) }
+    ensures ok { OnOk result (body.new.items
+        ≡ body.old.items ++ record_bytes (canonical_text event.now)) }
     ensures good { OnOk result (IsGood event.now limit) }
-    ensures read { OnOk result (IsRecord (record_bytes (canonical_text event.now)) (canonical_text event.now) limit) }
+    ensures read { OnOk result (IsRecord (record_bytes (canonical_text event.now))
+        (canonical_text event.now) limit) }
     ensures spells { OnOk result (Spells (canonical_text event.now) event.now) }
     ensures err { IfErr result (IsEncodeFault event.now limit) }
 {

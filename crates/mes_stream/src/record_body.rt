@@ -50,7 +50,8 @@ impl<R: RecordReader> Body<R> {
     /// A body before its first byte, behind so many records of any kind: the numbers of its own count from there.
     pub fn following(reader: R, limit: Limit, done: u64) -> Body<R>
         requires { R.holds reader [] }
-        ensures represents { (ahead : ℕ) → done ≡ saturated ahead → BodyRepresents R.holds R.spells ahead result [] [] }
+        ensures represents { (ahead : ℕ) → done ≡ saturated ahead
+            → BodyRepresents R.holds R.spells ahead result [] [] }
         ensures limit { limit_of result.records ≡ limit }
     {
         Body {
@@ -62,9 +63,11 @@ impl<R: RecordReader> Body<R> {
 
     /// No record has begun and not ended.
     pub fn between(&self) -> bool
-        ensures whole { (ahead : ℕ) (b : List ℕ) (values : List R.Value) → BodyRepresents R.holds R.spells ahead self.now b values → result ≡ true
+        ensures whole { (ahead : ℕ) (b : List ℕ) (values : List R.Value)
+            → BodyRepresents R.holds R.spells ahead self.now b values → result ≡ true
             → Records R.spells (limit_of self.now.records) b values }
-        ensures inside { (ahead : ℕ) (b : List ℕ) (values : List R.Value) → BodyRepresents R.holds R.spells ahead self.now b values → result ≡ false
+        ensures inside { (ahead : ℕ) (b : List ℕ) (values : List R.Value)
+            → BodyRepresents R.holds R.spells ahead self.now b values → result ≡ false
             → EndsInside R.spells (limit_of self.now.records) b values }
     {
         self.records.between()
@@ -74,11 +77,16 @@ impl<R: RecordReader> Body<R> {
     #[inline(always)]
     pub(crate) fn consume(&mut self, run: &[u8]) -> Step<(), PackedFault>
         requires { 0 < length run.now }
-        ensures reports { (ahead : ℕ) (b : List ℕ) (values : List R.Value) → BodyRepresents R.holds R.spells ahead self.old b values
-            → Reports R.holds R.spells R.breaks ahead framing.Plain (BodyRepresents R.holds R.spells ahead) self.new (limit_of self.new.records) b values run.now result.used result.out }
+        ensures reports { (ahead : ℕ) (b : List ℕ) (values : List R.Value)
+            → BodyRepresents R.holds R.spells ahead self.old b values
+            → Reports R.holds R.spells R.breaks ahead framing.Plain
+            (BodyRepresents R.holds R.spells ahead) self.new (limit_of self.new.records) b values
+            run.now result.used result.out }
         // Up to the last byte that was used all is live.
-        ensures before { (ahead : ℕ) (b : List ℕ) (values : List R.Value) → BodyRepresents R.holds R.spells ahead self.old b values
-            → GoesBefore framing.Plain R.spells (limit_of self.new.records) b values run.now result.used }
+        ensures before { (ahead : ℕ) (b : List ℕ) (values : List R.Value)
+            → BodyRepresents R.holds R.spells ahead self.old b values
+            → GoesBefore framing.Plain R.spells (limit_of self.new.records) b values run.now
+            result.used }
         ensures used { (0 < result.used) × (result.used ≤ length run.now) }
         ensures limit { limit_of self.new.records ≡ limit_of self.old.records }
     {
@@ -120,11 +128,15 @@ impl<R: RecordReader> Body<R> {
     /// Takes a run of data behind which the record goes on.
     pub(crate) fn pass(&mut self, run: &[u8]) -> Result<(), NoMemoryAt>
         requires { length run.now < remaining_of self.old.records }
-        ensures ok { OnOk result ((ahead : ℕ) (b : List ℕ) (values : List R.Value) → BodyRepresents R.holds R.spells ahead self.old b values
+        ensures ok { OnOk result ((ahead : ℕ) (b : List ℕ) (values : List R.Value)
+            → BodyRepresents R.holds R.spells ahead self.old b values
             → BodyRepresents R.holds R.spells ahead self.new (b ++ run.now) values) }
         // Memory was refused for the byte behind those that were taken.
-        ensures err { IfErr result (λ refused. 0 < length run.now → refused.taken < length run.now) }
-        ensures before { (r : List ℕ) → R.holds self.old.reader r → IfErr result (λ refused. R.breaks (r ++ take refused.taken run.now) RecordError.NoMemory) }
+        ensures err { IfErr result (λ refused. 0 < length run.now
+            → refused.taken < length run.now) }
+        ensures before { (r : List ℕ) → R.holds self.old.reader r
+            → IfErr result (λ refused. R.breaks (r
+            ++ take refused.taken run.now) RecordError.NoMemory) }
         ensures limit { limit_of self.new.records ≡ limit_of self.old.records }
     {
         let _ended = self.records.pass(run.len());
@@ -145,7 +157,8 @@ impl<R: RecordReader> Body<R> {
     /// The same, where the value is added to a list.
     pub(crate) fn end_record_into(&mut self, values: &mut Vec<R::Value>) -> Result<(), RecordError>
         ensures ends { (r : List ℕ) → R.holds self.old.reader r → length r < 2 ^ 64
-            → EndsInto R.holds R.spells R.breaks self.old self.new r values.old.items values.new.items result }
+            → EndsInto R.holds R.spells R.breaks self.old self.new r values.old.items
+            values.new.items result }
         ensures records { self.new.records ≡ self.old.records }
     {
         self.done = self.done.saturating_add(1);
@@ -155,7 +168,8 @@ impl<R: RecordReader> Body<R> {
     /// How many bytes of the record that has begun are kept.
     pub fn held(&self) -> u64
         ensures count { result ≡ held_by_body R.kept self.now }
-        ensures most { (ahead : ℕ) (b : List ℕ) (values : List R.Value) → BodyRepresents R.holds R.spells ahead self.now b values
+        ensures most { (ahead : ℕ) (b : List ℕ) (values : List R.Value)
+            → BodyRepresents R.holds R.spells ahead self.now b values
             → HoldsInBody R.spells R.room (limit_of self.now.records) b values result }
     {
         self.reader.held()
@@ -180,7 +194,8 @@ impl<R: RecordReader> Body<R> {
 #[inline(always)]
 fn front_of(records: &mut RecordState, run: &[u8]) -> Front
     requires { 0 < length run.now }
-    ensures fronts { (x r : List ℕ) → RecordStands records.old x r → Fronts records.new x r run.now result }
+    ensures fronts { (x r : List ℕ) → RecordStands records.old x r
+        → Fronts records.new x r run.now result }
     ensures limit { limit_of records.new ≡ limit_of records.old }
     ensures within { IsWithin (length run.now) result }
 {
@@ -201,7 +216,8 @@ fn front_of(records: &mut RecordState, run: &[u8]) -> Front
 
 // Takes the bytes of a size line that follow in a run: how many there are.
 fn size_run(records: &mut RecordState, run: &[u8]) -> usize
-    ensures represents { (x r : List ℕ) → RecordStands records.old x r → RecordStands records.new (x ++ take result run.now) r }
+    ensures represents { (x r : List ℕ) → RecordStands records.old x r
+        → RecordStands records.new (x ++ take result run.now) r }
     ensures begun { (x r : List ℕ) → RecordStands records.old x r
         → (n : ℕ) → n ≤ result → Begun (x ++ take n run.now) r (limit_of records.new) }
     ensures limit { limit_of records.new ≡ limit_of records.old }

@@ -29,22 +29,29 @@ pub trait RecordReader: Drop {
 
     /// Takes a run of the data.
     fn push_run(&mut self, bytes: &[u8]) -> Result<(), NoMemoryAt>
-        ensures ok { OnOk result ((r : List ℕ) → holds self.old r → holds self.new (r ++ bytes.now)) }
+        ensures ok { OnOk result ((r : List ℕ) → holds self.old r
+            → holds self.new (r ++ bytes.now)) }
         // Memory was refused for the byte behind those that were taken.
-        ensures err { IfErr result (λ refused. 0 < length bytes.now → refused.taken < length bytes.now) }
+        ensures err { IfErr result (λ refused. 0 < length bytes.now
+            → refused.taken < length bytes.now) }
         // The data before that byte are ones that may run out of memory.
-        ensures before { (r : List ℕ) → holds self.old r → IfErr result (λ refused. breaks (r ++ take refused.taken bytes.now) RecordError.NoMemory) };
+        ensures before { (r : List ℕ) → holds self.old r
+            → IfErr result (λ refused. breaks (r
+            ++ take refused.taken bytes.now) RecordError.NoMemory) };
 
     /// Reads the value of the record whose data has ended.
     fn finish(&mut self) -> Result<Self::Value, RecordError>
         ensures ok { (r : List ℕ) → holds self.old r → length r < 2 ^ 64 → IfOk result (spells r) }
-        ensures err { (r : List ℕ) → holds self.old r → length r < 2 ^ 64 → IfErr result (breaks r) }
+        ensures err { (r : List ℕ) → holds self.old r → length r < 2 ^ 64
+            → IfErr result (breaks r) }
         // Then it is ready for the next record.
         ensures next { OnOk result (holds self.new []) };
 
     /// The same, where the value is added to a list, so that it isn't moved from call to call: it may be large.
     fn finish_into(&mut self, values: &mut Vec<Self::Value>) -> Result<(), RecordError>
-        ensures adds { (r : List ℕ) → holds self.old r → length r < 2 ^ 64 → AddsValue spells breaks (holds self.new []) r values.old.items values.new.items result }
+        ensures adds { (r : List ℕ) → holds self.old r → length r < 2 ^ 64
+            → AddsValue spells breaks (holds self.new []) r values.old.items values.new.items
+            result }
         ensures next { OnOk result (holds self.new []) };
 
     /// Why a record without data has no value. Takes no memory.

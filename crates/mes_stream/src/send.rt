@@ -20,11 +20,13 @@ pub fn write_stream<W: Sink>(
     requires least { MIN_CHUNK ≤ most }
     requires greatest { most ≤ MAX_CHUNK }
     // Ok: each event is good, and all of their stream went out.
-    ensures ok { OnOk result ((w : List ℕ) × IsStreamOf limit most events.now w × WroteAll W.written W.counts writer.old writer.new w) }
+    ensures ok { OnOk result ((w : List ℕ) × IsStreamOf limit most events.now w
+        × WroteAll W.written W.counts writer.old writer.new w) }
 
     // Else the first event that isn't good is told, or want of memory, and the writer was not called; or all are good, and
     // exactly the first `sent` bytes of their stream went out.
-    ensures err { IfErr result (StopsSending W.written W.counts (IsStreamOf limit most events.now) limit events.now writer.old writer.new) }
+    ensures err { IfErr result (StopsSending W.written W.counts (IsStreamOf limit most events.now)
+        limit events.now writer.old writer.new) }
 {
     let body = encode_events(alloc, events, limit)?;
     write_chunked(writer, body.as_slice(), most)?;
@@ -39,11 +41,13 @@ pub fn write_plain<W: Sink>(
     limit: Limit,
 ) -> Result<(), SendFault>
     // Ok: each event is good, and all of their records went out.
-    ensures ok { OnOk result ((w : List ℕ) × IsPlainOf limit events.now w × WroteAll W.written W.counts writer.old writer.new w) }
+    ensures ok { OnOk result ((w : List ℕ) × IsPlainOf limit events.now w
+        × WroteAll W.written W.counts writer.old writer.new w) }
 
     // Else the first event that isn't good is told, or want of memory, and the writer was not called; or all are good, and
     // exactly the first `sent` bytes of their records went out.
-    ensures err { IfErr result (StopsSending W.written W.counts (IsPlainOf limit events.now) limit events.now writer.old writer.new) }
+    ensures err { IfErr result (StopsSending W.written W.counts (IsPlainOf limit events.now) limit
+        events.now writer.old writer.new) }
 {
     let records = encode_events(alloc, events, limit)?;
     write_all(writer, records.as_slice())?;

@@ -31,7 +31,8 @@ pub fn read_plain<S: Source>(
     ensures reads { (w : List ℕ) × (more : List EventValue)
         × Consumes (S.left reader.old) (S.left reader.new) w
         × (events.new.items ≡ events.old.items ++ more)
-        × EndsPlain limit max_reads (S.counts reader.old) (S.counts reader.new) (S.left reader.new) w more result }
+        × EndsPlain limit max_reads (S.counts reader.old) (S.counts reader.new) (S.left reader.new)
+        w more result }
     // An event is never a bad entry: F16 never comes.
     ensures entries { IfErr result (λ stop. (n : ℕ) → stop.fault ≢ Fault.BadEntry n) }
 {
@@ -50,7 +51,8 @@ pub fn read_stream<S: Source>(
     ensures reads { (w : List ℕ) × (more : List EventValue)
         × Consumes (S.left reader.old) (S.left reader.new) w
         × (events.new.items ≡ events.old.items ++ more)
-        × EndsStream limit max_reads (S.counts reader.old) (S.counts reader.new) (S.left reader.new) w more result }
+        × EndsStream limit max_reads (S.counts reader.old) (S.counts reader.new) (S.left reader.new)
+        w more result }
     // An event is never a bad entry: F16 never comes.
     ensures entries { IfErr result (λ stop. (n : ℕ) → stop.fault ≢ Fault.BadEntry n) }
 {
@@ -69,7 +71,8 @@ pub fn read_events<S: Source>(
     ensures reads { (w : List ℕ) × (more : List EventValue)
         × Consumes (S.left reader.old) (S.left reader.new) w
         × (events.new.items ≡ events.old.items ++ more)
-        × EndsReading framing Spells IsEventRefusal limit max_reads (S.counts reader.old) (S.counts reader.new) (S.left reader.new) w more result }
+        × EndsReading framing Spells IsEventRefusal limit max_reads (S.counts reader.old)
+        (S.counts reader.new) (S.left reader.new) w more result }
     // An event is never a bad entry: F16 never comes.
     ensures entries { IfErr result (λ stop. (n : ℕ) → stop.fault ≢ Fault.BadEntry n) }
 {
@@ -90,7 +93,8 @@ fn read_records<R: RecordReader, S: Source>(
     ensures { (w : List ℕ) × (more : List R.Value)
         × Consumes (S.left reader.old) (S.left reader.new) w
         × (values.new.items ≡ values.old.items ++ more)
-        × EndsReading framing R.spells (IsRefused R.spells R.breaks) limit max_reads (S.counts reader.old) (S.counts reader.new) (S.left reader.new) w more result }
+        × EndsReading framing R.spells (IsRefused R.spells R.breaks) limit max_reads
+        (S.counts reader.old) (S.counts reader.new) (S.left reader.new) w more result }
 {
     let mut reading = Reading::new(framing, records, limit);
     let end = read_device(reader, max_reads, &mut reading, values);

@@ -52,7 +52,8 @@ impl<R: RecordReader> StreamReader<R> {
     /// The same, where so many records of any kind stand ahead of the stream: the numbers of its own count from there.
     pub fn following(framing: Framing, reader: R, limit: Limit, done: u64) -> StreamReader<R>
         requires { R.holds reader [] }
-        ensures represents { (ahead : ℕ) → done ≡ saturated ahead → StreamRepresents R.holds R.spells ahead result framing limit [] [] }
+        ensures represents { (ahead : ℕ) → done ≡ saturated ahead
+            → StreamRepresents R.holds R.spells ahead result framing limit [] [] }
     {
         let body = Body::following(reader, limit, done);
         match framing {
@@ -63,9 +64,14 @@ impl<R: RecordReader> StreamReader<R> {
 
     /// Takes a piece up to the end of a record or of the stream, or a fault, or the piece's end: an answer behind each record.
     pub fn next(&mut self, piece: &[u8]) -> Step<R::Value, PackedFault>
-        ensures says { (ahead : ℕ) (framing : FramingValue) (limit : ℕ) (w : List ℕ) (values : List R.Value) → StreamRepresents R.holds R.spells ahead self.old framing limit w values
-            → SaysIn framing (StreamRepresents R.holds R.spells ahead self.new framing limit) R.spells R.breaks ahead limit w values piece.now result.used result.out }
-        ensures before { (ahead : ℕ) (framing : FramingValue) (limit : ℕ) (w : List ℕ) (values : List R.Value) → StreamRepresents R.holds R.spells ahead self.old framing limit w values
+        ensures says { (ahead : ℕ) (framing : FramingValue) (limit : ℕ) (w : List ℕ)
+            (values : List R.Value) → StreamRepresents R.holds R.spells ahead self.old framing limit
+            w values
+            → SaysIn framing (StreamRepresents R.holds R.spells ahead self.new framing limit)
+            R.spells R.breaks ahead limit w values piece.now result.used result.out }
+        ensures before { (ahead : ℕ) (framing : FramingValue) (limit : ℕ) (w : List ℕ)
+            (values : List R.Value) → StreamRepresents R.holds R.spells ahead self.old framing limit
+            w values
             → GoesBefore framing R.spells limit w values piece.now result.used }
         ensures more { result.out ≡ Decoded.More → result.used ≡ length piece.now }
         ensures some { result.out ≢ Decoded.More → 0 < result.used }
@@ -93,8 +99,11 @@ impl<R: RecordReader> StreamReader<R> {
         piece: &[u8],
         values: &mut Vec<R::Value>,
     ) -> Step<Infallible, PackedFault>
-        ensures feeds { (ahead : ℕ) (framing : FramingValue) (limit : ℕ) (w : List ℕ) (before : List R.Value) → StreamRepresents R.holds R.spells ahead self.old framing limit w before
-            → StreamFeeds R.holds R.spells (IsRefused R.spells R.breaks) ahead self.new framing limit w before piece.now values.old.items values.new.items result.used result.out }
+        ensures feeds { (ahead : ℕ) (framing : FramingValue) (limit : ℕ) (w : List ℕ)
+            (before : List R.Value) → StreamRepresents R.holds R.spells ahead self.old framing limit
+            w before
+            → StreamFeeds R.holds R.spells (IsRefused R.spells R.breaks) ahead self.new framing
+            limit w before piece.now values.old.items values.new.items result.used result.out }
         ensures more { result.out ≡ Decoded.More → result.used ≡ length piece.now }
         ensures used { result.used ≤ length piece.now }
         ensures kept { KeepsNoneAfterAnswer (held_by_stream R.kept self.new) result.out }
@@ -134,7 +143,9 @@ impl<R: RecordReader> StreamReader<R> {
     /// The input has no more bytes. Of plain records: Ok between two of them, else F10. Of a chunked stream, which has not
     /// shown its end: F6.
     pub fn finish(&self) -> Result<(), Fault>
-        ensures { (ahead : ℕ) (framing : FramingValue) (limit : ℕ) (w : List ℕ) (values : List R.Value) → StreamRepresents R.holds R.spells ahead self.now framing limit w values
+        ensures { (ahead : ℕ) (framing : FramingValue) (limit : ℕ) (w : List ℕ)
+            (values : List R.Value) → StreamRepresents R.holds R.spells ahead self.now framing limit
+            w values
             → InputEnds framing R.spells limit w values result }
     {
         match self {
@@ -152,7 +163,9 @@ impl<R: RecordReader> StreamReader<R> {
     /// How many bytes of the record that has begun are kept: none behind the end or a fault that `feed` or `next` told.
     pub fn held(&self) -> u64
         ensures count { result ≡ held_by_stream R.kept self.now }
-        ensures most { (ahead : ℕ) (framing : FramingValue) (limit : ℕ) (w : List ℕ) (values : List R.Value) → StreamRepresents R.holds R.spells ahead self.now framing limit w values
+        ensures most { (ahead : ℕ) (framing : FramingValue) (limit : ℕ) (w : List ℕ)
+            (values : List R.Value) → StreamRepresents R.holds R.spells ahead self.now framing limit
+            w values
             → HoldsIn framing R.spells R.room limit w values result }
     {
         match self {
@@ -164,10 +177,16 @@ impl<R: RecordReader> StreamReader<R> {
     // Takes the front of a piece.
     fn consume(&mut self, piece: &[u8]) -> Step<(), PackedFault>
         requires { 0 < length piece.now }
-        ensures reports { (ahead : ℕ) (framing : FramingValue) (limit : ℕ) (w : List ℕ) (values : List R.Value) → StreamRepresents R.holds R.spells ahead self.old framing limit w values
-            → Reports R.holds R.spells R.breaks ahead framing (λ body. StreamRepresents R.holds R.spells ahead (with_body self.new body) framing limit) (body_of self.new)
+        ensures reports { (ahead : ℕ) (framing : FramingValue) (limit : ℕ) (w : List ℕ)
+            (values : List R.Value) → StreamRepresents R.holds R.spells ahead self.old framing limit
+            w values
+            → Reports R.holds R.spells R.breaks ahead framing
+            (λ body. StreamRepresents R.holds R.spells ahead (with_body self.new body) framing
+            limit) (body_of self.new)
             limit w values piece.now result.used result.out }
-        ensures before { (ahead : ℕ) (framing : FramingValue) (limit : ℕ) (w : List ℕ) (values : List R.Value) → StreamRepresents R.holds R.spells ahead self.old framing limit w values
+        ensures before { (ahead : ℕ) (framing : FramingValue) (limit : ℕ) (w : List ℕ)
+            (values : List R.Value) → StreamRepresents R.holds R.spells ahead self.old framing limit
+            w values
             → GoesBefore framing R.spells limit w values piece.now result.used }
         ensures used { (0 < result.used) × (result.used ≤ length piece.now) }
     {
@@ -180,10 +199,16 @@ impl<R: RecordReader> StreamReader<R> {
     // Takes a piece up to the end of a record or of the stream, or what stops the reading, or the piece's end. The value of a
     // record that ended is still to be read.
     fn advance(&mut self, piece: &[u8]) -> Step<(), PackedFault>
-        ensures reports { (ahead : ℕ) (framing : FramingValue) (limit : ℕ) (w : List ℕ) (values : List R.Value) → StreamRepresents R.holds R.spells ahead self.old framing limit w values
-            → Reports R.holds R.spells R.breaks ahead framing (λ body. StreamRepresents R.holds R.spells ahead (with_body self.new body) framing limit) (body_of self.new)
+        ensures reports { (ahead : ℕ) (framing : FramingValue) (limit : ℕ) (w : List ℕ)
+            (values : List R.Value) → StreamRepresents R.holds R.spells ahead self.old framing limit
+            w values
+            → Reports R.holds R.spells R.breaks ahead framing
+            (λ body. StreamRepresents R.holds R.spells ahead (with_body self.new body) framing
+            limit) (body_of self.new)
             limit w values piece.now result.used result.out }
-        ensures before { (ahead : ℕ) (framing : FramingValue) (limit : ℕ) (w : List ℕ) (values : List R.Value) → StreamRepresents R.holds R.spells ahead self.old framing limit w values
+        ensures before { (ahead : ℕ) (framing : FramingValue) (limit : ℕ) (w : List ℕ)
+            (values : List R.Value) → StreamRepresents R.holds R.spells ahead self.old framing limit
+            w values
             → GoesBefore framing R.spells limit w values piece.now result.used }
         ensures more { result.out ≡ Decoded.More → result.used ≡ length piece.now }
         ensures some { result.out ≢ Decoded.More → 0 < result.used }
@@ -235,7 +260,8 @@ impl<R: RecordReader> StreamReader<R> {
     // The same, where the value is added to a list.
     fn end_record_into(&mut self, values: &mut Vec<R::Value>) -> Result<(), RecordError>
         ensures ends { (r : List ℕ) → R.holds (body_of self.old).reader r → length r < 2 ^ 64
-            → EndsInto R.holds R.spells R.breaks (body_of self.old) (body_of self.new) r values.old.items values.new.items result }
+            → EndsInto R.holds R.spells R.breaks (body_of self.old) (body_of self.new) r
+            values.old.items values.new.items result }
         ensures same { self.new ≡ with_body self.old (body_of self.new) }
         ensures records { (body_of self.new).records ≡ (body_of self.old).records }
     {

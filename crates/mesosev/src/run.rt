@@ -61,7 +61,8 @@ where
     ensures port { (MIN_PORT ≡ 1) × (MAX_PORT ≡ 65535) }
     ensures count { (MIN_CONNECTIONS ≡ 1) × (MAX_CONNECTIONS ≡ 1000) }
     ensures stream { DEFAULT_STREAM.now ≡ codes "00000000-0000-4000-8000-000000000001" }
-    ensures reads { (MIN_SUBSCRIBE_READS ≡ 0) × (MAX_SUBSCRIBE_READS ≡ 4294967295) × (DEFAULT_SUBSCRIBE_READS.now ≡ codes "1000000") }
+    ensures reads { (MIN_SUBSCRIBE_READS ≡ 0) × (MAX_SUBSCRIBE_READS ≡ 4294967295)
+        × (DEFAULT_SUBSCRIBE_READS.now ≡ codes "1000000") }
     ensures most { DEFAULT_LOOPBACK_CHUNK.now ≡ codes "4096" }
 {
     let ended = run_args(rt, words, input, out, err);
@@ -154,7 +155,8 @@ fn follow_all<I: Source, O: Sink>(
     input: &mut I,
     out: &mut O,
 ) -> RunOutcome
-    ensures { Follows detail framing limit MAX_READS (device_of I.left I.counts input.old) (device_of I.left I.counts input.new)
+    ensures { Follows detail framing limit MAX_READS (device_of I.left I.counts input.old)
+        (device_of I.left I.counts input.new)
         (device_of O.written O.counts out.old) (device_of O.written O.counts out.new) result }
 {
     follow(alloc, detail, framing, limit, MAX_READS, input, out)
@@ -162,7 +164,8 @@ fn follow_all<I: Source, O: Sink>(
 
 /// Tells that memory was refused before any word was read, and answers the exit status.
 pub(crate) fn end_without_memory<O: Sink, E: Sink>(out: &mut Output<O>, err: &mut E) -> ExitStatus
-    ensures { Ends (LeavesError (LacksMemory (output_of O.written O.counts out.old) (output_of O.written O.counts out.new)) (device_of E.written E.counts err.old))
+    ensures { Ends (LeavesError (LacksMemory (output_of O.written O.counts out.old)
+        (output_of O.written O.counts out.new)) (device_of E.written E.counts err.old))
         out.new.closed (device_of E.written E.counts err.new) result }
 {
     let ended = out_of_memory(out);
@@ -171,7 +174,8 @@ pub(crate) fn end_without_memory<O: Sink, E: Sink>(out: &mut Output<O>, err: &mu
 
 /// Tells on standard error that a word is no text, before any word is read, and answers the exit status.
 pub(crate) fn end_without_text<E: Sink>(err: &mut E) -> ExitStatus
-    ensures { Ends (λ reported ended. Prints (device_of E.written E.counts err.old) reported not_text_line ExitStatus.Usage ended)
+    ensures { Ends (λ reported ended. Prints (device_of E.written E.counts err.old) reported
+        not_text_line ExitStatus.Usage ended)
         false (device_of E.written E.counts err.new) result }
 {
     let ended = ExitStatus::Usage.after(print_text(err, NOT_TEXT));
@@ -206,7 +210,8 @@ fn report_error<O: Sink, E: Sink>(
         (device_of O.written O.counts out.old) (device_of O.written O.counts out.new)
         (device_of E.written E.counts err.old) (device_of E.written E.counts err.new)
         result
-        ⊎ (LacksMemory (device_of O.written O.counts out.old) (device_of O.written O.counts out.new) result
+        ⊎ (LacksMemory (device_of O.written O.counts out.old) (device_of O.written O.counts out.new)
+        result
         × (err.new ≡ err.old)) }
 {
     let Ok(text) = format!(in alloc; "{error}") else {

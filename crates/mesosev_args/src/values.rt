@@ -31,7 +31,8 @@ pub fn number_in(
 ) -> Result<u32, WordsFault>
     ensures ok { IfOk result (HasNumber name.now (rows_of (found_of matches.now))) }
     ensures ranged { IfOk result (λ n. (least ≤ n) × (n ≤ greatest)) }
-    ensures err { IfErr result (LacksNumber name.now least greatest (rows_of (found_of matches.now))) }
+    ensures err { IfErr result (LacksNumber name.now least greatest
+        (rows_of (found_of matches.now))) }
 {
     match matches.get_one::<u32>(name) {
         Some(number) if least <= number && number <= greatest => Ok(number),

@@ -144,7 +144,8 @@ pub extern "C" fn mes_c_decoder_many(
     room: &mut [Row],
     answers: &mut Answers,
 ) -> u32
-    ensures { AnswersMany handle.old.held handle.new.held bytes.now room.old room.new answers.new result }
+    ensures { AnswersMany handle.old.held handle.new.held bytes.now room.old room.new answers.new
+        result }
 {
     let decoder = handle.reach();
     let batch = decoder.many(bytes, room);

@@ -145,7 +145,8 @@ impl TextDecoder {
 
     // Tells what the bytes that were used were.
     fn tell(&mut self, out: &Decoded<Event>) -> Reported
-        ensures reports { ReportsOutput self.old.texts self.old.decoder.used out.now self.new.text.items result }
+        ensures reports { ReportsOutput self.old.texts self.old.decoder.used out.now
+            self.new.text.items result }
         ensures keeps { KeepsAll self.old self.new }
     {
         self.clear_text();
@@ -195,7 +196,8 @@ impl TextDecoder {
     // Tells of an event in the row behind so many, and makes its text behind theirs.
     fn add(&mut self, event: &Event, room: &mut [Row], count: usize)
         requires { count < length room.old }
-        ensures adds { AddsEvent self.old.texts event.now self.old.text.items self.new.text.items count room.old room.new }
+        ensures adds { AddsEvent self.old.texts event.now self.old.text.items self.new.text.items
+            count room.old room.new }
         ensures keeps { KeepsAll self.old self.new }
     {
         let start = self.add_text(event, &mut room[..count]);
@@ -208,7 +210,8 @@ impl TextDecoder {
 
     // Makes an event's text behind those of others, and tells where it begins. Where memory is refused for it, theirs are lost too.
     fn add_text(&mut self, event: &Event, others: &mut [Row]) -> usize
-        ensures adds { AddsText self.old.texts event.now self.old.text.items self.new.text.items others.old others.new result }
+        ensures adds { AddsText self.old.texts event.now self.old.text.items self.new.text.items
+            others.old others.new result }
         ensures keeps { KeepsAll self.old self.new }
     {
         let start = self.text.len();

@@ -29,7 +29,8 @@ pub struct Checked {
 
 /// Reads the bytes of a whole input, and holds one event at a time.
 pub fn check_whole(alloc: Global, framing: Framing, limit: Limit, bytes: &[u8]) -> Checked
-    ensures { (events : List EventValue) × (result.events ≡ saturated (length events)) × IsInput framing limit bytes.now events result.outcome }
+    ensures { (events : List EventValue) × (result.events ≡ saturated (length events))
+        × IsInput framing limit bytes.now events result.outcome }
 {
     let mut stream = StreamReader::new(framing, EventReader::new(alloc), limit);
     read_all(&mut stream, bytes)
@@ -37,8 +38,10 @@ pub fn check_whole(alloc: Global, framing: Framing, limit: Limit, bytes: &[u8]) 
 
 // Reads the bytes of a whole input by a reader before its first byte.
 fn read_all(stream: &mut StreamReader<EventReader>, bytes: &[u8]) -> Checked
-    ensures { (framing : FramingValue) (limit : ℕ) → StreamRepresents HoldsData Spells 0 stream.old framing limit [] []
-        → (events : List EventValue) × (result.events ≡ saturated (length events)) × IsInput framing limit bytes.now events result.outcome }
+    ensures { (framing : FramingValue) (limit : ℕ)
+        → StreamRepresents HoldsData Spells 0 stream.old framing limit [] []
+        → (events : List EventValue) × (result.events ≡ saturated (length events))
+        × IsInput framing limit bytes.now events result.outcome }
 {
     let mut events: u64 = 0;
     let mut at: usize = 0;
@@ -73,7 +76,8 @@ fn read_all(stream: &mut StreamReader<EventReader>, bytes: &[u8]) -> Checked
 
 // What it comes to where the input ends behind so many bytes, all of which were used.
 fn end_all(stream: &StreamReader<EventReader>, used: u64) -> Result<u64, Stop>
-    ensures { (framing : FramingValue) (limit : ℕ) (w : List ℕ) (events : List EventValue) → StreamRepresents HoldsData Spells 0 stream.now framing limit w events
+    ensures { (framing : FramingValue) (limit : ℕ) (w : List ℕ) (events : List EventValue)
+        → StreamRepresents HoldsData Spells 0 stream.now framing limit w events
         → EndsAll framing limit w events used result }
 {
     match stream.finish() {

@@ -23,7 +23,8 @@ pub fn replay<I: Source, O: Sink>(
     input: &mut I,
     out: &mut O,
 ) -> RunOutcome
-    ensures { Replays limit (device_of I.left I.counts input.old) (device_of I.left I.counts input.new)
+    ensures { Replays limit (device_of I.left I.counts input.old)
+        (device_of I.left I.counts input.new)
         (device_of O.written O.counts out.old) (device_of O.written O.counts out.new) result }
 {
     let mut entries = Vec::new(alloc);
@@ -35,7 +36,8 @@ pub fn replay<I: Source, O: Sink>(
 
 /// Tells what the entries lead to.
 fn report_replay<O: Sink>(alloc: Global, entries: &[Entry], out: &mut O) -> RunOutcome
-    ensures { ReplaysEntries entries.now (device_of O.written O.counts out.old) (device_of O.written O.counts out.new) result }
+    ensures { ReplaysEntries entries.now (device_of O.written O.counts out.old)
+        (device_of O.written O.counts out.new) result }
 {
     match mes_session::replay(alloc, entries) {
         Ok(session) => report_session(&session, entries.len() as u64, out),
@@ -45,8 +47,10 @@ fn report_replay<O: Sink>(alloc: Global, entries: &[Entry], out: &mut O) -> RunO
 
 /// Prints the report of a session behind so many entries. The status is `Success`, or `Fault` where memory was refused for it.
 fn report_session<O: Sink>(session: &Session, entries: u64, out: &mut O) -> RunOutcome
-    ensures { Prints (device_of O.written O.counts out.old) (device_of O.written O.counts out.new) (report_text entries session.now) ExitStatus.Success result
-        ⊎ LacksMemory (device_of O.written O.counts out.old) (device_of O.written O.counts out.new) result }
+    ensures { Prints (device_of O.written O.counts out.old) (device_of O.written O.counts out.new)
+        (report_text entries session.now) ExitStatus.Success result
+        ⊎ LacksMemory (device_of O.written O.counts out.old) (device_of O.written O.counts out.new)
+        result }
 {
     match session.report(entries) {
         Ok(lines) => ExitStatus::Success.after(print_bytes(out, lines.as_slice())),
@@ -56,7 +60,8 @@ fn report_session<O: Sink>(session: &Session, entries: u64, out: &mut O) -> RunO
 
 /// Prints the line of a refusal behind so many entries. The status is `Fault`.
 fn report_refusal<O: Sink>(refusal: &Refusal, before: u64, out: &mut O) -> RunOutcome
-    ensures { Prints (device_of O.written O.counts out.old) (device_of O.written O.counts out.new) (refusal_text refusal.now before ++ 10 ∷ []) ExitStatus.Fault result }
+    ensures { Prints (device_of O.written O.counts out.old) (device_of O.written O.counts out.new)
+        (refusal_text refusal.now before ++ 10 ∷ []) ExitStatus.Fault result }
 {
     let mut line = ArrayString::new();
     refusal_line(refusal, before, &mut line);

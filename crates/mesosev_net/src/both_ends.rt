@@ -74,7 +74,8 @@ fn loop_events<R, O: Sink>(
 ) -> RunOutcome
 where
     R: AllocGlobal + Net<Listener = TcpListener, Stream = TcpStream>,
-    ensures { LoopsEvents stream most events.now (device_of O.written O.counts out.old) (device_of O.written O.counts out.new) result }
+    ensures { LoopsEvents stream most events.now (device_of O.written O.counts out.old)
+        (device_of O.written O.counts out.new) result }
 {
     let alloc = rt.alloc();
     let pair = match connected_pair(rt) {
@@ -99,7 +100,8 @@ fn answer<O: Sink>(
     pair: &Pair,
     out: &mut O,
 ) -> RunOutcome
-    ensures { AnswersLoop stream most events.now (device_of O.written O.counts out.old) (device_of O.written O.counts out.new) result }
+    ensures { AnswersLoop stream most events.now (device_of O.written O.counts out.old)
+        (device_of O.written O.counts out.new) result }
 {
     let Ok(mut master) = test_master(alloc, stream, 1) else {
         return out_of_memory(out);
@@ -145,8 +147,10 @@ fn show<O: Sink>(
     was_asked: bool,
     out: &mut O,
 ) -> RunOutcome
-    ensures { ShowsSome (device_of O.written O.counts out.old) (device_of O.written O.counts out.new) result
-        ⊎ LacksMemory (device_of O.written O.counts out.old) (device_of O.written O.counts out.new) result }
+    ensures { ShowsSome (device_of O.written O.counts out.old)
+        (device_of O.written O.counts out.new) result
+        ⊎ LacksMemory (device_of O.written O.counts out.old) (device_of O.written O.counts out.new)
+        result }
 {
     if bytes.is_empty() && was_asked {
         return out_of_memory(out);
@@ -163,15 +167,18 @@ fn show<O: Sink>(
 
 /// Shows the answer that this reader gives.
 fn show_from<S: Source, O: Sink>(alloc: Global, reader: &mut S, out: &mut O) -> RunOutcome
-    ensures { ShowsSome (device_of O.written O.counts out.old) (device_of O.written O.counts out.new) result }
+    ensures { ShowsSome (device_of O.written O.counts out.old)
+        (device_of O.written O.counts out.new) result }
 {
     show_answer(alloc, reader, MAX_READS, out)
 }
 
 /// Tells why there is no answer: it could not be encoded, or there was no memory to hold it.
 fn report_unanswered<O: Sink>(out: &mut O, refusals: u64) -> RunOutcome
-    ensures { Prints (device_of O.written O.counts out.old) (device_of O.written O.counts out.new) write_failed_line ExitStatus.Fault result
-        ⊎ LacksMemory (device_of O.written O.counts out.old) (device_of O.written O.counts out.new) result }
+    ensures { Prints (device_of O.written O.counts out.old) (device_of O.written O.counts out.new)
+        write_failed_line ExitStatus.Fault result
+        ⊎ LacksMemory (device_of O.written O.counts out.old) (device_of O.written O.counts out.new)
+        result }
 {
     if refusals == 0 {
         ExitStatus::Fault.after(print_text(out, WRITE_FAILED))

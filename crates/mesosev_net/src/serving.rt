@@ -48,7 +48,8 @@ pub fn serve<R, I: Source, O: Sink>(
 ) -> RunOutcome
 where
     R: AllocGlobal + Net<Listener = TcpListener, Stream = TcpStream>,
-    ensures { Serves stream count (device_of I.left I.counts input.old) (device_of I.left I.counts input.new)
+    ensures { Serves stream count (device_of I.left I.counts input.old)
+        (device_of I.left I.counts input.new)
         (device_of O.written O.counts out.old) (device_of O.written O.counts out.new) result }
 {
     let alloc = rt.alloc();
@@ -70,7 +71,8 @@ fn serve_events<R, O: Sink>(
 ) -> RunOutcome
 where
     R: AllocGlobal + Net<Listener = TcpListener, Stream = TcpStream>,
-    ensures { ServesEvents stream count events.now (device_of O.written O.counts out.old) (device_of O.written O.counts out.new) result }
+    ensures { ServesEvents stream count events.now (device_of O.written O.counts out.old)
+        (device_of O.written O.counts out.new) result }
 {
     let alloc = rt.alloc();
     let Ok(mut master) = test_master(alloc, stream, count) else {
@@ -100,7 +102,8 @@ fn serve_turns<O: Sink>(
     count: u16,
     out: &mut O,
 ) -> RunOutcome
-    ensures { ServesTurns master.old events.now count (device_of O.written O.counts out.old) (device_of O.written O.counts out.new) result }
+    ensures { ServesTurns master.old events.now count (device_of O.written O.counts out.old)
+        (device_of O.written O.counts out.new) result }
 {
     let mut printed: u64 = 0;
     for _ in 0..count {
@@ -122,7 +125,8 @@ fn serve_next<O: Sink>(
     events: &[Event],
     out: &mut O,
 ) -> Result<u64, RunOutcome>
-    ensures { ServesNext master.old events.now (device_of O.written O.counts out.old) (device_of O.written O.counts out.new) master.new result }
+    ensures { ServesNext master.old events.now (device_of O.written O.counts out.old)
+        (device_of O.written O.counts out.new) master.new result }
 {
     let Ok((stream, _peer)) = listener.accept() else {
         return Err(ExitStatus::Fault.after(print_text(out, ACCEPT_FAILED)));

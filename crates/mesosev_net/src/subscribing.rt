@@ -26,7 +26,8 @@ pub fn subscribe<R, O: Sink>(
 ) -> RunOutcome
 where
     R: AllocGlobal + Net<Listener = TcpListener, Stream = TcpStream>,
-    ensures { Subscribes to.now user.now name.now reads (device_of O.written O.counts out.old) (device_of O.written O.counts out.new) result }
+    ensures { Subscribes to.now user.now name.now reads (device_of O.written O.counts out.old)
+        (device_of O.written O.counts out.new) result }
 {
     let alloc = rt.alloc();
     let Ok(info) = framework_info(alloc, user.as_str(), name.as_str()) else {

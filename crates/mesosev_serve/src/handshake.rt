@@ -17,8 +17,10 @@ pub(crate) fn send_all<'a>(
     given: &'a [Event],
     sent: &mut Outgoing<'a>,
 ) -> Result<(), NoMemory>
-    ensures ok { OnOk result (so_far sent.new master.new ≡ and_all_given (so_far sent.old master.old) given.now) }
-    ensures err { OnErr result ((front : List EventValue) × (rest : List EventValue) × (given.now ≡ front ++ rest)
+    ensures ok { OnOk result (so_far sent.new master.new
+        ≡ and_all_given (so_far sent.old master.old) given.now) }
+    ensures err { OnErr result ((front : List EventValue) × (rest : List EventValue)
+        × (given.now ≡ front ++ rest)
         × (master.new ≡ (and_all_given (so_far sent.old master.old) front).master)) }
 {
     for event in given {
@@ -29,8 +31,10 @@ pub(crate) fn send_all<'a>(
 
 /// The same of one event. Refused memory, the master has sent it or not.
 fn send<'a>(master: &mut Master, given: &'a Event, sent: &mut Outgoing<'a>) -> Result<(), NoMemory>
-    ensures ok { OnOk result (so_far sent.new master.new ≡ and_given (so_far sent.old master.old) given.now) }
-    ensures err { OnErr result ((master.new ≡ master.old) ⊎ (master.new ≡ (and_given (so_far sent.old master.old) given.now).master)) }
+    ensures ok { OnOk result (so_far sent.new master.new
+        ≡ and_given (so_far sent.old master.old) given.now) }
+    ensures err { OnErr result ((master.new ≡ master.old)
+        ⊎ (master.new ≡ (and_given (so_far sent.old master.old) given.now).master)) }
 {
     match given {
         Event::Subscribed(_) => Ok(()),

@@ -69,9 +69,12 @@ fn reply_to_call<'a>(
     stream: Option<&StreamId>,
     call: &Call,
 ) -> Result<Reply<'a>, NoMemory>
-    ensures ok { IfOk result (λ reply. IsService (service (handled master.old call.now (option_copied stream.entry)) given.now) reply master.new) }
+    ensures ok { IfOk result (λ reply. IsService
+        (service (handled master.old call.now (option_copied stream.entry)) given.now) reply
+        master.new) }
     ensures memory { OnErr result (MayWantMemory master.old call.now (option_copied stream.entry)) }
-    ensures err { OnErr result (Lacks master.old (handled master.old call.now (option_copied stream.entry)) given.now master.new) }
+    ensures err { OnErr result (Lacks master.old
+        (handled master.old call.now (option_copied stream.entry)) given.now master.new) }
 {
     let answer = master.handle(call, stream)?;
     if answer.status != StatusCode::OK {
@@ -87,8 +90,11 @@ fn open_stream<'a>(
     given: &'a [Event],
     first: Vec<Event>,
 ) -> Result<Reply<'a>, NoMemory>
-    ensures ok { IfOk result (λ reply. IsService (streamed master.old.stream (and_all_given (so_far first.items master.old) given.now)) reply master.new) }
-    ensures err { OnErr result ((front : list EventValue) × (rest : list EventValue) × (given.now ≡ front ++ rest)
+    ensures ok { IfOk result (λ reply. IsService
+        (streamed master.old.stream (and_all_given (so_far first.items master.old) given.now)) reply
+        master.new) }
+    ensures err { OnErr result ((front : list EventValue) × (rest : list EventValue)
+        × (given.now ≡ front ++ rest)
         × (master.new ≡ (and_all_given (so_far first.items master.old) front).master)) }
 {
     let id = master.stream().map(StreamId::copy);

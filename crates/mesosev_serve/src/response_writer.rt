@@ -59,7 +59,8 @@ pub(crate) fn write_reply<W: Sink>(
     most: ChunkSize,
     writer: &mut W,
 ) -> Result<(), SendError>
-    ensures { Writes most reply.now (device_of W.written W.counts writer.old) (device_of W.written W.counts writer.new) result }
+    ensures { Writes most reply.now (device_of W.written W.counts writer.old)
+        (device_of W.written W.counts writer.new) result }
 {
     match reply {
         Reply::Nothing => Ok(()),
@@ -70,7 +71,8 @@ pub(crate) fn write_reply<W: Sink>(
 
 /// Writes a reply that is a status alone.
 fn write_head<W: Sink>(code: StatusCode, writer: &mut W) -> Result<(), SendError>
-    ensures { Writes 1 (reply.Status code) (device_of W.written W.counts writer.old) (device_of W.written W.counts writer.new) result }
+    ensures { Writes 1 (reply.Status code) (device_of W.written W.counts writer.old)
+        (device_of W.written W.counts writer.new) result }
 {
     write_status(writer, code)?;
     Ok(())
@@ -84,7 +86,8 @@ fn write_stream<W: Sink>(
     most: ChunkSize,
     writer: &mut W,
 ) -> Result<(), SendError>
-    ensures { Writes most (reply.Stream id.now events.now) (device_of W.written W.counts writer.old) (device_of W.written W.counts writer.new) result }
+    ensures { Writes most (reply.Stream id.now events.now) (device_of W.written W.counts writer.old)
+        (device_of W.written W.counts writer.new) result }
 {
     let Ok(all) = events.all(alloc) else {
         return Err(SendError::NoMemory);
@@ -102,7 +105,8 @@ fn write_records<W: Sink>(
 ) -> Result<(), SendError>
     requires least { MIN_CHUNK ≤ most }
     requires greatest { most ≤ MAX_CHUNK }
-    ensures { WritesRecords most id.now records.now (device_of W.written W.counts writer.old) (device_of W.written W.counts writer.new) result }
+    ensures { WritesRecords most id.now records.now (device_of W.written W.counts writer.old)
+        (device_of W.written W.counts writer.new) result }
 {
     write_ok(writer, id)?;
     write_chunked(writer, records, most)?;

@@ -31,9 +31,11 @@ pub fn serve_one<R: Source, W: Sink, O: Sink>(
     writer: &mut W,
     out: &mut O,
 ) -> Result<Served, WriteFault>
-    ensures { ServesOne master.old events.now most (device_of R.left R.counts reader.old) (device_of R.left R.counts reader.new)
+    ensures { ServesOne master.old events.now most (device_of R.left R.counts reader.old)
+        (device_of R.left R.counts reader.new)
         (device_of W.written W.counts writer.old) (device_of W.written W.counts writer.new)
-        (device_of O.written O.counts out.old) (device_of O.written O.counts out.new) master.new result }
+        (device_of O.written O.counts out.old) (device_of O.written O.counts out.new) master.new
+        result }
 {
     let asked = ask(alloc, reader);
     let reply = reply_to(alloc, master, events, &asked);

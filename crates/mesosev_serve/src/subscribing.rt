@@ -43,7 +43,8 @@ pub fn subscribe_over<R: Source, W: Sink, O: Sink>(
     requires greatest { length host.now ≤ MAX_HOST }
     requires visible { All IsVisible host.now }
     requires reads { max_reads ≤ MAX_READS }
-    ensures { SubscribesOver info.now host.now max_reads (device_of R.left R.counts reader.old) (device_of R.left R.counts reader.new)
+    ensures { SubscribesOver info.now host.now max_reads (device_of R.left R.counts reader.old)
+        (device_of R.left R.counts reader.new)
         (device_of W.written W.counts writer.old) (device_of W.written W.counts writer.new)
         (device_of O.written O.counts out.old) (device_of O.written O.counts out.new) result }
 {
@@ -63,7 +64,8 @@ pub fn send_subscribe<W: Sink>(
     requires least { 1 ≤ length host.now }
     requires greatest { length host.now ≤ MAX_HOST }
     requires visible { All IsVisible host.now }
-    ensures { SendsSubscribe info.now host.now (device_of W.written W.counts writer.old) (device_of W.written W.counts writer.new) result }
+    ensures { SendsSubscribe info.now host.now (device_of W.written W.counts writer.old)
+        (device_of W.written W.counts writer.new) result }
 {
     match first_subscribe(alloc, info) {
         Ok(call) => write_call(alloc, writer, host, None, &call),
@@ -80,7 +82,8 @@ pub fn show_answer<R: Source, O: Sink>(
     out: &mut O,
 ) -> RunOutcome
     requires { max_reads ≤ MAX_READS }
-    ensures { ShowsAnswer max_reads (device_of R.left R.counts reader.old) (device_of R.left R.counts reader.new)
+    ensures { ShowsAnswer max_reads (device_of R.left R.counts reader.old)
+        (device_of R.left R.counts reader.new)
         (device_of O.written O.counts out.old) (device_of O.written O.counts out.new) result }
 {
     match read_head(reader) {
@@ -97,7 +100,8 @@ fn show_stream<R: Source, O: Sink>(
     out: &mut O,
 ) -> RunOutcome
     requires { max_reads ≤ MAX_READS }
-    ensures { Shows Framing.Chunked DEFAULT_RECORD_LIMIT max_reads (device_of R.left R.counts reader.old) (device_of R.left R.counts reader.new)
+    ensures { Shows Framing.Chunked DEFAULT_RECORD_LIMIT max_reads
+        (device_of R.left R.counts reader.old) (device_of R.left R.counts reader.new)
         (device_of O.written O.counts out.old) (device_of O.written O.counts out.new) result }
 {
     follow(
@@ -113,7 +117,8 @@ fn show_stream<R: Source, O: Sink>(
 
 /// Tells that a SUBSCRIBE did not go out: `net write failed`, or F13 after 0 where memory was refused. The status is `Fault`.
 pub fn report_unsent<O: Sink>(out: &mut O, fault: &SendFault) -> RunOutcome
-    ensures { ReportsUnsent fault.now (device_of O.written O.counts out.old) (device_of O.written O.counts out.new) result }
+    ensures { ReportsUnsent fault.now (device_of O.written O.counts out.old)
+        (device_of O.written O.counts out.new) result }
 {
     match fault {
         SendFault::NoMemory => out_of_memory(out),
@@ -125,7 +130,8 @@ pub fn report_unsent<O: Sink>(out: &mut O, fault: &SendFault) -> RunOutcome
 
 /// Tells of a head that was refused. The status is `Fault`.
 fn report_refused<O: Sink>(out: &mut O, fault: &HeadFault) -> RunOutcome
-    ensures { Prints (device_of O.written O.counts out.old) (device_of O.written O.counts out.new) (refused_line fault.now) ExitStatus.Fault result }
+    ensures { Prints (device_of O.written O.counts out.old) (device_of O.written O.counts out.new)
+        (refused_line fault.now) ExitStatus.Fault result }
 {
     let mut why = ArrayString::new();
     fault.text(&mut why);

@@ -11,10 +11,13 @@ ghost use Rattle.mesosev_serve.specs.Opening.{and_all_given, opening};
 /// SUBSCRIBED and then some of the given events, in their order, each at most once. On that stream no offer is made twice and none that
 /// the master made before, a RESCIND names an offer of the stream, and no two RESCINDs name the same offer (`IsOneStream`).
 pub fn serve_laws()
-    ensures stream { (m : MasterState) (call : Call) (given : option (List ℕ)) → (handled m call given).status ≡ 200
+    ensures stream { (m : MasterState) (call : Call) (given : option (List ℕ))
+        → (handled m call given).status ≡ 200
         → IsSome (handled m call given).master.stream }
-    ensures opens { (m : MasterState) (call : Call) (stream : option (List ℕ)) (given : List Event) → (handled m call stream).status ≡ 200
-        → (is_subscribe call ≡ true) × IsOneStream m given (and_all_given (opening (handled m call stream)) given).events }
+    ensures opens { (m : MasterState) (call : Call) (stream : option (List ℕ)) (given : List Event)
+        → (handled m call stream).status ≡ 200
+        → (is_subscribe call ≡ true) × IsOneStream m given
+        (and_all_given (opening (handled m call stream)) given).events }
     ensures once { (m : MasterState) (given front between back : List Event) (id : Id)
         → IsOneStream m given (front ++ (rescind_of id ∷ (between ++ (rescind_of id ∷ back)))) → ⊥ }
 {}

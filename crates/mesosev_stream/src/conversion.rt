@@ -73,8 +73,10 @@ fn write_events<O: Sink>(
     most: Option<ChunkSize>,
     out: &mut O,
 ) -> Result<(), SendFault>
-    ensures ok { OnOk result ((w : List ℕ) × IsConverted limit most events.now w × WroteAll O.written O.counts out.old out.new w) }
-    ensures err { IfErr result (StopsSending O.written O.counts (IsConverted limit most events.now) limit events.now out.old out.new) }
+    ensures ok { OnOk result ((w : List ℕ) × IsConverted limit most events.now w
+        × WroteAll O.written O.counts out.old out.new w) }
+    ensures err { IfErr result (StopsSending O.written O.counts (IsConverted limit most events.now)
+        limit events.now out.old out.new) }
 {
     match most {
         Some(most) => write_stream(alloc, out, events, limit, most.get()),

@@ -72,9 +72,12 @@ impl<O: Sink> Consumer<O> for Follower {
     ghost use Rattle.mes_frame.specs.Devices.{device_of};
     ghost use Rattle.mesosev_stream.specs.Following.{GoesFrom, StopsFrom};
 
-    ghost goes = { λ first out now printed w. GoesFrom first (device_of O.written O.counts out) now (device_of O.written O.counts printed) w };
+    ghost goes = { λ first out now printed w. GoesFrom first (device_of O.written O.counts out) now
+        (device_of O.written O.counts printed) w };
 
-    ghost stops = { λ first out now printed w piece stop. StopsFrom first (device_of O.written O.counts out) now (device_of O.written O.counts printed) w piece stop };
+    ghost stops = { λ first out now printed w piece stop. StopsFrom first
+        (device_of O.written O.counts out) now (device_of O.written O.counts printed) w piece
+        stop };
 
     fn consume(&mut self, piece: &[u8], out: &mut O) -> Result<(), FollowStop> {
         let fed = self.reading.feed(piece, &mut self.events);
@@ -111,7 +114,8 @@ pub fn follow<I: Source, O: Sink>(
     out: &mut O,
 ) -> RunOutcome
     requires { max_reads ≤ MAX_READS }
-    ensures { Follows detail framing limit max_reads (device_of I.left I.counts input.old) (device_of I.left I.counts input.new)
+    ensures { Follows detail framing limit max_reads (device_of I.left I.counts input.old)
+        (device_of I.left I.counts input.new)
         (device_of O.written O.counts out.old) (device_of O.written O.counts out.new) result }
 {
     let mut follower = Follower {
@@ -175,9 +179,12 @@ fn show_events<O: Sink>(
     out: &mut O,
 ) -> Result<PrintProgress, WriteFault>
     ensures ok { IfOk result (λ shown. (number : ℕ) → first ≡ saturated number → ShowsFrom
-        (SendsText lines.old lines.new (device_of O.written O.counts out.old) (device_of O.written O.counts out.new)) number events.now shown) }
-    ensures err { IfErr result (λ fault. (number : ℕ) → first ≡ saturated number → Stops (O.written out.old) (O.written out.new)
-        (O.counts out.old) (O.counts out.new) (lines.old.held.items ++ lines_from number events.now) lines.old.sent fault) }
+        (SendsText lines.old lines.new (device_of O.written O.counts out.old)
+        (device_of O.written O.counts out.new)) number events.now shown) }
+    ensures err { IfErr result (λ fault. (number : ℕ) → first ≡ saturated number
+        → Stops (O.written out.old) (O.written out.new)
+        (O.counts out.old) (O.counts out.new) (lines.old.held.items
+        ++ lines_from number events.now) lines.old.sent fault) }
 {
     let shown = match hold_events(events, first, text, lines, out) {
         Ok(shown) => shown,
@@ -198,9 +205,12 @@ fn hold_events<O: Sink>(
     out: &mut O,
 ) -> Result<PrintProgress, WriteFault>
     ensures ok { IfOk result (λ shown. (number : ℕ) → first ≡ saturated number → ShowsFrom
-        (HoldsText lines.old lines.new (device_of O.written O.counts out.old) (device_of O.written O.counts out.new)) number events.now shown) }
-    ensures err { IfErr result (λ fault. (number : ℕ) → first ≡ saturated number → Stops (O.written out.old) (O.written out.new)
-        (O.counts out.old) (O.counts out.new) (lines.old.held.items ++ lines_from number events.now) lines.old.sent fault) }
+        (HoldsText lines.old lines.new (device_of O.written O.counts out.old)
+        (device_of O.written O.counts out.new)) number events.now shown) }
+    ensures err { IfErr result (λ fault. (number : ℕ) → first ≡ saturated number
+        → Stops (O.written out.old) (O.written out.new)
+        (O.counts out.old) (O.counts out.new) (lines.old.held.items
+        ++ lines_from number events.now) lines.old.sent fault) }
 {
     let mut number = first;
     for event in events {

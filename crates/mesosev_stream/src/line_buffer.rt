@@ -40,10 +40,12 @@ impl LineBuffer {
     /// Holds these lines behind those that are held. Where there is no room, or no memory, those go out first, and these too, alone, if
     /// they are more than the buffer has room for.
     pub(crate) fn hold<O: Sink>(&mut self, out: &mut O, lines: &[u8]) -> Result<(), WriteFault>
-        ensures ok { OnOk result (Passes (O.written out.old) (O.written out.new) (O.counts out.old) (O.counts out.new)
+        ensures ok { OnOk result (Passes (O.written out.old) (O.written out.new) (O.counts out.old)
+            (O.counts out.new)
             (self.old.held.items ++ lines.now) self.new.held.items self.old.sent self.new.sent) }
         ensures most { OnOk result (length self.new.held.items ≤ MAX_LINE_BUFFER) }
-        ensures err { IfErr result (λ fault. Stops (O.written out.old) (O.written out.new) (O.counts out.old) (O.counts out.new)
+        ensures err { IfErr result (λ fault. Stops (O.written out.old) (O.written out.new)
+            (O.counts out.old) (O.counts out.new)
             (self.old.held.items ++ lines.now) self.old.sent fault) }
     {
         if self.append(lines) {
@@ -71,10 +73,12 @@ impl LineBuffer {
 
     /// Writes what is held.
     pub(crate) fn flush<O: Sink>(&mut self, out: &mut O) -> Result<(), WriteFault>
-        ensures ok { OnOk result (WentOut (O.written out.old) (O.written out.new) (O.counts out.old) (O.counts out.new)
+        ensures ok { OnOk result (WentOut (O.written out.old) (O.written out.new) (O.counts out.old)
+            (O.counts out.new)
             self.old.held.items self.old.sent self.new.sent) }
         ensures ok_held { OnOk result (self.new.held.items ≡ []) }
-        ensures err { IfErr result (λ fault. Stops (O.written out.old) (O.written out.new) (O.counts out.old) (O.counts out.new)
+        ensures err { IfErr result (λ fault. Stops (O.written out.old) (O.written out.new)
+            (O.counts out.old) (O.counts out.new)
             self.old.held.items self.old.sent fault) }
     {
         self.sent = write_after(out, self.held.as_slice(), self.sent)?;
@@ -88,8 +92,10 @@ fn write_after<O: Sink>(out: &mut O, bytes: &[u8], before: u64) -> Result<u64, W
     ensures ok { OnOk result (Appends (O.written out.old) (O.written out.new) bytes.now) }
     ensures ok_counts { OnOk result (NoneFails (O.counts out.old) (O.counts out.new)) }
     ensures ok_sent { IfOk result (λ all. all ≡ up before (length bytes.now)) }
-    ensures err { IfErr result (λ fault. WrotePart (O.written out.old) (O.written out.new) bytes.now before fault.sent) }
-    ensures err_counts { IfErr result (λ fault. StopsWrite fault.why (O.counts out.old) (O.counts out.new)) }
+    ensures err { IfErr result (λ fault. WrotePart (O.written out.old) (O.written out.new) bytes.now
+        before fault.sent) }
+    ensures err_counts { IfErr result
+        (λ fault. StopsWrite fault.why (O.counts out.old) (O.counts out.new)) }
     ensures calls { CallsFor (length bytes.now) (O.counts out.old) (O.counts out.new) }
 {
     match write_all(out, bytes) {

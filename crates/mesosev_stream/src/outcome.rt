@@ -33,7 +33,8 @@ impl RunOutcome {
 /// Ends a run, and answers its exit status: where its output failed `write failed after N` is told on standard error, and the status is
 /// `Fault`. That isn't told where the output is closed, so that nobody reads it any more.
 pub fn finish<E: Sink>(ended: RunOutcome, closed: bool, err: &mut E) -> ExitStatus
-    ensures { Finishes closed (device_of E.written E.counts err.old) (device_of E.written E.counts err.new) ended result }
+    ensures { Finishes closed (device_of E.written E.counts err.old)
+        (device_of E.written E.counts err.new) ended result }
 {
     match ended {
         RunOutcome::Status(status) => status,
@@ -48,7 +49,8 @@ pub fn finish<E: Sink>(ended: RunOutcome, closed: bool, err: &mut E) -> ExitStat
 
 /// Tells that an output failed behind so many bytes. Where standard error fails too, nothing tells that.
 fn tell_failure<E: Sink>(err: &mut E, sent: u64)
-    ensures { Tells (device_of E.written E.counts err.old) (device_of E.written E.counts err.new) (failed_text sent ++ 10 ∷ []) }
+    ensures { Tells (device_of E.written E.counts err.old) (device_of E.written E.counts err.new)
+        (failed_text sent ++ 10 ∷ []) }
 {
     let why = WriteFaultKind::Device;
     let _ = print_send_fault(err, &SendFault::Write(WriteFault { sent, why }));

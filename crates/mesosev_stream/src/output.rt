@@ -43,8 +43,10 @@ impl<W: Sink> Sink for Output<W> {
 
     fn put(&mut self, bytes: &[u8]) -> io::Result<usize>
         ensures within { IfOk result (λ n. n ≤ length bytes.now) }
-        ensures bytes { WriteAppends (W.written self.old.inner) (W.written self.new.inner) result bytes.now }
-        ensures counted { CountsCall (W.counts self.old.inner) (W.counts self.new.inner) (length bytes.now) result }
+        ensures bytes { WriteAppends (W.written self.old.inner) (W.written self.new.inner) result
+            bytes.now }
+        ensures counted { CountsCall (W.counts self.old.inner) (W.counts self.new.inner)
+            (length bytes.now) result }
         ensures closed { self.new.closed ≡ closed_by self.old.closed result }
     {
         let answer = self.inner.put(bytes);

@@ -20,7 +20,8 @@ use mes_stream::{
 ///
 /// Errors: the output failed, or took no byte, behind a front of them.
 pub fn print_bytes<O: Sink>(out: &mut O, bytes: &[u8]) -> Result<(), WriteFault>
-    ensures { PrintsText (device_of O.written O.counts out.old) (device_of O.written O.counts out.new) bytes.now result }
+    ensures { PrintsText (device_of O.written O.counts out.old)
+        (device_of O.written O.counts out.new) bytes.now result }
 {
     write_all(out, bytes)
 }
@@ -29,7 +30,8 @@ pub fn print_bytes<O: Sink>(out: &mut O, bytes: &[u8]) -> Result<(), WriteFault>
 ///
 /// Errors: as `print_bytes`.
 pub fn print_text<O: Sink>(out: &mut O, text: &str) -> Result<(), WriteFault>
-    ensures { PrintsText (device_of O.written O.counts out.old) (device_of O.written O.counts out.new) text.now result }
+    ensures { PrintsText (device_of O.written O.counts out.old)
+        (device_of O.written O.counts out.new) text.now result }
 {
     print_bytes(out, text.as_bytes())
 }
@@ -39,7 +41,8 @@ pub fn print_text<O: Sink>(out: &mut O, text: &str) -> Result<(), WriteFault>
 /// Errors: as `print_bytes`.
 pub fn print_line<O: Sink>(out: &mut O, line: &str) -> Result<(), WriteFault>
     requires { length line.now ≤ MAX_FAULT_LINE }
-    ensures { PrintsText (device_of O.written O.counts out.old) (device_of O.written O.counts out.new) (line.now ++ 10 ∷ []) result }
+    ensures { PrintsText (device_of O.written O.counts out.old)
+        (device_of O.written O.counts out.new) (line.now ++ 10 ∷ []) result }
 {
     let mut text = ArrayString::<MAX_LINE>::new();
     text.push_str(line);
@@ -49,7 +52,8 @@ pub fn print_line<O: Sink>(out: &mut O, line: &str) -> Result<(), WriteFault>
 
 /// Prints the line of so many events in so many bytes.
 pub(crate) fn print_count<O: Sink>(out: &mut O, events: u64, used: u64) -> Result<(), WriteFault>
-    ensures { PrintsText (device_of O.written O.counts out.old) (device_of O.written O.counts out.new)
+    ensures { PrintsText (device_of O.written O.counts out.old)
+        (device_of O.written O.counts out.new)
         (count_text events used ++ 10 ∷ []) result }
 {
     let mut line = ArrayString::new();
@@ -61,7 +65,8 @@ pub(crate) fn print_count<O: Sink>(out: &mut O, events: u64, used: u64) -> Resul
 ///
 /// Errors: as `print_bytes`.
 pub fn print_fault<O: Sink>(out: &mut O, fault: &Fault, used: u64) -> Result<(), WriteFault>
-    ensures { PrintsText (device_of O.written O.counts out.old) (device_of O.written O.counts out.new)
+    ensures { PrintsText (device_of O.written O.counts out.old)
+        (device_of O.written O.counts out.new)
         (fault_text fault.now used ++ 10 ∷ []) result }
 {
     let mut line = ArrayString::new();
@@ -73,7 +78,8 @@ pub fn print_fault<O: Sink>(out: &mut O, fault: &Fault, used: u64) -> Result<(),
 ///
 /// Errors: as `print_bytes`.
 pub fn print_send_fault<O: Sink>(out: &mut O, fault: &SendFault) -> Result<(), WriteFault>
-    ensures { PrintsText (device_of O.written O.counts out.old) (device_of O.written O.counts out.new)
+    ensures { PrintsText (device_of O.written O.counts out.old)
+        (device_of O.written O.counts out.new)
         (send_text fault.now ++ 10 ∷ []) result }
 {
     let mut line = ArrayString::new();
@@ -98,7 +104,8 @@ pub fn report_outcome<O: Sink>(
 
 /// Tells that memory was refused before any byte was read: F13 after 0. The status is `Fault`.
 pub fn out_of_memory<O: Sink>(out: &mut O) -> RunOutcome
-    ensures { LacksMemory (device_of O.written O.counts out.old) (device_of O.written O.counts out.new) result }
+    ensures { LacksMemory (device_of O.written O.counts out.old)
+        (device_of O.written O.counts out.new) result }
 {
     ExitStatus::Fault.after(print_fault(out, &Fault::NoMemory, 0))
 }

@@ -50,7 +50,8 @@ impl World {
     // ---- events of the master
 
     fn push(&mut self, event: Event) -> Result<(), NoMemory>
-        ensures { OnOk result (self.new ≡ record self.old { waiting = self.old.waiting ++ event ∷ [] }) }
+        ensures { OnOk result (self.new
+            ≡ record self.old { waiting = self.old.waiting ++ event ∷ [] }) }
     {
         self.waiting.push(event)?;
         Ok(())
@@ -74,7 +75,8 @@ impl World {
 
     fn offer(&mut self, offers: &[Offer]) -> Result<(), NoMemory>
         requires { HasRoom self.old }
-        ensures ok { OnOk result (self.new ≡ sending self.old (offers_sent self.old.master offers.now)) }
+        ensures ok { OnOk result (self.new
+            ≡ sending self.old (offers_sent self.old.master offers.now)) }
         ensures memory { OnErr result (IsOk (offers_sent self.old.master offers.now)) }
     {
         match self.master.offer(offers) {
@@ -85,7 +87,8 @@ impl World {
 
     fn rescind(&mut self, id: &str) -> Result<(), NoMemory>
         requires { HasRoom self.old }
-        ensures ok { OnOk result (self.new ≡ sending self.old (rescind_sent self.old.master id.now)) }
+        ensures ok { OnOk result (self.new
+            ≡ sending self.old (rescind_sent self.old.master id.now)) }
         ensures memory { OnErr result (IsOk (rescind_sent self.old.master id.now)) }
     {
         match self.master.rescind(id) {
@@ -96,7 +99,8 @@ impl World {
 
     fn update(&mut self, status: &TaskStatus) -> Result<(), NoMemory>
         requires { HasRoom self.old }
-        ensures ok { OnOk result (self.new ≡ sending self.old (update_sent self.old.master status.now)) }
+        ensures ok { OnOk result (self.new
+            ≡ sending self.old (update_sent self.old.master status.now)) }
         ensures memory { OnErr result (IsSome self.old.master.stream) }
     {
         match self.master.update(status) {
@@ -133,7 +137,8 @@ impl World {
     }
 
     fn hear_event(&mut self, event: &Event) -> Result<(), NoMemory>
-        ensures ok { OnOk result (self.new ≡ record self.old { session = after self.old.session (Heard event.now) }) }
+        ensures ok { OnOk result (self.new
+            ≡ record self.old { session = after self.old.session (Heard event.now) }) }
         ensures memory { OnErr result (NeedsMemory event.now) }
     {
         match self.session.heard(event) {
@@ -174,7 +179,11 @@ impl World {
     }
 
     fn send(&mut self, call: &Call, stream: StreamId) -> Result<(), NoMemory>
-        ensures { OnOk result (self.new ≡ record self.old { sent = self.old.sent ++ record { call = call.now; stream = stream } ∷ [] }) }
+        ensures { OnOk result (self.new
+            ≡ record self.old {
+              sent = self.old.sent ++ record { call = call.now; stream = stream }
+                  ∷ [];
+            }) }
     {
         let call = call.copy(self.alloc)?;
         self.sent.push(Sent { call, stream })?;
@@ -228,7 +237,8 @@ impl World {
 
     fn open_stream(&mut self, call: &Call) -> Result<(), NoMemory>
         requires { HasRoom self.old }
-        ensures { OnOk result (self.new ≡ resubscribing self.old (handled self.old.master call.now None)) }
+        ensures { OnOk result (self.new
+            ≡ resubscribing self.old (handled self.old.master call.now None)) }
     {
         let answer = self.master.handle(call, None)?;
         self.reopen(answer);

@@ -33,10 +33,13 @@ impl Master {
     /// offers are all outstanding.
     pub fn handle(&mut self, call: &Call, stream: Option<&StreamId>) -> Result<Answer, NoMemory>
         // On success: the response and the state of the definition `handled`.
-        ensures ok { IfOk result (λ a. IsAnswer (handled self.old call.now (option_copied stream.entry)) a.status a.events.items self.new) }
+        ensures ok { IfOk result (λ a. IsAnswer
+            (handled self.old call.now (option_copied stream.entry)) a.status a.events.items
+            self.new) }
         ensures err { OnErr result (self.new ≡ self.old) }
         // An allocation fails only for a call that would make events or be recorded.
-        ensures memory { OnErr result (MayWantMemory self.old call.now (option_copied stream.entry)) }
+        ensures memory { OnErr result (MayWantMemory self.old call.now
+            (option_copied stream.entry)) }
     {
         if self.down || !agrees(&self.framework, framework_of(call)) {
             return Ok(Answer::plain(self.alloc, StatusCode::FORBIDDEN));
@@ -49,7 +52,8 @@ impl Master {
     }
 
     fn subscribe(&mut self) -> Result<Answer, NoMemory>
-        ensures ok { IfOk result (λ a. IsAnswer (subscribed self.old self.old.ids) a.status a.events.items self.new) }
+        ensures ok { IfOk result (λ a. IsAnswer (subscribed self.old self.old.ids) a.status
+            a.events.items self.new) }
         ensures err { OnErr result (self.new ≡ self.old) }
         ensures memory { OnErr result ((subscribed self.old self.old.ids).status ≡ 200) }
     {
@@ -68,9 +72,12 @@ impl Master {
     }
 
     fn in_stream(&mut self, call: &Call, given: Option<&StreamId>) -> Result<Answer, NoMemory>
-        ensures ok { IfOk result (λ a. IsAnswer (in_stream self.old call.now self.old.stream (option_copied given.entry)) a.status a.events.items self.new) }
+        ensures ok { IfOk result (λ a. IsAnswer
+            (in_stream self.old call.now self.old.stream (option_copied given.entry)) a.status
+            a.events.items self.new) }
         ensures err { OnErr result (self.new ≡ self.old) }
-        ensures memory { OnErr result (((in_stream self.old call.now self.old.stream (option_copied given.entry)).status ≡ 202) × (notes self.old call.now ≡ true)) }
+        ensures memory { OnErr result (((in_stream self.old call.now self.old.stream
+            (option_copied given.entry)).status ≡ 202) × (notes self.old call.now ≡ true)) }
     {
         let Some(current) = &self.stream else {
             return Ok(Answer::plain(self.alloc, StatusCode::FORBIDDEN));
@@ -83,9 +90,11 @@ impl Master {
 
     /// Handles a call that names the current stream.
     fn carry_out(&mut self, call: &Call) -> Result<Answer, NoMemory>
-        ensures ok { IfOk result (λ a. IsAnswer (carried_out self.old call.now) a.status a.events.items self.new) }
+        ensures ok { IfOk result (λ a. IsAnswer (carried_out self.old call.now) a.status
+            a.events.items self.new) }
         ensures err { OnErr result (self.new ≡ self.old) }
-        ensures memory { OnErr result (((carried_out self.old call.now).status ≡ 202) × (notes self.old call.now ≡ true)) }
+        ensures memory { OnErr result (((carried_out self.old call.now).status ≡ 202)
+            × (notes self.old call.now ≡ true)) }
     {
         match call {
             Call::Accept { body, .. } => {
@@ -102,7 +111,9 @@ impl Master {
     /// Handles an ACCEPT: removes its offers, and launches its tasks if all of the offers are
     /// outstanding.
     fn accept(&mut self, ids: &[Id], operations: &[Operation]) -> Result<Answer, NoMemory>
-        ensures ok { IfOk result (λ a. IsAnswer (accepted self.old ids.now (launched launched_by operations.now)) a.status a.events.items self.new) }
+        ensures ok { IfOk result (λ a. IsAnswer
+            (accepted self.old ids.now (launched launched_by operations.now)) a.status
+            a.events.items self.new) }
         ensures err { OnErr result (self.new ≡ self.old) }
         ensures memory { OnErr result (all_there self.old.outstanding ids.now ≡ true) }
     {
@@ -122,7 +133,9 @@ impl Master {
 
     /// Handles an ACKNOWLEDGE: records the key if there is an update with it.
     fn acknowledge(&mut self, body: &Acknowledge) -> Result<Answer, NoMemory>
-        ensures ok { IfOk result (λ a. IsAnswer (plain 202 (acknowledged self.old (key_in body.now))) a.status a.events.items self.new) }
+        ensures ok { IfOk result (λ a. IsAnswer
+            (plain 202 (acknowledged self.old (key_in body.now))) a.status a.events.items
+            self.new) }
         ensures err { OnErr result (self.new ≡ self.old) }
     {
         let key = key_in(self.alloc, body)?;
@@ -134,7 +147,8 @@ impl Master {
 
     /// Handles a RECONCILE: returns the last statuses of the tasks.
     fn reconcile(&self, tasks: &[TaskRef]) -> Result<Answer, NoMemory>
-        ensures { IfOk result (λ a. IsAnswer (reconciled self.now tasks.now) a.status a.events.items self.now) }
+        ensures { IfOk result (λ a. IsAnswer (reconciled self.now tasks.now) a.status a.events.items
+            self.now) }
     {
         let events = events::reconcile(self.alloc, &self.latest, tasks)?;
         Ok(Answer {
@@ -145,7 +159,8 @@ impl Master {
 
     /// Handles a TEARDOWN: ends the stream and removes all offers.
     fn tear_down(&mut self) -> Answer
-        ensures { IsAnswer (plain 202 (torn_down self.old)) result.status result.events.items self.new }
+        ensures { IsAnswer (plain 202 (torn_down self.old)) result.status result.events.items
+            self.new }
     {
         self.stream = None;
         self.down = true;

@@ -22,9 +22,11 @@ impl Master {
         ensures ok { IfOk result (λ event. offers_sent self.old offers.now ≡ Ok (event, self.new)) }
         // Each error: out of memory, or the refusal in the definition `offers_sent`; nothing is
         // changed.
-        ensures err { IfErr result (λ why. (self.new ≡ self.old) × ((why ≡ no_memory) ⊎ (offers_sent self.old offers.now ≡ Err why))) }
+        ensures err { IfErr result (λ why. (self.new ≡ self.old)
+            × ((why ≡ no_memory) ⊎ (offers_sent self.old offers.now ≡ Err why))) }
         // Out of memory only if the offers could be made.
-        ensures memory { IfErr result (λ why. why ≡ no_memory → IsOk (offers_sent self.old offers.now)) }
+        ensures memory { IfErr result (λ why. why ≡ no_memory
+            → IsOk (offers_sent self.old offers.now)) }
     {
         if let Some(why) = self.refusal_of(offers) {
             return Err(why);
@@ -37,12 +39,15 @@ impl Master {
     /// Like [`Master::offer`], but for a caller that already has the OFFERS: returns no event.
     pub fn note_offers(&mut self, offers: &[Offer]) -> Result<(), MasterRefusal>
         // On success: the offers are made.
-        ensures ok { OnOk result (offers_sent self.old offers.now ≡ Ok (Event.Offers offers.now, self.new)) }
+        ensures ok { OnOk result (offers_sent self.old offers.now
+            ≡ Ok (Event.Offers offers.now, self.new)) }
         // Each error: out of memory, or the refusal in the definition `offers_sent`; nothing is
         // changed.
-        ensures err { IfErr result (λ why. (self.new ≡ self.old) × ((why ≡ no_memory) ⊎ (offers_sent self.old offers.now ≡ Err why))) }
+        ensures err { IfErr result (λ why. (self.new ≡ self.old)
+            × ((why ≡ no_memory) ⊎ (offers_sent self.old offers.now ≡ Err why))) }
         // Out of memory only if the offers could be made.
-        ensures memory { IfErr result (λ why. why ≡ no_memory → IsOk (offers_sent self.old offers.now)) }
+        ensures memory { IfErr result (λ why. why ≡ no_memory
+            → IsOk (offers_sent self.old offers.now)) }
     {
         match self.refusal_of(offers) {
             None => Ok(self.make(offers)?),
@@ -52,8 +57,10 @@ impl Master {
 
     /// Returns the reason, M1 or M2, if these offers cannot be made. Does not allocate.
     fn refusal_of(&self, offers: &[Offer]) -> Option<MasterRefusal>
-        ensures none { IfNone result (IsSome self.now.stream × (is_duplicate self.now.offered (offer_ids offers.now) ≡ false)) }
-        ensures some { IfSome result (λ why. (why ≢ no_memory) × (offers_sent self.now offers.now ≡ Err why)) }
+        ensures none { IfNone result (IsSome self.now.stream
+            × (is_duplicate self.now.offered (offer_ids offers.now) ≡ false)) }
+        ensures some { IfSome result (λ why. (why ≢ no_memory)
+            × (offers_sent self.now offers.now ≡ Err why)) }
     {
         if self.stream.is_none() {
             return Some(MasterRefusal::NoStream);
@@ -84,9 +91,11 @@ impl Master {
         ensures ok { IfOk result (λ event. rescind_sent self.old id.now ≡ Ok (event, self.new)) }
         // Each error: out of memory, or the refusal in the definition `rescind_sent`; nothing is
         // changed.
-        ensures err { IfErr result (λ why. (self.new ≡ self.old) × ((why ≡ no_memory) ⊎ (rescind_sent self.old id.now ≡ Err why))) }
+        ensures err { IfErr result (λ why. (self.new ≡ self.old)
+            × ((why ≡ no_memory) ⊎ (rescind_sent self.old id.now ≡ Err why))) }
         // Out of memory only if the offer could be withdrawn.
-        ensures memory { IfErr result (λ why. why ≡ no_memory → IsOk (rescind_sent self.old id.now)) }
+        ensures memory { IfErr result (λ why. why ≡ no_memory
+            → IsOk (rescind_sent self.old id.now)) }
     {
         if self.stream.is_none() {
             return Err(MasterRefusal::NoStream);
@@ -107,7 +116,8 @@ impl Master {
         ensures ok { IfOk result (λ event. update_sent self.old status.now ≡ Ok (event, self.new)) }
         // Each error: out of memory, or the refusal in the definition `update_sent`; nothing is
         // changed.
-        ensures err { IfErr result (λ why. (self.new ≡ self.old) × ((why ≡ no_memory) ⊎ (update_sent self.old status.now ≡ Err why))) }
+        ensures err { IfErr result (λ why. (self.new ≡ self.old)
+            × ((why ≡ no_memory) ⊎ (update_sent self.old status.now ≡ Err why))) }
         ensures memory { IfErr result (λ why. why ≡ no_memory → IsSome self.old.stream) }
     {
         if self.stream.is_none() {
@@ -121,10 +131,12 @@ impl Master {
     /// Like [`Master::update`], but for a caller that already has the UPDATE: returns no event.
     pub fn note_update(&mut self, status: &TaskStatus) -> Result<(), MasterRefusal>
         // On success: the status is recorded.
-        ensures ok { OnOk result (update_sent self.old status.now ≡ Ok (update_event status.now, self.new)) }
+        ensures ok { OnOk result (update_sent self.old status.now
+            ≡ Ok (update_event status.now, self.new)) }
         // Each error: out of memory, or the refusal in the definition `update_sent`; nothing is
         // changed.
-        ensures err { IfErr result (λ why. (self.new ≡ self.old) × ((why ≡ no_memory) ⊎ (update_sent self.old status.now ≡ Err why))) }
+        ensures err { IfErr result (λ why. (self.new ≡ self.old)
+            × ((why ≡ no_memory) ⊎ (update_sent self.old status.now ≡ Err why))) }
         ensures memory { IfErr result (λ why. why ≡ no_memory → IsSome self.old.stream) }
     {
         if self.stream.is_none() {
@@ -144,7 +156,8 @@ impl Master {
     pub fn resend(&self, index: usize) -> Result<Event, MasterRefusal>
         ensures ok { IfOk result (λ event. resend_sent self.now index ≡ Ok (event, self.now)) }
         // Each error: out of memory, or the refusal in the definition `resend_sent`.
-        ensures err { IfErr result (λ why. (why ≡ no_memory) ⊎ (resend_sent self.now index ≡ Err why)) }
+        ensures err { IfErr result (λ why. (why ≡ no_memory)
+            ⊎ (resend_sent self.now index ≡ Err why)) }
         ensures memory { IfErr result (λ why. why ≡ no_memory → IsOk (resend_sent self.now index)) }
     {
         if self.stream.is_none() {

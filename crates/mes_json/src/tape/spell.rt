@@ -28,8 +28,10 @@ impl Form {
     /// Returns the node of a text between two offsets.
     fn node(self, from: u32, to: u32) -> Node
         ensures unreported { unreported result ≡ result }
-        ensures token { (texts : List ℕ) → token_of texts result ≡ text_token self (span texts from to) }
-        ensures span { (texts : List ℕ) → IsSpan texts from to → IsTextOf self (span texts from to) → HasSpan texts result }
+        ensures token { (texts : List ℕ)
+            → token_of texts result ≡ text_token self (span texts from to) }
+        ensures span { (texts : List ℕ) → IsSpan texts from to → IsTextOf self (span texts from to)
+            → HasSpan texts result }
     {
         match self {
             Form::Number => Node::Number { from, to },
@@ -118,7 +120,8 @@ impl Spelling {
 
     #[cycle(spell)]
     fn put_members(&mut self, members: &[(Text, Json)]) -> Result<(), NoMemory>
-        ensures { OnOk result (self.new ≡ self.old ++ tokens_of_members (members_view members.now)) }
+        ensures { OnOk result (self.new
+            ≡ self.old ++ tokens_of_members (members_view members.now)) }
     {
         for (name, value) in members {
             self.put_text(Form::Name, name.as_str())?;
