@@ -1,4 +1,4 @@
--- The words of `convert`.
+-- The arguments of `convert`.
 use Rattle.std.proofs.Common.{◌≡◌, ◌++◌, ◌∙◌, ap, append_assoc, subst, sym, ℕ, List, [], ◌∷◌, Option, Some, None, false, refl}
 use Rattle.std.specs.Prelude.{codes, fold}
 use Rattle.clap.specs.Words.{Row, Rule, Text, one_of}
@@ -34,7 +34,7 @@ most_usable Plain (Some v) (Some w) fits = simp fits refl
 most_usable Chunked None (Some w) fits = simp fits refl
 most_usable Chunked (Some v) (Some w) fits = simp fits refl
 
--- the rows behind the words
+-- the rows after the arguments
 abbrev rows_said : Framing → Option Text → Option Text → List Row
 rows_said framing v w = used_value (filled most_rule) w (rows_limit framing v)
 
@@ -65,7 +65,7 @@ good_end Chunked None (Some w) = refl
 good_end Chunked (Some v) None = refl
 good_end Chunked (Some v) (Some w) = refl
 
--- the words are taken, and have the values
+-- the arguments are accepted, and have the values
 pub record SaidConvert (words : List Text) (framing : Framing) (limit : ℕ) (most : Option ℕ) : Type 0 where
   pub rows : List Row
   pub takes : Takes words (codes "convert") rows

@@ -1,4 +1,4 @@
--- The words of the subcommands that have `--limit` alone: `replay` and `relog`.
+-- The arguments of the subcommands that have `--limit` only: `replay` and `relog`.
 use Rattle.std.proofs.Common.{◌≡◌, ◌++◌, ◌∙◌, ap, append_assoc, subst, sym, ℕ, List, [], ◌∷◌, Option, Some, None, false, refl, arith, inl, inr}
 use Rattle.std.specs.Prelude.{IsSomeAnd, codes, fold}
 use Rattle.clap.specs.Words.{Row, Rule, Text, first_of, one_of}
@@ -39,7 +39,7 @@ unfolding clap_on_literals
 good_end name None = refl
 good_end name (Some v) = refl
 
--- the words are taken, and have the value
+-- the arguments are accepted, and have the value
 pub record SaidLog (words : List Text) (name : Text) (limit : ℕ) : Type 0 where
   pub rows : List Row
   pub takes : Takes words name rows

@@ -1,4 +1,4 @@
--- The words of `loopback`.
+-- The arguments of `loopback`.
 use Rattle.std.proofs.Common.{◌≡◌, ◌++◌, ◌∙◌, ap, append_assoc, subst, sym, ℕ, List, [], ◌∷◌, Option, Some, None, false, refl, arith, inl, inr}
 use Rattle.std.specs.Prelude.{IsSomeAnd, codes, fold}
 use Rattle.clap.specs.Words.{Row, Rule, Text, first_of, one_of}
@@ -53,7 +53,7 @@ unfolding clap_on_literals
 good_end None = refl
 good_end (Some v) = refl
 
--- the words are taken, and have the value
+-- the arguments are accepted, and have the value
 pub record SaidLoopback (words : List Text) (most : ℕ) : Type 0 where
   pub rows : List Row
   pub takes : Takes words (codes "loopback") rows

@@ -1,4 +1,4 @@
--- A subcommand's name and its matches are those of one value of options alone.
+-- A subcommand's name and its matches are those of at most one value of options.
 use Rattle.std.proofs.Common.{◌≡◌, ◌∙◌, ap, ℕ, List, ◌∷◌, [], Option, Some, None, refl, sym, subst}
 use Rattle.std.specs.Prelude.{IsSomeAnd, codes, find, option_map}
 use Rattle.std.specs.Str.{bytes_eq}
@@ -26,12 +26,12 @@ abbrev verbs : List (Text × Verb)
 verbs = (codes "check", checks) ∷ (codes "show", shows) ∷ (codes "convert", converts)
     ∷ (codes "replay", replays) ∷ (codes "relog", relogs) ∷ (codes "serve", serves) ∷ (codes "subscribe", subscribes) ∷ (codes "loopback", loops) ∷ []
 
--- the one of this name
+-- the subcommand of this name
 abbrev pub verb_of : Text → Option Verb
 verb_of name = option_map (λ v. v.1) (find (λ v. bytes_eq v.0 name) verbs)
 
--- The matches are those of the options, whose subcommand this is. By the subcommand first: two options are then compared where
--- they have one, and no pair of subcommands is left.
+-- The matches are those of the options of this subcommand. The case split is by the subcommand
+-- first, so that no pair of different subcommands is left.
 abbrev pub IsReadBy : Option Verb → List Row → Options → Type 0
 IsReadBy None rows o = ⊥
 IsReadBy (Some checks) rows o = (framing : Framing) × (limit : ℕ) × (o ≡ Check framing limit) × HasFraming rows framing × HasLimit rows limit

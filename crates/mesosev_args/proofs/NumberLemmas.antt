@@ -1,4 +1,4 @@
--- What `get_one` reads of an option, as the number that its text writes.
+-- What `get_one` reads from an option is the number that its text writes.
 use Rattle.std.proofs.Common.{◌≡◌, ◌<◌, ◌^◌, ◌∙◌, ℕ, List, Option, Some, None, Result, refl, sym, subst, arith}
 use Rattle.std.specs.Prelude.{IsSomeAnd, ◌≤◌}
 use Rattle.std.specs.Str.Parse.{ExplainsUnsignedError, HasUnsignedDigitsIfOk, ParsesUnsigned}
@@ -28,7 +28,7 @@ written_of_some (Some t) (Some m) none value n is =
     let same : m ≡ n = cc in
     (read.0.0.0, sym read.0.1 ∙ same)
 
--- where none is read, the text writes no number that fits
+-- if none is read, the text writes no number that fits
 written_of_none : (held : Option Text) (r : Option ℕ) → ((t : Text) → held ≡ Some t → ReadsOne FromStr t r)
     → r ≡ None → (n : ℕ) → IsWritten n held → n < 2 ^ 32 → ⊥
 written_of_none None r value is n h fits = h
@@ -44,13 +44,13 @@ written_once (Some t) m n h k = sym h.1 ∙ k.1
 pub HasNumber-once : (name : Text) (rows : List Row) (m n : ℕ) → HasNumber name rows m → HasNumber name rows n → m ≡ n
 HasNumber-once name rows m n h k = written_once (one_of name rows) m n h k
 
--- what was read of the option of this name
+-- what was read from the option of this name
 module _ (f : Found) (name : Text) (r : Option ℕ) (value : (t : Text) → one_text f name ≡ Some t → ReadsOne FromStr t r) where
   number_of_none : r ≡ None → (n : ℕ) → HasNumber name (rows_of f) n → n < 2 ^ 32 → ⊥
   number_of_none is n h fits =
       written_of_none (one_text f name) r value is n (subst (IsWritten n) (sym (one_text-rows f name)) h) fits
 
-  -- a value that is no number has none in a range
+  -- a value that is not a number has none in a range
   pub number_unread : (least most : ℕ) → most < 2 ^ 32 → r ≡ None → ((n : ℕ) × HasNumber name (rows_of f) n × (least ≤ n) × (n ≤ most)) → ⊥
   number_unread least most small is (n, has, above, below) = number_of_none is n has (omega (arith, below, small))
 
@@ -58,7 +58,7 @@ module _ (f : Found) (name : Text) (r : Option ℕ) (value : (t : Text) → one_
     pub number_read : (n : ℕ) → r ≡ Some n → HasNumber name (rows_of f) n
     number_read n is = subst (IsWritten n) (one_text-rows f name) (written_of_some (one_text f name) r none value n is)
 
-    -- nor has one that is a number out of the range
+    -- nor has a number out of the range
     pub number_out : (least most n : ℕ) → r ≡ Some n → (((least ≤ n) × (n ≤ most)) → ⊥)
         → ((m : ℕ) × HasNumber name (rows_of f) m × (least ≤ m) × (m ≤ most)) → ⊥
     number_out least most n is not (m, has, above, below) =

@@ -1,4 +1,4 @@
--- What the words that name a flag or give an option its value come to in clap's model.
+-- The arguments that set a flag or give an option its value, in clap's model.
 use Rattle.std.proofs.Common.{◌≡◌, ◌++◌, ◌≤◌, ◌==◌, ◌∙◌, ℕ, List, [], ◌∷◌, Option, Some, None, Bool, true, false, inl, inr, refl, sym, subst, arith}
 use Rattle.std.specs.Prelude.{IsSomeAnd, codes, option_map, pos}
 use Rattle.std.specs.Str.Parse.{IsNumeral, without_leading_plus}
@@ -26,17 +26,17 @@ use Rattle.mesosev_args.proofs.Walks.{Given, IsFlag, IsNoFlag, IsOption, IsUsabl
 abbrev pub number_parser : ℕ → ℕ → ValueParser
 number_parser least most = vp.Signed (pos least) (pos most)
 
--- the parser takes the value, where there is one
+-- the parser accepts the value, if there is one
 abbrev pub Fits : ValueParser → Option Text → Type 0
 Fits parser None = Unit {0}
 Fits parser (Some v) = value_kinds false parser v ≡ []
 
--- the value, and a default where it is not given
+-- the value, or the default if it is not given
 abbrev pub value_or : Option Text → Option Text → Option Text
 value_or usual None = usual
 value_or usual (Some v) = Some v
 
--- the value as a number is read of it, without a first hyphen
+-- the value as a number is read from it, without a leading hyphen
 abbrev pub read_value : Option Text → Option Text
 read_value = option_map without_minus
 
@@ -56,7 +56,7 @@ no_hyphen x xs h = go (x == 43) refl
         let numeral : IsNumeral 10 (x ∷ xs) = rw is at h in
         ne_eqb _ _ (λ e. omega (arith, digit_from_value x numeral.1.0, e))
 
--- the words give the option, or leave it out, and then its text writes the number
+-- the arguments give the option, or leave it out; then its text writes the number
 pub record Says (option : Text) (usual : Option Text) (parser : ValueParser) (words : List Text) (n : ℕ) : Type 0 where
   pub given : Given
   pub is : words ≡ given_words option given
@@ -82,20 +82,20 @@ module _ (least most : ℕ) (small : most ≤ 4294967295) where
   says_number option usual words n (x ∷ xs, writes, inr is) range =
       record { given = joined x xs; is = is; plain = no_hyphen x xs writes.0; fits = passes x xs n writes range; text = x ∷ xs; text_is = refl; writes = writes }
 
-  -- the same where they may leave it out, for the usual number
+  -- the same if they may leave it out, for the default
   pub says_usually : (option usual : Text) (words : List Text) (n : ℕ) → SayUsually usual option words n → (least ≤ n) × (n ≤ most)
       → Says option (Some usual) (number_parser least most) words n
   says_usually option usual words n (inl (is, writes)) range =
       record { given = absent; is = is; plain = tt; fits = tt; text = usual; text_is = refl; writes = writes }
   says_usually option usual words n (inr says) range = says_number option (Some usual) words n says range
 
--- ---- an option that is given
+-- ---- a given option
 
 pub value_or_none : (v : Option Text) → value_or None v ≡ v
 value_or_none None = refl
 value_or_none (Some v) = refl
 
--- the words give the option this text
+-- the arguments give the option this text
 pub record Gives (option : Text) (parser : ValueParser) (words : List Text) (text : Text) : Type 0 where
   pub given : Given
   pub is : words ≡ given_words option given
@@ -113,7 +113,7 @@ gives_text option words [] (plain, is) = absurd plain
 gives_text option words (x ∷ xs) (plain, inl is) = record { given = apart x xs; is = is; value_is = refl; plain = plain; fits = refl }
 gives_text option words (x ∷ xs) (plain, inr is) = record { given = joined x xs; is = is; value_is = refl; plain = plain; fits = refl }
 
--- the words lead on to the rows behind it
+-- the arguments lead to the rows after the option
 pub reaches_given : (s : Shape) (a : Rule) (option name : Text) → IsOption s.rules a option name → (words more : List Text) (rows : List Row) → Reaches s words rows
     → (parser : ValueParser) (text : Text) → (g : Gives option parser more text) → IsUsable s.args_override_self a (Some text) rows
     → Reaches s (words ++ given_words option g.given) (used a (text ∷ []) rows)
@@ -122,13 +122,13 @@ reaches_given s a option name is words more rows r parser text g usable =
     (reaches_option s a option name is words rows r g.given (subst IsNoFlag (sym g.value_is) g.plain)
     (subst (λ (v : Option Text). IsUsable s.args_override_self a v rows) (sym g.value_is) usable))
 
--- the number of an option that is given
+-- the number of a given option
 pub given_number : (held : Option Text) (option : Text) (parser : ValueParser) (words : List Text) (n : ℕ) → (s : Says option None parser words n)
     → held ≡ read_value (Some s.text) → IsSomeAnd held (λ text. Writes text n)
 given_number held option parser words n s is =
     subst (λ (h : Option Text). IsSomeAnd h (λ text. Writes text n)) (sym (is ∙ read_plain (Some s.text) (gives_number option parser words n s).plain)) s.writes
 
--- the text that an option has in the rows, as the number that it writes
+-- the text of an option in the rows, as the number that it writes
 pub has_number : (held : Option Text) (option : Text) (usual : Option Text) (parser : ValueParser) (words : List Text) (n : ℕ)
     → (s : Says option usual parser words n) → held ≡ value_or usual (given_value s.given) → IsSomeAnd held (λ text. Writes text n)
 has_number held option usual parser words n s is = subst (λ h. IsSomeAnd h (λ text. Writes text n)) (sym (is ∙ s.text_is)) s.writes
@@ -154,7 +154,7 @@ flag_is Chunked words is = is
 pub chunked_is : (c : List Rule) → arg_by_long c (codes "chunked") ≡ Some (filled chunked_rule) → IsFlag c (filled chunked_rule) (codes "--chunked") (codes "chunked")
 chunked_is c by_long = record { dashes = refl; long = refl; by_long = by_long; takes = refl }
 
--- the flag in front of all other options
+-- the flag before all other options
 pub reaches_framing : (s : Shape) → IsFlag s.rules (filled chunked_rule) (codes "--chunked") (codes "chunked") → (framing : Framing)
     → Reaches s (flag_words framing) (rows_flag framing)
 reaches_framing s is Plain = reaches_start s
@@ -177,7 +177,7 @@ pub limit_is : (c : List Rule) → arg_by_long c (codes "limit") ≡ Some (fille
 limit_is c by_long by_id =
     record { dashes = refl; long = refl; dashes_joined = λ v. refl; long_joined = λ v. refl; by_long = by_long; by_id = by_id; same = refl; takes = refl; one = refl }
 
--- the rows behind `--chunked` and `--limit`
+-- the rows after `--chunked` and `--limit`
 abbrev pub rows_limit : Framing → Option Text → List Row
 rows_limit framing v = used_value (filled limit_rule) v (rows_flag framing)
 
@@ -186,7 +186,7 @@ limit_usable framing None fits = tt
 limit_usable Plain (Some v) fits = simp fits refl
 limit_usable Chunked (Some v) fits = simp fits refl
 
--- the words that give the limit
+-- the arguments that give the limit
 abbrev pub SaysLimit : List Text → ℕ → Type 0
 SaysLimit = Says (codes "--limit") usual_limit limit_parser
 
@@ -203,7 +203,7 @@ abbrev IsSize : Option Text → Option ℕ → Type 0
 IsSize held None = held ≡ None
 IsSize held (Some most) = IsSomeAnd held (λ text. Writes text most)
 
--- the words that give the size, or leave it out
+-- the arguments that give the size, or leave it out
 pub record SaysMost (words : List Text) (most : Option ℕ) : Type 0 where
   pub given : Given
   pub is : words ≡ given_words (codes "--most") given

@@ -1,4 +1,4 @@
--- What is read of `--chunked` and of `--most`.
+-- What is read from `--chunked` and from `--most`.
 use Rattle.std.proofs.Common.{◌≡◌, ◌<◌, ◌^◌, ◌∙◌, ap, ℕ, Bool, true, false, Option, Some, None, Result, Ok, Err, refl, sym, subst, arith}
 use Rattle.std.specs.Prelude.{◌≤◌, codes}
 use Rattle.std.specs.Str.Parse.{ParsesBool}
@@ -39,7 +39,7 @@ flag_unset E f r value not is = unset_text E (one_text f (codes "chunked")) r va
 
 -- ---- the size of a chunk
 
--- what reading `--most` answers
+-- the result of reading `--most`
 abbrev Tried : Type 0
 Tried = Result (Option ℕ) ParseIntError
 
@@ -80,7 +80,7 @@ module _ (f : Found) (r : Tried) (value : (t : Text) → one_text f (codes "most
     most_out n is not (Some m, has, range) =
         let same : m ≡ n = written_once (one_of (codes "most") (rows_of f)) m n has (written n is) in not (rw (← same) range)
 
-    -- the value is no number
+    -- the value is not a number
     pub most_unread : (e : ParseIntError) → r ≡ Err e → ((most : Option ℕ) × HasMost (rows_of f) most × IsMost most) → ⊥
     most_unread e is (None, has, range) = let same : r ≡ Ok None = none (one_text-rows f (codes "most") ∙ has) in absurd (cc)
     most_unread e is (Some m, has, range) =

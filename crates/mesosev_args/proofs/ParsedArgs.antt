@@ -1,4 +1,4 @@
--- A command line that the command takes, with the matches of its subcommand.
+-- Arguments that the command accepts, with the matches of its subcommand.
 use Rattle.std.proofs.Common.{◌≡◌, ◌∙◌, ap, List, [], ◌∷◌, Some, refl}
 use Rattle.std.specs.Prelude.{fold}
 use Rattle.clap.specs.Words.{Row, Text, fault_of, subcommand_of}
@@ -9,12 +9,12 @@ use Rattle.mesosev_args.specs.CommandLine.{command_app}
 use Rattle.mesosev_args.proofs.Subcommands.{IsSubcommand, rows_behind, taken_behind}
 use Rattle.mesosev_args.proofs.Walks.{Reaches, end_fault, reaches_good, reaches_rows}
 
--- the words are taken, and name this subcommand with these rows
+-- the arguments are accepted, and name this subcommand with these rows
 pub record Takes (words : List Text) (name : Text) (rows : List Row) : Type 0 where
   pub named : subcommand_of command_app words ≡ Some (name, rows)
   pub taken : fault_of command_app words ≡ []
 
--- the words behind a subcommand's name, up to their end
+-- the arguments after a subcommand's name, up to their end
 pub takes_words : (program name : Text) (s : Shape) → IsSubcommand (built command_app) name s → (words : List Text) (rows : List Row)
     → Reaches s words rows → end_fault s rows ≡ [] → Takes (program ∷ name ∷ words) s.name (fold with_default rows s.rules)
 unfolding clap_on_literals

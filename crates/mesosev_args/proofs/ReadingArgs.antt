@@ -1,4 +1,4 @@
--- The words of the subcommands that have `--chunked` and `--limit` alone: `check` and `show`.
+-- The arguments of the subcommands that have `--chunked` and `--limit` only: `check` and `show`.
 use Rattle.std.proofs.Common.{◌≡◌, ◌++◌, ◌∙◌, ap, subst, sym, ℕ, List, [], ◌∷◌, Option, Some, None, refl}
 use Rattle.std.specs.Prelude.{codes, fold}
 use Rattle.clap.specs.Words.{Row, Rule, Text, one_of}
@@ -38,7 +38,7 @@ good_end name Plain (Some v) = refl
 good_end name Chunked None = refl
 good_end name Chunked (Some v) = refl
 
--- the words are taken, and have the values
+-- the arguments are accepted, and have the values
 pub record SaidReading (words : List Text) (name : Text) (framing : Framing) (limit : ℕ) : Type 0 where
   pub rows : List Row
   pub takes : Takes words name rows

@@ -1,4 +1,4 @@
--- Words that say options plainly name just them, and are taken.
+-- Arguments in their plain form name exactly these options, and are accepted.
 use Rattle.std.proofs.Common.{◌≡◌, List, [], Result, Ok, Err, refl, sym, subst}
 use Rattle.std.specs.Prelude.{IfErr, IfOk, IsSomeAnd, MatchResult, codes}
 use Rattle.clap.specs.Words.{IsAmong, Row, Text, fault_of, kind_of, subcommand_of}
@@ -31,7 +31,7 @@ replay_is = record { met = refl; found = refl; other = refl }
 relog_is : IsSubcommand (built command_app) (codes "relog") (log_shape (codes "relog"))
 relog_is = record { met = refl; found = refl; other = refl }
 
--- the words are taken, and name the options
+-- the arguments are accepted, and name the options
 record Names (words : List Text) (o : Options) : Type 0 where
   named : NameOptions words o
   taken : fault_of command_app words ≡ []
@@ -62,7 +62,7 @@ plain_names words (Subscribe to user name reads) says range =
 plain_names words (Loopback most) says range =
     let s = said_loopback words most says range in names words (codes "loopback") s.rows (Loopback most) s.takes (refl, s.most_has)
 
--- an answer that the words name, or by which they are refused, is the one that they say plainly
+-- a result that the arguments name, or an error for them, is that of their plain form
 pub plain_answer : (words : List Text) (r : Result Options WordsFault) → IfOk r (NameOptions words) → IfErr r (RefusesArgs words)
     → (said : Options) → SayPlainly words said → IsInRange said → MatchResult r (λ o. o ≡ said) (λ fault. fault ≡ NoMemory)
 plain_answer words (Ok o) named refused said plainly range =

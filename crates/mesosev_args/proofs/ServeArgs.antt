@@ -1,4 +1,4 @@
--- The words of `serve`.
+-- The arguments of `serve`.
 use Rattle.std.proofs.Common.{◌≡◌, ◌++◌, ◌∙◌, ap, append_assoc, subst, sym, ℕ, List, [], ◌∷◌, Option, Some, None, false, refl, arith, inl, inr}
 use Rattle.std.specs.Prelude.{IsSomeAnd, codes, fold}
 use Rattle.clap.specs.Words.{Row, Rule, Text, first_of, one_of}
@@ -34,7 +34,7 @@ count_is = record { dashes = refl; long = refl; dashes_joined = λ v. refl; long
 stream_is : IsOption rules (filled stream_rule) (codes "--stream") (codes "stream")
 stream_is = record { dashes = refl; long = refl; dashes_joined = λ v. refl; long_joined = λ v. refl; by_long = refl; by_id = refl; same = refl; takes = refl; one = refl }
 
--- ---- the rows behind each option
+-- ---- the rows after each option
 
 abbrev rows_port : Text → List Row
 rows_port p = used (filled port_rule) (p ∷ []) []
@@ -73,7 +73,7 @@ good_end p c (Some v) = refl
 
 -- ---- `--stream`
 
--- the words give the id, or leave it out
+-- the arguments give the id, or leave it out
 record SaysStream (words : List Text) (stream : List ℕ) : Type 0 where
   given : Given
   is : words ≡ given_words (codes "--stream") given
@@ -91,7 +91,7 @@ says_stream words stream (inr (text, says, parses)) =
       parses = subst (λ (v : Option Text). IsSomeAnd (value_or (Some DEFAULT_STREAM.now) v) (λ t. parsed t ≡ Some stream)) (sym g.value_is) parses;
     }
 
--- the words are taken, and have the values
+-- the arguments are accepted, and have the values
 pub record SaidServe (words : List Text) (port count : ℕ) (stream : List ℕ) : Type 0 where
   pub rows : List Row
   pub takes : Takes words (codes "serve") rows

@@ -1,4 +1,4 @@
--- What clap's model makes of the words up to a subcommand's name: the words behind it are the subcommand's own.
+-- The arguments up to a subcommand's name in clap's model: those after it belong to the subcommand.
 use Rattle.std.proofs.Common.{◌≡◌, ◌++◌, ◌∙◌, ap, append_assoc, append-nil, sym, List, [], ◌∷◌, Some, false, true, refl}
 use Rattle.std.specs.Prelude.{◌&&◌, codes, find, fold, not}
 use Rattle.std.specs.Str.{bytes_eq}
@@ -20,7 +20,7 @@ unfolding walked walk_fault
 quiet_on s names w p [] = refl
 quiet_on s names w p (word ∷ rest) = quiet_on s names w (p.0, p.1 ++ word ∷ []) rest
 
--- where the walk stands once it has met the subcommand
+-- the position of the walk after the subcommand's name
 abbrev met : Text → List Text → Walk
 met name rest = record { held = nothing_held; waiting = idle; position = 1; is_trailing = false; stopped = Some (name, rest) }
 
@@ -28,7 +28,7 @@ met name rest = record { held = nothing_held; waiting = idle; position = 1; is_t
 abbrev pub leaf_shape : Text → List Rule → Shape
 leaf_shape name rules = record (new_shape name) { rules = rules; disable_help_subcommand = true; is_built = true; propagate_version = true; has_version = true }
 
--- the name is that of this subcommand of a command that is built
+-- the name is that of this subcommand of a built command
 pub record IsSubcommand (b : App) (name : Text) (s : Shape) : Type 0 where
   pub met : subcommand_met (names_of b) idle name ≡ Some name
   pub found : find (λ s. answers_to name (label_of s)) b.subs ≡ Some s
@@ -43,14 +43,14 @@ module _ (b : App) (name : Text) (s : Shape) (is : IsSubcommand b name s) (rest 
   unfolding walked walk_fault
   top_quiet = simp (is.met, is.other) (quiet_on b.top (names_of b) (met name []) (name, []) rest)
 
-  -- the matches are those of the words behind the subcommand's name
+  -- the matches are those of the arguments after the subcommand's name
   pub rows_behind : entered b (walk b.top.rules (names_of b) nothing_held (name ∷ rest)).stopped ≡ Some (s.name, rows_after s.rules [] rest)
   rows_behind = ap (λ (w : Walk). entered b w.stopped) top_walk ∙ simp (is.found) refl
 
-  -- what the command itself refuses behind the words
+  -- what the command itself rejects after the arguments
   abbrev pub top_end : Kinds
   top_end = or_else (defaults_fault [] b.top.rules) (check_fault b.top (fold with_default [] b.top.rules) true)
 
-  -- what the subcommand takes is taken
+  -- what the subcommand accepts is accepted
   pub taken_behind : level_fault s [] nothing_held rest false [] ≡ [] → top_end ≡ [] → built_fault b nothing_held (name ∷ rest) ≡ []
   taken_behind good ends = simp (top_quiet, top_walk, is.found, good, ends) refl

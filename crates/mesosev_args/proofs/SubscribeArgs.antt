@@ -1,4 +1,4 @@
--- The words of `subscribe`.
+-- The arguments of `subscribe`.
 use Rattle.std.proofs.Common.{◌≡◌, ◌++◌, ◌∙◌, ap, append_assoc, subst, sym, ℕ, List, [], ◌∷◌, Option, Some, None, false, refl, arith, inl, inr}
 use Rattle.std.specs.Prelude.{IsSomeAnd, codes, fold}
 use Rattle.clap.specs.Words.{Row, Rule, Text, first_of, one_of}
@@ -36,7 +36,7 @@ name_is = record { dashes = refl; long = refl; dashes_joined = λ v. refl; long_
 reads_is : IsOption rules (filled reads_rule) (codes "--reads") (codes "reads")
 reads_is = record { dashes = refl; long = refl; dashes_joined = λ v. refl; long_joined = λ v. refl; by_long = refl; by_id = refl; same = refl; takes = refl; one = refl }
 
--- ---- the rows behind each option
+-- ---- the rows after each option
 
 abbrev rows_to : Text → List Row
 rows_to a = used (filled to_rule) (a ∷ []) []
@@ -73,7 +73,7 @@ unfolding clap_on_literals
 good_end a u n None = refl
 good_end a u n (Some v) = refl
 
--- the words are taken, and have the values
+-- the arguments are accepted, and have the values
 pub record SaidSubscribe (words : List Text) (to user name : Text) (reads : ℕ) : Type 0 where
   pub rows : List Row
   pub takes : Takes words (codes "subscribe") rows

@@ -1,4 +1,4 @@
--- What clap's model makes of options in the usual spelling behind one another, wherever they stand.
+-- Consecutive options in their usual spelling in clap's model, at any position.
 use Rattle.std.proofs.Common.{◌≡◌, ◌++◌, ◌==◌, ◌∙◌, ap, ℕ, List, [], ◌∷◌, Option, Some, None, Bool, true, false, refl}
 use Rattle.std.specs.Prelude.{fold}
 use Rattle.std.specs.Str.{bytes_eq}
@@ -9,7 +9,7 @@ use Rattle.clap.specs.Kinds.{Kinds, or_else}
 use Rattle.clap.specs.Simple.{Shape}
 use Rattle.clap.specs.Walk.{Names, Walk, arg_by_id, arg_by_long, idle, most_values, nothing_held, rows_after, settled_rows, takes_values, used, walk_from, walked, with_default}
 
--- ---- words behind one another
+-- ---- concatenated arguments
 
 pub both_walk : (f : Walk → Text → Walk) (w : Walk) (a b : List Text) → fold f w (a ++ b) ≡ fold f (fold f w a) b
 both_walk f w [] b = refl
@@ -29,11 +29,11 @@ both_fault s names w (x ∷ a) b =
 
 -- ---- between options
 
--- the rows so far, and the option whose value was the last word
+-- the rows so far, and the option whose value was the last argument
 abbrev pub between : List Row → Option (Text × List Text) → Walk
 between rows pending = record { held = record { rows = rows; pending = pending; skip = 0 }; waiting = idle; position = 1; is_trailing = false; stopped = None }
 
--- The subcommand takes the words. Once the option that is pending is used, its rows are these.
+-- The subcommand accepts the arguments. Once the pending option is used, its rows are these.
 pub record Reaches (s : Shape) (words : List Text) (rows : List Row) : Type 0 where
   pub left : List Row
   pub pending : Option (Text × List Text)
@@ -46,7 +46,7 @@ pub reaches_start : (s : Shape) → Reaches s [] []
 unfolding walk_fault
 reaches_start s = record { left = []; pending = None; walk_is = refl; rows_are = refl; settles = refl; quiet = refl }
 
--- words that lead from one place between options to another, without a fault
+-- arguments that lead from one position between options to another, without an error
 reaches_on : (s : Shape) (words more : List Text) (rows next left : List Row) (pending : Option (Text × List Text)) → (r : Reaches s words rows)
     → fold (walked s.rules []) (between r.left r.pending) more ≡ between left pending
     → walk_fault s [] (between r.left r.pending) more ≡ []
@@ -66,7 +66,7 @@ reaches_on s words more rows next left pending r walk_is quiet rows_are settles 
 
 -- ---- one flag
 
--- the word is this flag of the subcommand
+-- the argument is this flag of the subcommand
 pub record IsFlag (c : List Rule) (a : Rule) (word name : Text) : Type 0 where
   pub dashes : bytes_eq word (45 ∷ 45 ∷ []) ≡ false
   pub long : long_of word ≡ Some (name, None)
@@ -84,7 +84,7 @@ reaches_flag s a word name is words rows r passes =
 
 -- ---- one option with a value
 
--- how words give an option a value: not at all, in one word, or in two
+-- how arguments give an option a value: not at all, in one argument, or in two
 pub data Given : Type 0 where
   absent : Given
   joined : (x : ℕ) (xs : Text) → Given
@@ -95,29 +95,29 @@ given_words option absent = []
 given_words option (joined x xs) = (option ++ 61 ∷ x ∷ xs) ∷ []
 given_words option (apart x xs) = option ∷ (x ∷ xs) ∷ []
 
--- the value that is given
+-- the given value
 abbrev pub given_value : Given → Option Text
 given_value absent = None
 given_value (joined x xs) = Some (x ∷ xs)
 given_value (apart x xs) = Some (x ∷ xs)
 
--- the rows behind a value of the option
+-- the rows after a value of the option
 abbrev pub used_value : Rule → Option Text → List Row → List Row
 used_value a None rows = rows
 used_value a (Some v) rows = used a (v ∷ []) rows
 
--- the value begins with no hyphen
+-- the value does not begin with a hyphen
 abbrev pub IsNoFlag : Option Text → Type 0
 IsNoFlag None = Unit {0}
 IsNoFlag (Some []) = ⊥
 IsNoFlag (Some (x ∷ xs)) = (x == 45) ≡ false
 
--- the option may be used with the value behind these rows
+-- the option may be used with the value after these rows
 abbrev pub IsUsable : Bool → Rule → Option Text → List Row → Type 0
 IsUsable again a None rows = Unit {0}
 IsUsable again a (Some v) rows = use_fault again a (v ∷ []) rows ≡ []
 
--- the word is this option of the subcommand, which takes one value
+-- the argument is this option of the subcommand, which takes one value
 pub record IsOption (c : List Rule) (a : Rule) (word name : Text) : Type 0 where
   pub dashes : bytes_eq word (45 ∷ 45 ∷ []) ≡ false
   pub long : long_of word ≡ Some (name, None)
@@ -147,13 +147,13 @@ reaches_option s a word name is words rows r (apart x xs) plain passes =
     (simp (is.by_id, r.rows_are) refl)
     (simp (is.by_id, r.rows_are, passes) refl)
 
--- ---- the end of the words
+-- ---- the end of the arguments
 
--- what is refused behind the words
+-- what is rejected after the arguments
 abbrev pub end_fault : Shape → List Row → Kinds
 end_fault s rows = or_else (defaults_fault rows s.rules) (check_fault s (fold with_default rows s.rules) false)
 
--- the rows of the subcommand, with the defaults of what was not used
+-- the rows of the subcommand, with the defaults of the options that were not used
 pub reaches_rows : (s : Shape) (words : List Text) (rows : List Row) → Reaches s words rows → rows_after s.rules [] words ≡ fold with_default rows s.rules
 reaches_rows s words rows r =
     ap (λ (w : Walk). fold with_default (settled_rows s.rules w.held.pending w.held.rows) s.rules) r.walk_is

@@ -1,4 +1,4 @@
--- The command line of `mesosev`, in the words of clap's model.
+-- The command line of `mesosev` in clap's model.
 use Rattle.std.specs.Prelude.{◌≡◌, ℕ, List, [], ◌∷◌, Some, pos, true, false, codes, fold}
 use Rattle.clap.specs.Words.{App, Rule, Text, app_of, new_app, new_rule, with_rule, with_subcommand}
 use Rattle.clap.specs.Simple.{on_top}
@@ -10,15 +10,15 @@ use Rattle.mesosev_args.specs.declared.args.TheConstants.{DEFAULT_LIMIT, DEFAULT
 use Rattle.mesosev_args.specs.declared.args.TheConstants.{MIN_CONNECTIONS, MAX_CONNECTIONS, MIN_PORT, MAX_PORT, MIN_SUBSCRIBE_READS, MAX_SUBSCRIBE_READS}
 use Rattle.mes_frame.specs.declared.limits.TheConstants.{MIN_CHUNK, MAX_CHUNK, MIN_RECORD_LIMIT, MAX_RECORD_LIMIT}
 
--- the command is this one, and has no argument that its subcommands share
+-- the command is this one, without an argument that its subcommands share
 abbrev pub IsCommand : App → Command → Type 0
 IsCommand app c = (app_of c ≡ app) × ((out-Command c).has_globals ≡ false)
 
--- `--chunked`: a flag
+-- the flag `--chunked`
 abbrev pub chunked_rule : Rule
 chunked_rule = record (new_rule (codes "chunked")) { long = Some (codes "chunked"); action = Some SetTrue }
 
--- `--NAME N`: a number from the least to the greatest
+-- the option `--NAME N`, for a number from the least to the greatest
 abbrev pub number_rule : Text → ℕ → ℕ → Rule
 number_rule name least most = record (new_rule name) {
   long = Some name;
@@ -26,19 +26,19 @@ number_rule name least most = record (new_rule name) {
   parser = Some (vp.Signed (pos least) (pos most));
 }
 
--- `--NAME TEXT`
+-- the option `--NAME TEXT`
 abbrev pub text_rule : Text → Rule
 text_rule name = record (new_rule name) { long = Some name; value_names = 1 }
 
--- an option that is to be given
+-- a required option
 abbrev pub wanted : Rule → Rule
 wanted rule = record rule { required = true }
 
--- an option that has this value where it is not given
+-- an option with a default value
 abbrev pub usually : Text → Rule → Rule
 usually text rule = record rule { defaults = text ∷ [] }
 
--- `--limit N`: a number in its range, and the default where it is not given
+-- `--limit N`: a number in its range, with a default
 abbrev pub limit_rule : Rule
 limit_rule = usually DEFAULT_LIMIT.now (number_rule (codes "limit") MIN_RECORD_LIMIT MAX_RECORD_LIMIT)
 
@@ -103,15 +103,15 @@ serve_app = with_rule (with_rule (with_rule (new_app (codes "serve")) port_rule)
 abbrev pub subscribe_app : App
 subscribe_app = with_rule (with_rule (with_rule (with_rule (new_app (codes "subscribe")) to_rule) user_rule) name_rule) reads_rule
 
--- `loopback [--most M]`, whose chunks have a usual size
+-- `loopback [--most M]`, with a default chunk size
 abbrev pub loopback_app : App
 loopback_app = with_rule (new_app (codes "loopback")) (usually DEFAULT_LOOPBACK_CHUNK.now most_rule)
 
--- `mesosev` before its subcommands, of which one is wanted; `--version`, which each subcommand has too
+-- `mesosev` without its subcommands, of which one is required; `--version` is passed on to each
 abbrev pub bare_app : App
 bare_app = on_top (λ s. record s { subcommand_required = true; has_version = true; propagate_version = true }) (new_app (codes "mesosev"))
 
--- the subcommands, in the order in which help tells them
+-- the subcommands, in the order of the help text
 abbrev pub subcommands : List App
 subcommands = check_app ∷ show_app ∷ convert_app ∷ replay_app ∷ relog_app ∷ serve_app ∷ subscribe_app ∷ loopback_app ∷ []
 

@@ -1,4 +1,4 @@
--- Which options the words name, and when they are refused.
+-- The options that the arguments name, and when arguments are rejected.
 use Rattle.std.specs.Prelude.{◌≡◌, ◌≢◌, ◌≤◌, ◌==◌, ◌⊎◌, ◌++◌, ℕ, Bool, true, false, List, [], ◌∷◌, Option, Some, None, Result, Ok, Err, IsSomeAnd, codes}
 use Rattle.std.specs.Str.{bytes_eq}
 use Rattle.std.specs.Str.Parse.{IsNumeral, digits_value, without_leading_plus}
@@ -19,17 +19,17 @@ use Rattle.mesosev_args.specs.declared.args.TheConstants.{DEFAULT_LIMIT, DEFAULT
 use Rattle.mesosev_args.specs.declared.args.TheConstants.{MIN_CONNECTIONS, MAX_CONNECTIONS, MIN_PORT, MAX_PORT, MIN_SUBSCRIBE_READS, MAX_SUBSCRIBE_READS}
 use Rattle.mes_frame.specs.declared.limits.TheConstants.{MIN_CHUNK, MAX_CHUNK, MIN_RECORD_LIMIT, MAX_RECORD_LIMIT}
 
--- the text is the number in decimal digits, after a `+` or without one
+-- the text is the number in decimal digits, with or without a leading `+`
 abbrev pub Writes : Text → ℕ → Type 0
 Writes text n = IsNumeral 10 (without_leading_plus text)
     × (digits_value 10 (without_leading_plus text) ≡ n)
 
--- the flag `--chunked` is set in the matches of a subcommand just where the framing is chunked
+-- the flag `--chunked` is set in a subcommand's matches exactly if the framing is chunked
 abbrev pub HasFraming : List Row → Framing → Type 0
 HasFraming rows Plain = one_of (codes "chunked") rows ≢ Some (codes "true")
 HasFraming rows Chunked = one_of (codes "chunked") rows ≡ Some (codes "true")
 
--- the option of this name has this number in the matches of a subcommand, given or by default
+-- the option of this name has this number in a subcommand's matches, given or by default
 abbrev pub HasNumber : Text → List Row → ℕ → Type 0
 HasNumber option rows n = IsSomeAnd (one_of option rows) (λ text. Writes text n)
 
@@ -41,7 +41,7 @@ HasText option rows text = first_of option rows ≡ Some text
 abbrev pub HasLimit : List Row → ℕ → Type 0
 HasLimit rows limit = HasNumber (codes "limit") rows limit
 
--- `--most` has this value in the matches of a subcommand, or none
+-- `--most` has this value in a subcommand's matches, or is not given
 abbrev pub HasMost : List Row → Option ℕ → Type 0
 HasMost rows None = one_of (codes "most") rows ≡ None
 HasMost rows (Some most) = HasNumber (codes "most") rows most
@@ -50,7 +50,7 @@ HasMost rows (Some most) = HasNumber (codes "most") rows most
 abbrev pub HasStream : List Row → List ℕ → Type 0
 HasStream rows stream = IsSomeAnd (first_of (codes "stream") rows) (λ text. parsed text ≡ Some stream)
 
--- the subcommand's name and its matches are those of the options
+-- the subcommand's name and its matches are those of these options
 abbrev pub IsReadAs : Text × List Row → Options → Type 0
 IsReadAs read (Check framing limit) = (read.0 ≡ codes "check") × HasFraming read.1 framing × HasLimit read.1 limit
 IsReadAs read (Show framing limit) = (read.0 ≡ codes "show") × HasFraming read.1 framing × HasLimit read.1 limit
@@ -65,20 +65,20 @@ IsReadAs read (Subscribe to user name reads) =
     × HasNumber (codes "reads") read.1 reads
 IsReadAs read (Loopback most) = (read.0 ≡ codes "loopback") × HasNumber (codes "most") read.1 most
 
--- the subcommand that the words name, and the values that they give it, are those of the options
+-- the arguments name the subcommand and the values of these options
 abbrev pub NameOptions : List Text → Options → Type 0
 NameOptions words o = IsSomeAnd (subcommand_of command_app words) (λ read. IsReadAs read o)
 
--- a limit lies in its range
+-- the limit is in its range
 abbrev pub IsLimit : ℕ → Type 0
 IsLimit limit = (MIN_RECORD_LIMIT ≤ limit) × (limit ≤ MAX_RECORD_LIMIT)
 
--- the size of a chunk, where it is given, lies in its range
+-- the chunk size, if given, is in its range
 abbrev pub IsMost : Option ℕ → Type 0
 IsMost None = Unit {0}
 IsMost (Some most) = (MIN_CHUNK ≤ most) × (most ≤ MAX_CHUNK)
 
--- the port, the number of connections, the number of reads lies in its range
+-- the port, the number of connections, the number of reads is in its range
 abbrev pub IsPort : ℕ → Type 0
 IsPort port = (MIN_PORT ≤ port) × (port ≤ MAX_PORT)
 
@@ -88,7 +88,7 @@ IsCount count = (MIN_CONNECTIONS ≤ count) × (count ≤ MAX_CONNECTIONS)
 abbrev pub IsReads : ℕ → Type 0
 IsReads reads = (MIN_SUBSCRIBE_READS ≤ reads) × (reads ≤ MAX_SUBSCRIBE_READS)
 
--- each value lies in its range
+-- each value is in its range
 abbrev pub IsInRange : Options → Type 0
 IsInRange (Check framing limit) = IsLimit limit
 IsInRange (Show framing limit) = IsLimit limit
@@ -99,7 +99,7 @@ IsInRange (Serve port count stream) = IsPort port × IsCount count
 IsInRange (Subscribe to user name reads) = IsHost to × IsReads reads
 IsInRange (Loopback most) = IsMost (Some most)
 
--- the words give a value that is no number of its range, or none
+-- the arguments name no options whose values are all in range
 abbrev pub NameNoOptions : List Text → Type 0
 NameNoOptions words = ¬ ((o : Options) × NameOptions words o × IsInRange o)
 
@@ -116,7 +116,7 @@ pub data Setting : Type 0 where
   the_reads : Setting
   the_size : Setting
 
--- the option that sets it
+-- the option's name
 abbrev pub option_of : Setting → Text
 option_of the_limit = codes "limit"
 option_of the_most = codes "most"
@@ -129,7 +129,7 @@ option_of the_name = codes "name"
 option_of the_reads = codes "reads"
 option_of the_size = codes "most"
 
--- the subcommands that have it
+-- the subcommands that have the option
 abbrev pub subcommands_with : Setting → List Text
 subcommands_with the_limit = codes "check" ∷ codes "show" ∷ codes "convert" ∷ codes "replay" ∷ codes "relog" ∷ []
 subcommands_with the_most = codes "convert" ∷ []
@@ -139,7 +139,7 @@ subcommands_with the_count = codes "serve" ∷ []
 subcommands_with the_stream = codes "serve" ∷ []
 subcommands_with _ = codes "subscribe" ∷ []
 
--- it has a value in its range in the matches of a subcommand
+-- the option has a value in its range in a subcommand's matches
 abbrev pub IsGood : Setting → List Row → Type 0
 IsGood the_limit rows = (limit : ℕ) × HasLimit rows limit × IsLimit limit
 IsGood the_most rows = (most : Option ℕ) × HasMost rows most × IsMost most
@@ -163,131 +163,133 @@ pub record LacksValue (read : Text × List Row) (option : Text) : Type 0 where
 abbrev pub subcommand_names : List Text
 subcommand_names = codes "check" ∷ codes "show" ∷ codes "convert" ∷ codes "replay" ∷ codes "relog" ∷ codes "serve" ∷ codes "subscribe" ∷ codes "loopback" ∷ []
 
--- no subcommand is known by this name, which is told as `COMMAND`
+-- no subcommand has this name, which is reported as `COMMAND`
 abbrev pub IsUnknown : Text → Text → Type 0
 IsUnknown name option = (list_any (bytes_eq name) subcommand_names ≡ false) × (option ≡ codes "COMMAND")
 
--- the words give the option of this name no value in its range, or they give no subcommand that is known
+-- the arguments give the option of this name no value in its range, or name no known subcommand
 abbrev pub LackValue : List Text → Text → Type 0
 LackValue words option =
     IsSomeAnd (subcommand_of command_app words) (λ read. LacksValue read option ⊎ IsUnknown read.0 option)
     ⊎ ((subcommand_of command_app words ≡ None) × (option ≡ codes "COMMAND"))
 
--- Clap refuses the words by an error of this kind, or takes them and they name no options in range. Want of memory says
--- nothing of the words.
+-- Clap rejects the arguments with an error of this kind, or accepts them and they name no options
+-- in range; `NoMemory` says nothing about them.
 abbrev pub RefusesArgs : List Text → WordsFault → Type 0
 RefusesArgs words (Clap error) = IsAmong (kind_of error) (fault_of command_app words)
 RefusesArgs words (BadValue option) = (fault_of command_app words ≡ []) × NameNoOptions words × LackValue words option.now
 RefusesArgs words NoMemory = Unit {0}
 
--- the fault names the option of this setting, which has no value in its range
+-- the error names the option of this setting, which has no value in its range
 abbrev pub IsBad : Setting → List Row → WordsFault → Type 0
 IsBad setting rows (Clap error) = ⊥
 IsBad setting rows (BadValue option) = (option.now ≡ option_of setting) × ¬ (IsGood setting rows)
 IsBad setting rows NoMemory = ⊥
 
--- the same, or there is no memory for its text
+-- as `IsBad`, or its text could not be allocated
 abbrev pub IsBadOrLacks : Setting → List Row → WordsFault → Type 0
 IsBadOrLacks setting rows fault = IsBad setting rows fault ⊎ (fault ≡ NoMemory)
 
--- the fault names this option, which has no number from the least to the greatest
+-- the error names this option, which has no number from the least to the greatest
 abbrev pub LacksNumber : Text → ℕ → ℕ → List Row → WordsFault → Type 0
 LacksNumber name least greatest rows (Clap error) = ⊥
 LacksNumber name least greatest rows (BadValue option) = (option.now ≡ name) × ¬ ((n : ℕ) × HasNumber name rows n × (least ≤ n) × (n ≤ greatest))
 LacksNumber name least greatest rows NoMemory = ⊥
 
--- the fault names this option, which has no text
+-- the error names this option, which has no text
 abbrev pub LacksText : Text → List Row → WordsFault → Type 0
 LacksText name rows (Clap error) = ⊥
 LacksText name rows (BadValue option) = (option.now ≡ name) × (first_of name rows ≡ None)
 LacksText name rows NoMemory = ⊥
 
--- what was read of a subcommand's name and its matches: options that they have, each in range; or a fault that names an option
--- without a value in its range, or the subcommand, and they have no options in range; the texts of `subscribe` take memory
+-- the result of reading a subcommand's matches: their options, each in range; or an error that
+-- names an option without a value in its range, or the subcommand, and no options in range fit;
+-- only `subscribe` allocates
 abbrev pub Reads : Text × List Row → Result Options WordsFault → Type 0
 Reads read (Ok o) = IsReadAs read o × IsInRange o
 Reads read (Err (Clap error)) = ⊥
 Reads read (Err (BadValue option)) = (LacksValue read option.now ⊎ IsUnknown read.0 option.now) × ¬ ((o : Options) × IsReadAs read o × IsInRange o)
 Reads read (Err NoMemory) = read.0 ≡ codes "subscribe"
 
--- the fault is clap's error, but for want of memory, which has a variant of its own
+-- the error is clap's; out of memory has a variant of its own
 abbrev pub IsFaultOf : Error → WordsFault → Type 0
 IsFaultOf error (Clap same) = (same ≡ error) × (kind_of error ≢ OutOfMemory)
 IsFaultOf error (BadValue option) = ⊥
 IsFaultOf error NoMemory = kind_of error ≡ OutOfMemory
 
--- the words that name a framing: `--chunked`, or none for plain records
+-- the arguments that give a framing: `--chunked`, or none for plain records
 abbrev pub SayFraming : List Text → Framing → Type 0
 SayFraming words Plain = words ≡ []
 SayFraming words Chunked = words ≡ codes "--chunked" ∷ []
 
--- the words that give an option this number: `--option N` or `--option=N`
+-- the arguments that give an option this number: `--option N` or `--option=N`
 abbrev pub SayNumber : Text → List Text → ℕ → Type 0
 SayNumber option words n =
     (text : Text) × Writes text n × ((words ≡ option ∷ text ∷ []) ⊎ (words ≡ (option ++ 61 ∷ text) ∷ []))
 
--- the words that give an option this number, or none for the usual one
+-- as `SayNumber`, or none for the default
 abbrev pub SayUsually : Text → Text → List Text → ℕ → Type 0
 SayUsually usual option words n = ((words ≡ []) × Writes usual n) ⊎ SayNumber option words n
 
--- the text has a first character, which is no hyphen
+-- the text has a first character, which is not a hyphen
 abbrev pub BeginsPlainly : Text → Type 0
 BeginsPlainly [] = ⊥
 BeginsPlainly (x ∷ xs) = (x == 45) ≡ false
 
--- the words that give an option this text, `--option TEXT` or `--option=TEXT`, where it is no option itself
+-- the arguments that give an option this text: `--option TEXT` or `--option=TEXT`
 abbrev pub SayText : Text → List Text → Text → Type 0
 SayText option words text = BeginsPlainly text × ((words ≡ option ∷ text ∷ []) ⊎ (words ≡ (option ++ 61 ∷ text) ∷ []))
 
--- the words that give the id of a stream: none for the usual one
+-- the arguments that give the id of a stream, or none for the default
 abbrev pub SayStream : List Text → List ℕ → Type 0
 SayStream words stream =
     ((words ≡ []) × (parsed DEFAULT_STREAM.now ≡ Some stream)) ⊎ ((text : Text) × SayText (codes "--stream") words text × (parsed text ≡ Some stream))
 
--- the words that give the limit: none for the default
+-- the arguments that give the limit, or none for the default
 abbrev pub SayLimit : List Text → ℕ → Type 0
 SayLimit words limit = SayUsually DEFAULT_LIMIT.now (codes "--limit") words limit
 
--- the words that give the size of a chunk: none for plain records
+-- the arguments that give the chunk size, or none for plain records
 abbrev pub SayMost : List Text → Option ℕ → Type 0
 SayMost words None = words ≡ []
 SayMost words (Some most) = SayNumber (codes "--most") words most
 
--- the words are the program's name, this subcommand, `--chunked` and `--limit`, in that order, each given at most once
+-- the arguments are the program's name, this subcommand, `--chunked`, `--limit`, in this order,
+-- each at most once
 abbrev pub SayReading : Text → List Text → Framing → ℕ → Type 0
 SayReading name words framing limit =
     (program : Text) × (flags : List Text) × (limits : List Text) × SayFraming flags framing × SayLimit limits limit
     × (words ≡ program ∷ name ∷ (flags ++ limits))
 
--- the same for `convert`, with `--most` behind them
+-- as `SayReading` for `convert`, followed by `--most`
 abbrev pub SayConvert : List Text → Framing → ℕ → Option ℕ → Type 0
 SayConvert words framing limit most =
     (program : Text) × (flags : List Text) × (limits : List Text) × (sizes : List Text) × SayFraming flags framing
     × SayLimit limits limit × SayMost sizes most × (words ≡ program ∷ codes "convert" ∷ (flags ++ (limits ++ sizes)))
 
--- the same for `replay` and `relog`, which have `--limit` alone
+-- as `SayReading` for `replay` and `relog`, which have `--limit` only
 abbrev pub SayLog : Text → List Text → ℕ → Type 0
 SayLog name words limit = (program : Text) × (limits : List Text) × SayLimit limits limit × (words ≡ program ∷ name ∷ limits)
 
--- the same for `serve`: `--port`, `--count`, `--stream`
+-- as `SayReading` for `serve`: `--port`, `--count`, `--stream`
 abbrev pub SayServe : List Text → ℕ → ℕ → List ℕ → Type 0
 SayServe words port count stream =
     (program : Text) × (ports : List Text) × (counts : List Text) × (streams : List Text) × SayNumber (codes "--port") ports port
     × SayNumber (codes "--count") counts count × SayStream streams stream × (words ≡ program ∷ codes "serve" ∷ (ports ++ (counts ++ streams)))
 
--- the same for `subscribe`: `--to`, `--user`, `--name`, `--reads`
+-- as `SayReading` for `subscribe`: `--to`, `--user`, `--name`, `--reads`
 abbrev pub SaySubscribe : List Text → Text → Text → Text → ℕ → Type 0
 SaySubscribe words to user name reads =
     (program : Text) × (tos : List Text) × (users : List Text) × (names : List Text) × (numbers : List Text) × SayText (codes "--to") tos to
     × SayText (codes "--user") users user × SayText (codes "--name") names name × SayUsually DEFAULT_SUBSCRIBE_READS.now (codes "--reads") numbers reads
     × (words ≡ program ∷ codes "subscribe" ∷ (tos ++ (users ++ (names ++ numbers))))
 
--- the same for `loopback`: `--most`
+-- as `SayReading` for `loopback`: `--most`
 abbrev pub SayLoopback : List Text → ℕ → Type 0
 SayLoopback words most =
     (program : Text) × (sizes : List Text) × SayUsually DEFAULT_LOOPBACK_CHUNK.now (codes "--most") sizes most × (words ≡ program ∷ codes "loopback" ∷ sizes)
 
--- the words are the program's name, the subcommand, and its options in their order, each given at most once
+-- the arguments are the program's name, the subcommand, and its options in order, each at most once
 abbrev pub SayPlainly : List Text → Options → Type 0
 SayPlainly words (Check framing limit) = SayReading (codes "check") words framing limit
 SayPlainly words (Show framing limit) = SayReading (codes "show") words framing limit

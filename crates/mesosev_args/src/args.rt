@@ -1,4 +1,4 @@
-//! What the words of the command name, and why words are refused.
+//! Parsed arguments, their defaults and ranges, and the error for invalid ones.
 ghost use Rattle.mesosev_args.specs.NamedOptions.{IsFaultOf};
 
 use clap::error::ErrorKind;
@@ -10,112 +10,114 @@ use mesosev_stream::ChunkSize;
 use thiserror::Error;
 use uuid::Uuid;
 
-/// The version that `--version` prints behind the name.
+/// The version that `--version` prints after the name.
 pub const VERSION: &str = "0.1.0";
 
-/// The record limit where the words give none, in bytes: `DEFAULT_RECORD_LIMIT`.
+/// The default of `--limit`, in bytes: `DEFAULT_RECORD_LIMIT`.
 pub const DEFAULT_LIMIT: &str = default_record_limit!(concat);
 
-/// The least port that `serve` listens on.
+/// The least port that `serve` accepts.
 pub const MIN_PORT: u32 = 1;
 
-/// The greatest port that `serve` listens on.
+/// The greatest port that `serve` accepts.
 pub const MAX_PORT: u32 = 65_535;
 
-/// The fewest connections that `serve` takes.
+/// The least number of connections that `serve` accepts for `--count`.
 pub const MIN_CONNECTIONS: u32 = 1;
 
-/// The most connections that `serve` takes.
+/// The greatest number of connections that `serve` accepts for `--count`.
 pub const MAX_CONNECTIONS: u32 = 1_000;
 
-/// The id of the first stream that `serve` opens, where the words give none.
+/// The default of `--stream`: the id of the first stream that `serve` opens.
 pub const DEFAULT_STREAM: &str = "00000000-0000-4000-8000-000000000001";
 
-/// The fewest reads that `subscribe` may be given.
+/// The least value of `--reads`.
 pub const MIN_SUBSCRIBE_READS: u32 = 0;
 
-/// The most reads that `subscribe` may be given: 2^32 - 1.
+/// The greatest value of `--reads`: 2^32 - 1.
 pub const MAX_SUBSCRIBE_READS: u32 = 4_294_967_295;
 
-/// The reads of `subscribe` where the words give none.
+/// The default of `--reads`.
 pub const DEFAULT_SUBSCRIBE_READS: &str = "1000000";
 
-/// The bytes of a chunk of `loopback` where the words give none.
+/// The default of `--most` in `loopback`, in bytes.
 pub const DEFAULT_LOOPBACK_CHUNK: &str = "4096";
 
-/// A subcommand with its values.
+/// A subcommand with its option values.
 #[derive(Drop)]
 pub enum Options {
-    /// `check [--chunked] [--limit N]`: each record is to be an event.
+    /// `check [--chunked] [--limit N]`: checks that each record is an event.
     Check {
-        /// How the records come.
+        /// The framing of the input.
         framing: Framing,
-        /// The most bytes of a record.
+        /// The largest record, in bytes.
         limit: Limit,
     },
-    /// `show [--chunked] [--limit N]`: the events are printed as they come.
+    /// `show [--chunked] [--limit N]`: prints each event as soon as it is decoded.
     Show {
-        /// How the records come.
+        /// The framing of the input.
         framing: Framing,
-        /// The most bytes of a record.
+        /// The largest record, in bytes.
         limit: Limit,
     },
-    /// `convert [--chunked] [--limit N] [--most M]`: the events are written again, as plain RecordIO or in chunks.
+    /// `convert [--chunked] [--limit N] [--most M]`: re-encodes the events, as plain RecordIO or as
+    /// a chunked body.
     Convert {
-        /// How the records come.
+        /// The framing of the input.
         framing: Framing,
-        /// The most bytes of a record that is read or written.
+        /// The largest record that is read or written, in bytes.
         limit: Limit,
-        /// The bytes of each chunk, where a chunked body is written.
+        /// The size of each chunk in bytes; `None` for plain RecordIO.
         most: Option<ChunkSize>,
     },
-    /// `replay [--limit N]`: a session log is read, and what it comes to is told.
+    /// `replay [--limit N]`: replays a session log, and prints the outcome.
     Replay {
-        /// The most bytes of a record.
+        /// The largest record, in bytes.
         limit: Limit,
     },
-    /// `relog [--limit N]`: a session log is read, and written again in the newest version.
+    /// `relog [--limit N]`: rewrites a session log in the newest version.
     Relog {
-        /// The most bytes of a record that is read or written.
+        /// The largest record that is read or written, in bytes.
         limit: Limit,
     },
-    /// `serve --port P --count C [--stream UUID]`: a test master for so many connections.
+    /// `serve --port P --count C [--stream UUID]`: runs a test master for `count` connections.
     Serve {
-        /// The port that it listens on.
+        /// The TCP port on which it listens.
         port: u16,
-        /// How many connections it takes.
+        /// The number of connections that it accepts.
         count: u16,
         /// The id of its first stream.
         stream: Uuid,
     },
-    /// `subscribe --to ADDR --user U --name N [--reads R]`: a master is asked for its events, which are printed as they come.
+    /// `subscribe --to ADDR --user U --name N [--reads R]`: subscribes to a master, and prints its
+    /// events.
     Subscribe {
-        /// Where the master listens.
+        /// The address of the master.
         to: Host,
         /// The user of the framework.
         user: Text,
         /// The name of the framework.
         name: Text,
-        /// The most reads of its answer's body.
+        /// The maximum number of reads of the response body.
         reads: u32,
     },
-    /// `loopback [--most M]`: both ends over a socket, in one process.
+    /// `loopback [--most M]`: runs a test master and a scheduler over a socket, in one process.
     Loopback {
-        /// The bytes of each chunk.
+        /// The size of each chunk, in bytes.
         most: ChunkSize,
     },
 }
 
-/// Why words name no options.
+/// The reason for which arguments are rejected.
 #[derive(Debug, Drop, Error)]
 pub enum WordsFault {
-    /// Words that the command does not take, or a request for help. The text is for the user.
+    /// A usage error, or a request for help. The text is for the user.
     #[error("{0}")]
     Clap(clap::Error),
-    /// The option of this name has no value in its range.
+    /// The value of the option of this name is out of its range.
     #[error("bad value --{0}")]
     BadValue(&'static str),
-    /// Memory ran out.
+    /// An allocation failed.
     #[error("out of memory")]
     NoMemory,
 }

@@ -1,4 +1,4 @@
-//! The subcommand `check`: each record is to be an event.
+//! Subcommand `check`: checks that each record is an event.
 ghost use Rattle.std.specs.Prelude.{IfOk, codes};
 ghost use Rattle.clap.specs.Words.{found_of, rows_of};
 ghost use Rattle.mesosev_args.specs.CommandLine.{IsCommand, check_app};
@@ -10,7 +10,7 @@ use crate::values::{framing_of, limit_of};
 use clap::{ArgMatches, Command};
 use std::alloc::{AllocError, Global};
 
-/// `check [--chunked] [--limit N]`
+/// Returns `check [--chunked] [--limit N]` as clap's command.
 pub fn command<'a>(alloc: Global) -> Result<Command<'a>, AllocError>
     ensures { IfOk result (IsCommand check_app) }
 {
@@ -22,9 +22,9 @@ pub fn command<'a>(alloc: Global) -> Result<Command<'a>, AllocError>
     )
 }
 
-/// The values that its words give.
+/// Reads the option values from clap's matches.
 ///
-/// Errors: `BadValue` where one is out of its range.
+/// Errors: `BadValue` if a value is out of its range.
 pub fn read(found: &ArgMatches<'_>) -> Result<Options, WordsFault>
     ensures { Reads (codes "check", rows_of (found_of found.now)) result }
 {

@@ -1,4 +1,4 @@
-//! The command line of `mesosev`, as `clap` is given it.
+//! Command line of `mesosev`, as clap's command.
 ghost use Rattle.std.specs.Prelude.{◌≡◌, false, true, map, IfOk, MatchResult, IfErr, []};
 ghost use Rattle.clap.specs.Words.{App, HasKind, app_of, fault_of, rule_of, subcommand_of};
 ghost use Rattle.clap.specs.Words.{subcommand_rows_of, with_subcommand};
@@ -14,23 +14,22 @@ use mes_frame::{
 use std::alloc::{AllocError, Global};
 use std::convert::AsStr;
 
-/// The matches of the words, of which the first is the program's name.
+/// Matches the arguments against the command; the first one is the program's name.
 ///
-/// Errors: clap's, for words that the command does not take, for a request for help, and where
-/// memory runs out.
+/// Errors: clap's, for a usage error, for a request for help, and if an allocation fails.
 pub fn matches_of<'a, S: AsStr>(alloc: Global, words: &'a [S]) -> Result<ArgMatches<'a>, Error>
-    // Ok: clap takes the words, and has the subcommand that they name.
+    // On success: clap accepts the arguments, and the matches are of the subcommand that they name.
     ensures ok { IfOk result (λ _. fault_of command_app (map S.text words.entry.now) ≡ []) }
     ensures named { IfOk result (λ m.
         subcommand_rows_of m ≡ subcommand_of command_app (map S.text words.entry.now)) }
-    // Err: the kind is one of the words' faults, or memory ran out.
+    // On error: the kind is that of a usage error in the arguments, or memory ran out.
     ensures err { IfErr result (HasKind (fault_of command_app (map S.text words.entry.now))) }
 {
     let command = command(alloc)?;
     command.try_get_matches_from(words)
 }
 
-// The whole command. `specs/CommandLine.antt` has the same in clap's model.
+// `command_app` in `specs/CommandLine.antt` is the same command in clap's model.
 fn command<'a>(alloc: Global) -> Result<Command<'a>, AllocError>
     ensures { IfOk result (λ c. app_of c ≡ command_app) }
 {
@@ -45,7 +44,7 @@ fn command<'a>(alloc: Global) -> Result<Command<'a>, AllocError>
     with(command, loopback::command(alloc))
 }
 
-// The command with this subcommand behind its others.
+// Adds the subcommand after the others.
 fn with<'a>(
     command: Command<'a>,
     subcommand: Result<Command<'a>, AllocError>,
@@ -56,7 +55,7 @@ fn with<'a>(
     command.subcommand(subcommand?)
 }
 
-// `mesosev` before its subcommands, of which one is wanted; `--version`, which each subcommand has too
+// The command without its subcommands; one is required, and each has `--version` too.
 fn bare_command<'a>(alloc: Global) -> Command<'a>
     ensures { app_of result ≡ bare_app }
 {
@@ -71,7 +70,8 @@ fn bare_command<'a>(alloc: Global) -> Command<'a>
         .subcommand_required(true)
 }
 
-/// `NAME [--chunked] [--limit N]`: a subcommand that reads a stream. `example` ends its help text.
+/// Returns a subcommand that reads a stream: `NAME [--chunked] [--limit N]`. Its help text ends with
+/// `example`.
 pub fn reading_command<'a>(
     alloc: Global,
     name: &'a str,
@@ -87,7 +87,6 @@ pub fn reading_command<'a>(
         .arg(limit_option(alloc))
 }
 
-// `--chunked`
 fn chunked_option<'a>(alloc: Global) -> Arg<'a>
     ensures rule { rule_of result ≡ chunked_rule }
     ensures local { result.global ≡ false }
@@ -98,7 +97,7 @@ fn chunked_option<'a>(alloc: Global) -> Arg<'a>
         .help("Input is a chunked HTTP/1.1 body, not plain RecordIO")
 }
 
-/// `--limit N`, whose range clap tests too.
+/// Returns the option `--limit N`. Clap checks its range too, so that its error text says so.
 pub fn limit_option<'a>(alloc: Global) -> Arg<'a>
     ensures rule { rule_of result ≡ limit_rule }
     ensures local { result.global ≡ false }
@@ -115,7 +114,7 @@ pub fn limit_option<'a>(alloc: Global) -> Arg<'a>
     .default_value(DEFAULT_LIMIT)
 }
 
-/// `--most M`, whose range clap tests too.
+/// Returns the option `--most M`. Clap checks its range too.
 pub fn most_option<'a>(alloc: Global, help: &'a str) -> Arg<'a>
     ensures rule { rule_of result ≡ most_rule }
     ensures local { result.global ≡ false }
@@ -123,7 +122,8 @@ pub fn most_option<'a>(alloc: Global, help: &'a str) -> Arg<'a>
     number_option(alloc, "most", "M", MIN_CHUNK, MAX_CHUNK, help)
 }
 
-/// `--NAME N`, a number from the least to the greatest, whose range clap tests too, for the text that it gives.
+/// Returns the option `--NAME N` for a number from `least` to `greatest`. Clap checks the range
+/// too.
 pub fn number_option<'a>(
     alloc: Global,
     name: &'a str,
@@ -143,7 +143,7 @@ pub fn number_option<'a>(
         .help(help)
 }
 
-/// `--NAME TEXT`
+/// Returns the option `--NAME TEXT`.
 pub fn text_option<'a>(alloc: Global, name: &'a str, value_name: &'a str, help: &'a str) -> Arg<'a>
     ensures rule { rule_of result ≡ text_rule name.entry.now }
     ensures local { result.global ≡ false }

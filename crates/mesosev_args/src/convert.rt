@@ -1,4 +1,4 @@
-//! The subcommand `convert`: the events are written again.
+//! Subcommand `convert`: re-encodes the events.
 ghost use Rattle.std.specs.Prelude.{IfOk, codes};
 ghost use Rattle.clap.specs.Words.{found_of, rows_of};
 ghost use Rattle.mesosev_args.specs.CommandLine.{IsCommand, convert_app};
@@ -11,7 +11,7 @@ use clap::{ArgMatches, Command};
 use mes_frame::max_chunk;
 use std::alloc::{AllocError, Global};
 
-/// `convert [--chunked] [--limit N] [--most M]`
+/// Returns `convert [--chunked] [--limit N] [--most M]` as clap's command.
 pub fn command<'a>(alloc: Global) -> Result<Command<'a>, AllocError>
     ensures { IfOk result (IsCommand convert_app) }
 {
@@ -27,9 +27,9 @@ pub fn command<'a>(alloc: Global) -> Result<Command<'a>, AllocError>
     ))
 }
 
-/// The values that its words give.
+/// Reads the option values from clap's matches.
 ///
-/// Errors: `BadValue` where one is out of its range.
+/// Errors: `BadValue` if a value is out of its range.
 pub fn read(found: &ArgMatches<'_>) -> Result<Options, WordsFault>
     ensures { Reads (codes "convert", rows_of (found_of found.now)) result }
 {

@@ -1,5 +1,16 @@
 #![tactic(auto)]
-//! The words of the command `mesosev`: what they may be, and the subcommand and the values that they name, or why they name none.
+//! Command line of `mesosev`: parses the arguments into a subcommand with its option values.
+//!
+//! [`options`] returns [`Options`] with each value in its range, or a [`WordsFault`]: clap's error
+//! (usage error or request for help), the option whose value is bad, or out of memory.
+//!
+//! ```ignore
+//! let args = ["mesosev", "check", "--chunked"];
+//! let options = options(alloc, &args)?; // Options::Check { framing: Chunked, limit: 4 MiB }
+//! ```
+//!
+//! `specs/CommandLine.antt` defines the command in clap's model, `specs/NamedOptions.antt` what the
+//! arguments mean. Its mutants are in `wrong-bodies/`.
 
 mod args;
 mod check;

@@ -1,4 +1,4 @@
-//! The subcommand `loopback`: a test master and a scheduler over a socket.
+//! Subcommand `loopback`: runs a test master and a scheduler over a socket.
 ghost use Rattle.std.specs.Prelude.{◌≡◌, false, IfOk, IfErr, Some, codes};
 ghost use Rattle.clap.specs.Words.{found_of, rows_of, rule_of};
 ghost use Rattle.mesosev_args.specs.CommandLine.{IsCommand, loopback_app, most_rule, usually};
@@ -13,7 +13,7 @@ use mes_frame::{MAX_CHUNK, MIN_CHUNK, max_chunk};
 use mesosev_stream::ChunkSize;
 use std::alloc::{AllocError, Global};
 
-/// `loopback [--most M]`
+/// Returns `loopback [--most M]` as clap's command.
 pub fn command<'a>(alloc: Global) -> Result<Command<'a>, AllocError>
     ensures { IfOk result (IsCommand loopback_app) }
 {
@@ -25,7 +25,7 @@ pub fn command<'a>(alloc: Global) -> Result<Command<'a>, AllocError>
         .arg(usual_most_option(alloc))
 }
 
-// `--most M`, with its usual value
+// Unlike in `convert`, `--most` has a default here.
 fn usual_most_option<'a>(alloc: Global) -> Arg<'a>
     ensures rule { rule_of result ≡ usually DEFAULT_LOOPBACK_CHUNK.now most_rule }
     ensures local { result.global ≡ false }
@@ -35,9 +35,9 @@ fn usual_most_option<'a>(alloc: Global) -> Arg<'a>
     )
 }
 
-/// The values that its words give.
+/// Reads the option values from clap's matches.
 ///
-/// Errors: `BadValue` where one is out of its range.
+/// Errors: `BadValue` if a value is out of its range.
 pub fn read(found: &ArgMatches<'_>) -> Result<Options, WordsFault>
     ensures { Reads (codes "loopback", rows_of (found_of found.now)) result }
 {
@@ -45,7 +45,6 @@ pub fn read(found: &ArgMatches<'_>) -> Result<Options, WordsFault>
     Ok(Options::Loopback { most })
 }
 
-// The value of `--most`.
 fn size_of(found: &ArgMatches<'_>) -> Result<ChunkSize, WordsFault>
     ensures ok { IfOk result (HasNumber (codes "most") (rows_of (found_of found.now))) }
     ensures ranged { IfOk result (λ most. IsMost (Some most)) }

@@ -1,4 +1,4 @@
-//! Reads the words of the command.
+//! Parsing of the arguments.
 ghost use Rattle.std.specs.Prelude.{◌≡◌, [], map};
 ghost use Rattle.std.specs.Prelude.{IfOk, IfErr, MatchResult};
 ghost use Rattle.clap.specs.Words.{fault_of, found_of, rows_of};
@@ -14,19 +14,21 @@ use clap::ArgMatches;
 use std::alloc::Global;
 use std::convert::AsStr;
 
-/// The options that the words name. The first word is the program's name.
+/// Parses the arguments; the first one is the program's name.
 ///
-/// Errors: `Clap` for a mistake in the words and for a request for help, `BadValue` where a value is
-/// out of its range, `NoMemory`.
+/// Errors: `Clap` for a usage error or a request for help, `BadValue` if a value is out of its
+/// range, `NoMemory`.
 pub fn options<S: AsStr>(alloc: Global, words: &[S]) -> Result<Options, WordsFault>
-    // Ok: clap takes the words, and they name this subcommand with these values, each in range.
+    // On success: clap accepts the arguments. They name this subcommand with these values, each in
+    // its range.
     ensures ok { IfOk result (λ _. fault_of command_app (map S.text words.now) ≡ []) }
     ensures named { IfOk result (NameOptions (map S.text words.now)) }
     ensures ranged { IfOk result IsInRange }
-    // Err: clap refuses the words by an error of this kind, or they name no options in range, or
-    // memory ran out.
+    // On error: clap rejects the arguments with an error of this kind, or they name no options in
+    // range, or memory ran out.
     ensures err { IfErr result (RefusesArgs (map S.text words.now)) }
-    // Words that say options in range plainly are answered by them, unless memory runs out.
+    // Arguments in their plain form with values in range give exactly these options, unless memory
+    // runs out.
     ensures plain { (said : Options) → SayPlainly (map S.text words.now) said → IsInRange said
         → MatchResult result (λ o. o ≡ said) (λ fault. fault ≡ WordsFault.NoMemory) }
 {
@@ -37,7 +39,7 @@ pub fn options<S: AsStr>(alloc: Global, words: &[S]) -> Result<Options, WordsFau
     }
 }
 
-/// The options that the subcommand of this name has in what clap found for it.
+/// Reads the options of the subcommand `name` from clap's matches.
 fn read(alloc: Global, name: &str, found: &ArgMatches<'_>) -> Result<Options, WordsFault>
     ensures { Reads (name.now, rows_of (found_of found.now)) result }
 {

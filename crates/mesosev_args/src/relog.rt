@@ -1,4 +1,4 @@
-//! The subcommand `relog`: a session log is written again.
+//! Subcommand `relog`: rewrites a session log.
 ghost use Rattle.std.specs.Prelude.{IfOk, codes};
 ghost use Rattle.clap.specs.Words.{found_of, rows_of};
 ghost use Rattle.mesosev_args.specs.CommandLine.{IsCommand, relog_app};
@@ -10,7 +10,7 @@ use crate::values::limit_of;
 use clap::{ArgMatches, Command};
 use std::alloc::{AllocError, Global};
 
-/// `relog [--limit N]`
+/// Returns `relog [--limit N]` as clap's command.
 pub fn command<'a>(alloc: Global) -> Result<Command<'a>, AllocError>
     ensures { IfOk result (IsCommand relog_app) }
 {
@@ -20,9 +20,9 @@ pub fn command<'a>(alloc: Global) -> Result<Command<'a>, AllocError>
         .arg(limit_option(alloc))
 }
 
-/// The values that its words give.
+/// Reads the option values from clap's matches.
 ///
-/// Errors: `BadValue` where one is out of its range.
+/// Errors: `BadValue` if a value is out of its range.
 pub fn read(found: &ArgMatches<'_>) -> Result<Options, WordsFault>
     ensures { Reads (codes "relog", rows_of (found_of found.now)) result }
 {

@@ -1,4 +1,4 @@
-//! The subcommand `serve`: a test master.
+//! Subcommand `serve`: runs a test master.
 ghost use Rattle.std.specs.Prelude.{◌≡◌, false, IfOk, IfErr, codes};
 ghost use Rattle.clap.specs.Words.{found_of, rows_of, rule_of};
 ghost use Rattle.mesosev_args.specs.CommandLine.{IsCommand, count_rule, port_rule, serve_app, stream_rule};
@@ -14,7 +14,7 @@ use clap::{Arg, ArgMatches, Command};
 use std::alloc::{AllocError, Global};
 use uuid::Uuid;
 
-/// `serve --port P --count C [--stream UUID]`
+/// Returns `serve --port P --count C [--stream UUID]` as clap's command.
 pub fn command<'a>(alloc: Global) -> Result<Command<'a>, AllocError>
     ensures { IfOk result (IsCommand serve_app) }
 {
@@ -31,7 +31,6 @@ pub fn command<'a>(alloc: Global) -> Result<Command<'a>, AllocError>
         .arg(stream_option(alloc))
 }
 
-// `--port P`
 fn port_option<'a>(alloc: Global) -> Arg<'a>
     ensures rule { rule_of result ≡ port_rule }
     ensures local { result.global ≡ false }
@@ -47,7 +46,6 @@ fn port_option<'a>(alloc: Global) -> Arg<'a>
     .required(true)
 }
 
-// `--count C`
 fn count_option<'a>(alloc: Global) -> Arg<'a>
     ensures rule { rule_of result ≡ count_rule }
     ensures local { result.global ≡ false }
@@ -63,7 +61,6 @@ fn count_option<'a>(alloc: Global) -> Arg<'a>
     .required(true)
 }
 
-// `--stream UUID`
 fn stream_option<'a>(alloc: Global) -> Arg<'a>
     ensures rule { rule_of result ≡ stream_rule }
     ensures local { result.global ≡ false }
@@ -77,9 +74,9 @@ fn stream_option<'a>(alloc: Global) -> Arg<'a>
     .default_value(DEFAULT_STREAM)
 }
 
-/// The values that its words give.
+/// Reads the option values from clap's matches.
 ///
-/// Errors: `BadValue` where one is out of its range, or no UUID.
+/// Errors: `BadValue` if a value is out of its range, or is not a UUID.
 pub fn read(found: &ArgMatches<'_>) -> Result<Options, WordsFault>
     ensures { Reads (codes "serve", rows_of (found_of found.now)) result }
 {
@@ -93,7 +90,6 @@ pub fn read(found: &ArgMatches<'_>) -> Result<Options, WordsFault>
     })
 }
 
-// The value of `--port`.
 fn port_of(found: &ArgMatches<'_>) -> Result<u16, WordsFault>
     ensures ok { IfOk result (HasNumber (codes "port") (rows_of (found_of found.now))) }
     ensures ranged { IfOk result IsPort }
@@ -103,7 +99,6 @@ fn port_of(found: &ArgMatches<'_>) -> Result<u16, WordsFault>
     Ok(port as u16)
 }
 
-// The value of `--count`.
 fn count_of(found: &ArgMatches<'_>) -> Result<u16, WordsFault>
     ensures ok { IfOk result (HasNumber (codes "count") (rows_of (found_of found.now))) }
     ensures ranged { IfOk result IsCount }
@@ -113,7 +108,7 @@ fn count_of(found: &ArgMatches<'_>) -> Result<u16, WordsFault>
     Ok(count as u16)
 }
 
-// The value of `--stream`, in any form that a UUID is written in.
+// Accepts each text form that `Uuid::parse_str` accepts.
 fn stream_of(found: &ArgMatches<'_>) -> Result<Uuid, WordsFault>
     ensures ok { IfOk result (HasStream (rows_of (found_of found.now))) }
     ensures err { IfErr result (IsBad the_stream (rows_of (found_of found.now))) }

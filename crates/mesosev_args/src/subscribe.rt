@@ -1,4 +1,4 @@
-//! The subcommand `subscribe`: the events of a master.
+//! Subcommand `subscribe`: prints the events of a master.
 ghost use Rattle.std.specs.Prelude.{◌≡◌, false, IfOk, IfErr, codes};
 ghost use Rattle.clap.specs.Words.{found_of, rows_of, rule_of};
 ghost use Rattle.mes_double_http.specs.Hosts.{IsHost};
@@ -16,7 +16,7 @@ use mes_double_http::Host;
 use mes_json::Text;
 use std::alloc::{AllocError, Global};
 
-/// `subscribe --to ADDR --user U --name N [--reads R]`
+/// Returns `subscribe --to ADDR --user U --name N [--reads R]` as clap's command.
 pub fn command<'a>(alloc: Global) -> Result<Command<'a>, AllocError>
     ensures { IfOk result (IsCommand subscribe_app) }
 {
@@ -29,7 +29,6 @@ pub fn command<'a>(alloc: Global) -> Result<Command<'a>, AllocError>
         .arg(reads_option(alloc))
 }
 
-// `--to ADDR`
 fn to_option<'a>(alloc: Global) -> Arg<'a>
     ensures rule { rule_of result ≡ to_rule }
     ensures local { result.global ≡ false }
@@ -37,7 +36,6 @@ fn to_option<'a>(alloc: Global) -> Arg<'a>
     text_option(alloc, "to", "ADDR", "Address of the master, HOST:PORT").required(true)
 }
 
-// `--user U`
 fn user_option<'a>(alloc: Global) -> Arg<'a>
     ensures rule { rule_of result ≡ user_rule }
     ensures local { result.global ≡ false }
@@ -45,7 +43,6 @@ fn user_option<'a>(alloc: Global) -> Arg<'a>
     text_option(alloc, "user", "U", "User of the framework").required(true)
 }
 
-// `--name N`
 fn name_option<'a>(alloc: Global) -> Arg<'a>
     ensures rule { rule_of result ≡ name_rule }
     ensures local { result.global ≡ false }
@@ -53,7 +50,6 @@ fn name_option<'a>(alloc: Global) -> Arg<'a>
     text_option(alloc, "name", "N", "Name of the framework").required(true)
 }
 
-// `--reads R`
 fn reads_option<'a>(alloc: Global) -> Arg<'a>
     ensures rule { rule_of result ≡ reads_rule }
     ensures local { result.global ≡ false }
@@ -69,9 +65,9 @@ fn reads_option<'a>(alloc: Global) -> Arg<'a>
     .default_value(DEFAULT_SUBSCRIBE_READS)
 }
 
-/// The values that its words give.
+/// Reads the option values from clap's matches.
 ///
-/// Errors: `BadValue` where one is out of its range; `NoMemory`.
+/// Errors: `BadValue` if a value is out of its range; `NoMemory`.
 pub fn read(alloc: Global, found: &ArgMatches<'_>) -> Result<Options, WordsFault>
     ensures { Reads (codes "subscribe", rows_of (found_of found.now)) result }
 {
@@ -87,7 +83,6 @@ pub fn read(alloc: Global, found: &ArgMatches<'_>) -> Result<Options, WordsFault
     })
 }
 
-// The value of `--to`.
 fn to_of(found: &ArgMatches<'_>) -> Result<Host, WordsFault>
     ensures ok { IfOk result (HasText (codes "to") (rows_of (found_of found.now))) }
     ensures ranged { IfOk result IsHost }
@@ -100,7 +95,6 @@ fn to_of(found: &ArgMatches<'_>) -> Result<Host, WordsFault>
     }
 }
 
-// The value of `--user`.
 fn user_of(alloc: Global, found: &ArgMatches<'_>) -> Result<Text, WordsFault>
     ensures ok { IfOk result (HasText (codes "user") (rows_of (found_of found.now))) }
     ensures err { IfErr result (IsBadOrLacks the_user (rows_of (found_of found.now))) }
@@ -112,7 +106,6 @@ fn user_of(alloc: Global, found: &ArgMatches<'_>) -> Result<Text, WordsFault>
     }
 }
 
-// The value of `--name`.
 fn name_of(alloc: Global, found: &ArgMatches<'_>) -> Result<Text, WordsFault>
     ensures ok { IfOk result (HasText (codes "name") (rows_of (found_of found.now))) }
     ensures err { IfErr result (IsBadOrLacks the_name (rows_of (found_of found.now))) }
@@ -124,7 +117,6 @@ fn name_of(alloc: Global, found: &ArgMatches<'_>) -> Result<Text, WordsFault>
     }
 }
 
-// The value of `--reads`.
 fn reads_of(found: &ArgMatches<'_>) -> Result<u32, WordsFault>
     ensures ok { IfOk result (HasNumber (codes "reads") (rows_of (found_of found.now))) }
     ensures ranged { IfOk result IsReads }

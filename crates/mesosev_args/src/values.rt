@@ -1,4 +1,4 @@
-//! The values of the options, read of what clap found for a subcommand.
+//! Option values read from clap's matches of a subcommand.
 ghost use Rattle.std.specs.Prelude.{◌≤◌, IfOk, IfErr};
 ghost use Rattle.clap.specs.Words.{found_of, rows_of};
 ghost use Rattle.mesosev_args.specs.NamedOptions.{HasFraming, HasLimit, HasMost, HasNumber, HasText, IsBad};
@@ -10,7 +10,7 @@ use mes_frame::{Limit, MAX_RECORD_LIMIT, MIN_RECORD_LIMIT};
 use mes_stream::Framing;
 use mesosev_stream::ChunkSize;
 
-/// The framing: chunked where the flag `--chunked` is set.
+/// Returns the framing: `Chunked` if the flag `--chunked` is set, else `Plain`.
 pub fn framing_of(matches: &ArgMatches<'_>) -> Framing
     ensures { HasFraming (rows_of (found_of matches.now)) result }
 {
@@ -20,9 +20,9 @@ pub fn framing_of(matches: &ArgMatches<'_>) -> Framing
     }
 }
 
-/// The number that the option of this name has, from the least to the greatest.
+/// Returns the value of the option `name`, from `least` to `greatest`.
 ///
-/// Errors: `BadValue` where there is none.
+/// Errors: `BadValue` if there is no such value.
 pub fn number_in(
     matches: &ArgMatches<'_>,
     name: &'static str,
@@ -40,9 +40,9 @@ pub fn number_in(
     }
 }
 
-/// The text that the option of this name has.
+/// Returns the text of the option `name`.
 ///
-/// Errors: `BadValue` where there is none.
+/// Errors: `BadValue` if the option has none.
 pub fn text_of<'a>(matches: &ArgMatches<'a>, name: &'static str) -> Result<&'a str, WordsFault>
     ensures ok { IfOk result (λ text. HasText name.now (rows_of (found_of matches.now)) text.now) }
     ensures err { IfErr result (LacksText name.now (rows_of (found_of matches.now))) }
@@ -53,9 +53,9 @@ pub fn text_of<'a>(matches: &ArgMatches<'a>, name: &'static str) -> Result<&'a s
     }
 }
 
-/// The value of `--limit`.
+/// Returns the value of `--limit`.
 ///
-/// Errors: `BadValue` where there is none in its range.
+/// Errors: `BadValue` if no value is in its range.
 pub fn limit_of(matches: &ArgMatches<'_>) -> Result<Limit, WordsFault>
     ensures ok { IfOk result (HasLimit (rows_of (found_of matches.now))) }
     ensures ranged { IfOk result IsLimit }
@@ -68,9 +68,9 @@ pub fn limit_of(matches: &ArgMatches<'_>) -> Result<Limit, WordsFault>
     }
 }
 
-/// The value of `--most`, where it is given.
+/// Returns the value of `--most`, if the option is given.
 ///
-/// Errors: `BadValue` where it does not lie in its range.
+/// Errors: `BadValue` if the value is out of its range.
 pub fn most_of(matches: &ArgMatches<'_>) -> Result<Option<ChunkSize>, WordsFault>
     ensures ok { IfOk result (HasMost (rows_of (found_of matches.now))) }
     ensures ranged { IfOk result IsMost }

@@ -5,7 +5,7 @@ use Rattle.clap.specs.declared.builder.command.Command.{Command}
 use Rattle.mesosev_args.specs.CommandLine.{check_app, convert_app, loopback_app, relog_app, replay_app, serve_app, show_app, subscribe_app}
 use Rattle.mesosev_args.proofs.command.command.Goals as goal
 
--- a command with one subcommand more than the one before it
+-- a command with one more subcommand
 next : (a b c : App) (s : Shape) → a ≡ with_subcommand b s → b ≡ c → a ≡ with_subcommand c s
 next a b c s is before = is ∙ ap (λ (x : App). with_subcommand x s) before
 
