@@ -97,7 +97,7 @@ fn chunked_option<'a>(alloc: Global) -> Arg<'a>
         .help("Input is a chunked HTTP/1.1 body, not plain RecordIO")
 }
 
-/// Returns the option `--limit N`. Clap checks its range too, so that its error text says so.
+/// Returns the option `--limit N`. Clap checks its range too.
 pub fn limit_option<'a>(alloc: Global) -> Arg<'a>
     ensures rule { rule_of result ≡ limit_rule }
     ensures local { result.global ≡ false }

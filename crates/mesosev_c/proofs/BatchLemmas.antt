@@ -1,4 +1,4 @@
--- Many events, told one by one.
+-- Many events, reported one by one.
 use Rattle.std.proofs.Common.{◌≡◌, ℕ, ◌+◌, ◌-◌, ◌<◌, ◌≤◌, List, [], ◌∷◌, ◌++◌, length, take, drop, map, refl, sym, ◌∙◌, ap, subst, arith, append_assoc, append-nil, zero-add, length-append, length-take-le, Bool, true, false, inl, inr}
 use Rattle.std.proofs.Math.ListN.{set}
 use Rattle.std.proofs.Math.Seq.{take-append_seam, drop-append-add}
@@ -24,7 +24,7 @@ use Rattle.mesosev_c.specs.declared.text_decoder.Reported.{Reported}
 use Rattle.mesosev_c.proofs.NumberLemmas.{number_most}
 use Rattle.mesosev_c.proofs.RowLemmas.{row_at, set_seam, texts_more, rows_more, length-rows}
 
--- ---- one call more
+-- ---- one more call
 
 pub each_more : (texts : Bool) (events : List Reporting) (old mid new : EventDecoder) (piece : List ℕ) (used more : ℕ) (one : Reporting)
     → ReportsEach texts old mid piece used events → IsEvent one.reported.status → ReportsStep texts mid new (drop used piece) more one.reported one.text → ReportsEach texts old new piece (used + more) (events ++ one ∷ [])
@@ -85,7 +85,7 @@ row_same e f g = cc
 
 -- ---- a loop over the piece
 
--- so many events were told by so many bytes
+-- these events were reported for this number of bytes
 pub record BatchSoFar (texts : Bool) (old now : EventDecoder) (text piece : List ℕ) (before after : List Row) (used count : ℕ) : Type 0 where
   pub events : List Reporting
   pub each : ReportsEach texts old now piece used events
@@ -116,7 +116,7 @@ module _ (texts : Bool) (old mid new : EventDecoder) (text grown piece : List �
       ap (λ rs. drop (count + 1) rs) h.rows ∙ ap (λ n. drop n (rows_of 0 h.events ++ drop count before)) (sym at)
       ∙ drop-append-add (rows_of 0 h.events) (drop count before) 1 ∙ drop-drop 1 count before
 
-  -- the rows of the events and of one more, behind which the rest of the room stays
+  -- the rows of the events and of one more, followed by the rest of the rows
   laid : (events : List Reporting) (one : Reporting) (others : List Row) (row : Row) → others ≡ rows_of 0 events → row ≡ row_at (0 + length (texts_of events)) one
       → after ≡ others ++ row ∷ drop (count + 1) rows → after ≡ rows_of 0 (events ++ one ∷ []) ++ drop (count + 1) before
   laid events one others row same this is =
@@ -163,7 +163,7 @@ module _ (texts : Bool) (old mid new : EventDecoder) (text grown piece : List �
   so_far_more now kept same keeps a =
       subst (λ (d : EventDecoder). BatchSoFar texts old d grown piece before after (used + more) (count + 1)) (sym keeps) (so_far_adds (subst (λ (b : Bool). AddsEvent b event text grown count rows after) same a))
 
--- ---- a text more
+-- ---- one more text
 
 pub adds_none : (texts : Bool) (event : Event) (text : List ℕ) (rows : List Row) (at : ℕ) → texts ≡ false → at ≡ length text → AddsText texts event text text rows rows at
 adds_none texts event text rows at is start =

@@ -21,7 +21,7 @@ use Rattle.mesosev_c.specs.Inputs.{IsInput, EndsAll}
 abbrev pub Going : StreamReader EventReader → Framing → ℕ → List ℕ → List Event → Type 0
 Going stream framing limit w events = StreamRepresents HoldsData Spells 0 stream framing limit w events
 
--- the first bytes of an input were taken, and their events counted
+-- the first bytes of an input were used, and their events counted
 pub record Counting (framing : Framing) (limit : ℕ) (bytes : List ℕ) (stream : StreamReader EventReader) (at count : ℕ) : Type 0 where
   pub within : at ≤ length bytes
   pub events : List Event

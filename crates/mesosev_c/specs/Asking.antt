@@ -1,4 +1,4 @@
--- The record limit and the framing that a caller asks for by numbers.
+-- The record limit and the framing that a caller gives by number.
 use Rattle.std.specs.Prelude.{◌≡◌, ℕ, ◌<◌, ◌≤◌, Result, Ok, Err}
 use Rattle.mes_frame.specs.declared.limits.TheConstants.{MIN_RECORD_LIMIT, MAX_RECORD_LIMIT}
 use Rattle.mes_stream.specs.declared.stream_reader.Framing.{Framing}
@@ -8,7 +8,7 @@ use Rattle.mesosev_c.specs.declared.option_numbers.BadOption.{BadOption}
 use Rattle.mesosev_c.specs.declared.option_numbers.BadOption.TheVariants as refused
 use Rattle.mesosev_c.specs.Numbers.{BAD_LIMIT, BAD_FRAMING}
 
--- a record limit may have so many bytes
+-- the number of bytes is a valid record limit
 abbrev pub IsLimit : ℕ → Type 0
 IsLimit bytes = (MIN_RECORD_LIMIT ≤ bytes) × (bytes ≤ MAX_RECORD_LIMIT)
 
@@ -17,13 +17,13 @@ abbrev pub number_of_framing : Framing → ℕ
 number_of_framing Plain = 0
 number_of_framing Chunked = 1
 
--- what these numbers stand for, or which of them stands for nothing: the limit is looked at first
+-- the options of these numbers, or the first of them that is invalid: the limit is checked first
 abbrev pub IsAsked : ℕ → ℕ → Result DecoderOptions BadOption → Type 0
 IsAsked limit framing (Ok asked) = IsLimit limit × (asked.limit ≡ limit) × (framing ≡ number_of_framing asked.framing)
 IsAsked limit framing (Err refused.Limit) = IsLimit limit → ⊥
 IsAsked limit framing (Err refused.Framing) = IsLimit limit × (1 < framing)
 
--- the status of a refusal
+-- the status of a rejection
 abbrev pub refused_status : BadOption → ℕ
 refused_status refused.Limit = BAD_LIMIT
 refused_status refused.Framing = BAD_FRAMING

@@ -1,4 +1,5 @@
--- What a call makes of a piece that takes many events: what calls of `next` do, each over the bytes that those before it left.
+-- Decoding many events of a piece: repeated calls of `next`, each on the bytes that the earlier
+-- ones left.
 use Rattle.std.specs.Prelude.{◌≡◌, ℕ, ◌+◌, ◌<◌, ◌⊎◌, List, [], ◌∷◌, ◌++◌, Bool, length, drop}
 use Rattle.mesosev_c.specs.Rows.{Reporting, texts_of, rows_of}
 use Rattle.mesosev_c.specs.Reporting.{ReportsStep}
@@ -9,18 +10,18 @@ use Rattle.mesosev_c.specs.declared.text_decoder.Batch.{Batch}
 use Rattle.mesosev_c.specs.declared.text_decoder.TextDecoder.{TextDecoder}
 use Rattle.mesosev_c.specs.declared.text_decoder.Reported.{Reported}
 
--- the status tells that an event has come
+-- the status reports an event
 abbrev pub IsEvent : ℕ → Type 0
 IsEvent status = (status ≡ EVENT) ⊎ (status ≡ NO_TEXT)
 
--- so many calls of `next` as there are events tell these, in this order, and use so many bytes of the piece
+-- one call of `next` for each event reports it, in this order, and together they use `used` bytes
 abbrev pub ReportsEach : Bool → EventDecoder → EventDecoder → List ℕ → ℕ → List Reporting → Type 0
 ReportsEach texts old new piece used [] = (new ≡ old) × (used ≡ 0)
 ReportsEach texts old new piece used (one ∷ others) =
     (between : EventDecoder) × (first : ℕ) × (rest : ℕ) × (used ≡ first + rest)
     × IsEvent one.reported.status × ReportsStep texts old between piece first one.reported one.text × ReportsEach texts between new (drop first piece) rest others
 
--- the next call of `next` tells of no event, and its status is answered
+-- the next call of `next` reports no event, and its status is returned
 pub record Stops (texts : Bool) (old new : EventDecoder) (piece : List ℕ) (used status : ℕ) : Type 0 where
   pub reported : Reported
   pub text : List ℕ
@@ -28,7 +29,8 @@ pub record Stops (texts : Bool) (old new : EventDecoder) (piece : List ℕ) (use
   pub no_event : IsEvent reported.status → ⊥
   pub is_status : status ≡ reported.status
 
--- calls of `next` tell these events, for which there is room: as many as there is room for, or all up to a call that tells of none
+-- calls of `next` report these events: as many as there are rows, or all up to a call without an
+-- event
 pub record ReportsMany (texts : Bool) (old new : EventDecoder) (piece : List ℕ) (room used status : ℕ) (events : List Reporting) : Type 0 where
   pub between : EventDecoder
   pub taken : ℕ
@@ -37,7 +39,7 @@ pub record ReportsMany (texts : Bool) (old new : EventDecoder) (piece : List ℕ
   pub stops : ((length events ≡ room) × (new ≡ between) × (rest ≡ 0) × (status ≡ EVENT)) ⊎ ((length events < room) × Stops texts between new (drop taken piece) rest status)
   pub is_used : used ≡ taken + rest
 
--- the events are told in the front rows of the room, and their texts stand one behind the other
+-- the events are described in the first rows, and their texts are concatenated
 pub record ReportsBatch (old new : TextDecoder) (piece : List ℕ) (before after : List Row) (batch : Batch) : Type 0 where
   pub events : List Reporting
   pub many : ReportsMany old.texts old.decoder new.decoder piece (length before) batch.used batch.status events

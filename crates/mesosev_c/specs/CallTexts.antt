@@ -1,4 +1,4 @@
--- What is told of the bytes of a call.
+-- The result of decoding a call.
 use Rattle.std.specs.Prelude.{◌≡◌, ◌≢◌, ℕ, List, length}
 use Rattle.mes_msg_call.specs.Calls.{call}
 use Rattle.mes_msg.specs.Call.{Call}
@@ -14,36 +14,36 @@ use Rattle.mesosev_c.specs.Rooms.{with_text}
 use Rattle.mesosev_c.specs.declared.calls.ReportedCall.{ReportedCall}
 use Rattle.mesosev_c.specs.declared.calls.ReportedCall.TheVariants as reported
 
--- it has no text that fits into a record of the largest limit, and this is why
+-- the call has no text that fits into a record of the largest limit, for this reason
 abbrev pub IsUnfit : Call → Type 0
 IsUnfit c = (why : EncodeFault) × (why ≢ encode.NoMemory) × IsRefusalOf call c MAX_RECORD_LIMIT why
 
--- of a call: its canonical text, which fits; or that none fits; or that memory was refused
+-- for a call: its canonical text, which fits; or none fits; or an allocation failed
 abbrev pub IsReportedText : Call → ReportedCall → Type 0
 IsReportedText c (reported.Text text) = (text.items ≡ canonical_of call c) × Fits call c MAX_RECORD_LIMIT
 IsReportedText c reported.Unfit = IsUnfit c
 IsReportedText c reported.Lost = Unit {0}
 IsReportedText c (reported.Fault fault) = ⊥
 
--- of bytes: that of the call whose text they are, or the fault for which they are of none
+-- for bytes: the result for the call of this text, or the error for which they are no call
 abbrev pub IsReportedCall : List ℕ → ReportedCall → Type 0
 IsReportedCall w (reported.Text text) = (c : Call) × IsTextOf call w c × (text.items ≡ canonical_of call c) × Fits call c MAX_RECORD_LIMIT
 IsReportedCall w reported.Unfit = (c : Call) × IsTextOf call w c × IsUnfit c
 IsReportedCall w reported.Lost = (c : Call) × IsTextOf call w c
 IsReportedCall w (reported.Fault fault) = (why : RecordFault) × IsFaultOf call w why × (fault ≡ fault_at_record 1 (refusal_of why))
 
--- a text was written into the caller's room, and its size told
+-- a text was copied into the caller's buffer, and its size returned
 abbrev pub PutsText : List ℕ → ℕ → List ℕ → List ℕ → Type 0
 PutsText text size before room = (size ≡ length text) × (room ≡ with_text before text)
 
--- what was told of bytes, so many of which were used
+-- the result for bytes, `used` of which were used
 abbrev pub PutsCall : ReportedCall → ℕ → ℕ → List ℕ → List ℕ → ℕ → Type 0
 PutsCall (reported.Text text) used size before room status = (status ≡ SUCCESS) × PutsText text.items size before room
 PutsCall reported.Unfit used size before room status = (status ≡ NO_TEXT) × (size ≡ 0) × (room ≡ before)
 PutsCall reported.Lost used size before room status = (status ≡ NO_TEXT) × (size ≡ 0) × (room ≡ before)
 PutsCall (reported.Fault fault) used size before room status = (status ≡ number_of_fault fault) × PutsText (fault_text fault used) size before room
 
--- what is told of the bytes of a call
+-- the result for the bytes of a call
 pub record ReportsCall (w : List ℕ) (size : ℕ) (before room : List ℕ) (status : ℕ) : Type 0 where
   pub reported : ReportedCall
   pub is : IsReportedCall w reported

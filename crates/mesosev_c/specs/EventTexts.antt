@@ -1,4 +1,4 @@
--- An event's canonical text behind those of others.
+-- An event's canonical text after those of others.
 use Rattle.std.specs.Prelude.{◌≡◌, ◌≢◌, ℕ, List, [], ◌++◌}
 use Rattle.mes_frame.specs.declared.limits.TheConstants.{MAX_RECORD_LIMIT}
 use Rattle.mes_msg.specs.Canon.{canonical_text, IsGood, IsEncodeFault}
@@ -8,7 +8,8 @@ use Rattle.mes_msg.specs.Event.{Event}
 use Rattle.mesosev_c.specs.declared.event_text.Appended.{Appended}
 use Rattle.mesosev_c.specs.declared.event_text.Appended.TheVariants.{Whole, Unfit, Lost}
 
--- the text, which fits into a record of the largest limit, stands behind the others; or there is none that fits, and they stand as they were; or memory was refused, and none is left
+-- the text fits into a record of the largest limit and is appended; or none fits, and the others
+-- are unchanged; or an allocation failed, and none is left
 abbrev pub AppendsText : Event → List ℕ → List ℕ → Appended → Type 0
 AppendsText event old new Whole = (new ≡ old ++ canonical_text event) × IsGood event MAX_RECORD_LIMIT
 AppendsText event old new Unfit = (new ≡ old) × ((why : EncodeFault) × (why ≢ NoMemory) × IsEncodeFault event MAX_RECORD_LIMIT why)

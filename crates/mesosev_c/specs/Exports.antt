@@ -1,4 +1,4 @@
--- What the functions that C calls answer.
+-- The results of the functions that C calls.
 use Rattle.std.specs.Prelude.{◌≡◌, ◌==◌, ℕ, ◌⊎◌, List, [], length, not, Some, Result, Ok, Err}
 use Rattle.std.specs.Vec.{vec_ptr}
 use Rattle.mesosev_c.specs.Asking.{IsAsked, refused_status}
@@ -18,7 +18,7 @@ use Rattle.mesosev_c.specs.declared.text_decoder.Batch.{Batch}
 use Rattle.mesosev_c.specs.declared.text_decoder.TextDecoder.{TextDecoder}
 use Rattle.mesosev_c.specs.declared.text_decoder.Reported.{Reported}
 
--- a whole input by what was asked for: what it came to; or a refusal, and nothing else is told
+-- a whole input with valid options has its outcome; a rejection changes nothing else
 abbrev pub ChecksAsked : Result DecoderOptions BadOption → List ℕ → Counts → Counts → List ℕ → List ℕ → ℕ → Type 0
 ChecksAsked (Ok asked) w old new before room status = ReportsInput asked.framing asked.limit w new before room status
 ChecksAsked (Err refused) w old new before room status = (status ≡ refused_status refused) × (new ≡ old) × (room ≡ before)
@@ -26,16 +26,17 @@ ChecksAsked (Err refused) w old new before room status = (status ≡ refused_sta
 abbrev pub AnswersCheck : ℕ → ℕ → List ℕ → Counts → Counts → List ℕ → List ℕ → ℕ → Type 0
 AnswersCheck limit framing w old new before room status = (asked : Result DecoderOptions BadOption) × IsAsked limit framing asked × ChecksAsked asked w old new before room status
 
--- a handle of the decoder was put into the slot; or memory was refused, and the slot stays
+-- a handle of the decoder is in the slot; or an allocation failed, and the slot is unchanged
 abbrev pub IsPlaced : TextDecoder → Slot → Slot → ℕ → Type 0
 IsPlaced decoder old new status = ((status ≡ SUCCESS) × (new.held ≡ Some decoder)) ⊎ ((status ≡ NO_MEMORY) × (new ≡ old))
 
--- a decoder before the first byte of what was asked for, which makes texts of events unless `texts` is 0
+-- a decoder before the first byte with these options, which produces texts of events unless `texts`
+-- is 0
 pub record IsNew (asked : DecoderOptions) (texts : ℕ) (decoder : TextDecoder) : Type 0 where
   pub represents : Represents decoder.decoder asked.framing asked.limit [] []
   pub makes : decoder.texts ≡ not (texts == 0)
 
--- a decoder by what was asked for was placed; or a refusal, and the slot stays
+-- a decoder with valid options was placed; a rejection leaves the slot unchanged
 abbrev pub MadeAsked : Result DecoderOptions BadOption → ℕ → Slot → Slot → ℕ → Type 0
 MadeAsked (Ok asked) texts old new status = (decoder : TextDecoder) × IsNew asked texts decoder × IsPlaced decoder old new status
 MadeAsked (Err refused) texts old new status = (status ≡ refused_status refused) × (new ≡ old)
@@ -43,7 +44,7 @@ MadeAsked (Err refused) texts old new status = (status ≡ refused_status refuse
 abbrev pub AnswersNew : ℕ → ℕ → ℕ → Slot → Slot → ℕ → Type 0
 AnswersNew limit framing texts old new status = (asked : Result DecoderOptions BadOption) × IsAsked limit framing asked × MadeAsked asked texts old new status
 
--- what was told stands in the answer, with the decoder's text
+-- the answer has the result, with the decoder's text
 pub record IsGiven (decoder : TextDecoder) (reported : Reported) (used : ℕ) (answer : Answer) (status : ℕ) : Type 0 where
   pub is_status : status ≡ reported.status
   pub is_used : answer.used ≡ used
@@ -51,26 +52,26 @@ pub record IsGiven (decoder : TextDecoder) (reported : Reported) (used : ℕ) (a
   pub is_text : answer.text ≡ vec_ptr decoder.text
   pub is_size : answer.size ≡ length decoder.text.items
 
--- a piece was taken
+-- the result of decoding a piece
 pub record AnswersNext (old new : TextDecoder) (piece : List ℕ) (answer : Answer) (status : ℕ) : Type 0 where
   pub reported : Reported
   pub next : ReportsNext old new piece answer.used reported
   pub given : IsGiven new reported answer.used answer status
 
--- what was told of many events stands in the answers, with where the decoder's texts stand
+-- the answers have the result of many events, with the address of the decoder's texts
 pub record AreGiven (decoder : TextDecoder) (batch : Batch) (answers : Answers) (status : ℕ) : Type 0 where
   pub is_status : status ≡ batch.status
   pub is_used : answers.used ≡ batch.used
   pub is_count : answers.count ≡ batch.count
   pub is_texts : answers.texts ≡ vec_ptr decoder.text
 
--- a piece was taken, with room for many events
+-- the result of decoding a piece into rows
 pub record AnswersMany (old new : TextDecoder) (piece : List ℕ) (before rows : List Row) (answers : Answers) (status : ℕ) : Type 0 where
   pub batch : Batch
   pub reports : ReportsBatch old new piece before rows batch
   pub given : AreGiven new batch answers status
 
--- the input has ended
+-- the result at the end of the input
 pub record AnswersFinish (old new : TextDecoder) (answer : Answer) (status : ℕ) : Type 0 where
   pub reported : Reported
   pub finish : ReportsFinish old new reported

@@ -11,6 +11,6 @@ use Rattle.mesosev_c.specs.contracts.text_decoder.TextDecoder.{the_row as decode
 abbrev pub with_decoder : Handle → TextDecoder → Handle
 with_decoder h d = record { ptr = h.ptr; alloc = h.alloc; held = d }
 
--- once the borrow r ends, the handle behind h holds the last decoder written through r
+-- once the borrow r ends, the handle of h has the last decoder written through r
 abbrev pub handle_follows : MutBor Handle → MutBor TextDecoder → Fml
 handle_follows h r = follows handle_row decoder_row h.ghost_name r.ghost_name (with_decoder h.now)

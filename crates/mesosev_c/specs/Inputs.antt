@@ -1,4 +1,4 @@
--- What the bytes of a whole input come to.
+-- The outcome of a whole input.
 use Rattle.std.specs.Prelude.{◌≡◌, ℕ, ◌⊎◌, ◌≤◌, List, length, take, Result, Ok, Err}
 use Rattle.mes_msg.specs.Event.{Event}
 use Rattle.mes_msg.specs.Events.{Spells}
@@ -12,36 +12,37 @@ use Rattle.mesosev_c.specs.Numbers.{number_of_fault}
 use Rattle.mesosev_c.specs.Rooms.{with_text}
 use Rattle.mesosev_c.specs.declared.exports.Counts.{Counts}
 
--- the input ends behind w, all of which was used, and this is what it comes to
+-- the outcome if the input ends after w, all of which was used
 abbrev pub EndsAll : Framing → ℕ → List ℕ → List Event → ℕ → Result ℕ Stop → Type 0
 EndsAll framing limit w events used (Ok n) = InputEnds {T = Unit {0}} framing Spells limit w events (Ok tt) × (n ≡ used)
 EndsAll framing limit w events used (Err stop) = InputEnds {T = Unit {0}} framing Spells limit w events (Err stop.fault) × (stop.used ≡ used)
 
--- a byte of w ends the stream of the events, or stops its reading, and was the last that was used
+-- a byte of w ends the stream of the events, or is the byte at which the error is detected, and was
+-- the last used
 abbrev pub StopsAmid : Framing → ℕ → List ℕ → List Event → Result ℕ Stop → Type 0
 StopsAmid framing limit w events (Ok n) = (n ≤ length w) × EndsIn framing Spells limit (take n w) events
 StopsAmid framing limit w events (Err stop) = StopsWithin framing Spells IsEventRefusal 0 limit w events stop.fault stop.used
 
--- the bytes w, all of an input, have these events, and came to that
+-- the whole input w has these events and this outcome
 abbrev pub IsInput : Framing → ℕ → List ℕ → List Event → Result ℕ Stop → Type 0
 IsInput framing limit w events outcome = EndsAll framing limit w events (length w) outcome ⊎ StopsAmid framing limit w events outcome
 
--- the line that is printed of it
+-- the line that is printed for the input
 abbrev pub line_of : ℕ → Result ℕ Stop → List ℕ
 line_of events (Ok used) = count_text events used
 line_of events (Err stop) = fault_text stop.fault stop.used
 
--- 0, or the number of the fault
+-- 0, or the number of the error
 abbrev pub status_of : Result ℕ Stop → ℕ
 status_of (Ok used) = 0
 status_of (Err stop) = number_of_fault stop.fault
 
--- how many bytes were used
+-- the number of bytes used
 abbrev pub used_of : Result ℕ Stop → ℕ
 used_of (Ok used) = used
 used_of (Err stop) = stop.used
 
--- what is told of the bytes w of a whole input: its counts, its line in the caller's room, and its status
+-- the report on the whole input w: its counts, its line in the caller's buffer, and its status
 pub record ReportsInput (framing : Framing) (limit : ℕ) (w : List ℕ) (counts : Counts) (before room : List ℕ) (status : ℕ) : Type 0 where
   pub events : List Event
   pub outcome : Result ℕ Stop

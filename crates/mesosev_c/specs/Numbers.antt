@@ -1,4 +1,4 @@
--- The numbers that stand for answers, faults and types of events in C.
+-- The numbers of results, errors and event types in C.
 use Rattle.std.specs.Prelude.{ℕ}
 use Rattle.mes_frame.specs.declared.fault.FrameFault.TheVariants.{BadChunkLine, ChunkLineTooLong, ChunkTooLarge, BadChunkEnd, TrailersTooLong, BadSizeLine, SizeLineTooLong, RecordTooLarge}
 use Rattle.mes_msg.specs.Event.{Event}
@@ -6,19 +6,19 @@ use Rattle.mes_msg.specs.Event.TheVariants as event
 use Rattle.mes_stream.specs.declared.fault.Fault.{Fault}
 use Rattle.mes_stream.specs.declared.fault.Fault.TheVariants.{Frame, EndsInsideChunks, EndsInsideRecord, Text, Field, NoMemory, Read, ReadsSpent, BadEntry}
 
--- all was read, or a handle was made
+-- a whole stream or a call was read, or a handle was created
 abbrev pub SUCCESS : ℕ
 SUCCESS = 0
 
--- memory was refused for a handle: the number of F13
+-- an allocation failed for a handle: the number of F13
 abbrev pub NO_MEMORY : ℕ
 NO_MEMORY = 13
 
--- more bytes are wanted
+-- more input is needed
 abbrev pub MORE : ℕ
 MORE = 32
 
--- an event has come
+-- an event was decoded
 abbrev pub EVENT : ℕ
 EVENT = 33
 
@@ -26,18 +26,18 @@ EVENT = 33
 abbrev pub END : ℕ
 END = 34
 
--- an event has come, or a call, and no text of it
+-- an event or a call was decoded, without a text
 abbrev pub NO_TEXT : ℕ
 NO_TEXT = 35
 
--- no limit is that, and no framing has that number
+-- the limit is out of its range; the framing has no such number
 abbrev pub BAD_LIMIT : ℕ
 BAD_LIMIT = 100
 
 abbrev pub BAD_FRAMING : ℕ
 BAD_FRAMING = 101
 
--- the number in a fault's name
+-- the number in an error's name
 abbrev pub number_of_fault : Fault → ℕ
 number_of_fault (Frame BadChunkLine) = 1
 number_of_fault (Frame ChunkLineTooLong) = 2
@@ -56,7 +56,8 @@ number_of_fault Read = 14
 number_of_fault ReadsSpent = 15
 number_of_fault (BadEntry at_record) = 16
 
--- the number of an event's type (scheduler.proto, `Event.Type`), and 0 for one that is kept by its name
+-- the number of an event's type (scheduler.proto, `Event.Type`); 0 for a type that is stored by its
+-- name
 abbrev pub number_of_event : Event → ℕ
 number_of_event (event.Subscribed body) = 1
 number_of_event (event.Offers list) = 2

@@ -1,4 +1,4 @@
--- What a decoder tells, by numbers and texts.
+-- The reports of a decoder, in numbers and texts.
 use Rattle.std.specs.Prelude.{◌≡◌, ℕ, ◌⊎◌, List, [], Bool, true, false, Result, Ok, Err}
 use Rattle.mes_frame.specs.declared.limits.TheConstants.{MAX_RECORD_LIMIT}
 use Rattle.mes_msg.specs.Canon.{canonical_text, IsGood, IsEncodeFault}
@@ -14,7 +14,8 @@ use Rattle.mesosev_c.specs.declared.event_decoder.EventDecoder.{EventDecoder}
 use Rattle.mesosev_c.specs.declared.text_decoder.TextDecoder.{TextDecoder}
 use Rattle.mesosev_c.specs.declared.text_decoder.Reported.{Reported}
 
--- of an event: its type's number and, where texts are made, its canonical text, which fits into a record of the largest limit, or that there is none and why
+-- an event: its type's number and, if texts are produced, its canonical text, which fits into a
+-- record of the largest limit, or why there is none
 abbrev pub ReportsEvent : Bool → Event → List ℕ → Reported → Type 0
 ReportsEvent false event text reported = (reported.status ≡ EVENT) × (reported.kind ≡ number_of_event event) × (text ≡ [])
 ReportsEvent true event text reported =
@@ -22,43 +23,44 @@ ReportsEvent true event text reported =
     × (((reported.status ≡ EVENT) × (text ≡ canonical_text event) × IsGood event MAX_RECORD_LIMIT)
     ⊎ ((reported.status ≡ NO_TEXT) × (text ≡ []) × ((why : EncodeFault) × IsEncodeFault event MAX_RECORD_LIMIT why)))
 
--- of a fault behind so many bytes: its number and its line, or no line where memory was refused for it
+-- an error after `used` bytes: its number and its line, or no line if an allocation failed
 abbrev pub ReportsFault : ℕ → Fault → List ℕ → Reported → Type 0
 ReportsFault used fault text reported = (reported.status ≡ number_of_fault fault) × (reported.kind ≡ 0) × ((text ≡ fault_text fault used) ⊎ (text ≡ []))
 
--- of anything else: a status and no text
+-- any other result: a status without a text
 abbrev pub ReportsPlain : ℕ → List ℕ → Reported → Type 0
 ReportsPlain status text reported = (reported.status ≡ status) × (reported.kind ≡ 0) × (text ≡ [])
 
--- of what the bytes were that were used
+-- the result for the bytes that were used
 abbrev pub ReportsOutput : Bool → ℕ → Decoded Event Fault → List ℕ → Reported → Type 0
 ReportsOutput texts used out.More text reported = ReportsPlain MORE text reported
 ReportsOutput texts used (out.Event event) text reported = ReportsEvent texts event text reported
 ReportsOutput texts used out.End text reported = ReportsPlain END text reported
 ReportsOutput texts used (out.Fault fault) text reported = ReportsFault used fault text reported
 
--- of the end of the input
+-- the result at the end of the input
 abbrev pub ReportsEnd : ℕ → Result (Unit {0}) Fault → List ℕ → Reported → Type 0
 ReportsEnd used (Ok done) text reported = ReportsPlain END text reported
 ReportsEnd used (Err fault) text reported = ReportsFault used fault text reported
 
--- all but the text stays
+-- only the text changes
 pub record KeepsAll (old new : TextDecoder) : Type 0 where
   pub decoder : new.decoder ≡ old.decoder
   pub texts : new.texts ≡ old.texts
 
--- a call of `next`, where texts are made or not: so many bytes were used, and that was told, with this text
+-- one call of `next`, with or without texts: `used` bytes were used, and this was reported, with
+-- this text
 pub record ReportsStep (texts : Bool) (old new : EventDecoder) (piece : List ℕ) (used : ℕ) (reported : Reported) (text : List ℕ) : Type 0 where
   pub out : Decoded Event Fault
   pub takes : Takes old new piece used out
   pub reports : ReportsOutput texts new.used out text reported
 
--- a call that took a piece
+-- the result of `next`
 pub record ReportsNext (old new : TextDecoder) (piece : List ℕ) (used : ℕ) (reported : Reported) : Type 0 where
   pub step : ReportsStep old.texts old.decoder new.decoder piece used reported new.text.items
   pub texts : new.texts ≡ old.texts
 
--- a call at the end of the input
+-- the result of `finish`
 pub record ReportsFinish (old new : TextDecoder) (reported : Reported) : Type 0 where
   pub outcome : Result (Unit {0}) Fault
   pub ends : EndsInput old.decoder new.decoder outcome

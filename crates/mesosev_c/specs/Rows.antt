@@ -1,19 +1,19 @@
--- Rows that tell of many events, whose texts stand one behind the other.
+-- Rows that describe events, whose texts are concatenated.
 use Rattle.std.specs.Prelude.{ℕ, ◌+◌, List, [], ◌∷◌, ◌++◌, length}
 use Rattle.mesosev_c.specs.declared.rows.Row.{Row}
 use Rattle.mesosev_c.specs.declared.text_decoder.Reported.{Reported}
 
--- what `next` tells of an event, with its text, which is empty where there is none
+-- the report of `next` on an event, with its text, which is empty if there is none
 pub record Reporting : Type 0 where
   pub reported : Reported
   pub text : List ℕ
 
--- all texts, one behind the other
+-- all texts, concatenated
 abbrev pub texts_of : List Reporting → List ℕ
 texts_of [] = []
 texts_of (one ∷ others) = one.text ++ texts_of others
 
--- a row for each event, behind so many bytes of texts
+-- a row for each event, the first with its text at offset `start`
 abbrev pub rows_of : ℕ → List Reporting → List Row
 rows_of start [] = []
 rows_of start (one ∷ others) = record { kind = one.reported.kind; start = start; size = length one.text } ∷ rows_of (start + length one.text) others

@@ -1,9 +1,9 @@
-//! A caller's room for a text.
+//! Copying of a text into a caller's buffer.
 
 ghost use Rattle.std.specs.Prelude.{◌≡◌, length};
 ghost use Rattle.mesosev_c.specs.Rooms.{with_text};
 
-/// Writes a text into the front of a caller's room, as much of it as there is place for. The rest of the room stays.
+/// Copies `text` to the front of `room`, as far as it fits. The rest of `room` is unchanged.
 pub(crate) fn put_text(text: &[u8], room: &mut [u8])
     ensures { room.new ≡ with_text room.old text.now }
 {

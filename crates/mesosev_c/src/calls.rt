@@ -1,4 +1,4 @@
-//! A call's canonical text, or its fault.
+//! Canonical text of a scheduler's call, or the error in it.
 
 ghost use Rattle.std.specs.Prelude.{◌≡◌};
 ghost use Rattle.mes_msg_call.specs.Calls.{call};
@@ -15,20 +15,20 @@ use mes_msg::{Call, EncodeFault, RecordFault};
 use mes_stream::{Fault, MAX_FAULT_LINE, fault_line};
 use std::alloc::Global;
 
-/// What bytes are to a reader of calls.
+/// The outcome of decoding a call.
 #[derive(Debug, Drop)]
 pub enum ReportedCall {
-    /// Those of a call with this canonical text.
+    /// The call's canonical text.
     Text(Vec<u8>),
-    /// Those of a call whose canonical text nests too deep or is too large.
+    /// The call is valid, but its canonical text nests too deep or is too large.
     Unfit,
-    /// Those of a call for whose canonical text memory was refused.
+    /// The call is valid, but its canonical text could not be allocated.
     Lost,
-    /// Those of no call; they are taken as record 1.
+    /// The first error in the bytes, as that of record 1.
     Fault(Fault),
 }
 
-/// Reads a call, and tells its canonical text, or its fault.
+/// Decodes a call, and returns its canonical text or the first error.
 pub fn report_call(alloc: Global, bytes: &[u8]) -> ReportedCall
     ensures { IsReportedCall bytes.now result }
 {
@@ -38,7 +38,7 @@ pub fn report_call(alloc: Global, bytes: &[u8]) -> ReportedCall
     }
 }
 
-// The canonical text of a call, or that it has none.
+// `Unfit` or `Lost` if the call has no canonical text.
 fn reported_text(alloc: Global, of: &Call) -> ReportedCall
     ensures { IsReportedText of.now result }
 {
@@ -50,7 +50,7 @@ fn reported_text(alloc: Global, of: &Call) -> ReportedCall
     }
 }
 
-// The fault, as that of record 1.
+// Converts the error into that of record 1.
 fn fault_of_call(fault: RecordFault) -> Fault
     ensures { result ≡ fault_at_record 1 (refusal_of fault) }
 {
@@ -73,8 +73,11 @@ fn fault_of_call(fault: RecordFault) -> Fault
 }
 
 impl ReportedCall {
-    /// Writes the text, or the line of the fault behind so many bytes, into a caller's room, as much of it as there is place for, and
-    /// tells how long it is. Answers `SUCCESS`, `NO_TEXT` or the number of the fault.
+    /// Writes the text, or the error's line with offset `used`, to the front of `room`, as far as
+    /// it fits.
+    ///
+    /// `size` becomes the length of the whole text or line in bytes. Returns `SUCCESS`, `NO_TEXT`,
+    /// or the number of the error.
     pub fn put(&self, used: u64, size: &mut u64, room: &mut [u8]) -> u32
         ensures { PutsCall self.now used size.new room.old room.new result }
     {

@@ -1,4 +1,4 @@
-//! A decoder of events of either framing that counts its bytes and keeps its end.
+//! Decoder of events in either framing that counts the bytes and remembers how the stream ended.
 
 ghost use Rattle.std.specs.Prelude.{◌≡◌, []};
 ghost use Rattle.mesosev_c.specs.Decoders.{Takes, EndsInput, Represents, EndsBy, answer_of, outcome_of, end_by};
@@ -11,14 +11,14 @@ use std::alloc::Global;
 /// How a stream ended.
 #[derive(Debug, Drop)]
 pub enum StreamEnd {
-    /// As it may end there.
+    /// Without an error.
     Closed,
-    /// With this fault.
+    /// With this error.
     Failed(Fault),
 }
 
 impl StreamEnd {
-    // What is answered to bytes from then on.
+    // The result of `next` after this end.
     fn answer(&self) -> Decoded<Event>
         ensures { result ≡ answer_of self.now }
     {
@@ -28,7 +28,7 @@ impl StreamEnd {
         }
     }
 
-    // What is answered from then on to the end of the input.
+    // The result of `finish` after this end.
     fn outcome(&self) -> Result<(), Fault>
         ensures { result ≡ outcome_of self.now }
     {
@@ -38,7 +38,7 @@ impl StreamEnd {
         }
     }
 
-    // The end that an answer brings, if it does.
+    // The end that this result brings, if any.
     fn brought(out: &Decoded<Event>) -> Option<StreamEnd>
         ensures { EndsBy result out.now }
     {
@@ -61,14 +61,14 @@ impl StreamEnd {
     }
 }
 
-// What a decoder holds: behind the end or a fault nothing of the stream.
+// After the end or an error the stream's reader is freed.
 #[derive(Drop)]
 enum State {
     Going(StreamReader<EventReader>),
     Ended(StreamEnd),
 }
 
-/// A decoder of events of either framing.
+/// Decodes the events of a stream in either framing.
 #[derive(Drop)]
 pub struct EventDecoder {
     state: State,
@@ -76,7 +76,7 @@ pub struct EventDecoder {
 }
 
 impl EventDecoder {
-    /// A decoder before the first byte. Takes no memory.
+    /// Creates a decoder before the first byte. Does not allocate.
     pub fn new(alloc: Global, framing: Framing, limit: Limit) -> EventDecoder
         ensures { Represents result framing limit [] [] }
     {
@@ -86,15 +86,17 @@ impl EventDecoder {
         }
     }
 
-    /// How many bytes were used. From 2^64 - 1 on the count stays there.
+    /// Returns the number of bytes used so far; it saturates at 2^64 - 1.
     pub fn used(&self) -> u64
         ensures { result ≡ self.now.used }
     {
         self.used
     }
 
-    /// Takes a piece up to the end of a record or of the stream, or a fault, or the piece's end. The end or a fault is answered again
-    /// by every later call, which uses no byte.
+    /// Decodes `piece` up to the first of these: the end of a record, of the stream or of the
+    /// piece, or an error.
+    ///
+    /// Each later call returns the same end or error, and uses no byte.
     pub fn next(&mut self, piece: &[u8]) -> Step<Event>
         ensures { Takes self.old self.new piece.now result.used result.out }
     {
@@ -114,8 +116,10 @@ impl EventDecoder {
         step
     }
 
-    /// The input has no more bytes. Of plain records: Ok between two of them, else F10. Of a chunked body: Ok behind its end, else
-    /// F6. Behind a fault that fault. The same is answered from then on.
+    /// Ends the input.
+    ///
+    /// Errors: F10 if plain RecordIO ends inside a record, F6 if a chunked body has not ended, or
+    /// an earlier error. Each later call of `next` or `finish` has the same outcome.
     pub fn finish(&mut self) -> Result<(), Fault>
         ensures { EndsInput self.old self.new result }
     {

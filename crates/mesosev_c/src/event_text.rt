@@ -1,4 +1,4 @@
-//! An event's canonical text behind those of others.
+//! Canonical text of an event, appended to those of others.
 
 ghost use Rattle.std.specs.Prelude.{◌≡◌};
 ghost use Rattle.mesosev_c.specs.EventTexts.{AppendsText};
@@ -9,18 +9,19 @@ use mes_model_schema::json::MAX_NESTING;
 use mes_msg::Event;
 use std::alloc::Global;
 
-/// What became of the texts that stood there, and of the event's.
+/// The outcome of appending an event's text.
 #[derive(Clone, Copy, Debug, PartialEq, Eq)]
 pub(crate) enum Appended {
-    /// The event's stands behind them.
+    /// The text was appended.
     Whole,
-    /// The event's nests too deep or is too large, and they stand as they were.
+    /// The event's text nests too deep or is too large; the earlier texts are unchanged.
     Unfit,
-    /// Memory was refused, and none is left.
+    /// An allocation failed, and the earlier texts are cleared too.
     Lost,
 }
 
-/// Appends the canonical text of an event, which nests at most `MAX_NESTING` deep and has at most `Limit::LARGEST` bytes.
+/// Appends the canonical text of an event to `texts`, if it nests at most `MAX_NESTING` deep and
+/// has at most `Limit::LARGEST` bytes.
 pub(crate) fn append_text(alloc: Global, event: &Event, texts: &mut Vec<u8>) -> Appended
     ensures { AppendsText event.now texts.old.items texts.new.items result }
 {

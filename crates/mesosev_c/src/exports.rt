@@ -1,4 +1,4 @@
-//! The functions that C calls. What a C caller owes is told in `lib/mesosev.h`.
+//! Functions that C calls. `lib/mesosev.h` documents them for C, with the caller's obligations.
 
 ghost use Rattle.std.specs.Prelude.{◌≡◌, length};
 ghost use Rattle.mesosev_c.specs.CallTexts.{ReportsCall};
@@ -18,46 +18,50 @@ use arrayvec::ArrayString;
 use mes_stream::MAX_FAULT_LINE;
 use std::alloc::Global;
 
-/// What a whole input came to.
+/// The counts of a whole input.
 #[repr(C)]
 #[derive(Drop)]
 pub struct Counts {
-    /// How many events were read. From 2^64 - 1 on the count stays there.
+    /// The number of events; it saturates at 2^64 - 1.
     pub events: u64,
-    /// How many bytes were used.
+    /// The number of bytes used.
     pub used: u64,
-    /// How many bytes the line has.
+    /// The length of the line, in bytes.
     pub line: u64,
 }
 
-/// What a decoder told.
+/// The result of one step of a decoder.
 #[repr(C)]
 #[derive(Drop)]
 pub struct Answer {
-    /// How many bytes of the piece were used.
+    /// The number of bytes of the piece that were used.
     pub used: u64,
-    /// Where the text stands, until the next call on the handle. To be read only where the size is not 0.
+    /// The address of the text, valid until the next call on the handle; to be read only if `size`
+    /// is not 0.
     pub text: *const u8,
-    /// How many bytes the text has.
+    /// The length of the text, in bytes.
     pub size: u64,
-    /// The number of an event's type; 0 where no event has come.
+    /// The number of the event's type; 0 if no event was decoded.
     pub kind: u32,
 }
 
-/// What a decoder told of many events.
+/// The result of decoding many events.
 #[repr(C)]
 #[derive(Drop)]
 pub struct Answers {
-    /// How many bytes of the piece were used.
+    /// The number of bytes of the piece that were used.
     pub used: u64,
-    /// How many events were told.
+    /// The number of events.
     pub count: u64,
-    /// Where their texts stand, until the next call on the handle. To be read only where one has a text.
+    /// The address of their texts, valid until the next call on the handle; to be read only if an
+    /// event has a text.
     pub texts: *const u8,
 }
 
-/// Reads the bytes of a whole input. Answers `SUCCESS` or the number of the first fault, with the counts and the line that `mesosev check`
-/// prints; or `BAD_LIMIT` or `BAD_FRAMING`, and then leaves the counts and the room as they were.
+/// Decodes a whole input. Returns `SUCCESS`, or the number of the first error.
+///
+/// Then `counts` has the counts, and `room` begins with the line that `mesosev check` prints, as
+/// far as it fits. `BAD_LIMIT` and `BAD_FRAMING` leave both unchanged.
 #[unsafe(no_mangle)]
 pub extern "C" fn mes_c_check(
     alloc: Global,
@@ -78,7 +82,7 @@ pub extern "C" fn mes_c_check(
     }
 }
 
-/// Tells what a whole input came to.
+/// Writes the outcome of a whole input to `counts` and `room`, and returns its status.
 fn report_checked(checked: &Checked, counts: &mut Counts, room: &mut [u8]) -> u32
     ensures events { counts.new.events ≡ checked.now.events }
     ensures used { counts.new.used ≡ used_of checked.now.outcome }
@@ -95,8 +99,11 @@ fn report_checked(checked: &Checked, counts: &mut Counts, room: &mut [u8]) -> u3
     checked.status()
 }
 
-/// Reads a call. Answers `SUCCESS` with its canonical text, the number of its fault with the line, or `NO_TEXT`; `size` is told how long
-/// the text or the line is, and as much of it as there is place for stands in the room.
+/// Decodes a call. Returns `SUCCESS` with its canonical text, the number of the error with its
+/// line, or `NO_TEXT`.
+///
+/// `size` becomes the length of the text or line in bytes; `room` begins with it, as far as it
+/// fits.
 #[unsafe(no_mangle)]
 pub extern "C" fn mes_c_call(alloc: Global, bytes: &[u8], size: &mut u64, room: &mut [u8]) -> u32
     ensures { ReportsCall bytes.now size.new room.old room.new result }
@@ -104,8 +111,11 @@ pub extern "C" fn mes_c_call(alloc: Global, bytes: &[u8], size: &mut u64, room: 
     report_call(alloc, bytes).put(bytes.len() as u64, size, room)
 }
 
-/// Makes a decoder, which makes texts of events unless `texts` is 0, and puts a handle of it into the slot. Answers `SUCCESS`; or 13 where
-/// memory was refused, or `BAD_LIMIT` or `BAD_FRAMING`, and then leaves the slot as it was.
+/// Creates a decoder on the heap, and stores its handle in `slot`. The decoder produces the events'
+/// texts, unless `texts` is 0.
+///
+/// Returns `SUCCESS`; or 13 if an allocation failed, `BAD_LIMIT` or `BAD_FRAMING`, which leave
+/// `slot` unchanged.
 #[unsafe(no_mangle)]
 pub extern "C" fn mes_c_decoder_new(
     alloc: Global,
@@ -125,7 +135,8 @@ pub extern "C" fn mes_c_decoder_new(
     }
 }
 
-/// Takes a piece of the stream up to the end of a record or of the stream, or a fault, or the piece's end.
+/// Decodes `bytes` up to the first of these: the end of a record, of the stream or of the bytes, or
+/// an error.
 #[unsafe(no_mangle)]
 pub extern "C" fn mes_c_decoder_next(handle: &mut Handle, bytes: &[u8], answer: &mut Answer) -> u32
     ensures { AnswersNext handle.old.held handle.new.held bytes.now answer.new result }
@@ -135,8 +146,10 @@ pub extern "C" fn mes_c_decoder_next(handle: &mut Handle, bytes: &[u8], answer: 
     give(decoder, reported, used as u64, answer)
 }
 
-/// Takes a piece as `mes_c_decoder_next` does, again and again, until the piece is used, there is no room for another event, or the stream
-/// has ended, and tells of each event in a row of the room. Answers `EVENT` where there is no room for another.
+/// Decodes `bytes` as repeated calls of `mes_c_decoder_next` do, and describes each event in a row
+/// of `room`.
+///
+/// Stops once all bytes are used, the stream has ended, or `room` is full; then returns `EVENT`.
 #[unsafe(no_mangle)]
 pub extern "C" fn mes_c_decoder_many(
     handle: &mut Handle,
@@ -152,7 +165,7 @@ pub extern "C" fn mes_c_decoder_many(
     give_many(decoder, batch, answers)
 }
 
-/// Tells what it means that the input has no more bytes.
+/// Ends the input: returns `END`, or the number of an error.
 #[unsafe(no_mangle)]
 pub extern "C" fn mes_c_decoder_finish(handle: &mut Handle, answer: &mut Answer) -> u32
     ensures { AnswersFinish handle.old.held handle.new.held answer.new result }
@@ -168,7 +181,7 @@ pub extern "C" fn mes_c_decoder_free(handle: Handle) {
     drop(handle);
 }
 
-// Puts a decoder on the heap, and a handle of it into the slot.
+// On error `slot` is unchanged.
 fn place_in(alloc: Global, decoder: TextDecoder, slot: &mut Slot) -> u32
     ensures { IsPlaced decoder slot.old slot.new result }
 {
@@ -181,7 +194,6 @@ fn place_in(alloc: Global, decoder: TextDecoder, slot: &mut Slot) -> u32
     }
 }
 
-// Gives what was told, with the decoder's text.
 fn give(decoder: &TextDecoder, reported: Reported, used: u64, answer: &mut Answer) -> u32
     ensures { IsGiven decoder.now reported used answer.new result }
 {
@@ -192,7 +204,6 @@ fn give(decoder: &TextDecoder, reported: Reported, used: u64, answer: &mut Answe
     reported.status
 }
 
-// Gives what was told of many events, with where their texts stand.
 fn give_many(decoder: &TextDecoder, batch: Batch, answers: &mut Answers) -> u32
     ensures { AreGiven decoder.now batch answers.new result }
 {

@@ -1,4 +1,4 @@
-//! The handle of a decoder on the heap. All functions on raw memory stand here, and their proofs are by hand.
+//! Handle of a decoder on the heap. Only this file uses raw memory, and its proofs are by hand.
 
 ghost use Rattle.std.specs.Prelude.{◌≡◌, Option, Some};
 ghost use Rattle.std.specs.Box.Ownership.{box_owns};
@@ -9,12 +9,12 @@ use crate::text_decoder::TextDecoder;
 use std::alloc::{Allocator, Global};
 use std::marker::Model;
 
-/// What a C program holds: where a decoder stands on the heap.
+/// A C program's decoder: its address on the heap.
 #[repr(C)]
 pub struct Handle {
     ptr: *mut u8,
     alloc: Global,
-    /// The decoder.
+    /// The decoder that the handle owns.
     pub ghost held: { TextDecoder } by { decoder_coded },
 }
 
@@ -27,7 +27,7 @@ impl Handle {
     ghost use Rattle.std.specs.Borrow.{sem};
     ghost use Rattle.mesosev_c.specs.HandleLends.{handle_follows};
 
-    /// The decoder.
+    /// Borrows the decoder.
     pub fn reach(&mut self) -> &mut TextDecoder
         ensures* writes_back { sem 𝓛 (handle_follows self.entry result) }
         ensures value { result.now ≡ self.old.held }
@@ -35,7 +35,7 @@ impl Handle {
         unsafe { &mut *self.ptr.cast::<TextDecoder>() }
     }
 
-    // The parts of the decoder's box.
+    // Takes the handle apart without freeing the decoder.
     fn into_parts(self) -> Parts<TextDecoder, Global>
         ensures { result.value ≡ self.held }
     {
@@ -47,13 +47,13 @@ impl Handle {
     }
 }
 
-/// Where a C program has a handle put. A slot that is let go of forgets the handle in it.
+/// The place at which a C program has a handle stored. Dropping a slot does not free the decoder.
 #[repr(C)]
 #[derive(Drop)]
 pub struct Slot {
     ptr: *mut u8,
     alloc: Global,
-    /// The decoder of the handle in it, if there is one.
+    /// The decoder of the handle in the slot, if any.
     pub ghost held: { Option TextDecoder } by { maybe_coded },
 }
 
@@ -62,14 +62,13 @@ impl Model for Slot {
 }
 
 impl Slot {
-    /// A slot with a handle of the decoder in a box.
+    /// Creates a slot with a handle of the boxed decoder.
     pub fn of(placed: Box<TextDecoder>) -> Slot
         ensures { result.held ≡ Some placed.value }
     {
         Slot::of_parts(Parts::of(placed))
     }
 
-    // A slot with the parts of the decoder's box.
     fn of_parts(parts: Parts<TextDecoder, Global>) -> Slot
         ensures { result.held ≡ Some parts.value }
     {
@@ -87,7 +86,7 @@ impl Drop for Handle {
     }
 }
 
-// A box with its fields in sight.
+// A box with its fields accessible, so that they can be moved into a handle.
 struct Parts<T, A: Allocator> {
     ptr: *mut T,
     alloc: A,
@@ -99,7 +98,6 @@ impl<T, A: Allocator> Model for Parts<T, A> {
 }
 
 impl<T, A: Allocator> Parts<T, A> {
-    // The parts of a box.
     fn of(placed: Box<T, A>) -> Parts<T, A>
     where
         T: Drop,
@@ -109,7 +107,6 @@ impl<T, A: Allocator> Parts<T, A> {
         Parts { ptr, alloc }
     }
 
-    // The box.
     fn into_box(self) -> Box<T, A>
         ensures { result.value ≡ self.value }
     {

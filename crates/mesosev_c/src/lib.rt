@@ -1,6 +1,18 @@
 #![tactic(auto)]
-//! What a C program calls to read the event stream of the Apache Mesos v1 scheduler API: a whole input at once, a decoder behind a
-//! handle, and one call. `lib/mesosev.h` tells a C programmer of them; `lib/mesosev.c` stands in front and refuses null pointers.
+//! C functions that decode the event stream of the Apache Mesos v1 scheduler API.
+//!
+//! They decode a whole input ([`mes_c_check`]), a stream piece by piece ([`mes_c_decoder_next`]),
+//! or one call ([`mes_c_call`]). Results are numbers ([`EVENT`], [`END`], 1 to 16 for F1 to F16)
+//! and texts in canonical JSON. The end of a stream or its first error is final: each later call
+//! returns it again.
+//!
+//! ```ignore
+//! let mut decoder = TextDecoder::new(alloc, Framing::Plain, Limit::USUAL, true);
+//! let (reported, used) = decoder.next(b"20\n{\"type\":\"HEARTBEAT\"}"); // status EVENT, kind 8
+//! ```
+//!
+//! C programs include `lib/mesosev.h`; `lib/mesosev.c` rejects null pointers before each call. The
+//! tests are `tests/c_library`, the definitions `specs/`.
 
 mod caller_buffer;
 mod calls;

@@ -1,4 +1,4 @@
-//! The record limit and the framing that a caller asks for by numbers.
+//! Conversion of a caller's numbers into a record limit and a framing.
 
 ghost use Rattle.std.specs.Prelude.{◌≡◌};
 ghost use Rattle.mesosev_c.specs.Asking.{IsAsked, refused_status};
@@ -7,7 +7,7 @@ use crate::statuses::{BAD_FRAMING, BAD_LIMIT};
 use mes_frame::Limit;
 use mes_stream::Framing;
 
-/// The record limit and the framing that numbers stand for.
+/// The options with which a caller creates a decoder.
 #[derive(Clone, Copy, Debug, PartialEq, Eq)]
 pub struct DecoderOptions {
     /// The record limit.
@@ -16,16 +16,19 @@ pub struct DecoderOptions {
     pub framing: Framing,
 }
 
-/// Which of the numbers stands for nothing.
+/// The reason for which a caller's numbers are rejected.
 #[derive(Clone, Copy, Debug, PartialEq, Eq)]
 pub enum BadOption {
-    /// No limit has so many bytes.
+    /// The record limit is out of its range.
     Limit,
-    /// No framing has that number, and the limit is good.
+    /// The framing has no such number; the limit is valid.
     Framing,
 }
 
-/// What is asked for by a limit in bytes and the number of a framing: 0 for plain RecordIO, 1 for a chunked body.
+/// Converts a limit in bytes and the number of a framing: 0 for plain RecordIO, 1 for a chunked
+/// body.
+///
+/// Errors: `Limit` if the limit is out of its range, else `Framing` if the number is above 1.
 pub fn parse_options(limit: u32, framing: u32) -> Result<DecoderOptions, BadOption>
     ensures { IsAsked limit framing result }
 {
@@ -46,7 +49,7 @@ pub fn parse_options(limit: u32, framing: u32) -> Result<DecoderOptions, BadOpti
 }
 
 impl BadOption {
-    /// The status that tells of it.
+    /// Returns the status that reports the error: `BAD_LIMIT` or `BAD_FRAMING`.
     pub fn status(self) -> u32
         ensures { result ≡ refused_status self }
     {

@@ -1,22 +1,23 @@
-//! Rows that tell of many events, in a caller's room.
+//! Rows of a caller's buffer that describe events.
 
 ghost use Rattle.std.specs.Prelude.{◌≡◌, map};
 ghost use Rattle.mesosev_c.specs.Rows.{without_text};
 
-/// What is told of one of many events, whose texts stand one behind the other. It lies in memory as a `mes_event`, in which its text's
-/// place stands where the pointer to the text is.
+/// A description of one event out of many, whose texts are concatenated.
+///
+/// Has the memory layout of a `mes_event`, with the text's offset in place of the pointer.
 #[repr(C)]
 #[derive(Clone, Copy, Debug, PartialEq, Eq)]
 pub struct Row {
-    /// The number of its type.
+    /// The number of the event's type.
     pub kind: u32,
-    /// How many bytes of the texts stand before its own.
+    /// The offset of the event's text in the texts, in bytes.
     pub start: u64,
-    /// How many bytes its text has: 0 where it has none.
+    /// The length of the event's text in bytes; 0 if it has none.
     pub size: u64,
 }
 
-/// Tells of the same events, and that none has a text.
+/// Removes the texts from rows.
 pub(crate) fn forget_texts(rows: &mut [Row])
     ensures { rows.new ≡ map without_text rows.old }
 {

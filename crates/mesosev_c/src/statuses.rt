@@ -1,4 +1,4 @@
-//! The numbers that stand for answers, faults and types of events in C.
+//! Numbers of results, errors and event types in C.
 
 ghost use Rattle.std.specs.Prelude.{◌≡◌, ◌≤◌};
 ghost use Rattle.mesosev_c.specs.Numbers.{number_of_fault, number_of_event};
@@ -7,31 +7,33 @@ use mes_frame::FrameFault;
 use mes_msg::Event;
 use mes_stream::Fault;
 
-/// All was read: a whole stream, or a call; or a handle was made. The numbers 1 to 16 are those of the faults F1 to F16.
+/// The status of success: a whole stream or a call was read, or a handle was created. 1 to 16 are
+/// the errors F1 to F16.
 pub const SUCCESS: u32 = 0;
 
-/// Memory was refused for a handle: the number of F13.
+/// The status for a handle that could not be allocated: the number of F13.
 pub const NO_MEMORY: u32 = 13;
 
-/// The whole piece was used, and more is wanted.
+/// The status after a whole piece was used: more input is needed.
 pub const MORE: u32 = 32;
 
-/// An event has come.
+/// The status of a decoded event.
 pub const EVENT: u32 = 33;
 
-/// The stream has ended.
+/// The status at the end of the stream.
 pub const END: u32 = 34;
 
-/// An event has come, or a call, whose canonical text nests too deep, is too large, or wants memory that was refused.
+/// The status of an event or call whose canonical text nests too deep, is too large, or could not
+/// be allocated.
 pub const NO_TEXT: u32 = 35;
 
-/// No record limit is that.
+/// The status of a record limit that is out of its range.
 pub const BAD_LIMIT: u32 = 100;
 
-/// No framing has that number.
+/// The status of an unknown framing number.
 pub const BAD_FRAMING: u32 = 101;
 
-/// The number of a fault, 1 to 16: that of its name.
+/// Returns the number of an error, 1 to 16: the one in its name, F1 to F16.
 pub fn fault_number(fault: &Fault) -> u32
     ensures number { result ≡ number_of_fault fault.now }
     ensures least { 1 ≤ result }
@@ -50,7 +52,7 @@ pub fn fault_number(fault: &Fault) -> u32
     }
 }
 
-/// The number of a fault of the framing.
+/// Returns the number of a framing error.
 fn frame_fault_number(fault: FrameFault) -> u32
     ensures number { result ≡ number_of_fault (Fault.Frame fault) }
     ensures least { 1 ≤ result }
@@ -68,7 +70,8 @@ fn frame_fault_number(fault: FrameFault) -> u32
     }
 }
 
-/// The number of an event's type, that of `Event.Type` in scheduler.proto: 1 to 8, and 0 for a type that is kept by its name.
+/// Returns the number of an event's type: that of `Event.Type` in scheduler.proto, 1 to 8, and 0
+/// for a type that is stored by its name.
 pub fn event_number(event: &Event) -> u32
     ensures { result ≡ number_of_event event.now }
 {

@@ -1,4 +1,4 @@
-//! A decoder that tells each event by a number and its canonical text, and a fault by its number and its line.
+//! Decoder that reports an event by number and canonical text, an error by number and line.
 
 ghost use Rattle.std.specs.Prelude.{◌≡◌, ◌<◌, [], length};
 ghost use Rattle.std.specs.Vec.{vec_ptr};
@@ -18,39 +18,39 @@ use mes_msg::Event;
 use mes_stream::{Decoded, Fault, Framing, MAX_FAULT_LINE, fault_line};
 use std::alloc::Global;
 
-/// What a call told, by numbers.
+/// The result of a call, in numbers.
 #[derive(Clone, Copy, Debug, PartialEq, Eq)]
 pub struct Reported {
-    /// `MORE`, `EVENT`, `NO_TEXT`, `END`, or the number of a fault.
+    /// `MORE`, `EVENT`, `NO_TEXT`, `END`, or the number of an error.
     pub status: u32,
-    /// The number of an event's type; 0 where no event has come.
+    /// The number of the event's type; 0 if no event was decoded.
     pub kind: u32,
 }
 
-/// What a call told that takes many events.
+/// The result of a call that decodes many events.
 #[derive(Clone, Copy, Debug, PartialEq, Eq)]
 pub struct Batch {
-    /// `EVENT` where there is no room for another event, else `MORE`, `END`, or the number of a fault.
+    /// `EVENT` if the rows are full, else `MORE`, `END`, or the number of an error.
     pub status: u32,
-    /// How many events were told.
+    /// The number of events.
     pub count: usize,
-    /// How many bytes of the piece were used.
+    /// The number of bytes of the piece that were used.
     pub used: usize,
 }
 
-/// A decoder of either framing, with the text of what it told last.
+/// A decoder in either framing that retains the text of its last result.
 #[derive(Drop)]
 pub struct TextDecoder {
     alloc: Global,
     decoder: EventDecoder,
-    // Whether texts of events are made.
+    // Whether texts of events are produced.
     texts: bool,
-    // The canonical texts of the events that were told last, one behind the other, or the line of the fault.
+    // The concatenated canonical texts of the last events, or the line of the error.
     text: Vec<u8>,
 }
 
 impl TextDecoder {
-    /// A decoder before the first byte, which makes texts of events or not. Takes no memory.
+    /// Creates a decoder before the first byte, with or without texts of events. Does not allocate.
     pub fn new(alloc: Global, framing: Framing, limit: Limit, texts: bool) -> TextDecoder
         ensures represents { Represents result.decoder framing limit [] [] }
         ensures texts { result.texts ≡ texts }
@@ -63,22 +63,26 @@ impl TextDecoder {
         }
     }
 
-    /// The text of what was told last: the canonical text of an event, or of many one behind the other, or a fault's line without its LF.
+    /// Returns the text of the last result: the events' canonical texts, concatenated, or an
+    /// error's line without its LF.
     pub fn text(&self) -> &[u8]
         ensures { result.now ≡ self.now.text.items }
     {
         self.text.as_slice()
     }
 
-    /// Where that text stands.
+    /// Returns the address of the text.
     pub(crate) fn text_at(&self) -> *const u8
         ensures { result ≡ vec_ptr self.now.text }
     {
         self.text.as_ptr()
     }
 
-    /// Takes a piece up to the end of a record or of the stream, or a fault, or the piece's end, and tells what it was, and how many
-    /// bytes were used. The end or a fault is told again by every later call.
+    /// Decodes `piece` up to the first of these: the end of a record, of the stream or of the
+    /// piece, or an error.
+    ///
+    /// Returns the result and the number of bytes used. Each later call returns the same end or
+    /// error.
     pub fn next(&mut self, piece: &[u8]) -> (Reported, usize)
         ensures { ReportsNext self.old self.new piece.now result.1 result.0 }
     {
@@ -86,8 +90,10 @@ impl TextDecoder {
         (self.tell(&step.out), step.used)
     }
 
-    /// Takes a piece as `next` does, again and again, until the piece is used, there is no room for another event, or the stream has
-    /// ended, and tells of each event in a row of the room. The texts stand one behind the other.
+    /// Decodes `piece` as repeated calls of `next` do, and describes each event in a row of `room`.
+    ///
+    /// Stops once all bytes are used, `room` is full, or the stream has ended. The texts are
+    /// concatenated.
     pub fn many(&mut self, piece: &[u8], room: &mut [Row]) -> Batch
         ensures { ReportsBatch self.old self.new piece.now room.old room.new result }
     {
@@ -116,7 +122,7 @@ impl TextDecoder {
         }
     }
 
-    /// Tells what it means that the input has no more bytes: the end, or a fault. The same is told from then on.
+    /// Ends the input: returns `END` or the number of an error, as does each later call.
     pub fn finish(&mut self) -> Reported
         ensures { ReportsFinish self.old self.new result }
     {
@@ -131,7 +137,8 @@ impl TextDecoder {
         }
     }
 
-    // Takes the text away of what was told last, and gives the memory of a long one back.
+    // Clears the text; frees its memory above `MAX_REUSED_CAPACITY`, so that one long text does not
+    // keep it.
     fn clear_text(&mut self)
         ensures text { self.new.text.items ≡ [] }
         ensures keeps { KeepsAll self.old self.new }
@@ -143,7 +150,6 @@ impl TextDecoder {
         }
     }
 
-    // Tells what the bytes that were used were.
     fn tell(&mut self, out: &Decoded<Event>) -> Reported
         ensures reports { ReportsOutput self.old.texts self.old.decoder.used out.now
             self.new.text.items result }
@@ -164,7 +170,6 @@ impl TextDecoder {
         }
     }
 
-    // Tells of an event, where no text stands.
     fn report_event(&mut self, event: &Event) -> Reported
         requires { self.old.text.items ≡ [] }
         ensures reports { ReportsEvent self.old.texts event.now self.new.text.items result }
@@ -193,7 +198,7 @@ impl TextDecoder {
         }
     }
 
-    // Tells of an event in the row behind so many, and makes its text behind theirs.
+    // Writes row `count` of `room`, and appends the event's text to those of the rows before it.
     fn add(&mut self, event: &Event, room: &mut [Row], count: usize)
         requires { count < length room.old }
         ensures adds { AddsEvent self.old.texts event.now self.old.text.items self.new.text.items
@@ -208,7 +213,7 @@ impl TextDecoder {
         };
     }
 
-    // Makes an event's text behind those of others, and tells where it begins. Where memory is refused for it, theirs are lost too.
+    // Returns where the text begins. If an allocation fails, the earlier texts are lost too.
     fn add_text(&mut self, event: &Event, others: &mut [Row]) -> usize
         ensures adds { AddsText self.old.texts event.now self.old.text.items self.new.text.items
             others.old others.new result }
@@ -228,7 +233,6 @@ impl TextDecoder {
         }
     }
 
-    // Tells of a fault, where no text stands.
     fn report_fault(&mut self, fault: &Fault) -> Reported
         requires { self.old.text.items ≡ [] }
         ensures reports { ReportsFault self.old.decoder.used fault.now self.new.text.items result }
@@ -236,7 +240,7 @@ impl TextDecoder {
     {
         let mut line = ArrayString::<MAX_FAULT_LINE>::new();
         fault_line(fault, self.decoder.used(), &mut line);
-        // Without memory for it there is no line.
+        // The error is reported without a line if the line cannot be allocated.
         if let Err(_) = self.text.extend_from_slice(line.as_str().as_bytes()) {
             self.text.clear();
         }
@@ -247,7 +251,6 @@ impl TextDecoder {
     }
 }
 
-// The status of an answer.
 fn status_of(out: &Decoded<Event>) -> u32
     ensures { HasStatus out.now result }
 {

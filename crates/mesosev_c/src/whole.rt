@@ -1,4 +1,4 @@
-//! A whole input read at once: how many events it has, or its first fault.
+//! Decoding of a whole input: the number of its events, or its first error.
 
 ghost use Rattle.std.specs.Prelude.{◌≡◌, ◌≤◌, ℕ, List, [], length};
 ghost use Rattle.mes_msg.specs.Event.{Event as EventValue};
@@ -18,16 +18,16 @@ use mes_stream::{
 };
 use std::alloc::Global;
 
-/// What a whole input came to.
+/// The outcome of a whole input.
 #[derive(Debug, Drop)]
 pub struct Checked {
-    /// How many events were read.
+    /// The number of events; it saturates at 2^64 - 1.
     pub events: u64,
-    /// How many of the bytes were used; or the fault, and how many bytes were used up to it.
+    /// The number of bytes used, or the first error and the number of bytes used up to it.
     pub outcome: Result<u64, Stop>,
 }
 
-/// Reads the bytes of a whole input, and holds one event at a time.
+/// Decodes a whole input, and buffers one event at a time.
 pub fn check_whole(alloc: Global, framing: Framing, limit: Limit, bytes: &[u8]) -> Checked
     ensures { (events : List EventValue) × (result.events ≡ saturated (length events))
         × IsInput framing limit bytes.now events result.outcome }
@@ -36,7 +36,7 @@ pub fn check_whole(alloc: Global, framing: Framing, limit: Limit, bytes: &[u8]) 
     read_all(&mut stream, bytes)
 }
 
-// Reads the bytes of a whole input by a reader before its first byte.
+// `stream` is before its first byte.
 fn read_all(stream: &mut StreamReader<EventReader>, bytes: &[u8]) -> Checked
     ensures { (framing : FramingValue) (limit : ℕ)
         → StreamRepresents HoldsData Spells 0 stream.old framing limit [] []
@@ -74,7 +74,7 @@ fn read_all(stream: &mut StreamReader<EventReader>, bytes: &[u8]) -> Checked
     Checked { events, outcome }
 }
 
-// What it comes to where the input ends behind so many bytes, all of which were used.
+// The outcome if the input ends after `used` bytes, all of which were used.
 fn end_all(stream: &StreamReader<EventReader>, used: u64) -> Result<u64, Stop>
     ensures { (framing : FramingValue) (limit : ℕ) (w : List ℕ) (events : List EventValue)
         → StreamRepresents HoldsData Spells 0 stream.now framing limit w events
@@ -87,7 +87,7 @@ fn end_all(stream: &StreamReader<EventReader>, used: u64) -> Result<u64, Stop>
 }
 
 impl Checked {
-    /// `SUCCESS`, or the number of the fault.
+    /// Returns `SUCCESS`, or the number of the error.
     pub fn status(&self) -> u32
         ensures { result ≡ status_of self.now.outcome }
     {
@@ -97,7 +97,7 @@ impl Checked {
         }
     }
 
-    /// How many bytes were used.
+    /// Returns the number of bytes used.
     pub fn used(&self) -> u64
         ensures { result ≡ used_of self.now.outcome }
     {
@@ -107,7 +107,8 @@ impl Checked {
         }
     }
 
-    /// Writes the line that `mesosev check` prints of the input, without its LF, in place of the text.
+    /// Writes to `line` what `mesosev check` prints for the input, without the LF. Replaces its
+    /// content.
     pub fn line(&self, line: &mut ArrayString<MAX_FAULT_LINE>)
         ensures { line.new.bytes ≡ line_of self.now.events self.now.outcome }
     {
@@ -118,7 +119,6 @@ impl Checked {
     }
 }
 
-// The line of so many events in so many bytes.
 fn put_count(events: u64, used: u64, line: &mut ArrayString<MAX_FAULT_LINE>)
     ensures { line.new.bytes ≡ line_of events (Ok used) }
 {

@@ -39,12 +39,12 @@ use Rattle.mesosev_c.proofs.handle.Handle.reach.Code as code
 abbrev stayed : Stays f.ended.signature.params f.ended.kept
 stayed = (stay_dropped (mut_ref_to (0 ∷ []) tt (plain (λ _. Of))) no, tt)
 
--- the box that the handle stands for
+-- the box that the handle represents
 abbrev as_box : Of.Denot → D E
 as_box h = record { ptr = h.ptr; alloc = h.alloc; value = h.held }
 
 module _ {M : Type 1} {𝓤 : Ura M} (𝓛 : Logic 𝓤) (h : Of.Denot) (rb ro b o : ℕ) (hv : Val) where
-  -- all of the handle but the decoder
+  -- all parts of the handle except the decoder
   abbrev Rest : Fml
   Rest = fsep (fsep (token E.al h.alloc (bare (τ E)) (block_ptr b o)) (handle E h.alloc hv)) (cell_at full_share Of.mir (word E hv b o ∷ []) rb ro)
 
