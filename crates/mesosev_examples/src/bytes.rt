@@ -1,15 +1,15 @@
-//! The bytes that a row asks of.
+//! Bytes of a row.
 
 use crate::outcome::Reported;
 use arrayvec::ArrayVec;
 
-/// The most bytes that a row asks of, or that are written for one.
+// The largest input or output of a row, in bytes.
 const BYTES_MOST: usize = 2_048;
 
-/// Bytes that take no memory.
+/// A buffer without an allocation.
 pub(crate) type Bytes = ArrayVec<u8, BYTES_MOST>;
 
-/// The bytes that a row writes, where `|` stands for CR LF and `~` for LF.
+/// Converts the text of a row into bytes: `|` becomes CR LF, `~` becomes LF.
 pub(crate) fn bytes_of(text: &str) -> Result<Bytes, Reported> {
     let mut bytes = ArrayVec::new();
     for byte in text.as_bytes() {
@@ -20,7 +20,7 @@ pub(crate) fn bytes_of(text: &str) -> Result<Bytes, Reported> {
     Ok(bytes)
 }
 
-/// Adds what a byte of a row stands for. Whether there was room.
+// Returns whether there was space.
 fn has_added(bytes: &mut Bytes, byte: u8) -> bool {
     let added = match byte {
         b'|' => bytes.try_extend_from_slice(b"\r\n"),

@@ -1,4 +1,4 @@
-//! Heads that are read: of a stream, of an answer to another call, and of a request.
+//! HTTP heads that are read: of a stream, of a response to another call, and of a request.
 
 use crate::bytes::bytes_of;
 use crate::outcome::Reported;
@@ -8,7 +8,7 @@ use mes_frame::MemorySource;
 use mes_stream::MAX_READ;
 use std::alloc::Global;
 
-/// Takes the head of a row, of the kind that its first word says.
+/// Reads the head of a row, of the kind named by its first word.
 pub(crate) fn answer(alloc: Global, row: &str, words: &mut Words) -> Result<(), Reported> {
     let (what, text) = row.split_once(' ').unwrap_or((row, ""));
     let bytes = bytes_of(text)?;
@@ -19,39 +19,35 @@ pub(crate) fn answer(alloc: Global, row: &str, words: &mut Words) -> Result<(), 
     }
 }
 
-/// Takes the head before a stream, and tells the stream's id.
+// Prints the stream's id.
 fn tell_head(bytes: &[u8], words: &mut Words) -> Result<(), Reported> {
     let id = read_head(&mut MemorySource::new(bytes, MAX_READ))?;
     words.say(id.as_str());
     Ok(())
 }
 
-/// Takes the head of an answer to another call.
 fn tell_answer(bytes: &[u8], words: &mut Words) -> Result<(), Reported> {
     read_answer(&mut MemorySource::new(bytes, MAX_READ))?;
     words.say("taken");
     Ok(())
 }
 
-/// Takes a request, and tells the stream's id and the body.
+// Prints the stream's id and the body.
 fn tell_request(alloc: Global, bytes: &[u8], words: &mut Words) -> Result<(), Reported> {
     let request = request_of(alloc, bytes)?;
     say_request(&request, words);
     Ok(())
 }
 
-/// Tells the stream's id and the body of a request.
 fn say_request(request: &Request, words: &mut Words) {
     words.say(name_of(request.stream.as_ref()));
     words.say_bytes(request.body.as_slice());
 }
 
-/// The request that bytes begin with.
 fn request_of(alloc: Global, bytes: &[u8]) -> Result<Request, Reported> {
     Ok(read_request(alloc, &mut MemorySource::new(bytes, MAX_READ))?)
 }
 
-/// The id of a stream, or `-`.
 fn name_of(id: Option<&StreamId>) -> &str {
     match id {
         Some(id) => id.as_str(),

@@ -1,5 +1,6 @@
-//! What a session or a test master has, by all that only looks: in words that take no memory, to be told and to be compared. What a
-//! getter does not give below its length is `missing`.
+//! State of a session or a test master, read through every getter, as a text that does not
+//! allocate. It is printed, and compared before and after a failed call. `missing` marks an index
+//! below the length without a value.
 
 use crate::offers::{add_offer, is_same_offer};
 use crate::words::Words;
@@ -7,10 +8,11 @@ use mes_double_master::Master;
 use mes_model::{Id, Offer, OwedKey};
 use mes_session::Session;
 
-/// An identifier that no offer of a row has.
+// An identifier of no offer in the rows.
 const NO_OFFER: &str = "O0";
 
-/// What a session has: its framework or `-`, whether its stream stands, the offers in hand, and the updates that it owes.
+/// Describes a session: its framework or `-`, whether it is connected, the outstanding offers, and
+/// the unacknowledged updates.
 pub(crate) fn held_by_session(session: &Session) -> Words {
     let mut words = Words::new();
     words.say("framework");
@@ -21,7 +23,8 @@ pub(crate) fn held_by_session(session: &Session) -> Words {
     words
 }
 
-/// What a master has: its stream or `-`, the outstanding offers, the launched tasks, and the updates that were acknowledged.
+/// Describes a master: its stream or `-`, the outstanding offers, the launched tasks, and the
+/// acknowledged updates.
 pub(crate) fn held_by_master(master: &Master) -> Words {
     let mut words = Words::new();
     words.say("stream");
@@ -35,7 +38,6 @@ pub(crate) fn held_by_master(master: &Master) -> Words {
     words
 }
 
-/// An identifier, or this word.
 fn name_or<'a>(id: Option<&'a Id>, none: &'a str) -> &'a str {
     match id {
         Some(id) => id.value.as_str(),
@@ -43,14 +45,14 @@ fn name_or<'a>(id: Option<&'a Id>, none: &'a str) -> &'a str {
     }
 }
 
-/// A word, and how many there are of what it names.
 fn add_length(words: &mut Words, name: &str, length: usize) {
     words.add_word(name);
     words.add(" ");
     words.add_number(length as u64);
 }
 
-/// The offers in hand, each found by its place and by its identifier; and what is found behind them, and by an identifier that none has.
+// Looks up each offer by index and by identifier. An index after the last offer and an unknown
+// identifier must give none.
 fn add_hand(words: &mut Words, session: &Session) {
     let length = session.hand_len();
     add_length(words, "hand", length);
@@ -61,7 +63,6 @@ fn add_hand(words: &mut Words, session: &Session) {
     add_stray(words, session.offer(NO_OFFER).is_some());
 }
 
-/// The offer at a place of the hand, and whether it is the one of its identifier.
 fn add_in_hand(words: &mut Words, session: &Session, offer: Option<&Offer>) {
     match offer {
         Some(offer) => {
@@ -72,7 +73,6 @@ fn add_in_hand(words: &mut Words, session: &Session, offer: Option<&Offer>) {
     }
 }
 
-/// Whether an offer was found again, by its identifier.
 fn found_again(offer: &Offer, again: Option<&Offer>) -> &'static str {
     match again {
         Some(again) if is_same_offer(offer, again) => "=same",
@@ -81,14 +81,13 @@ fn found_again(offer: &Offer, again: Option<&Offer>) -> &'static str {
     }
 }
 
-/// That there is something where nothing may be.
+// Marks a value at an index or identifier that must have none.
 fn add_stray(words: &mut Words, is_there: bool) {
     if is_there {
         words.add_word("stray");
     }
 }
 
-/// The updates that are owed.
 fn add_owed(words: &mut Words, session: &Session) {
     let length = session.owed_len();
     add_length(words, "owed", length);
@@ -98,7 +97,6 @@ fn add_owed(words: &mut Words, session: &Session) {
     add_stray(words, session.owed_at(length).is_some());
 }
 
-/// The outstanding offers.
 fn add_outstanding(words: &mut Words, master: &Master) {
     let length = master.outstanding_len();
     add_length(words, "outstanding", length);
@@ -108,7 +106,6 @@ fn add_outstanding(words: &mut Words, master: &Master) {
     add_stray(words, master.outstanding_at(length).is_some());
 }
 
-/// The offer at a place.
 fn add_offer_at(words: &mut Words, offer: Option<&Offer>) {
     match offer {
         Some(offer) => add_offer(words, offer),
@@ -116,7 +113,6 @@ fn add_offer_at(words: &mut Words, offer: Option<&Offer>) {
     }
 }
 
-/// The launched tasks.
 fn add_launched(words: &mut Words, master: &Master) {
     let length = master.launched_len();
     add_length(words, "launched", length);
@@ -126,7 +122,6 @@ fn add_launched(words: &mut Words, master: &Master) {
     add_stray(words, master.launched_at(length).is_some());
 }
 
-/// The updates that were acknowledged.
 fn add_acked(words: &mut Words, master: &Master) {
     let length = master.acked_len();
     add_length(words, "acked", length);
@@ -136,7 +131,7 @@ fn add_acked(words: &mut Words, master: &Master) {
     add_stray(words, master.acked_at(length).is_some());
 }
 
-/// The key of an update: its agent, its task, and its uuid in hexadecimal digits.
+// The agent, the task, and the uuid in hexadecimal digits.
 fn add_key(words: &mut Words, key: Option<&OwedKey>) {
     let Some(key) = key else {
         words.add_word("missing");
@@ -149,7 +144,6 @@ fn add_key(words: &mut Words, key: Option<&OwedKey>) {
     add_digits(words, key.uuid.as_slice());
 }
 
-/// Bytes in hexadecimal digits.
 fn add_digits(words: &mut Words, bytes: &[u8]) {
     for byte in bytes {
         words.add_hexadecimal(*byte);

@@ -12,11 +12,11 @@ use mes_session::{Session, read_log, replay, write_log};
 use mes_stream::{MAX_READ, Report, Stop};
 use std::alloc::Global;
 
-/// How many reads a log may take.
+// The maximum number of reads for a log.
 const READS: u64 = 1_000;
 
-/// Reads the log of a row, and tells its entries and how many bytes it has; behind them what it comes to, or what its entries are written
-/// as.
+/// Reads the log of a row, and prints its entries and its length. Then prints the outcome of the
+/// replay, or the log as written.
 pub(crate) fn answer(alloc: Global, row: &str, words: &mut Words) -> Result<(), Reported> {
     let (what, text) = row.split_once(' ').unwrap_or((row, ""));
     let mut entries = Vec::new(alloc);
@@ -24,8 +24,7 @@ pub(crate) fn answer(alloc: Global, row: &str, words: &mut Words) -> Result<(), 
     tell(alloc, what, entries.as_slice(), words)
 }
 
-/// Reads a log, and tells its entries, and then how many bytes it has. Of one that was refused memory or has a fault it tells the entries
-/// that were read before that.
+// After an error the entries that precede it are printed.
 fn read(
     alloc: Global,
     text: &str,
@@ -40,13 +39,12 @@ fn read(
     words.go_on_behind(was_refused, next)
 }
 
-/// Reads a log from a device that gives all it is asked for.
 fn read_once(alloc: Global, bytes: &[u8], entries: &mut Vec<Entry>) -> Result<Report, Stop> {
     let mut source = MemorySource::new(bytes, MAX_READ);
     read_log(alloc, &mut source, Limit::USUAL, READS, entries)
 }
 
-/// Tells entries by their letters and canonical texts.
+// The letter of each entry and its canonical text.
 fn tell_entries(alloc: Global, entries: &[Entry], words: &mut Words) -> Result<(), Reported> {
     for entry in entries {
         tell_entry(alloc, entry, words)?;
@@ -54,7 +52,6 @@ fn tell_entries(alloc: Global, entries: &[Entry], words: &mut Words) -> Result<(
     Ok(())
 }
 
-/// Tells an entry.
 fn tell_entry(alloc: Global, entry: &Entry, words: &mut Words) -> Result<(), Reported> {
     match entry {
         Entry::Heard(event) => say_entry("E", event_text(alloc, event)?.as_slice(), words),
@@ -64,19 +61,17 @@ fn tell_entry(alloc: Global, entry: &Entry, words: &mut Words) -> Result<(), Rep
     Ok(())
 }
 
-/// Tells a letter and the text behind it.
 fn say_entry(letter: &str, text: &[u8], words: &mut Words) {
     words.say(letter);
     words.add_bytes(text);
 }
 
-/// Tells what the reading of so many entries came to.
 fn tell_end(count: u64, report: Result<Report, Stop>, words: &mut Words) -> Result<(), Reported> {
     say_report(count, &report?, words);
     Ok(())
 }
 
-/// Tells how many entries a log has and how many bytes, and what was taken behind its end.
+// Prints the number of entries, the length in bytes, and the bytes that were read after the end.
 fn say_report(count: u64, report: &Report, words: &mut Words) {
     words.say_number("entries", count);
     words.add(" bytes ");
@@ -87,7 +82,6 @@ fn say_report(count: u64, report: &Report, words: &mut Words) {
     }
 }
 
-/// Tells what entries come to, or what they are written as.
 fn tell(alloc: Global, what: &str, entries: &[Entry], words: &mut Words) -> Result<(), Reported> {
     match what {
         "replay" => tell_session(alloc, entries, words),
@@ -95,21 +89,18 @@ fn tell(alloc: Global, what: &str, entries: &[Entry], words: &mut Words) -> Resu
     }
 }
 
-/// Tells the report of the session that entries lead to.
 fn tell_session(alloc: Global, entries: &[Entry], words: &mut Words) -> Result<(), Reported> {
     look_at(session_of(alloc, entries)?, |session| {
         say_session(session, entries.len() as u64, words)
     })
 }
 
-/// Tells the report of a session that so many entries lead to.
 fn say_session(session: &Session, count: u64, words: &mut Words) -> Result<(), Reported> {
     let report = session.report(count)?;
     words.say_bytes(report.as_slice());
     Ok(())
 }
 
-/// The session that entries lead to.
 fn session_of(alloc: Global, entries: &[Entry]) -> Result<Session, Reported> {
     match replay(alloc, entries) {
         Ok(session) => Ok(session),
@@ -117,7 +108,7 @@ fn session_of(alloc: Global, entries: &[Entry]) -> Result<Session, Reported> {
     }
 }
 
-/// Tells what entries are written as; where memory is refused, nothing may have gone out.
+// If an allocation fails, nothing may have been written.
 fn tell_written(alloc: Global, entries: &[Entry], words: &mut Words) -> Result<(), Reported> {
     let mut written = Bytes::new();
     let mut sink = FromStd::new(&mut written);

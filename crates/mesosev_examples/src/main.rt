@@ -1,5 +1,6 @@
-//! Worked examples of what the libraries promise, asked by their public calls. Each is a row, printed in one line: its name, and what was
-//! answered. Where memory was refused, the line says so and the row is asked again; docs/FORMAT.md has the lines.
+//! Worked examples of the libraries' promises, run through their public calls. Each row prints one
+//! line: its name, and the result. A row for which an allocation fails says so and runs once more.
+//! docs/FORMAT.md describes the lines; rows.rt has the rows.
 #![tactic(auto)]
 
 mod bytes;
@@ -35,7 +36,7 @@ fn main(rt: HostRuntime) -> io::Result<()> {
     Ok(())
 }
 
-/// Prints a row's name and its answer. A row that is refused memory is asked once more.
+// A row for which an allocation fails runs once more.
 fn tell_row(rt: &HostRuntime, line: &str) -> io::Result<()> {
     let (name, asked) = line.split_once(" => ").unwrap_or((line, ""));
     let mut words = Words::new();
@@ -45,14 +46,13 @@ fn tell_row(rt: &HostRuntime, line: &str) -> io::Result<()> {
     println!(rt; "{name}: {}{}", words.as_str(), words.ending())
 }
 
-/// Tells a row's answer. Whether it was refused memory.
+// Returns whether an allocation failed.
 fn is_refused(alloc: Global, asked: &str, words: &mut Words) -> bool {
     let (what, rest) = asked.split_once(' ').unwrap_or((asked, ""));
     let answer = answer(alloc, what, rest, words);
     words.say_answer(answer)
 }
 
-/// Asks what a row asks, by its first word.
 fn answer(alloc: Global, what: &str, rest: &str, words: &mut Words) -> Result<(), Reported> {
     match what {
         "stream" => streams::answer(alloc, rest, words),

@@ -1,4 +1,4 @@
-//! Calls that a session is asked to make, like given ones.
+//! Calls made by a session from given calls.
 
 use mes_model::{OwedKey, Part, TaskInfo};
 use mes_msg::{
@@ -7,7 +7,7 @@ use mes_msg::{
 use mes_session::{Refusal, Session};
 use std::alloc::Global;
 
-/// Asks for a call made of what stands in another.
+/// Has the session make a call with the values of `call`.
 pub(crate) fn make(alloc: Global, session: &mut Session, call: &Call) -> Result<Call, Refusal> {
     match call {
         Call::Subscribe { body, .. } => subscribe(session, body),
@@ -24,18 +24,16 @@ pub(crate) fn make(alloc: Global, session: &mut Session, call: &Call) -> Result<
     }
 }
 
-/// Asks for a SUBSCRIBE like another.
 fn subscribe(session: &mut Session, body: &Subscribe) -> Result<Call, Refusal> {
     session.subscribe(&body.framework_info)
 }
 
-/// Asks for an ACCEPT like another.
 fn accept(session: &mut Session, body: &Accept) -> Result<Call, Refusal> {
     let ids = body.offer_ids.as_slice();
     session.accept(ids, tasks_of(body), body.filters.as_ref())
 }
 
-/// The tasks that an ACCEPT launches by its first operation, or none.
+// The tasks of the first operation, if any.
 fn tasks_of(body: &Accept) -> &[TaskInfo] {
     match body.operations.as_slice().first() {
         Some(Operation::Launch { task_infos }) => task_infos.as_slice(),
@@ -43,23 +41,19 @@ fn tasks_of(body: &Accept) -> &[TaskInfo] {
     }
 }
 
-/// Asks for a DECLINE like another.
 fn decline(session: &mut Session, body: &Decline) -> Result<Call, Refusal> {
     session.decline(body.offer_ids.as_slice(), body.filters.as_ref())
 }
 
-/// Asks for a KILL like another.
 fn kill(session: &mut Session, body: &Kill) -> Result<Call, Refusal> {
     session.kill(&body.task_id, body.agent_id.as_ref())
 }
 
-/// Asks for an ACKNOWLEDGE like another.
 fn acknowledge(alloc: Global, session: &mut Session, body: &Acknowledge) -> Result<Call, Refusal> {
     let key = key_of(alloc, body)?;
     session.acknowledge(&key)
 }
 
-/// The key that an ACKNOWLEDGE tells.
 fn key_of(alloc: Global, body: &Acknowledge) -> Result<OwedKey, Refusal> {
     let agent = body.agent_id.copy(alloc)?;
     let task = body.task_id.copy(alloc)?;
@@ -67,17 +61,14 @@ fn key_of(alloc: Global, body: &Acknowledge) -> Result<OwedKey, Refusal> {
     Ok(OwedKey { agent, task, uuid })
 }
 
-/// Asks for a RECONCILE like another.
 fn reconcile(session: &mut Session, body: &Reconcile) -> Result<Call, Refusal> {
     session.reconcile(body.tasks.as_slice())
 }
 
-/// Asks for a SHUTDOWN like another.
 fn shutdown(session: &mut Session, body: &Shutdown) -> Result<Call, Refusal> {
     session.shutdown(&body.executor_id, &body.agent_id)
 }
 
-/// Asks for a MESSAGE like another.
 fn message(session: &mut Session, body: &Message) -> Result<Call, Refusal> {
     session.message(&body.agent_id, &body.executor_id, body.payload.as_slice())
 }

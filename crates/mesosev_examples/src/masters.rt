@@ -1,4 +1,4 @@
-//! A test master: what it answers and sends, and what it has then.
+//! A test master: its responses, the events that it sends, and its state.
 
 use crate::held::held_by_master;
 use crate::messages::{call_of, event_of, say_event};
@@ -15,37 +15,35 @@ use mes_msg::{Call, Event};
 use std::alloc::Global;
 use uuid::Uuid;
 
-/// The id of the first stream, which each call is for.
+// The id of the first stream, to which each call is addressed.
 const FIRST_STREAM: u128 = 1;
 
-/// The id of the second stream.
 const SECOND_STREAM: u128 = 2;
 
-/// What a master sends of its own, or notes as sent.
+// An event that a master sends on its own, or records as sent.
 #[derive(Clone, Copy)]
 enum Sending<'a> {
-    /// Offers that it makes.
+    // Offers that it makes.
     Offers(&'a [Offer]),
-    /// Offers that it notes as made.
+    // Offers that it records as made.
     NotedOffers(&'a [Offer]),
-    /// That the offer of this identifier is gone.
+    // A rescind of the offer with this identifier.
     Rescind(&'a str),
-    /// An update.
     Update(&'a TaskStatus),
-    /// An update that it notes as sent.
+    // An update that it records as sent.
     NotedUpdate(&'a TaskStatus),
-    /// The update at this place among those that no one has acknowledged.
+    // The unacknowledged update at this index.
     Resend(usize),
 }
 
-/// Does the steps of a row with a new master.
+/// Performs the steps of a row on a new master.
 pub(crate) fn run(alloc: Global, steps: &str, words: &mut Words) -> Result<(), Reported> {
     change(new_master(alloc)?, |master| {
         do_steps(alloc, master, steps, words)
     })
 }
 
-/// Does steps, one behind the other. One that is refused says so; want of memory ends the row.
+// A rejected step is printed, and the row goes on; a failed allocation ends the row.
 fn do_steps(
     alloc: Global,
     master: &mut Master,
@@ -59,20 +57,18 @@ fn do_steps(
     Ok(())
 }
 
-/// A master of the framework F1.
+// A master of the framework F1.
 fn new_master(alloc: Global) -> Result<Master, NoMemory> {
     let framework = framework(alloc)?;
     let ids = stream_ids(alloc)?;
     Ok(Master::new(alloc, framework, ids))
 }
 
-/// The framework F1.
 fn framework(alloc: Global) -> Result<Id, NoMemory> {
     let value = Text::of(alloc, "F1")?;
     Ok(Id { value })
 }
 
-/// The ids of the streams.
 fn stream_ids(alloc: Global) -> Result<Vec<Uuid>, NoMemory> {
     let mut ids = Vec::new(alloc);
     ids.push(Uuid::from_u128(FIRST_STREAM))?;
@@ -80,7 +76,7 @@ fn stream_ids(alloc: Global) -> Result<Vec<Uuid>, NoMemory> {
     Ok(ids)
 }
 
-/// Does a step: answers a call, sends an event, or tells what it has.
+// Handles a call, sends an event, or prints the state.
 fn do_step(
     alloc: Global,
     master: &mut Master,
@@ -100,14 +96,12 @@ fn do_step(
     }
 }
 
-/// Answers the call of a text, and tells the answer.
 fn call(alloc: Global, master: &mut Master, text: &str, words: &mut Words) -> Result<(), Reported> {
     look_at(call_of(alloc, text)?, |call| {
         answer_call(alloc, master, call, words)
     })
 }
 
-/// Answers a call, and tells the answer.
 fn answer_call(
     alloc: Global,
     master: &mut Master,
@@ -118,18 +112,18 @@ fn answer_call(
     tell_answer(alloc, &answer, words)
 }
 
-/// Tells an answer: its status and its events.
+// Prints the status and the events.
 fn tell_answer(alloc: Global, answer: &Answer, words: &mut Words) -> Result<(), Reported> {
     words.say_number("answered", u64::from(answer.status.as_u16()));
     tell_events(alloc, answer.events.as_slice(), words)
 }
 
-/// What a call is answered. Where memory is refused, it is asked once more.
+// Repeats the call once if an allocation fails.
 fn handle(master: &mut Master, call: &Call, words: &mut Words) -> Result<Answer, Reported> {
     ask_twice(|| handle_once(master, call), words)
 }
 
-/// What a call is answered. Where memory is refused, all that looks has to answer as before.
+// After an error every getter must return the same as before.
 fn handle_once(master: &mut Master, call: &Call) -> Result<Answer, Reported> {
     let stream = StreamId::of_uuid(Uuid::from_u128(FIRST_STREAM));
     let before = held_by_master(master);
@@ -139,7 +133,7 @@ fn handle_once(master: &mut Master, call: &Call) -> Result<Answer, Reported> {
     }
 }
 
-/// Sends what the event of a text tells: offers that are made, or an update.
+// Offers or an update.
 fn send_like(
     alloc: Global,
     master: &mut Master,
@@ -151,7 +145,6 @@ fn send_like(
     })
 }
 
-/// Sends what an event tells.
 fn send_told(
     alloc: Global,
     master: &mut Master,
@@ -165,7 +158,7 @@ fn send_told(
     }
 }
 
-/// Notes as sent what the event of a text tells: offers that are made, or an update.
+// Offers or an update.
 fn note_like(
     alloc: Global,
     master: &mut Master,
@@ -177,7 +170,6 @@ fn note_like(
     })
 }
 
-/// Notes as sent what an event tells.
 fn note_told(master: &mut Master, event: &Event, words: &mut Words) -> Result<(), Reported> {
     match event {
         Event::Offers(offers) => note(master, Sending::NotedOffers(offers.as_slice()), words),
@@ -186,7 +178,7 @@ fn note_told(master: &mut Master, event: &Event, words: &mut Words) -> Result<()
     }
 }
 
-/// Has the master note something, and tells that it did. No event is given.
+// A recorded event is not sent, so that there must be none.
 fn note(master: &mut Master, sending: Sending<'_>, words: &mut Words) -> Result<(), Reported> {
     look_at(sent_event(master, sending, words)?, |event| {
         words.say(if event.is_none() { "noted" } else { "sent" });
@@ -194,7 +186,6 @@ fn note(master: &mut Master, sending: Sending<'_>, words: &mut Words) -> Result<
     Ok(())
 }
 
-/// Has the master send the update at a place again.
 fn resend(
     alloc: Global,
     master: &mut Master,
@@ -207,7 +198,6 @@ fn resend(
     }
 }
 
-/// Tells the event that the master sends.
 fn send(
     alloc: Global,
     master: &mut Master,
@@ -220,7 +210,7 @@ fn send(
     })
 }
 
-/// The event that the master sends, or none of what it notes. Where memory is refused, it is asked once more.
+// Returns `None` for what is only recorded. Repeats the call once if an allocation fails.
 fn sent_event(
     master: &mut Master,
     sending: Sending<'_>,
@@ -229,7 +219,7 @@ fn sent_event(
     ask_twice(|| send_once(master, sending), words)
 }
 
-/// The event that the master sends, or none. Where it is refused, all that looks has to answer as before.
+// After an error every getter must return the same as before.
 fn send_once(master: &mut Master, sending: Sending<'_>) -> Result<Option<Event>, Reported> {
     let before = held_by_master(master);
     match ask_to_send(master, sending) {
@@ -238,7 +228,6 @@ fn send_once(master: &mut Master, sending: Sending<'_>) -> Result<Option<Event>,
     }
 }
 
-/// What the master's own call gives.
 fn ask_to_send(master: &mut Master, sending: Sending<'_>) -> Result<Option<Event>, MasterRefusal> {
     match sending {
         Sending::Offers(offers) => Ok(Some(master.offer(offers)?)),
@@ -256,7 +245,6 @@ fn ask_to_send(master: &mut Master, sending: Sending<'_>) -> Result<Option<Event
     }
 }
 
-/// Whether a master has this.
 fn is_still(master: &Master, before: &Words) -> bool {
     held_by_master(master).is_same(before)
 }

@@ -8,16 +8,16 @@ use mes_model_schema::json::{self, NoMemory, read_text, write_text};
 use mes_msg::{Call, Event, Limit};
 use std::alloc::Global;
 
-/// The word that stands in a text before a tree is written into it.
+// The content of a buffer before a tree is written to it.
 const WORD: &[u8] = b"tree ";
 
-/// Reads an event, and tells its canonical text, its lines, and whether its copy and what its text is read to are the same.
+/// Reads an event; prints its canonical text, its lines, and whether its copy and its text read
+/// again are the same.
 pub(crate) fn report_event(alloc: Global, text: &str, words: &mut Words) -> Result<(), Reported> {
     let event = event_of(alloc, text.as_bytes())?;
     tell_texts(alloc, &event, words)
 }
 
-/// The same of an event that is read.
 fn tell_texts(alloc: Global, event: &Event, words: &mut Words) -> Result<(), Reported> {
     let canonical = event_text(alloc, event)?;
     words.say_bytes(canonical.as_slice());
@@ -29,29 +29,28 @@ fn tell_texts(alloc: Global, event: &Event, words: &mut Words) -> Result<(), Rep
     Ok(())
 }
 
-/// The event that a text spells.
+/// Reads an event from its text.
 pub(crate) fn event_of(alloc: Global, text: &[u8]) -> Result<Event, Reported> {
     Ok(Event::read_record(alloc, text)?)
 }
 
-/// The canonical text of an event.
+/// Returns the canonical text of an event.
 pub(crate) fn event_text(alloc: Global, event: &Event) -> Result<Vec<u8>, Reported> {
     canon_within(alloc, event, Limit::USUAL)
 }
 
-/// The canonical text of an event, where a record may have so many bytes.
 fn canon_within(alloc: Global, event: &Event, limit: Limit) -> Result<Vec<u8>, Reported> {
     Ok(event.canon(alloc, limit)?)
 }
 
-/// Tells the canonical text of an event.
+/// Prints the canonical text of an event.
 pub(crate) fn say_event(alloc: Global, event: &Event, words: &mut Words) -> Result<(), Reported> {
     let canonical = event_text(alloc, event)?;
     words.say_bytes(canonical.as_slice());
     Ok(())
 }
 
-/// Tells the lines of an event, and whether the same are appended to a text.
+// Prints whether the lines are the same when appended to a buffer.
 fn tell_lines(alloc: Global, event: &Event, words: &mut Words) -> Result<(), Reported> {
     let lines = event.show_lines(alloc, 1)?;
     words.say_bytes(lines.as_slice());
@@ -63,7 +62,8 @@ fn tell_lines(alloc: Global, event: &Event, words: &mut Words) -> Result<(), Rep
     Ok(())
 }
 
-/// The lines of an event behind the word. Where memory is refused, the word has to stand there still, with a part of them behind it.
+// If an allocation fails, the buffer must still begin with the word; a part of the lines may
+// follow.
 fn lines_behind(alloc: Global, event: &Event) -> Result<Vec<u8>, Reported> {
     let mut lines = word(alloc)?;
     match event.push_lines(1, &mut lines) {
@@ -74,19 +74,17 @@ fn lines_behind(alloc: Global, event: &Event) -> Result<Vec<u8>, Reported> {
     }
 }
 
-/// The canonical text of the copy of an event.
 fn canon_of_copy(alloc: Global, event: &Event) -> Result<Vec<u8>, Reported> {
     let copy = event.copy(alloc)?;
     event_text(alloc, &copy)
 }
 
-/// The canonical text of the event that a text spells, where a record may have so many bytes.
 fn canon_of_text(alloc: Global, text: &[u8], limit: Limit) -> Result<Vec<u8>, Reported> {
     let event = event_of(alloc, text)?;
     canon_within(alloc, &event, limit)
 }
 
-/// Reads an event, and tells its canonical text, where a record may have 24 bytes.
+/// Reads an event, and prints its canonical text under a record limit of 24 bytes.
 pub(crate) fn tell_short(alloc: Global, text: &str, words: &mut Words) -> Result<(), Reported> {
     let limit = Limit::new(24).unwrap_or(Limit::USUAL);
     let canonical = canon_of_text(alloc, text.as_bytes(), limit)?;
@@ -94,59 +92,58 @@ pub(crate) fn tell_short(alloc: Global, text: &str, words: &mut Words) -> Result
     Ok(())
 }
 
-/// Reads a call, and tells its canonical text.
+/// Reads a call, and prints its canonical text.
 pub(crate) fn report_call(alloc: Global, text: &str, words: &mut Words) -> Result<(), Reported> {
     look_at(call_of(alloc, text)?, |call| say_call(alloc, call, words))
 }
 
-/// The call that a text spells.
+/// Reads a call from its text.
 pub(crate) fn call_of(alloc: Global, text: &str) -> Result<Call, Reported> {
     Ok(Call::read_record(alloc, text.as_bytes())?)
 }
 
-/// Tells the canonical text of a call.
+/// Prints the canonical text of a call.
 pub(crate) fn say_call(alloc: Global, call: &Call, words: &mut Words) -> Result<(), Reported> {
     let canonical = call_text(alloc, call)?;
     words.say_bytes(canonical.as_slice());
     Ok(())
 }
 
-/// The canonical text of a call.
+/// Returns the canonical text of a call.
 pub(crate) fn call_text(alloc: Global, call: &Call) -> Result<Vec<u8>, Reported> {
     Ok(call.canon(alloc, Limit::USUAL)?)
 }
 
-/// Reads a resource, and tells what it is written as.
+/// Reads a resource, and prints it as written again.
 pub(crate) fn tell_resource(alloc: Global, text: &str, words: &mut Words) -> Result<(), Reported> {
     let resource = resource_of(alloc, text)?;
     say_resource(alloc, &resource, words)
 }
 
-/// Tells what a resource is written as, behind the word that stands before it.
 fn say_resource(alloc: Global, resource: &Resource, words: &mut Words) -> Result<(), Reported> {
     let written = text_of_resource(alloc, resource)?;
     words.say_bytes(written.as_slice());
     Ok(())
 }
 
-/// The text that a resource is written as, behind the word.
+// The text follows the word.
 fn text_of_resource(alloc: Global, resource: &Resource) -> Result<Vec<u8>, Reported> {
     let tree = resource.tree(alloc)?;
     text_of(alloc, &tree)
 }
 
-/// The resource that a text spells.
 fn resource_of(alloc: Global, text: &str) -> Result<Resource, Reported> {
     let tree = tree_of(alloc, text.as_bytes())?;
     Ok(Resource::read(alloc, &tree, &Path::new())?)
 }
 
-/// The tree that a text spells.
+/// Reads a JSON tree from its text.
 pub(crate) fn tree_of(alloc: Global, text: &[u8]) -> Result<json::Json, Reported> {
     Ok(read_text(alloc, text)?)
 }
 
-/// The canonical text of a tree, behind the word. Where memory is refused, the word alone has to stand there.
+/// Returns the word followed by the canonical text of a tree. If an allocation fails, the buffer
+/// must have the word alone.
 pub(crate) fn text_of(alloc: Global, tree: &json::Json) -> Result<Vec<u8>, Reported> {
     let mut text = word(alloc)?;
     match write_text(tree, &mut text) {
@@ -155,7 +152,7 @@ pub(crate) fn text_of(alloc: Global, tree: &json::Json) -> Result<Vec<u8>, Repor
     }
 }
 
-/// What stands behind the word in a text that begins with it.
+/// Returns what follows the word, if the text begins with it.
 pub(crate) fn behind_word(text: &[u8]) -> Option<&[u8]> {
     if text.get(..WORD.len()) == Some(WORD) {
         text.get(WORD.len()..)
@@ -164,7 +161,6 @@ pub(crate) fn behind_word(text: &[u8]) -> Option<&[u8]> {
     }
 }
 
-/// The word, in memory that a text is written into.
 fn word(alloc: Global) -> Result<Vec<u8>, NoMemory> {
     let mut text = Vec::new(alloc);
     text.extend_from_slice(WORD)?;

@@ -1,4 +1,4 @@
-//! Arrays in each other, as deep as they may nest and deeper, read at once and by the byte.
+//! Nested arrays, at the maximum depth and above, read at once and byte by byte.
 
 use crate::messages::{behind_word, event_of, text_of, tree_of};
 use crate::outcome::Reported;
@@ -6,10 +6,10 @@ use crate::words::Words;
 use mes_model_schema::json::{self, Lexer, MAX_NESTING, ReadFault};
 use std::alloc::Global;
 
-/// One array more than may nest.
+// One level above the maximum.
 const DEEPER: [u8; MAX_NESTING + 1] = [b'['; MAX_NESTING + 1];
 
-/// Reads arrays in each other, in the way that a row says.
+/// Reads nested arrays in the way named by a row.
 pub(crate) fn answer(alloc: Global, how: &str, words: &mut Words) -> Result<(), Reported> {
     match how {
         "deep" => read_deep(alloc, &deep(), words),
@@ -20,14 +20,14 @@ pub(crate) fn answer(alloc: Global, how: &str, words: &mut Words) -> Result<(), 
     }
 }
 
-/// Arrays in each other, as deep as they may nest.
+// Arrays at the maximum depth.
 fn deep() -> [u8; 2 * MAX_NESTING] {
     let mut text = [b'['; 2 * MAX_NESTING];
     text[MAX_NESTING..].fill(b']');
     text
 }
 
-/// Reads a text of arrays, and tells how deep they are, and whether their copy and their text are the same.
+// Prints the depth, and whether the copy and the written text are the same.
 fn read_deep(alloc: Global, text: &[u8], words: &mut Words) -> Result<(), Reported> {
     let tree = tree_of(alloc, text)?;
     words.say_number("depth", tree.depth());
@@ -35,14 +35,13 @@ fn read_deep(alloc: Global, text: &[u8], words: &mut Words) -> Result<(), Report
     compare_text(alloc, &tree, text, words)
 }
 
-/// Tells whether the copy of a tree is the same.
 fn compare_copy(alloc: Global, tree: &json::Json, words: &mut Words) -> Result<(), Reported> {
     let copy = tree.copy(alloc)?;
     words.say_same("copied", copy.same(tree));
     Ok(())
 }
 
-/// Tells whether a tree is written as this text, behind the word.
+// The written text follows the word.
 fn compare_text(
     alloc: Global,
     tree: &json::Json,
@@ -54,28 +53,24 @@ fn compare_text(
     Ok(())
 }
 
-/// Reads a text as an event.
 fn read_event(alloc: Global, text: &[u8], words: &mut Words) -> Result<(), Reported> {
     let _event = event_of(alloc, text)?;
     words.say("an event");
     Ok(())
 }
 
-/// Reads a text.
 fn read(alloc: Global, text: &[u8], words: &mut Words) -> Result<(), Reported> {
     let _tree = tree_of(alloc, text)?;
     words.say("a tree");
     Ok(())
 }
 
-/// Reads a text by the byte.
 fn lex(alloc: Global, text: &[u8], words: &mut Words) -> Result<(), Reported> {
     let _tree = lexed(alloc, text)?;
     words.say("a tree");
     Ok(())
 }
 
-/// Reads a text by the byte, and tells whether it is the tree of the whole text.
 fn compare_lexed(alloc: Global, text: &[u8], words: &mut Words) -> Result<(), Reported> {
     let lexed = lexed(alloc, text)?;
     let whole = tree_of(alloc, text)?;
@@ -83,7 +78,7 @@ fn compare_lexed(alloc: Global, text: &[u8], words: &mut Words) -> Result<(), Re
     Ok(())
 }
 
-/// The tree of a text that comes by the byte. A lexer that was refused memory has to answer so again.
+// After a failed allocation the lexer must report it again.
 fn lexed(alloc: Global, text: &[u8]) -> Result<json::Json, Reported> {
     let mut lexer = Lexer::new(alloc);
     for byte in text {
@@ -94,7 +89,6 @@ fn lexed(alloc: Global, text: &[u8]) -> Result<json::Json, Reported> {
     Ok(lexer.finish()?)
 }
 
-/// Whether a lexer that was refused memory answers so again.
 fn is_refused_again(lexer: Lexer) -> bool {
     let mut lexer = lexer;
     let push = lexer.push(b' ');

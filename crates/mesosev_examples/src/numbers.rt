@@ -1,11 +1,11 @@
-//! Numbers, as texts and as thousandths.
+//! Numbers, as texts and in thousandths.
 
 use crate::outcome::Reported;
 use crate::words::Words;
 use arrayvec::ArrayString;
 use mes_model_schema::fixed::{NumFault, Thousandths};
 
-/// Reads numbers, and tells how many thousandths each is and how it is written.
+/// Reads numbers, and prints each in thousandths and as written again, or its error.
 pub(crate) fn tell_numbers(texts: &str, words: &mut Words) -> Result<(), Reported> {
     for text in texts.split(' ') {
         tell_number(text, words);
@@ -13,7 +13,6 @@ pub(crate) fn tell_numbers(texts: &str, words: &mut Words) -> Result<(), Reporte
     Ok(())
 }
 
-/// Tells how many thousandths a number is and how it is written, or why it is none.
 fn tell_number(text: &str, words: &mut Words) {
     match Thousandths::read(text.as_bytes()) {
         Ok(number) => {

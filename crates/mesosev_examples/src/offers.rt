@@ -1,4 +1,4 @@
-//! An offer in words that take no memory: all its members, in the order of their tables.
+//! An offer as a text that does not allocate: all members, in the order of their tables.
 
 use crate::words::Words;
 use arrayvec::ArrayString;
@@ -8,7 +8,7 @@ use mes_model::{
 };
 use mes_model_schema::json::{Json, Text};
 
-/// Adds an offer: its identifier, and its other members in braces. What is absent is left out.
+/// Appends an offer: its identifier, and its other members in braces. Absent members are left out.
 pub(crate) fn add_offer(words: &mut Words, offer: &Offer) {
     words.add_word(offer.id.value.as_str());
     words.add("{framework ");
@@ -22,39 +22,35 @@ pub(crate) fn add_offer(words: &mut Words, offer: &Offer) {
     words.add("}");
 }
 
-/// Whether two offers are the same in words.
+/// Returns whether two offers have the same text.
 pub(crate) fn is_same_offer(one: &Offer, other: &Offer) -> bool {
     words_of(one).is_same(&words_of(other))
 }
 
-/// An offer in words.
 fn words_of(offer: &Offer) -> Words {
     let mut words = Words::new();
     add_offer(&mut words, offer);
     words
 }
 
-/// A member of text.
 fn add_member(words: &mut Words, name: &str, value: &str) {
     words.add_word(name);
     words.add_word(value);
 }
 
-/// A member of text, where it is there.
 fn add_some(words: &mut Words, name: &str, value: Option<&Text>) {
     if let Some(value) = value {
         add_member(words, name, value.as_str());
     }
 }
 
-/// The resources, each behind its word.
 fn add_resources(words: &mut Words, resources: &[Resource]) {
     for resource in resources {
         add_resource(words, resource);
     }
 }
 
-/// A resource: its name, and its other members in braces.
+// The name, and the other members in braces.
 fn add_resource(words: &mut Words, resource: &Resource) {
     add_member(words, "resource", resource.name.as_str());
     words.add("{");
@@ -69,7 +65,6 @@ fn add_resource(words: &mut Words, resource: &Resource) {
     words.add("}");
 }
 
-/// What there is of a resource, behind its type.
 fn add_resource_value(words: &mut Words, value: &ResourceValue) {
     match value {
         ResourceValue::Scalar(scalar) => add_scalar(words, scalar),
@@ -78,7 +73,6 @@ fn add_resource_value(words: &mut Words, value: &ResourceValue) {
     }
 }
 
-/// A number behind its type.
 fn add_scalar(words: &mut Words, scalar: &Scalar) {
     let mut number = ArrayString::new();
     scalar.value.write(&mut number);
@@ -86,7 +80,6 @@ fn add_scalar(words: &mut Words, scalar: &Scalar) {
     words.add(number.as_str());
 }
 
-/// Ranges behind their type.
 fn add_ranges(words: &mut Words, ranges: &Ranges) {
     words.add("RANGES");
     for range in ranges.range.as_slice() {
@@ -94,7 +87,6 @@ fn add_ranges(words: &mut Words, ranges: &Ranges) {
     }
 }
 
-/// The first and the last number of a range.
 fn add_range(words: &mut Words, range: &Range) {
     words.add(" ");
     words.add_number(range.first);
@@ -102,7 +94,6 @@ fn add_range(words: &mut Words, range: &Range) {
     words.add_number(range.last);
 }
 
-/// Names behind their type.
 fn add_set(words: &mut Words, set: &Set) {
     words.add("SET");
     for item in set.item.as_slice() {
@@ -110,14 +101,13 @@ fn add_set(words: &mut Words, set: &Set) {
     }
 }
 
-/// The role that something is allocated to, where it is; an allocation to none is `-`.
+// `-` is an allocation without a role.
 fn add_allocation(words: &mut Words, allocation: Option<&Allocation>) {
     if let Some(allocation) = allocation {
         add_member(words, "allocated", text_or_none(allocation.role.as_ref()));
     }
 }
 
-/// A text, or `-`.
 fn text_or_none(text: Option<&Text>) -> &str {
     match text {
         Some(text) => text.as_str(),
@@ -125,7 +115,7 @@ fn text_or_none(text: Option<&Text>) -> &str {
     }
 }
 
-/// For whom a resource is reserved: in the older form, and then from the outermost role inwards.
+// The older form first, then the reservations from the outermost role inwards.
 fn add_reservations(words: &mut Words, resource: &Resource) {
     if let Some(reservation) = &resource.reservation {
         add_reservation(words, "reservation", reservation.get());
@@ -135,7 +125,6 @@ fn add_reservations(words: &mut Words, resource: &Resource) {
     }
 }
 
-/// A reservation, in braces behind its word.
 fn add_reservation(words: &mut Words, name: &str, reservation: &Reservation) {
     words.add_word(name);
     words.add("{");
@@ -146,7 +135,6 @@ fn add_reservation(words: &mut Words, name: &str, reservation: &Reservation) {
     words.add("}");
 }
 
-/// Labels, where they are there.
 fn add_labels(words: &mut Words, labels: Option<&Labels>) {
     if let Some(labels) = labels {
         words.add_word("labels");
@@ -154,7 +142,6 @@ fn add_labels(words: &mut Words, labels: Option<&Labels>) {
     }
 }
 
-/// Each label: its key and its value.
 fn add_each_label(words: &mut Words, labels: &[Label]) {
     for label in labels {
         words.add_word(label.key.as_str());
@@ -163,7 +150,6 @@ fn add_each_label(words: &mut Words, labels: &[Label]) {
     }
 }
 
-/// What disk it is, where it is one.
 fn add_disk(words: &mut Words, resource: &Resource) {
     if let Some(disk) = &resource.disk {
         words.add_word("disk{");
@@ -172,7 +158,6 @@ fn add_disk(words: &mut Words, resource: &Resource) {
     }
 }
 
-/// The members of an object that is kept whole.
 fn add_kept(words: &mut Words, kept: &Kept) {
     if let Json::Map(members) = kept.get() {
         for (name, value) in members {
@@ -182,7 +167,7 @@ fn add_kept(words: &mut Words, kept: &Kept) {
     }
 }
 
-/// A value: a list and an object by how deep they nest.
+// A list and an object are represented by their depth.
 fn add_json(words: &mut Words, value: &Json) {
     match value {
         Json::Null => words.add_word("null"),
@@ -196,28 +181,24 @@ fn add_json(words: &mut Words, value: &Json) {
     }
 }
 
-/// The word of a flag that is set.
 fn add_flag(words: &mut Words, name: &str, is_set: bool) {
     if is_set {
         words.add_word(name);
     }
 }
 
-/// Who provides a resource, where it is told.
 fn add_provider(words: &mut Words, provider: Option<&Boxed<Id>>) {
     if let Some(id) = provider {
         add_member(words, "provider", id.get().value.as_str());
     }
 }
 
-/// The attributes of the agent, each behind its word.
 fn add_attributes(words: &mut Words, attributes: &[Attribute]) {
     for attribute in attributes {
         add_attribute(words, attribute);
     }
 }
 
-/// An attribute: its name, and in braces what it is.
 fn add_attribute(words: &mut Words, attribute: &Attribute) {
     add_member(words, "attribute", attribute.name.as_str());
     words.add("{");
@@ -225,7 +206,6 @@ fn add_attribute(words: &mut Words, attribute: &Attribute) {
     words.add("}");
 }
 
-/// What an attribute is, behind its type.
 fn add_attribute_value(words: &mut Words, value: &AttributeValue) {
     match value {
         AttributeValue::Scalar(scalar) => add_scalar(words, scalar),
@@ -238,7 +218,6 @@ fn add_attribute_value(words: &mut Words, value: &AttributeValue) {
     }
 }
 
-/// The executors that the framework has on the agent.
 fn add_executors(words: &mut Words, executors: &[Id]) {
     for id in executors {
         add_member(words, "executor", id.value.as_str());

@@ -1,4 +1,4 @@
-//! Why a call gives no value: the faults of the libraries, in words.
+//! Errors of the libraries, as texts.
 
 use crate::words::Words;
 use arrayvec::ArrayString;
@@ -10,28 +10,28 @@ use mes_msg::{EncodeFault, RecordFault, SendFault};
 use mes_session::{MAX_REFUSAL_LINE, Refusal, refusal_line};
 use mes_stream::{Fault, MAX_FAULT_LINE, Stop, fault_line, send_line};
 
-/// Why a call gives no value.
+/// The reason for which a call returns no value.
 #[derive(Drop)]
 pub(crate) enum Reported {
-    /// Memory was refused.
+    /// An allocation failed.
     NoMemory,
-    /// Memory was refused behind so many bytes of what was read.
+    /// An allocation failed after this number of bytes of input.
     NoMemoryAfter(u64),
-    /// Memory was refused at the entry of this number, from 1.
+    /// An allocation failed at the entry of this number, from 1.
     NoMemoryIn(u64),
-    /// Another fault, in words.
+    /// Another error, as text.
     Fault(Words),
 }
 
 impl Reported {
-    /// A fault in these words.
+    /// Creates an error with this text.
     pub(crate) fn fault(text: &str) -> Reported {
         let mut words = Words::new();
         words.say(text);
         Reported::Fault(words)
     }
 
-    /// The same, where what may not have changed has not; else that it has.
+    /// Returns the error itself if the call changed nothing, else an error that says so.
     pub(crate) fn or_changed(self, is_unchanged: bool) -> Reported {
         if is_unchanged {
             return self;
@@ -134,7 +134,7 @@ impl From<MasterRefusal> for Reported {
     }
 }
 
-/// The fault of a stream or a log, behind so many bytes.
+/// Converts the error of a stream or a log at offset `used`.
 pub(crate) fn fault_behind(fault: &Fault, used: u64) -> Reported {
     if matches!(fault, Fault::NoMemory) {
         return Reported::NoMemoryAfter(used);
@@ -144,7 +144,7 @@ pub(crate) fn fault_behind(fault: &Fault, used: u64) -> Reported {
     Reported::fault(line.as_str())
 }
 
-/// The refusal of an entry of a log, behind so many entries.
+/// Converts the rejection of a log's entry, after `before` entries.
 pub(crate) fn refusal_behind(refusal: &Refusal, before: u64) -> Reported {
     if matches!(refusal, Refusal::NoMemory) {
         return Reported::NoMemoryIn(before.saturating_add(1));
@@ -152,14 +152,12 @@ pub(crate) fn refusal_behind(refusal: &Refusal, before: u64) -> Reported {
     refusal_told(refusal, before)
 }
 
-/// The line of a refusal behind so many entries.
 fn refusal_told(refusal: &Refusal, before: u64) -> Reported {
     let mut line = ArrayString::<MAX_REFUSAL_LINE>::new();
     refusal_line(refusal, before, &mut line);
     Reported::fault(line.as_str())
 }
 
-/// Where a text is none, and why.
 fn text_fault(fault: &TextFault) -> Reported {
     let mut words = Words::new();
     words.say_number("byte", fault.byte);
@@ -171,7 +169,6 @@ fn text_fault(fault: &TextFault) -> Reported {
     Reported::Fault(words)
 }
 
-/// The place of a value that is wrong, and why.
 fn field_fault(fault: &FieldFault) -> Reported {
     let mut path = ArrayString::<MAX_PATH_TEXT>::new();
     fault.path.text(&mut path);

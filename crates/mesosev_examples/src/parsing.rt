@@ -1,16 +1,16 @@
-//! How a row asks: a value that is dropped behind what is asked of it, and once more where memory is refused.
+//! Calls whose value is dropped after use, and that are repeated once if an allocation fails.
 
 use crate::outcome::Reported;
 use crate::words::Words;
 
-/// Looks at a value, and then drops it.
+/// Passes a value to `look`, and then drops the value.
 pub(crate) fn look_at<T: Drop, R, F: FnOnce(&T) -> R>(value: T, look: F) -> R
     requires { F.IsAlwaysCallable look }
 {
     look(&value)
 }
 
-/// Changes a value, and then drops it.
+/// Passes a value to `change`, and then drops the value.
 pub(crate) fn change<T: Drop, R, F: FnOnce(&mut T) -> R>(value: T, change: F) -> R
     requires { F.IsAlwaysCallable change }
 {
@@ -18,7 +18,7 @@ pub(crate) fn change<T: Drop, R, F: FnOnce(&mut T) -> R>(value: T, change: F) ->
     change(&mut value)
 }
 
-/// Asks, and once more where memory is refused.
+/// Calls `ask`, and once more if an allocation fails.
 pub(crate) fn ask_twice<T: Drop, F: FnMut() -> Result<T, Reported>>(
     ask: F,
     words: &mut Words,

@@ -1,4 +1,4 @@
-//! Chunked bodies that come in pieces.
+//! Chunked bodies decoded in pieces.
 
 use crate::bytes::bytes_of;
 use crate::messages::say_event;
@@ -9,34 +9,35 @@ use mes_msg::{Event, Limit};
 use mes_stream::{Decoded, Decoder, Fault, Step};
 use std::alloc::Global;
 
-/// A record, of which a decoder that was refused memory takes no byte.
+// A record of which a decoder uses no byte after a failed allocation.
 const HEARTBEAT: &[u8] = b"20\n{\"type\":\"HEARTBEAT\"}";
 
-/// What a decoder answers of a piece.
+// The outcome of one step of a decoder.
 #[derive(Clone, Copy)]
 enum Front {
-    /// All of it is taken, and ends no record.
+    // The whole piece was used, and no record ended.
     More,
-    /// It is taken up to the end of a record.
+    // A record ended.
     Event,
-    /// It is taken up to the end of the body.
+    // The body ended.
     End,
-    /// It is taken up to a byte at which memory was refused.
+    // An allocation failed at the last used byte.
     NoMemory,
-    /// It is taken up to another fault.
+    // Another error was detected at the last used byte.
     Fault,
 }
 
-/// What a decoder has answered so far.
+// The steps of a decoder so far.
 #[derive(Drop)]
 struct Answered {
-    /// How many bytes it has used.
+    // The number of bytes used.
     used: u64,
-    /// How often it has wanted more since it last answered otherwise.
+    // The number of consecutive steps that needed more input.
     more: u64,
 }
 
-/// Takes the body of a row by pieces of one byte, or whole, and tells each answer but more, and how the body ended.
+/// Decodes the body of a row whole or in pieces of one byte. Prints each event, the steps between
+/// them, and the end.
 pub(crate) fn answer(alloc: Global, row: &str, words: &mut Words) -> Result<(), Reported> {
     let (how, text) = row.split_once(' ').unwrap_or((row, ""));
     let bytes = bytes_of(text)?;
@@ -48,13 +49,12 @@ pub(crate) fn answer(alloc: Global, row: &str, words: &mut Words) -> Result<(), 
     decode(alloc, bytes.as_slice(), most, words)
 }
 
-/// Takes a body by pieces of at most so many bytes.
+// `most` is the size of a piece in bytes.
 fn decode(alloc: Global, body: &[u8], most: usize, words: &mut Words) -> Result<(), Reported> {
     let mut decoder = Decoder::new(alloc, Limit::USUAL);
     take_all(alloc, &mut decoder, body, most, words)
 }
 
-/// Takes all of a body by such pieces, and tells how it ended.
 fn take_all(
     alloc: Global,
     decoder: &mut Decoder,
@@ -71,7 +71,7 @@ fn take_all(
     answered.end(decoder, words)
 }
 
-/// Takes a piece. Whether more is wanted.
+// Returns whether the decoder needs more input.
 fn take(
     alloc: Global,
     decoder: &mut Decoder,
@@ -94,7 +94,7 @@ fn take(
     Ok(true)
 }
 
-/// How many bytes of a piece a decoder uses, and what it answers, which is told.
+// Prints the result. Returns the number of bytes used too.
 fn next(
     alloc: Global,
     decoder: &mut Decoder,
@@ -108,7 +108,6 @@ fn next(
     })
 }
 
-/// What a decoder answers by a step.
 fn front_of(step: &Step<Event>) -> Front {
     match &step.out {
         Decoded::More => Front::More,
@@ -119,25 +118,26 @@ fn front_of(step: &Step<Event>) -> Front {
     }
 }
 
-/// Want of memory behind so many bytes, of which the last step used some; from then on the decoder has to answer so again.
+// A failed allocation after `used` bytes; the last step must have used some, and the decoder must
+// report the failure again.
 fn refusal_at(decoder: &mut Decoder, used: u64, used_last: usize) -> Reported {
     Reported::NoMemoryAfter(used).or_changed(used_last > 0 && is_refused_again(decoder))
 }
 
-/// Whether a decoder that was refused memory answers so again, takes no byte, and keeps none.
+// The decoder must use no byte, and buffer none.
 fn is_refused_again(decoder: &mut Decoder) -> bool {
     is_refusal(&decoder.next(HEARTBEAT))
         && matches!(decoder.finish(), Err(Fault::NoMemory))
         && decoder.held() == 0
 }
 
-/// Whether this is want of memory, and no byte was used.
 fn is_refusal(step: &Step<Event>) -> bool {
     matches!(front_of(step), Front::NoMemory) && step.used == 0
 }
 
 impl Answered {
-    /// Adds what a decoder has used, and tells what it answered, but more and want of memory.
+    // Adds the bytes of a step, and prints its result, unless it needs more input or an allocation
+    // failed.
     fn add(
         &mut self,
         alloc: Global,
@@ -160,7 +160,6 @@ impl Answered {
         }
     }
 
-    /// Tells how often more was wanted.
     fn tell_more(&mut self, words: &mut Words) {
         if self.more > 0 {
             words.say_number("more", self.more);
@@ -168,7 +167,7 @@ impl Answered {
         self.more = 0;
     }
 
-    /// Tells an event by its canonical text, and where it ended.
+    // The canonical text, and the offset of the event's end.
     fn report_event(
         &mut self,
         alloc: Global,
@@ -182,19 +181,18 @@ impl Answered {
         Ok(())
     }
 
-    /// Tells where the body ended.
     fn tell_end(&mut self, words: &mut Words) {
         self.tell_more(words);
         words.say_number("end at", self.used);
     }
 
-    /// A fault, which ends the row.
+    // Ends the row.
     fn fault(&mut self, fault: &Fault, words: &mut Words) -> Reported {
         self.tell_more(words);
         fault_behind(fault, self.used)
     }
 
-    /// Tells the fault that the end of the input shows.
+    // Prints the error that the end of the input reveals.
     fn end(&mut self, decoder: &Decoder, words: &mut Words) -> Result<(), Reported> {
         match decoder.finish() {
             Ok(()) => Ok(()),

@@ -1,7 +1,8 @@
-//! The rows: a name on each line, and behind ` => ` what is asked. In the bytes of streams, heads and logs `|` stands for CR LF and `~`
-//! for LF; the steps of sessions and masters stand one behind the other, by `; `.
+//! The rows: a name on each line, and after ` => ` what it runs. In streams, heads and logs `|`
+//! represents CR LF and `~` LF. The steps of sessions and masters are separated by `; `.
 
-/// All rows. They are one text, since a check takes no time for a line of a text, and some for each row of an array.
+/// All rows. They are one text because checking takes time for each element of an array, but none
+/// for a line of a text.
 pub(crate) const ROWS: &str = r#"heartbeat checked => stream plain 20~{"type":"HEARTBEAT"}
 nothing checked => stream plain
 two records => stream plain 20~{"type":"HEARTBEAT"}147~{"type":"UPDATE","update":{"status":{"task_id":{"value":"T1"},"state":"TASK_RUNNING","agent_id":{"value":"A1"},"uuid":"AAECAwQFBgcICQoLDA0ODw=="}}}

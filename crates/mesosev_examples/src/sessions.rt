@@ -1,4 +1,4 @@
-//! Sessions: what they hear, the calls that they make, and what they hold then.
+//! Sessions: the events that they receive, the calls that they make, and their state.
 
 use crate::held::held_by_session;
 use crate::making::make;
@@ -11,14 +11,14 @@ use mes_msg::{Call, Event};
 use mes_session::Session;
 use std::alloc::Global;
 
-/// Does the steps of a row with a new session.
+/// Performs the steps of a row on a new session.
 pub(crate) fn run(alloc: Global, steps: &str, words: &mut Words) -> Result<(), Reported> {
     change(Session::new(alloc), |session| {
         do_steps(alloc, session, steps, words)
     })
 }
 
-/// Does steps, one behind the other. One that is refused says so; want of memory ends the row.
+// A rejected step is printed, and the row goes on; a failed allocation ends the row.
 fn do_steps(
     alloc: Global,
     session: &mut Session,
@@ -32,7 +32,7 @@ fn do_steps(
     Ok(())
 }
 
-/// Does a step: hears an event, makes a call, or tells what is held.
+// Applies an event, makes a call, or prints the state.
 fn do_step(
     alloc: Global,
     session: &mut Session,
@@ -49,7 +49,6 @@ fn do_step(
     }
 }
 
-/// Hears the event of a text.
 fn hear(
     alloc: Global,
     session: &mut Session,
@@ -60,12 +59,12 @@ fn hear(
     hear_event(session, &event, words)
 }
 
-/// Hears an event. Where memory is refused, once more.
+// Repeats the call once if an allocation fails.
 fn hear_event(session: &mut Session, event: &Event, words: &mut Words) -> Result<(), Reported> {
     ask_twice(|| hear_once(session, event), words)
 }
 
-/// Hears an event. Where it is refused, all that looks has to answer as before.
+// After an error every getter must return the same as before.
 fn hear_once(session: &mut Session, event: &Event) -> Result<(), Reported> {
     let before = held_by_session(session);
     match session.heard(event) {
@@ -74,7 +73,6 @@ fn hear_once(session: &mut Session, event: &Event) -> Result<(), Reported> {
     }
 }
 
-/// Makes a call like the one of a text, and tells it.
 fn make_like(
     alloc: Global,
     session: &mut Session,
@@ -86,7 +84,6 @@ fn make_like(
     })
 }
 
-/// Makes a call like this one, and tells it.
 fn tell_made(
     alloc: Global,
     session: &mut Session,
@@ -97,7 +94,7 @@ fn tell_made(
     look_at(made, |call| say_call(alloc, call, words))
 }
 
-/// Makes a call like this one. Where memory is refused, once more.
+// Repeats the call once if an allocation fails.
 fn make_call(
     alloc: Global,
     session: &mut Session,
@@ -107,7 +104,7 @@ fn make_call(
     ask_twice(|| make_once(alloc, session, like), words)
 }
 
-/// Makes a call like this one. Where it is refused, all that looks has to answer as before.
+// After an error every getter must return the same as before.
 fn make_once(alloc: Global, session: &mut Session, like: &Call) -> Result<Call, Reported> {
     let before = held_by_session(session);
     match make(alloc, session, like) {
@@ -116,7 +113,6 @@ fn make_once(alloc: Global, session: &mut Session, like: &Call) -> Result<Call, 
     }
 }
 
-/// Whether a session holds this.
 fn is_still(session: &Session, before: &Words) -> bool {
     held_by_session(session).is_same(before)
 }

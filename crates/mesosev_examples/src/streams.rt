@@ -12,7 +12,7 @@ use mes_stream::{
 };
 use std::alloc::Global;
 
-/// How a stream is read: its framing, how many bytes a record may have, and how many reads it may take.
+// The framing, the largest record in bytes, and the maximum number of reads.
 #[derive(Clone, Copy)]
 struct Reading {
     framing: Framing,
@@ -20,21 +20,21 @@ struct Reading {
     max_reads: u64,
 }
 
-/// How plain RecordIO is read where a row says nothing else.
+// The defaults for plain RecordIO.
 const PLAIN: Reading = Reading {
     framing: Framing::Plain,
     limit: DEFAULT_RECORD_LIMIT,
     max_reads: 1_000,
 };
 
-/// How a chunked body is read where a row says nothing else.
+// The defaults for a chunked body.
 const CHUNKED: Reading = Reading {
     framing: Framing::Chunked,
     limit: DEFAULT_RECORD_LIMIT,
     max_reads: 1_000,
 };
 
-/// Reads the bytes of a row, in the way that its first word says.
+/// Reads the bytes of a row in the way named by its first word.
 pub(crate) fn answer(alloc: Global, row: &str, words: &mut Words) -> Result<(), Reported> {
     let (how, text) = row.split_once(' ').unwrap_or((row, ""));
     let bytes = bytes_of(text)?;
@@ -50,12 +50,10 @@ pub(crate) fn answer(alloc: Global, row: &str, words: &mut Words) -> Result<(), 
     }
 }
 
-/// Plain RecordIO, where a record may have so many bytes.
 fn limited(limit: u32) -> Reading {
     Reading { limit, ..PLAIN }
 }
 
-/// A chunked body, by so many reads at most.
 fn by_reads(max_reads: u64) -> Reading {
     Reading {
         max_reads,
@@ -63,15 +61,15 @@ fn by_reads(max_reads: u64) -> Reading {
     }
 }
 
-/// Reads a stream, and tells its events, its line and what was taken behind its end. Of one that was refused memory or has a fault it
-/// tells the events that were read before that.
+// Prints the events, the summary line, and the bytes that were read after the end. After an error
+// the events that precede it are printed.
 fn read(alloc: Global, reading: Reading, bytes: &[u8], words: &mut Words) -> Result<(), Reported> {
     let mut events = Vec::new(alloc);
     let report = read_once(alloc, reading, bytes, &mut events);
     tell_read(alloc, events.as_slice(), report, words)
 }
 
-/// Tells events, and then what the reading came to, even where memory was refused for the text of an event.
+// The outcome is printed even if the text of an event could not be allocated.
 fn tell_read(
     alloc: Global,
     events: &[Event],
@@ -84,13 +82,11 @@ fn tell_read(
     words.go_on_behind(was_refused, next)
 }
 
-/// Tells what the reading of so many events came to.
 fn tell_end(count: u64, report: Result<Report, Stop>, words: &mut Words) -> Result<(), Reported> {
     tell_report(count, &report?, words);
     Ok(())
 }
 
-/// Reads a stream from a device that gives all it is asked for.
 fn read_once(
     alloc: Global,
     reading: Reading,
@@ -105,7 +101,7 @@ fn read_once(
     }
 }
 
-/// Tells events by their canonical texts.
+/// Prints the canonical texts of events.
 pub(crate) fn tell_events(
     alloc: Global,
     events: &[Event],
@@ -117,7 +113,6 @@ pub(crate) fn tell_events(
     Ok(())
 }
 
-/// Tells how many events a stream had and what was taken.
 fn tell_report(count: u64, report: &Report, words: &mut Words) {
     let mut line = ArrayString::<MAX_COUNT_LINE>::new();
     count_line(count, report.used, &mut line);
@@ -128,14 +123,14 @@ fn tell_report(count: u64, report: &Report, words: &mut Words) {
     }
 }
 
-/// A chunk's line of one byte more than it may have.
+// One byte above the maximum of a chunk line.
 fn read_long_line(alloc: Global, words: &mut Words) -> Result<(), Reported> {
     let mut line = [b'a'; MAX_CHUNK_LINE as usize + 1];
     line[..2].copy_from_slice(b"1;");
     read(alloc, CHUNKED, &line, words)
 }
 
-/// Trailers of one byte more than they may have, behind the last chunk's line.
+// One byte above the maximum of the trailers, after the last chunk's line.
 fn read_long_trailers(alloc: Global, words: &mut Words) -> Result<(), Reported> {
     let mut body = [b'a'; MAX_TRAILERS as usize + 4];
     body[..3].copy_from_slice(b"0\r\n");

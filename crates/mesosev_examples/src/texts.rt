@@ -1,72 +1,71 @@
-//! Texts that rows name.
+//! Texts that rows refer to by name.
 
-/// The framework F1 has subscribed.
+// The framework is F1.
 const SUBSCRIBED: &str = r#"{"type":"SUBSCRIBED","subscribed":{"framework_id":{"value":"F1"}}}"#;
 
-/// An offer without resources.
+// An offer without resources.
 const OFFER: &str =
     r#"{"type":"OFFERS","offers":{"offers":[{"id":{"value":"O1"},"framework_id":{"value":"F1"},"agent_id":{"value":"A1"},"hostname":"h"}]}}"#;
 
-/// An offer of 1.1 processors.
+// An offer of 1.1 processors.
 const PROCESSORS: &str =
     r#"{"type":"OFFERS","offers":{"offers":[{"id":{"value":"O1"},"framework_id":{"value":"F1"},"agent_id":{"value":"A1"},"hostname":"h","resources":[{"name":"cpus","type":"SCALAR","scalar":{"value":1.1}}]}]}}"#;
 
-/// An offer of the ports from 31000 to 32000.
+// An offer of the ports 31000 to 32000.
 const PORTS: &str =
     r#"{"type":"OFFERS","offers":{"offers":[{"id":{"value":"O1"},"framework_id":{"value":"F1"},"agent_id":{"value":"A1"},"hostname":"h","resources":[{"name":"ports","type":"RANGES","ranges":{"range":[{"begin":31000,"end":32000}]}}]}]}}"#;
 
-/// The update of a task that owes an acknowledgement: its uuid has the bytes 00 to 0f.
+// An update that requires an acknowledgement: its uuid has the bytes 00 to 0f.
 const UPDATE: &str =
     r#"{"type":"UPDATE","update":{"status":{"task_id":{"value":"T1"},"state":"TASK_RUNNING","agent_id":{"value":"A1"},"uuid":"AAECAwQFBgcICQoLDA0ODw=="}}}"#;
 
-/// The acknowledgement of that update.
+// The acknowledgement of `UPDATE`.
 const ACKNOWLEDGE: &str =
     r#"{"type":"ACKNOWLEDGE","framework_id":{"value":"F1"},"acknowledge":{"agent_id":{"value":"A1"},"task_id":{"value":"T1"},"uuid":"AAECAwQFBgcICQoLDA0ODw=="}}"#;
 
-/// A SUBSCRIBE.
 const SUBSCRIBE: &str =
     r#"{"type":"SUBSCRIBE","subscribe":{"framework_info":{"user":"root","name":"n"}}}"#;
 
-/// An ACCEPT of the offer, with a task.
+// An ACCEPT of `OFFER`, with a task.
 const ACCEPT: &str =
     r#"{"type":"ACCEPT","framework_id":{"value":"F1"},"accept":{"offer_ids":[{"value":"O1"}],"operations":[{"type":"LAUNCH","launch":{"task_infos":[{"name":"t","task_id":{"value":"T1"},"agent_id":{"value":"A1"}}]}}]}}"#;
 
-/// An offer of all members, whose identifiers take memory.
+// An offer with all members, whose identifiers are long enough to be allocated.
 const FULL: &str =
     r#"{"type":"OFFERS","offers":{"offers":[{"id":{"value":"offer-of-a-long-identifier"},"framework_id":{"value":"F1"},"agent_id":{"value":"agent-of-a-long-identifier"},"hostname":"host-of-a-long-name","resources":[{"name":"cpus","type":"SCALAR","scalar":{"value":1.5},"role":"*"},{"name":"ports","type":"RANGES","ranges":{"range":[{"begin":1,"end":2},{"begin":31000,"end":32000}]},"allocation_info":{"role":"web"},"revocable":{}},{"name":"disk","type":"SET","set":{"item":["a","b"]},"reservation":{"role":"web","principal":"p"},"reservations":[{"type":"DYNAMIC","role":"web","principal":"p","labels":{"labels":[{"key":"k","value":"v"},{"key":"l"}]}}],"disk":{"volume":0.10,"source":{"type":"PATH"}},"shared":{},"provider_id":{"value":"P1"}}],"attributes":[{"name":"weight","type":"SCALAR","scalar":{"value":2}},{"name":"racks","type":"RANGES","ranges":{"range":[{"begin":3,"end":4}]}},{"name":"zones","type":"SET","set":{"item":["z"]}},{"name":"floor","type":"TEXT","text":{"value":"first"}}],"executor_ids":[{"value":"E1"},{"value":"E2"}],"allocation_info":{}}]}}"#;
 
-/// The first offer again, on another host, and one more.
+// The offer of `OFFER` again, on another host, and one more.
 const TWO_OFFERS: &str =
     r#"{"type":"OFFERS","offers":{"offers":[{"id":{"value":"O1"},"framework_id":{"value":"F1"},"agent_id":{"value":"A1"},"hostname":"i"},{"id":{"value":"O2"},"framework_id":{"value":"F1"},"agent_id":{"value":"A2"},"hostname":"j"}]}}"#;
 
-/// An offer of another identifier.
+// An offer with another identifier.
 const OTHER_OFFER: &str =
     r#"{"type":"OFFERS","offers":{"offers":[{"id":{"value":"O3"},"framework_id":{"value":"F1"},"agent_id":{"value":"A3"},"hostname":"k"}]}}"#;
 
-/// The update of another task, whose identifiers take memory: its uuid has the bytes 10 to 1f.
+// An update of another task, whose identifiers are long enough to be allocated: its uuid has the
+// bytes 10 to 1f.
 const LONG_UPDATE: &str =
     r#"{"type":"UPDATE","update":{"status":{"task_id":{"value":"task-of-a-long-identifier"},"state":"TASK_FINISHED","message":"a message of some length","agent_id":{"value":"agent-of-a-long-identifier"},"uuid":"EBESExQVFhcYGRobHB0eHw=="}}}"#;
 
-/// A later update of the first task, by that uuid.
+// A later update of the task of `UPDATE`, with the uuid of `LONG_UPDATE`.
 const LATER_UPDATE: &str =
     r#"{"type":"UPDATE","update":{"status":{"task_id":{"value":"T1"},"state":"TASK_FINISHED","agent_id":{"value":"A1"},"uuid":"EBESExQVFhcYGRobHB0eHw=="}}}"#;
 
-/// The acknowledgement of the update of another task.
+// The acknowledgement of `LONG_UPDATE`.
 const LONG_ACKNOWLEDGE: &str =
     r#"{"type":"ACKNOWLEDGE","framework_id":{"value":"F1"},"acknowledge":{"agent_id":{"value":"agent-of-a-long-identifier"},"task_id":{"value":"task-of-a-long-identifier"},"uuid":"EBESExQVFhcYGRobHB0eHw=="}}"#;
 
-/// An ACCEPT of the offer of all members, with the first task again and another.
+// An ACCEPT of `FULL`, with the task of `ACCEPT` again and another.
 const ACCEPT_FULL: &str =
     r#"{"type":"ACCEPT","framework_id":{"value":"F1"},"accept":{"offer_ids":[{"value":"offer-of-a-long-identifier"}],"operations":[{"type":"LAUNCH","launch":{"task_infos":[{"name":"t","task_id":{"value":"T1"},"agent_id":{"value":"A1"}},{"name":"t","task_id":{"value":"task-of-a-long-identifier"},"agent_id":{"value":"A1"}}]}}]}}"#;
 
-/// A REVIVE.
 const REVIVE: &str = r#"{"type":"REVIVE","framework_id":{"value":"F1"}}"#;
 
-/// A DECLINE of the offer.
+// A DECLINE of `OFFER`.
 const DECLINE: &str =
     r#"{"type":"DECLINE","framework_id":{"value":"F1"},"decline":{"offer_ids":[{"value":"O1"}]}}"#;
 
-/// The text of this name, or the name, where it is a text of its own.
+/// Returns the text of this name, or `name` itself if it is a text.
 pub(crate) fn text_named(name: &str) -> &str {
     match name {
         "SUBSCRIBED" => SUBSCRIBED,

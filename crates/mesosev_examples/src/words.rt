@@ -1,23 +1,25 @@
-//! A row's answer in words.
+//! Text of a row's result.
 
 use crate::outcome::Reported;
 use arrayvec::ArrayString;
 use itoa::Buffer;
 
-/// The room for the words of a row, in bytes.
+// The capacity in bytes.
 const WORDS_MOST: usize = 16_384;
 
-/// A row's answer in words: parts, one after the other, with a comma and a space between. They take no memory, so that each growth of the
-/// heap is one of the call that is asked. What has no room is left out, which the row's line then says.
+/// The result of a row: parts separated by `, `.
+///
+/// Does not allocate, so that each growth of the heap belongs to the call under test. A part
+/// without space is left out; the row's line then says so.
 #[derive(Drop)]
 pub(crate) struct Words {
     text: ArrayString<WORDS_MOST>,
-    /// Whether something had no room.
+    // Whether a part had no space.
     is_cut: bool,
 }
 
 impl Words {
-    /// No part yet.
+    /// Creates a text without parts.
     pub(crate) fn new() -> Words {
         Words {
             text: ArrayString::new(),
@@ -25,22 +27,22 @@ impl Words {
         }
     }
 
-    /// All parts.
+    /// Returns all parts.
     pub(crate) fn as_str(&self) -> &str {
         self.text.as_str()
     }
 
-    /// What a row's line ends with: that something had no room, or nothing.
+    /// Returns the end of a row's line: ` cut off` if a part had no space, else nothing.
     pub(crate) fn ending(&self) -> &'static str {
         if self.is_cut { " cut off" } else { "" }
     }
 
-    /// Whether these are the same words, of which none had no room.
+    /// Returns whether both texts are the same, and complete.
     pub(crate) fn is_same(&self, other: &Words) -> bool {
         !self.is_cut && !other.is_cut && self.as_str() == other.as_str()
     }
 
-    /// Says one more part.
+    /// Appends a part.
     pub(crate) fn say(&mut self, part: &str) {
         if !self.as_str().is_empty() {
             self.add(", ");
@@ -48,20 +50,20 @@ impl Words {
         self.add(part);
     }
 
-    /// Says one more part in the words of another answer.
+    /// Appends the parts of another text.
     pub(crate) fn say_words(&mut self, words: &Words) {
         self.say(words.as_str());
         self.is_cut |= words.is_cut;
     }
 
-    /// Says a word and a number.
+    /// Appends a word and a number as a part.
     pub(crate) fn say_number(&mut self, word: &str, number: u64) {
         self.say(word);
         self.add(" ");
         self.add_number(number);
     }
 
-    /// Says that something was done, to the same or to another.
+    /// Appends a part that says whether an operation gave the same value.
     pub(crate) fn say_same(&mut self, done: &str, is_same: bool) {
         self.say(done);
         self.add(if is_same {
@@ -71,13 +73,13 @@ impl Words {
         });
     }
 
-    /// Says bytes, where a line feed is `\n` and a carriage return `\r`.
+    /// Appends bytes as a part: a line feed as `\n`, a carriage return as `\r`.
     pub(crate) fn say_bytes(&mut self, bytes: &[u8]) {
         self.say("");
         self.add_bytes(bytes);
     }
 
-    /// Says how a row ended, where it has no more to tell. Whether it was refused memory.
+    /// Appends the error of a row, if any. Returns whether an allocation failed.
     pub(crate) fn say_answer(&mut self, answer: Result<(), Reported>) -> bool {
         match answer {
             Ok(()) => false,
@@ -100,7 +102,7 @@ impl Words {
         }
     }
 
-    /// Goes on behind a step of a row: a fault is said, and only want of memory stays.
+    /// Appends the error of a step, so that the row goes on; returns a failed allocation.
     pub(crate) fn go_on(&mut self, answer: Result<(), Reported>) -> Result<(), Reported> {
         match answer {
             Err(Reported::Fault(fault)) => {
@@ -111,8 +113,8 @@ impl Words {
         }
     }
 
-    /// Goes on behind a part of an answer in whose place memory was refused, or not: where it was, the row is to be asked again behind
-    /// what comes next in it.
+    /// Goes on after a part for which an allocation failed, or not. If it did, the row is repeated
+    /// after `next`.
     pub(crate) fn go_on_behind(
         &mut self,
         was_refused: bool,
@@ -125,26 +127,26 @@ impl Words {
         Err(Reported::NoMemory)
     }
 
-    /// Adds a text to the last part.
+    /// Appends a text to the last part.
     pub(crate) fn add(&mut self, text: &str) {
         if self.text.try_push_str(text).is_err() {
             self.is_cut = true;
         }
     }
 
-    /// Adds a space and a word to the last part.
+    /// Appends a space and a word to the last part.
     pub(crate) fn add_word(&mut self, word: &str) {
         self.add(" ");
         self.add(word);
     }
 
-    /// Adds a number to the last part.
+    /// Appends a number to the last part.
     pub(crate) fn add_number(&mut self, number: u64) {
         let mut buffer = Buffer::new();
         self.add(buffer.format(number));
     }
 
-    /// Adds bytes to the last part, as `say_bytes` says them.
+    /// Appends bytes to the last part, escaped as in `say_bytes`.
     pub(crate) fn add_bytes(&mut self, bytes: &[u8]) {
         for character in str::from_utf8(bytes).unwrap_or("?").chars() {
             match character {
@@ -155,18 +157,16 @@ impl Words {
         }
     }
 
-    /// Adds the two hexadecimal digits of a byte to the last part.
+    /// Appends the two hexadecimal digits of a byte to the last part.
     pub(crate) fn add_hexadecimal(&mut self, byte: u8) {
         self.add_digit(byte / 16);
         self.add_digit(byte % 16);
     }
 
-    /// Adds a hexadecimal digit.
     fn add_digit(&mut self, digit: u8) {
         self.add_character(char::from_digit(u32::from(digit), 16).unwrap_or('?'));
     }
 
-    /// Adds a character.
     fn add_character(&mut self, character: char) {
         if self.text.try_push(character).is_err() {
             self.is_cut = true;

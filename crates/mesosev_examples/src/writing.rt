@@ -14,16 +14,14 @@ use mes_stream::{write_plain, write_stream};
 use std::alloc::Global;
 use std::io::{self, ErrorKind, Write};
 
-/// How many bytes a writer takes before it fails.
+// The number of bytes that a writer accepts before it fails.
 const TAKEN_BEFORE_FAILURE: usize = 7;
 
-/// The id of the stream.
 const STREAM: &str = "s1";
 
-/// The host that a call is for.
 const HOST: &str = "127.0.0.1:5050";
 
-/// A writer that takes so many bytes and then fails.
+// A writer that accepts `TAKEN_BEFORE_FAILURE` bytes and then fails.
 #[derive(Drop)]
 struct Failing {
     taken: ArrayVec<u8, TAKEN_BEFORE_FAILURE>,
@@ -42,7 +40,7 @@ impl Write for Failing {
     }
 }
 
-/// Writes what a row says, and tells what went out.
+/// Writes what a row names, and prints the bytes that were written.
 pub(crate) fn answer(alloc: Global, row: &str, words: &mut Words) -> Result<(), Reported> {
     let (what, text) = row.split_once(' ').unwrap_or((row, ""));
     match what {
@@ -58,7 +56,7 @@ pub(crate) fn answer(alloc: Global, row: &str, words: &mut Words) -> Result<(), 
     }
 }
 
-/// Tells what went out; where memory was refused, nothing may have.
+/// Prints the bytes that were written. If an allocation failed, there must be none.
 pub(crate) fn tell_sent(
     answer: Result<(), SendFault>,
     written: &Bytes,
@@ -73,7 +71,6 @@ pub(crate) fn tell_sent(
     }
 }
 
-/// A heartbeat is written as plain RecordIO.
 fn write_heartbeat(alloc: Global, words: &mut Words) -> Result<(), Reported> {
     let mut written = Bytes::new();
     let mut sink = FromStd::new(&mut written);
@@ -81,7 +78,7 @@ fn write_heartbeat(alloc: Global, words: &mut Words) -> Result<(), Reported> {
     tell_sent(answer, &written, words)
 }
 
-/// A heartbeat is written as a body in chunks of one byte.
+// In chunks of one byte.
 fn write_chunks(alloc: Global, words: &mut Words) -> Result<(), Reported> {
     let mut written = Bytes::new();
     let mut sink = FromStd::new(&mut written);
@@ -89,28 +86,25 @@ fn write_chunks(alloc: Global, words: &mut Words) -> Result<(), Reported> {
     tell_sent(answer, &written, words)
 }
 
-/// A call is written as a request.
 fn write_request(alloc: Global, text: &str, words: &mut Words) -> Result<(), Reported> {
     look_at(call_of(alloc, text)?, |call| {
         tell_request(alloc, call, words)
     })
 }
 
-/// Writes a call as a request, and tells what went out.
 fn tell_request(alloc: Global, call: &Call, words: &mut Words) -> Result<(), Reported> {
     let mut written = Bytes::new();
     let answer = write_call_to(alloc, call, &mut written);
     tell_sent(answer, &written, words)
 }
 
-/// Writes a call for the stream.
 fn write_call_to(alloc: Global, call: &Call, written: &mut Bytes) -> Result<(), SendFault> {
     let id = StreamId::new(STREAM);
     let mut sink = FromStd::new(written);
     write_call(alloc, &mut sink, HOST, id.as_ref(), call)
 }
 
-/// A body is written to a writer that fails, in one chunk.
+// The body is one chunk.
 fn write_to_failing(text: &str, words: &mut Words) -> Result<(), Reported> {
     let bytes = bytes_of(text)?;
     let mut failing = Failing {
@@ -123,7 +117,7 @@ fn write_to_failing(text: &str, words: &mut Words) -> Result<(), Reported> {
     Ok(())
 }
 
-/// Tells how many bytes went out, and why no more did.
+// The number of bytes that were sent, and the reason for which no more were.
 fn tell_stopped(answer: Result<(), WriteFault>, words: &mut Words) {
     if let Err(fault) = answer {
         words.say_number("sent", fault.sent);
@@ -134,7 +128,7 @@ fn tell_stopped(answer: Result<(), WriteFault>, words: &mut Words) {
     }
 }
 
-/// The head before a stream is written, which takes no memory.
+// Does not allocate.
 fn write_stream_head(words: &mut Words) -> Result<(), Reported> {
     let Some(id) = StreamId::new(STREAM) else {
         return Err(Reported::fault("no id"));
@@ -147,7 +141,7 @@ fn write_stream_head(words: &mut Words) -> Result<(), Reported> {
     Ok(())
 }
 
-/// The head of an answer to another call is written, which takes no memory.
+// Does not allocate.
 fn write_answer_head(words: &mut Words) {
     let mut written = Bytes::new();
     let mut sink = FromStd::new(&mut written);
