@@ -7,8 +7,8 @@ use mes_session::{Refusal, Session};
 use std::alloc::Global;
 use std::io;
 
-/// What a master sends: a SUBSCRIBED, the OFFERS of two agents, an UPDATE that requires an acknowledgement,
-/// and a text that is cut off.
+/// What a master sends: a SUBSCRIBED, the OFFERS of two agents, an UPDATE that requires an
+/// acknowledgement, and a text that is cut off.
 pub(crate) const TEXTS: [&str; 4] = [
     r#"{"type":"SUBSCRIBED","subscribed":{"framework_id":{"value":"F1"},"heartbeat_interval_seconds":15.0}}"#,
     r#"{"type":"OFFERS","offers":{"offers":[{"id":{"value":"O1"},"framework_id":{"value":"F1"},"agent_id":{"value":"A1"},"hostname":"h"},{"id":{"value":"O2"},"framework_id":{"value":"F1"},"agent_id":{"value":"A2"},"hostname":"g"}]}}"#,

@@ -1,4 +1,5 @@
-//! How a program uses the libraries: the examples of docs/LIBRARY.md, run in turn, each after a line that names it.
+//! How a program uses the libraries: the examples of docs/LIBRARY.md, run in turn, each after a
+//! line that names it.
 #![tactic(auto)]
 
 mod keep;
