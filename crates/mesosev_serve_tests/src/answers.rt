@@ -1,20 +1,21 @@
-//! Answers to a SUBSCRIBE: their heads in any case, and bodies with chunk extensions and trailers, cut and spent at each byte.
+//! Responses to a SUBSCRIBE: heads in any case, bodies with chunk extensions and trailers, and
+//! streams that end, fail or run out of reads at each byte.
 
 use crate::support::{SHOWN, STREAM, bytes_of, row_of, shown};
 use mes_frame::MemorySource;
 use std::alloc::Global;
 use std::test::Fail;
 
-/// The bytes of the head of `STREAM`.
+// The length of the head of `STREAM` in bytes.
 const HEAD: usize = 134;
 
-/// The byte of its body that ends the record of the first event, and the one that ends that of the second.
+// The offsets in the body of `STREAM` at which the records of its two events end.
 const ENDS: [usize; 2] = [108, 131];
 
-/// The bytes of its body.
+// The length of the body of `STREAM` in bytes.
 const BODY: u32 = 138;
 
-/// What comes, and what is printed of it; behind that the status where it is 1.
+// A response, and what is printed for it, followed by the status if it is 1.
 const ANSWERS: &str =
     r#"HTTP/1.1 200 OK|Content-Type: application/json|Transfer-Encoding: chunked|Mesos-Stream-Id: s1||7f|100~{"type":"SUBSCRIBED","subscribed":{"framework_id":{"value":"F1"},"heartbeat_interval_seconds":15.0}}20~{"type":"HEARTBEAT"}|0|| => 1 SUBSCRIBED "F1" 15.0~2 HEARTBEAT~events 2 bytes 138~
 HTTP/1.1 200 OK|CONTENT-TYPE: Application/JSON; charset=utf-8|transfer-encoding: CHUNKED|mEsOs-StReAm-Id: s1|Content-Length: 3||7f|100~{"type":"SUBSCRIBED","subscribed":{"framework_id":{"value":"F1"},"heartbeat_interval_seconds":15.0}}20~{"type":"HEARTBEAT"}|0|| => 1 SUBSCRIBED "F1" 15.0~2 HEARTBEAT~events 2 bytes 138~
@@ -40,7 +41,7 @@ HTTP/1.1 200 OK| => refused H3 BadHead~ 1
  => refused H3 BadHead~ 1
 x => refused H3 BadHead~ 1"#;
 
-/// What is printed of these bytes, of which so many come by one read.
+// `most` is the largest read in bytes.
 fn printed(alloc: Global, answer: &[u8], most: usize) -> Result<String, Fail> {
     shown(alloc, &mut MemorySource::new(answer, most), 1_000)
 }
@@ -58,7 +59,7 @@ fn answers_are_shown(rt: HostRuntime) -> Result<(), Fail> {
     Ok(())
 }
 
-/// The lines of the events whose records end in so many bytes of the body, and this line.
+// The lines of the events whose records end within `bytes` bytes of the body, then `last`.
 fn lines_and(alloc: Global, bytes: usize, last: &str) -> Result<String, Fail> {
     let mut lines = String::new(alloc);
     if ENDS[0] <= bytes {
@@ -71,13 +72,14 @@ fn lines_and(alloc: Global, bytes: usize, last: &str) -> Result<String, Fail> {
     Ok(lines)
 }
 
-/// What is printed where this fault follows so many bytes of the body.
+// The output if the error occurs at offset `bytes` of the body.
 fn broken(alloc: Global, fault: &str, bytes: usize) -> Result<String, Fail> {
     let last = format!(in alloc; "fault {fault} after {bytes}~ 1")?;
     lines_and(alloc, bytes, last.as_str())
 }
 
-/// What is printed where one of these faults follows so many bytes: the first in the head, the other in the stream behind it.
+// The output if the response ends at offset `bytes`: the error `head` in the head, `stream` in the
+// body.
 fn early(alloc: Global, head: &str, stream: &str, bytes: usize) -> Result<String, Fail> {
     if bytes < HEAD {
         return Ok(format!(in alloc; "refused {head}~ 1")?);
@@ -85,7 +87,7 @@ fn early(alloc: Global, head: &str, stream: &str, bytes: usize) -> Result<String
     broken(alloc, stream, bytes - HEAD)
 }
 
-// Each event whose record has come is shown before the fault.
+// Each complete event is printed before the error.
 #[test]
 fn an_answer_that_ends_early_shows_the_events_before(rt: HostRuntime) -> Result<(), Fail> {
     let bytes = bytes_of(rt.alloc(), STREAM)?;
@@ -97,7 +99,7 @@ fn an_answer_that_ends_early_shows_the_events_before(rt: HostRuntime) -> Result<
     Ok(())
 }
 
-/// What is printed of these bytes, behind so many of which each read fails.
+// Each read after `good` bytes fails.
 fn failing(alloc: Global, answer: &[u8], good: usize) -> Result<String, Fail> {
     shown(
         alloc,
@@ -117,7 +119,7 @@ fn an_answer_whose_reader_fails_shows_the_events_before(rt: HostRuntime) -> Resu
     Ok(())
 }
 
-/// What is printed of these bytes, one by each of so many reads behind the head.
+// One byte a read, and at most `max_reads` reads after the head.
 fn spent(alloc: Global, answer: &[u8], max_reads: u32) -> Result<String, Fail> {
     shown(alloc, &mut MemorySource::new(answer, 1), max_reads)
 }

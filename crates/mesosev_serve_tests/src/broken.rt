@@ -1,4 +1,5 @@
-//! Connections that are served and break: their reader ends or fails, their writer stops, or their lines can't be printed, at each byte.
+//! Served connections that break at each byte: the reader ends or fails, the writer stops, or the
+//! lines cannot be printed.
 
 use crate::support::{
     BAD, STREAM, SUBSCRIBE_REQUEST, bytes_of, events_of, push_bytes, serve_anew, served_anew,
@@ -8,10 +9,10 @@ use std::alloc::{AllocGlobal, Global};
 use std::process::Abort;
 use std::test::Fail;
 
-/// The head of `SUBSCRIBE_REQUEST`, in bytes.
+// The length of the head of `SUBSCRIBE_REQUEST` in bytes.
 const HEAD: usize = 141;
 
-// A head that ends early is refused; a body that does is not answered.
+// A head that ends early gets status 400; a body that ends early gets no response.
 #[test]
 fn a_request_that_ends_early_is_refused_or_dropped(rt: HostRuntime) -> Result<(), Fail> {
     let bytes = bytes_of(rt.alloc(), SUBSCRIBE_REQUEST)?;
@@ -23,7 +24,7 @@ fn a_request_that_ends_early_is_refused_or_dropped(rt: HostRuntime) -> Result<()
     Ok(())
 }
 
-/// What is told of these bytes, behind so many of which each read fails.
+// Each read after `good` bytes fails.
 fn failing(alloc: Global, request: &[u8], good: usize) -> Result<String, Fail> {
     served_anew(alloc, &mut MemorySource::failing_after(request, 7, good))
 }
@@ -38,7 +39,7 @@ fn a_request_whose_reader_fails_is_dropped(rt: HostRuntime) -> Result<(), Fail> 
     Ok(())
 }
 
-/// Serves these bytes, with a HEARTBEAT for a stream.
+// The stream has a HEARTBEAT.
 fn answered(
     alloc: Global,
     request: &[u8],
@@ -50,8 +51,8 @@ fn answered(
     serve_anew(alloc, events.as_slice(), 4_096, &mut source, writer, out)
 }
 
-/// What is told of these bytes where the writer stops behind so many, if exactly those of the answer are written and all that is told
-/// is counted.
+// Returns the printed lines. The writer stops after `good` bytes, and must have exactly those; the
+// number of printed bytes must be returned.
 fn stopped(
     alloc: Global,
     request: &[u8],
@@ -72,7 +73,7 @@ fn stopped(
     Ok(text)
 }
 
-/// The answer stops behind each of its bytes but the last, which is told so.
+// The writer stops after each byte of the response except the last.
 fn expect_stops<R: Abort + AllocGlobal>(
     rt: &R,
     request: &str,
@@ -108,7 +109,8 @@ fn a_status_whose_writer_stops_is_reported(rt: HostRuntime) -> Result<(), Fail> 
     expect_stops(&rt, "POST /x HTTP/1.1||", answer, "404 -~net write failed~")
 }
 
-/// Whether the stream is written whole where the output stops behind so many bytes, which are counted.
+// Whether the whole stream is written if the output stops after `good` bytes, and that number is
+// returned.
 fn unreported(alloc: Global, stream: &[u8], good: usize, stop: MemoryStop) -> Result<bool, Fail> {
     let request = bytes_of(alloc, SUBSCRIBE_REQUEST)?;
     let mut writer = MemorySink::new(alloc, 64);

@@ -1,4 +1,5 @@
-//! A SUBSCRIBE that is written and its stream that is shown, where an end stops or fails at each byte; and both ends together.
+//! A SUBSCRIBE that is sent and its stream that is printed, if one end stops or fails at each byte;
+//! and both ends together.
 
 use crate::support::{
     SHOWN, STREAM, SUBSCRIBE_REQUEST, bytes_of, events_of, framework, leaves, printed_of,
@@ -13,7 +14,7 @@ use mesosev_stream::RunOutcome;
 use std::alloc::Global;
 use std::test::Fail;
 
-/// How the subscribing of a framework at the host `h` ends.
+// Subscribes at the host `h`.
 fn subscribed(
     alloc: Global,
     info: &FrameworkInfo,
@@ -24,7 +25,7 @@ fn subscribed(
     subscribe_over(alloc, info, "h", source, writer, 1_000, out)
 }
 
-/// What is printed of the subscribing to what the source gives, and the status where it isn't 0.
+// The output, and the status if it is not 0.
 fn printed(
     alloc: Global,
     source: &mut MemorySource<'_>,
@@ -36,8 +37,8 @@ fn printed(
     printed_of(alloc, &out, ended)
 }
 
-/// What is printed of the subscribing to these bytes, so many by one read, if exactly the SUBSCRIBE is written and exactly these bytes are
-/// left.
+// Returns the output. Exactly the SUBSCRIBE must be written, and `left` must remain unread; `most`
+// is the largest read in bytes.
 fn followed(alloc: Global, answer: &str, most: usize, left: &[u8]) -> Result<String, Fail> {
     let bytes = bytes_of(alloc, answer)?;
     let request = bytes_of(alloc, SUBSCRIBE_REQUEST)?;
@@ -62,7 +63,7 @@ fn a_stream_is_shown(rt: HostRuntime) -> Result<(), Fail> {
     Ok(())
 }
 
-// One byte a read, so that a read too many would show.
+// One byte a read, so that one read too many would be detected.
 #[test]
 fn what_stands_behind_a_stream_is_not_read(rt: HostRuntime) -> Result<(), Fail> {
     let answer = format!(in rt.alloc(); "{STREAM}X")?;
@@ -79,7 +80,8 @@ fn nothing_is_read_behind_a_head_that_is_refused(rt: HostRuntime) -> Result<(), 
     Ok(())
 }
 
-/// What is printed where the writer stops behind so many bytes, if exactly those are written and nothing is read.
+// Returns the output. The writer stops after `good` bytes, and must have exactly those; nothing may
+// be read.
 fn unsent(alloc: Global, request: &[u8], good: usize, stop: MemoryStop) -> Result<String, Fail> {
     let mut source = MemorySource::new(b"HTTP/1.1 200 OK", 64);
     let mut writer = MemorySink::stopping_after(alloc, 64, good, stop);
@@ -102,7 +104,7 @@ fn a_subscribe_whose_writer_stops_is_reported(rt: HostRuntime) -> Result<(), Fai
     Ok(())
 }
 
-/// A framework whose SUBSCRIBE no body of a request can hold.
+// The SUBSCRIBE of this framework is too large for the body of a request.
 fn large_framework(alloc: Global) -> Result<FrameworkInfo, Fail> {
     let mut info = framework(alloc)?;
     let mut user = String::new(alloc);
@@ -113,7 +115,7 @@ fn large_framework(alloc: Global) -> Result<FrameworkInfo, Fail> {
     Ok(info)
 }
 
-/// How its subscribing ends, if nothing is written or read.
+// Returns the output; nothing may be written or read.
 fn large(alloc: Global) -> Result<String, Fail> {
     let info = large_framework(alloc)?;
     let mut source = MemorySource::new(b"HTTP/1.1 200 OK", 64);
@@ -132,7 +134,7 @@ fn a_subscribe_that_is_too_large_is_not_written(rt: HostRuntime) -> Result<(), F
     Ok(())
 }
 
-/// Whether the output of a stream, where it fails behind so many bytes, gets exactly those.
+// Whether the output has exactly `good` bytes if it fails after those.
 fn is_cut(alloc: Global, answer: &[u8], lines: &[u8], good: usize) -> Result<bool, Fail> {
     let info = framework(alloc)?;
     let mut source = MemorySource::new(answer, 7);
@@ -153,7 +155,7 @@ fn an_output_that_fails_has_the_bytes_before(rt: HostRuntime) -> Result<(), Fail
     Ok(())
 }
 
-/// What is printed of a SUBSCRIBE that did not go out, and the status.
+// The output for a SUBSCRIBE that was not sent, and the status.
 fn reported(alloc: Global, fault: SendFault) -> Result<String, Fail> {
     let mut out = MemorySink::new(alloc, 5);
     let ended = report_unsent(&mut out, &fault);
@@ -174,7 +176,6 @@ fn what_was_not_written_is_reported(rt: HostRuntime) -> Result<(), Fail> {
     Ok(())
 }
 
-/// Sends a SUBSCRIBE to a writer.
 fn sent(alloc: Global, writer: &mut MemorySink) -> Result<(), Fail> {
     let info = framework(alloc)?;
     match send_subscribe(alloc, &info, "h", writer) {
@@ -183,7 +184,7 @@ fn sent(alloc: Global, writer: &mut MemorySink) -> Result<(), Fail> {
     }
 }
 
-/// Answers a SUBSCRIBE with a stream that has a HEARTBEAT.
+// The stream has a HEARTBEAT.
 fn answered(alloc: Global, request: &[u8], writer: &mut MemorySink) -> Result<(), Fail> {
     let events = events_of(alloc, r#"{"type":"HEARTBEAT"}"#)?;
     let mut source = MemorySource::new(request, 64);

@@ -1,5 +1,5 @@
-//! Tests of the two ends of a connection by their public calls, over devices in memory: tables of what comes and what is written and
-//! printed, and connections that are cut, fail and stop at each byte.
+//! Tests of the crate `mesosev_serve` through its public functions, on devices in memory: tables of
+//! requests with the responses and the printed lines, and connections that break at each byte.
 #![tactic(auto)]
 
 #[cfg(test)]

@@ -1,11 +1,11 @@
-//! Requests served: each row is what a connection gives, what is written to it and what is printed of it.
+//! Requests served: each row has the request, the response, and the printed lines.
 
 use crate::support::{BAD, bytes_of, expect_calls, leaves, row_of, served_anew};
 use mes_frame::MemorySource;
 use std::alloc::Global;
 use std::test::Fail;
 
-/// Calls to one master, each behind the id of the stream that it names, or `-`.
+// Calls to one master, each after the id of the stream that it names, or `-`.
 const CALLS: &str =
     r#"s1 {"type":"REVIVE","framework_id":{"value":"F1"}} => HTTP/1.1 403 Forbidden|Content-Length: 0|Connection: close|| => 403 REVIVE~
 - {"type":"SUBSCRIBE","subscribe":{"framework_info":{"user":"root","name":"n"}}} => HTTP/1.1 200 OK|Content-Type: application/json|Transfer-Encoding: chunked|Mesos-Stream-Id: 00000000-0000-4000-8000-000000000001||68|100~{"type":"SUBSCRIBED","subscribed":{"framework_id":{"value":"F1"},"heartbeat_interval_seconds":15.0}}|0|| => 200 SUBSCRIBE~
@@ -27,7 +27,7 @@ s1 {"type":"REVIVE","framework_id":{"value":"F1"}} => HTTP/1.1 400 Bad Request|C
 00000000-0000-4000-8000-000000000001 {"type":"REVIVE","framework_id":{"value":"F1"}} => HTTP/1.1 403 Forbidden|Content-Length: 0|Connection: close|| => 403 REVIVE~
 - {"type":"SUBSCRIBE","subscribe":{"framework_info":{"user":"root","name":"n"}}} => HTTP/1.1 403 Forbidden|Content-Length: 0|Connection: close|| => 403 SUBSCRIBE~"#;
 
-/// Requests to a master with no stream: the first of the reasons to refuse one counts.
+// Requests to a master without a stream. The first reason to reject a request decides its status.
 const REQUESTS: &str =
     r#"POST /x HTTP/1.1|Host: 127.0.0.1:5050|Content-Type: application/json|Accept: application/json|Mesos-Stream-Id: s1|Connection: close|Content-Length: 47||{"type":"REVIVE","framework_id":{"value":"F1"}} => HTTP/1.1 404 Not Found|Content-Length: 0|Connection: close|| => 404 -~
 GET /api/v1/scheduler HTTP/1.1|Host: 127.0.0.1:5050|Content-Type: application/json|Accept: application/json|Mesos-Stream-Id: s1|Connection: close|Content-Length: 47||{"type":"REVIVE","framework_id":{"value":"F1"}} => HTTP/1.1 405 Method Not Allowed|Content-Length: 0|Connection: close|| => 405 -~
@@ -43,11 +43,10 @@ POST /api/v1/scheduler HTTP/1.1|Host: 127.0.0.1:5050|Content-Type: application/j
 POST /api/v1/scheduler HTTP/1.1|Host: 127.0.0.1:5050|Content-Type: application/json|Accept: application/json|Mesos-Stream-Id: s1|Connection: close|Content-Length: 47| => HTTP/1.1 400 Bad Request|Content-Length: 0|Connection: close|| => 400 -~
 POST /api/v1/scheduler HTTP/1.1|Host: 127.0.0.1:5050|Content-Type: application/json|Accept: application/json|Mesos-Stream-Id: s1|Connection: close|Content-Length: 48||{"type":"REVIVE","framework_id":{"value":"F1"}} =>  => - -~"#;
 
-/// A call as a request.
 const REVIVE_REQUEST: &str =
     r#"POST /api/v1/scheduler HTTP/1.1|Host: 127.0.0.1:5050|Content-Type: application/json|Accept: application/json|Mesos-Stream-Id: s1|Connection: close|Content-Length: 47||{"type":"REVIVE","framework_id":{"value":"F1"}}"#;
 
-/// What is told of it by a master with no stream.
+// The response of a master without a stream to `REVIVE_REQUEST`, and the printed line.
 const FORBIDDEN: &str =
     "HTTP/1.1 403 Forbidden|Content-Length: 0|Connection: close|| => 403 REVIVE~";
 
@@ -56,7 +55,7 @@ fn calls_are_answered(rt: HostRuntime) -> Result<(), Fail> {
     expect_calls(&rt, &[], CALLS)
 }
 
-/// What is told of a connection to a master with no stream.
+// The master has no stream.
 fn reported(alloc: Global, request: &str, most: usize) -> Result<String, Fail> {
     let bytes = bytes_of(alloc, request)?;
     served_anew(alloc, &mut MemorySource::new(bytes.as_slice(), most))
@@ -77,7 +76,7 @@ fn requests_are_answered(rt: HostRuntime) -> Result<(), Fail> {
     Ok(())
 }
 
-/// What is told of a connection that gives these bytes and then those behind them, if exactly the first are taken.
+// Exactly `taken` must be read, and `following` must remain.
 fn told_of(alloc: Global, taken: &[u8], following: &[u8]) -> Result<String, Fail> {
     let mut bytes = Vec::new(alloc);
     bytes.extend_from_slice(taken)?;
@@ -98,7 +97,7 @@ fn bytes_behind_a_body_are_not_read(rt: HostRuntime) -> Result<(), Fail> {
     Ok(())
 }
 
-// A field of 20,000 bytes: the head is refused behind its first 16,384.
+// The head has a field of 20,000 bytes; it is rejected after the first 16,384.
 #[test]
 fn a_head_that_is_too_long_is_not_read_on(rt: HostRuntime) -> Result<(), Fail> {
     let mut head = bytes_of(rt.alloc(), "POST / HTTP/1.1|A: ")?;

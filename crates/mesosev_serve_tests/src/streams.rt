@@ -1,4 +1,4 @@
-//! Streams that a SUBSCRIBE opens, with the events that are given to it.
+//! Streams that a SUBSCRIBE opens, with given events.
 
 use crate::support::{
     STREAM, SUBSCRIBE_REQUEST, bytes_of, event_of, events_of, expect_calls, serve_anew,
@@ -9,8 +9,9 @@ use mes_msg::Event;
 use std::alloc::Global;
 use std::test::Fail;
 
-/// Events for each stream. A SUBSCRIBED is skipped, and what the master refuses: an offer that was not made yet or was rescinded, one that
-/// was ever made, and an update that is owed.
+// The events of each stream. A SUBSCRIBED is skipped, and so is each event that the master rejects:
+// an offer that is unknown, already rescinded or repeated, and an update that is already
+// unacknowledged.
 const GIVEN: &str =
     r#"{"type":"SUBSCRIBED","subscribed":{"framework_id":{"value":"F1"},"heartbeat_interval_seconds":15.0}}
 {"type":"RESCIND","rescind":{"offer_id":{"value":"O1"}}}
@@ -22,27 +23,28 @@ const GIVEN: &str =
 {"type":"UPDATE","update":{"status":{"task_id":{"value":"T1"},"state":"TASK_RUNNING","agent_id":{"value":"A1"},"uuid":"AAECAwQFBgcICQoLDA0ODw=="}}}
 {"type":"HEARTBEAT"}"#;
 
-/// Two streams: a RECONCILE between them has no events, nor are they kept for the second, which gets none of the offers and updates of the
-/// first.
+// Two streams. The RECONCILE between them has no events, and the second stream gets none of the
+// first one's.
 const SERVED: &str =
     r#"- {"type":"SUBSCRIBE","subscribe":{"framework_info":{"user":"root","name":"n"}}} => HTTP/1.1 200 OK|Content-Type: application/json|Transfer-Encoding: chunked|Mesos-Stream-Id: 00000000-0000-4000-8000-000000000001||1d9|100~{"type":"SUBSCRIBED","subscribed":{"framework_id":{"value":"F1"},"heartbeat_interval_seconds":15.0}}132~{"type":"OFFERS","offers":{"offers":[{"id":{"value":"O1"},"framework_id":{"value":"F1"},"agent_id":{"value":"A1"},"hostname":"h"}]}}56~{"type":"RESCIND","rescind":{"offer_id":{"value":"O1"}}}147~{"type":"UPDATE","update":{"status":{"task_id":{"value":"T1"},"state":"TASK_RUNNING","agent_id":{"value":"A1"},"uuid":"AAECAwQFBgcICQoLDA0ODw=="}}}20~{"type":"HEARTBEAT"}|0|| => 200 SUBSCRIBE~
 00000000-0000-4000-8000-000000000001 {"type":"RECONCILE","framework_id":{"value":"F1"},"reconcile":{}} => HTTP/1.1 202 Accepted|Content-Length: 0|Connection: close|| => 202 RECONCILE~
 - {"type":"SUBSCRIBE","subscribe":{"framework_info":{"user":"root","name":"n"}}} => HTTP/1.1 200 OK|Content-Type: application/json|Transfer-Encoding: chunked|Mesos-Stream-Id: 00000000-0000-4000-8000-000000000002||7f|100~{"type":"SUBSCRIBED","subscribed":{"framework_id":{"value":"F1"},"heartbeat_interval_seconds":15.0}}20~{"type":"HEARTBEAT"}|0|| => 200 SUBSCRIBE~
 - {"type":"SUBSCRIBE","subscribe":{"framework_info":{"user":"root","name":"n"}}} => HTTP/1.1 403 Forbidden|Content-Length: 0|Connection: close|| => 403 SUBSCRIBE~"#;
 
-/// A SUBSCRIBE opens a stream, whatever stream it names; the one before it is no longer current.
+// A SUBSCRIBE opens a stream, whichever stream it names; the previous one is then no longer
+// current.
 const NAMED: &str =
     r#"s1 {"type":"SUBSCRIBE","subscribe":{"framework_info":{"user":"root","name":"n"}}} => HTTP/1.1 200 OK|Content-Type: application/json|Transfer-Encoding: chunked|Mesos-Stream-Id: 00000000-0000-4000-8000-000000000001||68|100~{"type":"SUBSCRIBED","subscribed":{"framework_id":{"value":"F1"},"heartbeat_interval_seconds":15.0}}|0|| => 200 SUBSCRIBE~
 00000000-0000-4000-8000-000000000001 {"type":"SUBSCRIBE","subscribe":{"framework_info":{"user":"root","name":"n"}}} => HTTP/1.1 200 OK|Content-Type: application/json|Transfer-Encoding: chunked|Mesos-Stream-Id: 00000000-0000-4000-8000-000000000002||68|100~{"type":"SUBSCRIBED","subscribed":{"framework_id":{"value":"F1"},"heartbeat_interval_seconds":15.0}}|0|| => 200 SUBSCRIBE~
 00000000-0000-4000-8000-000000000001 {"type":"REVIVE","framework_id":{"value":"F1"}} => HTTP/1.1 400 Bad Request|Content-Length: 0|Connection: close|| => 400 REVIVE~
 00000000-0000-4000-8000-000000000002 {"type":"REVIVE","framework_id":{"value":"F1"}} => HTTP/1.1 202 Accepted|Content-Length: 0|Connection: close|| => 202 REVIVE~"#;
 
-/// The SUBSCRIBE whose stream can't be encoded has opened it.
+// A SUBSCRIBE opens its stream even if the stream cannot be encoded.
 const UNWRITTEN: &str =
     r#"- {"type":"SUBSCRIBE","subscribe":{"framework_info":{"user":"root","name":"n"}}} =>  => 200 SUBSCRIBE~net write failed~
 00000000-0000-4000-8000-000000000001 {"type":"REVIVE","framework_id":{"value":"F1"}} => HTTP/1.1 202 Accepted|Content-Length: 0|Connection: close|| => 202 REVIVE~"#;
 
-/// A SUBSCRIBED and a HEARTBEAT in chunks of 100 bytes.
+// A SUBSCRIBED and a HEARTBEAT in chunks of 100 bytes.
 const IN_TWO: &str =
     r#"HTTP/1.1 200 OK|Content-Type: application/json|Transfer-Encoding: chunked|Mesos-Stream-Id: 00000000-0000-4000-8000-000000000001||64|100~{"type":"SUBSCRIBED","subscribed":{"framework_id":{"value":"F1"},"heartbeat_interval_seconds":15|1b|.0}}20~{"type":"HEARTBEAT"}|0||"#;
 
@@ -57,7 +59,6 @@ fn a_subscribe_may_name_a_stream(rt: HostRuntime) -> Result<(), Fail> {
     expect_calls(&rt, &[], NAMED)
 }
 
-/// Appends the piece so often.
 fn push_times(text: &mut String, piece: &str, count: usize) -> Result<(), Fail> {
     for _ in 0..count {
         text.push_str(piece)?;
@@ -65,7 +66,8 @@ fn push_times(text: &mut String, piece: &str, count: usize) -> Result<(), Fail> 
     Ok(())
 }
 
-/// Offers that are read, and nest too deep in the canonical text, which has one object more around them.
+// Offers that can be read, but nest too deep in the canonical text, which has one more object
+// around them.
 fn deep_offers(alloc: Global) -> Result<Event, Fail> {
     let mut text = String::new(alloc);
     text.push_str(
@@ -85,7 +87,7 @@ fn a_stream_that_cant_be_encoded_is_not_begun(rt: HostRuntime) -> Result<(), Fai
     expect_calls(&rt, events.as_slice(), UNWRITTEN)
 }
 
-/// Whether what is written to a SUBSCRIBE with these events, in chunks of so many bytes, is this.
+// Whether the response to a SUBSCRIBE, in chunks of `most` bytes, is `stream`.
 fn writes(alloc: Global, events: &[Event], most: u32, stream: &str) -> Result<bool, Fail> {
     let request = bytes_of(alloc, SUBSCRIBE_REQUEST)?;
     let expected = bytes_of(alloc, stream)?;

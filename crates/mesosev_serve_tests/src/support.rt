@@ -1,7 +1,7 @@
-//! What the tables say, and the two ends as they are tried.
+//! Helpers of the tests: texts of tables, and runs of both ends.
 //!
-//! A text of a table stands on one line: `|` is the CR LF that ends a line, and `~` is an LF. What is told of a connection that was
-//! served is what was written and what was printed, `HTTP/1.1 404 Not Found|.. => 404 -~`.
+//! In a table `|` represents CR LF and `~` LF. The result of a connection is the response and the
+//! printed lines: `HTTP/1.1 404 Not Found|.. => 404 -~`.
 
 use mes_double_master::Master;
 use mes_frame::{MemorySink, MemorySource, Source};
@@ -23,23 +23,23 @@ pub(crate) const SUBSCRIBE: &str =
 pub(crate) const SUBSCRIBE_REQUEST: &str =
     r#"POST /api/v1/scheduler HTTP/1.1|Host: h|Content-Type: application/json|Accept: application/json|Connection: close|Content-Length: 78||{"type":"SUBSCRIBE","subscribe":{"framework_info":{"user":"root","name":"n"}}}"#;
 
-/// A stream of a SUBSCRIBED and a HEARTBEAT, of 138 bytes behind a head of 134.
+/// A stream of a SUBSCRIBED and a HEARTBEAT: a head of 134 bytes, then 138 bytes.
 pub(crate) const STREAM: &str =
     r#"HTTP/1.1 200 OK|Content-Type: application/json|Transfer-Encoding: chunked|Mesos-Stream-Id: 00000000-0000-4000-8000-000000000001||7f|100~{"type":"SUBSCRIBED","subscribed":{"framework_id":{"value":"F1"},"heartbeat_interval_seconds":15.0}}20~{"type":"HEARTBEAT"}|0||"#;
 
-/// What is shown of it.
+/// The lines that are printed for `STREAM`.
 pub(crate) const SHOWN: &str = r#"1 SUBSCRIBED "F1" 15.0~2 HEARTBEAT~events 2 bytes 138~"#;
 
-/// What is told of a request whose head is refused, where that is answered 400.
+/// The result for a request whose head is rejected with status 400.
 pub(crate) const BAD: &str =
     "HTTP/1.1 400 Bad Request|Content-Length: 0|Connection: close|| => 400 -~";
 
-/// The two sides of a row.
+/// Splits a row into its two sides.
 pub(crate) fn row_of(line: &str) -> Result<(&str, &str), Fail> {
     Ok(line.split_once(" => ").ok_or("a row has two sides")?)
 }
 
-/// The bytes of a text of a table.
+/// Converts a text of a table into bytes.
 pub(crate) fn bytes_of(alloc: Global, text: &str) -> Result<Vec<u8>, Fail> {
     let mut bytes = Vec::new(alloc);
     for byte in text.as_bytes() {
@@ -52,7 +52,7 @@ pub(crate) fn bytes_of(alloc: Global, text: &str) -> Result<Vec<u8>, Fail> {
     Ok(bytes)
 }
 
-/// The bytes as a table has them.
+/// Appends bytes as a text of a table.
 pub(crate) fn push_bytes(text: &mut String, bytes: &[u8]) -> Result<(), Fail> {
     for byte in bytes {
         match *byte {
@@ -64,7 +64,7 @@ pub(crate) fn push_bytes(text: &mut String, bytes: &[u8]) -> Result<(), Fail> {
     Ok(())
 }
 
-/// An LF, unless it stands behind a CR.
+// The LF of a CR LF was appended with its CR.
 fn push_line_feed(text: &mut String) -> Result<(), Fail> {
     if !text.ends_with('|') {
         text.push('~')?;
@@ -72,7 +72,7 @@ fn push_line_feed(text: &mut String) -> Result<(), Fail> {
     Ok(())
 }
 
-/// The UUID that the stream of this number has: `00000000-0000-4000-8000-00000000000N`.
+// `00000000-0000-4000-8000-00000000000N`, the id of stream N.
 fn uuid_of(number: u8) -> Uuid {
     let mut bytes = [0; 16];
     bytes[6] = 0x40;
@@ -81,7 +81,7 @@ fn uuid_of(number: u8) -> Uuid {
     Uuid::from_bytes(bytes)
 }
 
-/// A master of the framework F1 for streams 1 and 2.
+/// Creates a master of the framework F1 for streams 1 and 2.
 pub(crate) fn new_master(alloc: Global) -> Result<Master, Fail> {
     let mut ids = Vec::new(alloc);
     ids.push(uuid_of(1))?;
@@ -90,7 +90,7 @@ pub(crate) fn new_master(alloc: Global) -> Result<Master, Fail> {
     Ok(Master::new(alloc, Id { value }, ids))
 }
 
-/// The event of a text.
+/// Reads an event from its text.
 pub(crate) fn event_of(alloc: Global, text: &str) -> Result<Event, Fail> {
     match Event::read_record(alloc, text.as_bytes()) {
         Ok(event) => Ok(event),
@@ -98,7 +98,7 @@ pub(crate) fn event_of(alloc: Global, text: &str) -> Result<Event, Fail> {
     }
 }
 
-/// The events of a text with one on each line.
+/// Reads the events of a text, one on each line.
 pub(crate) fn events_of(alloc: Global, text: &str) -> Result<Vec<Event>, Fail> {
     let mut events = Vec::new(alloc);
     for line in text.lines() {
@@ -107,7 +107,6 @@ pub(crate) fn events_of(alloc: Global, text: &str) -> Result<Vec<Event>, Fail> {
     Ok(events)
 }
 
-/// The call of a text.
 fn call_of(alloc: Global, text: &str) -> Result<Call, Fail> {
     match Call::read_record(alloc, text.as_bytes()) {
         Ok(call) => Ok(call),
@@ -115,7 +114,7 @@ fn call_of(alloc: Global, text: &str) -> Result<Call, Fail> {
     }
 }
 
-/// The framework that a call tells of, if it is a SUBSCRIBE.
+// Fails if the call is not a SUBSCRIBE.
 fn framework_of(alloc: Global, call: &Call) -> Result<FrameworkInfo, Fail> {
     match call {
         Call::Subscribe { body, .. } => Ok(body.framework_info.copy(alloc)?),
@@ -123,7 +122,7 @@ fn framework_of(alloc: Global, call: &Call) -> Result<FrameworkInfo, Fail> {
     }
 }
 
-/// The framework that a SUBSCRIBE tells of.
+/// Returns the framework of `SUBSCRIBE`.
 pub(crate) fn framework(alloc: Global) -> Result<FrameworkInfo, Fail> {
     let call = call_of(alloc, SUBSCRIBE)?;
     let framework = framework_of(alloc, &call);
@@ -131,7 +130,7 @@ pub(crate) fn framework(alloc: Global) -> Result<FrameworkInfo, Fail> {
     framework
 }
 
-/// A call as a request, on the stream with this id, or none where that is `-`.
+// The request names no stream if `stream` is `-`.
 fn request_of(alloc: Global, stream: &str, call: &str) -> Result<Vec<u8>, Fail> {
     let mut text = String::new(alloc);
     text.push_str("POST /api/v1/scheduler HTTP/1.1|Host: 127.0.0.1:5050|")?;
@@ -144,8 +143,8 @@ fn request_of(alloc: Global, stream: &str, call: &str) -> Result<Vec<u8>, Fail> 
     bytes_of(alloc, text.as_str())
 }
 
-/// What a master makes of what the source gives, in chunks of so many bytes: whether all was answered and how many bytes were printed, or behind how many the output
-/// stopped.
+// Returns whether a response was sent, and the number of printed bytes; or the number of bytes
+// after which the output stopped. `most` is the size of a chunk in bytes.
 fn serve(
     alloc: Global,
     master: &mut Master,
@@ -164,7 +163,7 @@ fn serve(
     }
 }
 
-/// The same of a new master.
+/// Serves one connection with a new master.
 pub(crate) fn serve_anew(
     alloc: Global,
     events: &[Event],
@@ -179,7 +178,7 @@ pub(crate) fn serve_anew(
     Ok(reported)
 }
 
-/// What is told of a connection that gives these bytes to a new master.
+/// Serves one connection with a new master, and returns the result as a text.
 pub(crate) fn served_anew(alloc: Global, source: &mut MemorySource<'_>) -> Result<String, Fail> {
     let mut master = new_master(alloc)?;
     let reported = served(alloc, &mut master, &[], source);
@@ -187,7 +186,6 @@ pub(crate) fn served_anew(alloc: Global, source: &mut MemorySource<'_>) -> Resul
     reported
 }
 
-/// What is told of a connection that gives these bytes.
 fn served(
     alloc: Global,
     master: &mut Master,
@@ -212,14 +210,14 @@ fn served(
     Ok(text)
 }
 
-/// Whether the next read of the source, of at most 4,096 bytes, gives these.
+/// Returns whether the next read of at most 4,096 bytes gives `bytes`.
 pub(crate) fn leaves(source: &mut MemorySource<'_>, bytes: &[u8]) -> Result<bool, Fail> {
     let mut buffer = [0; 4_096];
     let count = source.fetch(&mut buffer)?;
     Ok(buffer.get(..count) == Some(bytes))
 }
 
-/// What is told of the call of a row, `STREAM CALL => ..`, which comes 7 bytes a read.
+// The row is `STREAM CALL`; the request arrives in reads of 7 bytes.
 fn called(alloc: Global, master: &mut Master, events: &[Event], row: &str) -> Result<String, Fail> {
     let (stream, call) = row.split_once(" ").ok_or("a call names a stream")?;
     let request = request_of(alloc, stream, call)?;
@@ -227,7 +225,6 @@ fn called(alloc: Global, master: &mut Master, events: &[Event], row: &str) -> Re
     served(alloc, master, events, &mut source)
 }
 
-/// Each row of the table is told so by the master.
 fn expect_rows<R: Abort + AllocGlobal>(
     rt: &R,
     master: &mut Master,
@@ -242,7 +239,7 @@ fn expect_rows<R: Abort + AllocGlobal>(
     Ok(())
 }
 
-/// Each row of the table is told so, one after the other by one master.
+/// Checks each row of the table against one master, in order.
 pub(crate) fn expect_calls<R: Abort + AllocGlobal>(
     rt: &R,
     events: &[Event],
@@ -254,7 +251,8 @@ pub(crate) fn expect_calls<R: Abort + AllocGlobal>(
     answer
 }
 
-/// What is printed of what the source gives, in so many reads behind the head, and the status where it isn't 0.
+/// Returns the output for a response, with at most `max_reads` reads after the head, and the status
+/// if it is not 0.
 pub(crate) fn shown(
     alloc: Global,
     source: &mut MemorySource<'_>,
@@ -265,7 +263,6 @@ pub(crate) fn shown(
     printed_of(alloc, &out, ended)
 }
 
-/// How the showing of what the source gives ends, in so many reads behind the head.
 fn answered(
     alloc: Global,
     source: &mut MemorySource<'_>,
@@ -275,7 +272,7 @@ fn answered(
     show_answer(alloc, source, max_reads as u64, out)
 }
 
-/// What was printed, and the status where it isn't 0.
+/// Returns the output, and the status if it is not 0.
 pub(crate) fn printed_of(
     alloc: Global,
     out: &MemorySink,
