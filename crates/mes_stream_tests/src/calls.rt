@@ -1,4 +1,4 @@
-//! How often a device that gives all it is asked for is asked.
+//! Number of reads of a device that fills each read.
 
 use crate::support::{chunks_and, read, row_of};
 use mes_frame::MemorySource;
@@ -7,22 +7,22 @@ use std::alloc::{AllocGlobal, Global};
 use std::process::Abort;
 use std::test::Fail;
 
-/// How many chunks stand in a stream, and what behind them; how its reading ends, the bytes used of so many, and how often the device
-/// is asked: once for each 512 bytes that have begun, as the last byte of a stream shows its end.
+// The number of chunks and what follows them. Then the end, the bytes used, the bytes of the
+// stream, and the number of reads: one for each 512 bytes begun, since a stream's last byte shows
+// its end.
 const WHOLE: &str = "0:0|| => end after 5 of 5, asked 1
 17:0;aaaaaaaaaaaaa|| => end after 512 of 512, asked 1
 17:0;aaaaaaaaaaaaaa|| => end after 513 of 513, asked 2
 35:0;aaa|| => end after 1024 of 1024, asked 2
 35:0;aaaa|| => end after 1025 of 1025, asked 3";
 
-/// The same of streams that break off, where it is asked once more: that finds the end of the device.
+// Streams that break off: one more read finds the end of the device.
 const BROKEN: &str = "0: => F6 EndsInsideChunks after 0 of 0, asked 1
 1: => F6 EndsInsideChunks after 29 of 29, asked 2
 17: => F6 EndsInsideChunks after 493 of 493, asked 2
 18: => F6 EndsInsideChunks after 522 of 522, asked 3
 36: => F6 EndsInsideChunks after 1044 of 1044, asked 4";
 
-/// The stream of a row.
 fn stream_of(alloc: Global, text: &str) -> Result<Vec<u8>, Fail> {
     let (count, last) = text.split_once(":").ok_or("a stream has two parts")?;
     match count.parse::<usize>() {
@@ -31,7 +31,6 @@ fn stream_of(alloc: Global, text: &str) -> Result<Vec<u8>, Fail> {
     }
 }
 
-/// What the reading of a stream comes to, in words.
 fn reported(alloc: Global, stream: &[u8]) -> Result<String, Fail> {
     let mut source = MemorySource::new(stream, usize::MAX);
     let (end, _, used) = read(alloc, Framing::Chunked, &mut source, 1_000);
@@ -40,7 +39,6 @@ fn reported(alloc: Global, stream: &[u8]) -> Result<String, Fail> {
     Ok(format!(in alloc; "{end} after {used} of {bytes}, asked {calls}")?)
 }
 
-/// What the reading of the stream of a row comes to, in words.
 fn told_of_row(alloc: Global, text: &str) -> Result<String, Fail> {
     let stream = stream_of(alloc, text)?;
     let reported = reported(alloc, stream.as_slice());
@@ -48,7 +46,6 @@ fn told_of_row(alloc: Global, text: &str) -> Result<String, Fail> {
     reported
 }
 
-/// The reading of each stream comes to that.
 fn expect_rows<R: Abort + AllocGlobal>(rt: &R, rows: &str) -> Result<(), Fail> {
     for row in rows.lines() {
         let (stream, expected) = row_of(row)?;

@@ -1,4 +1,5 @@
-//! Tests of streams by the public calls of `mes_stream`: worked examples, and streams that are cut, break off and fail.
+//! Tests of the crates `mes_stream` and `mesosev_stream` through their public functions: worked
+//! examples, and streams that are cut, break off or fail.
 #![tactic(auto)]
 
 #[cfg(test)]

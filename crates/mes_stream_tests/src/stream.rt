@@ -1,4 +1,4 @@
-//! Plain RecordIO with few reads allowed, and chunked streams in pieces and from a device.
+//! Plain RecordIO with few reads, and chunked streams in pieces and from a device.
 
 use crate::support::*;
 use mes_frame::{Limit, MemorySource};
@@ -15,7 +15,7 @@ mod send;
 
 const ERROR: &[u8] = b"40\n{\"type\":\"ERROR\",\"error\":{\"message\":\"m\"}}";
 
-/// The reading of `ERROR` was good, and that is the event.
+// Reading `ERROR` must succeed and give its event.
 fn expect_error<R: Abort>(
     rt: &R,
     end: &Result<Report, Stop>,
@@ -33,7 +33,7 @@ fn expect_error<R: Abort>(
     Ok(())
 }
 
-/// By as many reads as it takes `ERROR` is read.
+// 44 reads are enough.
 fn expect_whole<R: Abort + AllocGlobal>(rt: &R) -> Result<(), Fail> {
     let mut events = Vec::new(rt.alloc());
     let mut source = MemorySource::new(ERROR, 1);
@@ -44,7 +44,7 @@ fn expect_whole<R: Abort + AllocGlobal>(rt: &R) -> Result<(), Fail> {
     reported
 }
 
-// By one byte a read, the 43 bytes take 43 reads, and their end one more.
+// At one byte a read, 43 bytes need 43 reads, and the end one more.
 #[test]
 fn reads_are_counted(rt: HostRuntime) -> Result<(), Fail> {
     for max_reads in 0..44 {
@@ -54,7 +54,7 @@ fn reads_are_counted(rt: HostRuntime) -> Result<(), Fail> {
     expect_whole(&rt)
 }
 
-// Two records and the begin of a third, in one chunk that isn't whole.
+// Two records and the beginning of a third, in one incomplete chunk.
 const TWO_AND_MORE: &[u8] =
     b"33\r\n20\n{\"type\":\"HEARTBEAT\"}20\n{\"type\":\"HEARTBEAT\"}20\n{\"";
 
@@ -62,7 +62,7 @@ fn decoder(alloc: Global) -> Decoder {
     Decoder::new(alloc, Limit::USUAL)
 }
 
-/// The name of an answer: that of a fault has its number too.
+// For an error, its number and name.
 fn name_of(out: &Decoded<Event>) -> &'static str {
     match out {
         Decoded::More => "more",
@@ -73,7 +73,6 @@ fn name_of(out: &Decoded<Event>) -> &'static str {
     }
 }
 
-/// The name of what the end of the input is told as.
 fn name_of_end(end: &Result<(), Fault>) -> &'static str {
     match end {
         Ok(()) => "end",
@@ -81,25 +80,23 @@ fn name_of_end(end: &Result<(), Fault>) -> &'static str {
     }
 }
 
-/// The name of the answer to a piece, and how many bytes it used.
+// Returns the name of the result, and the number of bytes used.
 fn reported(decoder: &mut Decoder, piece: &[u8]) -> (&'static str, usize) {
     let step = decoder.next(piece);
     (name_of(&step.out), step.used)
 }
 
-/// The name of the answer to the end of the input.
 fn told_at_end(decoder: &Decoder) -> &'static str {
     name_of_end(&decoder.finish())
 }
 
-/// Adds an answer and how many bytes were used then.
 fn push_answer(alloc: Global, found: &mut String, name: &str, used: usize) -> Result<(), Fail> {
     let answer = format!(in alloc; "{name} {used};")?;
     Ok(found.push_str(answer.as_str())?)
 }
 
-/// Takes a piece until it is used up; adds all answers but `more`. Answers how many bytes were used, or nothing behind the end or a
-/// fault.
+// Decodes a whole piece, and appends all results except `more`. Returns the number of bytes used,
+// or `None` after the end or an error.
 fn take_piece(
     alloc: Global,
     decoder: &mut Decoder,
@@ -126,13 +123,14 @@ fn take_piece(
     Ok(Some(total))
 }
 
-/// Adds `more` and the answer to the end of the input, behind pieces that brought neither an end nor a fault.
+// Appends `more` and the outcome of the end of the input, if the pieces brought neither an end nor
+// an error.
 fn take_end(alloc: Global, decoder: &Decoder, used: usize, found: &mut String) -> Result<(), Fail> {
     push_answer(alloc, found, "more", used)?;
     push_answer(alloc, found, told_at_end(decoder), used)
 }
 
-/// Takes two pieces, one behind the other, and the end of the input.
+// Decodes two consecutive pieces, and the end of the input.
 fn take_two(
     alloc: Global,
     decoder: &mut Decoder,
@@ -150,7 +148,7 @@ fn take_two(
     }
 }
 
-/// Takes a stream, a byte a piece, and the end of the input.
+// Decodes a stream in pieces of one byte, and the end of the input.
 fn take_bytes(
     alloc: Global,
     decoder: &mut Decoder,
@@ -167,7 +165,6 @@ fn take_bytes(
     take_end(alloc, decoder, total, found)
 }
 
-/// The answers to a stream in two pieces.
 fn found_in_two(alloc: Global, front: &[u8], rest: &[u8]) -> Result<String, Fail> {
     let mut found = String::new(alloc);
     let mut decoder = decoder(alloc);
@@ -177,7 +174,6 @@ fn found_in_two(alloc: Global, front: &[u8], rest: &[u8]) -> Result<String, Fail
     Ok(found)
 }
 
-/// The answers to a stream, a byte a piece.
 fn found_in_bytes(alloc: Global, stream: &[u8]) -> Result<String, Fail> {
     let mut found = String::new(alloc);
     let mut decoder = decoder(alloc);
@@ -187,7 +183,7 @@ fn found_in_bytes(alloc: Global, stream: &[u8]) -> Result<String, Fail> {
     Ok(found)
 }
 
-/// In every cut into two pieces, and a byte a piece, the answers are these.
+// The results must be the same in each cut into two pieces, and in pieces of one byte.
 fn expect<R: Abort + AllocGlobal>(rt: &R, stream: &[u8], answers: &str) -> Result<(), Fail> {
     for cut in 0..stream.len() {
         let (front, rest) = stream.split_at(cut);
@@ -199,7 +195,6 @@ fn expect<R: Abort + AllocGlobal>(rt: &R, stream: &[u8], answers: &str) -> Resul
     Ok(())
 }
 
-/// The same of a row.
 fn expect_row<R: Abort + AllocGlobal>(rt: &R, row: &str) -> Result<(), Fail> {
     let (text, answers) = row_of(row)?;
     let stream = bytes_of(rt.alloc(), text)?;
@@ -208,8 +203,8 @@ fn expect_row<R: Abort + AllocGlobal>(rt: &R, row: &str) -> Result<(), Fail> {
     reported
 }
 
-/// Streams, and the answers but `more`, each with the bytes used then; where no end and no fault comes, behind them `more` and the answer
-/// to the end of the input, with all that is used.
+// Streams, and their results except `more`, each with the number of bytes used. Without an end or
+// an error, `more` and the outcome of the end of the input follow.
 const STREAMS: &str =
     r#"33|20~{"type":"HEARTBEAT"}20~{"type":"HEARTBEAT"}20~{" => HEARTBEAT 27;HEARTBEAT 50;more 55;F6 EndsInsideChunks 55;
 2|5~|0|| => F10 EndsInsideRecord 12;
@@ -223,7 +218,6 @@ g => F1 BadChunkLine 1;
 1|x => F7 BadSizeLine 4;
 4|2~{} => F12 Field 7;"#;
 
-/// Bytes, and so many letters behind them.
 fn with_letters(alloc: Global, front: &[u8], count: usize) -> Result<Vec<u8>, Fail> {
     let letters = "a".repeat(alloc, count)?;
     Ok([front, letters.as_bytes()].concat(alloc)?)
@@ -239,7 +233,7 @@ fn streams_are_read_alike_in_every_cut(rt: HostRuntime) -> Result<(), Fail> {
     expect(&rt, long_line.as_slice(), "F2 ChunkLineTooLong 257;")
 }
 
-// A record in one chunk, and the end behind it.
+// A record in one chunk, and the end.
 #[test]
 fn one_chunk_is_read_alike_in_every_cut(rt: HostRuntime) -> Result<(), Fail> {
     expect(&rt, ONE_CHUNK, "HEARTBEAT 27;end 34;")
@@ -252,7 +246,7 @@ fn long_trailers_are_refused_in_every_cut(rt: HostRuntime) -> Result<(), Fail> {
     expect(&rt, trailers.as_slice(), "F5 TrailersTooLong 4100;")
 }
 
-/// A byte of `HEARTBEAT_BY_BYTES` is answered so, and then the input may end or not.
+// Decodes one byte of `HEARTBEAT_BY_BYTES`; the input may end only after the last one.
 fn expect_byte<R: Abort>(rt: &R, decoder: &mut Decoder, at: usize, byte: u8) {
     let answer = match at {
         135 => "HEARTBEAT",
@@ -263,7 +257,7 @@ fn expect_byte<R: Abort>(rt: &R, decoder: &mut Decoder, at: usize, byte: u8) {
     assert_eq!(rt; told_at_end(decoder) == "end", at == 142);
 }
 
-/// Each of the bytes is, and none is used behind them.
+// No byte is used after the end.
 fn expect_bytes<R: Abort>(rt: &R, decoder: &mut Decoder, stream: &[u8]) {
     for (at, byte) in stream.iter().enumerate() {
         expect_byte(rt, decoder, at, *byte);
@@ -271,7 +265,7 @@ fn expect_bytes<R: Abort>(rt: &R, decoder: &mut Decoder, stream: &[u8]) {
     assert_eq!(rt; reported(decoder, b"more"), ("end", 0));
 }
 
-// Its 143 bytes, one by one.
+// One byte a piece.
 #[test]
 fn a_stream_is_read_byte_by_byte(rt: HostRuntime) {
     assert_eq!(rt; HEARTBEAT_BY_BYTES.len(), 143);
@@ -292,7 +286,6 @@ fn two_records_of_one_piece_are_two_events(rt: HostRuntime) {
     expect_two_records(&rt, &mut decoder);
 }
 
-/// How many bytes are held.
 fn held(decoder: &Decoder) -> u64 {
     decoder.held()
 }

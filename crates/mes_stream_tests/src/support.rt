@@ -1,6 +1,6 @@
-//! What the tests of streams ask.
+//! Helpers of the tests of streams.
 //!
-//! A text of a table stands on one line: `|` is the CR LF that ends a line, and `~` is an LF.
+//! In a table `|` represents CR LF and `~` LF.
 
 use mes_frame::{Limit, MemorySource};
 use mes_msg::Event;
@@ -11,34 +11,33 @@ use std::test::Fail;
 /// A record of plain RecordIO: 23 bytes.
 pub(crate) const HEARTBEAT: &[u8] = b"20\n{\"type\":\"HEARTBEAT\"}";
 
-/// That record in chunks of one byte each, and then the last chunk: 143 bytes.
+/// The record of `HEARTBEAT` in chunks of one byte each, then the last chunk: 143 bytes.
 pub(crate) const HEARTBEAT_BY_BYTES: &[u8] =
     b"1\r\n2\r\n1\r\n0\r\n1\r\n\n\r\n1\r\n{\r\n1\r\n\"\r\n1\r\nt\r\n1\r\ny\r\n1\r\np\r\n1\r\ne\r\n1\r\n\"\r\n1\r\n:\r\n1\r\n\"\r\n1\r\nH\r\n1\r\nE\r\n1\r\nA\r\n1\r\nR\r\n1\r\nT\r\n1\r\nB\r\n1\r\nE\r\n1\r\nA\r\n1\r\nT\r\n1\r\n\"\r\n1\r\n}\r\n0\r\n\r\n";
 
-/// That record in one chunk, and then the last chunk: 34 bytes.
+/// The record of `HEARTBEAT` in one chunk, then the last chunk: 34 bytes.
 pub(crate) const ONE_CHUNK: &[u8] = b"17\r\n20\n{\"type\":\"HEARTBEAT\"}\r\n0\r\n\r\n";
 
-/// The chunk of that record: 29 bytes.
+// The chunk of the record of `HEARTBEAT`: 29 bytes.
 const CHUNK: &[u8] = b"17\r\n20\n{\"type\":\"HEARTBEAT\"}\r\n";
 
-/// So many of those records.
+/// Returns `count` records of `HEARTBEAT`.
 pub(crate) fn heartbeats(alloc: Global, count: usize) -> Result<Vec<u8>, Fail> {
     Ok(HEARTBEAT.repeat(alloc, count)?)
 }
 
-/// So many of those chunks, and behind them the bytes of a text of a table.
+/// Returns `count` chunks of `HEARTBEAT`, followed by the text of a table.
 pub(crate) fn chunks_and(alloc: Global, count: usize, last: &str) -> Result<Vec<u8>, Fail> {
     let mut stream = CHUNK.repeat(alloc, count)?;
     push_text(&mut stream, last)?;
     Ok(stream)
 }
 
-/// The two sides of a row.
+/// Splits a row into its two sides.
 pub(crate) fn row_of(line: &str) -> Result<(&str, &str), Fail> {
     Ok(line.split_once(" => ").ok_or("a row has two sides")?)
 }
 
-/// Adds the bytes of a text of a table.
 fn push_text(bytes: &mut Vec<u8>, text: &str) -> Result<(), Fail> {
     for byte in text.as_bytes() {
         match *byte {
@@ -50,17 +49,18 @@ fn push_text(bytes: &mut Vec<u8>, text: &str) -> Result<(), Fail> {
     Ok(())
 }
 
-/// The bytes of a text of a table.
+/// Converts a text of a table into bytes.
 pub(crate) fn bytes_of(alloc: Global, text: &str) -> Result<Vec<u8>, Fail> {
     let mut bytes = Vec::new(alloc);
     push_text(&mut bytes, text)?;
     Ok(bytes)
 }
 
-/// What a reading came to: how it ended, `end` or the fault, how many events there were, and the bytes used.
+/// The outcome of a reading: `end` or the error, the number of events, and the number of bytes
+/// used.
 pub(crate) type Came = (&'static str, usize, u64);
 
-/// Reads a stream of either framing.
+/// Reads a stream in either framing.
 pub(crate) fn read_into(
     alloc: Global,
     framing: Framing,
@@ -75,7 +75,6 @@ pub(crate) fn read_into(
     }
 }
 
-/// What a reading of so many events came to.
 fn came_of(end: &Result<Report, Stop>, events: usize) -> Came {
     match end {
         Ok(report) => ("end", events, report.used),
@@ -83,7 +82,7 @@ fn came_of(end: &Result<Report, Stop>, events: usize) -> Came {
     }
 }
 
-/// What the reading of a stream comes to.
+/// Reads a stream, and returns the outcome.
 pub(crate) fn read(
     alloc: Global,
     framing: Framing,
@@ -98,7 +97,8 @@ pub(crate) fn read(
     came
 }
 
-/// How a reading ends that is given a byte by each of at most so many reads, the bytes used, and how often the device was called.
+/// Reads a stream at one byte a read. Returns the end or the error, the bytes used, and the number
+/// of reads.
 pub(crate) fn read_by_bytes(
     alloc: Global,
     framing: Framing,

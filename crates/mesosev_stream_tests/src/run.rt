@@ -1,4 +1,5 @@
-//! What `check`, `show` and `convert` do over devices in memory that give and take a few bytes at a time, or fail.
+//! `check`, `show` and `convert` on devices in memory that read and write a few bytes at a time, or
+//! fail.
 
 use mes_frame::{Limit, MemorySink, MemorySource, MemoryStop};
 use mes_stream::Framing;
@@ -7,7 +8,7 @@ use std::alloc::{AllocGlobal, Global};
 use std::process::Abort;
 use std::test::Fail;
 
-/// A record of 20 bytes, 23 with its size line.
+// A record of 20 bytes; 23 with its size line.
 const HEARTBEAT: &str = "20\n{\"type\":\"HEARTBEAT\"}";
 
 /// `count` of those records.
@@ -23,13 +24,13 @@ fn as_text(bytes: &[u8]) -> Option<&str> {
 /// What `show` prints of it.
 const LINES: &str = "1 HEARTBEAT\nevents 1 bytes 23\n";
 
-/// What `check` prints of it.
+// The output of `check`.
 const COUNTS: &str = "events 1 bytes 23\n";
 
-/// How many bytes the writer takes by one call.
+// The largest write in bytes.
 const WRITE_SIZE: usize = 5;
 
-/// Follows plain RecordIO under the usual limit, and answers how that ended.
+// Reads plain RecordIO under the default limit.
 fn followed(
     alloc: Global,
     detail: Detail,
@@ -47,7 +48,6 @@ fn followed(
     )
 }
 
-/// Asserts what is printed of what the source gives, and how that ends.
 fn expect_printed<R: Abort + AllocGlobal>(
     rt: &R,
     detail: Detail,
@@ -60,7 +60,7 @@ fn expect_printed<R: Abort + AllocGlobal>(
     assert_eq!(rt; (as_text(out.bytes()), reported), (as_text(lines), ended));
 }
 
-/// The same with a writer that does not stop.
+// The writer does not stop.
 fn expect_status<R: Abort + AllocGlobal>(
     rt: &R,
     detail: Detail,
@@ -73,7 +73,7 @@ fn expect_status<R: Abort + AllocGlobal>(
     expect_printed(rt, detail, source, &mut out, lines.as_bytes(), ended);
 }
 
-/// Follows the record, given so many bytes by one read, and asserts what is printed.
+// `size` is the largest read in bytes.
 fn expect_lines<R: Abort + AllocGlobal>(rt: &R, detail: Detail, lines: &str, size: usize) {
     let mut source = MemorySource::new(HEARTBEAT.as_bytes(), size);
     expect_status(rt, detail, &mut source, lines, ExitStatus::Success);
@@ -87,13 +87,13 @@ fn records_are_read_by_pieces(rt: HostRuntime) {
     }
 }
 
-/// Follows the record, whose reader fails behind so many bytes, and asserts what is printed.
+// The reader fails after `taken` bytes.
 fn expect_failed_read<R: Abort + AllocGlobal>(rt: &R, detail: Detail, taken: usize, lines: &str) {
     let mut source = MemorySource::failing_after(HEARTBEAT.as_bytes(), 1, taken);
     expect_status(rt, detail, &mut source, lines, ExitStatus::Fault);
 }
 
-// The reader fails behind each front of the record, and behind all of it.
+// The reader fails after each prefix of the record, and after the whole record.
 #[test]
 fn a_reader_that_fails_is_reported(rt: HostRuntime) -> Result<(), Fail> {
     for taken in 0..=HEARTBEAT.len() {
@@ -105,7 +105,7 @@ fn a_reader_that_fails_is_reported(rt: HostRuntime) -> Result<(), Fail> {
     Ok(())
 }
 
-/// Follows the record, whose writer stops so behind this front of what is printed, and asserts that the front is written.
+// The writer stops after `front`, and must have exactly that.
 fn expect_cut<R: Abort + AllocGlobal>(rt: &R, detail: Detail, front: &[u8], stop: MemoryStop) {
     let good = front.len();
     let mut source = MemorySource::new(HEARTBEAT.as_bytes(), 7);
@@ -114,7 +114,7 @@ fn expect_cut<R: Abort + AllocGlobal>(rt: &R, detail: Detail, front: &[u8], stop
     expect_printed(rt, detail, &mut source, &mut out, front, ended);
 }
 
-/// The writer fails, or takes no more, behind each front of the lines.
+// The writer fails, or accepts no more, after each prefix of the lines.
 fn expect_cuts<R: Abort + AllocGlobal>(rt: &R, detail: Detail, lines: &[u8]) {
     for good in 0..lines.len() {
         let (front, _) = lines.split_at(good);
@@ -129,7 +129,6 @@ fn lines_are_cut_where_the_writer_stops(rt: HostRuntime) {
     expect_cuts(&rt, Detail::Counts, COUNTS.as_bytes());
 }
 
-/// Follows the record by at most so many reads.
 fn followed_by(
     alloc: Global,
     max_reads: u32,
@@ -147,7 +146,7 @@ fn followed_by(
     )
 }
 
-/// Asserts what is printed where so many reads are spent, and that they were made.
+// Exactly `max_reads` reads must be made.
 fn expect_spent_by<R: Abort + AllocGlobal>(
     rt: &R,
     max_reads: u32,
@@ -163,13 +162,12 @@ fn expect_spent_by<R: Abort + AllocGlobal>(
     assert_eq!(rt; source.counts().calls, max_reads as u64);
 }
 
-/// The same with a new writer.
 fn expect_spent<R: Abort + AllocGlobal>(rt: &R, max_reads: u32, lines: &str) {
     let mut out = MemorySink::new(rt.alloc(), WRITE_SIZE);
     expect_spent_by(rt, max_reads, &mut out, lines);
 }
 
-// As many reads as allowed were made, and another was needed; the events of those are printed.
+// All allowed reads were made, and one more was needed; the events of those reads are printed.
 #[test]
 fn spent_reads_are_reported(rt: HostRuntime) -> Result<(), Fail> {
     for max_reads in 0..24 {
@@ -180,24 +178,23 @@ fn spent_reads_are_reported(rt: HostRuntime) -> Result<(), Fail> {
     Ok(())
 }
 
-/// How the following of a stream ended, how often its reader was called, and how often its writer.
+// The outcome, the number of reads, and the number of writes.
 type Calls = (RunOutcome, u64, u64);
 
-/// Follows the stream, whose reader gives all it is asked for.
+// The reader fills each read.
 fn calls_of(alloc: Global, detail: Detail, bytes: &[u8], mut out: MemorySink) -> Calls {
     let mut source = MemorySource::new(bytes, usize::MAX);
     let ended = followed(alloc, detail, &mut source, &mut out);
     (ended, source.counts().calls, out.counts().calls)
 }
 
-/// How often the reader of a stream is called.
 fn reads_of_check(alloc: Global, bytes: &[u8]) -> (RunOutcome, u64) {
     let out = MemorySink::new(alloc, usize::MAX);
     let (ended, reads, _) = calls_of(alloc, Detail::Counts, bytes, out);
     (ended, reads)
 }
 
-// A device that gives all it is asked for is asked once for each 512 bytes, and once more for the end.
+// One read for each 512 bytes, and one more for the end.
 #[test]
 fn a_stream_is_followed_by_few_reads(rt: HostRuntime) -> Result<(), Fail> {
     for records in 0..100 {
@@ -209,14 +206,14 @@ fn a_stream_is_followed_by_few_reads(rt: HostRuntime) -> Result<(), Fail> {
     Ok(())
 }
 
-/// How the following of a stream ends whose writer fails behind three bytes, and how often its reader is called.
+// The writer fails after three bytes. Returns the outcome and the number of reads.
 fn reads_before_failure(alloc: Global, bytes: &[u8]) -> (RunOutcome, u64) {
     let out = MemorySink::stopping_after(alloc, WRITE_SIZE, 3, MemoryStop::Fails);
     let (ended, reads, _) = calls_of(alloc, Detail::Lines, bytes, out);
     (ended, reads)
 }
 
-// Behind a read whose lines the writer did not take no more is read.
+// Once the lines of a read cannot be written, no more is read.
 #[test]
 fn nothing_is_read_behind_a_failed_output(rt: HostRuntime) -> Result<(), Fail> {
     let bytes = heartbeats(rt.alloc(), 100)?;
@@ -226,7 +223,7 @@ fn nothing_is_read_behind_a_failed_output(rt: HostRuntime) -> Result<(), Fail> {
     Ok(())
 }
 
-/// Shows so many records to a writer that takes all it is given, and answers how often that was called.
+// Returns the number of writes of a writer that accepts whole buffers.
 fn writes_of_show(alloc: Global, records: usize) -> Result<u64, Fail> {
     let bytes = heartbeats(alloc, records)?;
     let out = MemorySink::new(alloc, usize::MAX);
@@ -234,7 +231,8 @@ fn writes_of_show(alloc: Global, records: usize) -> Result<u64, Fail> {
     Ok(writes)
 }
 
-// The lines of a read's events go out by one write: 22 of them end in the first 512 bytes. The last line is a write of its own.
+// The lines of one read are one write: 22 records end in the first 512 bytes. The last line is a
+// write of its own.
 #[test]
 fn lines_go_out_by_few_writes(rt: HostRuntime) -> Result<(), Fail> {
     for &(records, writes) in &[(0, 1), (1, 2), (22, 2), (23, 3), (45, 4)] {
@@ -243,7 +241,7 @@ fn lines_go_out_by_few_writes(rt: HostRuntime) -> Result<(), Fail> {
     Ok(())
 }
 
-/// Ends a run whose output failed behind 7 bytes, and asserts what this writer is told.
+// The output failed after 7 bytes; `line` must be on standard error.
 fn expect_told_by<R: Abort>(rt: &R, closed: bool, err: &mut MemorySink, line: &str) {
     let status = finish(RunOutcome::OutputFailed(7), closed, err);
     assert_eq!(rt;
@@ -252,7 +250,6 @@ fn expect_told_by<R: Abort>(rt: &R, closed: bool, err: &mut MemorySink, line: &s
     );
 }
 
-/// The same with a new writer.
 fn expect_told<R: Abort + AllocGlobal>(rt: &R, closed: bool, line: &str) {
     let mut err = MemorySink::new(rt.alloc(), WRITE_SIZE);
     expect_told_by(rt, closed, &mut err, line);
@@ -264,7 +261,7 @@ fn an_output_that_failed_is_reported(rt: HostRuntime) {
     expect_told(&rt, true, "");
 }
 
-/// Converts the record into plain RecordIO, and answers the status.
+// Converts into plain RecordIO, and returns the status.
 fn converted(alloc: Global, out: &mut MemorySink, err: &mut MemorySink) -> ExitStatus {
     let mut source = MemorySource::new(HEARTBEAT.as_bytes(), 7);
     convert(
@@ -278,7 +275,6 @@ fn converted(alloc: Global, out: &mut MemorySink, err: &mut MemorySink) -> ExitS
     )
 }
 
-/// Converts the record, and asserts what is written and told.
 fn expect_stopped_by<R: Abort + AllocGlobal>(
     rt: &R,
     out: &mut MemorySink,
@@ -294,14 +290,14 @@ fn expect_stopped_by<R: Abort + AllocGlobal>(
     assert_eq!(rt; as_text(err.bytes()), Some(line));
 }
 
-/// The same with a writer that stops so behind this front of the record.
+// The writer stops after `front`.
 fn expect_stopped<R: Abort + AllocGlobal>(rt: &R, front: &[u8], stop: MemoryStop, line: &str) {
     let mut out = MemorySink::stopping_after(rt.alloc(), WRITE_SIZE, front.len(), stop);
     let mut err = MemorySink::new(rt.alloc(), WRITE_SIZE);
     expect_stopped_by(rt, &mut out, &mut err, front, line);
 }
 
-/// The writer fails, or takes no more, behind each front of the record.
+// The writer fails, or accepts no more, after each prefix of the record.
 fn expect_stops<R: Abort + AllocGlobal>(rt: &R, record: &[u8]) -> Result<(), Fail> {
     for good in 0..record.len() {
         let (front, _) = record.split_at(good);

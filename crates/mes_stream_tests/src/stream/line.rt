@@ -1,4 +1,4 @@
-//! The lines of faults and of the count.
+//! Lines of errors and of the counts.
 
 use arrayvec::ArrayString;
 use mes_frame::FrameFault;
@@ -14,12 +14,12 @@ fn expect_line<R: Abort>(rt: &R, fault: Fault, used: u64, expected: &str) {
     assert_eq!(rt; line.as_str(), expected);
 }
 
-/// The line of a fault of the framing, behind five bytes.
+// The error is at offset 5.
 fn expect_framing<R: Abort>(rt: &R, fault: FrameFault, expected: &str) {
     expect_line(rt, Fault::Frame(fault), 5, expected);
 }
 
-/// The line of a fault of the first record's text.
+// The error is in the first record.
 fn expect_text<R: Abort>(rt: &R, byte: u64, why: TextFaultKind, used: u64, expected: &str) {
     let fault = Fault::Text {
         at_record: 1,
@@ -58,7 +58,7 @@ fn a_framing_fault_has_its_line(rt: HostRuntime) {
     expect_framing(&rt, RecordTooLarge, "fault F9 RecordTooLarge after 5");
 }
 
-/// The line of a fault behind twelve bytes.
+// The error is at offset 12.
 fn expect_twelve<R: Abort>(rt: &R, fault: Fault, expected: &str) {
     expect_line(rt, fault, 12, expected);
 }

@@ -1,11 +1,13 @@
-//! Readers of streams that take pieces: an answer behind each record, what stands before, what is kept, and how often a device is asked.
+//! Readers of streams that decode pieces: one result a record, the numbers of records, the buffered
+//! bytes, and the number of reads.
 use super::*;
 use mes_stream::{Body, EndedRecord, MAX_READ, Reading, ReadingStop, ReadsEnd, Step, StreamReader};
 
 /// A reader of a stream of events.
 pub(super) type Reader = StreamReader<EventReader>;
 
-/// What a reader is fed comes to: nothing yet, or the byte that ended the stream, or a fault.
+/// The result of feeding a reader: nothing yet, the number of bytes up to the end of the stream, or
+/// an error.
 pub(super) type Fed = Result<Option<usize>, ()>;
 
 pub(super) fn reader(alloc: Global, framing: Framing) -> Reader {
@@ -22,17 +24,17 @@ pub(super) fn fed(reader: &mut Reader, piece: &[u8], events: &mut Vec<Event>) ->
     }
 }
 
-/// The name of a reader's answer to the end of the input.
+/// Returns the name of the outcome at the end of the input.
 pub(super) fn finished(reader: &Reader) -> &'static str {
     name_of_end(&reader.finish())
 }
 
-/// How many bytes of a record that has begun a reader keeps.
+/// Returns the number of buffered bytes of an incomplete record.
 pub(super) fn kept(reader: &Reader) -> u64 {
     reader.held()
 }
 
-/// How many bytes of a piece a reader uses, and the name of its answer.
+// The number of bytes used, and the name of the result.
 fn answered(reader: &mut Reader, piece: &[u8]) -> (usize, &'static str) {
     let step = reader.next(piece).unpacked();
     (step.used, name_of(&step.out))
@@ -46,14 +48,14 @@ fn expect_two_answers<R: Abort>(rt: &R, plain: &mut Reader) {
     assert_eq!(rt; answered(plain, b""), (0, "more"));
 }
 
-// Behind the first record of a piece that has two, an answer comes; the rest of the piece is given again.
+// A piece with two records gives a result after the first; the rest of the piece is passed again.
 #[test]
 fn a_reader_stops_after_each_record(rt: HostRuntime) {
     let mut plain = reader(rt.alloc(), Framing::Plain);
     expect_two_answers(&rt, &mut plain);
 }
 
-/// How many bytes were used, and the number of the record that is no text, if the answer is that one is not.
+// The number of bytes used, and the number of the record that is not JSON, if any.
 fn used_and_record(step: &Step<Event>) -> (usize, Option<u64>) {
     match &step.out {
         Decoded::Fault(Fault::Text { at_record, .. }) => (step.used, Some(*at_record)),
@@ -61,7 +63,7 @@ fn used_and_record(step: &Step<Event>) -> (usize, Option<u64>) {
     }
 }
 
-/// The same of a record that is no text behind so many of any kind.
+// `done` records of any kind precede the record that is not JSON.
 fn text_fault_behind(alloc: Global, done: u64) -> (usize, Option<u64>) {
     let body = Body::following(EventReader::new(alloc), Limit::USUAL, done);
     let mut reader = StreamReader::Plain(body);
@@ -70,7 +72,7 @@ fn text_fault_behind(alloc: Global, done: u64) -> (usize, Option<u64>) {
     used_and_record(&step)
 }
 
-// A reader of another kind took records before: those behind it are numbered from there.
+// Another reader decoded the first records; the numbers continue after those.
 #[test]
 fn records_before_are_counted(rt: HostRuntime) {
     for done in [0, 1, 7, u64::MAX] {
@@ -83,7 +85,8 @@ fn records_before_are_counted(rt: HostRuntime) {
     }
 }
 
-/// Feeds bytes, and behind them an `x` for each of so many times until something ends the stream. Whether it is a fault.
+// Feeds `rest`, then `x` up to 5,000 times until the stream ends. Returns whether it ends with an
+// error.
 fn fails_behind(reader: &mut Reader, rest: &[u8], events: &mut Vec<Event>) -> bool {
     let mut ended = fed(reader, rest, events);
     for _ in 0..5000 {
@@ -94,7 +97,7 @@ fn fails_behind(reader: &mut Reader, rest: &[u8], events: &mut Vec<Event>) -> bo
     ended.is_err()
 }
 
-/// Something is kept of an event that has begun, and nothing behind the fault that the bytes behind it show.
+// An incomplete event is buffered, and freed at the error.
 fn expect_let_go<R: Abort>(rt: &R, chunked: &mut Reader, rest: &str, events: &mut Vec<Event>) {
     let open = fed(chunked, b"1a\r\n40\n{\"type\":\"ERROR\",\"messag", events);
     assert_eq!(rt; (open, kept(chunked) > 0), (Ok(None), true));
@@ -102,14 +105,13 @@ fn expect_let_go<R: Abort>(rt: &R, chunked: &mut Reader, rest: &str, events: &mu
     assert_eq!(rt; (fails, kept(chunked)), (true, 0), "{rest}");
 }
 
-/// The same of a new reader.
 fn expect_fault<R: Abort + AllocGlobal>(rt: &R, rest: &str) {
     let mut events = Vec::new(rt.alloc());
     let mut chunked = reader(rt.alloc(), Framing::Chunked);
     expect_let_go(rt, &mut chunked, rest, &mut events);
 }
 
-/// What a reader is fed with one chunk and the end comes to, and how many bytes it keeps then.
+// One chunk and the end. Returns the number of buffered bytes too.
 fn fed_whole(alloc: Global) -> (Fed, u64) {
     let mut events = Vec::new(alloc);
     let mut chunked = reader(alloc, Framing::Chunked);
@@ -117,7 +119,7 @@ fn fed_whole(alloc: Global) -> (Fed, u64) {
     (ended, kept(&chunked))
 }
 
-// An event inside, then the byte that ends the stream or shows a fault, F1 to F5 and then F10: nothing is kept.
+// Inside an event the stream ends or has an error, F1 to F5 and then F10: nothing is buffered.
 #[test]
 fn nothing_is_kept_behind_the_end_or_a_fault(rt: HostRuntime) {
     expect_fault(&rt, "\r\n;");
@@ -129,7 +131,8 @@ fn nothing_is_kept_behind_the_end_or_a_fault(rt: HostRuntime) {
     assert_eq!(rt; fed_whole(rt.alloc()), (Ok(Some(34)), 0));
 }
 
-/// How a reading of the stream ends, how often it calls a device that gives all it is asked for, and how often that tells its end.
+// The end or the error, the number of reads of a device that fills each read, and the number of
+// those at its end.
 fn asked(alloc: Global, framing: Framing, bytes: &[u8]) -> (&'static str, u64, u64) {
     let mut source = MemorySource::new(bytes, usize::MAX);
     let (end, _, _) = read(alloc, framing, &mut source, 1_000);
@@ -137,7 +140,7 @@ fn asked(alloc: Global, framing: Framing, bytes: &[u8]) -> (&'static str, u64, u
     (end, counts.calls, counts.idle)
 }
 
-// A device is asked once for each 512 bytes, and once more for the end of plain records.
+// One read for each 512 bytes, and one more for the end of plain RecordIO.
 #[test]
 fn each_read_asks_for_as_much_as_it_may(rt: HostRuntime) -> Result<(), Fail> {
     for records in 0..100 {
@@ -149,7 +152,7 @@ fn each_read_asks_for_as_much_as_it_may(rt: HostRuntime) -> Result<(), Fail> {
     Ok(())
 }
 
-// A chunked stream shows its own end, so no call is made for that.
+// A chunked stream shows its own end, so that no read is made for it.
 #[test]
 fn each_read_of_chunks_asks_for_as_much_as_it_may(rt: HostRuntime) -> Result<(), Fail> {
     for records in 0..100 {
@@ -161,7 +164,7 @@ fn each_read_of_chunks_asks_for_as_much_as_it_may(rt: HostRuntime) -> Result<(),
     Ok(())
 }
 
-/// Feeds a reading with what one read gives, and answers how the reads ended then.
+// Feeds the bytes of one read.
 fn feed_reading(
     reading: &mut Reading<EventReader>,
     piece: &[u8],
@@ -176,7 +179,7 @@ fn feed_reading(
     }
 }
 
-/// Where a reading has stopped: the bytes used, and the number of the record that is no text, if that is why.
+// The number of bytes used, and the number of the record that is not JSON, if that is the reason.
 type StoppedAt = (u64, Option<u64>);
 
 fn stop_of(outcome: &Result<Report, Stop>) -> Option<StoppedAt> {
@@ -192,7 +195,7 @@ fn stop_of(outcome: &Result<Report, Stop>) -> Option<StoppedAt> {
     }
 }
 
-/// Behind a piece a reading tells its bytes and has stopped there, and nothing is kept behind its outcome.
+// After a piece the reading must have stopped, with its number of bytes, and must buffer nothing.
 fn expect_stop<R: Abort>(
     rt: &R,
     reading: &mut Reading<EventReader>,
@@ -208,7 +211,6 @@ fn expect_stop<R: Abort>(
     Ok(())
 }
 
-/// So it is of a new reading.
 fn expect_first_stop<R: Abort + AllocGlobal>(
     rt: &R,
     piece: &[u8],
@@ -223,7 +225,6 @@ fn expect_first_stop<R: Abort + AllocGlobal>(
     reported
 }
 
-// Where a reading has stopped its bytes are told, and nothing is kept behind its outcome.
 #[test]
 fn a_reading_that_stops_tells_its_bytes(rt: HostRuntime) -> Result<(), Fail> {
     expect_first_stop(&rt, b"20\n{\"type\":\"ERROR\",\"xy", (22, None))?;
@@ -231,10 +232,9 @@ fn a_reading_that_stops_tells_its_bytes(rt: HostRuntime) -> Result<(), Fail> {
     expect_first_stop(&rt, b"2\n{]3", (4, Some(1)))
 }
 
-/// Two records, and a third that is no text.
+// Two records, and a third that is not JSON.
 const TWO_AND_NO_TEXT: &[u8] = b"20\n{\"type\":\"HEARTBEAT\"}20\n{\"type\":\"HEARTBEAT\"}1\n[";
 
-/// With which byte of the piece a record ended, if one did.
 fn ended_at(answer: &Result<Option<EndedRecord<Event>>, ReadingStop>) -> Option<usize> {
     match answer {
         Ok(Some(ended)) => Some(ended.used),
@@ -242,7 +242,8 @@ fn ended_at(answer: &Result<Option<EndedRecord<Event>>, ReadingStop>) -> Option<
     }
 }
 
-/// With which byte of what one read gives the first record ended, and how many bytes the reading tells.
+// The number of bytes up to the end of the first record, as the result and as the reading return
+// it.
 fn first_record(alloc: Global, piece: &[u8]) -> Option<(usize, u64)> {
     if piece.len() > MAX_READ {
         return None;
@@ -254,7 +255,8 @@ fn first_record(alloc: Global, piece: &[u8]) -> Option<(usize, u64)> {
     Some((ended?, used))
 }
 
-/// A reading behind a first record, of these bytes, takes one more and stops in the third. Answers how many events it adds.
+// The reading continues after the first record, decodes one more, and stops in the third. Returns
+// the number of events added.
 fn expect_second_stop<R: Abort + AllocGlobal>(
     rt: &R,
     used: u64,
@@ -271,7 +273,8 @@ fn expect_second_stop<R: Abort + AllocGlobal>(
     Ok(count)
 }
 
-// A reader of a first record, behind which another reader goes on, is told with which byte of the piece that record ended.
+// The result says with which byte of the piece the first record ended, so that another reader can
+// continue there.
 #[test]
 fn a_second_reading_goes_on_behind_the_first_record(rt: HostRuntime) -> Result<(), Fail> {
     assert_eq!(rt; first_record(rt.alloc(), TWO_AND_NO_TEXT), Some((23, 23)));

@@ -1,18 +1,18 @@
-//! Streams of either framing, read from a device: what each reading comes to.
+//! Streams in either framing, read from a device.
 use super::readers::{Fed, Reader, fed, finished, kept, reader};
 use super::*;
 use mes_stream::{Body, StreamReader, read_events, read_stream};
 
-/// As many reads as any of these streams takes.
+// More reads than any of these streams needs.
 const MANY: u64 = 1_000_000;
 
-/// What the reading of a chunked stream comes to from a device that gives at most so many bytes a call.
+// `most` is the largest read in bytes.
 fn read_chunked(alloc: Global, bytes: &[u8], most: usize) -> Came {
     let mut source = MemorySource::new(bytes, most);
     read(alloc, Framing::Chunked, &mut source, MANY)
 }
 
-/// Chunked streams, and what the reading of each comes to.
+// Chunked streams, and the outcome of reading each.
 const READINGS: &str = r#"0|| => end, events 0 bytes 5
  => F6 EndsInsideChunks, events 0 bytes 0
 33|20~{"type":"HEARTBEAT"}20~{"type":"HEARTBEAT"}20~{" => F6 EndsInsideChunks, events 2 bytes 55
@@ -21,13 +21,12 @@ const READINGS: &str = r#"0|| => end, events 0 bytes 5
 0||XYZ => end, events 0 bytes 5
 17;a|xyz => F7 BadSizeLine, events 0 bytes 7"#;
 
-/// What the reading of a chunked stream comes to, in words.
 fn told_chunked(alloc: Global, bytes: &[u8], most: usize) -> Result<String, Fail> {
     let (end, events, used) = read_chunked(alloc, bytes, most);
     Ok(format!(in alloc; "{end}, events {events} bytes {used}")?)
 }
 
-/// However many bytes a call gives, the reading comes to that.
+// The outcome must not depend on the size of the reads.
 fn expect_came<R: Abort + AllocGlobal>(rt: &R, bytes: &[u8], came: &str) -> Result<(), Fail> {
     for most in [1, 2, 7, 512] {
         let reported = told_chunked(rt.alloc(), bytes, most)?;
@@ -36,7 +35,6 @@ fn expect_came<R: Abort + AllocGlobal>(rt: &R, bytes: &[u8], came: &str) -> Resu
     Ok(())
 }
 
-/// The same of a row.
 fn expect_came_row<R: Abort + AllocGlobal>(rt: &R, row: &str) -> Result<(), Fail> {
     let (text, came) = row_of(row)?;
     let stream = bytes_of(rt.alloc(), text)?;
@@ -53,7 +51,7 @@ fn streams_end_and_break_at_their_byte(rt: HostRuntime) -> Result<(), Fail> {
     expect_came(&rt, HEARTBEAT_BY_BYTES, "end, events 1 bytes 143")
 }
 
-/// The reading was good, and these bytes were taken behind the five of the stream.
+// The reading must succeed after five bytes; `rest` are the bytes that were read after the end.
 fn expect_report<R: Abort>(rt: &R, end: &Result<Report, Stop>, rest: &[u8]) -> Result<(), Fail> {
     match end {
         Ok(report) => assert_eq!(rt;
@@ -65,27 +63,26 @@ fn expect_report<R: Abort>(rt: &R, end: &Result<Report, Stop>, rest: &[u8]) -> R
     Ok(())
 }
 
-/// The same of a reading that is gone then.
 fn expect_rest<R: Abort>(rt: &R, end: Result<Report, Stop>, rest: &[u8]) -> Result<(), Fail> {
     let reported = expect_report(rt, &end, rest);
     drop(end);
     reported
 }
 
-/// The reading of a chunked stream by the call for either framing.
+// Reads through the function for either framing.
 fn end_of_events(alloc: Global, source: &mut MemorySource<'_>) -> Result<Report, Stop> {
     let mut events = Vec::new(alloc);
     let limit = Limit::USUAL;
     read_events(alloc, source, Framing::Chunked, limit, 9, &mut events)
 }
 
-/// The same by the call for chunked streams.
+// Reads through the function for chunked streams.
 fn end_of_stream(alloc: Global, source: &mut MemorySource<'_>) -> Result<Report, Stop> {
     let mut events = Vec::new(alloc);
     read_stream(alloc, source, Limit::USUAL, 9, &mut events)
 }
 
-/// A stream of five bytes, and three behind it.
+// A stream of five bytes, followed by three more.
 const MORE: &[u8] = b"0\r\n\r\nXYZ";
 
 #[test]
@@ -93,14 +90,14 @@ fn bytes_taken_after_the_end_are_returned(rt: HostRuntime) -> Result<(), Fail> {
     let mut source = MemorySource::new(MORE, 512);
     expect_rest(&rt, end_of_events(rt.alloc(), &mut source), b"XYZ")?;
     assert_eq!(rt; source.counts().calls, 1);
-    // By two bytes a read the third read has the last byte of the stream and one more.
+    // At two bytes a read, the third read has the last byte of the stream and one more.
     let mut source = MemorySource::new(MORE, 2);
     expect_rest(&rt, end_of_stream(rt.alloc(), &mut source), b"X")?;
     assert_eq!(rt; (source.counts().calls, source.counts().idle), (3, 0));
     Ok(())
 }
 
-/// What the reading of one chunk comes to in at most so many reads, and how many it takes.
+// Returns the outcome and the number of reads.
 fn read_one_chunk(alloc: Global, max_reads: u64) -> (Came, u64) {
     let mut source = MemorySource::new(ONE_CHUNK, 512);
     let came = read(alloc, Framing::Chunked, &mut source, max_reads);
@@ -120,14 +117,14 @@ fn reads_of_a_chunked_stream_are_counted(rt: HostRuntime) {
     }
 }
 
-/// What the reading of `HEARTBEAT_BY_BYTES` comes to from a device that fails behind so many bytes, and how often that failed.
+// The device fails after `good` bytes of `HEARTBEAT_BY_BYTES`. Returns the number of failures too.
 fn read_failing(alloc: Global, good: usize) -> (Came, u64) {
     let mut source = MemorySource::failing_after(HEARTBEAT_BY_BYTES, 1, good);
     let came = read(alloc, Framing::Chunked, &mut source, MANY);
     (came, source.counts().failures)
 }
 
-// The device fails behind each number of bytes in turn: those before it are used, and so are the events that ended with them.
+// The bytes before the failure are used, and the events that ended with them are returned.
 #[test]
 fn a_read_may_fail_after_each_byte(rt: HostRuntime) {
     for good in 0..143 {
@@ -138,7 +135,7 @@ fn a_read_may_fail_after_each_byte(rt: HostRuntime) {
     assert_eq!(rt; read_failing(rt.alloc(), 143), (("end", 1, 143), 0));
 }
 
-/// Each front of a chunked stream of one record ends too early.
+// Each proper prefix of a chunked stream with one record ends too early.
 fn expect_fronts_of_chunks<R: Abort + AllocGlobal>(rt: &R, stream: &[u8]) {
     for len in 0..stream.len() {
         let events = if len >= 136 { 1 } else { 0 };
@@ -151,7 +148,6 @@ fn expect_fronts_of_chunks<R: Abort + AllocGlobal>(rt: &R, stream: &[u8]) {
     }
 }
 
-/// What the reading of plain RecordIO comes to.
 fn read_plainly(alloc: Global, bytes: &[u8]) -> Came {
     let mut source = MemorySource::new(bytes, 512);
     read(alloc, Framing::Plain, &mut source, MANY)
@@ -185,7 +181,7 @@ fn size_lines_do_not_wrap(rt: HostRuntime) {
     );
 }
 
-/// The answers to two pieces, and to the end of the input behind each.
+// The results of two pieces, each with the outcome if the input ended after it.
 fn feed_two(
     reader: &mut Reader,
     front: &[u8],
@@ -197,7 +193,7 @@ fn feed_two(
     [first, second]
 }
 
-/// The same of a new reader, and how many events there are then.
+// Returns the number of events too.
 fn fed_two(
     alloc: Global,
     framing: Framing,
@@ -211,7 +207,7 @@ fn fed_two(
     (answers, events.len())
 }
 
-/// A chunked stream of one record is taken in two pieces, cut at each place.
+// A chunked stream with one record, cut at each byte.
 fn expect_cuts_of_chunks<R: Abort + AllocGlobal>(rt: &R, stream: &[u8]) {
     for cut in 0..stream.len() {
         let (front, rest) = stream.split_at(cut);
@@ -221,7 +217,7 @@ fn expect_cuts_of_chunks<R: Abort + AllocGlobal>(rt: &R, stream: &[u8]) {
     }
 }
 
-/// So is a record of plain RecordIO.
+// A record of plain RecordIO, cut at each byte.
 fn expect_cuts_of_records<R: Abort + AllocGlobal>(rt: &R, stream: &[u8]) {
     for cut in 0..stream.len() {
         let (front, rest) = stream.split_at(cut);
@@ -236,14 +232,12 @@ fn expect_cuts_of_records<R: Abort + AllocGlobal>(rt: &R, stream: &[u8]) {
     }
 }
 
-// A reader of a stream takes it in two pieces, cut at each place.
 #[test]
 fn a_stream_in_two_pieces_is_read_alike(rt: HostRuntime) {
     expect_cuts_of_chunks(&rt, HEARTBEAT_BY_BYTES);
     expect_cuts_of_records(&rt, HEARTBEAT);
 }
 
-/// The spaces before the text of a record are taken, and not kept.
 fn expect_spaces<R: Abort>(rt: &R, plain: &mut Reader, events: &mut Vec<Event>) {
     assert_eq!(rt; fed(plain, b"4020\n", events), Ok(None));
     for _ in 0..4000 {
@@ -254,7 +248,7 @@ fn expect_spaces<R: Abort>(rt: &R, plain: &mut Reader, events: &mut Vec<Event>) 
     assert_eq!(rt; (events.len(), finished(plain)), (1, "end"));
 }
 
-// The 4,000 spaces before the text of a record are not kept.
+// The 4,000 spaces before the text of a record are not buffered.
 #[test]
 fn spaces_are_not_kept(rt: HostRuntime) {
     let mut events = Vec::new(rt.alloc());

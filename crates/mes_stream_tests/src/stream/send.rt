@@ -1,4 +1,5 @@
-//! Worked examples of what is sent: whole, stopped by the writer at each byte, and refused before the first byte.
+//! Worked examples of sending: whole, stopped by the writer at each byte, and rejected before the
+//! first byte.
 
 use crate::support::{HEARTBEAT, HEARTBEAT_BY_BYTES, as_text, read_into};
 use arrayvec::ArrayString;
@@ -12,26 +13,26 @@ use std::alloc::{AllocGlobal, Global};
 use std::process::Abort;
 use std::test::Fail;
 
-// 98 bytes of text, whose canonical text has 100: `15.0` for `15`.
+// 98 bytes of text; the canonical text has 100: `15.0` for `15`.
 const SUBSCRIBED: &[u8] =
     b"98\n{\"type\":\"SUBSCRIBED\",\"subscribed\":{\"framework_id\":{\"value\":\"F1\"},\"heartbeat_interval_seconds\":15}}";
 
-// HEARTBEAT, SUBSCRIBED and HEARTBEAT again.
+// HEARTBEAT, SUBSCRIBED, HEARTBEAT.
 const THREE: &[u8] =
     b"20\n{\"type\":\"HEARTBEAT\"}98\n{\"type\":\"SUBSCRIBED\",\"subscribed\":{\"framework_id\":{\"value\":\"F1\"},\"heartbeat_interval_seconds\":15}}20\n{\"type\":\"HEARTBEAT\"}";
 
-/// How events are written.
+// The form in which events are written.
 #[derive(Clone, Copy)]
 enum Form {
-    /// As plain RecordIO.
+    // Plain RecordIO.
     Plain,
-    /// In chunks of one byte.
+    // Chunks of one byte.
     ByteChunks,
-    /// In chunks of 4,096 bytes.
+    // Chunks of 4,096 bytes.
     LongChunks,
 }
 
-/// What is sent: the events of records, in a form, under a limit.
+// Events, given as records, that are written in a form under a limit.
 #[derive(Clone, Copy)]
 struct Sending<'a> {
     records: &'a [u8],
@@ -39,7 +40,6 @@ struct Sending<'a> {
     limit: Limit,
 }
 
-/// Adds the events that plain RecordIO has.
 fn push_events(alloc: Global, records: &[u8], events: &mut Vec<Event>) -> Result<(), Fail> {
     let mut source = MemorySource::new(records, 512);
     match &read_into(alloc, Framing::Plain, &mut source, 100, events) {
@@ -48,7 +48,6 @@ fn push_events(alloc: Global, records: &[u8], events: &mut Vec<Event>) -> Result
     }
 }
 
-/// Writes the events.
 fn write(
     alloc: Global,
     sending: &Sending<'_>,
@@ -63,7 +62,6 @@ fn write(
     }
 }
 
-/// Reads the events into an empty list and writes them.
 fn send_by(
     alloc: Global,
     sending: &Sending<'_>,
@@ -74,7 +72,6 @@ fn send_by(
     Ok(write(alloc, sending, events.as_slice(), sink))
 }
 
-/// Sends the events.
 fn send(
     alloc: Global,
     sending: &Sending<'_>,
@@ -86,7 +83,7 @@ fn send(
     sent
 }
 
-/// The sending is answered so, and these bytes go out.
+// `bytes` must be sent.
 fn expect_answer<R: Abort + AllocGlobal>(
     rt: &R,
     sending: &Sending<'_>,
@@ -99,7 +96,7 @@ fn expect_answer<R: Abort + AllocGlobal>(
     Ok(())
 }
 
-/// The same with this writer, which is gone then. Answers how it was called.
+// Returns the counts of the writer's calls.
 fn expect_sent<R: Abort + AllocGlobal>(
     rt: &R,
     sending: &Sending<'_>,
@@ -114,7 +111,7 @@ fn expect_sent<R: Abort + AllocGlobal>(
     Ok(counts)
 }
 
-/// Where no record can hold an event the writer is not called.
+// An event that no record can contain: the writer must not be called.
 fn expect_refused<R: Abort + AllocGlobal>(
     rt: &R,
     sending: &Sending<'_>,
@@ -126,14 +123,12 @@ fn expect_refused<R: Abort + AllocGlobal>(
     Ok(())
 }
 
-/// The line that is printed of the fault.
 fn expect_line(rt: &impl Abort, fault: &SendFault, expected: &str) {
     let mut line = ArrayString::<MAX_FAULT_LINE>::new();
     send_line(fault, &mut line);
     assert_eq!(rt; line.as_str(), expected);
 }
 
-/// A heartbeat in chunks of one byte.
 const BYTES: Sending<'static> = Sending {
     records: HEARTBEAT,
     form: Form::ByteChunks,
@@ -148,7 +143,7 @@ fn a_heartbeat_is_written_in_chunks_of_one_byte(rt: HostRuntime) -> Result<(), F
     Ok(())
 }
 
-/// A writer that fails behind these bytes has them, and was called once to no effect.
+// The writer fails after `front`, and must have exactly that after one failed call.
 fn expect_front<R: Abort + AllocGlobal>(rt: &R, front: &[u8]) -> Result<(), Fail> {
     let good = front.len();
     let sink = MemorySink::stopping_after(rt.alloc(), 64, good, MemoryStop::Fails);
@@ -161,7 +156,7 @@ fn expect_front<R: Abort + AllocGlobal>(rt: &R, front: &[u8]) -> Result<(), Fail
     Ok(())
 }
 
-/// Each front of these bytes can be the last that goes out.
+// The writer fails after each prefix.
 fn expect_fronts<R: Abort + AllocGlobal>(rt: &R, whole: &[u8]) -> Result<(), Fail> {
     for good in 0..whole.len() {
         let (front, _) = whole.split_at(good);
@@ -175,7 +170,6 @@ fn a_writer_that_fails_has_the_bytes_before(rt: HostRuntime) -> Result<(), Fail>
     expect_fronts(&rt, HEARTBEAT_BY_BYTES)
 }
 
-/// A writer that takes no byte.
 fn takes_none(alloc: Global) -> MemorySink {
     MemorySink::stopping_after(alloc, 64, 0, MemoryStop::TakesNone)
 }
@@ -197,7 +191,7 @@ fn a_writer_that_takes_none_is_reported(rt: HostRuntime) -> Result<(), Fail> {
     Ok(())
 }
 
-// The record has 98 bytes of text, the event's canonical text two more.
+// The record has 98 bytes of text; the event's canonical text has 100.
 #[test]
 fn an_event_above_the_limit_is_refused(rt: HostRuntime) -> Result<(), Fail> {
     let limit = Limit::new(98).ok_or("a limit")?;
@@ -217,7 +211,8 @@ fn an_event_above_the_limit_is_refused(rt: HostRuntime) -> Result<(), Fail> {
     Ok(())
 }
 
-/// The text of an OFFERS whose one resource has a `disk` of objects inside each other: it is read in the form of the bare array, and
+// An OFFERS with a resource whose `disk` has nested objects. It is read in the form of the bare
+// array; as written it nests one level too deep.
 /// nests one deeper than a text may as it is written.
 fn deep_text(alloc: Global) -> Result<String, Fail> {
     let open = r#"{"a":"#.repeat(alloc, MAX_NESTING - 6)?;
@@ -227,7 +222,7 @@ fn deep_text(alloc: Global) -> Result<String, Fail> {
     )?)
 }
 
-/// The records of a heartbeat and of that event.
+// A HEARTBEAT, then the event of `deep_text`.
 fn deep_records(alloc: Global) -> Result<String, Fail> {
     let text = deep_text(alloc)?;
     let size = text.len();
@@ -235,7 +230,7 @@ fn deep_records(alloc: Global) -> Result<String, Fail> {
     Ok(format!(in alloc; "20\n{{\"type\":\"HEARTBEAT\"}}{size}\n{text}")?)
 }
 
-// It is too large for the limit too, which is told of events that aren't too deep.
+// The event is too large for the limit too, but the depth is reported first.
 #[test]
 fn an_event_that_nests_too_deep_is_refused(rt: HostRuntime) -> Result<(), Fail> {
     let limit = Limit::new(98).ok_or("a limit")?;
@@ -252,15 +247,14 @@ fn an_event_that_nests_too_deep_is_refused(rt: HostRuntime) -> Result<(), Fail> 
     expect_refused(&rt, &sending, fault)
 }
 
-/// The three events, of which the second has the canonical text.
+// The events of `THREE` in canonical text.
 const THREE_WRITTEN: &[u8] =
     b"20\n{\"type\":\"HEARTBEAT\"}100\n{\"type\":\"SUBSCRIBED\",\"subscribed\":{\"framework_id\":{\"value\":\"F1\"},\"heartbeat_interval_seconds\":15.0}}20\n{\"type\":\"HEARTBEAT\"}";
 
-/// The same in one chunk.
+// `THREE_WRITTEN` in one chunk.
 const THREE_IN_A_CHUNK: &[u8] =
     b"96\r\n20\n{\"type\":\"HEARTBEAT\"}100\n{\"type\":\"SUBSCRIBED\",\"subscribed\":{\"framework_id\":{\"value\":\"F1\"},\"heartbeat_interval_seconds\":15.0}}20\n{\"type\":\"HEARTBEAT\"}\r\n0\r\n\r\n";
 
-/// The three events go out so.
 fn expect_three<R: Abort + AllocGlobal>(rt: &R, form: Form, bytes: &[u8]) -> Result<(), Fail> {
     let sending = Sending {
         records: THREE,
@@ -278,7 +272,7 @@ fn several_events_are_written_in_order(rt: HostRuntime) -> Result<(), Fail> {
     expect_three(&rt, Form::LongChunks, THREE_IN_A_CHUNK)
 }
 
-// The second of three events is the first that 99 bytes can't hold.
+// The second of three events is the first that does not fit into 99 bytes.
 #[test]
 fn the_first_event_without_a_record_is_reported(rt: HostRuntime) -> Result<(), Fail> {
     let limit = Limit::new(99).ok_or("a limit")?;
@@ -296,7 +290,7 @@ fn the_first_event_without_a_record_is_reported(rt: HostRuntime) -> Result<(), F
     Ok(())
 }
 
-/// Of no events these bytes go out. Answers how often the writer was called.
+// Returns the number of writes.
 fn expect_none<R: Abort + AllocGlobal>(rt: &R, form: Form, bytes: &[u8]) -> Result<u64, Fail> {
     let sending = Sending {
         records: b"",
