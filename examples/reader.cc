@@ -1,4 +1,4 @@
-// As reader.c: c++ reader.cc $(pkg-config --cflags --libs mesosev)
+// Like reader.c: c++ reader.cc $(pkg-config --cflags --libs mesosev)
 #include <mesosev.h>
 
 #include <cstdio>
@@ -7,7 +7,7 @@
 #include <string_view>
 #include <vector>
 
-// A line; an empty one of an event that has no text.
+// Prints a line, which is empty for an event without a text.
 static void tell(const mes_event &event) { std::cout << std::string_view(event.text, event.length) << '\n'; }
 
 int main() {
@@ -26,7 +26,7 @@ int main() {
             if (MES_IS_EVENT(status)) tell(event);
         } while (MES_IS_EVENT(status));
     }
-    // std::cin does not tell a failed read from the end; the C stream behind it does.
+    // std::cin does not distinguish a failed read from the end; its C stream does.
     if (status == MES_MORE && !std::ferror(stdin)) status = mes_decoder_finish(decoder.get(), &event);
     if (MES_IS_FAULT(status)) tell(event);
     return status == MES_END ? 0 : 1;

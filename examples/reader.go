@@ -1,4 +1,5 @@
-// As reader.c, with many events at a time: go run reader.go, with PKG_CONFIG_PATH naming the folder of mesosev.pc.
+// Like reader.c, with many events at a time: go run reader.go, with PKG_CONFIG_PATH naming the
+// folder of mesosev.pc.
 package main
 
 // #cgo pkg-config: mesosev
@@ -16,7 +17,7 @@ func tell(event C.mes_event) {
 	fmt.Println(C.GoStringN(event.text, C.int(event.length)))
 }
 
-// Reads standard input up to the end of the stream or a fault, and tells the status there.
+// Reads standard input up to the end of the stream or a fault, and returns that status.
 func read(decoder *C.mes_decoder) C.uint32_t {
 	var used, count C.size_t
 	var end C.mes_event

@@ -1,11 +1,12 @@
-/* What stands between a C program and the proved functions of crates/mesosev_c: it refuses null pointers, and ends texts by a NUL. */
+/* The functions of mesosev.h over the proved ones of crates/mesosev_c: they reject null pointers,
+ * and end texts with a NUL. */
 #include "mesosev.h"
 
 #include <string.h>
 
 #define PUBLIC __attribute__((visibility("default")))
 
-/* What the proved functions take and give (crates/mesosev_c/src/exports.rt, rows.rt, handle.rt). */
+/* The types of the proved functions (crates/mesosev_c/src/exports.rt, rows.rt, handle.rt). */
 struct counts {
     uint64_t events;
     uint64_t used;
@@ -25,7 +26,7 @@ struct answers {
     const uint8_t *texts;
 };
 
-/* A mes_event in which the place of its text among the texts stands where the pointer to it will. */
+/* A mes_event that has the offset of its text in place of the pointer to it. */
 struct row {
     uint32_t kind;
     uint64_t start;
@@ -50,13 +51,12 @@ uint32_t mes_c_decoder_many(struct handle *handle, const uint8_t *bytes, size_t 
 uint32_t mes_c_decoder_finish(struct handle *handle, struct answer *answer);
 void mes_c_decoder_free(struct handle handle);
 
-/* Is this pointer null, and not to no bytes? */
 static int is_lost(const void *bytes, size_t length)
 {
     return bytes == NULL && length > 0;
 }
 
-/* A room without a byte, for a null pointer. */
+/* Represents a null pointer to no bytes, since the proved functions require a valid one. */
 static uint8_t nothing;
 
 static const uint8_t *readable(const void *bytes)
@@ -64,7 +64,6 @@ static const uint8_t *readable(const void *bytes)
     return bytes != NULL ? bytes : &nothing;
 }
 
-/* Ends a text of so many bytes by a NUL, where the room has a byte. */
 static void end_text(char *room, size_t place, uint64_t length)
 {
     if (place > 0)
@@ -111,7 +110,6 @@ PUBLIC uint32_t mes_call(const void *bytes, size_t length, char *text, size_t ro
 
 PUBLIC uint32_t mes_decoder_new(uint32_t limit, uint32_t framing, uint32_t flags, mes_decoder **decoder)
 {
-    /* A slot without a handle. */
     struct handle slot = {NULL};
 
     if (decoder == NULL)
@@ -121,7 +119,6 @@ PUBLIC uint32_t mes_decoder_new(uint32_t limit, uint32_t framing, uint32_t flags
     return status;
 }
 
-/* Hands out what a decoder told. */
 static void tell(mes_event *event, const struct answer *answer)
 {
     event->type = answer->kind;
@@ -142,7 +139,7 @@ PUBLIC uint32_t mes_decoder_next(mes_decoder *decoder, const void *bytes, size_t
     return status;
 }
 
-/* Makes events of rows. */
+/* Converts the rows into events in place. */
 static void place_texts(mes_event *events, uint64_t count, const uint8_t *texts)
 {
     struct row row;

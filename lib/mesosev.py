@@ -1,10 +1,11 @@
-"""The event stream of the Apache Mesos v1 scheduler API, read by the proved library libmesosev.
+"""Decodes the event stream of the Apache Mesos v1 scheduler API with the proved library libmesosev.
 
     import mesosev
     for event in mesosev.events(open("stream.recordio", "rb")):
         print(event.name, event.value())
 
-The library is the file that the variable MESOSEV_LIBRARY names, else the one installed with this module, else the system's.
+The library is the file that the environment variable MESOSEV_LIBRARY names, else the one installed
+with this module, else the system's.
 """
 
 import collections
@@ -36,17 +37,17 @@ _NAMES = ("", "SUBSCRIBED", "OFFERS", "RESCIND", "UPDATE", "MESSAGE", "FAILURE",
 _LINE = re.compile(r"fault F(\d+) (\S+)(?: record (\d+)(?: byte (\d+) (\S+)| (\S*) (\S+))?)? after (\d+)")
 
 
-# A mes_event as it lies in memory: three words, of which the number of its type has the front of the first.
+# A mes_event in memory: three words. The number of its type is at the front of the first.
 _EVENT = struct.Struct("@IPN")
 
-# The bytes that stand at an address.
+# Returns a copy of the bytes at an address.
 _bytes_at = ctypes.pythonapi.PyBytes_FromStringAndSize
 _bytes_at.argtypes = [ctypes.c_void_p, ctypes.c_ssize_t]
 _bytes_at.restype = ctypes.py_object
 
 
 def _find_library():
-    # Imported here, since it takes as long as half of the rest of this module.
+    # Imported here, since this import takes half as long as the rest of the module.
     import ctypes.util
 
     return ctypes.util.find_library("mesosev")
@@ -54,8 +55,8 @@ def _find_library():
 
 def _load():
     here = os.path.dirname(os.path.abspath(__file__))
-    # In order: beside this module, as in a wheel; beside its folder, as lib/build installs both; in the sources, after
-    # lib/build without a prefix.
+    # In order: next to this module, as in a wheel; next to its folder, as lib/build installs both;
+    # in the sources, after lib/build without a prefix.
     built = [os.path.join(here, name, "libmesosev.so") for name in (".", "..", "out/lib")]
     path = os.environ.get("MESOSEV_LIBRARY") or next(filter(os.path.exists, built), None) or _find_library()
     if not path:
@@ -85,9 +86,10 @@ _library = _load()
 class Fault(Exception):
     """A fault of a stream or a call.
 
-    number: 1 to 16, that of its name. name: as `Field`. record: the number of the record, from 1. place: the path of the member that is
-    wrong, or how many bytes of the record stand before the first that no JSON text has there. why: as `Missing`. used: how many bytes were
-    used up to the fault. line: all of it, as it is printed. What a fault does not tell is None.
+    number: 1 to 16, as in F1 to F16. name: for example `Field`. record: the number of the record,
+    from 1. place: the path of the invalid member, or the offset in the record at which its JSON is
+    invalid. why: for example `Missing`. used: the number of bytes used up to the fault. line: the
+    line that the command prints. An attribute that the fault does not have is None.
     """
 
     def __init__(self, number, line):
@@ -106,23 +108,27 @@ class Fault(Exception):
 
 
 class Event(collections.namedtuple("Event", ("type", "text"))):
-    """An event: its type's number, and its canonical JSON text as bytes; None where texts are not made, or this one is not given."""
+    """An event: the number of its type, and its canonical JSON text as bytes.
+
+    The text is None if the decoder makes no texts, or if this text is too large, too deep or could
+    not be allocated.
+    """
 
     __slots__ = ()
 
     def value(self):
-        """What the text is, by `json`."""
+        """Returns the text as parsed by `json`."""
         if self.text is None:
             raise ValueError("the event has no text")
         return json.loads(self.text)
 
     @property
     def name(self):
-        """The name of its type."""
+        """The name of the type."""
         return _NAMES[self.type] if 0 < self.type else self.value()["type"]
 
 
-# The event of each type without its text: those of a decoder that makes no texts.
+# The event of each type without a text, for a decoder that makes no texts.
 _BARE = tuple(Event(kind, None) for kind in range(len(_NAMES)))
 
 Counts = collections.namedtuple("Counts", ("events", "used"))
@@ -135,7 +141,7 @@ def _raise_refusal(status):
 
 
 def _asked(limit, framing):
-    """The two numbers. C would take them modulo 2^32."""
+    """Returns the two numbers if 32 bits can hold them: C would reduce them modulo 2^32."""
     for number, refusal in ((limit, 100), (framing, 101)):
         if not 0 <= number < 2**32:
             raise ValueError(_REFUSALS[refusal])
@@ -143,7 +149,7 @@ def _asked(limit, framing):
 
 
 class _Bytes:
-    """The bytes of an object, and where they stand while this is held."""
+    """The bytes of an object, and their address, which is valid while this object exists."""
 
     def __init__(self, data):
         self.kept = data if isinstance(data, bytes) else bytes(memoryview(data))
@@ -152,53 +158,51 @@ class _Bytes:
 
 
 class _Piece(_Bytes):
-    """A piece of a stream, and how far a decoder has taken it."""
+    """A piece of a stream, and the state of decoding it."""
 
     def __init__(self, data):
         super().__init__(data)
-        # How many bytes were used, and what was answered last.
+        # The number of bytes used, and the last status.
         self.at, self.status = 0, _MORE
-        # The events that were told last, and the numbers of those that nobody has taken.
+        # The last decoded events, and the types of those that the caller has not taken yet.
         self.told = self.kinds = iter(())
 
     def goes_on(self):
-        """Whether bytes of it are still to be taken."""
+        """Returns whether some bytes are still to be decoded."""
         return self.status == _FULL and self.at < self.size
 
     def ends(self):
-        """Whether the stream has ended in it or before it, well or by a fault."""
+        """Returns whether the stream has ended, with or without a fault."""
         return self.status not in (_MORE, _FULL)
 
     def is_left(self):
-        """Whether there are events that nobody has taken."""
+        """Returns whether there are events that the caller has not taken yet."""
         return self.goes_on() or operator.length_hint(self.kinds) > 0
 
 
 def _numbers_of(room):
-    """The types of the events in a room, where their texts stand, and how long those are."""
+    """Returns views of the types, the text addresses and the text lengths of a buffer of events."""
     numbers, words = (memoryview(room).cast("B").cast(kind) for kind in "IN")
     return numbers[:: _EVENT.size // numbers.itemsize], words[1::3], words[2::3]
 
 
 class Decoder:
-    """A decoder of a stream that comes in pieces, however cut. It is used by one thread at a time."""
+    """Decodes a stream in pieces of any size. One thread at a time may use a decoder."""
 
-    # Kept here, since names of the module may be gone when the last decoders are.
+    # Stored here, since the module's names may be gone when the last decoders are freed.
     _free = _library.mes_decoder_free
-    # For how many events there is room: where a piece has more, the rest of it is given again.
+    # The number of events of one call of C. A piece with more events takes several calls.
     _most = 1024
 
     def __init__(self, framing=PLAIN, limit=LIMIT_USUAL, texts=True):
         self._handle = None
-        # Room for the events of a call, the numbers in it, and how many bytes were used and how many events were told.
+        # The buffer for the events of a call, its views, and the numbers of bytes and of events.
         self._room = ctypes.create_string_buffer(self._most * _EVENT.size)
         self._kinds, self._places, self._sizes = _numbers_of(self._room)
         self._used, self._count = ctypes.c_size_t(), ctypes.c_size_t()
-        # What each call of a piece is passed behind the piece.
+        # The arguments of each call that follow the piece.
         self._given = ctypes.byref(self._used), self._room, self._most, ctypes.byref(self._count)
-        # The last piece.
         self._piece = _Piece(b"")
-        # Whether the stream has ended.
         self.ended = False
         made = ctypes.c_void_p()
         status = _library.mes_decoder_new(*_asked(limit, framing), 0 if texts else _WITHOUT_TEXTS, ctypes.byref(made))
@@ -207,12 +211,15 @@ class Decoder:
         self._handle = made.value
 
     def feed(self, data):
-        """The events whose records end in these bytes, one by one. The bytes are taken at the call. A fault is raised behind the events
-        before it. All are to be taken before more bytes are given: where some were left, the next `feed` or `finish` raises RuntimeError."""
+        """Returns an iterator over the events whose records end in these bytes.
+
+        The bytes are copied at the call. A fault is raised after the events that precede it. Take
+        all events before the next call: otherwise `feed` and `finish` raise RuntimeError.
+        """
         return self._events(self._give(data))
 
     def finish(self):
-        """The stream has no more bytes. Raises the fault if it may not end there."""
+        """Ends the input. Raises the fault if the stream may not end there."""
         self._refuse_left()
         fault = self._fault()
         self.ended = True
@@ -221,11 +228,11 @@ class Decoder:
 
     @property
     def unused(self):
-        """The bytes of the last piece behind the end of the stream, or behind the fault; none before."""
+        """The bytes of the last piece after the end of the stream or the fault; empty before."""
         return self._piece.kept[self._piece.at :] if self.ended else b""
 
     def _give(self, data):
-        """Takes the front of a piece."""
+        """Decodes the first events of a piece."""
         self._refuse_left()
         piece = _Piece(data)
         self._take(piece)
@@ -239,7 +246,7 @@ class Decoder:
             raise RuntimeError("events of the bytes before were not taken")
 
     def _take(self, piece):
-        """Takes what stands behind the bytes of a piece that were used, and tells the events."""
+        """Decodes the next events of a piece."""
         if self._handle is None:
             raise ValueError("the decoder is closed")
         status = _library.mes_decoder_many(self._handle, piece.address + piece.at, piece.size - piece.at, *self._given)
@@ -251,7 +258,7 @@ class Decoder:
         piece.told = self._told(piece.kinds)
 
     def _events(self, piece):
-        """The events of a piece whose front was taken."""
+        """Yields the events of a piece whose first events were decoded."""
         yield from piece.told
         while piece.goes_on():
             self._take(piece)
@@ -260,8 +267,8 @@ class Decoder:
             self.finish()
 
     def _told(self, kinds):
-        """The events of these types that were told last, with copies of their texts, which lie one behind the other."""
-        # No line of Python runs for each of them.
+        """Returns the last decoded events, with copies of their concatenated texts."""
+        # For speed, no line of Python runs for each event.
         count = self._count.value
         sizes = self._sizes[:count].tolist()
         if not any(sizes):
@@ -273,7 +280,7 @@ class Decoder:
         return map(tuple.__new__, itertools.repeat(Event), zip(kinds, texts))
 
     def _fault(self):
-        """The fault that the stream ends with, or none."""
+        """Returns the fault with which the stream ends, or None."""
         end = ctypes.create_string_buffer(_EVENT.size)
         status = _library.mes_decoder_finish(self._handle, end)
         if status >= 100:
@@ -301,7 +308,7 @@ class Decoder:
 
 
 def _waits(source):
-    """Whether reading waits until there are bytes, as far as the source tells."""
+    """Returns whether reading blocks until there are bytes, as far as the source reports it."""
     try:
         return os.get_blocking(source.fileno())
     except (AttributeError, OSError, TypeError, ValueError):
@@ -309,7 +316,7 @@ def _waits(source):
 
 
 def _reader(source, most):
-    """What reads the next piece of a file object or a socket, or of bytes, and b"" at the end."""
+    """Returns a function that reads the next piece of a source, and b"" at the end."""
     if most < 1:
         raise ValueError("a piece has at least one byte")
     if isinstance(source, (bytes, bytearray, memoryview)):
@@ -321,7 +328,7 @@ def _reader(source, most):
     def piece():
         data = read(most)
         if data == b"" and read is buffered and not _waits(source):
-            # `read1` tells the end and no bytes for now alike; `read` does not.
+            # `read1` returns b"" for the end and for no bytes now; `read` distinguishes them.
             data = source.read(1)
         if data is None:
             raise BlockingIOError(errno.EAGAIN, "the source has no bytes now")
@@ -331,13 +338,13 @@ def _reader(source, most):
 
 
 class _Events:
-    """The events of a source, one by one. What the source raises is passed on, and a later loop or `next` goes on behind it."""
+    """An iterator over the events of a source. After an exception of the source it can continue."""
 
     def __init__(self, read, decoder):
         self._read, self._decoder = read, decoder
 
     def __iter__(self):
-        # What is not taken yet stands in the decoder's piece, so it stays when a loop is left.
+        # Events that are not taken yet are in the decoder's piece, so that none is lost by a break.
         decoder = self._decoder
         while True:
             told = decoder._piece.told
@@ -351,7 +358,7 @@ class _Events:
         raise StopIteration
 
     def _goes_on(self):
-        """Whether the stream goes on, some more of which is taken."""
+        """Decodes more of the stream. Returns whether it has not ended."""
         decoder, piece = self._decoder, self._decoder._piece
         if decoder.ended or piece.ends():
             decoder.finish()
@@ -365,7 +372,7 @@ class _Events:
 
     @property
     def unused(self):
-        """The bytes that were read and stand behind the end of the stream, or behind the fault; none before."""
+        """The bytes that were read after the end of the stream or the fault; empty before that."""
         return self._decoder.unused
 
     def close(self):
@@ -377,13 +384,16 @@ class _Events:
 
 
 def events(source, framing=PLAIN, limit=LIMIT_USUAL, texts=True, most=READ_MOST):
-    """The events of a file object, a socket or bytes, read by at most so many bytes at a time. A fault is raised behind the events before it.
-    Where the source has no bytes now, or a timeout, that is raised, and the iterator can be asked again."""
+    """Returns an iterator over the events of a file object, a socket or bytes.
+
+    Reads at most `most` bytes at a time. A fault is raised after the events that precede it. If the
+    source has no bytes now, or a timeout, its exception is raised; the iterator can then continue.
+    """
     return _Events(_reader(source, most), Decoder(framing, limit, texts))
 
 
 def check(data, framing=PLAIN, limit=LIMIT_USUAL):
-    """How many events these bytes, a whole stream, have, and how many bytes were used. Raises the first fault."""
+    """Returns the number of events of a whole stream, and of bytes used. Raises the first fault."""
     piece, counted, used = _Bytes(data), ctypes.c_uint64(), ctypes.c_uint64()
     line = ctypes.create_string_buffer(_LINE_ROOM)
     status = _library.mes_check(
@@ -397,7 +407,10 @@ def check(data, framing=PLAIN, limit=LIMIT_USUAL):
 
 
 def call(data):
-    """The canonical text of a scheduler's call, as bytes. Raises the fault where the bytes are of none; ValueError where it has no text."""
+    """Returns the canonical text of a scheduler's call, as bytes.
+
+    Raises the fault if the bytes are not a call; ValueError if the call has no canonical text.
+    """
     piece, size = _Bytes(data), ctypes.c_size_t()
     room = 2 * piece.size + _LINE_ROOM
     while True:
@@ -414,5 +427,5 @@ def call(data):
 
 
 def version():
-    """The version of the library."""
+    """Returns the version of the library."""
     return _library.mes_version().decode()

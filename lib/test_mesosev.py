@@ -1,4 +1,4 @@
-"""Tests of mesosev.py, by unittest: python3 -m unittest in lib/, with MESOSEV_LIBRARY naming the built library."""
+"""Tests of mesosev.py: run python3 -m unittest in lib/, with the built library in MESOSEV_LIBRARY."""
 
 import copy
 import io
@@ -92,10 +92,10 @@ class Streams(unittest.TestCase):
 
 
 class Sources(unittest.TestCase):
-    """Sources that wait, or have no bytes for now."""
+    """Sources that block, or have no bytes now."""
 
     def left_open(self, make):
-        """What is read of a source that has a record, then nothing for now, then another, then its end."""
+        """Reads a source with a record, then no bytes now, then another record, then the end."""
         reader, writer = make()
         writer(BEAT)
         events = mesosev.events(reader)
@@ -172,14 +172,14 @@ class Sources(unittest.TestCase):
 
 
 class Narrow(mesosev.Decoder):
-    """A decoder with room for one event."""
+    """A decoder that decodes one event a call of C."""
 
     _most = 1
 
 
 class ManyEvents(unittest.TestCase):
     def told_of(self, data, cut, make, **how):
-        """The events of bytes that are cut in two, and the line of the fault, if one was raised."""
+        """Returns the events of bytes that are cut in two, then the line of the fault, if any."""
         told = []
         with make(**how) as decoder:
             try:
@@ -225,7 +225,7 @@ class ManyEvents(unittest.TestCase):
                 self.assertTrue(decoder.ended)
 
     def test_an_event_without_a_text_among_others(self):
-        # Its canonical text has two bytes more, and so too many.
+        # The canonical text has two more bytes, and so exceeds the limit.
         front, back = b'{"type":"SUBSCRIBED","subscribed":{"framework_id":{"value":"', b'"},"heartbeat_interval_seconds":15}}'
         large = record(front + b"a" * (mesosev.LIMIT_MOST - len(front) - len(back)) + back)
         for make in (mesosev.Decoder, Narrow):
@@ -239,7 +239,7 @@ class ManyEvents(unittest.TestCase):
         events = decoder.feed(BEAT * 3000)
         first = next(events)
         decoder.close()
-        # Those that were read with it are still given.
+        # The events that were decoded with it are still returned.
         told = [first]
         with self.assertRaises(ValueError):
             for event in events:
@@ -260,7 +260,7 @@ class ManyEvents(unittest.TestCase):
                     next(events)
                     self.assertRaises(RuntimeError, decoder.feed, BEAT)
                     self.assertRaises(RuntimeError, decoder.finish)
-                # Those are still there.
+                # The events are still there.
                 self.assertEqual(next(events).type, 8)
                 self.assertEqual([event.type for event in decoder.feed(BEAT)], [8])
                 decoder.feed(BEAT)
