@@ -1,4 +1,4 @@
-"""Builds a program that is measured: in a folder of its own, beside copies of the crates that it stands on, proved as any other."""
+"""Proves and builds a measuring program, in its own folder with copies of the crates that it depends on."""
 
 import os
 import shutil
@@ -8,7 +8,7 @@ TOP = os.path.dirname(os.path.dirname(os.path.abspath(__file__)))
 
 
 def crates(tops):
-    """These crates and those below them, as crates.txt has them."""
+    """Returns these crates and those below them, in the order of crates.txt."""
     rows = {}
     with open(os.path.join(TOP, "crates.txt")) as file:
         for row in file:
@@ -24,7 +24,7 @@ def crates(tops):
 
 
 def copy(name, folder):
-    """The crate's sources anew; what was proved there before stays."""
+    """Copies the sources of a crate again. Earlier proofs in the folder stay."""
     for part in ("src", "specs", "proofs"):
         own, there = (os.path.join(it, "crates", name, part) for it in (TOP, folder))
         shutil.rmtree(there, ignore_errors=True)
@@ -33,7 +33,7 @@ def copy(name, folder):
 
 
 def build(folder, name, text, tops, others):
-    """The path of the built program of this name and text, over these crates and those below, and other libraries."""
+    """Builds a program from its text, on these crates, those below and other libraries. Returns its path."""
     names = crates(tops)
     for it in names:
         copy(it, folder)

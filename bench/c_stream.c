@@ -1,5 +1,6 @@
-/* Reads a plain stream from standard input by libmesosev, and prints what `mesosev check` prints: c_stream [without-texts | whole].
- * It is what bench/c_library measures beside mesosev: a decoder over pieces, or one call over all bytes. */
+/* c_stream [without-texts | whole]: decodes a plain stream from standard input with libmesosev, and
+ * prints what `mesosev check` prints. bench/c_library compares it with mesosev. It uses a decoder
+ * on pieces, or with `whole` one call on all bytes. */
 #include <mesosev.h>
 #include <stdio.h>
 #include <stdlib.h>

@@ -1,7 +1,7 @@
-"""Seeded streams of events, spelt as a Mesos master spells them.
+"""Generates seeded streams of events, formatted as a Mesos master formats them.
 
-A set is a kind of stream; a size is the bytes of its records with their size lines, at least. The same set, size and
-seed give the same bytes. A set's first 8 MB are made afresh, and a longer stream has those records again and again.
+A set is a kind of stream. A size is the least number of bytes of its records with their size lines. The same set, size
+and seed give the same bytes. The first 8 MB are generated; a longer stream repeats those records.
 """
 
 import base64
@@ -18,7 +18,7 @@ SETS = {
     "texts": "escapes and texts that are not ASCII",
 }
 
-# The bytes of a chunk; None is RecordIO without chunks.
+# The size of a chunk in bytes; None is RecordIO without chunks.
 FRAMINGS = {"plain": None, "chunks-1": 1, "chunks-4096": 4_096, "chunks-65536": 65_536}
 
 FRESH_BYTES = 8_000_000
@@ -37,7 +37,7 @@ WORDS = ["agent", "lost", "exit=137", "ok", "/var/lib/mesos", "C:\\logs", "\"quo
 
 
 class Cluster:
-    """A framework, its agents, and what their master tells of them."""
+    """A framework, its agents, and the events that their master sends."""
 
     def __init__(self, seed):
         self.random = random.Random(seed)
@@ -179,7 +179,7 @@ class Cluster:
         return event
 
     def many_offers(self, most):
-        """The text of an OFFERS of at most so many bytes, and not far from it."""
+        """Returns the text of an OFFERS of at most `most` bytes, and not much less."""
         texts, length = [], 41
         while True:
             text = spell(self.offer())
@@ -190,12 +190,12 @@ class Cluster:
 
 
 def spell(event, encoder=UTF_8):
-    """The event as a JSON text. A master escapes the solidus."""
+    """Returns the event as a JSON text. A master escapes the solidus."""
     return encoder.encode(event).replace("/", "\\/").encode()
 
 
 def one_record(cluster, name, number, room):
-    """The record of a set with this number from 0, with so many bytes left to fill."""
+    """Returns the record with this number (from 0) of a set; `room` bytes are left to fill."""
     chance = cluster.random.random()
     if name == "heartbeats":
         return spell(HEARTBEAT if chance < 0.98 else cluster.update() if chance < 0.99 else cluster.offers(1))
@@ -205,7 +205,7 @@ def one_record(cluster, name, number, room):
         return spell(cluster.update())
     if name == "large":
         most = min(LIMIT, max(room, 20_000))
-        # Base64 whose solidi are escaped makes 7 bytes to some 9.5.
+        # Base64 with escaped solidi turns 7 bytes into about 9.5.
         return spell(cluster.message(most * 7 // 10)) if number % 2 else cluster.many_offers(most)
     if name == "tiny":
         return spell(HEARTBEAT if chance < 0.5 else cluster.rescind() if chance < 0.75 else cluster.failure() if chance < 0.9
@@ -214,7 +214,7 @@ def one_record(cluster, name, number, room):
 
 
 def framed_records(name, size, seed):
-    """The records of a set with their size lines, of so many bytes or a little more in all."""
+    """Yields records of a set with their size lines, of at least `size` bytes in total."""
     cluster = Cluster("%s %d" % (name, seed))
     kept, kept_bytes, made, number = [], 0, 0, 0
     while made < size:
@@ -230,7 +230,7 @@ def framed_records(name, size, seed):
 
 
 class Framer:
-    """Writes a body to a file, in chunks of so many bytes or, for None, as it is."""
+    """Writes a body to a file, in chunks of `chunk` bytes, or without chunks for None."""
 
     def __init__(self, file, chunk):
         self.file, self.chunk, self.held = file, chunk, bytearray()
@@ -261,7 +261,7 @@ class Framer:
 
 
 def write_stream(file, name, size, framing, seed):
-    """Writes a stream, and answers how many events and how many bytes of records it has."""
+    """Writes a stream. Returns the number of events, and of bytes of its records."""
     framer = Framer(file, FRAMINGS[framing])
     events = body = 0
     for framed in framed_records(name, size, seed):

@@ -1,12 +1,14 @@
-"""Reads RecordIO from standard input, in a chunked body with the word --chunked, by Python's json, and prints what
-`mesosev check` prints. It is what bench/run measures beside mesosev; it checks nothing beyond JSON."""
+"""Reads RecordIO from standard input with Python's json, and prints what `mesosev check` prints.
+
+With --chunked the input is a chunked body. bench/run compares it with mesosev; it checks only JSON.
+"""
 
 import json
 import sys
 
 
 class Counted:
-    """Pieces of standard input, and how many bytes they are with all that frames them."""
+    """Pieces of standard input, and the number of bytes read with their framing."""
 
     def __init__(self, file):
         self.file, self.used = file, 0

@@ -1,4 +1,4 @@
-"""Runs a program on a file, and tells its times, its peak memory and its instructions."""
+"""Runs a program on a file, and returns its times, its peak memory and its instructions."""
 
 import ctypes
 import os
@@ -11,18 +11,18 @@ from dataclasses import dataclass
 
 PR_SET_CHILD_SUBREAPER = 36
 
-# Of short runs so many are made, or so many seconds of them.
+# Short runs are repeated up to SHORT_RUNS times, or until they took LONG_ENOUGH seconds in total.
 SHORT_RUNS = 30
 LONG_ENOUGH = 0.4
 
-# The shell starts the program and leaves, so that the program is handed to this process: what a process counts as its
-# peak begins with that of its parent, and a shell is small where Python is not.
+# The shell starts the program and exits, so that this process adopts the program. The peak memory
+# of a process begins with that of its parent, and a shell is smaller than Python.
 START_AND_LEAVE = 'exec 3<&0; "$@" <&3 3<&- & exit 0'
 
 
 @dataclass
 class Run:
-    """One run: seconds in the program and in the system for it, seconds on the clock, peak memory in KiB."""
+    """One run: user, system and clock time in seconds, and peak memory in KiB."""
 
     user: float
     system: float
@@ -33,7 +33,7 @@ class Run:
 
 
 def can_adopt():
-    """Whether programs that their parent left come to this process, which Linux does where it is asked to."""
+    """Returns whether this process adopts orphaned programs, which Linux does on request."""
     try:
         return ctypes.CDLL(None).prctl(PR_SET_CHILD_SUBREAPER, 1, 0, 0, 0) == 0
     except (AttributeError, OSError):
@@ -44,7 +44,7 @@ ADOPTS = can_adopt()
 
 
 def run(words, path, keep=True):
-    """Runs the words on the file, once. What is printed is kept, or goes to nowhere."""
+    """Runs a command line on a file once. Its output is returned if `keep` is set."""
     started_by = ["sh", "-c", START_AND_LEAVE, "sh"] if ADOPTS else []
     with open(path, "rb") as source, (tempfile.TemporaryFile() if keep else open(os.devnull, "wb")) as out:
         begin = time.perf_counter()
@@ -64,8 +64,11 @@ def run(words, path, keep=True):
 
 
 def best(words, path, rounds, keep=True):
-    """The least time of so many runs, and of more where they are short. It is shared out between the program and the system
-    as over all the runs, because the kernel splits a short run's time by its ticks alone."""
+    """Returns the least time of `rounds` runs, or of more if they are short.
+
+    User and system time are divided as in the sum of all runs, because the kernel divides the time of
+    a short run by its ticks only.
+    """
     runs = [run(words, path, keep) for _ in range(rounds)]
     while rounds > 1 and len(runs) < SHORT_RUNS and sum(one.clock for one in runs) < LONG_ENOUGH:
         runs.append(run(words, path, keep))
@@ -77,7 +80,7 @@ def best(words, path, rounds, keep=True):
 
 
 def counter():
-    """What counts instructions here: "perf", "callgrind" or None."""
+    """Returns the tool that counts instructions here: "perf", "callgrind" or None."""
     if shutil.which("perf") and perf_count(["true"], os.devnull) is not None:
         return "perf"
     if shutil.which("valgrind") and callgrind_count(["true"], os.devnull) is not None:
@@ -86,7 +89,7 @@ def counter():
 
 
 def instructions(tool, words, path):
-    """The instructions of one run, in user mode, or None."""
+    """Returns the user-mode instructions of one run, or None."""
     return {"perf": perf_count, "callgrind": callgrind_count}[tool](words, path)
 
 
