@@ -1,15 +1,18 @@
 /*
- * What tests/c_library.py builds and runs over libmesosev. Input is standard input.
+ * The program of tests/c_library.py, on libmesosev. It reads standard input.
  *
- * With a ROOM that is not 0 events are told by mes_decoder_many, with room for so many at a time; else by mes_decoder_next.
+ * Events are decoded by mes_decoder_many, ROOM at a time, or by mes_decoder_next if ROOM is 0.
  *
- *   stream FRAMING LIMIT PIECE ROOM [FLAGS]  each event's text as a record on standard output, and then the line of counts or of the fault
- *   cuts FRAMING LIMIT STEP ROOM        each cut in two, and in pieces of 1, 7 and 512 bytes, tells what the whole does
- *   check FRAMING LIMIT ROOM            the counts, the status and the line
- *   call ROOM                           the status, the size and the text
- *   handles COUNT                       so many decoders at once, each freed at another place of the stream
- *   refuse FRAMING ROOM                 each growth of the library's memory refused in turn; built with REFUSING and the linker's --wrap
- *   misuse                              null pointers, bad words and calls behind the end
+ *   stream FRAMING LIMIT PIECE ROOM [FLAGS]
+ *       prints each event's text as a record, then on standard error the counts or the fault
+ *   cuts FRAMING LIMIT STEP ROOM
+ *       checks that cuts in two, and pieces of 1, 7 and 512 bytes, give the same as the whole
+ *   check FRAMING LIMIT ROOM   prints the status, the counts and the line
+ *   call ROOM                  prints the status, the size and the text
+ *   handles COUNT              uses COUNT decoders at once, each freed at another offset
+ *   refuse FRAMING ROOM        fails each allocation of the library in turn; built with REFUSING
+ *                              and the linker's --wrap
+ *   misuse                     passes null pointers and invalid arguments, and calls after the end
  */
 #include <inttypes.h>
 #include <stdio.h>
@@ -18,13 +21,12 @@
 
 #include "mesosev.h"
 
-/* Bytes that grow. */
 struct bytes {
     char *at;
     size_t length, room;
 };
 
-/* What a stream came to. */
+/* The outcome of a stream. */
 struct outcome {
     struct bytes texts; /* each event's type and text */
     uint64_t events, used;
@@ -32,10 +34,11 @@ struct outcome {
     char line[MES_LINE_ROOM];
 };
 
-/* For how many events there is room; 0 where they are told one by one. */
+/* The number of events that mes_decoder_many decodes at a time; 0 for mes_decoder_next. */
 static size_t room;
 
-/* Whether a call of the library runs; how many growths there were, which of them is refused, and whether all behind it are too. */
+/* Whether a call of the library runs; the number of allocations so far, the one that fails, and
+ * whether all later ones fail too. */
 static int inside, behind;
 static long growths, refused = -1;
 
@@ -98,7 +101,7 @@ static struct bytes standard_input(void)
     return all;
 }
 
-/* A copy of its own size, so that a read behind its end is seen. */
+/* Copies to an allocation of the same size, so that valgrind detects a read past the end. */
 static char *alone(const char *from, size_t length)
 {
     char *to = malloc(length > 0 ? length : 1);
@@ -108,7 +111,6 @@ static char *alone(const char *from, size_t length)
     return to;
 }
 
-/* Keeps what a decoder told at its end. */
 static void keep_end(struct outcome *to, uint32_t status, const mes_event *event)
 {
     to->status = status;
@@ -121,7 +123,6 @@ static void keep_end(struct outcome *to, uint32_t status, const mes_event *event
         snprintf(to->line, sizeof to->line, "events %" PRIu64 " bytes %" PRIu64, to->events, to->used);
 }
 
-/* Keeps an event. */
 static void keep_event(struct outcome *to, const mes_event *event)
 {
     char head[64];
@@ -132,7 +133,6 @@ static void keep_event(struct outcome *to, const mes_event *event)
     to->events++;
 }
 
-/* Takes a piece up to an event. */
 static uint32_t take_next(mes_decoder *decoder, const char *bytes, size_t length, size_t *used, struct outcome *to, mes_event *last)
 {
     inside = 1;
@@ -144,7 +144,7 @@ static uint32_t take_next(mes_decoder *decoder, const char *bytes, size_t length
     return MES_EVENT;
 }
 
-/* Takes a piece up to the event for which there is no room. */
+/* Decodes up to `room` events, and checks that their texts are consecutive. */
 static uint32_t take_many(mes_decoder *decoder, const char *bytes, size_t length, size_t *used, struct outcome *to, mes_event *last)
 {
     mes_event *events = malloc(room * sizeof *events);
@@ -173,7 +173,7 @@ static uint32_t take_many(mes_decoder *decoder, const char *bytes, size_t length
     return status;
 }
 
-/* Gives a decoder bytes. Whether more are wanted. */
+/* Returns whether the decoder needs more input. */
 static int feed(mes_decoder *decoder, const char *bytes, size_t length, struct outcome *to)
 {
     char *piece = alone(bytes, length);
@@ -196,7 +196,7 @@ static int feed(mes_decoder *decoder, const char *bytes, size_t length, struct o
     return 0;
 }
 
-/* A decoder, or null where memory for it was refused. */
+/* Returns null if the allocation was made to fail. */
 static mes_decoder *made(uint32_t framing, uint32_t limit, uint32_t flags)
 {
     mes_decoder *decoder;
@@ -207,7 +207,7 @@ static mes_decoder *made(uint32_t framing, uint32_t limit, uint32_t flags)
     return decoder;
 }
 
-/* What a stream comes to whose first piece has so many bytes, and each other one `piece`. */
+/* Decodes a stream whose first piece has `first` bytes, and each other one `piece`. */
 static struct outcome outcome_of(const struct bytes *all, size_t first, size_t piece, uint32_t framing, uint32_t limit, uint32_t flags)
 {
     struct outcome to = {{NULL, 0, 0}, 0, 0, 0, ""};
@@ -243,7 +243,6 @@ static int is_same(const struct outcome *one, const struct outcome *other)
         && (one->texts.length == 0 || memcmp(one->texts.at, other->texts.at, one->texts.length) == 0);
 }
 
-/* Prints each text as a record. */
 static void print_records(const struct bytes *texts)
 {
     const char *at = texts->at, *end = texts->at + texts->length;
@@ -350,9 +349,9 @@ static int handles(size_t count)
     printf("%zu decoders\n", count);
     return 0;
 }
-
-/* What a stream comes to where growths are refused: it stops there, or an event has no text, or the fault no line. A single growth may
- * be asked for again, and all is told. */
+/* After a failed allocation the stream stops, or an event has no text, or the fault no line. A
+single
+ * failed allocation may be retried, and then the outcome is the same. */
 static void expect_refused(const struct outcome *told, const struct outcome *whole)
 {
     if (told->status == MES_NO_MEMORY) {
@@ -415,7 +414,7 @@ static void misuse_decoder(uint32_t framing)
     expect(mes_decoder_many(decoder, NULL, 0, &used, &event, 1, &count) == MES_MORE && used == 0 && count == 0, "no bytes of many");
     expect(mes_decoder_many(decoder, beat, sizeof beat - 1, &used, &event, 0, &count) == MES_EVENT && used == 0 && count == 0, "no room");
     expect(event.type == 9, "an event without room for it");
-    /* Behind the end the same end is told, whatever comes. */
+    /* After the end each call returns the same end. */
     uint32_t end = mes_decoder_finish(decoder, &event);
     expect(end == (framing == MES_PLAIN ? MES_END : 6u), "the end of no bytes");
     for (int i = 0; i < 3; i++) {

@@ -1,7 +1,8 @@
 /*
- * Refuses one growth of the heap: the one whose number, from 1, the environment variable REFUSE_AT gives (0 for none), and where
- * REFUSE_ALL is set each growth behind it. To be preloaded (LD_PRELOAD) into a program that is linked to the C library. At the
- * program's end it writes how many growths were asked for into the file that REFUSE_COUNT names.
+ * Makes the allocation with the number REFUSE_AT fail (from 1; 0 for none), and with REFUSE_ALL
+ * each later one too. Both are environment variables. It is preloaded (LD_PRELOAD) into a program
+ * that is linked to the C library. At the program's end it writes the number of allocations to the
+ * file REFUSE_COUNT.
  */
 #define _GNU_SOURCE
 #include <dlfcn.h>
