@@ -1,7 +1,7 @@
 """Finds the toolchain of Rattle, and loads its command `rt` as a module.
 
-What `rt` has is no documented interface. So whoever uses it here says what to do instead, or ends with a message that names
-the toolchain: `unknown_kit`.
+The interface of `rt` is not documented. If it changes, callers report what to do instead, or end with
+a message that names the toolchain: `unknown_kit`.
 """
 
 import importlib.machinery
@@ -30,7 +30,7 @@ def kit():
 
 
 def missing():
-    """Returns what to say if there is no toolchain, or None."""
+    """Returns the error text if there is no toolchain, or None."""
     if command():
         return None
     return f"the toolchain of Rattle is missing: there is no `rt` on the PATH, and no {DEFAULT}"
@@ -46,7 +46,7 @@ def version():
 
 
 def unknown_kit():
-    """Returns what to say of a failure if the toolchain is not the one of this commit, else an empty text."""
+    """Returns a note for a failure if the toolchain is not the one of this commit, else an empty text."""
     if version() == PROVED_WITH:
         return ""
     return f"this toolchain is {version()}; the commit was proved with {PROVED_WITH}"
@@ -73,7 +73,7 @@ def newest_source():
 
 
 def time_of_build():
-    """Returns the time that a build gets which begins now: a source that is edited meanwhile is newer."""
+    """Returns the file time of a build that begins now: a source that is edited meanwhile is newer."""
     return max(time.time_ns(), newest_source())
 
 
@@ -83,5 +83,5 @@ def load():
 
 
 def load_library():
-    """Returns the library of `rt` alone, which knows the crates and their sources."""
+    """Returns the library of `rt`, which has the crates and their sources."""
     return module("rtlib", f"{kit()}/bin/rtlib.py")

@@ -107,7 +107,7 @@ subscribe_app = with_rule (with_rule (with_rule (with_rule (new_app (codes "subs
 abbrev pub loopback_app : App
 loopback_app = with_rule (new_app (codes "loopback")) (usually DEFAULT_LOOPBACK_CHUNK.now most_rule)
 
--- `mesosev` without its subcommands, of which one is required; `--version` is passed on to each
+-- `mesosev` without its subcommands; one is required, and `--version` is passed on to each
 abbrev pub bare_app : App
 bare_app = on_top (λ s. record s { subcommand_required = true; has_version = true; propagate_version = true }) (new_app (codes "mesosev"))
 

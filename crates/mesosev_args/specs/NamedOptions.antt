@@ -173,8 +173,7 @@ LackValue words option =
     IsSomeAnd (subcommand_of command_app words) (λ read. LacksValue read option ⊎ IsUnknown read.0 option)
     ⊎ ((subcommand_of command_app words ≡ None) × (option ≡ codes "COMMAND"))
 
--- Clap rejects the arguments with an error of this kind, or accepts them and they name no options
--- in range; `NoMemory` says nothing about them.
+-- clap rejects the arguments with such an error, or no options in range fit, or memory ran out
 abbrev pub RefusesArgs : List Text → WordsFault → Type 0
 RefusesArgs words (Clap error) = IsAmong (kind_of error) (fault_of command_app words)
 RefusesArgs words (BadValue option) = (fault_of command_app words ≡ []) × NameNoOptions words × LackValue words option.now
@@ -202,9 +201,7 @@ LacksText name rows (Clap error) = ⊥
 LacksText name rows (BadValue option) = (option.now ≡ name) × (first_of name rows ≡ None)
 LacksText name rows NoMemory = ⊥
 
--- the result of reading a subcommand's matches: their options, each in range; or an error that
--- names an option without a value in its range, or the subcommand, and no options in range fit;
--- only `subscribe` allocates
+-- the options of a subcommand's matches, each in range; or an error: none fit, or no memory
 abbrev pub Reads : Text × List Row → Result Options WordsFault → Type 0
 Reads read (Ok o) = IsReadAs read o × IsInRange o
 Reads read (Err (Clap error)) = ⊥
@@ -254,8 +251,7 @@ abbrev pub SayMost : List Text → Option ℕ → Type 0
 SayMost words None = words ≡ []
 SayMost words (Some most) = SayNumber (codes "--most") words most
 
--- the arguments are the program's name, this subcommand, `--chunked`, `--limit`, in this order,
--- each at most once
+-- the program's name, this subcommand, `--chunked`, `--limit`, in this order, each at most once
 abbrev pub SayReading : Text → List Text → Framing → ℕ → Type 0
 SayReading name words framing limit =
     (program : Text) × (flags : List Text) × (limits : List Text) × SayFraming flags framing × SayLimit limits limit

@@ -1,5 +1,4 @@
--- Decoding many events of a piece: repeated calls of `next`, each on the bytes that the earlier
--- ones left.
+-- Decoding many events of a piece: calls of `next`, each on the bytes that the earlier ones left.
 use Rattle.std.specs.Prelude.{◌≡◌, ℕ, ◌+◌, ◌<◌, ◌⊎◌, List, [], ◌∷◌, ◌++◌, Bool, length, drop}
 use Rattle.mesosev_c.specs.Rows.{Reporting, texts_of, rows_of}
 use Rattle.mesosev_c.specs.Reporting.{ReportsStep}
@@ -29,8 +28,7 @@ pub record Stops (texts : Bool) (old new : EventDecoder) (piece : List ℕ) (use
   pub no_event : IsEvent reported.status → ⊥
   pub is_status : status ≡ reported.status
 
--- calls of `next` report these events: as many as there are rows, or all up to a call without an
--- event
+-- calls of `next` report these events: one for each row, or all up to a call without an event
 pub record ReportsMany (texts : Bool) (old new : EventDecoder) (piece : List ℕ) (room used status : ℕ) (events : List Reporting) : Type 0 where
   pub between : EventDecoder
   pub taken : ℕ

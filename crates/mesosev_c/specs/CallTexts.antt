@@ -36,7 +36,7 @@ IsReportedCall w (reported.Fault fault) = (why : RecordFault) × IsFaultOf call 
 abbrev pub PutsText : List ℕ → ℕ → List ℕ → List ℕ → Type 0
 PutsText text size before room = (size ≡ length text) × (room ≡ with_text before text)
 
--- the result for bytes, `used` of which were used
+-- the result for a call after `used` bytes were used
 abbrev pub PutsCall : ReportedCall → ℕ → ℕ → List ℕ → List ℕ → ℕ → Type 0
 PutsCall (reported.Text text) used size before room status = (status ≡ SUCCESS) × PutsText text.items size before room
 PutsCall reported.Unfit used size before room status = (status ≡ NO_TEXT) × (size ≡ 0) × (room ≡ before)

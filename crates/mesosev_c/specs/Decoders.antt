@@ -29,8 +29,7 @@ abbrev pub DecoderStateRepresents : State → Framing → ℕ → List ℕ → L
 DecoderStateRepresents (state.Going stream) framing limit w events = StreamRepresents HoldsData Spells 0 stream framing limit w events
 DecoderStateRepresents (state.Ended end) framing limit w events = ⊥
 
--- the decoder has read w, a prefix of a stream with these events under this limit; after the end or
--- an error it represents no bytes
+-- the decoder has read w, a stream's prefix with these events, and the stream has not ended
 abbrev pub Represents : EventDecoder → Framing → ℕ → List ℕ → List Event → Type 0
 Represents d framing limit w events = DecoderStateRepresents d.state framing limit w events × (d.used ≡ saturated (length w))
 

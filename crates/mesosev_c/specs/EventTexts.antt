@@ -8,8 +8,7 @@ use Rattle.mes_msg.specs.Event.{Event}
 use Rattle.mesosev_c.specs.declared.event_text.Appended.{Appended}
 use Rattle.mesosev_c.specs.declared.event_text.Appended.TheVariants.{Whole, Unfit, Lost}
 
--- the text fits into a record of the largest limit and is appended; or none fits, and the others
--- are unchanged; or an allocation failed, and none is left
+-- the text is appended if it fits; else the others stay; if an allocation failed, none is left
 abbrev pub AppendsText : Event → List ℕ → List ℕ → Appended → Type 0
 AppendsText event old new Whole = (new ≡ old ++ canonical_text event) × IsGood event MAX_RECORD_LIMIT
 AppendsText event old new Unfit = (new ≡ old) × ((why : EncodeFault) × (why ≢ NoMemory) × IsEncodeFault event MAX_RECORD_LIMIT why)

@@ -30,8 +30,7 @@ AnswersCheck limit framing w old new before room status = (asked : Result Decode
 abbrev pub IsPlaced : TextDecoder → Slot → Slot → ℕ → Type 0
 IsPlaced decoder old new status = ((status ≡ SUCCESS) × (new.held ≡ Some decoder)) ⊎ ((status ≡ NO_MEMORY) × (new ≡ old))
 
--- a decoder before the first byte with these options, which produces texts of events unless `texts`
--- is 0
+-- a decoder before the first byte with these options, and with texts unless `texts` is 0
 pub record IsNew (asked : DecoderOptions) (texts : ℕ) (decoder : TextDecoder) : Type 0 where
   pub represents : Represents decoder.decoder asked.framing asked.limit [] []
   pub makes : decoder.texts ≡ not (texts == 0)

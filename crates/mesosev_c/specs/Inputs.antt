@@ -12,13 +12,12 @@ use Rattle.mesosev_c.specs.Numbers.{number_of_fault}
 use Rattle.mesosev_c.specs.Rooms.{with_text}
 use Rattle.mesosev_c.specs.declared.exports.Counts.{Counts}
 
--- the outcome if the input ends after w, all of which was used
+-- the outcome if the input ends after w, and all of w was used
 abbrev pub EndsAll : Framing → ℕ → List ℕ → List Event → ℕ → Result ℕ Stop → Type 0
 EndsAll framing limit w events used (Ok n) = InputEnds {T = Unit {0}} framing Spells limit w events (Ok tt) × (n ≡ used)
 EndsAll framing limit w events used (Err stop) = InputEnds {T = Unit {0}} framing Spells limit w events (Err stop.fault) × (stop.used ≡ used)
 
--- a byte of w ends the stream of the events, or is the byte at which the error is detected, and was
--- the last used
+-- the stream of the events ends, or the error is detected, at a byte of w, the last one used
 abbrev pub StopsAmid : Framing → ℕ → List ℕ → List Event → Result ℕ Stop → Type 0
 StopsAmid framing limit w events (Ok n) = (n ≤ length w) × EndsIn framing Spells limit (take n w) events
 StopsAmid framing limit w events (Err stop) = StopsWithin framing Spells IsEventRefusal 0 limit w events stop.fault stop.used

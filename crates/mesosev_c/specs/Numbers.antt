@@ -56,8 +56,7 @@ number_of_fault Read = 14
 number_of_fault ReadsSpent = 15
 number_of_fault (BadEntry at_record) = 16
 
--- the number of an event's type (scheduler.proto, `Event.Type`); 0 for a type that is stored by its
--- name
+-- the number of an event's type (scheduler.proto, `Event.Type`), 0 if it is stored by its name
 abbrev pub number_of_event : Event → ℕ
 number_of_event (event.Subscribed body) = 1
 number_of_event (event.Offers list) = 2

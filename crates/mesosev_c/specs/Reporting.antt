@@ -14,8 +14,7 @@ use Rattle.mesosev_c.specs.declared.event_decoder.EventDecoder.{EventDecoder}
 use Rattle.mesosev_c.specs.declared.text_decoder.TextDecoder.{TextDecoder}
 use Rattle.mesosev_c.specs.declared.text_decoder.Reported.{Reported}
 
--- an event: its type's number and, if texts are produced, its canonical text, which fits into a
--- record of the largest limit, or why there is none
+-- an event: its type's number and, with texts, its canonical text if it fits, or why it does not
 abbrev pub ReportsEvent : Bool → Event → List ℕ → Reported → Type 0
 ReportsEvent false event text reported = (reported.status ≡ EVENT) × (reported.kind ≡ number_of_event event) × (text ≡ [])
 ReportsEvent true event text reported =
@@ -48,8 +47,7 @@ pub record KeepsAll (old new : TextDecoder) : Type 0 where
   pub decoder : new.decoder ≡ old.decoder
   pub texts : new.texts ≡ old.texts
 
--- one call of `next`, with or without texts: `used` bytes were used, and this was reported, with
--- this text
+-- one call of `next`, with or without texts: the bytes used, the result, and its text
 pub record ReportsStep (texts : Bool) (old new : EventDecoder) (piece : List ℕ) (used : ℕ) (reported : Reported) (text : List ℕ) : Type 0 where
   pub out : Decoded Event Fault
   pub takes : Takes old new piece used out

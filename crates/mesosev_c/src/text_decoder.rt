@@ -137,8 +137,7 @@ impl TextDecoder {
         }
     }
 
-    // Clears the text; frees its memory above `MAX_REUSED_CAPACITY`, so that one long text does not
-    // keep it.
+    // Clears the text. Frees the buffer if it is larger than `MAX_REUSED_CAPACITY`.
     fn clear_text(&mut self)
         ensures text { self.new.text.items ≡ [] }
         ensures keeps { KeepsAll self.old self.new }
@@ -213,7 +212,7 @@ impl TextDecoder {
         };
     }
 
-    // Returns where the text begins. If an allocation fails, the earlier texts are lost too.
+    // Returns the offset of the text. If an allocation fails, the earlier texts are lost too.
     fn add_text(&mut self, event: &Event, others: &mut [Row]) -> usize
         ensures adds { AddsText self.old.texts event.now self.old.text.items self.new.text.items
             others.old others.new result }

@@ -74,7 +74,7 @@ fn read_all(stream: &mut StreamReader<EventReader>, bytes: &[u8]) -> Checked
     Checked { events, outcome }
 }
 
-// The outcome if the input ends after `used` bytes, all of which were used.
+// The outcome if the input ends after `used` bytes, and all were used.
 fn end_all(stream: &StreamReader<EventReader>, used: u64) -> Result<u64, Stop>
     ensures { (framing : FramingValue) (limit : ℕ) (w : List ℕ) (events : List EventValue)
         → StreamRepresents HoldsData Spells 0 stream.now framing limit w events

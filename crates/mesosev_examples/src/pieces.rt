@@ -9,7 +9,7 @@ use mes_msg::{Event, Limit};
 use mes_stream::{Decoded, Decoder, Fault, Step};
 use std::alloc::Global;
 
-// A record of which a decoder uses no byte after a failed allocation.
+// A record for a decoder after a failed allocation, which must use no byte.
 const HEARTBEAT: &[u8] = b"20\n{\"type\":\"HEARTBEAT\"}";
 
 // The outcome of one step of a decoder.
