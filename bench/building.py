@@ -1,4 +1,4 @@
-"""Proves and builds a measuring program, in its own folder with copies of the crates that it depends on."""
+"""Proves and builds a measuring program, in its own folder with copies of its crates."""
 
 import os
 import shutil
@@ -33,7 +33,7 @@ def copy(name, folder):
 
 
 def build(folder, name, text, tops, others):
-    """Builds a program from its text, on these crates, those below and other libraries. Returns its path."""
+    """Builds a program on these crates, those below and others. Returns its path."""
     names = crates(tops)
     for it in names:
         copy(it, folder)

@@ -1,7 +1,8 @@
 """Generates seeded streams of events, formatted as a Mesos master formats them.
 
-A set is a kind of stream. A size is the least number of bytes of its records with their size lines. The same set, size
-and seed give the same bytes. The first 8 MB are generated; a longer stream repeats those records.
+A set is a kind of stream. A size is the least number of bytes of its records with their size lines.
+The same set, size and seed give the same bytes. The first 8 MB are generated; a longer stream
+repeats those records.
 """
 
 import base64

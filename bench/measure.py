@@ -66,8 +66,8 @@ def run(words, path, keep=True):
 def best(words, path, rounds, keep=True):
     """Returns the least time of `rounds` runs, or of more if they are short.
 
-    User and system time are divided as in the sum of all runs, because the kernel divides the time of
-    a short run by its ticks only.
+    User and system time are divided as in the sum of all runs, because the kernel divides the time
+    of a short run by its ticks only.
     """
     runs = [run(words, path, keep) for _ in range(rounds)]
     while rounds > 1 and len(runs) < SHORT_RUNS and sum(one.clock for one in runs) < LONG_ENOUGH:

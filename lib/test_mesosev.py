@@ -1,4 +1,4 @@
-"""Tests of mesosev.py: run python3 -m unittest in lib/, with the built library in MESOSEV_LIBRARY."""
+"""Tests of mesosev.py: python3 -m unittest in lib/, with MESOSEV_LIBRARY naming the library."""
 
 import copy
 import io

@@ -1,7 +1,7 @@
 """Finds the toolchain of Rattle, and loads its command `rt` as a module.
 
-The interface of `rt` is not documented. If it changes, callers report what to do instead, or end with
-a message that names the toolchain: `unknown_kit`.
+The interface of `rt` is not documented. If it changes, callers report what to do instead, or end
+with a message that names the toolchain: `unknown_kit`.
 """
 
 import importlib.machinery
@@ -46,7 +46,7 @@ def version():
 
 
 def unknown_kit():
-    """Returns a note for a failure if the toolchain is not the one of this commit, else an empty text."""
+    """Returns a note on a toolchain other than that of this commit, else an empty text."""
     if version() == PROVED_WITH:
         return ""
     return f"this toolchain is {version()}; the commit was proved with {PROVED_WITH}"
@@ -73,7 +73,7 @@ def newest_source():
 
 
 def time_of_build():
-    """Returns the file time of a build that begins now: a source that is edited meanwhile is newer."""
+    """Returns the file time of a build that begins now; a source edited meanwhile is newer."""
     return max(time.time_ns(), newest_source())
 
 

@@ -149,7 +149,8 @@ pub extern "C" fn mes_c_decoder_next(handle: &mut Handle, bytes: &[u8], answer: 
 /// Decodes `bytes` as repeated calls of `mes_c_decoder_next` do, and describes each event in a row
 /// of `room`.
 ///
-/// Stops once all bytes are used, the stream has ended, or `room` is full; then returns `EVENT`.
+/// Stops once all bytes are used, the stream has ended, or `room` is full. Returns `EVENT` if `room`
+/// is full.
 #[unsafe(no_mangle)]
 pub extern "C" fn mes_c_decoder_many(
     handle: &mut Handle,
