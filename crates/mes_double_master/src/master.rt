@@ -95,7 +95,7 @@ impl Master {
     pub fn outstanding_at(&self, index: usize) -> Option<&Offer>
         ensures { option_copied result ≡ slice_get self.now.outstanding index }
     {
-        self.outstanding.get(index)
+        self.outstanding.get_index(index)
     }
 
     /// Returns the number of launched tasks.
@@ -124,6 +124,6 @@ impl Master {
     pub fn acked_at(&self, index: usize) -> Option<&OwedKey>
         ensures { option_copied result ≡ slice_get self.now.acked index }
     {
-        self.acked.get(index)
+        self.acked.get_index(index)
     }
 }

@@ -84,7 +84,7 @@ impl Session {
     pub fn hand_at(&self, index: usize) -> Option<&Offer>
         ensures { option_copied result ≡ slice_get self.now.hand index }
     {
-        self.hand.get(index)
+        self.hand.get_index(index)
     }
 
     /// Returns the outstanding offer with this identifier, in a time independent of their number.
@@ -105,7 +105,7 @@ impl Session {
     pub fn owed_at(&self, index: usize) -> Option<&OwedKey>
         ensures { option_copied result ≡ slice_get self.now.owed index }
     {
-        self.owed.get(index)
+        self.owed.get_index(index)
     }
 
     /// Applies an event received from the master:

@@ -98,7 +98,12 @@ fn last_coverage<O: OfferList>(
     let first = near.saturating_sub(NEAR_OFFERS);
     let end = near.saturating_add(NEAR_OFFERS).min(offers.count());
     for index in first..end {
-        let end = resource_reach(offers.get(index).resources.as_slice(), key, at, wanted);
+        let end = resource_reach(
+            offers.get_index(index).resources.as_slice(),
+            key,
+            at,
+            wanted,
+        );
         if is_far(end, wanted) {
             *near = index;
             return end;
@@ -120,7 +125,12 @@ fn coverage<O: OfferList>(
 {
     let mut reach = None;
     for index in 0..offers.count() {
-        let end = resource_reach(offers.get(index).resources.as_slice(), key, at, wanted);
+        let end = resource_reach(
+            offers.get_index(index).resources.as_slice(),
+            key,
+            at,
+            wanted,
+        );
         if is_far(end, wanted) {
             *near = index;
             return end;

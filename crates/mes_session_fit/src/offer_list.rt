@@ -14,7 +14,7 @@ pub trait OfferList {
         ensures { result ≡ length (offers self.now) };
 
     /// Returns the offer at an index.
-    fn get(&self, index: usize) -> &Offer
+    fn get_index(&self, index: usize) -> &Offer
         requires { index < length (offers self.now) }
         ensures { slice_get (offers self.now) index ≡ Some result.now };
 }
@@ -26,7 +26,7 @@ impl<'a> OfferList for &'a [Offer] {
         self.len()
     }
 
-    fn get(&self, index: usize) -> &Offer {
+    fn get_index(&self, index: usize) -> &Offer {
         &self[index]
     }
 }

@@ -43,7 +43,7 @@ impl Supply {
         if self.offer >= offers.count() {
             return false;
         }
-        let resources = offers.get(self.offer).resources.as_slice();
+        let resources = offers.get_index(self.offer).resources.as_slice();
         if self.resource >= resources.len() {
             self.offer += 1;
             self.resource = 0;

@@ -125,7 +125,7 @@ fn offers_have_item<O: OfferList>(offers: &O, key: &Resource, item: &Text) -> bo
         (offered (O.offers offers.now)) }
 {
     for index in 0..offers.count() {
-        if resources_have_item(offers.get(index).resources.as_slice(), key, item) {
+        if resources_have_item(offers.get_index(index).resources.as_slice(), key, item) {
             return true;
         }
     }

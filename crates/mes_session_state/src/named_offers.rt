@@ -79,7 +79,7 @@ impl<'a> OfferList for NamedOffers<'a> {
         self.ids.len()
     }
 
-    fn get(&self, index: usize) -> &Offer {
+    fn get_index(&self, index: usize) -> &Offer {
         offer_at(self.hand, self.ids, index)
     }
 }
@@ -91,7 +91,7 @@ fn are_on(offers: &NamedOffers<'_>, agent: &Id) -> bool
     if offers.count() == 0 {
         return false;
     }
-    &offers.get(0).agent_id == agent
+    &offers.get_index(0).agent_id == agent
 }
 
 /// Returns whether one of the offers is on another agent than the first.
@@ -99,7 +99,7 @@ pub(crate) fn two_agents(offers: &NamedOffers<'_>) -> bool
     ensures { result ≡ has_two_agents offers.now }
 {
     for index in 0..offers.count() {
-        if !are_on(offers, &offers.get(index).agent_id) {
+        if !are_on(offers, &offers.get_index(index).agent_id) {
             return true;
         }
     }

@@ -57,7 +57,7 @@ impl OutstandingOffers {
     }
 
     /// Returns the offer at an index.
-    pub fn get(&self, index: usize) -> Option<&Offer>
+    pub fn get_index(&self, index: usize) -> Option<&Offer>
         ensures { option_copied result ≡ slice_get self.now index }
     {
         let (_, slot) = self.slots.get_index(index)?;

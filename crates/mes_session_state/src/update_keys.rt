@@ -50,7 +50,7 @@ impl UpdateKeys {
     }
 
     /// Returns the key at an index.
-    pub fn get(&self, index: usize) -> Option<&OwedKey>
+    pub fn get_index(&self, index: usize) -> Option<&OwedKey>
         ensures { option_copied result ≡ slice_get self.now index }
     {
         self.keys.get_index(index)

@@ -13,7 +13,7 @@ returns-then-is_far g c =
     let k = key_of c.args.key.now in
     let within : c.loop-index.index < length os = omega (arith, c.loop-index-test.true, c.count-index-end.ensures) in
     reaches-one (λ x. has_piece k (point x) c.as_slice.result.now) (λ x. has_piece k (point x) (offered os)) c.args.at c.resource_reach-end.result c.is_far.result c.is_far.ensures c.if-is_far.true
-    (λ x e. any-in (piece_of k (point x)) (λ o. o.resources) os c.loop-index.index c.get.result.now within (get-of os c.loop-index.index c.get.result.now c.get.ensures) _ c.as_slice.ensures e)
+    (λ x e. any-in (piece_of k (point x)) (λ o. o.resources) os c.loop-index.index c.get_index.result.now within (get-of os c.loop-index.index c.get_index.result.now c.get_index.ensures) _ c.as_slice.ensures e)
     c.resource_reach-end.ensures
 
 pub loop-index-preserved : goal.loop-index-preserved
@@ -24,5 +24,5 @@ loop-index-preserved g c =
     subst (λ (e : Option ℕ). Reaches (λ x. has_piece k (point x) (offered (take (c.loop-index.index + 1) os))) c.args.at e) (sym c.farther_end-reach.ensures)
     (reaches-both (λ x. has_piece k (point x) (offered (take c.loop-index.index os))) (λ x. has_piece k (point x) c.as_slice.result.now)
     (λ x. has_piece k (point x) (offered (take (c.loop-index.index + 1) os))) c.args.at c.loop-index.reach c.resource_reach-end.result
-    (λ x. any-more (piece_of k (point x)) (λ o. o.resources) os c.loop-index.index c.get.result.now within (get-of os c.loop-index.index c.get.result.now c.get.ensures) _ c.as_slice.ensures)
+    (λ x. any-more (piece_of k (point x)) (λ o. o.resources) os c.loop-index.index c.get_index.result.now within (get-of os c.loop-index.index c.get_index.result.now c.get_index.ensures) _ c.as_slice.ensures)
     c.loop-index.invariant c.resource_reach-end.ensures)

@@ -13,5 +13,5 @@ returns-then-is_far g c =
     let within : c.loop-index.index < length os = omega (arith, c.loop-index-test.true, c.count.ensures, c.min-end.ensures) in
     reaches-some (λ x. has_piece k (point x) (offered os)) c.args.at c.resource_reach-end.result
     (reaches-one (λ x. has_piece k (point x) c.as_slice.result.now) (λ x. has_piece k (point x) (offered os)) c.args.at c.resource_reach-end.result c.is_far.result c.is_far.ensures c.if-is_far.true
-    (λ x e. any-in (piece_of k (point x)) (λ o. o.resources) os c.loop-index.index c.get.result.now within (get-of os c.loop-index.index c.get.result.now c.get.ensures) _ c.as_slice.ensures e)
+    (λ x e. any-in (piece_of k (point x)) (λ o. o.resources) os c.loop-index.index c.get_index.result.now within (get-of os c.loop-index.index c.get_index.result.now c.get_index.ensures) _ c.as_slice.ensures e)
     c.resource_reach-end.ensures)
