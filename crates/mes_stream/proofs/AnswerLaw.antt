@@ -1,4 +1,4 @@
--- Two chunkings of one body are answered alike.
+-- Two chunkings of one body have the same result.
 use Rattle.std.proofs.Common.{◌≡◌, ℕ, List, ◌∷◌, ◌++◌, Option, None, Some, Result, Ok, Err, refl, ap, sym, ◌∙◌, subst, append_assoc, append-nil, inl, inr}
 use Rattle.std.specs.Io.KnownBytes.{Consumes}
 use Rattle.mes_frame.specs.declared.counts.Counts.{Counts}
@@ -13,7 +13,7 @@ use Rattle.mes_stream.specs.declared.fault.Fault.TheVariants.{EndsInsideChunks}
 use Rattle.mes_stream.specs.declared.fault.Report.{Report}
 use Rattle.mes_stream.specs.declared.fault.Stop.{Stop}
 
--- the events and the outcome are those of the bytes that read so
+-- the events and the result are those of bytes with this reading
 abbrev pub IsAnswer : StreamReading Event → List Event → Result Report Stop → Type 0
 IsAnswer (Goes values) events (Ok report) = ⊥
 IsAnswer (Goes values) events (Err stop) = (events ≡ values) × (stop.fault ≡ EndsInsideChunks)
@@ -25,7 +25,7 @@ IsAnswer (Stops front byte values fault) events (Err stop) = (events ≡ values)
 abbrev pub Answered : ℕ → List ℕ → List Event → Result Report Stop → Type 0
 Answered limit w events outcome = (reading : StreamReading Event) × ReadsStream Spells IsEventRefusal 0 limit w reading × IsAnswer reading events outcome
 
--- what the bytes that were taken read as, all of them do
+-- all bytes have the reading of the bytes that were read
 answered_by : (limit reads : ℕ) (old new : Counts) (left w taken : List ℕ) (events : List Event) (outcome : Result Report Stop) → w ≡ taken ++ left → EndsStream limit reads old new (Some left) taken events outcome → IsDecidedByBytes outcome
     → Answered limit w events outcome
 answered_by limit reads old new left w taken events (Ok report) whole (inl (at, made)) decided =
@@ -53,7 +53,7 @@ answered_from limit reads old new (Some left) w taken events outcome consumes en
 pub answered : (limit : ℕ) (w : List ℕ) (events : List Event) (outcome : Result Report Stop) → AnswersStream limit w events outcome → IsDecidedByBytes outcome → Answered limit w events outcome
 answered limit w events outcome a decided = answered_from limit a.reads a.old a.new a.left w a.taken events outcome a.consumes a.ends decided
 
--- what reads alike is answered alike
+-- bytes with the same reading have the same result
 pub same_answer : (reading other : StreamReading Event) (events others : List Event) (outcome too : Result Report Stop) → IsAlike reading other → IsAnswer reading events outcome → IsAnswer other others too
     → (events ≡ others) × EndsAlike outcome too
 same_answer (Goes a) (Goes b) events others (Ok r) too alike h g = absurd h

@@ -1,4 +1,4 @@
--- What a reader of a chunked stream stands for, over the fronts of a piece.
+-- The state of a reader of a chunked stream, over the prefixes of a piece.
 use Rattle.std.proofs.Common.{◌≡◌, ℕ, ◌+◌, ◌-◌, ◌<◌, ◌≤◌, List, [], ◌∷◌, ◌++◌, length, take, drop, get_or, sym, ◌∙◌, ap, append_assoc, append-nil, arith, refl, subst, inl, inr}
 use Rattle.std.specs.Prelude.{slice_index}
 use Rattle.std.proofs.lemmas.List.{take_more}
@@ -27,7 +27,7 @@ use Rattle.mes_stream.proofs.BodyLemmas.{live_of, piece_on}
 pub take_whole : (piece : List ℕ) (used : ℕ) → used ≡ length piece → take used piece ≡ piece
 take_whole piece used all = grind (arith, common_steps)
 
--- a byte of the body shows what it shows of the body
+-- an error of the body is an error of the stream
 pub shows_data : {E : Type 0} (spells : List ℕ → E → Type 0) (breaks : List ℕ → RecordError → Type 0) (ahead limit : ℕ) (w body : List ℕ) (values : List E) (c : ℕ) (fault : Fault)
     → IsOpen w body → IsOpen (w ++ c ∷ []) (body ++ c ∷ []) → BodyShows spells breaks ahead limit body values c fault → ChunkedShows spells breaks ahead limit w values c fault
 shows_data spells breaks ahead limit w body values c (Frame f) before following h = inr (body, before, following, h)
@@ -48,7 +48,7 @@ stops_data spells breaks ahead limit w body values c fault before following stop
 ]
 
 module _ {R E : Type 0} (holds : R → List ℕ → Type 0) (spells : List ℕ → E → Type 0) (ahead : ℕ) where
-  -- what stands is live
+  -- consumed bytes are a prefix of a stream
   pub chunked_live : (d : ChunkedBody R) (w : List ℕ) (values : List E) → ChunkedRepresents holds spells ahead d w values → Live spells (limit_of d.body.records) w values
   chunked_live d w values s = (s.content, open_of d.chunks w s.content s.chunks, live_of holds spells ahead d.body s.content values s.body)
 
@@ -83,7 +83,7 @@ module _ {R E : Type 0} (holds : R → List ℕ → Type 0) (spells : List ℕ �
       )
 
   module _ (breaks : List ℕ → RecordError → Type 0) where
-    -- a byte of a run of data stops the reading
+    -- an error is detected in a run of data
     run_stops : (d : ChunkedBody R) (limit : ℕ) (w run : List ℕ) (values : List E) (used count : ℕ) (fault : Fault) (s : ChunkedRepresents holds spells ahead d w values) → length run ≡ count → count ≤ remaining_of d.chunks
         → 0 < used → used ≤ count → BodyStops spells breaks ahead limit (s.content ++ take (used - 1) run) values (slice_index run (used - 1)) fault
         → ChunkedStops spells breaks ahead limit (w ++ take (used - 1) run) values (slice_index run (used - 1)) fault
@@ -91,7 +91,7 @@ module _ {R E : Type 0} (holds : R → List ℕ → Type 0) (spells : List ℕ �
         let at = run_at d w run values used count (λ body vs. BodyStops spells breaks ahead limit body vs (slice_index run (used - 1)) fault) s len room some within stops in
         stops_data spells breaks ahead limit (w ++ take (used - 1) run) at.0 values (slice_index run (used - 1)) fault at.1 at.2 at.3
 
-    -- what a body says of a run of data
+    -- the result of the body for a run of data
     pub run_says : (d new : ChunkedBody R) (w run : List ℕ) (values : List E) (used count : ℕ) (answer : Decoded E Fault) (s : ChunkedRepresents holds spells ahead d w values) → length run ≡ count → count ≤ remaining_of d.chunks
         → 0 < used → used ≤ count → ChunkRepresents new.chunks (w ++ take used run) (s.content ++ take used run)
         → SaysIn Plain (BodyRepresents holds spells ahead new.body) spells breaks ahead (limit_of new.body.records) s.content values run used answer → SaysIn Chunked (ChunkedRepresents holds spells ahead new) spells breaks ahead (limit_of new.body.records) w values run used answer
@@ -106,7 +106,7 @@ module _ {R E : Type 0} (holds : R → List ℕ → Type 0) (spells : List ℕ �
         run_stops d (limit_of new.body.records) w run values used count fault s len room some within taken
 
 module _ {E : Type 0} (framing : Framing) (Represents : List ℕ → List E → Type 0) (spells : List ℕ → E → Type 0) (breaks : List ℕ → RecordError → Type 0) (ahead limit : ℕ) where
-  -- the same bytes seen behind others
+  -- the same bytes, split differently
   pub says_as : (w v run rest : List ℕ) (values : List E) (used most : ℕ) (answer : Decoded E Fault) → w ++ take used run ≡ v ++ take most rest → w ++ take (used - 1) run ≡ v ++ take (most - 1) rest
       → slice_index run (used - 1) ≡ slice_index rest (most - 1) → SaysIn framing Represents spells breaks ahead limit w values run used answer → SaysIn framing Represents spells breaks ahead limit v values rest most answer
   says_as w v run rest values used most out.More same front last h = subst (λ (y : List ℕ). Represents y values) same h
@@ -120,7 +120,7 @@ module _ {E : Type 0} (framing : Framing) (Represents : List ℕ → List E → 
       subst (λ (y : List ℕ). ByteStopsIn framing spells breaks ahead limit y values (slice_index rest (most - 1)) fault) front
       (subst (λ (c : ℕ). ByteStopsIn framing spells breaks ahead limit (w ++ take (used - 1) run) values c fault) last h)
 
-  -- of a byte
+  -- for one byte
   pub says_first : (w rest : List ℕ) (values : List E) (answer : Decoded E Fault) → 0 < length rest → SaysIn framing Represents spells breaks ahead limit w values (slice_index rest 0 ∷ []) 1 answer
       → SaysIn framing Represents spells breaks ahead limit w values rest 1 answer
   says_first w [] values answer some h = absurd (omega (arith, some))
@@ -135,14 +135,14 @@ module _ {E : Type 0} (framing : Framing) (Represents : List ℕ → List E → 
   index_drop : (m n : ℕ) (xs : List ℕ) → get_or (drop n xs) m 0 ≡ get_or xs (n + m) 0
   index_drop m n xs = grind (arith, common_steps)
 
-  -- of a longer piece
+  -- for a longer piece
   pub says_more : (w rest : List ℕ) (values : List E) (used count : ℕ) (answer : Decoded E Fault) → 0 < used → used ≤ count → SaysIn framing Represents spells breaks ahead limit w values (take count rest) used answer
       → SaysIn framing Represents spells breaks ahead limit w values rest used answer
   says_more w rest values used count answer some within h =
       says_as w w (take count rest) rest values used used answer (ap (λ (y : List ℕ). w ++ y) (take_take used count rest within)) (ap (λ (y : List ℕ). w ++ y) (take_take (used - 1) count rest (omega (arith, within))))
       (index_take (used - 1) count rest (omega (arith, some, within))) h
 
-  -- of what is left of a piece
+  -- for the rest of a piece
   pub says_on : (w piece : List ℕ) (values : List E) (at used : ℕ) (answer : Decoded E Fault) → 0 < used → SaysIn framing Represents spells breaks ahead limit (w ++ take at piece) values (drop at piece) used answer
       → SaysIn framing Represents spells breaks ahead limit w values piece (at + used) answer
   says_on w piece values at used answer some h =

@@ -1,4 +1,4 @@
--- The data of short chunks, put together.
+-- The joined data of short chunks.
 use Rattle.std.proofs.Common.{◌≡◌, ℕ, ◌+◌, ◌-◌, ◌<◌, ◌≤◌, List, [], ◌∷◌, ◌++◌, length, take, drop, get_or, refl, sym, ◌∙◌, ap, subst, append-nil, append_assoc, arith, inl, inr, length-append, length-drop, length-take-le}
 use Rattle.std.specs.Prelude.{slice_index, Bool, true, false, Result, Ok, Err, OnOk}
 use Rattle.std.proofs.lemmas.List.{take_more, take-append-le, get_or_push, get_or_append_left}
@@ -22,7 +22,7 @@ use Rattle.mes_stream.specs.declared.record_error.RecordError.TheVariants as ref
 use Rattle.mes_stream.proofs.BodyLemmas.{live_of, stands_on, data_live, data_next, piece_on}
 use Rattle.mes_stream.proofs.ChunkLemmas.{take_whole}
 
--- nothing was taken
+-- nothing was consumed
 pub gathers_none : (s : ChunkState) (w body piece : List ℕ) → ChunkRepresents s w body → Gathers s w body piece 0 [] []
 gathers_none s w body piece represents =
     let same : ChunkRepresents s (w ++ []) (body ++ []) = rw (append-nil w, append-nil body) represents in
@@ -34,7 +34,7 @@ gathers_none s w body piece represents =
       each = λ k none. absurd (omega (arith, none));
     }
 
--- bytes of the framing more
+-- more framing bytes
 pub gathers_framing : (old new : ChunkState) (w body piece run places : List ℕ) (used count : ℕ) → Gathers old w body piece used run places
     → PassesFraming new (w ++ take used piece) (body ++ run) (drop used piece) count → Gathers new w body piece (used + count) run places
 gathers_framing old new w body piece run places used count before (represents, opens) = record {
@@ -49,7 +49,7 @@ gathers_framing old new w body piece run places used count before (represents, o
   each = before.each;
 }
 
--- a byte of data more
+-- one more byte of data
 pub gathers_byte : (old new : ChunkState) (w body piece run places : List ℕ) (used : ℕ) → Gathers old w body piece used run places → used < length piece → length places ≡ length run
     → ChunkRepresents new ((w ++ take used piece) ++ slice_index piece used ∷ []) ((body ++ run) ++ slice_index piece used ∷ [])
     → Gathers new w body piece (used + 1) (run ++ slice_index piece used ∷ []) (places ++ used ∷ [])
@@ -91,7 +91,7 @@ gathers_byte old new w body piece run places used before inside same represents 
           ];
     }
 
--- each place is among what was taken
+-- each index is before the end of the consumed bytes
 places_inside : (places : List ℕ) (used : ℕ) → ((k : ℕ) → k < length places → get_or places k 0 < used)
     → (k : ℕ) → k < length (places ++ used ∷ []) → get_or (places ++ used ∷ []) k 0 < used + 1
 places_inside places used each k within =
@@ -101,7 +101,7 @@ places_inside places used each k within =
       | inr late ↦ rw (get_or_push places used 0 k (omega (arith, within, late, len))) (omega arith)
     ]
 
--- what was taken so far, from the state `old` on
+-- the bytes consumed from the state `old` on
 pub record GatheredSoFar (old new : ChunkState) (piece : List ℕ) (most used : ℕ) (run places : List ℕ) : Type 0 where
   pub inside : used ≤ length piece
   pub few : 0 < length run → length run < most
@@ -160,12 +160,12 @@ so_far_byte old mid new piece run places most used before inside room passes =
           gathers_byte mid new w body piece run places used gathered inside same (passes (w ++ take used piece) (body ++ run) (b ∷ []) refl gathered.represents);
     }
 
--- a clause of an answer that follows from another
+-- a weaker clause for the same result
 pub on_ok : {T F : Type 0} (result : Result T F) (P Q : Type 0) → (P → Q) → OnOk result P → OnOk result Q
 on_ok (Ok done) P Q follows h = follows h
 on_ok (Err why) P Q follows h = h
 
--- a record goes on behind a run that is shorter than its room
+-- a record continues after a run shorter than its room
 passes_on : (new : RecordState) (x r p : List ℕ) (left : ℕ) (ended : Bool) → RecordPasses new x r p ended → length p < left → remaining_of new + length p ≡ left → RecordStands new (x ++ p) (r ++ p)
 passes_on new x r p left false passes short room = passes
 passes_on new x r p left true passes short room =
@@ -175,7 +175,7 @@ passes_on new x r p left true passes short room =
     absurd (omega (arith, spelt, len))
 
 module _ {R E : Type 0} (holds : R → List ℕ → Type 0) (spells : List ℕ → E → Type 0) (ahead : ℕ) where
-  -- behind data with which the record goes on
+  -- after data with which the record continues
   pub room_live : (d : Body R) (b p : List ℕ) (values : List E) → BodyRepresents holds spells ahead d b values → length p < remaining_of d.records → BodyLive spells (limit_of d.records) (b ++ p) values
   room_live d b p values s inside =
       subst (λ (y : List ℕ). BodyLive spells (limit_of d.records) (b ++ y) values) (take_whole p (length p) refl)
@@ -193,13 +193,13 @@ module _ {R E : Type 0} (holds : R → List ℕ → Type 0) (spells : List ℕ �
   none_live d b [] values s none = rw (append-nil b) (live_of holds spells ahead d b values s)
   none_live d b (c ∷ p) values s none = absurd (omega (arith, none))
 
-  -- a run of data behind which the record goes on was taken
+  -- a run of data was consumed, and the record continues
   pub passed : (d new : Body R) (b p : List ℕ) (values : List E) (ended : Bool) (s : BodyRepresents holds spells ahead d b values) → new.done ≡ d.done → limit_of new.records ≡ limit_of d.records
       → RecordPasses new.records s.x s.r p ended → length p < remaining_of d.records → remaining_of new.records + length p ≡ remaining_of d.records → holds new.reader (s.r ++ p) → BodyRepresents holds spells ahead new (b ++ p) values
   passed d new b p values ended s done limit passes short room kept =
       stands_on holds spells ahead d new b p (s.r ++ p) values s done limit kept (passes_on new.records s.x s.r p (remaining_of d.records) ended passes short room)
 
-  -- each front of what was taken goes on
+  -- the record continues after each prefix of the consumed bytes
   pub gathered_live : (d : ChunkedBody R) (new : ChunkState) (w rest run places : List ℕ) (values : List E) (used : ℕ) (s : ChunkedRepresents holds spells ahead d w values)
       → Gathers new w s.content rest used run places → (0 < length run → length run < remaining_of d.body.records) → LiveBefore spells (limit_of d.body.records) w values rest used
   gathered_live d new w rest run places values used s gathered few n early =
@@ -212,7 +212,7 @@ module _ {R E : Type 0} (holds : R → List ℕ → Type 0) (spells : List ℕ �
         ],
       )
 
-  -- memory was refused at a byte of the data
+  -- an allocation failed at a byte of the data
   pub gathered_stops : (d : ChunkedBody R) (breaks : List ℕ → RecordError → Type 0) (new : ChunkState) (w rest run places : List ℕ) (values : List E) (used k at : ℕ) (s : ChunkedRepresents holds spells ahead d w values)
       → Gathers new w s.content rest used run places → k < length run → length run < remaining_of d.body.records → slice_index places k ≡ at → breaks (s.body.r ++ take k run) refusal.NoMemory
       → ChunkedStops spells breaks ahead (limit_of d.body.records) (w ++ take at rest) values (slice_index rest at) NoMemory

@@ -1,4 +1,4 @@
--- What an open chunked body has as data, each longer list of bytes has too.
+-- The data of a prefix of a chunked body are a prefix of the data of any longer input.
 use Rattle.std.proofs.Common.{◌≡◌, ℕ, List, [], ◌∷◌, ◌++◌, refl, ap, sym, ◌∙◌, subst, append_assoc, append-nil}
 use Rattle.mes_frame.specs.ChunkFront.{IsOpen}
 use Rattle.mes_frame.specs.ChunkReading.{ChunkReading, Begins, Whole, Broken, ReadsChunks}
@@ -11,7 +11,7 @@ use Rattle.mes_frame.proofs.ChunkAnswers.{answer_at}
 use Rattle.mes_frame.proofs.ChunkPhases.{at_place}
 use Rattle.mes_frame.proofs.OneChunkReading.{one_reading}
 
--- the data that a reading tells
+-- the data of a reading
 abbrev pub content_of : ChunkReading → List ℕ
 content_of (Begins body) = body
 content_of (Whole front body) = body
@@ -59,7 +59,7 @@ state_of w body at =
     let placed = at_place at.part at.represents at.is in
     (record { phase = placed.phase }, within {Q = PhaseRepresents placed.phase} w body at placed.represents)
 
--- whatever the bytes behind it are
+-- for any bytes after it
 pub grows : (w body rest : List ℕ) (reading : ChunkReading) → IsOpen w body → ReadsChunks (w ++ rest) reading → (more : List ℕ) × (content_of reading ≡ body ++ more)
 grows w body rest reading at reads =
     let s = state_of w body at in

@@ -1,4 +1,4 @@
--- The bytes of a device decide the outcome of reading a stream of events from it.
+-- The bytes of a device decide the result of reading a stream of events from it.
 use Rattle.std.proofs.Common.{◌≡◌, ℕ, ◌+◌, List, [], ◌∷◌, ◌++◌, length, Option, None, Some, Result, Ok, Err, refl, ap, ap₂, sym, ◌∙◌, subst, append_assoc, append-nil, inl, inr, arith}
 use Rattle.std.proofs.lemmas.List.{append_cancel_left}
 use Rattle.std.specs.Io.KnownBytes.{Consumes}
@@ -20,7 +20,7 @@ use Rattle.mes_stream.specs.declared.fault.Stop.{Stop}
 use Rattle.mes_stream.specs.declared.stream_reader.Framing.TheVariants.{Plain, Chunked}
 use Rattle.mes_stream.proofs.PlainLaw.{no_rest}
 
--- a fault after so many bytes
+-- the error after `used` bytes
 record StopsBy (stop : Stop) (fault : Fault) (used : ℕ) : Type 0 where
   fault_is : stop.fault ≡ fault
   count : stop.used ≡ saturated (0 + used)
@@ -28,7 +28,7 @@ record StopsBy (stop : Stop) (fault : Fault) (used : ℕ) : Type 0 where
 same_stop : (s t : Stop) (fault : Fault) (used : ℕ) → StopsBy s fault used → StopsBy t fault used → s ≡ t
 same_stop s t fault used h k = ap₂ (λ (f : Fault) (n : ℕ). let stop : Stop = record { fault = f; used = n } in stop) (h.fault_is ∙ sym k.fault_is) (h.count ∙ sym k.count)
 
--- what was taken, and what is left
+-- the bytes consumed, and those left
 whole_of : (w taken left front rest : List ℕ) → w ≡ taken ++ left → taken ≡ front ++ rest → w ≡ front ++ (rest ++ left)
 whole_of w taken left front rest all is = all ∙ ap (λ (y : List ℕ). y ++ left) is ∙ append_assoc front rest left
 
@@ -37,7 +37,7 @@ all_taken w taken left all none = sym (append-nil taken) ∙ ap (λ (y : List �
 
 -- ---- chunked streams
 
--- the events and the outcome are those of the bytes w, which read so, where these bytes are left
+-- the events and the result are those of the bytes w with this reading, with these bytes left
 abbrev IsOutcome : StreamReading Event → List ℕ → List ℕ → List Event → Result Report Stop → Type 0
 IsOutcome (Goes values) w left events (Ok report) = ⊥
 IsOutcome (Goes values) w left events (Err stop) = (events ≡ values) × StopsBy stop EndsInsideChunks (length w)

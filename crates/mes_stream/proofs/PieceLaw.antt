@@ -1,4 +1,4 @@
--- However the bytes are cut into pieces, a decoder returns the same.
+-- A decoder returns the same for any cut of the bytes into pieces.
 use Rattle.std.proofs.Common.{◌≡◌, ◌≢◌, ℕ, ◌+◌, ◌-◌, ◌<◌, ◌≤◌, List, [], ◌∷◌, ◌++◌, length, take, drop, Option, None, Some, refl, ap, sym, ◌∙◌, subst, append_assoc, append-nil, inl, inr, arith, length-append, length-drop, length-take-le, take-append-drop}
 use Rattle.std.specs.Prelude.{slice_index}
 use Rattle.std.proofs.lemmas.List.{take-append-le, drop-append-le}
@@ -31,7 +31,7 @@ use Rattle.mes_stream.proofs.StreamLemmas.{goes_of}
 abbrev Any : List ℕ → List Event → Type 0
 Any w events = Unit {0}
 
--- what a call would say that is given all the bytes after w at once
+-- the result of a call with all the bytes after w at once
 abbrev Reached : ℕ → List ℕ → List Event → List ℕ → ℕ → Option StreamEnd → Type 0
 Reached limit w events all used None = (used ≡ length all) × Live Spells limit (w ++ all) events
 Reached limit w events all used (Some end) = (0 < used) × (used ≤ length all) × SaysIn Chunked Any Spells IsEventRefusal 0 limit w events all used (answer_of end)
@@ -50,7 +50,7 @@ moved limit w events all at used None within (is, live) = (
 moved limit w events all at used (Some end) within (some, inside, says) =
     (omega (arith, some), omega (arith, inside, within, length-drop at all), says_on Chunked Any Spells IsEventRefusal 0 limit w all events at used (answer_of end) some says)
 
--- a call that was given a front of all bytes
+-- a call with a prefix of all bytes
 front_moved : (limit : ℕ) (w : List ℕ) (events : List Event) (piece rest : List ℕ) (at used : ℕ) (end : Option StreamEnd) → at ≤ length piece
     → Reached limit (w ++ take at piece) events (drop at piece ++ rest) used end → Reached limit w events (piece ++ rest) (at + used) end
 front_moved limit w events piece rest at used end within h =
@@ -76,7 +76,7 @@ drop_whole piece used all = none (drop used piece) (let len = length-drop used p
   none [] is = refl
   none (x ∷ xs) is = absurd (omega (arith, is))
 
--- the outcome as one of the calls
+-- the outcome as a single call
 as_outcome : (limit : ℕ) (w : List ℕ) (events : List Event) (all : List ℕ) (outcome other : DecodeOutcome) → outcome ≡ other → Reached limit w (events ++ other.events) all other.used other.end
     → Reached limit w (events ++ outcome.events) all outcome.used outcome.end
 as_outcome limit w events all outcome other is h = subst (λ (o : DecodeOutcome). Reached limit w (events ++ o.events) all o.used o.end) (sym is) h
@@ -124,7 +124,7 @@ reads_of limit w events used (Some (Failed fault)) (some, within, stops) memory 
   | inr none ↦ absurd (memory (ap (λ (f : Fault). Some (Failed f)) none.0))
 ]
 
--- of one length
+-- prefixes of one length
 same_take : (w : List ℕ) (m n : ℕ) → m ≤ length w → n ≤ length w → take m w ≡ take n w → m ≡ n
 same_take w m n first second same =
     let len = ap length same in

@@ -1,4 +1,4 @@
--- The reads of a device, one by one, and what they count.
+-- The reads of a device, one by one, and their counts.
 use Rattle.std.proofs.Common.{◌≡◌, ℕ, ◌+◌, ◌<◌, ◌≤◌, Option, List, [], ◌++◌, length, take, ◌∙◌, ap, append-nil, arith, refl, subst, length-append, length-take-le}
 use Rattle.std.specs.Io.KnownBytes.{Consumes, Keeps, IsAtEnd}
 use Rattle.std.proofs.KnownBytes.{Consumes-nil, Consumes-trans, Consumes-kept}
@@ -12,7 +12,7 @@ use Rattle.mes_stream.specs.declared.limits.TheConstants.{MAX_READ}
 use Rattle.mes_stream.specs.declared.device.ReadsEnd.{ReadsEnd}
 use Rattle.mes_stream.specs.declared.device.ReadsEnd.TheVariants.{Stopped, AtEnd, Failed, Spent}
 
--- after some reads: the device gave the bytes w, of which this holds, and nothing failed
+-- after some reads: `Goes` holds of the bytes w read, and no read failed
 pub record Reads (Goes : List ℕ → Type 0) (first now : Option (List ℕ)) (old new : Counts) (reads : ℕ) : Type 0 where
   pub w : List ℕ
   pub consumes : Consumes first now w
@@ -25,11 +25,11 @@ up_more n k = omega arith
 up_none : (n : ℕ) → up n 0 ≡ n
 up_none n = omega arith
 
--- a call with a buffer that isn't empty
+-- a call with a buffer that is not empty
 asked : (len n : ℕ) → 0 < len → up_if (nat_lt 0 len) n ≡ up n 1
 asked len n full = let test : nat_lt 0 len ≡ true = grind (arith, nat_tests) in rw test refl
 
--- a call that moved bytes
+-- a call that returned bytes
 moved : (len count n : ℕ) → 0 < count → up_if (nat_lt 0 len && (count == 0)) n ≡ n
 moved len count n some =
     let test : (count == 0) ≡ false = grind (arith, nat_tests) in
@@ -39,12 +39,12 @@ moved len count n some =
 ended_idle : (len n : ℕ) → 0 < len → up_if (nat_lt 0 len && (0 == 0)) n ≡ up n 1
 ended_idle len n full = let test : nat_lt 0 len ≡ true = grind (arith, nat_tests) in rw test refl
 
--- what a read that gave count bytes counts
+-- the counts after a read of `count` bytes
 abbrev pub Counted : Counts → Counts → ℕ → ℕ → Type 0
 Counted old new len count =
     (new.calls ≡ up_if (nat_lt 0 len) old.calls) × (new.failures ≡ old.failures) × (new.idle ≡ up_if (nat_lt 0 len && (count == 0)) old.idle)
 
--- what a read that failed counts
+-- the counts after a failed read
 abbrev pub CountedFailure : Counts → Counts → ℕ → Type 0
 CountedFailure old new len = (new.calls ≡ up_if (nat_lt 0 len) old.calls) × (new.failures ≡ up old.failures 1) × (new.idle ≡ old.idle)
 
@@ -90,7 +90,7 @@ asked_ended old new later reads most len w before left full counted = record {
   gave = (let gave = before.gave in omega (arith, gave));
 }
 
--- the bytes that were taken, and how the reads ended
+-- the bytes consumed, and how the reads ended
 abbrev pub HaveEnded : {Z : Type 0} → (List ℕ → Type 0) → (List ℕ → List ℕ → Z → Type 0) → ℕ → Option (List ℕ) → Option (List ℕ) → Counts → Counts → ReadsEnd Z → Type 0
 HaveEnded Goes Stops most first last old new end = (w : List ℕ) × Consumes first last w × EndsReads Goes Stops most old new last w end
 
@@ -103,7 +103,7 @@ reads_start Goes first old goes = record {
 }
 
 module _ (Goes Later : List ℕ → Type 0) (first now next : Option (List ℕ)) (old new later : Counts) (reads most len : ℕ) (r : Reads Goes first now old new reads) (left : reads < most) (full : 0 < len) where
-  -- one more read gave a piece, which was taken
+  -- one more read returned a piece, and the consumer continues
   pub reads_more : (count : ℕ) (buffer : List ℕ) → 0 < count → count ≤ length buffer → length buffer ≤ MAX_READ → Consumes now next (take count buffer) → Counted new later len count
       → Later (r.w ++ take count buffer) → Reads Later first next old later (reads + 1)
   reads_more count buffer some within small gives counted goes = record {
@@ -113,7 +113,7 @@ module _ (Goes Later : List ℕ → Type 0) (first now next : Option (List ℕ))
     asked = asked_more old new later reads (reads + 1) len count r.w (take count buffer) r.asked (omega arith) some (length-take-le count buffer within) (omega (arith, within, small, length-take-le count buffer within)) full counted;
   }
 
-  -- or with which no more were wanted
+  -- one more read returned a piece, and the consumer stopped
   pub reads_stop : {Z : Type 0} (Stops : List ℕ → List ℕ → Z → Type 0) (count : ℕ) (buffer : List ℕ) (why : Z) → 0 < count → count ≤ length buffer → length buffer ≤ MAX_READ → Consumes now next (take count buffer)
       → Counted new later len count → Stops r.w (take count buffer) why → HaveEnded Later Stops most first next old later (Stopped why)
   reads_stop Stops count buffer why some within small gives counted stops =
@@ -142,7 +142,7 @@ module _ (Goes Later : List ℕ → Type 0) (first now next : Option (List ℕ))
     (r.goes, last, (reads + 1, asked_ended old new later reads most len r.w r.asked left full counted)),
   )
 
--- the reads are spent
+-- all allowed reads were made
 pub reads_spent : {Z : Type 0} (Goes : List ℕ → Type 0) (Stops : List ℕ → List ℕ → Z → Type 0) (first now : Option (List ℕ)) (old new : Counts) (reads most : ℕ) → Reads Goes first now old new reads → reads ≡ most
     → HaveEnded Goes Stops most first now old new Spent
 reads_spent Goes Stops first now old new reads most r all = (r.w, r.consumes, (r.goes, subst (λ (n : ℕ). ReadsMade n old new r.w n 0 0) all r.asked))

@@ -37,7 +37,7 @@ ends_at framing spells ahead limit w piece values used end after rest some withi
       last = rw left (omega (arith, some, within, small, size, whole, length-take-le end piece within));
     }
 
--- a byte of it stops the reading
+-- an error is detected at a byte of the piece
 pub stops_at : {E : Type 0} (framing : Framing) (spells : List ℕ → E → Type 0) (breaks : List ℕ → RecordError → Type 0) (ahead : Ahead) (limit : ℕ) (w piece : List ℕ) (values : List E) (fault : Fault) (used : ℕ)
     → 0 < used → used ≤ length piece → GoesIn framing spells limit (w ++ take (used - 1) piece) values
     → ByteStopsIn framing spells breaks ahead.records limit (w ++ take (used - 1) piece) values (slice_index piece (used - 1)) fault
@@ -46,7 +46,7 @@ stops_at framing spells breaks ahead limit w piece values fault used some within
     let count : length w + (0 + used) ≡ length w + used = omega arith in
     subst (λ (n : ℕ). StopsWithin framing spells breaks ahead.records limit (w ++ piece) values fault n) count (stops_in framing spells breaks ahead.records limit w piece values fault 0 used (omega arith) some within (rw append-nil live) (rw append-nil stops))
 
--- behind the last byte of a record the records so far are whole
+-- after the last byte of a record no record is incomplete
 record_whole : {E : Type 0} (spells : List ℕ → E → Type 0) (limit : ℕ) (b : List ℕ) (values : List E) (c : ℕ) (value : E) → EndsRecord spells limit b values c (HasValue spells value)
     → Records spells limit (b ++ c ∷ []) (values ++ value ∷ [])
 record_whole spells limit b values c value ends =
@@ -67,7 +67,7 @@ whole_at framing spells limit w piece values value used some within ends =
     subst (λ (y : List ℕ). WholeIn framing spells limit y (values ++ value ∷ [])) join (whole_more framing spells limit (w ++ take (used - 1) piece) values (slice_index piece (used - 1)) value ends)
 
 module _ {R E : Type 0} (holds : R → List ℕ → Type 0) (spells : List ℕ → E → Type 0) (breaks : List ℕ → RecordError → Type 0) where
-  -- what is asked of a call that takes a piece
+  -- the contract of a call that consumes a piece
   abbrev pub TakesAll : {T : Type 0} → Reading R → Reading R → List ℕ → List E → List E → Result T ReadingStop → Type 0
   TakesAll d new piece old now result =
       (ahead : Ahead) (framing : Framing) (limit : ℕ) (v : List ℕ) (before : List E) → ReadingRepresentsAfter holds spells ahead d framing limit v before
@@ -77,7 +77,7 @@ module _ {R E : Type 0} (holds : R → List ℕ → Type 0) (spells : List ℕ �
   pub gathers_none : (d : Reading R) (start : List E) → Gathers holds spells d start d start []
   gathers_none d start = λ ahead framing limit v before represents. ([], sym (append-nil start), rw (append-nil, append-nil) represents)
 
-  -- the list of a reader that has taken one more piece
+  -- the list after one more piece
   pub gathers_more : {T : Type 0} (first d new : Reading R) (start old now : List E) (w piece : List ℕ) (result : Result T ReadingStop) → Gathers holds spells first start d old w → TakesAll d new piece old now result
       → OnOk result (Gathers holds spells first start new now (w ++ piece))
   gathers_more first d new start old now w piece (Ok done) h fed = λ ahead framing limit v before represents.
@@ -105,7 +105,7 @@ module _ {R E : Type 0} (holds : R → List ℕ → Type 0) (spells : List ℕ �
     none,
   )
 
-  -- how the reading ended, by how the reads did
+  -- how the reading ended, from how the reads ended
   pub read_through : (kept : R → ℕ) (first now : Reading R) (start to : List E) (framing : Framing) (limit reads : ℕ) (old new : Counts) (last : Option (List ℕ)) (w : List ℕ) (end : ReadsEnd ReadingStop) (answer : Result Report Stop)
       → ReadingRepresents holds spells first framing limit [] [] → EndsReads (Gathers holds spells first start now to) (GathersLast holds spells breaks kept first start now to) reads old new last w end → Means holds spells now end answer
       → (more : List E) × (to ≡ start ++ more) × EndsReading framing spells breaks limit reads old new last w more answer

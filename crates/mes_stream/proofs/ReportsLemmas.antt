@@ -1,4 +1,4 @@
--- What became of the front of a piece, where the value of a record that ended with it is still to be read.
+-- The meaning of a step whose record has ended and has no decoded value yet.
 use Rattle.std.proofs.Common.{◌≡◌, ℕ, ◌<◌, ◌≤◌, List, ◌++◌, length, take, ap, refl, sym, subst}
 use Rattle.mes_frame.specs.ChunkState.{ChunkRepresents, remaining_of}
 use Rattle.mes_frame.specs.RecordState.{limit_of}
@@ -21,7 +21,7 @@ use Rattle.mes_stream.proofs.ChunkLemmas.{run_says}
 use Rattle.mes_stream.proofs.DecoderLemmas.{says_as_well}
 
 module _ {R E : Type 0} (holds : R → List ℕ → Type 0) (spells : List ℕ → E → Type 0) (breaks : List ℕ → RecordError → Type 0) (ahead : ℕ) (framing : Framing) where
-  -- the same bytes seen behind others
+  -- the same bytes, split differently
   pub tells_as : (Represents : Body R → List ℕ → List E → Type 0) (body : Body R) (limit : ℕ) (w v run rest : List ℕ) (values : List E) (used most : ℕ) (s : Decoded (Unit {0}) Fault)
       → ((after : Body R) (answer : Decoded E Fault) → SaysIn framing (Represents after) spells breaks ahead limit w values run used answer → SaysIn framing (Represents after) spells breaks ahead limit v values rest most answer)
       → Reports holds spells breaks ahead framing Represents body limit w values run used s → Reports holds spells breaks ahead framing Represents body limit v values rest most s
@@ -30,7 +30,7 @@ module _ {R E : Type 0} (holds : R → List ℕ → Type 0) (spells : List ℕ �
   tells_as Represents body limit w v run rest values used most out.End each h = each body out.End h
   tells_as Represents body limit w v run rest values used most (out.Fault fault) each h = each body (out.Fault fault) h
 
-  -- and seen of another reader with that body
+  -- for another reader with that body
   pub tells_of : (Represents Others : Body R → List ℕ → List E → Type 0) (body : Body R) (limit : ℕ) (w run : List ℕ) (values : List E) (used : ℕ) (s : Decoded (Unit {0}) Fault)
       → ((after : Body R) → after.records ≡ body.records → (v : List ℕ) (vs : List E) → Represents after v vs → Others after v vs)
       → Reports holds spells breaks ahead framing Represents body limit w values run used s → Reports holds spells breaks ahead framing Others body limit w values run used s
@@ -62,7 +62,7 @@ module _ {R E : Type 0} (holds : R → List ℕ → Type 0) (spells : List ℕ �
   run_tells d chunks body w run values used count (out.Fault fault) s len room some within represents taken =
       run_says holds spells ahead breaks d (record { chunks = chunks; body = body }) w run values used count (out.Fault fault) s len room some within represents taken
 
-  -- of a reader of either framing
+  -- for a reader of either framing
   pub plain_tells : (body : Body R) (framing : Framing) (limit : ℕ) (w run : List ℕ) (values : List E) (used : ℕ) (told : Decoded (Unit {0}) Fault) → framing ≡ Plain → limit_of body.records ≡ limit
       → Reports holds spells breaks ahead Plain (BodyRepresents holds spells ahead) body (limit_of body.records) w values run used told
       → Reports holds spells breaks ahead framing (λ after. StreamRepresents holds spells ahead (reader.Plain after) framing limit) body limit w values run used told

@@ -1,4 +1,4 @@
--- Events encoded one by one, and what became of their bytes.
+-- Events encoded one by one, and the bytes written.
 use Rattle.std.proofs.Common.{◌≡◌, ℕ, suc, ◌+◌, ◌^◌, ◌<◌, List, [], ◌∷◌, ◌++◌, Option, length, take, drop, get_or, ap, sym, ◌∙◌, subst, append-nil, arith, length-take-le, map, Bor}
 use Rattle.std.proofs.Math.Seq.{split_at}
 use Rattle.std.proofs.lemmas.Grind.{flat_map-append}
@@ -25,7 +25,7 @@ use Rattle.mes_msg.specs.declared.send_fault.EncodeFaultKind.{EncodeFaultKind}
 use Rattle.mes_msg.specs.declared.send_fault.EncodeFaultKind.TheVariants.{TooDeep, TooLarge}
 use Rattle.mes_msg.specs.declared.send_fault.SendFault.TheVariants.{Write}
 
--- the events that are borrowed
+-- the borrowed events
 abbrev pub borrowed : List (Bor Event) → List Event
 borrowed refs = map (λ event. event.now) refs
 
@@ -36,7 +36,7 @@ pub ref_at : (refs : List (Bor Event)) (i : ℕ) (ref : Bor Event) → i < lengt
 ref_at refs i ref inside here =
     ap (λ (event : Bor Event). event.now) here ∙ sym (get_or-map (λ (event : Bor Event). event.now) refs i ref ref.now inside)
 
--- one event more
+-- one more event
 pub plain_of_more : (limit : ℕ) (events : List Event) (i : ℕ) (event : Event) (old new : List ℕ) → i < length events → event ≡ get_or events i event
     → IsPlainOf limit (take i events) old → new ≡ old ++ record_bytes (canonical_text event) → IsGood event limit
     → IsRecord (record_bytes (canonical_text event)) (canonical_text event) limit → Spells (canonical_text event) event → IsPlainOf limit (take (i + 1) events) new
@@ -55,7 +55,7 @@ plain_of_more limit events i event old new inside here plain is good framed spel
       read = subst R (sym is) (records_more HoldsData Spells 0 limit old (record_bytes text) text front event plain.read framed spelt);
     })
 
--- the event at this place is the first that is not good
+-- the event at this index is the first that cannot be encoded
 first_bad : (limit : ℕ) (events : List Event) (i : ℕ) (event : Event) (why : EncodeFaultKind) → i < length events → event ≡ get_or events i event
     → AllGood limit (take i events) → IsBad limit event why → IsFirstBad limit events i why
 first_bad limit events i event why inside here good bad = record {
@@ -86,7 +86,7 @@ module _ {W : Type 0} (written : W → Option (List ℕ)) (counts : W → Counts
         read = (body, framing_is_chunked body w most small frames, plain.read);
       }
 
-  -- all chunks are out
+  -- all chunks were written
   pub stream_out : (most : ℕ) (body : List ℕ) (old new : W) → most < 2 ^ 64 → IsPlainOf limit events body
       → ((w : List ℕ) × IsFrames body most w × Appends (written old) (written new) w) → NoneFails (counts old) (counts new)
       → ((w : List ℕ) × IsFrames body most w × CallsFor (length w) (counts old) (counts new))
@@ -95,7 +95,7 @@ module _ {W : Type 0} (written : W → Option (List ℕ)) (counts : W → Counts
       let P : List ℕ → Type 0 = λ u. CallsFor (length u) (counts old) (counts new) in
       (w, stream_of most body w small plain frames, record { out = out; none_fails = none; calls = subst P (framing_is_unique body v w most same frames) calls })
 
-  -- the writer stopped in the chunks
+  -- the writer failed within the chunks
   pub stream_stops : (most : ℕ) (body : List ℕ) (old new : W) (fault : WriteFault) → most < 2 ^ 64 → IsPlainOf limit events body
       → ((w : List ℕ) × IsFrames body most w × WroteFront (written old) (written new) w fault.sent) → StopsWrite fault.why (counts old) (counts new)
       → ((w : List ℕ) × IsFrames body most w × CallsFor (length w) (counts old) (counts new))

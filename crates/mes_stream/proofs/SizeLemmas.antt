@@ -1,4 +1,4 @@
--- The bytes of a size line, one behind the other.
+-- The bytes of a size line, one by one.
 use Rattle.std.proofs.Common.{◌≡◌, ℕ, ◌+◌, ◌<◌, ◌≤◌, List, [], ◌∷◌, ◌++◌, length, take, drop, get_or, zero, suc, sym, ◌∙◌, ap, subst, append-nil, append_assoc, arith, ◌⊎◌, inl, inr}
 use Rattle.std.proofs.lemmas.Bool.Decides.{eqb_tells}
 use Rattle.std.proofs.lemmas.List.{take_more}
@@ -7,7 +7,7 @@ use Rattle.mes_frame.specs.Record.{Begun}
 use Rattle.mes_frame.specs.RecordState.{RecordStands, limit_of}
 use Rattle.mes_frame.specs.declared.record.RecordState.{RecordState}
 
--- so many bytes of a run were taken behind x, and at each of them the record goes on
+-- `count` bytes of a run were consumed after x, and the record continues at each of them
 abbrev pub PassesSize : RecordState → List ℕ → List ℕ → List ℕ → ℕ → Type 0
 PassesSize new x r run count = RecordStands new (x ++ take count run) r × ((n : ℕ) → n ≤ count → Begun (x ++ take n run) r (limit_of new))
 
@@ -23,7 +23,7 @@ size_first s x r run represents = (
       subst (λ (m : ℕ). Begun (x ++ take m run) r (limit_of s)) zero (rw (append-nil x) (begun_of s x r represents)),
 )
 
--- one byte more
+-- one more byte
 pub size_next : (old new : RecordState) (x r run : List ℕ) (count : ℕ) → count < length run → limit_of new ≡ limit_of old
     → RecordStands new ((x ++ take count run) ++ get_or run count 0 ∷ []) r → PassesSize old x r run count → PassesSize new x r run (count + 1)
 size_next old new x r run count inside limit represents (before, begun) =

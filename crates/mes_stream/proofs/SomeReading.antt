@@ -1,4 +1,5 @@
--- Bytes are read in some way, plain or chunked, where the data of each record have a value or a reason why they have none.
+-- Bytes have at least one reading, plain or chunked, if the data of each record have a value or an
+-- error.
 use Rattle.std.proofs.Common.{◌≡◌, ◌≢◌, ℕ, ◌⊎◌, inl, inr, List, [], ◌∷◌, ◌++◌, length, refl, ap, sym, ◌∙◌, subst, append_assoc, append-nil, arith, length-append}
 use Rattle.mes_frame.specs.Record.{IsRecord, Begun, SizeShows}
 use Rattle.mes_frame.specs.RecordReading as record_reading
@@ -54,7 +55,7 @@ start_stands = record {
 }
 
 module _ {E : Type 0} (spells : List ℕ → E → Type 0) (breaks : List ℕ → RecordError → Type 0) (decided : IsDecided spells breaks) (ahead limit : ℕ) where
-  -- one more byte behind a live body leaves it live, or shows a fault
+  -- one more byte after a prefix makes a longer prefix, or is an error
   Next : List ℕ → List E → ℕ → Type 0
   Next b values c = ((more : List E) × BodyLive spells limit (b ++ c ∷ []) more) ⊎ ((fault : Fault) × BodyShows spells breaks ahead limit b values c fault)
 
@@ -83,7 +84,7 @@ module _ {E : Type 0} (spells : List ℕ → E → Type 0) (breaks : List ℕ �
     refused refusal.BadEntry known h = (BadEntry (number_after ahead values), (record { whole = live.whole; x = live.x; spelt = live.spelt; records = live.records; is = (r, is, h) }, refl))
     refused refusal.NoMemory known h = absurd (known refl)
 
-  -- what the bytes of the record that has begun and one more begin with
+  -- the reading of the unfinished record with one more byte
   reported : (b : List ℕ) (values : List E) (c : ℕ) (live : BodyLive spells limit b values) (reading : RecordReading) → ReadsRecord limit (live.x ++ c ∷ []) reading → Next b values c
   unfolding Next
   reported b values c live (record_reading.Begins r) begun = inl (
@@ -156,7 +157,7 @@ module _ {E : Type 0} (spells : List ℕ → E → Type 0) (breaks : List ℕ �
     by [] spelt begun = inl (subst (λ (y : List ℕ). Records spells limit y values) (sym (spelt ∙ append-nil live.whole)) live.records)
     by (c ∷ x) spelt begun = inr (record { whole = live.whole; x = c ∷ x; spelt = spelt; records = live.records; is = (λ none. absurd (cc), begun) })
 
-  -- what the answer to the byte b says of all bytes, where the bytes behind it are read in some way
+  -- the reading of all bytes, from the step for the byte b and the reading of the bytes after it
   stream_next : (w body rest : List ℕ) (values : List E) (b : ℕ) (s : ChunkState) (answer : ChunkOut) → ChunkSteps s w body b answer → IsOpen w body → BodyLive spells limit body values
       → ((more : List ℕ) (vs : List E) → ChunkRepresents s (w ++ b ∷ []) more → BodyLive spells limit more vs → ReadStream ((w ++ b ∷ []) ++ rest)) → ReadStream (w ++ b ∷ rest)
   unfolding ReadStream Next

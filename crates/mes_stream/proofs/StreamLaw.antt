@@ -1,4 +1,4 @@
--- Bytes are read as a chunked stream in at most one way.
+-- Bytes have at most one reading as a chunked stream.
 use Rattle.std.proofs.Common.{◌≡◌, ℕ, ◌<◌, ◌⊎◌, inl, inr, List, [], ◌∷◌, ◌++◌, length, refl, ap, ap₂, sym, ◌∙◌, subst, append_assoc, append-nil, arith, length-append}
 use Rattle.std.proofs.lemmas.Bool.{cases_lt}
 use Rattle.mes_frame.proofs.OneChunkReading.{one_reading}
@@ -17,7 +17,7 @@ use Rattle.mes_stream.specs.declared.fault.Fault.TheVariants.{Frame, EndsInsideC
 use Rattle.mes_stream.proofs.Grows.{content_of, grows}
 use Rattle.mes_stream.proofs.PlainLaw.{one_plain, no_rest, same_last}
 
--- a shorter front is the front of a longer one
+-- a shorter prefix is the prefix of a longer one
 shorter : (u v rest more : List ℕ) (c d : ℕ) → u ++ c ∷ rest ≡ v ++ d ∷ more → length u < length v → (m : List ℕ) × (v ≡ (u ++ c ∷ []) ++ m)
 shorter u [] rest more c d same less = absurd (omega arith)
 shorter [] (b ∷ v) rest more c d same less = let head : c ≡ b = cc in (v, cc)
@@ -38,7 +38,7 @@ as_long (a ∷ u) (b ∷ v) rest more c d same len =
     let on : u ≡ v = as_long u v rest more c d tail (omega arith) in
     cc
 
--- behind a byte of data the data are more
+-- after a byte of data the data are longer
 not_shorter : (u v rest more body : List ℕ) (c d : ℕ) → u ++ c ∷ rest ≡ v ++ d ∷ more → IsOpen (u ++ c ∷ []) (body ++ c ∷ []) → IsOpen v body → length u < length v → ⊥
 not_shorter u v rest more body c d same begun too less =
     let found = shorter u v rest more c d same less in
@@ -57,7 +57,7 @@ one_front u v rest more body c same first second begun too = elim (cases_lt (len
   ]
 ]
 
--- what a chunked body that has ended says of its records: they are whole, or it ends inside one
+-- the records of a chunked body that has ended: all complete, or one unfinished
 data Mark : Type 0 where
   Clean : Mark
   Inside : (front : List ℕ) (c : ℕ) → Mark
@@ -75,7 +75,7 @@ module _ {E : Type 0} (spells : List ℕ → E → Type 0) (breaks : List ℕ �
   IsMark (Whole whole body) values (Inside front c) = (whole ≡ front ++ c ∷ []) × EndsInside spells limit body values
   IsMark (Broken front c body fault) values mark = mark ≡ Clean
 
-  -- the framing decides
+  -- the framing determines the reading
   record Outer (w : List ℕ) (reading : StreamReading E) : Type 0 where
     chunks : ChunkReading
     values : List E
@@ -85,7 +85,7 @@ module _ {E : Type 0} (spells : List ℕ → E → Type 0) (breaks : List ℕ �
     is_mark : IsMark chunks values mark
     is : reading ≡ outer_of chunks values mark
 
-  -- a byte of a record does
+  -- a byte of a record determines the reading
   record Inner (w : List ℕ) (reading : StreamReading E) : Type 0 where
     front : List ℕ
     c : ℕ
@@ -119,7 +119,7 @@ module _ {E : Type 0} (spells : List ℕ → E → Type 0) (breaks : List ℕ �
       (subst (λ (vs : List E). IsMark g.chunks vs f.mark) values (subst (λ (k : ChunkReading). IsMark k f.values f.mark) chunks f.is_mark)) g.is_mark in
       f.is ∙ ap (λ (k : ChunkReading). outer_of k f.values f.mark) chunks ∙ ap₂ (λ (vs : List E) (m : Mark). outer_of g.chunks vs m) values mark ∙ sym g.is
 
-  -- the data of whatever stands behind
+  -- the data with any bytes after them
   content_on : (w : List ℕ) (reading : StreamReading E) (f : Inner w reading) (k : ChunkReading) → ReadsChunks w k → (more : List ℕ) × (content_of k ≡ f.body ++ f.c ∷ more)
   content_on w reading f k reads =
       let spelt : w ≡ (f.front ++ f.c ∷ []) ++ f.rest = f.spelt ∙ sym (append_assoc f.front (f.c ∷ []) f.rest) in
@@ -152,7 +152,7 @@ module _ {E : Type 0} (spells : List ℕ → E → Type 0) (breaks : List ℕ �
   Found : List ℕ → StreamReading E → Type 0
   Found w reading = Outer w reading ⊎ Inner w reading
 
-  -- whole records are live
+  -- complete records are a prefix of a stream
   records_live : (b : List ℕ) (values : List E) → Records spells limit b values → BodyLive spells limit b values
   records_live b values records = record { whole = b; x = []; spelt = sym (append-nil b); records = records; is = ([], inl (record { digits = tt; few = omega arith }, refl)) }
 
@@ -218,7 +218,7 @@ module _ {E : Type 0} (spells : List ℕ → E → Type 0) (breaks : List ℕ �
 
   -- ---- two chunkings of one body
 
-  -- both whole, or both fronts
+  -- both whole, or both prefixes
   IsKin : ChunkReading → ChunkReading → Type 0
   IsKin (Begins body) (Begins other) = body ≡ other
   IsKin (Begins body) (Whole front other) = ⊥
@@ -238,7 +238,7 @@ module _ {E : Type 0} (spells : List ℕ → E → Type 0) (breaks : List ℕ �
   same_content (Whole front body) (Broken following c other fault) is = absurd is
   same_content (Broken front c body fault) l is = absurd is
 
-  -- where the framing decides of both
+  -- if the framing determines both
   outer_alike : (k l : ChunkReading) (values others : List E) (m n : Mark) → IsKin k l → values ≡ others → IsMark k values m → IsMark l others n → IsAlike (outer_of k values m) (outer_of l others n)
   unfolding IsKin IsMark outer_of
   outer_alike (Begins body) (Begins other) values others m n is same h g = same
@@ -252,7 +252,7 @@ module _ {E : Type 0} (spells : List ℕ → E → Type 0) (breaks : List ℕ �
   outer_alike (Whole front body) (Broken following c other fault) values others m n is same h g = absurd is
   outer_alike (Broken front c body fault) l values others m n is same h g = absurd is
 
-  -- what decides makes the data read so
+  -- the reading of the data, from what determines it
   plain_found : (w : List ℕ) (reading : StreamReading E) (k : ChunkReading) → ReadsChunks w k → Found w reading → PlainReading E
   unfolding Found
   plain_found w reading k reads (inl f) = plain.Goes f.values
@@ -309,7 +309,7 @@ same_chunking spells limit w v body values first second (other, whole, records) 
     let same : other ≡ body = cc in
     (body, second, rw same at records)
 
--- and of the same front of one
+-- any other chunking of the same prefix of a body
 pub same_front : {E : Type 0} (spells : List ℕ → E → Type 0) (limit : ℕ) (w v body : List ℕ) (values : List E) → IsOpen w body → IsOpen v body → Live spells limit w values → Live spells limit v values
 same_front spells limit w v body values first second (other, begun, live) =
     let both : Begins other ≡ Begins body = one_reading w (Begins other) (Begins body) begun first in

@@ -1,4 +1,4 @@
--- What stops a reading by one account of refusals stops it by any wider account.
+-- An error permitted by one definition of `breaks` is permitted by any wider one.
 use Rattle.std.proofs.Common.{◌≡◌, ℕ, ◌-◌, inl, inr, Option, List, [], ◌∷◌, ◌++◌, take, Result, Ok, Err, refl, sym, subst}
 use Rattle.std.specs.Prelude.{slice_index}
 use Rattle.mes_frame.specs.declared.counts.Counts.{Counts}
@@ -68,7 +68,7 @@ module _ {E : Type 0} (spells : List ℕ → E → Type 0) (breaks wide : List �
   chunked_shows ahead limit w values c ReadsSpent h = h
   chunked_shows ahead limit w values c (BadEntry at) (body, before, following, h) = (body, before, following, body_shows ahead limit body values c (BadEntry at) h)
 
-  -- a byte that stops a reading
+  -- a byte with an error
   pub stops_wider : (framing : Framing) (ahead limit : ℕ) (w : List ℕ) (values : List E) (c : ℕ) (fault : Fault) → ByteStopsIn framing spells breaks ahead limit w values c fault
       → ByteStopsIn framing spells wide ahead limit w values c fault
   stops_wider Plain ahead limit w values c fault (inl h) = inl (body_shows ahead limit w values c fault h)
@@ -81,7 +81,7 @@ module _ {E : Type 0} (spells : List ℕ → E → Type 0) (breaks wide : List �
   within_wider framing ahead limit w values fault n h =
       record { front = h.front; byte = h.byte; rest = h.rest; is = h.is; used = h.used; live = h.live; stops = stops_wider framing ahead limit h.front values h.byte fault h.stops }
 
-  -- what a byte of the last piece did
+  -- the effect of a byte of the last piece
   pub byte_ends_wider : (framing : Framing) (ahead : Ahead) (limit : ℕ) (w : List ℕ) (values : List E) (outcome : Result Report Stop) → ByteEndsAfter framing spells breaks ahead limit w values outcome
       → ByteEndsAfter framing spells wide ahead limit w values outcome
   byte_ends_wider framing ahead limit w values (Ok report) h = h
@@ -93,7 +93,7 @@ module _ {E : Type 0} (spells : List ℕ → E → Type 0) (breaks wide : List �
   reading_wider framing limit reads old new last w values outcome (inl (h, made)) = inl (byte_ends_wider framing nothing_ahead limit w values outcome h, made)
   reading_wider framing limit reads old new last w values outcome (inr h) = inr h
 
-  -- what became of a piece
+  -- the result for a piece
   pub takes_wider : {R T : Type 0} (holds : R → List ℕ → Type 0) (ahead : Ahead) (new : Reading R) (framing : Framing) (limit : ℕ) (w : List ℕ) (values : List E) (piece : List ℕ) (old now : List E) (result : Result T ReadingStop)
       → ReadingTakesAfter holds spells breaks ahead new framing limit w values piece old now result → ReadingTakesAfter holds spells wide ahead new framing limit w values piece old now result
   takes_wider holds ahead new framing limit w values piece old now (Ok done) h = h
@@ -111,7 +111,7 @@ lost_at : {E : Type 0} (framing : Framing) (spells : List ℕ → E → Type 0) 
 lost_at Plain spells breaks ahead limit w values c value h = inr (refl, lost_in spells breaks limit w values c value h)
 lost_at Chunked spells breaks ahead limit w values c value (body, before, following, h) = inr (refl, (body, before, following, lost_in spells breaks limit body values c value h))
 
--- a record has ended whose value was not added to a list
+-- a record has ended whose value was not appended to a list
 pub refused_into : {R E : Type 0} (holds : R → List ℕ → Type 0) (spells : List ℕ → E → Type 0) (breaks : List ℕ → RecordError → Type 0) (framing : Framing) (ahead limit : ℕ) (Represents : Body R → List ℕ → List E → Type 0)
     (w : List ℕ) (values : List E) (piece : List ℕ) (used : ℕ) (old new : Body R) (r : List ℕ) (before after : List E) (why : RecordError) → new.records ≡ old.records
     → ((now : Body R) (answer : Result E RecordError) → now.records ≡ old.records → Ends holds spells breaks old now r answer → SaysIn framing (Represents now) spells breaks ahead limit w values piece used (record_answer now.done answer))

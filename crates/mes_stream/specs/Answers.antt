@@ -1,4 +1,4 @@
--- The outcome of reading a stream of events from a device.
+-- The result of reading a stream of events from a device.
 use Rattle.std.specs.Prelude.{◌≡◌, ◌≢◌, ℕ, List, ◌++◌, Option, None, Some, Result, Ok, Err}
 use Rattle.std.specs.Io.KnownBytes.{Consumes}
 use Rattle.mes_frame.specs.declared.counts.Counts.{Counts}
@@ -12,7 +12,7 @@ use Rattle.mes_stream.specs.declared.fault.Stop.{Stop}
 use Rattle.mes_stream.specs.declared.stream_reader.Framing.{Framing}
 use Rattle.mes_stream.specs.declared.stream_reader.Framing.TheVariants.{Plain, Chunked}
 
--- a device with the bytes w was read as a stream of that framing, in at most `reads` reads, with these events and this outcome
+-- a device with the bytes w, read at most `reads` times, gave these events and this result
 pub record AnswersIn (framing : Framing) (limit : ℕ) (w : List ℕ) (events : List Event) (outcome : Result Report Stop) : Type 0 where
   pub reads : ℕ
   pub old : Counts
@@ -22,31 +22,31 @@ pub record AnswersIn (framing : Framing) (limit : ℕ) (w : List ℕ) (events : 
   pub consumes : Consumes (Some w) left taken
   pub ends : EndsReading framing Spells IsEventRefusal limit reads old new left taken events outcome
 
--- by `read_stream`, and by `read_plain`
+-- `AnswersIn` for `read_stream`, and for `read_plain`
 abbrev pub AnswersStream : ℕ → List ℕ → List Event → Result Report Stop → Type 0
 AnswersStream limit w events outcome = AnswersIn Chunked limit w events outcome
 
 abbrev pub AnswersPlain : ℕ → List ℕ → List Event → Result Report Stop → Type 0
 AnswersPlain limit w events outcome = AnswersIn Plain limit w events outcome
 
--- the bytes decided the outcome: no call of the device failed, as many reads were made as were needed, and memory was there
+-- the bytes decided the result: no read and no allocation failed, and the reads sufficed
 abbrev pub IsDecidedByBytes : Result Report Stop → Type 0
 IsDecidedByBytes (Ok report) = Unit {0}
 IsDecidedByBytes (Err stop) = (stop.fault ≢ NoMemory) × (stop.fault ≢ Read) × (stop.fault ≢ ReadsSpent)
 
--- both came to the end, or both to the same fault
+-- both results are the end of the stream, or both are the same error
 abbrev pub EndsAlike : Result Report Stop → Result Report Stop → Type 0
 EndsAlike (Ok report) (Ok other) = Unit {0}
 EndsAlike (Ok report) (Err stop) = ⊥
 EndsAlike (Err stop) (Ok report) = ⊥
 EndsAlike (Err stop) (Err other) = stop.fault ≡ other.fault
 
--- the bytes after the end of the stream: those in the report, and those that the device has left
+-- the bytes after the end of the stream: those in the report, then those left in the device
 abbrev pub bytes_after : Report → Option (List ℕ) → List ℕ
 bytes_after report None = report.rest.items
 bytes_after report (Some left) = report.rest.items ++ left
 
--- the same outcome: an end after the same number of bytes, with the same bytes after it; or the same fault after the same number of bytes
+-- the same result, number of bytes used, and bytes after the end
 abbrev pub IsSameOutcome : Option (List ℕ) → Option (List ℕ) → Result Report Stop → Result Report Stop → Type 0
 IsSameOutcome left more (Ok report) (Ok other) = (report.used ≡ other.used) × (bytes_after report left ≡ bytes_after other more)
 IsSameOutcome left more (Ok report) (Err stop) = ⊥

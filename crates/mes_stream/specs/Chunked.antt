@@ -1,4 +1,4 @@
--- A stream of values as records in a chunked body.
+-- A stream of values as records in a chunked body (RFC 9112 section 7.1).
 use Rattle.std.specs.Prelude.{◌≡◌, ℕ, ◌⊎◌, List, [], ◌∷◌, ◌++◌}
 use Rattle.mes_frame.specs.Chunk.{IsChunked}
 use Rattle.mes_frame.specs.ChunkFront.{IsOpen}
@@ -8,25 +8,23 @@ use Rattle.mes_stream.specs.Stream.{Records, BodyLive, EndsInside, EndsRecord, H
 use Rattle.mes_stream.specs.declared.fault.Fault.{Fault}
 use Rattle.mes_stream.specs.declared.fault.Fault.TheVariants.{Frame, EndsInsideChunks, EndsInsideRecord, Text, Field, NoMemory, Read, ReadsSpent, BadEntry}
 
--- w is a whole chunked body, and its data are records that spell the values
+-- w is a whole chunked body, and its data are records of the values
 abbrev pub IsStream : {E : Type 0} → (List ℕ → E → Type 0) → ℕ → List ℕ → List E → Type 0
 IsStream spells limit w values = (body : List ℕ) × IsChunked w body × Records spells limit body values
 
--- w has begun a chunked body and not ended it, and its data so far are such records and perhaps the front of one more
+-- w is a prefix of a chunked body; its data are records of the values, and perhaps part of one
 abbrev pub Live : {E : Type 0} → (List ℕ → E → Type 0) → ℕ → List ℕ → List E → Type 0
 Live spells limit w values = (body : List ℕ) × IsOpen w body × BodyLive spells limit body values
 
--- the byte c behind w is a byte of the body, of which this holds
+-- the byte c after w is a byte of the body's data, and `Is` holds of the data before it
 abbrev pub AtData : {E : Type 0} → (List ℕ → List E → Type 0) → List ℕ → List E → ℕ → Type 0
 AtData Is w values c = (body : List ℕ) × IsOpen w body × IsOpen (w ++ c ∷ []) (body ++ c ∷ []) × Is body values
 
--- the byte c behind w ends a record whose data spell the value
+-- the byte c after w ends a record whose data represent the value
 abbrev pub EndsWith : {E : Type 0} → (List ℕ → E → Type 0) → ℕ → List ℕ → List E → ℕ → E → Type 0
 EndsWith spells limit w values c value = AtData (λ body vs. EndsRecord spells limit body vs c (HasValue spells value)) w values c
 
--- The byte c behind w, which is live with the values, shows the fault: no chunked body has it there (F1 to F5); it is a byte
--- of the body and shows it there (F7 to F9, F11, F12, and F16 where `breaks` knows bad entries); or it ends the body inside a
--- record (F10).
+-- the byte c after w is an error: of the framing, of a record, or an early end of the body
 abbrev pub ChunkedShows : {E : Type 0} → (List ℕ → E → Type 0) → (List ℕ → RecordError → Type 0) → ℕ → ℕ → List ℕ → List E → ℕ → Fault → Type 0
 ChunkedShows spells breaks ahead limit w values c (Frame fault) =
     ((body : List ℕ) × ChunkShows w body c fault × BodyLive spells limit body values)
@@ -44,7 +42,7 @@ ChunkedShows spells breaks ahead limit w values c ReadsSpent = ⊥
 ChunkedShows spells breaks ahead limit w values c (BadEntry at_record) =
     AtData (λ body vs. BodyShows spells breaks ahead limit body vs c (BadEntry at_record)) w values c
 
--- the byte c shows the fault, or an allocation failed at it, for data of which `breaks` allows that
+-- the byte c is an error, or an allocation failed at it, if `breaks` permits that for the data
 abbrev pub ChunkedStops : {E : Type 0} → (List ℕ → E → Type 0) → (List ℕ → RecordError → Type 0) → ℕ → ℕ → List ℕ → List E → ℕ → Fault → Type 0
 ChunkedStops spells breaks ahead limit w values c fault =
     ChunkedShows spells breaks ahead limit w values c fault ⊎ ((fault ≡ NoMemory) × AtData (λ body vs. RunsOut spells breaks limit body vs c) w values c)

@@ -1,4 +1,4 @@
--- What a decoder of a chunked stream stands for, and what it keeps of the end.
+-- The state of a decoder of a chunked stream, and what it may buffer.
 use Rattle.std.specs.Prelude.{◌≡◌, ℕ, ◌≤◌, List, Option, None, Some, Result, Ok, Err}
 use Rattle.mes_frame.specs.ChunkFront.{IsOpen}
 use Rattle.mes_frame.specs.Record.{Begun}
@@ -28,36 +28,36 @@ abbrev pub DecoderStateRepresents : {R E : Type 0} → (R → List ℕ → Type 
 DecoderStateRepresents holds spells (state.Going stream) limit w values = StreamRepresents holds spells 0 stream Chunked limit w values
 DecoderStateRepresents holds spells (state.Ended end) limit w values = ⊥
 
--- the decoder has taken w, which is live with the values under that limit; after the end or a fault it stands for no bytes
+-- the decoder has consumed w, a prefix of a stream with the values; false after the end or an error
 abbrev pub DecoderRepresents : {R E : Type 0} → (R → List ℕ → Type 0) → (List ℕ → E → Type 0) → RecordDecoder R → ℕ → List ℕ → List E → Type 0
 DecoderRepresents holds spells d limit w values = DecoderStateRepresents holds spells d.state limit w values
 
--- what is answered from then on
+-- the result of every call after the end or the error
 abbrev pub answer_of : {E : Type 0} → StreamEnd → Decoded E Fault
 answer_of Closed = out.End
 answer_of (Failed fault) = out.Fault fault
 
--- what it means that the input has no more bytes
+-- the result of `finish`
 abbrev pub finish_of : Option StreamEnd → Result (Unit {0}) Fault
 finish_of None = Err EndsInsideChunks
 finish_of (Some Closed) = Ok tt
 finish_of (Some (Failed fault)) = Err fault
 
--- the end that is kept behind an answer
+-- the end that the decoder remembers after a result
 abbrev pub EndsBy : {E : Type 0} → Option StreamEnd → Decoded E Fault → Type 0
 EndsBy end out.More = end ≡ None
 EndsBy end (out.Event value) = end ≡ None
 EndsBy end out.End = end ≡ Some Closed
 EndsBy end (out.Fault fault) = end ≡ Some (Failed fault)
 
--- n is at most what may be kept of the data, so far, of the record that has begun
+-- n is at most what may be buffered of the data of the incomplete record
 abbrev pub HoldsInBody : {E : Type 0} → (List ℕ → E → Type 0) → (List ℕ → ℕ) → ℕ → List ℕ → List E → ℕ → Type 0
 HoldsInBody spells room limit b values n = Following spells limit (λ x. (r : List ℕ) × Begun x r limit × (n ≤ room r)) b values
 
 abbrev pub HoldsOf : {E : Type 0} → (List ℕ → E → Type 0) → (List ℕ → ℕ) → ℕ → List ℕ → List E → ℕ → Type 0
 HoldsOf spells room limit w values n = (body : List ℕ) × IsOpen w body × HoldsInBody spells room limit body values n
 
--- the same of a stream of either framing
+-- like `HoldsInBody`, for a stream of either framing
 abbrev pub HoldsIn : {E : Type 0} → Framing → (List ℕ → E → Type 0) → (List ℕ → ℕ) → ℕ → List ℕ → List E → ℕ → Type 0
 HoldsIn Plain spells room limit w values n = HoldsInBody spells room limit w values n
 HoldsIn Chunked spells room limit w values n = HoldsOf spells room limit w values n

@@ -1,4 +1,4 @@
--- What a reader of a chunked stream stands for, and what a decoder answers to a piece of the stream.
+-- The state of a reader of a chunked stream, and the meaning of a step.
 use Rattle.std.specs.Prelude.{ℕ, ◌<◌, ◌≤◌, List, [], ◌∷◌, ◌++◌, length, take, slice_index}
 use Rattle.mes_frame.specs.ChunkFront.{IsOpen}
 use Rattle.mes_frame.specs.ChunkState.{ChunkRepresents}
@@ -11,28 +11,27 @@ use Rattle.mes_stream.specs.declared.record_error.RecordError.{RecordError}
 use Rattle.mes_stream.specs.declared.stream_reader.Framing.TheVariants.{Chunked}
 use Rattle.mes_stream.specs.declared.step.Decoded.{Decoded}
 
--- the reader has taken w, whose data so far are records that spell the values and perhaps the front of one more
+-- the reader has consumed w, whose data are records of the values and perhaps part of one more
 pub record ChunkedRepresents {R E : Type 0} (holds : R → List ℕ → Type 0) (spells : List ℕ → E → Type 0) (ahead : ℕ) (d : ChunkedBody R) (w : List ℕ) (values : List E) : Type 0 where
   pub content : List ℕ
   pub chunks : ChunkRepresents d.chunks w content
   pub body : BodyRepresents holds spells ahead d.body content values
 
--- the byte of the piece at that place is one of the data of a chunked body, and run are the data of the piece before it
+-- the byte at that index is data of the chunked body; run is the data of the piece before it
 pub record IsDataAt (w body piece run : List ℕ) (at : ℕ) : Type 0 where
   pub front : IsOpen (w ++ take at piece) (body ++ run)
   pub next : IsOpen ((w ++ take at piece) ++ slice_index piece at ∷ []) ((body ++ run) ++ slice_index piece at ∷ [])
 
--- So many bytes of a piece were taken behind w, the front of a body with the data `body`, and these data stand among them, each at
--- one of the places. It goes on behind each byte.
+-- `used` bytes of a piece were consumed after w; their data is `run`, and `places` their indices
 pub record Gathers (new : ChunkState) (w body piece : List ℕ) (used : ℕ) (run places : List ℕ) : Type 0 where
   pub represents : ChunkRepresents new (w ++ take used piece) (body ++ run)
   pub fronts : (n : ℕ) → n ≤ used → (d : List ℕ) × (length d ≤ length run) × IsOpen (w ++ take n piece) (body ++ d)
   pub each : (k : ℕ) → k < length run → IsDataAt w body piece (take k run) (slice_index places k)
 
--- what a call says of the bytes that it used, in a chunked stream
+-- the meaning of a step in a chunked stream
 abbrev pub Says : {E : Type 0} → (List ℕ → List E → Type 0) → (List ℕ → E → Type 0) → (List ℕ → RecordError → Type 0) → ℕ → List ℕ → List E → List ℕ → ℕ → Decoded E Fault → Type 0
 Says Represents spells breaks limit w values piece used answer = SaysIn Chunked Represents spells breaks 0 limit w values piece used answer
 
--- before the last byte that was used all is live with the same values
+-- before the last byte used no record ends, and there is no error
 abbrev pub LiveBefore : {E : Type 0} → (List ℕ → E → Type 0) → ℕ → List ℕ → List E → List ℕ → ℕ → Type 0
 LiveBefore spells limit w values piece used = GoesBefore Chunked spells limit w values piece used

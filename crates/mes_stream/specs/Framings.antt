@@ -1,4 +1,4 @@
--- A stream of values by its framing: records one behind the other, or records in a chunked body.
+-- A stream of values by its framing: consecutive records, or records in a chunked body.
 use Rattle.std.specs.Prelude.{◌≡◌, ℕ, ◌+◌, ◌-◌, ◌<◌, List, [], ◌∷◌, ◌++◌, length, take, slice_index, Result, Ok, Err}
 use Rattle.mes_frame.specs.ChunkFront.{IsOpen}
 use Rattle.mes_stream.specs.declared.record_error.RecordError.{RecordError}
@@ -11,33 +11,32 @@ use Rattle.mes_stream.specs.declared.step.Decoded.TheVariants as out
 use Rattle.mes_stream.specs.declared.stream_reader.Framing.{Framing}
 use Rattle.mes_stream.specs.declared.stream_reader.Framing.TheVariants.{Plain, Chunked}
 
--- w is the front of a stream that has the values so far, and no byte of it ends the stream
+-- w is a prefix of a stream with these values so far, and no byte of it ends the stream
 abbrev pub GoesIn : {E : Type 0} → Framing → (List ℕ → E → Type 0) → ℕ → List ℕ → List E → Type 0
 GoesIn Plain spells limit w values = BodyLive spells limit w values
 GoesIn Chunked spells limit w values = Live spells limit w values
 
--- and its records so far are whole
+-- w is such a prefix, and no record is incomplete
 abbrev pub WholeIn : {E : Type 0} → Framing → (List ℕ → E → Type 0) → ℕ → List ℕ → List E → Type 0
 WholeIn Plain spells limit w values = Records spells limit w values
 WholeIn Chunked spells limit w values = (body : List ℕ) × IsOpen w body × Records spells limit body values
 
--- the last byte of w ends a stream of the values; records one behind the other have no such byte
+-- the last byte of w ends a stream of the values; plain RecordIO has no such byte
 abbrev pub EndsIn : {E : Type 0} → Framing → (List ℕ → E → Type 0) → ℕ → List ℕ → List E → Type 0
 EndsIn Plain spells limit w values = ⊥
 EndsIn Chunked spells limit w values = IsStream spells limit w values
 
--- the byte c behind w ends a record whose data spell the value
+-- the byte c after w ends a record whose data represent the value
 abbrev pub EndsRecordIn : {E : Type 0} → Framing → (List ℕ → E → Type 0) → ℕ → List ℕ → List E → ℕ → E → Type 0
 EndsRecordIn Plain spells limit w values c value = EndsRecord spells limit w values c (HasValue spells value)
 EndsRecordIn Chunked spells limit w values c value = EndsWith spells limit w values c value
 
--- the byte c behind w shows the fault, or memory was refused at it
+-- the byte c after w is an error, or an allocation failed at it
 abbrev pub ByteStopsIn : {E : Type 0} → Framing → (List ℕ → E → Type 0) → (List ℕ → RecordError → Type 0) → ℕ → ℕ → List ℕ → List E → ℕ → Fault → Type 0
 ByteStopsIn Plain spells breaks ahead limit w values c fault = BodyStops spells breaks ahead limit w values c fault
 ByteStopsIn Chunked spells breaks ahead limit w values c fault = ChunkedStops spells breaks ahead limit w values c fault
 
--- What a call that uses so many bytes of a piece says of them, behind w, which goes on with the values: they were taken; a
--- record ended with the last of them; the stream did; or the last of them stops the reading.
+-- the meaning of a step that used `used` bytes after w, for each result
 abbrev pub SaysIn : {E : Type 0} → Framing → (List ℕ → List E → Type 0) → (List ℕ → E → Type 0) → (List ℕ → RecordError → Type 0) → ℕ → ℕ → List ℕ → List E → List ℕ → ℕ → Decoded E Fault → Type 0
 SaysIn framing Represents spells breaks ahead limit w values piece used out.More = Represents (w ++ take used piece) values
 SaysIn framing Represents spells breaks ahead limit w values piece used (out.Event value) =
@@ -47,19 +46,18 @@ SaysIn framing Represents spells breaks ahead limit w values piece used out.End 
 SaysIn framing Represents spells breaks ahead limit w values piece used (out.Fault fault) =
     ByteStopsIn framing spells breaks ahead limit (w ++ take (used - 1) piece) values (slice_index piece (used - 1)) fault
 
--- before the last byte that was used all goes on with the same values
+-- before the last byte used no record ends, and there is no error
 abbrev pub GoesBefore : {E : Type 0} → Framing → (List ℕ → E → Type 0) → ℕ → List ℕ → List E → List ℕ → ℕ → Type 0
 GoesBefore framing spells limit w values piece used = (n : ℕ) → n < used → GoesIn framing spells limit (w ++ take n piece) values
 
--- What it means that the input ends behind w: records one behind the other end there, or one of them has begun (F10); a chunked
--- body has not ended (F6).
+-- the end of the input after w: Ok between records, F10 inside one, F6 inside a chunked body
 abbrev pub InputEnds : {E T : Type 0} → Framing → (List ℕ → E → Type 0) → ℕ → List ℕ → List E → Result T Fault → Type 0
 InputEnds Plain spells limit w values (Ok done) = Records spells limit w values
 InputEnds Plain spells limit w values (Err fault) = EndsInside spells limit w values × (fault ≡ EndsInsideRecord)
 InputEnds Chunked spells limit w values (Ok done) = ⊥
 InputEnds Chunked spells limit w values (Err fault) = Live spells limit w values × (fault ≡ EndsInsideChunks)
 
--- the first n bytes of w stop the reading with their last
+-- the error is detected at the last of the first n bytes of w
 pub record StopsWithin {E : Type 0} (framing : Framing) (spells : List ℕ → E → Type 0) (breaks : List ℕ → RecordError → Type 0) (ahead limit : ℕ) (w : List ℕ) (values : List E) (fault : Fault) (n : ℕ) : Type 0 where
   pub front : List ℕ
   pub byte : ℕ

@@ -1,5 +1,5 @@
--- How many bytes of records a reader holds: the sum over all its fields. Each definition takes its type apart and names every field, so a
--- field that is added needs a term here.
+-- The number of bytes of records that a reader buffers: the sum over all its fields. Each
+-- definition names every field, so a new field needs a term here.
 use Rattle.std.specs.Prelude.{ℕ, ◌+◌}
 use Rattle.mes_stream.specs.declared.record_body.Body.{Body}
 use Rattle.mes_stream.specs.declared.chunked_body.ChunkedBody.{ChunkedBody}
@@ -10,12 +10,11 @@ use Rattle.mes_stream.specs.declared.counted_reader.Reading.{Reading}
 use Rattle.mes_stream.specs.declared.stream_reader.StreamReader.{StreamReader}
 use Rattle.mes_stream.specs.declared.stream_reader.StreamReader.TheVariants as reader
 
--- a field of fixed size, which holds no byte of a record: a number, a state of the framing, an allocator, how a stream ended, the bytes
--- after the end
+-- a field of fixed size, which buffers no byte of a record, such as a number or an allocator
 abbrev pub fixed : {A : Type 0} → A → ℕ
 fixed field = 0
 
--- by what the reader of records holds
+-- given the number of bytes that the reader of records buffers
 abbrev pub held_by_body : {R : Type 0} → (R → ℕ) → Body R → ℕ
 held_by_body kept d = let record { records = records; reader = inner; done = done } = d in fixed records + kept inner + fixed done
 

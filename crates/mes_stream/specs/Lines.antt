@@ -1,4 +1,4 @@
--- The lines that are printed of a stream, without their LF.
+-- The printed lines of a stream, without LF.
 use Rattle.std.specs.Prelude.{ℕ, List, [], ◌∷◌, ◌++◌, codes, decimal}
 use Rattle.mes_frame.specs.declared.fault.FrameFault.TheVariants.{BadChunkLine, ChunkLineTooLong, ChunkTooLarge, BadChunkEnd, TrailersTooLong, BadSizeLine, SizeLineTooLong, RecordTooLarge}
 use Rattle.mes_json.specs.declared.fault.TextFaultKind.{TextFaultKind}
@@ -9,7 +9,7 @@ use Rattle.mes_stream.specs.declared.fault.Fault.TheVariants.{Frame, EndsInsideC
 use Rattle.mes_model_schema.specs.Paths.{path_text}
 use Rattle.mes_model_schema.specs.FieldFaultKinds.{field_fault_kind_name}
 
--- a fault's number and name
+-- the number and the name of an error
 abbrev pub fault_title : Fault → List ℕ
 fault_title (Frame BadChunkLine) = codes "F1 BadChunkLine"
 fault_title (Frame ChunkLineTooLong) = codes "F2 ChunkLineTooLong"
@@ -28,13 +28,13 @@ fault_title Read = codes "F14 Read"
 fault_title ReadsSpent = codes "F15 ReadsSpent"
 fault_title (BadEntry at_record) = codes "F16 BadEntry"
 
--- why bytes are no JSON text
+-- the reason for which bytes are not JSON
 abbrev pub text_fault_kind_name : TextFaultKind → List ℕ
 text_fault_kind_name End = codes "End"
 text_fault_kind_name Depth = codes "Depth"
 text_fault_kind_name Byte = codes "Byte"
 
--- the words that say where a record is at fault and why
+-- the words for the record, the place in it and the reason
 abbrev pub details : Fault → List (List ℕ)
 details (Frame f) = []
 details EndsInsideChunks = []
@@ -48,10 +48,8 @@ details Read = []
 details ReadsSpent = []
 details (BadEntry at_record) = codes "record" ∷ decimal at_record ∷ []
 
--- `fault F10 EndsInsideRecord after 12`, `fault F12 Field record 1 type Missing after 4`
 abbrev pub fault_text : Fault → ℕ → List ℕ
 fault_text f used = codes "fault" ++ spaced (fault_title f ∷ details f ++ codes "after" ∷ decimal used ∷ [])
 
--- `events 2 bytes 57`
 abbrev pub count_text : ℕ → ℕ → List ℕ
 count_text events used = codes "events" ++ spaced (decimal events ∷ codes "bytes" ∷ decimal used ∷ [])

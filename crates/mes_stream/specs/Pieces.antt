@@ -1,4 +1,4 @@
--- What a decoder of events returns for a list of pieces.
+-- The results of a decoder of events for a list of pieces.
 use Rattle.std.specs.Prelude.{◌≡◌, ◌≢◌, ℕ, ◌+◌, ◌<◌, ◌≤◌, List, [], ◌∷◌, ◌++◌, length, drop, Option, None, Some}
 use Rattle.mes_msg.specs.Events.{Spells}
 use Rattle.mes_msg.specs.Event.{Event}
@@ -15,7 +15,7 @@ use Rattle.mes_stream.specs.declared.fault.Fault.TheVariants.{NoMemory}
 use Rattle.mes_stream.specs.declared.step.Decoded.{Decoded}
 use Rattle.mes_stream.specs.declared.step.Decoded.TheVariants as out
 
--- a call of `next` that used so many bytes of the piece and returned the answer: what the contract of `next` ensures of it
+-- a call of `next` that used `used` bytes and returned the result, as its contract states
 pub record IsNext (old new : RecordDecoder EventReader) (piece : List ℕ) (used : ℕ) (answer : Decoded Event Fault) : Type 0 where
   pub says : (limit : ℕ) (w : List ℕ) (events : List Event) → DecoderRepresents HoldsData Spells old limit w events
       → Says (DecoderRepresents HoldsData Spells new limit) Spells IsEventRefusal limit w events piece used answer
@@ -23,7 +23,7 @@ pub record IsNext (old new : RecordDecoder EventReader) (piece : List ℕ) (used
   pub some : (limit : ℕ) (w : List ℕ) (events : List Event) → DecoderRepresents HoldsData Spells old limit w events → answer ≢ out.More → 0 < used
   pub within : used ≤ length piece
 
--- the events that the calls returned, the end or the fault that they came to, if any, and how many bytes they used
+-- the events returned, the end or the error, if any, and the number of bytes used
 pub record DecodeOutcome : Type 0 where
   pub events : List Event
   pub end : Option StreamEnd
@@ -32,12 +32,12 @@ pub record DecodeOutcome : Type 0 where
 abbrev pub decoded : List Event → Option StreamEnd → ℕ → DecodeOutcome
 decoded events end used = record { events = events; end = end; used = used }
 
--- the same with one call more before the others
+-- the same outcome with one more call before the others
 abbrev pub after_call : ℕ → List Event → DecodeOutcome → DecodeOutcome
 after_call used events rest = decoded (events ++ rest.events) rest.end (used + rest.used)
 
--- The decoder was given the pieces in order, by one call after the other: each call was given a piece, or the bytes of it that the call
--- before it did not use. After the end or a fault no more calls were made.
+-- The decoder received the pieces in order. Each call had a piece, or the bytes of it that the call
+-- before did not use. After the end or an error no more calls were made.
 abbrev pub Decodes : RecordDecoder EventReader → List (List ℕ) → List (ℕ × Decoded Event Fault) → DecodeOutcome → Type 0
 Decodes d [] [] outcome = outcome ≡ decoded [] None 0
 Decodes d [] (call ∷ calls) outcome = ⊥
@@ -52,7 +52,7 @@ Decodes d (piece ∷ pieces) ((used, out.End) ∷ calls) outcome =
 Decodes d (piece ∷ pieces) ((used, out.Fault fault) ∷ calls) outcome =
     (new : RecordDecoder EventReader) × IsNext d new piece used (out.Fault fault) × (outcome ≡ decoded [] (Some (Failed fault)) used)
 
--- the pieces in one
+-- the concatenated pieces
 abbrev pub joined : List (List ℕ) → List ℕ
 joined [] = []
 joined (piece ∷ pieces) = piece ++ joined pieces

@@ -1,4 +1,4 @@
--- How the reading of a stream from a device ends.
+-- How reading a stream from a device ends.
 use Rattle.std.specs.Prelude.{◌≡◌, ℕ, ◌+◌, ◌-◌, ◌<◌, ◌⊎◌, Option, ◌≤◌, List, [], ◌∷◌, ◌++◌, length, take, slice_index, None, Some, Result, Ok, Err}
 use Rattle.std.specs.Io.KnownBytes.{IsAtEnd}
 use Rattle.mes_frame.specs.declared.counts.Counts.{Counts}
@@ -25,7 +25,7 @@ use Rattle.mes_stream.specs.declared.device.ReadsEnd.TheVariants.{Stopped, AtEnd
 use Rattle.mes_stream.specs.declared.stream_reader.Framing.{Framing}
 use Rattle.mes_stream.specs.declared.stream_reader.Framing.TheVariants.{Plain, Chunked}
 
--- what stands ahead of the bytes that are spoken of: so many records, of any kind, in so many bytes
+-- the number of records, of any kind, and of bytes before the stream
 pub record Ahead : Type 0 where
   pub records : ℕ
   pub bytes : ℕ
@@ -33,14 +33,14 @@ pub record Ahead : Type 0 where
 abbrev pub nothing_ahead : Ahead
 nothing_ahead = record { records = 0; bytes = 0 }
 
--- a byte among the last 512 of w stops the reading
+-- the error is detected at one of the last 512 bytes of w
 pub record StopsAt {E : Type 0} (framing : Framing) (spells : List ℕ → E → Type 0) (breaks : List ℕ → RecordError → Type 0) (ahead : Ahead) (limit : ℕ) (w : List ℕ) (values : List E) (used : ℕ) (fault : Fault) : Type 0 where
   pub n : ℕ
   pub count : used ≡ saturated (ahead.bytes + n)
   pub stops : StopsWithin framing spells breaks ahead.records limit w values fault n
   pub last : length w < n + MAX_READ
 
--- a byte among the last 512 of w ends the stream, and the rest are the bytes behind it
+-- one of the last 512 bytes of w ends the stream, and the rest are the bytes after it
 pub record EndsAt {E : Type 0} (framing : Framing) (spells : List ℕ → E → Type 0) (ahead : Ahead) (limit : ℕ) (w : List ℕ) (values : List E) (used : ℕ) (rest : List ℕ) : Type 0 where
   pub stream : List ℕ
   pub is : w ≡ stream ++ rest
@@ -48,27 +48,27 @@ pub record EndsAt {E : Type 0} (framing : Framing) (spells : List ℕ → E → 
   pub ends : EndsIn framing spells limit stream values
   pub last : length rest < MAX_READ
 
--- what a byte among the last 512 of w did: it ended the stream, or it stops the reading
+-- one of the last 512 bytes of w ended the stream, or the error was detected there
 abbrev pub ByteEndsAfter : {E : Type 0} → Framing → (List ℕ → E → Type 0) → (List ℕ → RecordError → Type 0) → Ahead → ℕ → List ℕ → List E → Result Report Stop → Type 0
 ByteEndsAfter framing spells breaks ahead limit w values (Ok report) = EndsAt framing spells ahead limit w values report.used report.rest.items
 ByteEndsAfter framing spells breaks ahead limit w values (Err stop) = StopsAt framing spells breaks ahead limit w values stop.used stop.fault
 
--- what the end of the input means behind w, all of which was used
+-- the result of the end of the input after w, all of which was used
 abbrev pub EndMeans : {E : Type 0} → Framing → (List ℕ → E → Type 0) → Ahead → ℕ → List ℕ → List E → Result Report Stop → Type 0
 EndMeans framing spells ahead limit w values (Ok report) =
     InputEnds {T = Unit {0}} framing spells limit w values (Ok tt) × (report.used ≡ saturated (ahead.bytes + length w)) × (report.rest.items ≡ [])
 EndMeans framing spells ahead limit w values (Err stop) =
     InputEnds {T = Unit {0}} framing spells limit w values (Err stop.fault) × (stop.used ≡ saturated (ahead.bytes + length w))
 
--- the stream goes on behind w, all of which was used, and this is why no more was read
+-- the stream continues after w, all of which was used; `fault` is why no more was read
 abbrev pub BreaksOff : {E : Type 0} → Fault → Framing → (List ℕ → E → Type 0) → Ahead → ℕ → List ℕ → List E → Result Report Stop → Type 0
 BreaksOff fault framing spells ahead limit w values (Ok report) = ⊥
 BreaksOff fault framing spells ahead limit w values (Err stop) =
     (stop.fault ≡ fault) × GoesIn framing spells limit w values × (stop.used ≡ saturated (ahead.bytes + length w))
 
--- How reading ended, where w are the bytes that were taken, old and new what the device counted before and after, and last
--- what it has left: a byte ended the stream or stops the reading; the device told its end; a call failed (F14); or as many
--- calls were made as allowed (F15). What each of these means of the bytes is given.
+-- How reading ended, with the bytes w read: at a byte of w; at the device's end; at a failed read
+-- (F14); or after all allowed reads (F15). `old` and `new` are the device's counts, `last` its
+-- bytes left.
 abbrev pub EndsReadingAs : {E : Type 0} → (List ℕ → List E → Result Report Stop → Type 0) → (List ℕ → List E → Result Report Stop → Type 0) → (Fault → List ℕ → List E → Result Report Stop → Type 0)
     → ℕ → Counts → Counts → Option (List ℕ) → List ℕ → List E → Result Report Stop → Type 0
 EndsReadingAs Byte End Off reads old new last w values outcome =
@@ -77,36 +77,36 @@ EndsReadingAs Byte End Off reads old new last w values outcome =
     ⊎ (Off Read w values outcome × SomeReadsMade reads old new w 1 0)
     ⊎ (Off ReadsSpent w values outcome × ReadsMade reads old new w reads 0 0)
 
--- the same where nothing stands ahead
+-- `ByteEndsAfter` with nothing before the stream
 abbrev pub ByteEnds : {E : Type 0} → Framing → (List ℕ → E → Type 0) → (List ℕ → RecordError → Type 0) → ℕ → List ℕ → List E → Result Report Stop → Type 0
 ByteEnds framing spells breaks limit w values outcome = ByteEndsAfter framing spells breaks nothing_ahead limit w values outcome
 
--- and how reading ended
+-- `EndsReadingAs` with nothing before the stream
 abbrev pub EndsReading : {E : Type 0} → Framing → (List ℕ → E → Type 0) → (List ℕ → RecordError → Type 0) → ℕ → ℕ → Counts → Counts → Option (List ℕ) → List ℕ → List E → Result Report Stop → Type 0
 EndsReading framing spells breaks limit reads old new last w values outcome =
     EndsReadingAs (ByteEnds framing spells breaks limit) (EndMeans framing spells nothing_ahead limit) (λ fault. BreaksOff fault framing spells nothing_ahead limit) reads old new last w values outcome
 
--- the same of events in plain RecordIO
+-- `EndsReading` for events in plain RecordIO
 abbrev pub EndsPlain : ℕ → ℕ → Counts → Counts → Option (List ℕ) → List ℕ → List Event → Result Report Stop → Type 0
 EndsPlain limit reads old new last w events outcome = EndsReading Plain Spells IsEventRefusal limit reads old new last w events outcome
 
--- and in a chunked body
+-- `EndsReading` for events in a chunked body
 abbrev pub EndsStream : ℕ → ℕ → Counts → Counts → Option (List ℕ) → List ℕ → List Event → Result Report Stop → Type 0
 EndsStream limit reads old new last w events outcome = EndsReading Chunked Spells IsEventRefusal limit reads old new last w events outcome
 
--- the reading has taken w, which goes on with the values, and counted it
+-- the reading has consumed w, a prefix with the values, and counted it
 abbrev pub ReadingRepresentsAfter : {R E : Type 0} → (R → List ℕ → Type 0) → (List ℕ → E → Type 0) → Ahead → Reading R → Framing → ℕ → List ℕ → List E → Type 0
 ReadingRepresentsAfter holds spells ahead d framing limit w values = StreamRepresents holds spells ahead.records d.stream framing limit w values × (d.used ≡ saturated (ahead.bytes + length w))
 
 abbrev pub ReadingRepresents : {R E : Type 0} → (R → List ℕ → Type 0) → (List ℕ → E → Type 0) → Reading R → Framing → ℕ → List ℕ → List E → Type 0
 ReadingRepresents holds spells d framing limit w values = ReadingRepresentsAfter holds spells nothing_ahead d framing limit w values
 
--- what a reading that has stopped came to
+-- the result of a reading that has stopped
 abbrev pub reported_as : {R : Type 0} → Reading R → ReadingStop → Result Report Stop
 reported_as d reading_stop.Ended = Ok (record { used = d.used; rest = d.rest })
 reported_as d (reading_stop.Fault fault) = Err (record { fault = fault; used = d.used })
 
--- what became of a piece behind w, where the list got the values of the records that ended in it
+-- the result for a piece after w; the list received the values of its records
 abbrev pub ReadingTakesAfter : {R E T : Type 0} → (R → List ℕ → Type 0) → (List ℕ → E → Type 0) → (List ℕ → RecordError → Type 0) → Ahead → Reading R → Framing → ℕ → List ℕ → List E → List ℕ → List E → List E → Result T ReadingStop → Type 0
 ReadingTakesAfter {E = E} holds spells breaks ahead new framing limit w values piece old now (Ok done) =
     (more : List E) × (now ≡ old ++ more) × ReadingRepresentsAfter holds spells ahead new framing limit (w ++ piece) (values ++ more)
@@ -116,8 +116,8 @@ ReadingTakesAfter {E = E} holds spells breaks ahead new framing limit w values p
 abbrev pub ReadingTakes : {R E T : Type 0} → (R → List ℕ → Type 0) → (List ℕ → E → Type 0) → (List ℕ → RecordError → Type 0) → Reading R → Framing → ℕ → List ℕ → List E → List ℕ → List E → List E → Result T ReadingStop → Type 0
 ReadingTakes holds spells breaks new framing limit w values piece old now result = ReadingTakesAfter holds spells breaks nothing_ahead new framing limit w values piece old now result
 
--- What became of a piece behind w up to the end of a record: all of it was taken and none ended; or one ended with the last of the
--- bytes that were used, and before that byte all went on; or a byte of it ended the stream, or stops the reading.
+-- The result for a piece after w up to the end of a record: the piece was used and no record ended;
+-- or a record ended with the last byte used; or the stream ended, or has an error.
 abbrev pub ReadingTakesRecord : {R E : Type 0} → (R → List ℕ → Type 0) → (List ℕ → E → Type 0) → (List ℕ → RecordError → Type 0) → Ahead → Reading R → Framing → ℕ → List ℕ → List E → List ℕ → Result (Option (EndedRecord E)) ReadingStop → Type 0
 ReadingTakesRecord holds spells breaks ahead new framing limit w values piece (Ok None) = ReadingRepresentsAfter holds spells ahead new framing limit (w ++ piece) values
 ReadingTakesRecord holds spells breaks ahead new framing limit w values piece (Ok (Some ended)) =
@@ -127,13 +127,13 @@ ReadingTakesRecord holds spells breaks ahead new framing limit w values piece (O
     × GoesBefore framing spells limit w values piece ended.used
 ReadingTakesRecord holds spells breaks ahead new framing limit w values piece (Err stop) = ByteEndsAfter framing spells breaks ahead limit (w ++ piece) values (reported_as new stop)
 
--- it ended with a byte of the piece
+-- the record ended inside the piece
 abbrev pub EndsWithin : {E T : Type 0} → ℕ → Result (Option (EndedRecord E)) T → Type 0
 EndsWithin len (Ok None) = Unit {0}
 EndsWithin len (Ok (Some ended)) = (0 < ended.used) × (ended.used ≤ len)
 EndsWithin len (Err stop) = Unit {0}
 
--- what the end of the reads means: a stop is told as the reading has it; else what the reading stands for decides
+-- the result for the way in which the reads ended
 abbrev pub MeansAfter : {R E : Type 0} → (R → List ℕ → Type 0) → (List ℕ → E → Type 0) → Ahead → Reading R → ReadsEnd ReadingStop → Result Report Stop → Type 0
 MeansAfter holds spells ahead d (Stopped stop) answer = answer ≡ reported_as d stop
 MeansAfter {E = E} holds spells ahead d AtEnd answer =
@@ -146,14 +146,14 @@ MeansAfter {E = E} holds spells ahead d Spent answer =
 abbrev pub Means : {R E : Type 0} → (R → List ℕ → Type 0) → (List ℕ → E → Type 0) → Reading R → ReadsEnd ReadingStop → Result Report Stop → Type 0
 Means holds spells d end answer = MeansAfter holds spells nothing_ahead d end answer
 
--- The list got the values of the bytes w, by which the reading came from its first state to the other, whatever it had taken before
--- and whatever stands ahead.
+-- From the first state to the second the reading consumed w, and appended its values to the list.
+-- This holds for any bytes before w, and any records before the stream.
 abbrev pub Gathers : {R E : Type 0} → (R → List ℕ → Type 0) → (List ℕ → E → Type 0) → Reading R → List E → Reading R → List E → List ℕ → Type 0
 Gathers {E = E} holds spells first start now to w =
     (ahead : Ahead) (framing : Framing) (limit : ℕ) (v : List ℕ) (before : List E) → ReadingRepresentsAfter holds spells ahead first framing limit v before
     → (more : List E) × (to ≡ start ++ more) × ReadingRepresentsAfter holds spells ahead now framing limit (v ++ w) (before ++ more)
 
--- and a byte of the piece behind them ended the stream, or stops the reading; nothing is kept then
+-- a byte of the piece after w ended the stream or is an error, and nothing is buffered
 abbrev pub GathersLast : {R E : Type 0} → (R → List ℕ → Type 0) → (List ℕ → E → Type 0) → (List ℕ → RecordError → Type 0) → (R → ℕ) → Reading R → List E → Reading R → List E → List ℕ → List ℕ → ReadingStop → Type 0
 GathersLast {E = E} holds spells breaks kept first start now to w piece stop =
     ((ahead : Ahead) (framing : Framing) (limit : ℕ) (v : List ℕ) (before : List E) → ReadingRepresentsAfter holds spells ahead first framing limit v before

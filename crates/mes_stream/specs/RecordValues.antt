@@ -1,14 +1,13 @@
--- What the end of a record adds to a list of values.
+-- What the end of a record appends to a list of values.
 use Rattle.std.specs.Prelude.{◌≡◌, ℕ, ◌⊎◌, List, [], ◌∷◌, ◌++◌, Result, Ok, Err}
 use Rattle.mes_stream.specs.declared.record_error.RecordError.{RecordError}
 use Rattle.mes_stream.specs.declared.record_error.RecordError.TheVariants.{NoMemory}
 
--- why no value of the data was added to a list: the data have none, or they have one and the list could not grow
+-- why no value was appended: the data have none, or the list could not grow
 abbrev pub IsRefused : {E : Type 0} → (List ℕ → E → Type 0) → (List ℕ → RecordError → Type 0) → List ℕ → RecordError → Type 0
 IsRefused {E = E} spells breaks r why = breaks r why ⊎ ((why ≡ NoMemory) × ((value : E) × spells r value))
 
--- The value of the data r was added to the list, or the list is unchanged, and why. If the list could not grow, the reader is ready for
--- the next record.
+-- the value of the data r was appended; or the list is unchanged, for this reason
 abbrev pub AddsValue : {E T : Type 0} → (List ℕ → E → Type 0) → (List ℕ → RecordError → Type 0) → Type 0 → List ℕ → List E → List E → Result T RecordError → Type 0
 AddsValue {E = E} spells breaks IsReady r old new (Ok done) = (value : E) × spells r value × (new ≡ old ++ value ∷ [])
 AddsValue {E = E} spells breaks IsReady r old new (Err why) =

@@ -1,4 +1,4 @@
--- Events sent: the records that they are sent in, and how the sending ends.
+-- The records in which events are sent, and how sending ends.
 use Rattle.std.specs.Prelude.{◌≡◌, ℕ, List, ◌∷◌, ◌++◌, length, Option, All}
 use Rattle.std.specs.List.{flat_map}
 use Rattle.std.specs.Io.KnownBytes.{Appends}
@@ -19,20 +19,20 @@ use Rattle.mes_msg.specs.declared.send_fault.EncodeFaultKind.TheVariants.{TooDee
 use Rattle.mes_msg.specs.declared.send_fault.SendFault.{SendFault}
 use Rattle.mes_msg.specs.declared.send_fault.SendFault.TheVariants.{Encode, NoMemory, Write}
 
--- the canonical texts of the events, each in a record, one behind the other
+-- the concatenated records of the canonical JSON of the events
 abbrev pub records_of : List Event → List ℕ
 records_of events = flat_map (λ event. record_bytes (canonical_text event)) events
 
--- a record of the limit can hold each of the events
+-- each event has canonical JSON that fits a record of `limit` bytes
 abbrev pub AllGood : ℕ → List Event → Type 0
 AllGood limit events = All (λ event. IsGood event limit) events
 
--- no record of the limit can hold the event, and why
+-- the event cannot be encoded, for this reason
 abbrev pub IsBad : ℕ → Event → EncodeFaultKind → Type 0
 IsBad limit event TooDeep = IsEncodeFault event limit refused.TooDeep
 IsBad limit event TooLarge = IsEncodeFault event limit refused.TooLarge
 
--- the event at this place, from 0, is the first of them that is not good, and why
+-- the event at this index, from 0, is the first that cannot be encoded, for this reason
 pub record IsFirstBad (limit : ℕ) (events : List Event) (index : ℕ) (why : EncodeFaultKind) : Type 0 where
   pub front : List Event
   pub event : Event
@@ -42,44 +42,43 @@ pub record IsFirstBad (limit : ℕ) (events : List Event) (index : ℕ) (why : E
   pub good : AllGood limit front
   pub bad : IsBad limit event why
 
--- w is the events, which are good, as plain RecordIO; it is read to them
+-- w is the events as plain RecordIO, and decodes to them
 pub record IsPlainOf (limit : ℕ) (events : List Event) (w : List ℕ) : Type 0 where
   pub good : AllGood limit events
   pub written : w ≡ records_of events
   pub read : Records Spells limit w events
 
--- w is the events, which are good, as a stream in chunks of `most` bytes; it is read to them
+-- w is the events as a stream in chunks of `most` bytes, and decodes to them
 pub record IsStreamOf (limit most : ℕ) (events : List Event) (w : List ℕ) : Type 0 where
   pub good : AllGood limit events
   pub written : IsFrames (records_of events) most w
   pub read : IsStream Spells limit w events
 
--- w went out whole, and no call failed or took none
+-- w was written completely, and no call failed or wrote 0 bytes
 pub record WroteAll {W : Type 0} (written : W → Option (List ℕ)) (counts : W → Counts) (old new : W) (w : List ℕ) : Type 0 where
   pub out : Appends (written old) (written new) w
   pub none_fails : NoneFails (counts old) (counts new)
   pub calls : CallsFor (length w) (counts old) (counts new)
 
--- exactly the first `sent` bytes of w went out, not all of them, and just one call did what `why` says
+-- exactly the first `sent` bytes of w were written, not all; one call failed, or wrote 0 bytes
 pub record WroteSome {W : Type 0} (written : W → Option (List ℕ)) (counts : W → Counts) (old new : W) (w : List ℕ) (fault : WriteFault) : Type 0 where
   pub out : WroteFront (written old) (written new) w fault.sent
   pub last : StopsWrite fault.why (counts old) (counts new)
   pub calls : CallsFor (length w) (counts old) (counts new)
 
--- why the events have not become records
+-- the reason for which the events were not encoded
 abbrev pub IsUnsent : ℕ → List Event → SendFault → Type 0
 IsUnsent limit events (Encode index why) = IsFirstBad limit events index why
 IsUnsent limit events NoMemory = Unit {0}
 IsUnsent limit events (Write fault) = ⊥
 
--- what is told where the event at this place could not be encoded
+-- the error for the event at this index
 abbrev pub fault_at : ℕ → EncodeFault → SendFault
 fault_at index refused.TooDeep = Encode index TooDeep
 fault_at index refused.TooLarge = Encode index TooLarge
 fault_at index refused.NoMemory = NoMemory
 
--- Why the sending ended early, where `Is` says which bytes are to go out: an event is not good, or memory was refused, and the
--- writer is as it was; or the writer stopped.
+-- why sending failed: an encoding error, with nothing written; or the writer failed inside w
 abbrev pub StopsSending : {W : Type 0} → (W → Option (List ℕ)) → (W → Counts) → (List ℕ → Type 0) → ℕ → List Event → W → W → SendFault → Type 0
 StopsSending written counts Is limit events old new (Encode index why) = IsFirstBad limit events index why × (new ≡ old)
 StopsSending written counts Is limit events old new NoMemory = new ≡ old

@@ -1,5 +1,5 @@
--- A stream of values as plain RecordIO: records one behind the other, the data of each spelling a value. Which data spell
--- which value, and why data spell none, are given: `spells` and `breaks`.
+-- A stream of values as plain RecordIO: consecutive records, with data that represent one value
+-- each. `spells` gives the data of each value, and `breaks` the error of data without a value.
 use Rattle.std.specs.Prelude.{◌≡◌, ◌≢◌, ℕ, ◌+◌, ◌-◌, ◌^◌, ◌⊎◌, min, List, [], ◌∷◌, ◌++◌, length}
 use Rattle.mes_frame.specs.Record.{IsRecord, Begun, DataBegun, SizeShows}
 use Rattle.mes_stream.specs.declared.record_error.RecordError.{RecordError}
@@ -7,18 +7,18 @@ use Rattle.mes_stream.specs.declared.record_error.RecordError.TheVariants as ref
 use Rattle.mes_stream.specs.declared.fault.Fault.{Fault}
 use Rattle.mes_stream.specs.declared.fault.Fault.TheVariants.{Frame, EndsInsideChunks, EndsInsideRecord, Text, Field, NoMemory, Read, ReadsSpent, BadEntry}
 
--- a count that stays at 2^64 - 1 once it is there
+-- a count that stays at 2^64 - 1
 abbrev pub saturated : ℕ → ℕ
 saturated n = min n (2 ^ 64 - 1)
 
--- the bytes are records whose data, each of at most limit bytes, spell the values in order
+-- the bytes are records of the values in order, each with at most `limit` bytes of data
 abbrev pub Records : {E : Type 0} → (List ℕ → E → Type 0) → ℕ → List ℕ → List E → Type 0
 Records spells limit b [] = b ≡ []
 Records spells limit b (value ∷ values) =
     (front : List ℕ) × (rest : List ℕ) × (r : List ℕ) × IsRecord front r limit × spells r value × (b ≡ front ++ rest)
     × Records spells limit rest values
 
--- the bytes are such records, and behind them x, of which Is holds
+-- the bytes are such records, followed by x, of which `Is` holds
 pub record Following {E : Type 0} (spells : List ℕ → E → Type 0) (limit : ℕ) (Is : List ℕ → Type 0) (b : List ℕ) (values : List E) : Type 0 where
   pub whole : List ℕ
   pub x : List ℕ
@@ -26,28 +26,27 @@ pub record Following {E : Type 0} (spells : List ℕ → E → Type 0) (limit : 
   pub records : Records spells limit whole values
   pub is : Is x
 
--- the bytes are such records, and perhaps the front of one more
+-- the bytes are such records, and perhaps part of one more
 abbrev pub BodyLive : {E : Type 0} → (List ℕ → E → Type 0) → ℕ → List ℕ → List E → Type 0
 BodyLive spells limit b values = Following spells limit (λ x. (r : List ℕ) × Begun x r limit) b values
 
--- the bytes are such records, and behind them a record that has begun and not ended
+-- the bytes are such records, followed by an incomplete one
 abbrev pub EndsInside : {E : Type 0} → (List ℕ → E → Type 0) → ℕ → List ℕ → List E → Type 0
 EndsInside spells limit b values = Following spells limit (λ x. (x ≢ []) × ((r : List ℕ) × Begun x r limit)) b values
 
--- the number, from 1, of the record behind the values, where so many records stand ahead of theirs
+-- the number, from 1, of the record after the values, if `ahead` records are before the stream
 abbrev pub number_after : {E : Type 0} → ℕ → List E → ℕ
 number_after ahead values = saturated (ahead + length values + 1)
 
--- the byte c behind the bytes b ends a record whose data are r
+-- the byte c after the bytes b ends a record with data of which `Is` holds
 abbrev pub EndsRecord : {E : Type 0} → (List ℕ → E → Type 0) → ℕ → List ℕ → List E → ℕ → (List ℕ → Type 0) → Type 0
 EndsRecord spells limit b values c Is = Following spells limit (λ x. (r : List ℕ) × IsRecord (x ++ c ∷ []) r limit × Is r) b values
 
--- the data are those of the value, and not empty
+-- the data represent the value, and are not empty
 abbrev pub HasValue : {E : Type 0} → (List ℕ → E → Type 0) → E → List ℕ → Type 0
 HasValue spells value r = (r ≢ []) × spells r value
 
--- behind the bytes b, which are live, the byte c shows the fault: no size line has it there, or it ends a record that
--- spells no value
+-- the byte c after b is an error: of a size line, or of the record that it ends
 abbrev pub BodyShows : {E : Type 0} → (List ℕ → E → Type 0) → (List ℕ → RecordError → Type 0) → ℕ → ℕ → List ℕ → List E → ℕ → Fault → Type 0
 BodyShows spells breaks ahead limit b values c (Frame fault) = Following spells limit (λ x. SizeShows x c limit fault) b values
 BodyShows spells breaks ahead limit b values c (Text at_record byte why) =
@@ -62,18 +61,18 @@ BodyShows spells breaks ahead limit b values c ReadsSpent = ⊥
 BodyShows spells breaks ahead limit b values c (BadEntry at_record) =
     EndsRecord spells limit b values c (λ r. breaks r refusal.BadEntry) × (at_record ≡ number_after ahead values)
 
--- the next byte after b is a byte of a record's data, and Is holds of the data before it and of how many are still to come
+-- the byte after b is data of a record; `Is` holds of the data before it and the length to come
 abbrev pub InRecordData : {E : Type 0} → (List ℕ → E → Type 0) → ℕ → List ℕ → List E → (List ℕ → ℕ → Type 0) → Type 0
 InRecordData spells limit b values Is = Following spells limit (λ x. (r : List ℕ) × (left : ℕ) × DataBegun x r left limit × Is r left) b values
 
--- an allocation may fail at the byte c, the next one of a record's data: for the data r before it; or, if c is the last one, for all of them
+-- an allocation may fail at the byte c of a record's data, if `breaks` permits that for them
 abbrev pub MayFail : (List ℕ → RecordError → Type 0) → ℕ → List ℕ → ℕ → Type 0
 MayFail breaks c r left = breaks r refusal.NoMemory ⊎ ((left ≡ 1) × breaks (r ++ c ∷ []) refusal.NoMemory)
 
 abbrev pub RunsOut : {E : Type 0} → (List ℕ → E → Type 0) → (List ℕ → RecordError → Type 0) → ℕ → List ℕ → List E → ℕ → Type 0
 RunsOut spells breaks limit b values c = InRecordData spells limit b values (MayFail breaks c)
 
--- the byte c shows the fault, or an allocation failed at it, for data of which `breaks` allows that
+-- the byte c is an error, or an allocation failed at it, if `breaks` permits that for the data
 abbrev pub BodyStops : {E : Type 0} → (List ℕ → E → Type 0) → (List ℕ → RecordError → Type 0) → ℕ → ℕ → List ℕ → List E → ℕ → Fault → Type 0
 BodyStops spells breaks ahead limit b values c fault =
     BodyShows spells breaks ahead limit b values c fault ⊎ ((fault ≡ NoMemory) × RunsOut spells breaks limit b values c)

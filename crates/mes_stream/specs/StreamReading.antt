@@ -1,25 +1,25 @@
--- What any bytes are to a reader of chunked streams.
+-- The reading of any bytes as a chunked stream.
 use Rattle.std.specs.Prelude.{◌≡◌, ℕ, List, ◌∷◌, ◌++◌}
 use Rattle.mes_stream.specs.declared.record_error.RecordError.{RecordError}
 use Rattle.mes_stream.specs.Chunked.{IsStream, Live, ChunkedShows}
 use Rattle.mes_stream.specs.declared.fault.Fault.{Fault}
 
 pub data StreamReading (E : Type 0) : Type 0 where
-  -- a stream of these values that has not ended
+  -- a prefix of a stream, with these values
   Goes : (values : List E) → StreamReading E
   -- `front` is a whole stream of these values
   Ends : (front : List ℕ) (values : List E) → StreamReading E
-  -- `front`, which is live with these values, and then the byte that shows the fault
+  -- `front`, a prefix with these values, and then the byte at which the error is detected
   Stops : (front : List ℕ) (byte : ℕ) (values : List E) (fault : Fault) → StreamReading E
 
--- the bytes w read so
+-- the bytes w have this reading
 abbrev pub ReadsStream : {E : Type 0} → (List ℕ → E → Type 0) → (List ℕ → RecordError → Type 0) → ℕ → ℕ → List ℕ → StreamReading E → Type 0
 ReadsStream spells breaks ahead limit w (Goes values) = Live spells limit w values
 ReadsStream spells breaks ahead limit w (Ends front values) = (rest : List ℕ) × (w ≡ front ++ rest) × IsStream spells limit front values
 ReadsStream spells breaks ahead limit w (Stops front byte values fault) =
     (rest : List ℕ) × (w ≡ front ++ byte ∷ rest) × ChunkedShows spells breaks ahead limit front values byte fault
 
--- the same values, and the same end
+-- the same values, and the same end or error
 abbrev pub IsAlike : {E : Type 0} → StreamReading E → StreamReading E → Type 0
 IsAlike (Goes values) (Goes others) = values ≡ others
 IsAlike (Goes values) (Ends front others) = ⊥

@@ -1,4 +1,4 @@
--- What a reader of a body of records holds, and what it makes of a run of the body's bytes.
+-- The state of a reader of consecutive records, and the result for a run of bytes.
 use Rattle.std.specs.Prelude.{◌≡◌, ℕ, ◌+◌, ◌^◌, ◌<◌, ◌≤◌, ◌⊎◌, List, [], ◌∷◌, ◌++◌, length, take, slice_index, Result, Ok, Err}
 use Rattle.mes_frame.specs.Record.{IsRecord, Begun, DataBegun, SizeShows}
 use Rattle.mes_frame.specs.RecordState.{RecordStands, RecordPasses, limit_of}
@@ -16,7 +16,7 @@ use Rattle.mes_stream.specs.declared.step.Decoded.TheVariants as out
 use Rattle.mes_stream.specs.declared.record_body.Front.{Front}
 use Rattle.mes_stream.specs.declared.record_body.Front.TheVariants.{Size, Data, Empty, Bad}
 
--- it has taken the bytes b, which are records that spell the values and perhaps the front of one more
+-- the reader has consumed b: records of the values, and perhaps part of one more
 pub record BodyRepresents {R E : Type 0} (holds : R → List ℕ → Type 0) (spells : List ℕ → E → Type 0) (ahead : ℕ) (d : Body R) (b : List ℕ) (values : List E) : Type 0 where
   pub whole : List ℕ
   pub x : List ℕ
@@ -28,14 +28,14 @@ pub record BodyRepresents {R E : Type 0} (holds : R → List ℕ → Type 0) (sp
   pub count : d.done ≡ saturated (ahead + length values)
   pub limit : limit_of d.records < 2 ^ 64
 
--- the front of a run has at least one byte, and no more than the run
+-- the first part of a run has at least one byte, and at most those of the run
 abbrev pub IsWithin : ℕ → Front → Type 0
 IsWithin len (Size count) = (0 < count) × (count ≤ len)
 IsWithin len (Data count last) = (0 < count) × (count ≤ len)
 IsWithin len Empty = Unit {0}
 IsWithin len (Bad fault) = Unit {0}
 
--- what the front of a run is behind x, the front of a record with the data r
+-- what a run begins with after x, a prefix of a record with the data r
 abbrev pub Fronts : RecordState → List ℕ → List ℕ → List ℕ → Front → Type 0
 Fronts new x r run (Size count) =
     RecordStands new (x ++ take count run) r × ((n : ℕ) → n < count → Begun (x ++ take n run) r (limit_of new))
@@ -44,34 +44,34 @@ Fronts new x r run (Data count last) =
 Fronts new x r run Empty = IsRecord (x ++ slice_index run 0 ∷ []) [] (limit_of new)
 Fronts new x r run (Bad fault) = SizeShows x (slice_index run 0) (limit_of new) fault
 
--- a refusal of the record behind so many
+-- the error of the record after `done` others
 abbrev pub fault_of_record : ℕ → RecordError → Fault
 fault_of_record done why = fault_at_record (saturated (done + 1)) why
 
--- the value of the record whose data r has ended, or why there is none; one more record has ended
+-- the value of the complete record with data r, or its error; the count of records is one more
 abbrev pub Ends : {R E : Type 0} → (R → List ℕ → Type 0) → (List ℕ → E → Type 0) → (List ℕ → RecordError → Type 0) → Body R → Body R → List ℕ → Result E RecordError → Type 0
 Ends holds spells breaks old new r (Ok value) = spells r value × holds new.reader [] × (new.done ≡ saturated (old.done + 1))
 Ends holds spells breaks old new r (Err why) = breaks r why × (new.done ≡ saturated (old.done + 1))
 
--- Like `Ends`, where the value was added to a list. If the list could not grow, the record has a value all the same.
+-- like `Ends`, with the value appended to a list; if the list cannot grow, the error is NoMemory
 abbrev pub EndsInto : {R E T : Type 0} → (R → List ℕ → Type 0) → (List ℕ → E → Type 0) → (List ℕ → RecordError → Type 0) → Body R → Body R → List ℕ → List E → List E → Result T RecordError → Type 0
 EndsInto {E = E} holds spells breaks old new r before after (Ok done) = (value : E) × Ends holds spells breaks old new r (Ok value) × (after ≡ before ++ value ∷ [])
 EndsInto {E = E} holds spells breaks old new r before after (Err why) =
     (Ends {E = E} holds spells breaks old new r (Err why) ⊎ ((why ≡ refusal.NoMemory) × ((value : E) × Ends holds spells breaks old new r (Ok value)))) × (after ≡ before)
 
--- what the end of the record of that number is for who reads it
+-- the result for the end of the record of that number
 abbrev pub record_answer : {E : Type 0} → ℕ → Result E RecordError → Decoded E Fault
 record_answer number (Ok value) = out.Event value
 record_answer number (Err why) = out.Fault (fault_at_record number why)
 
--- a record has ended, and whatever its value is read to, that is so
+-- a record has ended, and `IsSo` holds for every value or error that its data have
 abbrev pub HasEnded : {R E : Type 0} → (R → List ℕ → Type 0) → (List ℕ → E → Type 0) → (List ℕ → RecordError → Type 0) → Body R → (Body R → Decoded E Fault → Type 0) → Type 0
 HasEnded {R} {E} holds spells breaks d IsSo =
     (r : List ℕ) × holds d.reader r × (length r < 2 ^ 64)
     × ((after : Body R) (answer : Result E RecordError) → after.records ≡ d.records → Ends holds spells breaks d after r answer → IsSo after (record_answer after.done answer))
 
--- What became of the front of a piece, where the value of a record that ended with it is still to be read. What it stands for
--- then is by its body.
+-- The meaning of a step, if the value of a record that ended is not decoded yet. `Represents` is
+-- the state for a given body.
 abbrev pub Reports : {R E : Type 0} → (R → List ℕ → Type 0) → (List ℕ → E → Type 0) → (List ℕ → RecordError → Type 0) → ℕ → Framing → (Body R → List ℕ → List E → Type 0) → Body R → ℕ → List ℕ → List E → List ℕ → ℕ → Decoded (Unit {0}) Fault → Type 0
 Reports holds spells breaks ahead framing Represents body limit w values piece used out.More = SaysIn framing (Represents body) spells breaks ahead limit w values piece used out.More
 Reports holds spells breaks ahead framing Represents body limit w values piece used (out.Event done) =

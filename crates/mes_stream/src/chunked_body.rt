@@ -1,4 +1,4 @@
-//! Reads the body of a chunked stream, up to its end or its first fault.
+//! Decodes the records in a chunked body. `record_body.rt` decodes the records of its data.
 
 ghost use Rattle.std.specs.Prelude.{◌≡◌, ◌<◌, ◌≤◌, ℕ, List, [], ◌∷◌, ◌++◌, length, slice_index};
 ghost use Rattle.mes_frame.specs.ChunkState.{ChunkRepresents, PassesFraming, remaining_of};
@@ -16,7 +16,8 @@ use arrayvec::ArrayVec;
 use mes_frame::{ChunkOut, ChunkState};
 use mes_json::NoMemoryAt;
 
-/// Reads the body of a chunked stream that has not ended. Behind the end or a fault no more pieces are to be taken.
+/// Decodes a chunked stream up to its end or first error. After either, no more pieces may be
+/// given.
 #[derive(Drop)]
 pub struct ChunkedBody<R> {
     chunks: ChunkState,
@@ -24,7 +25,7 @@ pub struct ChunkedBody<R> {
 }
 
 impl<R: RecordReader> ChunkedBody<R> {
-    /// Before the first byte.
+    /// Returns a reader before the first byte.
     pub(crate) fn new(body: Body<R>) -> ChunkedBody<R>
         ensures represents { (ahead : ℕ) → BodyRepresents R.holds R.spells ahead body [] []
             → ChunkedRepresents R.holds R.spells ahead result [] [] }
@@ -36,7 +37,8 @@ impl<R: RecordReader> ChunkedBody<R> {
         }
     }
 
-    /// Takes short chunks, or bytes of the framing or a run of data, from the front of a piece.
+    /// Consumes bytes from the start of a piece: several short chunks, framing bytes, or a run of
+    /// data.
     pub(crate) fn consume(&mut self, rest: &[u8]) -> Step<(), PackedFault>
         requires { 0 < length rest.now }
         ensures reports { (ahead : ℕ) (w : List ℕ) (values : List R.Value)
@@ -66,7 +68,7 @@ impl<R: RecordReader> ChunkedBody<R> {
         taken
     }
 
-    // The same, where no data come next.
+    // Like [`consume`](Self::consume), if the next byte is not data.
     fn take_between(&mut self, rest: &[u8]) -> Step<(), PackedFault>
         requires some { 0 < length rest.now }
         requires none { remaining_of self.old.chunks ≡ 0 }
@@ -90,7 +92,8 @@ impl<R: RecordReader> ChunkedBody<R> {
         self.take_framing(rest)
     }
 
-    // Takes chunks that are short and plain from the front of a piece, as far as they stand there and the record goes on behind them.
+    // Consumes short chunks without extensions, while the record continues. They are decoded as one
+    // run of data.
     fn take_short(&mut self, rest: &[u8]) -> Step<(), PackedFault>
         ensures reports { (ahead : ℕ) (w : List ℕ) (values : List R.Value)
             → ChunkedRepresents R.holds R.spells ahead self.old w values
@@ -119,7 +122,7 @@ impl<R: RecordReader> ChunkedBody<R> {
         }
     }
 
-    // Takes bytes of the framing from the front of a piece.
+    // Consumes framing bytes from the start of a piece.
     fn take_framing(&mut self, rest: &[u8]) -> Step<(), PackedFault>
         requires some { 0 < length rest.now }
         requires none { remaining_of self.old.chunks ≡ 0 }
@@ -146,7 +149,7 @@ impl<R: RecordReader> ChunkedBody<R> {
         }
     }
 
-    // Takes a byte of the framing.
+    // Consumes one byte of the framing.
     fn frame(&mut self, byte: u8) -> Decoded<(), PackedFault>
         ensures reports { (ahead : ℕ) (w : List ℕ) (values : List R.Value)
             → ChunkedRepresents R.holds R.spells ahead self.old w values
@@ -172,8 +175,8 @@ impl<R: RecordReader> ChunkedBody<R> {
     }
 }
 
-// What was taken from the front of a piece, of chunks that are short: how many bytes, the data among them, and where in the piece each
-// byte of these stands.
+// Short chunks from the start of a piece: the number of bytes used, their data, and the index in
+// the piece of each byte of data.
 #[derive(Drop)]
 struct ShortChunks {
     used: usize,
@@ -181,7 +184,7 @@ struct ShortChunks {
     places: ArrayVec<usize, MAX_GATHERED>,
 }
 
-// Takes chunks that are short and plain from the front of a piece, as far as they stand there with fewer than `most` bytes of data.
+// Collects the data of short chunks from the start of a piece: fewer than `most` bytes.
 fn gather_short_chunks(chunks: &mut ChunkState, piece: &[u8], most: usize) -> ShortChunks
     ensures gathers { (w body : List ℕ) → ChunkRepresents chunks.old w body
         → Gathers chunks.new w body piece.now result.used result.bytes.items result.places.items }
@@ -215,7 +218,8 @@ fn gather_short_chunks(chunks: &mut ChunkState, piece: &[u8], most: usize) -> Sh
     }
 }
 
-// Takes the bytes of the framing at the front of a piece, up to one that ends the stream or stops the reading: how many there are.
+// Consumes framing bytes, and returns their number. It stops before data, and before a byte that
+// ends the stream or is an error.
 fn frame_run(chunks: &mut ChunkState, rest: &[u8]) -> usize
     ensures passes { (w body : List ℕ) → ChunkRepresents chunks.old w body
         → PassesFraming chunks.new w body rest.now result }

@@ -1,4 +1,4 @@
-//! The reading of a stream from a device: what it came to, read by read.
+//! Decodes a stream read by read, and counts the bytes used. `device.rt` makes the reads.
 
 ghost use Rattle.std.specs.Prelude.{◌≡◌, ◌+◌, ◌<◌, ◌≤◌, ℕ, List, [], length};
 ghost use Rattle.mes_stream.specs.Decoders.{HoldsIn};
@@ -20,36 +20,36 @@ use arrayvec::ArrayVec;
 use mes_frame::Limit;
 use std::mem;
 
-/// The reading of a stream of either framing, which counts the bytes that were used.
+/// Decodes a stream of either framing, and counts the bytes used.
 #[derive(Drop)]
 pub struct Reading<R> {
     stream: StreamReader<R>,
     used: u64,
-    // Where a byte has ended the stream: those behind it, of the same piece.
+    // The bytes of the last piece after the end of the stream.
     rest: ArrayVec<u8, MAX_REST>,
 }
 
-/// Why a reading wants no more bytes. It is small, since an answer to each piece has place for one; `Reading::outcome` tells what the
-/// stream came to.
+/// The reason for which a [`Reading`] stopped. It is small, because each call returns one;
+/// [`Reading::outcome`] returns the full report.
 #[derive(Drop)]
 pub enum ReadingStop {
     /// A byte of the piece ended the stream.
     Ended,
-    /// A byte of the piece stops the reading.
+    /// An error was detected at a byte of the piece, or an allocation failed there.
     Fault(PackedFault),
 }
 
-/// A record that has ended.
+/// A complete record.
 #[derive(Drop)]
 pub struct EndedRecord<V> {
-    /// Its value.
+    /// The value of the record.
     pub value: V,
-    /// How many bytes of the piece were used, its last one the last of them.
+    /// The number of bytes of the piece used, up to and including the record's last byte.
     pub used: usize,
 }
 
 impl<R: RecordReader> Reading<R> {
-    /// Before the first byte, by what reads the records.
+    /// Returns a reading before the first byte; `records` decodes the records.
     pub fn new(framing: Framing, records: R, limit: Limit) -> Reading<R>
         requires { R.holds records [] }
         ensures { ReadingRepresents R.holds R.spells result framing limit [] [] }
@@ -57,8 +57,8 @@ impl<R: RecordReader> Reading<R> {
         Reading::following(framing, records, limit, 0, 0)
     }
 
-    /// The same, where so many records of any kind, in so many bytes, stand ahead of the stream: the numbers of its own records and
-    /// the bytes that were used count from there.
+    /// Like [`new`](Self::new), but after `done` records of any kind in `used` bytes. Record
+    /// numbers and byte counts continue from there.
     pub fn following(framing: Framing, records: R, limit: Limit, done: u64, used: u64) -> Reading<R>
         requires { R.holds records [] }
         ensures { (ahead : Ahead) → done ≡ saturated ahead.records → used ≡ saturated ahead.bytes
@@ -71,10 +71,11 @@ impl<R: RecordReader> Reading<R> {
         }
     }
 
-    /// How many bytes were used, those ahead of the stream with them. Where the reading has stopped: up to the byte that ended the
-    /// stream or stopped it, as its report or fault tells.
+    /// Returns the number of bytes used, including those before the stream. After the end or an
+    /// error: up to the byte at which it was detected.
     pub fn used(&self) -> u64
         ensures count { result ≡ self.now.used }
+        // The count: all bytes so far, or 2^64 - 1 if there are more.
         ensures taken { (ahead : Ahead) (framing : FramingValue) (limit : ℕ) (w : List ℕ)
             (values : List R.Value) → ReadingRepresentsAfter R.holds R.spells ahead self.now framing
             limit w values
@@ -83,9 +84,10 @@ impl<R: RecordReader> Reading<R> {
         self.used
     }
 
-    /// How many bytes of the record that has begun are kept: none where the reading has stopped.
+    /// Returns the number of buffered bytes of an incomplete record: 0 after the end or an error.
     pub fn held(&self) -> u64
         ensures count { result ≡ held_by_reading R.kept self.now }
+        // The bound: what the reader may buffer of the incomplete record.
         ensures most { (ahead : Ahead) (framing : FramingValue) (limit : ℕ) (w : List ℕ)
             (values : List R.Value) → ReadingRepresentsAfter R.holds R.spells ahead self.now framing
             limit w values
@@ -94,17 +96,18 @@ impl<R: RecordReader> Reading<R> {
         self.stream.held()
     }
 
-    /// Takes what one read gave up to the end of a record. Ok of none where all of it was taken and none ended. Err: a byte of it
-    /// ended the stream, or stops the reading.
+    /// Decodes one read up to the end of a record. Returns `None` if no record ends in it, and an
+    /// error if the stream ended or has an error. No bytes may be given after that.
     pub fn next(&mut self, piece: &[u8]) -> Result<Option<EndedRecord<R::Value>>, ReadingStop>
         requires { length piece.now ≤ MAX_READ }
+        // On success: a record ended, or the whole piece was used. Each error, and when.
         ensures reads { (ahead : Ahead) (framing : FramingValue) (limit : ℕ) (w : List ℕ)
             (values : List R.Value) → ReadingRepresentsAfter R.holds R.spells ahead self.old framing
             limit w values
             → ReadingTakesRecord R.holds R.spells R.breaks ahead self.new framing limit w values
             piece.now result }
         ensures within { EndsWithin (length piece.now) result }
-        // Where the reading has stopped nothing is kept.
+        // After the end or an error: nothing is buffered.
         ensures kept { KeepsNoneAfterStop (held_by_reading R.kept self.new) result }
     {
         let Step { used, out } = self.stream.next(piece);
@@ -120,16 +123,18 @@ impl<R: RecordReader> Reading<R> {
         }
     }
 
-    /// Takes what one read gave, and adds the values of the records that end in it to the list. Err: a byte of it ended the stream,
-    /// or stops the reading.
+    /// Decodes one read, and appends the values of the records that end in it. Returns an error if
+    /// the stream ended or has an error.
     pub fn feed(&mut self, piece: &[u8], values: &mut Vec<R::Value>) -> Result<(), ReadingStop>
         requires { length piece.now ≤ MAX_READ }
+        // On success: the whole piece was used. Each error, and when; the values before it are
+        // appended.
         ensures takes { (ahead : Ahead) (framing : FramingValue) (limit : ℕ) (w : List ℕ)
             (before : List R.Value) → ReadingRepresentsAfter R.holds R.spells ahead self.old framing
             limit w before
             → ReadingTakesAfter R.holds R.spells (IsRefused R.spells R.breaks) ahead self.new
             framing limit w before piece.now values.old.items values.new.items result }
-        // Where the reading has stopped nothing is kept.
+        // After the end or an error: nothing is buffered.
         ensures kept { KeepsNoneAfterStop (held_by_reading R.kept self.new) result }
     {
         let Step { used, out } = self.stream.feed(piece, values);
@@ -144,7 +149,8 @@ impl<R: RecordReader> Reading<R> {
         }
     }
 
-    /// What the stream came to, where the reads ended so. From then on nothing is kept, and no more pieces are to be taken.
+    /// Returns the result for the way in which the reads ended, and frees the buffers. No bytes may
+    /// be given after that.
     pub fn outcome(&mut self, end: ReadsEnd<ReadingStop>) -> Result<Report, Stop>
         ensures means { (ahead : Ahead) → MeansAfter R.holds R.spells ahead self.old end result }
         ensures used { self.new.used ≡ self.old.used }
@@ -171,7 +177,7 @@ impl<R: RecordReader> Reading<R> {
         }
     }
 
-    // The stream has ended, and these bytes were taken behind it.
+    // Retains the bytes of the piece after the end of the stream.
     fn keep_rest(&mut self, rest: &[u8])
         requires { length rest.now ≤ MAX_REST }
         ensures rest { self.new.rest.items ≡ rest.now }
@@ -184,7 +190,7 @@ impl<R: RecordReader> Reading<R> {
     }
 }
 
-/// Keeps the values in a list.
+/// Appends the decoded values to a list.
 impl<R: RecordReader> Consumer<Vec<R::Value>> for Reading<R> {
     type Stop = ReadingStop;
 
@@ -199,7 +205,6 @@ impl<R: RecordReader> Consumer<Vec<R::Value>> for Reading<R> {
     }
 }
 
-// The reading stopped behind so many bytes.
 fn stop_at(fault: Fault, used: u64) -> Stop
     ensures { result ≡ record { fault = fault; used = used } }
 {

@@ -1,4 +1,5 @@
-//! A decoder of a chunked stream: it takes the stream in pieces, however cut, and answers its values one by one.
+//! Decodes a chunked stream in pieces of any size. It remembers how the stream ended;
+//! `stream_reader.rt` decodes either framing, but does not.
 
 ghost use Rattle.std.specs.Prelude.{◌≡◌, ◌≢◌, ℕ, ◌+◌, ◌<◌, ◌≤◌, List, [], ◌++◌, length, None, Some, IfSome};
 ghost use Rattle.mes_stream.specs.Chunked.{Live};
@@ -17,7 +18,7 @@ use crate::stream_reader::{Framing, StreamReader};
 use mes_frame::Limit;
 use std::alloc::Global;
 
-/// How a stream ended, for a decoder.
+/// The way in which a stream ended: normally, or with an error.
 #[derive(Drop)]
 pub(crate) enum StreamEnd {
     Closed,
@@ -25,7 +26,7 @@ pub(crate) enum StreamEnd {
 }
 
 impl StreamEnd {
-    // What is answered from then on.
+    // Returns the result of every later call.
     fn answer<V>(&self) -> Decoded<V>
         ensures { result ≡ answer_of self.now }
     {
@@ -35,7 +36,7 @@ impl StreamEnd {
         }
     }
 
-    // The end that an answer brings, if it does.
+    // Returns the end that a result implies, if it implies one.
     fn brought<V>(out: &Decoded<V>) -> Option<StreamEnd>
         ensures { EndsBy result out.now }
     {
@@ -48,24 +49,24 @@ impl StreamEnd {
     }
 }
 
-// What a decoder holds: behind the end or a fault nothing of the stream.
+// The state of a decoder. After the end or an error nothing of the stream is buffered.
 #[derive(Drop)]
 enum State<R> {
     Going(StreamReader<R>),
     Ended(StreamEnd),
 }
 
-/// A decoder of a chunked stream, by what reads its records.
+/// Decodes a chunked stream incrementally; `R` decodes its records.
 #[derive(Drop)]
 pub struct RecordDecoder<R> {
     state: State<R>,
 }
 
-/// A decoder of a chunked stream of events.
+/// Decodes a chunked stream of events incrementally.
 pub type Decoder = RecordDecoder<EventReader>;
 
 impl RecordDecoder<EventReader> {
-    /// A decoder of events before the first byte. Takes no memory.
+    /// Returns a decoder of events before the first byte. Does not allocate.
     pub fn new(alloc: Global, limit: Limit) -> Decoder
         ensures represents { DecoderRepresents HoldsData Spells result limit [] [] }
     {
@@ -74,7 +75,7 @@ impl RecordDecoder<EventReader> {
 }
 
 impl<R: RecordReader> RecordDecoder<R> {
-    /// A decoder before the first byte, by what reads its records.
+    /// Returns a decoder before the first byte; `reader` decodes the records.
     pub fn of(reader: R, limit: Limit) -> RecordDecoder<R>
         requires { R.holds reader [] }
         ensures represents { DecoderRepresents R.holds R.spells result limit [] [] }
@@ -84,41 +85,42 @@ impl<R: RecordReader> RecordDecoder<R> {
         }
     }
 
-    /// Takes a piece up to the end of a record or of the stream, or a fault, or the piece's end. The end or a fault is
-    /// answered again by every later call, which uses no byte.
+    /// Decodes a piece up to the end of a record or of the stream, the first error, or the end of
+    /// the piece. After the end or an error, every later call returns the same and uses no byte.
     pub fn next(&mut self, piece: &[u8]) -> Step<R::Value>
-        // What each answer means behind w, which is live with the values.
+        // Each result, and when, if `w` are the bytes so far and `values` their values.
         ensures says { (limit : ℕ) (w : List ℕ) (values : List R.Value)
             → DecoderRepresents R.holds R.spells self.old limit w values
             → Says (DecoderRepresents R.holds R.spells self.new limit) R.spells R.breaks limit w
             values piece.now result.used result.out }
 
-        // Up to the last byte that was used all is live with the same values.
+        // Before the last byte used: no record ends, and there is no error.
         ensures before { (limit : ℕ) (w : List ℕ) (values : List R.Value)
             → DecoderRepresents R.holds R.spells self.old limit w values
             → LiveBefore R.spells limit w values piece.now result.used }
 
-        // More is wanted only behind the whole piece, and what was used then is live.
+        // `More`: the whole piece was used, and the stream continues.
         ensures more { result.out ≡ Decoded.More → result.used ≡ length piece.now }
         ensures live { (limit : ℕ) (w : List ℕ) (values : List R.Value)
             → DecoderRepresents R.holds R.spells self.old limit w values
             → result.out ≡ Decoded.More → Live R.spells limit (w ++ piece.now) values }
 
-        // Each other answer comes with a byte; an event always does.
+        // Any other result: at least one byte was used, until the stream has ended.
         ensures event { (value : R.Value) → result.out ≡ Decoded.Event value → 0 < result.used }
         ensures some { (limit : ℕ) (w : List ℕ) (values : List R.Value)
             → DecoderRepresents R.holds R.spells self.old limit w values
             → result.out ≢ Decoded.More → 0 < result.used }
         ensures used { result.used ≤ length piece.now }
 
-        // A reader whose records are never a bad entry, as that of events, tells none: F16 never comes.
+        // F16 only if the reader of records returns `BadEntry`; a reader of events never does.
         ensures entries { (limit : ℕ) (w : List ℕ) (values : List R.Value)
             → DecoderRepresents R.holds R.spells self.old limit w values
             → ((r : List ℕ) → R.breaks r RecordError.BadEntry → ⊥) → (n : ℕ)
             → result.out ≢ Decoded.Fault (Fault.BadEntry n) }
 
-        // The end or a fault is kept, and answered again.
+        // The end or an error is remembered and returned again.
         ensures ends { EndsBy (end_of self.new) result.out }
+        // After the end or an error: the same result, no byte used.
         ensures again { IfSome (end_of self.old)
             (λ e. (result ≡ record { used = 0; out = answer_of e }) × (self.new ≡ self.old)) }
     {
@@ -135,7 +137,8 @@ impl<R: RecordReader> RecordDecoder<R> {
         step
     }
 
-    /// The input has no more bytes: Ok after the end of the stream, the fault after one, else F6.
+    /// Reports the end of the input. Returns `Ok` after the end of the stream, the error after an
+    /// error, and F6 otherwise.
     pub fn finish(&self) -> Result<(), Fault>
         ensures { result ≡ finish_of (end_of self.now) }
     {
@@ -146,13 +149,14 @@ impl<R: RecordReader> RecordDecoder<R> {
         }
     }
 
-    /// How many bytes of the record that has begun are kept, not counting spare room: for events at most those inside its
-    /// texts and numbers.
+    /// Returns the number of buffered bytes of an incomplete record, without spare capacity. For
+    /// events these are at most the bytes inside its strings and numbers.
     pub fn held(&self) -> u64
+        // The bound: what the reader may buffer of the incomplete record.
         ensures held { (limit : ℕ) (w : List ℕ) (values : List R.Value)
             → DecoderRepresents R.holds R.spells self.now limit w values
             → HoldsOf R.spells R.room limit w values result }
-        // It is what the reader of records keeps; after the end or a fault that `next` told nothing is.
+        // The count: what the reader of records buffers, and 0 after the end or an error.
         ensures count { result ≡ held_by_decoder R.kept self.now }
     {
         match &self.state {

@@ -1,4 +1,4 @@
-//! The reads of a device, one after the other, and what takes their bytes.
+//! Reads a device, and passes the bytes of each read to a consumer.
 
 ghost use Rattle.std.specs.Prelude.{◌≡◌, ℕ, ◌<◌, ◌≤◌, List, [], ◌++◌, length, OnOk, IfErr};
 ghost use Rattle.std.specs.Io.KnownBytes.{Consumes};
@@ -7,23 +7,26 @@ ghost use Rattle.mes_stream.specs.Reads.{EndsReads};
 use crate::limits::MAX_READ;
 use mes_frame::Source;
 
-/// What takes the bytes of a device's reads, and works on something with them: it keeps, counts or prints what they say.
+/// Consumes the bytes of a device's reads, and changes an object of type `T` with them.
 pub trait Consumer<T> {
-    /// Why it wants no more.
+    /// The reason for which the consumer stopped.
     type Stop: Drop;
 
-    /// By these bytes it and what it works on came from the first states to the others, and it wants more.
+    /// These bytes changed the consumer and the object from the first states to the second, and the
+    /// consumer continues.
     ghost goes: { Self → T → Self → T → List ℕ → Type 0 };
 
-    /// By these bytes and the piece behind them it came to a stop.
+    /// Like `goes`, for the bytes before the last piece; with that piece the consumer stopped.
     ghost stops: { Self → T → Self → T → List ℕ → List ℕ → Self.Stop → Type 0 };
 
-    /// Takes what one read gave.
+    /// Consumes the bytes of one read. An error stops the reading.
     fn consume(&mut self, piece: &[u8], to: &mut T) -> Result<(), Self::Stop>
         requires some { 0 < length piece.now }
         requires most { length piece.now ≤ MAX_READ }
+        // On success: the consumer continues after the piece.
         ensures more { (first : Self) (start : T) (w : List ℕ) → goes first start self.old to.old w
             → OnOk result (goes first start self.new to.new (w ++ piece.now)) }
+        // On an error: the consumer stopped with the piece.
         ensures stop { (first : Self) (start : T) (w : List ℕ) → goes first start self.old to.old w
             → IfErr result (stops first start self.new to.new w piece.now) };
 }
@@ -31,17 +34,18 @@ pub trait Consumer<T> {
 /// How the reads of a device ended.
 #[derive(Drop)]
 pub enum ReadsEnd<Z> {
-    /// No more bytes were wanted.
+    /// The consumer stopped.
     Stopped(Z),
-    /// The device told its end.
+    /// The device reported its end.
     AtEnd,
-    /// A call failed.
+    /// A read failed.
     Failed,
-    /// Another read was needed, and as many as allowed were made.
+    /// All allowed reads were made, and the device has not reported its end.
     Spent,
 }
 
-/// Reads a device, at most `max_reads` times and at most `MAX_READ` bytes a time, and gives each piece to what takes it.
+/// Reads a device at most `max_reads` times, at most `MAX_READ` bytes each time, and passes each
+/// piece to `consumer`.
 pub fn read_device<S: Source, T, C: Consumer<T>>(
     source: &mut S,
     max_reads: u64,
@@ -49,6 +53,7 @@ pub fn read_device<S: Source, T, C: Consumer<T>>(
     to: &mut T,
 ) -> ReadsEnd<C::Stop>
     requires { C.goes consumer.old to.old consumer.old to.old [] }
+    // The bytes taken from the device, the states of `consumer` and `to`, and the number of calls.
     ensures { (w : List ℕ) × Consumes (S.left source.old) (S.left source.new) w
         × EndsReads (C.goes consumer.old to.old consumer.new to.new)
         (C.stops consumer.old to.old consumer.new to.new) max_reads

@@ -1,4 +1,4 @@
-//! Events encoded to the records of plain RecordIO.
+//! Encodes events as records of plain RecordIO. `send.rt` writes them.
 
 ghost use Rattle.std.specs.Prelude.{◌≡◌, ◌++◌, map, OnOk, IfOk, IfErr};
 ghost use Rattle.mes_frame.specs.Frames.{record_bytes};
@@ -14,8 +14,8 @@ use mes_msg::{EncodeFault, EncodeFaultKind, Event, SendFault};
 use mes_msg_record::canonical_into;
 use std::alloc::Global;
 
-/// The records of the events' canonical texts, one behind the other. Errors: the first event that no record of the limit can
-/// hold, or want of memory.
+/// Encodes events as consecutive records of their canonical JSON. Errors: the first event that is
+/// too deep or that no record of `limit` bytes can hold; or a failed allocation.
 pub fn encode_events(alloc: Global, events: &[Event], limit: Limit) -> Result<Vec<u8>, SendFault>
     ensures ok { IfOk result (λ body. IsPlainOf limit events.now body.items) }
     ensures err { IfErr result (IsUnsent limit events.now) }
@@ -26,7 +26,7 @@ pub fn encode_events(alloc: Global, events: &[Event], limit: Limit) -> Result<Ve
     }
 }
 
-/// The events, borrowed one by one.
+/// Returns a reference to each event.
 pub fn event_refs(alloc: Global, events: &[Event]) -> Result<Vec<&Event>, NoMemory>
     ensures { IfOk result (λ refs. map (λ event. event.now) refs.items ≡ events.now) }
 {
@@ -37,8 +37,9 @@ pub fn event_refs(alloc: Global, events: &[Event]) -> Result<Vec<&Event>, NoMemo
     Ok(refs)
 }
 
-/// The records of the canonical texts of events that need not stand side by side, as of `encode_events`.
+/// Like [`encode_events`], for events that are not adjacent in memory.
 pub fn encode_each(alloc: Global, events: &[&Event], limit: Limit) -> Result<Vec<u8>, SendFault>
+    // On success: the records of the events, in order.
     ensures ok { IfOk result (λ body. IsPlainOf limit (map (λ event. event.now) events.now)
         body.items) }
     ensures err { IfErr result (IsUnsent limit (map (λ event. event.now) events.now)) }
@@ -53,7 +54,7 @@ pub fn encode_each(alloc: Global, events: &[&Event], limit: Limit) -> Result<Vec
     Ok(body)
 }
 
-/// Appends the record of the event's canonical text, which is made in memory that is used again.
+/// Appends the record of an event's canonical JSON. `text` is a buffer that each event reuses.
 fn put_event(
     alloc: Global,
     event: &Event,
@@ -84,7 +85,7 @@ fn put_record(payload: &[u8], body: &mut Vec<u8>) -> Result<(), NoMemory>
     Ok(())
 }
 
-/// What is told where the event at this place has no record.
+/// Returns the error for the event at this index.
 fn refused_at(index: usize, fault: EncodeFault) -> SendFault
     ensures { result ≡ fault_at index fault }
 {

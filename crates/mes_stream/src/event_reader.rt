@@ -1,4 +1,4 @@
-//! Reads the data of records to events.
+//! Decodes the data of records as events.
 
 ghost use Rattle.std.specs.Prelude.{◌≡◌, ◌≢◌, ℕ, ◌^◌, ◌<◌, ◌≤◌, List, [], ◌∷◌, ◌++◌, length, OnOk, OnErr, IfOk, IfErr};
 ghost use Rattle.mes_json.specs.Inner.{inner};
@@ -13,8 +13,8 @@ use mes_model_schema::{Part, PathBuilder};
 use mes_msg::Event;
 use std::alloc::Global;
 
-/// Reads the data of records to events: JSON texts that are lexed as their bytes come. The memory of a text serves for the
-/// next one.
+/// Decodes the data of records as events. It lexes the JSON as the bytes arrive, and reuses its
+/// memory for the next record.
 #[derive(Drop)]
 pub struct EventReader {
     alloc: Global,
@@ -22,7 +22,7 @@ pub struct EventReader {
 }
 
 impl EventReader {
-    /// A reader before the first record. Takes no memory.
+    /// Returns a reader before the first record. Does not allocate.
     pub fn new(alloc: Global) -> EventReader
         ensures { HoldsData result [] }
     {
@@ -87,7 +87,7 @@ impl RecordReader for EventReader {
     }
 }
 
-/// Adds the event to the list. Not inlined, so that it is moved as a whole and not field by field.
+/// Appends an event. Not inlined, so that the event is moved as a whole and not field by field.
 #[inline(never)]
 fn add(events: &mut Vec<Event>, event: Event) -> Result<(), NoMemory>
     ensures ok { OnOk result (events.new.items ≡ events.old.items ++ event ∷ []) }

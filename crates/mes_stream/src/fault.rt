@@ -1,4 +1,4 @@
-//! What ends the reading of an event stream.
+//! The errors of decoding an event stream.
 
 ghost use Rattle.std.specs.Prelude.{◌≡◌, ◌≤◌, length};
 ghost use Rattle.mes_stream.specs.Lines.{fault_title};
@@ -9,42 +9,42 @@ use mes_frame::FrameFault;
 use mes_json::TextFaultKind;
 use mes_model_schema::{FieldFaultKind, Path};
 
-/// Why the reading of a stream stopped before its end.
+/// The reason for which decoding stopped before the end of the stream.
 #[derive(Debug, Drop)]
 pub enum Fault {
-    /// F1 to F5: a chunked body is refused; F7 to F9: the size line of a record is.
+    /// F1 to F5: the chunked framing is invalid; F7 to F9: the size line of a record is invalid.
     Frame(FrameFault),
-    /// F6: the input ended before the chunked body did, also where it had no byte at all.
+    /// F6: the input ended before the chunked body did, or had no bytes.
     EndsInsideChunks,
     /// F10: the stream ended inside a record.
     EndsInsideRecord,
-    /// F11: the record's bytes are no JSON text. It comes with the record's last byte; for a size of 0 that is the
+    /// F11: the record is not JSON. Reported at the record's last byte; for a size of 0 that is the
     /// LF of the size line.
     Text {
         /// The number of the record, from 1.
         at_record: u64,
-        /// How many bytes of the record stand before the first that no JSON text has there.
+        /// The offset in the record of the first byte that no JSON text has there.
         byte: u64,
-        /// Why no text goes on there.
+        /// The reason for which the JSON text is invalid there.
         why: TextFaultKind,
     },
-    /// F12: the record's JSON text is no event. It comes with the record's last byte.
+    /// F12: the record is JSON, but not an event. Reported at the record's last byte.
     Field {
         /// The number of the record, from 1.
         at_record: u64,
-        /// The place of the first fault in the record's value.
+        /// The path of the first invalid value in the record.
         path: Path,
-        /// What is wrong there.
+        /// The reason for which the value is invalid.
         why: FieldFaultKind,
     },
-    /// F13: memory was refused.
+    /// F13: an allocation failed.
     NoMemory,
-    /// F14: the reader failed, or was interrupted.
+    /// F14: a read failed or was interrupted.
     Read,
-    /// F15: another read was needed, and as many as allowed were made.
+    /// F15: all allowed reads were made, and another was needed.
     ReadsSpent,
-    /// F16: the record is no entry of a session log. It comes with the record's last byte; for a size of 0 that is the
-    /// LF of the size line. Only the reader of a log tells it.
+    /// F16: the record is not an entry of a session log. Reported at the record's last byte; for a
+    /// size of 0 that is the LF of the size line. Only the reader of a log returns this error.
     BadEntry {
         /// The number of the record, from 1.
         at_record: u64,
@@ -52,7 +52,7 @@ pub enum Fault {
 }
 
 impl Fault {
-    /// The same fault once more. Takes no memory.
+    /// Returns a copy. Does not allocate.
     pub fn copy(&self) -> Fault
         ensures { result ≡ self.now }
     {
@@ -87,7 +87,7 @@ impl Fault {
         }
     }
 
-    /// The number and the name, with a space between, as they are printed.
+    /// Returns the printed number and name, for example `F13 NoMemory`.
     pub fn title(&self) -> &'static str
         ensures text { result.now ≡ fault_title self.now }
         ensures bound { length result.now ≤ 20 }
@@ -113,20 +113,20 @@ impl Fault {
     }
 }
 
-/// What was read, where a stream was read to its end.
+/// The result for a stream that was read to its end.
 #[derive(Debug, Drop)]
 pub struct Report {
-    /// The bytes of the stream.
+    /// The number of bytes of the stream.
     pub used: u64,
-    /// The bytes that were taken after its end.
+    /// The bytes read after the end of the stream: at most `MAX_REST`.
     pub rest: ArrayVec<u8, MAX_REST>,
 }
 
-/// Where and why the reading of a stream stopped.
+/// The error at which decoding stopped, and its position.
 #[derive(Debug, Drop)]
 pub struct Stop {
-    /// Why.
+    /// The error.
     pub fault: Fault,
-    /// The bytes used up to the fault.
+    /// The number of bytes used, up to and including the byte at which the error was detected.
     pub used: u64,
 }

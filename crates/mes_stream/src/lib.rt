@@ -1,6 +1,22 @@
 #![tactic(auto)]
-//! The event stream of the Apache Mesos v1 scheduler API, read to events or to the first fault: plain RecordIO or a chunked body,
-//! from a device or in pieces; and events written as such streams.
+//! Decodes and encodes event streams of the Apache Mesos v1 scheduler API: plain RecordIO, or
+//! RecordIO in an HTTP chunked body (RFC 9112 section 7.1).
+//!
+//! [`Decoder`] takes a body in pieces of any size; [`read_stream`] and [`read_plain`] read a
+//! device. They return every event before the first error, and the byte at which that is detected.
+//! [`write_stream`] and [`write_plain`] encode, and write nothing unless every event can be
+//! encoded.
+//!
+//!     let mut decoder = Decoder::new(rt.alloc(), Limit::USUAL);
+//!     let step = decoder.next(piece); // step.used bytes of the piece were used
+//!     match step.out {
+//!         Decoded::Event(event) => handle(event), // continue with &piece[step.used..]
+//!         Decoded::More => {} // give the next piece
+//!         Decoded::End => return Ok(()),
+//!         Decoded::Fault(fault) => return Err(fault),
+//!     }
+//!
+//! Tests are in the crate `mes_stream_tests`, definitions in `specs/`.
 
 mod chunked_body;
 mod counted_reader;

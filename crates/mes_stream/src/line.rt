@@ -1,4 +1,4 @@
-//! The line that is printed of a stream: its fault, or its counts. It is written without its LF, and takes no memory.
+//! Formats an error or the counts of a stream as a line without LF. Nothing here allocates.
 
 ghost use Rattle.std.specs.Prelude.{◌≡◌, ◌+◌, ◌≤◌, [], ◌∷◌, ◌++◌, length, decimal, codes};
 ghost use Rattle.arrayvec.specs.ArrayString.{array_string_len};
@@ -13,7 +13,7 @@ use itoa::Buffer;
 use mes_json::TextFaultKind;
 use mes_model_schema::{MAX_PATH_TEXT, Path};
 
-/// Writes a fault's line in place of the text; `used` counts the bytes used up to the fault.
+/// Replaces `line` with the line of an error; `used` is the number of bytes used up to it.
 pub fn fault_line(fault: &Fault, used: u64, line: &mut ArrayString<MAX_FAULT_LINE>)
     ensures { line.new.bytes ≡ fault_text fault.now used }
 {
@@ -25,7 +25,7 @@ pub fn fault_line(fault: &Fault, used: u64, line: &mut ArrayString<MAX_FAULT_LIN
     push_number(line, used);
 }
 
-/// Writes in place of the text how many events a stream had, and how many bytes.
+/// Replaces `line` with the counts of events and bytes, for example `events 2 bytes 57`.
 pub fn count_line(events: u64, used: u64, line: &mut ArrayString<MAX_COUNT_LINE>)
     ensures { line.new.bytes ≡ count_text events used }
 {
@@ -36,7 +36,8 @@ pub fn count_line(events: u64, used: u64, line: &mut ArrayString<MAX_COUNT_LINE>
     push_number(line, used);
 }
 
-/// Appends where a record is at fault and why, if the fault is a record's: at most 41 bytes more than a path has.
+/// Appends the record, the place and the reason, if the error is in a record: at most 41 bytes and
+/// a path.
 fn push_details(line: &mut ArrayString<MAX_FAULT_LINE>, fault: &Fault)
     requires { array_string_len line.old + MAX_PATH_TEXT + 41 ≤ MAX_FAULT_LINE }
     ensures text { line.new.bytes ≡ line.old.bytes ++ spaced (details fault.now) }
@@ -103,7 +104,7 @@ pub fn push_word<const N: usize>(line: &mut ArrayString<N>, word: &str)
     line.push_str(word);
 }
 
-/// Why no JSON text goes on, as it is printed.
+/// Returns the printed reason for which the JSON text is invalid.
 fn text_fault_kind(why: TextFaultKind) -> &'static str
     ensures text { result.now ≡ text_fault_kind_name why }
     ensures bound { length result.now ≤ 5 }

@@ -1,4 +1,4 @@
-//! A fault in little room.
+//! A compact form of [`Fault`].
 
 ghost use Rattle.std.specs.Prelude.{◌≡◌};
 ghost use Rattle.mes_stream.specs.declared.fault.Fault.TheVariants.{Frame, NoMemory, EndsInsideRecord};
@@ -11,8 +11,8 @@ use mes_json::TextFaultKind;
 use mes_model_schema::{BoxedFault, FieldFault};
 use std::marker::Model;
 
-/// A fault in little room, since what is answered to each byte of the framing and to each piece has place for one: a path stands in
-/// memory of its own. A contract sees the fault.
+/// An error in compact form: a path is stored in separate memory. Each step of decoding returns
+/// space for an error, so that it must be small. In contracts its value is the [`Fault`].
 #[derive(Drop)]
 pub struct PackedFault {
     kind: Kind,
@@ -48,7 +48,7 @@ impl Model for PackedFault {
 }
 
 impl PackedFault {
-    /// F1 to F5 and F7 to F9.
+    /// Returns an error of the framing: F1 to F5, or F7 to F9.
     pub(crate) fn frame(fault: FrameFault) -> PackedFault
         ensures { result ≡ Frame fault }
     {
@@ -57,7 +57,7 @@ impl PackedFault {
         }
     }
 
-    /// F10.
+    /// Returns F10: the stream ended inside a record.
     pub(crate) fn ends_inside_record() -> PackedFault
         ensures { result ≡ EndsInsideRecord }
     {
@@ -66,7 +66,7 @@ impl PackedFault {
         }
     }
 
-    /// F13.
+    /// Returns F13: an allocation failed.
     pub(crate) fn no_memory() -> PackedFault
         ensures { result ≡ NoMemory }
     {
@@ -75,7 +75,7 @@ impl PackedFault {
         }
     }
 
-    /// Why the record of this number has no value: F11, F12, F13 or F16.
+    /// Returns the error of the record with this number: F11, F12, F13 or F16.
     pub(crate) fn of_record(at_record: u64, why: RecordError) -> PackedFault
         ensures { result ≡ fault_at_record at_record why }
     {
@@ -92,7 +92,7 @@ impl PackedFault {
         PackedFault { kind }
     }
 
-    /// The fault.
+    /// Returns the error.
     pub fn into_fault(self) -> Fault
         ensures { result ≡ self }
     {

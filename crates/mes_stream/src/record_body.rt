@@ -1,4 +1,5 @@
-//! Reads a body of records: it takes the bytes in runs, however cut, and tells where a record ends.
+//! Decodes consecutive records from runs of any size, and reports the end of each. It is what plain
+//! RecordIO and the data of a chunked body share.
 
 ghost use Rattle.std.specs.Prelude.{◌≡◌, true, false, ◌+◌, ◌^◌, ◌<◌, ◌≤◌, ℕ, List, [], ◌++◌, length, IfOk, IfErr, OnOk, take};
 ghost use Rattle.mes_frame.specs.Record.{Begun};
@@ -18,17 +19,17 @@ use crate::step::{Decoded, Step};
 use mes_frame::{FrameFault, Limit, RecordOut, RecordState};
 use mes_json::NoMemoryAt;
 
-/// Reads a body of records, one behind the other.
+/// Decodes consecutive records; `R` decodes their data.
 #[derive(Drop)]
 pub struct Body<R> {
     records: RecordState,
     reader: R,
-    // How many records have ended.
+    // The number of complete records; it stays at 2^64 - 1.
     done: u64,
 }
 
-// What the front of a run is: bytes of a size line, data of the record, the end of a record without data, or a byte that
-// no size line has there.
+// What a run begins with: bytes of a size line, data of a record, the end of a record without data,
+// or a byte that no size line has there.
 #[derive(Drop)]
 enum Front {
     Size { count: usize },
@@ -38,7 +39,7 @@ enum Front {
 }
 
 impl<R: RecordReader> Body<R> {
-    /// A body before its first byte.
+    /// Returns a body before its first byte.
     pub fn new(reader: R, limit: Limit) -> Body<R>
         requires { R.holds reader [] }
         ensures represents { BodyRepresents R.holds R.spells 0 result [] [] }
@@ -47,7 +48,8 @@ impl<R: RecordReader> Body<R> {
         Body::following(reader, limit, 0)
     }
 
-    /// A body before its first byte, behind so many records of any kind: the numbers of its own count from there.
+    /// Like [`new`](Self::new), but after `done` records of any kind: its own are numbered from
+    /// there.
     pub fn following(reader: R, limit: Limit, done: u64) -> Body<R>
         requires { R.holds reader [] }
         ensures represents { (ahead : ℕ) → done ≡ saturated ahead
@@ -61,7 +63,7 @@ impl<R: RecordReader> Body<R> {
         }
     }
 
-    /// No record has begun and not ended.
+    /// Returns whether no record is incomplete.
     pub fn between(&self) -> bool
         ensures whole { (ahead : ℕ) (b : List ℕ) (values : List R.Value)
             → BodyRepresents R.holds R.spells ahead self.now b values → result ≡ true
@@ -73,7 +75,7 @@ impl<R: RecordReader> Body<R> {
         self.records.between()
     }
 
-    /// Takes bytes of a size line or a run of data from the front of a run.
+    /// Consumes bytes of a size line, or data, from the start of a run.
     #[inline(always)]
     pub(crate) fn consume(&mut self, run: &[u8]) -> Step<(), PackedFault>
         requires { 0 < length run.now }
@@ -82,7 +84,7 @@ impl<R: RecordReader> Body<R> {
             → Reports R.holds R.spells R.breaks ahead framing.Plain
             (BodyRepresents R.holds R.spells ahead) self.new (limit_of self.new.records) b values
             run.now result.used result.out }
-        // Up to the last byte that was used all is live.
+        // Before the last byte used: no record ends, and there is no error.
         ensures before { (ahead : ℕ) (b : List ℕ) (values : List R.Value)
             → BodyRepresents R.holds R.spells ahead self.old b values
             → GoesBefore framing.Plain R.spells (limit_of self.new.records) b values run.now
@@ -118,20 +120,21 @@ impl<R: RecordReader> Body<R> {
         }
     }
 
-    /// How many of the next bytes are data of the record that has begun: 0 in a size line and after a fault.
+    /// Returns how many of the next bytes are data of the record: 0 in a size line and after an
+    /// error.
     pub(crate) fn room(&self) -> usize
         ensures { result ≡ remaining_of self.now.records }
     {
         self.records.room()
     }
 
-    /// Takes a run of data behind which the record goes on.
+    /// Consumes a run of data that does not end the record.
     pub(crate) fn pass(&mut self, run: &[u8]) -> Result<(), NoMemoryAt>
         requires { length run.now < remaining_of self.old.records }
         ensures ok { OnOk result ((ahead : ℕ) (b : List ℕ) (values : List R.Value)
             → BodyRepresents R.holds R.spells ahead self.old b values
             → BodyRepresents R.holds R.spells ahead self.new (b ++ run.now) values) }
-        // Memory was refused for the byte behind those that were taken.
+        // On an error: an allocation failed at the byte after `taken` bytes of the run.
         ensures err { IfErr result (λ refused. 0 < length run.now
             → refused.taken < length run.now) }
         ensures before { (r : List ℕ) → R.holds self.old.reader r
@@ -143,8 +146,7 @@ impl<R: RecordReader> Body<R> {
         self.reader.push_run(run)
     }
 
-    /// The value of the record that has ended, or why it has none: what the reader of records gives, which is handed on as it is,
-    /// since a value may be large.
+    /// Returns the value of the record that ended, or the reason for which it has none.
     pub(crate) fn end_record(&mut self) -> Result<R::Value, RecordError>
         ensures ends { (r : List ℕ) → R.holds self.old.reader r → length r < 2 ^ 64
             → Ends R.holds R.spells R.breaks self.old self.new r result }
@@ -154,7 +156,7 @@ impl<R: RecordReader> Body<R> {
         self.reader.finish()
     }
 
-    /// The same, where the value is added to a list.
+    /// Like [`end_record`](Self::end_record), but appends the value to a list.
     pub(crate) fn end_record_into(&mut self, values: &mut Vec<R::Value>) -> Result<(), RecordError>
         ensures ends { (r : List ℕ) → R.holds self.old.reader r → length r < 2 ^ 64
             → EndsInto R.holds R.spells R.breaks self.old self.new r values.old.items
@@ -165,7 +167,7 @@ impl<R: RecordReader> Body<R> {
         self.reader.finish_into(values)
     }
 
-    /// How many bytes of the record that has begun are kept.
+    /// Returns the number of buffered bytes of the incomplete record.
     pub fn held(&self) -> u64
         ensures count { result ≡ held_by_body R.kept self.now }
         ensures most { (ahead : ℕ) (b : List ℕ) (values : List R.Value)
@@ -175,14 +177,14 @@ impl<R: RecordReader> Body<R> {
         self.reader.held()
     }
 
-    /// Keeps nothing any more.
+    /// Frees the buffers.
     pub(crate) fn release(&mut self)
         ensures { held_by_body R.kept self.new ≡ 0 }
     {
         self.reader.release();
     }
 
-    /// The fault of the record that has ended without a value.
+    /// Returns the error for the record that ended without a value.
     pub(crate) fn refused(&self, why: RecordError) -> PackedFault
         ensures { result ≡ fault_at_record self.now.done why }
     {
@@ -190,7 +192,7 @@ impl<R: RecordReader> Body<R> {
     }
 }
 
-// Tells what the front of a run is, and moves the reader of records over it.
+// Determines what a run begins with, and passes data to the reader of records.
 #[inline(always)]
 fn front_of(records: &mut RecordState, run: &[u8]) -> Front
     requires { 0 < length run.now }
@@ -214,7 +216,7 @@ fn front_of(records: &mut RecordState, run: &[u8]) -> Front
     }
 }
 
-// Takes the bytes of a size line that follow in a run: how many there are.
+// Consumes the bytes of a size line at the start of a run, and returns their number.
 fn size_run(records: &mut RecordState, run: &[u8]) -> usize
     ensures represents { (x r : List ℕ) → RecordStands records.old x r
         → RecordStands records.new (x ++ take result run.now) r }

@@ -1,19 +1,19 @@
-//! Why the data of a record have no value.
+//! The errors of decoding the data of one record.
 ghost use Rattle.std.specs.Prelude.{◌≡◌};
 
 use mes_json::{ReadFault, TextFault};
 use mes_model_schema::{BoxedFault, PartFault};
 
-/// Why the data of a record have no value, for what reads them.
+/// The reason for which the data of a record have no value.
 #[derive(Debug, Drop)]
 pub enum RecordError {
-    /// They are no JSON text.
+    /// The data are not JSON.
     Text(TextFault),
-    /// Their JSON text is of no value that is read here.
+    /// The data are JSON, but not of a value of this type.
     Field(BoxedFault),
-    /// They are no entry of what is read here. A reader of events says so of none.
+    /// The data are not an entry of this log. A reader of events never returns this error.
     BadEntry,
-    /// A growth was refused memory.
+    /// An allocation failed.
     NoMemory,
 }
 

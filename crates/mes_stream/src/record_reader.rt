@@ -1,4 +1,4 @@
-//! What reads the data of records.
+//! The trait of types that decode the data of records.
 
 ghost use Rattle.std.specs.Prelude.{◌≡◌, ◌≢◌, ℕ, ◌^◌, ◌<◌, ◌≤◌, List, [], ◌++◌, length, take, OnOk, IfOk, IfErr};
 ghost use Rattle.mes_stream.specs.RecordValues.{AddsValue};
@@ -7,63 +7,64 @@ ghost use Rattle.mes_stream.specs.declared.record_error.RecordError.{RecordError
 use crate::record_error::RecordError;
 use mes_json::NoMemoryAt;
 
-/// Reads the data of one record after the other to a value each, while the bytes come.
+/// Decodes the data of consecutive records, as the bytes arrive, to one value each.
 pub trait RecordReader: Drop {
-    /// What the data of a record are read to.
+    /// The type of the values.
     type Value: Drop;
 
-    /// The reader has taken these bytes of a record's data, and memory was there for them.
+    /// The reader has taken these bytes of a record's data, and no allocation failed.
     ghost holds: { Self → List ℕ → Type 0 };
 
-    /// The data are those of the value.
+    /// The data represent the value.
     ghost spells: { List ℕ → Self.Value → Type 0 };
 
-    /// The data have no value, and why. `NoMemory` says that these are data for which the reader may run out of memory.
+    /// The data have no value, for this reason. `NoMemory`: an allocation may fail for these data.
     ghost breaks: { List ℕ → Refusal → Type 0 };
 
-    /// How many bytes of the data are kept.
+    /// The number of bytes that the reader buffers.
     ghost kept: { Self → ℕ };
 
-    /// How many bytes are kept of these at most.
+    /// The largest number of bytes that the reader buffers of these data.
     ghost room: { List ℕ → ℕ };
 
-    /// Takes a run of the data.
+    /// Consumes a run of the data.
     fn push_run(&mut self, bytes: &[u8]) -> Result<(), NoMemoryAt>
         ensures ok { OnOk result ((r : List ℕ) → holds self.old r
             → holds self.new (r ++ bytes.now)) }
-        // Memory was refused for the byte behind those that were taken.
+        // On an error: an allocation failed at the byte after `taken` bytes of the run.
         ensures err { IfErr result (λ refused. 0 < length bytes.now
             → refused.taken < length bytes.now) }
-        // The data before that byte are ones that may run out of memory.
+        // An allocation can fail only after data for which `breaks` permits it.
         ensures before { (r : List ℕ) → holds self.old r
             → IfErr result (λ refused. breaks (r
             ++ take refused.taken bytes.now) RecordError.NoMemory) };
 
-    /// Reads the value of the record whose data has ended.
+    /// Returns the value of a record whose data are complete.
     fn finish(&mut self) -> Result<Self::Value, RecordError>
         ensures ok { (r : List ℕ) → holds self.old r → length r < 2 ^ 64 → IfOk result (spells r) }
         ensures err { (r : List ℕ) → holds self.old r → length r < 2 ^ 64
             → IfErr result (breaks r) }
-        // Then it is ready for the next record.
+        // After a success: the reader is ready for the next record.
         ensures next { OnOk result (holds self.new []) };
 
-    /// The same, where the value is added to a list, so that it isn't moved from call to call: it may be large.
+    /// Like [`finish`](Self::finish), but appends the value to a list. A value may be large; this
+    /// avoids moves.
     fn finish_into(&mut self, values: &mut Vec<Self::Value>) -> Result<(), RecordError>
         ensures adds { (r : List ℕ) → holds self.old r → length r < 2 ^ 64
             → AddsValue spells breaks (holds self.new []) r values.old.items values.new.items
             result }
         ensures next { OnOk result (holds self.new []) };
 
-    /// Why a record without data has no value. Takes no memory.
+    /// Returns the error for a record without data. Does not allocate.
     fn empty_record_error(&self) -> RecordError
         ensures breaks { breaks [] result }
         ensures memory { result ≢ RecordError.NoMemory };
 
-    /// Keeps nothing any more. No record is read after that.
+    /// Frees the buffers. The reader is not used after that.
     fn release(&mut self)
         ensures { kept self.new ≡ 0 };
 
-    /// How many bytes of the data are kept, not counting spare room.
+    /// Returns the number of buffered bytes, without spare capacity.
     fn held(&self) -> u64
         ensures count { result ≡ kept self.now }
         ensures most { (r : List ℕ) → holds self.now r → result ≤ room r };

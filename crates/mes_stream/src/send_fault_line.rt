@@ -1,4 +1,4 @@
-//! The line that is printed where events were not sent, or not to the end.
+//! Formats the error of a failed send.
 
 ghost use Rattle.std.specs.Prelude.{◌≡◌};
 ghost use Rattle.mes_stream.specs.SendLines.{send_text};
@@ -9,8 +9,8 @@ use crate::line::{fault_line, push_number, push_word};
 use arrayvec::ArrayString;
 use mes_msg::SendFault;
 
-/// Writes the fault's line in place of the text, without its LF: an event by its number, from 1; want of memory as F13 after 0
-/// bytes. Takes no memory.
+/// Replaces `line` with the error of a send, without LF. Events are numbered from 1. A failed
+/// allocation is F13 after 0 bytes. Does not allocate.
 pub fn send_line(fault: &SendFault, line: &mut ArrayString<MAX_FAULT_LINE>)
     ensures { line.new.bytes ≡ send_text fault.now }
 {

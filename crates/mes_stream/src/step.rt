@@ -1,4 +1,4 @@
-//! What the bytes of a stream were, as far as they were taken.
+//! The result of one step of decoding.
 
 ghost use Rattle.std.specs.Prelude.{◌≡◌, ◌+◌, ◌-◌, ◌^◌, ◌<◌, IsTrue, ◌↔◌};
 ghost use Rattle.mes_stream.specs.declared.fault.Fault.TheVariants.{NoMemory as no_memory};
@@ -7,30 +7,31 @@ use crate::fault::Fault;
 use crate::packed_fault::PackedFault;
 use mes_json::NoMemoryAt;
 
-/// What a call made of a piece of a stream.
+/// The result of decoding a piece of a stream.
 #[derive(Drop)]
 pub struct Step<V, F = Fault> {
-    /// How many bytes of the piece were used; the one that ends something or shows a fault is the last of them.
+    /// The number of bytes of the piece used. The last of them is the byte that ended a record or
+    /// the stream, or at which an error was detected.
     pub used: usize,
-    /// What they were.
+    /// The meaning of these bytes.
     pub out: Decoded<V, F>,
 }
 
-/// What the bytes that were used were. The value of an event is `()` where it is still to be read.
+/// The meaning of the bytes used. The value of an event is `()` if it is not decoded yet.
 #[derive(Drop)]
 pub enum Decoded<V, F = Fault> {
-    /// They end nothing, and more is wanted. A decoder says so of a whole piece.
+    /// No record ended, and more bytes are needed. A decoder returns this only for a whole piece.
     More,
-    /// The value of the record that ended with them.
+    /// The value of the record that ended with the last of them.
     Event(V),
     /// The last of them ended the stream.
     End,
-    /// The last of them stops the reading: it shows the fault, or memory was refused there.
+    /// An error was detected at the last of them, or an allocation failed there.
     Fault(F),
 }
 
 impl<V, F> Decoded<V, F> {
-    /// Nothing ended, and more is wanted.
+    /// Returns whether more bytes are needed.
     pub fn is_more(&self) -> bool
         ensures { IsTrue result ↔ (self.now ≡ Decoded.More) }
     {
@@ -44,7 +45,7 @@ impl<V, F> Decoded<V, F> {
 }
 
 impl Step<(), PackedFault> {
-    /// So many bytes, and more is wanted.
+    /// Returns a step that used `used` bytes, and needs more.
     pub(crate) fn more(used: usize) -> Step<(), PackedFault>
         ensures { result ≡ record { used = used; out = Decoded.More } }
     {
@@ -54,7 +55,7 @@ impl Step<(), PackedFault> {
         }
     }
 
-    /// Memory was refused for the byte behind those that were taken.
+    /// Returns the error for an allocation that failed at the byte after `refused.taken` bytes.
     pub(crate) fn no_memory(refused: NoMemoryAt) -> Step<(), PackedFault>
         requires { refused.taken < 2 ^ 64 - 1 }
         ensures used { result.used ≡ refused.taken + 1 }
@@ -68,7 +69,7 @@ impl Step<(), PackedFault> {
 }
 
 impl<V> Step<V, PackedFault> {
-    /// The same, with the fault as it is told.
+    /// Returns the same step with the error in its public form.
     pub fn unpacked(self) -> Step<V>
         ensures { result ≡ self }
     {

@@ -1,4 +1,4 @@
-//! Reads a stream of either framing from a device.
+//! Decodes a stream of events of either framing from a device.
 
 ghost use Rattle.std.specs.Prelude.{◌≡◌, ◌≢◌, ℕ, List, [], ◌++◌, IfErr};
 ghost use Rattle.std.specs.Io.KnownBytes.{Consumes};
@@ -18,8 +18,8 @@ use mes_frame::{Limit, Source};
 use mes_msg::Event;
 use std::alloc::Global;
 
-/// Reads plain RecordIO to the end of the reader, in at most `max_reads` reads of at most `MAX_READ` bytes, and adds
-/// the events to the list; those before a fault stay in it.
+/// Reads plain RecordIO to the end of the reader, and appends its events to `events`, which keeps
+/// those before an error. Makes at most `max_reads` reads of at most `MAX_READ` bytes each.
 pub fn read_plain<S: Source>(
     alloc: Global,
     reader: &mut S,
@@ -27,20 +27,21 @@ pub fn read_plain<S: Source>(
     max_reads: u64,
     events: &mut Vec<Event>,
 ) -> Result<Report, Stop>
-    // The bytes w were taken, the list has more events, and the reading ended as `EndsPlain` says of them.
+    // The bytes `w` were read, their events appended, and `EndsPlain` describes the result.
     ensures reads { (w : List ℕ) × (more : List EventValue)
         × Consumes (S.left reader.old) (S.left reader.new) w
         × (events.new.items ≡ events.old.items ++ more)
         × EndsPlain limit max_reads (S.counts reader.old) (S.counts reader.new) (S.left reader.new)
         w more result }
-    // An event is never a bad entry: F16 never comes.
+    // F16 never occurs.
     ensures entries { IfErr result (λ stop. (n : ℕ) → stop.fault ≢ Fault.BadEntry n) }
 {
     read_events(alloc, reader, Framing::Plain, limit, max_reads, events)
 }
 
-/// Reads a chunked stream to its end, in at most `max_reads` reads of at most `MAX_READ` bytes, and adds the events to
-/// the list; those before a fault stay in it. What the last read took behind the end is in the report.
+/// Reads a chunked stream to its end, and appends its events to `events`, which keeps those before
+/// an error. Makes at most `max_reads` reads of at most `MAX_READ` bytes each. The report has the
+/// bytes of the last read after the end.
 pub fn read_stream<S: Source>(
     alloc: Global,
     reader: &mut S,
@@ -48,18 +49,19 @@ pub fn read_stream<S: Source>(
     max_reads: u64,
     events: &mut Vec<Event>,
 ) -> Result<Report, Stop>
+    // The bytes `w` were read, their events appended, and `EndsStream` describes the result.
     ensures reads { (w : List ℕ) × (more : List EventValue)
         × Consumes (S.left reader.old) (S.left reader.new) w
         × (events.new.items ≡ events.old.items ++ more)
         × EndsStream limit max_reads (S.counts reader.old) (S.counts reader.new) (S.left reader.new)
         w more result }
-    // An event is never a bad entry: F16 never comes.
+    // F16 never occurs.
     ensures entries { IfErr result (λ stop. (n : ℕ) → stop.fault ≢ Fault.BadEntry n) }
 {
     read_events(alloc, reader, Framing::Chunked, limit, max_reads, events)
 }
 
-/// Reads a stream of events of either framing, as `read_plain` and `read_stream` do.
+/// Like [`read_plain`] or [`read_stream`], for the given framing.
 pub fn read_events<S: Source>(
     alloc: Global,
     reader: &mut S,
@@ -68,19 +70,20 @@ pub fn read_events<S: Source>(
     max_reads: u64,
     events: &mut Vec<Event>,
 ) -> Result<Report, Stop>
+    // The bytes `w` were read, their events appended, and `EndsReading` describes the result.
     ensures reads { (w : List ℕ) × (more : List EventValue)
         × Consumes (S.left reader.old) (S.left reader.new) w
         × (events.new.items ≡ events.old.items ++ more)
         × EndsReading framing Spells IsEventRefusal limit max_reads (S.counts reader.old)
         (S.counts reader.new) (S.left reader.new) w more result }
-    // An event is never a bad entry: F16 never comes.
+    // F16 never occurs.
     ensures entries { IfErr result (λ stop. (n : ℕ) → stop.fault ≢ Fault.BadEntry n) }
 {
     let records = EventReader::new(alloc);
     read_records(reader, framing, records, limit, max_reads, events)
 }
 
-// The same for any reader of records, before its first byte.
+// Like [`read_events`], for any reader of records before its first byte.
 fn read_records<R: RecordReader, S: Source>(
     reader: &mut S,
     framing: Framing,

@@ -1,4 +1,4 @@
-//! Reads a stream of either framing in pieces, however cut.
+//! Decodes a stream of either framing in pieces of any size.
 
 ghost use Rattle.std.specs.Prelude.{◌≡◌, ◌≢◌, ℕ, ◌^◌, ◌<◌, ◌≤◌, List, [], length};
 ghost use Rattle.mes_stream.specs.Decoders.{HoldsIn};
@@ -21,27 +21,27 @@ use crate::step::{Decoded, Step};
 use mes_frame::Limit;
 use std::convert::Infallible;
 
-/// How the records of a stream come.
+/// The framing of the records of a stream.
 #[derive(Clone, Copy, Debug, PartialEq, Eq)]
 pub enum Framing {
-    /// One behind the other, up to the end of the input: plain RecordIO.
+    /// Consecutive records up to the end of the input: plain RecordIO.
     Plain,
-    /// As the data of a chunked body, which shows its own end.
+    /// Records in a chunked body, which has an end of its own.
     Chunked,
 }
 
-/// Reads a stream of either framing: it takes the stream in pieces, however cut. Behind the end or a fault no more pieces are to
-/// be taken.
+/// Decodes a stream of either framing in pieces of any size. After the end or an error no more
+/// pieces may be given.
 #[derive(Drop)]
 pub enum StreamReader<R> {
-    /// Reads plain RecordIO.
+    /// Decodes plain RecordIO.
     Plain(Body<R>),
-    /// Reads a chunked stream.
+    /// Decodes a chunked stream.
     Chunked(ChunkedBody<R>),
 }
 
 impl<R: RecordReader> StreamReader<R> {
-    /// A reader before the first byte, by what reads its records.
+    /// Returns a reader before the first byte; `reader` decodes the records.
     pub fn new(framing: Framing, reader: R, limit: Limit) -> StreamReader<R>
         requires { R.holds reader [] }
         ensures represents { StreamRepresents R.holds R.spells 0 result framing limit [] [] }
@@ -49,7 +49,8 @@ impl<R: RecordReader> StreamReader<R> {
         StreamReader::following(framing, reader, limit, 0)
     }
 
-    /// The same, where so many records of any kind stand ahead of the stream: the numbers of its own count from there.
+    /// Like [`new`](Self::new), but after `done` records of any kind: its own are numbered from
+    /// there.
     pub fn following(framing: Framing, reader: R, limit: Limit, done: u64) -> StreamReader<R>
         requires { R.holds reader [] }
         ensures represents { (ahead : ℕ) → done ≡ saturated ahead
@@ -62,13 +63,16 @@ impl<R: RecordReader> StreamReader<R> {
         }
     }
 
-    /// Takes a piece up to the end of a record or of the stream, or a fault, or the piece's end: an answer behind each record.
+    /// Decodes a piece up to the end of a record or of the stream, the first error, or the end of
+    /// the piece.
     pub fn next(&mut self, piece: &[u8]) -> Step<R::Value, PackedFault>
+        // Each result, and when, if `w` are the bytes so far and `values` their values.
         ensures says { (ahead : ℕ) (framing : FramingValue) (limit : ℕ) (w : List ℕ)
             (values : List R.Value) → StreamRepresents R.holds R.spells ahead self.old framing limit
             w values
             → SaysIn framing (StreamRepresents R.holds R.spells ahead self.new framing limit)
             R.spells R.breaks ahead limit w values piece.now result.used result.out }
+        // Before the last byte used: no record ends, and there is no error.
         ensures before { (ahead : ℕ) (framing : FramingValue) (limit : ℕ) (w : List ℕ)
             (values : List R.Value) → StreamRepresents R.holds R.spells ahead self.old framing limit
             w values
@@ -76,7 +80,7 @@ impl<R: RecordReader> StreamReader<R> {
         ensures more { result.out ≡ Decoded.More → result.used ≡ length piece.now }
         ensures some { result.out ≢ Decoded.More → 0 < result.used }
         ensures used { result.used ≤ length piece.now }
-        // After the end or a fault nothing is kept.
+        // After the end or an error: nothing is buffered.
         ensures kept { KeepsNoneAfterAnswer (held_by_stream R.kept self.new) result.out }
     {
         let Step { used, out } = self.advance(piece);
@@ -92,13 +96,14 @@ impl<R: RecordReader> StreamReader<R> {
         Step { used, out }
     }
 
-    /// Takes a piece up to the end of the stream, or a fault, or the piece's end, and adds the values of the records that end in it to
-    /// the list: no answer is an event.
+    /// Decodes a piece up to the end of the stream, the first error, or the end of the piece.
+    /// Appends the values of the records that end in it.
     pub fn feed(
         &mut self,
         piece: &[u8],
         values: &mut Vec<R::Value>,
     ) -> Step<Infallible, PackedFault>
+        // Each result, and when; the values of the records before it are appended.
         ensures feeds { (ahead : ℕ) (framing : FramingValue) (limit : ℕ) (w : List ℕ)
             (before : List R.Value) → StreamRepresents R.holds R.spells ahead self.old framing limit
             w before
@@ -140,8 +145,8 @@ impl<R: RecordReader> StreamReader<R> {
         }
     }
 
-    /// The input has no more bytes. Of plain records: Ok between two of them, else F10. Of a chunked stream, which has not
-    /// shown its end: F6.
+    /// Reports the end of the input. Plain RecordIO: `Ok` between records, F10 inside one. A
+    /// chunked stream that has not ended: F6.
     pub fn finish(&self) -> Result<(), Fault>
         ensures { (ahead : ℕ) (framing : FramingValue) (limit : ℕ) (w : List ℕ)
             (values : List R.Value) → StreamRepresents R.holds R.spells ahead self.now framing limit
@@ -160,7 +165,7 @@ impl<R: RecordReader> StreamReader<R> {
         }
     }
 
-    /// How many bytes of the record that has begun are kept: none behind the end or a fault that `feed` or `next` told.
+    /// Returns the number of buffered bytes of an incomplete record: 0 after the end or an error.
     pub fn held(&self) -> u64
         ensures count { result ≡ held_by_stream R.kept self.now }
         ensures most { (ahead : ℕ) (framing : FramingValue) (limit : ℕ) (w : List ℕ)
@@ -174,7 +179,7 @@ impl<R: RecordReader> StreamReader<R> {
         }
     }
 
-    // Takes the front of a piece.
+    // Consumes bytes from the start of a piece.
     fn consume(&mut self, piece: &[u8]) -> Step<(), PackedFault>
         requires { 0 < length piece.now }
         ensures reports { (ahead : ℕ) (framing : FramingValue) (limit : ℕ) (w : List ℕ)
@@ -196,8 +201,8 @@ impl<R: RecordReader> StreamReader<R> {
         }
     }
 
-    // Takes a piece up to the end of a record or of the stream, or what stops the reading, or the piece's end. The value of a
-    // record that ended is still to be read.
+    // Decodes a piece like [`next`](Self::next), but does not decode the value of a record that
+    // ended.
     fn advance(&mut self, piece: &[u8]) -> Step<(), PackedFault>
         ensures reports { (ahead : ℕ) (framing : FramingValue) (limit : ℕ) (w : List ℕ)
             (values : List R.Value) → StreamRepresents R.holds R.spells ahead self.old framing limit
@@ -213,7 +218,7 @@ impl<R: RecordReader> StreamReader<R> {
         ensures more { result.out ≡ Decoded.More → result.used ≡ length piece.now }
         ensures some { result.out ≢ Decoded.More → 0 < result.used }
         ensures used { result.used ≤ length piece.now }
-        // After the end or a fault nothing is kept.
+        // After the end or an error: nothing is buffered.
         ensures kept { KeepsNoneAfterAnswer (held_by_stream R.kept self.new) result.out }
     {
         let mut at = 0;
@@ -235,7 +240,7 @@ impl<R: RecordReader> StreamReader<R> {
         Step::more(at)
     }
 
-    // What is told where the stream ended or stops behind so many bytes of a piece: nothing is kept any more.
+    // Frees the buffers, and returns the end or the error.
     fn stop(&mut self, used: usize, out: Decoded<(), PackedFault>) -> Step<(), PackedFault>
         ensures told { result ≡ record { used = used; out = out } }
         ensures kept { held_by_stream R.kept self.new ≡ 0 }
@@ -244,7 +249,7 @@ impl<R: RecordReader> StreamReader<R> {
         Step { used, out }
     }
 
-    // The value of the record that has ended, or why it has none.
+    // Returns the value of the record that ended, or the reason for which it has none.
     fn end_record(&mut self) -> Result<R::Value, RecordError>
         ensures ends { (r : List ℕ) → R.holds (body_of self.old).reader r → length r < 2 ^ 64
             → Ends R.holds R.spells R.breaks (body_of self.old) (body_of self.new) r result }
@@ -257,7 +262,7 @@ impl<R: RecordReader> StreamReader<R> {
         }
     }
 
-    // The same, where the value is added to a list.
+    // Like [`end_record`](Self::end_record), but appends the value to a list.
     fn end_record_into(&mut self, values: &mut Vec<R::Value>) -> Result<(), RecordError>
         ensures ends { (r : List ℕ) → R.holds (body_of self.old).reader r → length r < 2 ^ 64
             → EndsInto R.holds R.spells R.breaks (body_of self.old) (body_of self.new) r
@@ -271,7 +276,7 @@ impl<R: RecordReader> StreamReader<R> {
         }
     }
 
-    // The fault of the record that has ended without a value. Nothing is kept any more.
+    // Returns the error for the record that ended without a value, and frees the buffers.
     fn refuse(&mut self, why: RecordError) -> PackedFault
         ensures fault { result ≡ fault_at_record (body_of self.old).done why }
         ensures kept { held_by_stream R.kept self.new ≡ 0 }
@@ -284,7 +289,7 @@ impl<R: RecordReader> StreamReader<R> {
         fault
     }
 
-    /// Keeps nothing any more.
+    /// Frees the buffers.
     pub(crate) fn release(&mut self)
         ensures { held_by_stream R.kept self.new ≡ 0 }
     {

@@ -1,4 +1,5 @@
-//! Laws of the definitions that the contracts cite: functions that do nothing, each with the law as its contract.
+//! Laws of the definitions that the contracts use. Each function does nothing; its contract is the
+//! law.
 
 ghost use Rattle.std.specs.Prelude.{◌≡◌, ℕ, List, [], Result};
 ghost use Rattle.mes_msg.specs.Events.{Spells};
@@ -25,40 +26,48 @@ use crate::limits::{MAX_COUNT_LINE, MAX_FAULT_LINE, MAX_READ, MAX_REST};
 use crate::record_reader::RecordReader;
 use mes_msg::{Event, message_reading_is_unique};
 
-/// Any bytes are live, with their values, or have a byte that shows a fault, behind the values before it.
+/// Proves that any bytes have exactly one reading as plain RecordIO: they are a prefix of a stream,
+/// or an error is detected at one of their bytes.
 pub fn plain_reading_is_unique<R: RecordReader>()
-    // Where the data of any record have a value or a fault, at least one of these holds.
+    // At least one, if the data of every record have a value or an error.
     ensures some { IsDecided R.spells R.breaks → (ahead limit : ℕ) (w : List ℕ)
         → (reading : PlainReading R.Value) × ReadsPlain R.spells R.breaks ahead limit w reading }
-    // Where they have one value or one fault at most, at most one does, in one way.
+    // At most one, if the data of no record have two values or errors.
     ensures one { IsExact R.spells R.breaks
         → (ahead limit : ℕ) (w : List ℕ) (reading other : PlainReading R.Value)
         → ReadsPlain R.spells R.breaks ahead limit w reading
         → ReadsPlain R.spells R.breaks ahead limit w other → reading ≡ other }
 {}
 
-/// The same of a chunked stream: any bytes are live, or begin with a whole stream, or have a byte that shows a fault, behind
-/// the values before it.
+/// Proves that any bytes have exactly one reading as a chunked stream: they are a prefix of a
+/// stream, they begin with a whole stream, or an error is detected at one of their bytes.
 pub fn stream_reading_is_unique<R: RecordReader>()
+    // At least one, if the data of every record have a value or an error.
     ensures some { IsDecided R.spells R.breaks → (ahead limit : ℕ) (w : List ℕ)
         → (reading : StreamReading R.Value) × ReadsStream R.spells R.breaks ahead limit w reading }
+    // At most one, if the data of no record have two values or errors.
     ensures one { IsExact R.spells R.breaks
         → (ahead limit : ℕ) (w : List ℕ) (reading other : StreamReading R.Value)
         → ReadsStream R.spells R.breaks ahead limit w reading
         → ReadsStream R.spells R.breaks ahead limit w other → reading ≡ other }
 {}
 
-/// Two chunkings of one body are read alike, whole ones and fronts: to the same values, and to the same fault where they stop.
+/// Proves that the chunking of a body, or of a prefix of one, changes neither the values nor the
+/// error of its records.
 pub fn chunking_is_irrelevant<R: RecordReader>()
+    // The chunking of a whole stream does not change its values.
     ensures stream { (limit : ℕ) (w v body : List ℕ) (values : List R.Value) → IsChunked w body
         → IsChunked v body → IsStream R.spells limit w values → IsStream R.spells limit v values }
+    // The chunking of a prefix of a stream does not change its values.
     ensures live { (limit : ℕ) (w v body : List ℕ) (values : List R.Value) → IsOpen w body
         → IsOpen v body → Live R.spells limit w values → Live R.spells limit v values }
+    // Two chunkings of a whole body have the same values, and the same error of its records.
     ensures whole { IsExact R.spells R.breaks
         → (ahead limit : ℕ) (w v body : List ℕ) (reading other : StreamReading R.Value)
         → IsChunked w body → IsChunked v body
         → ReadsStream R.spells R.breaks ahead limit w reading
         → ReadsStream R.spells R.breaks ahead limit v other → IsAlike reading other }
+    // Two chunkings of a prefix of a body have the same values, and the same error of its records.
     ensures front { IsExact R.spells R.breaks
         → (ahead limit : ℕ) (w v body : List ℕ) (reading other : StreamReading R.Value)
         → IsOpen w body → IsOpen v body
@@ -66,30 +75,36 @@ pub fn chunking_is_irrelevant<R: RecordReader>()
         → ReadsStream R.spells R.breaks ahead limit v other → IsAlike reading other }
 {}
 
-/// One read takes at most 512 bytes, and a report holds at most as many behind the end of a stream; and how long a line is.
+/// Proves the values of `MAX_READ` and `MAX_REST` (512 bytes), `MAX_FAULT_LINE` and
+/// `MAX_COUNT_LINE`.
 pub fn stream_limits()
     ensures reads { (MAX_READ ≡ 512) × (MAX_REST ≡ 512) }
     ensures lines { (MAX_FAULT_LINE ≡ 640) × (MAX_COUNT_LINE ≡ 64) }
 {}
 
-/// Of events no premise is left: any bytes are read as a stream of events in exactly one way, plain or chunked.
+/// Proves that any bytes have exactly one reading as a stream of events, plain or chunked.
 pub fn event_reading_is_unique()
+    // Plain RecordIO: at least one reading.
     ensures some_plain { (limit : ℕ) (w : List ℕ)
         → (reading : PlainReading EventValue) × ReadsPlain Spells IsEventRefusal 0 limit w reading }
+    // Plain RecordIO: at most one reading.
     ensures one_plain { (limit : ℕ) (w : List ℕ) (reading other : PlainReading EventValue)
         → ReadsPlain Spells IsEventRefusal 0 limit w reading
         → ReadsPlain Spells IsEventRefusal 0 limit w other → reading ≡ other }
+    // A chunked stream: at least one reading.
     ensures some_stream { (limit : ℕ) (w : List ℕ)
         → (reading : StreamReading EventValue)
         × ReadsStream Spells IsEventRefusal 0 limit w reading }
+    // A chunked stream: at most one reading.
     ensures one_stream { (limit : ℕ) (w : List ℕ) (reading other : StreamReading EventValue)
         → ReadsStream Spells IsEventRefusal 0 limit w reading
         → ReadsStream Spells IsEventRefusal 0 limit w other → reading ≡ other }
-    // However a body is chunked, it is read to the same events and the same fault of its records.
+    // The chunking of a body changes neither its events nor the error of its records.
     ensures one_body { (limit : ℕ) (w v body : List ℕ) (reading other : StreamReading EventValue)
         → IsChunked w body → IsChunked v body
         → ReadsStream Spells IsEventRefusal 0 limit w reading
         → ReadsStream Spells IsEventRefusal 0 limit v other → IsAlike reading other }
+    // Like `one_body`, for a prefix of a body.
     ensures one_front { (limit : ℕ) (w v body : List ℕ) (reading other : StreamReading EventValue)
         → IsOpen w body → IsOpen v body
         → ReadsStream Spells IsEventRefusal 0 limit w reading
@@ -101,14 +116,17 @@ pub fn event_reading_is_unique()
     chunking_is_irrelevant::<EventReader>();
 }
 
-/// However a body, or the front of one, is chunked, and however a device gives its bytes: `read_stream` answers it alike, with the same
-/// events and the same end or fault, where the bytes decide that.
+/// Proves that the result of `read_stream` depends neither on the chunking of a body nor on the
+/// sizes of the reads: it has the same events, and the same end or error. The condition: no read
+/// and no allocation fails, and the reads suffice.
 pub fn one_answer()
+    // Two chunkings of a body: the same events, and the same end or error.
     ensures body { (limit : ℕ) (w v body : List ℕ) (events others : List EventValue)
         (outcome other : Result Report Stop) → IsChunked w body → IsChunked v body
         → AnswersStream limit w events outcome → AnswersStream limit v others other
         → IsDecidedByBytes outcome → IsDecidedByBytes other
         → (events ≡ others) × EndsAlike outcome other }
+    // Two chunkings of a prefix of a body: the same events, and the same end or error.
     ensures front { (limit : ℕ) (w v body : List ℕ) (events others : List EventValue)
         (outcome other : Result Report Stop) → IsOpen w body → IsOpen v body
         → AnswersStream limit w events outcome → AnswersStream limit v others other
@@ -118,8 +136,8 @@ pub fn one_answer()
     event_reading_is_unique();
 }
 
-/// The bytes alone decide what a decoder returns, and not how they are cut: for two lists of pieces with the same concatenation, which may
-/// hold any bytes, it returns the same events, comes to the same end or fault, and uses the same number of bytes, if no allocation fails.
+/// Proves that the result of a decoder does not depend on how the bytes are cut into pieces. The
+/// events, the end or error and the number of bytes used are the same, if no allocation fails.
 pub fn one_decoding()
     ensures { (limit : ℕ) (first second : DecoderValue ReaderValue) (pieces others : List (List ℕ))
         (calls more : List (ℕ × Answer EventValue Fault)) (outcome other : DecodeOutcome)
@@ -131,9 +149,9 @@ pub fn one_decoding()
     event_reading_is_unique();
 }
 
-/// The bytes of a device alone decide what `read_stream` returns, and not how many each read gives: the same events, and the same end or
-/// fault after the same number of bytes, with the same bytes after the end. The bytes may be any, if no call and no allocation fails and
-/// there are enough reads.
+/// Proves that the result of `read_stream` does not depend on the sizes of the reads. The events,
+/// the end or error, the number of bytes used and the bytes after the end are the same. The
+/// condition: no read and no allocation fails, and the reads suffice.
 pub fn one_stream_outcome()
     ensures { (limit : ℕ) (w : List ℕ) (events others : List EventValue)
         (outcome other : Result Report Stop) (a : AnswersStream limit w events outcome)
@@ -144,7 +162,7 @@ pub fn one_stream_outcome()
     event_reading_is_unique();
 }
 
-/// Like [`one_stream_outcome`], of `read_plain`.
+/// Like [`one_stream_outcome`], for `read_plain`.
 pub fn one_plain_outcome()
     ensures { (limit : ℕ) (w : List ℕ) (events others : List EventValue)
         (outcome other : Result Report Stop) (a : AnswersPlain limit w events outcome)
