@@ -53,14 +53,14 @@ abbrev pub ByteEndsAfter : {E : Type 0} → Framing → (List ℕ → E → Type
 ByteEndsAfter framing spells breaks ahead limit w values (Ok report) = EndsAt framing spells ahead limit w values report.used report.rest.items
 ByteEndsAfter framing spells breaks ahead limit w values (Err stop) = StopsAt framing spells breaks ahead limit w values stop.used stop.fault
 
--- the result of the end of the input after w, all of which was used
+-- the result of the end of the input after w, if every byte was used
 abbrev pub EndMeans : {E : Type 0} → Framing → (List ℕ → E → Type 0) → Ahead → ℕ → List ℕ → List E → Result Report Stop → Type 0
 EndMeans framing spells ahead limit w values (Ok report) =
     InputEnds {T = Unit {0}} framing spells limit w values (Ok tt) × (report.used ≡ saturated (ahead.bytes + length w)) × (report.rest.items ≡ [])
 EndMeans framing spells ahead limit w values (Err stop) =
     InputEnds {T = Unit {0}} framing spells limit w values (Err stop.fault) × (stop.used ≡ saturated (ahead.bytes + length w))
 
--- the stream continues after w, all of which was used; `fault` is why no more was read
+-- the stream continues after w, every byte was used, and `fault` is why no more was read
 abbrev pub BreaksOff : {E : Type 0} → Fault → Framing → (List ℕ → E → Type 0) → Ahead → ℕ → List ℕ → List E → Result Report Stop → Type 0
 BreaksOff fault framing spells ahead limit w values (Ok report) = ⊥
 BreaksOff fault framing spells ahead limit w values (Err stop) =

@@ -18,7 +18,7 @@ Records spells limit b (value ∷ values) =
     (front : List ℕ) × (rest : List ℕ) × (r : List ℕ) × IsRecord front r limit × spells r value × (b ≡ front ++ rest)
     × Records spells limit rest values
 
--- the bytes are such records, followed by x, of which `Is` holds
+-- the bytes are such records, followed by an x for which `Is` holds
 pub record Following {E : Type 0} (spells : List ℕ → E → Type 0) (limit : ℕ) (Is : List ℕ → Type 0) (b : List ℕ) (values : List E) : Type 0 where
   pub whole : List ℕ
   pub x : List ℕ
@@ -38,7 +38,7 @@ EndsInside spells limit b values = Following spells limit (λ x. (x ≢ []) × (
 abbrev pub number_after : {E : Type 0} → ℕ → List E → ℕ
 number_after ahead values = saturated (ahead + length values + 1)
 
--- the byte c after the bytes b ends a record with data of which `Is` holds
+-- the byte c after the bytes b ends a record whose data satisfy `Is`
 abbrev pub EndsRecord : {E : Type 0} → (List ℕ → E → Type 0) → ℕ → List ℕ → List E → ℕ → (List ℕ → Type 0) → Type 0
 EndsRecord spells limit b values c Is = Following spells limit (λ x. (r : List ℕ) × IsRecord (x ++ c ∷ []) r limit × Is r) b values
 
