@@ -1,4 +1,4 @@
--- A stream followed read by read, with what was printed of its events.
+-- A stream followed read by read, and the output for its events.
 use Rattle.std.proofs.Common.{◌≡◌, ℕ, ◌+◌, ◌-◌, ◌*◌, ◌≤◌, List, [], ◌∷◌, ◌++◌, length, ◌∙◌, ap, sym, subst, append-nil, arith, refl, inl, inr, length-append, lit≤, Result, Ok, Err}
 use Rattle.std.specs.Io.KnownBytes.{Consumes}
 use Rattle.std.proofs.KnownBytes.{Appends-nil}
@@ -50,7 +50,7 @@ use Rattle.mesosev_stream.specs.declared.line_buffer.LineBuffer.{LineBuffer}
 use Rattle.mesosev_stream.proofs.FewEvents.{goes_few, ends_few}
 use Rattle.mesosev_stream.proofs.ShowLemmas.{goes_counted, goes_then_stops, prints_behind, lines_both}
 
--- a piece was taken: a list of events that could not grow is no more than `IsEventRefusal` says
+-- a piece was consumed; `IsEventRefusal` permits that the list of events could not grow
 pub events_taken : (d new : Reading EventReader) (piece : List ℕ) (old now : List Event) (fed : Result (Unit {0}) ReadingStop)
     → ((ahead : Ahead) (framing : Framing) (limit : ℕ) (v : List ℕ) (values : List Event) → ReadingRepresentsAfter HoldsData Spells ahead d framing limit v values
     → ReadingTakesAfter HoldsData Spells (IsRefused Spells IsEventRefusal) ahead new framing limit v values piece old now fed)
@@ -58,7 +58,7 @@ pub events_taken : (d new : Reading EventReader) (piece : List ℕ) (old now : L
 events_taken d new piece old now fed takes framing limit v values represents =
     takes_wider Spells (IsRefused Spells IsEventRefusal) IsEventRefusal refused_of HoldsData nothing_ahead new framing limit v values piece old now fed (takes nothing_ahead framing limit v values represents)
 
--- however a piece was taken, a front of the bytes has the events
+-- a prefix of the bytes has the events, with any result for the piece
 spelt_of : (framing : Framing) (limit : ℕ) (f : Reading EventReader) (w piece : List ℕ) (values old now : List Event) (fed : Result (Unit {0}) ReadingStop) → old ≡ []
     → ReadingTakes HoldsData Spells IsEventRefusal f framing limit w values piece old now fed → Spelt framing limit (w ++ piece) (values ++ now)
 spelt_of framing limit f w piece values old now (Ok done) none (more, added, s) =
@@ -72,26 +72,26 @@ spelt_of framing limit f w piece values old now (Err (reading_stop.Fault fault))
     let used = s.used in
     (s.front, s.byte ∷ s.rest, s.is, omega (arith, last, whole, used, length-append s.front (s.byte ∷ s.rest)), inl (rw (added, none) s.live))
 
--- nothing went out
+-- nothing was written
 none_out : (a : Device) (sent : ℕ) → sent ≡ 0 → WentOut a.bytes a.bytes a.counts a.counts [] 0 sent
 none_out a sent none = record { out = Appends-nil a.bytes; good = (refl, refl); count = omega (arith, none); calls = (omega arith, omega arith) }
 
--- What is wanted of the events went out, and what becomes of that of more events behind them.
+-- Some events were printed; the effect of printing more.
 module _ (events more : List Event) (before after : LineBuffer) (out mid new : Device) (none : before.held.items ≡ []) where
-  -- it goes out too
+  -- they are printed too
   shown_more : (detail : Detail) (next : ℕ) → WentOut out.bytes mid.bytes out.counts mid.counts (printed_from detail 1 events) 0 before.sent → PrintsEvents detail before after mid new (1 + length events) more (Ok (All next))
       → WentOut out.bytes new.bytes out.counts new.counts (printed_from detail 1 (events ++ more)) 0 after.sent × (after.held.items ≡ []) × (next ≡ saturated ((1 + length events) + length more))
   shown_more Counts next shown h = (rw (h.0, h.1) shown, rw h.1 none, h.2)
   shown_more Lines next shown h =
       (rw (lines_both 1 events more) (both_out out.bytes mid.bytes new.bytes out.counts mid.counts new.counts (lines_from 1 events) (lines_from (1 + length events) more) 0 before.sent after.sent shown (rw none at h.0.0)), h.0.1, h.1)
 
-  -- or the output failed inside it
+  -- the output failed inside them
   cut : (detail : Detail) (fault : WriteFault) → WentOut out.bytes mid.bytes out.counts mid.counts (printed_from detail 1 events) 0 before.sent → PrintsEvents detail before after mid new (1 + length events) more (Err fault)
       → (detail ≡ Lines) × IsCutOff out new (lines_from 1 events) (lines_from (1 + length events) more) fault.sent
   cut Counts fault shown h = absurd h
   cut Lines fault shown h = (refl, goes_then_stops out mid new (lines_from 1 events) (lines_from (1 + length events) more) before.sent fault shown (rw none at h))
 
-  -- or memory was refused for one of them
+  -- an allocation failed for one of them
   record Lacks : Type 0 where
     front : List Event
     event : Event
@@ -128,12 +128,12 @@ goes_start first out framing limit fresh = record {
   nothing Lines = none_out out first.lines.sent fresh.sent
 
 module _ (first d after : Follower) (out mid printed_out : Device) (w piece : List ℕ) (now : List Event) (before : GoesFrom first out d mid w) where
-  -- what became of one more piece
+  -- the result for one more piece
   abbrev pub Takes : Result (Unit {0}) ReadingStop → Type 0
   Takes fed = (framing : Framing) (limit : ℕ) (v : List ℕ) (values : List Event) → ReadingRepresents HoldsData Spells d.reading framing limit v values
       → ReadingTakes HoldsData Spells IsEventRefusal after.reading framing limit v values piece d.events.items now fed
 
-  -- and of its events
+  -- the result for its events
   abbrev pub Shows : Result Amount WriteFault → Type 0
   Shows result = (n : ℕ) → d.number ≡ saturated n → PrintsEvents d.detail d.lines after.lines mid printed_out n now result
 
@@ -168,7 +168,7 @@ module _ (first d after : Follower) (out mid printed_out : Device) (w piece : Li
         number = omega (arith, is, length-append s.events now);
       }
 
-  -- what the piece brought
+  -- the events that the piece completed
   brings : (framing : Framing) (limit : ℕ) (events : List Event) (fed : Result (Unit {0}) ReadingStop) → d.events.items ≡ [] → ReadingRepresents HoldsData Spells d.reading framing limit w events → Takes fed
       → Brings framing limit w piece events now
   brings framing limit events fed none represents takes = record {
@@ -189,7 +189,7 @@ module _ (first d after : Follower) (out mid printed_out : Device) (w piece : Li
       let l = none.1 in
       (s.events, l.front, l.event, l.rest, subst (λ (es : List Event). Brings framing limit w piece s.events es) l.is (brings framing limit s.events fed s.cleared s.represents takes), none.0, l.shown)
 
--- the reading came to its outcome, and its line was printed
+-- the line of the result was printed
 outcome_printed : (detail : Detail) (framing : Framing) (limit reads : ℕ) (input rest out mid late : Device) (w : List ℕ) (events : List Event) (outcome : Result Report Stop) (sent : ℕ) (ended : RunOutcome)
     → Consumes input.bytes rest.bytes w → EndsReading framing Spells IsEventRefusal limit reads input.counts rest.counts rest.bytes w events outcome
     → WentOut out.bytes mid.bytes out.counts mid.counts (printed_from detail 1 events) 0 sent → Prints mid late (outcome_line (length events) outcome ++ 10 ∷ []) (outcome_status outcome) ended
@@ -213,7 +213,7 @@ byte_few framing limit w events (Err stop) at =
     let whole = ap length s.is ∙ length-append s.front (s.byte ∷ s.rest) in
     omega (arith, fewer, whole)
 
--- so the number of the next one tells how many there were
+-- the number of the next event gives the number of events
 counted : (reads made number : ℕ) (w : List ℕ) (events : List Event) → reads ≤ MAX_READS → made ≤ reads → length w ≤ MAX_READ * made → length events ≤ length w → number ≡ saturated (1 + length events)
     → number - 1 ≡ length events
 counted reads made number w events few most bytes fewer is = omega (arith, few, most, bytes, fewer, is)
@@ -222,7 +222,7 @@ module _ (framing : Framing) (limit reads : ℕ) (few : reads ≤ MAX_READS) (in
   abbrev pub HasEnded : ReadsEnd FollowStop → Type 0
   HasEnded end = EndsReads (GoesFrom first out now mid) (StopsFrom first out now mid) reads input.counts rest.counts rest.bytes w end
 
-  -- the stream came to its outcome
+  -- the stream was read to its end or an error
   pub follows_outcome : (end : ReadsEnd FollowStop) (read : ReadsEnd ReadingStop) (outcome : Result Report Stop) (late : Device) (events : ℕ) (ended : RunOutcome) → HasEnded end → ended_of end ≡ Ok read → Means HoldsData Spells now.reading read outcome
       → events ≡ now.number - 1 → Prints mid late (outcome_line events outcome ++ 10 ∷ []) (outcome_status outcome) ended → Follows first.detail framing limit reads input rest out late (ended_after now.lines.sent ended)
   follows_outcome (Stopped (PrintError reason)) read outcome late events ended ends is means count prints =
@@ -256,7 +256,7 @@ module _ (framing : Framing) (limit reads : ℕ) (few : reads ≤ MAX_READS) (in
       let all = count ∙ counted reads reads now.number w s.events few asked.most asked.bytes fewer s.number in
       outcome_printed first.detail framing limit reads input rest out mid late w s.events outcome now.lines.sent ended consumes (inr (inr (inr (reported framing limit w s.events s.represents, asked)))) s.shown (rw all at prints)
 
-  -- or the output failed in the lines of the last events
+  -- the output failed in the lines of the last events
   pub follows_cut : (end : ReadsEnd FollowStop) (fault : WriteFault) → HasEnded end → ended_of end ≡ Err (why.Output fault) → Follows first.detail framing limit reads input rest out mid (OutputFailed fault.sent)
   follows_cut (Stopped (PrintError (why.Output reported))) fault (front, piece, at, stops, asked) is =
       let same : reported ≡ fault = cc in
@@ -268,7 +268,7 @@ module _ (framing : Framing) (limit reads : ℕ) (few : reads ≤ MAX_READS) (in
   follows_cut Failed fault ends is = absurd (cc)
   follows_cut Spent fault ends is = absurd (cc)
 
-  -- or memory was refused for those of one of them
+  -- an allocation failed for the lines of one of them
   pub follows_lacking : (end : ReadsEnd FollowStop) (late : Device) (ended : RunOutcome) → HasEnded end → ended_of end ≡ Err why.NoMemory → Prints mid late (fault_text NoMemory 0 ++ 10 ∷ []) exit.Fault ended
       → Follows first.detail framing limit reads input rest out late (ended_after now.lines.sent ended)
   follows_lacking (Stopped (PrintError why.NoMemory)) late ended (front, piece, at, stops, asked) is prints =

@@ -1,4 +1,4 @@
--- What a run comes to whose last text was printed.
+-- The outcome of a run after its last text was printed.
 use Rattle.std.proofs.Common.{◌≡◌, ℕ, List, Result, Ok, Err, refl}
 use Rattle.mes_frame.specs.Devices.{Device}
 use Rattle.mes_frame.specs.declared.write.WriteFault.{WriteFault}

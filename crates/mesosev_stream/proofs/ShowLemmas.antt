@@ -1,4 +1,4 @@
--- Texts that went out behind one another, and the lines of events.
+-- Consecutive texts that were written, and the lines of events.
 use Rattle.std.proofs.Common.{◌≡◌, ℕ, suc, ◌+◌, ◌<◌, List, [], ◌∷◌, ◌++◌, length, take, drop, get_or, take-append-drop, length-take-le, sym, ◌∙◌, ap, subst, append_assoc, append-nil, arith, refl, length-append}
 use Rattle.std.proofs.KnownBytes.{Appends-nil, Appends-trans}
 use Rattle.std.proofs.lemmas.List.{take-append-le, take_more, drop_more}
@@ -22,11 +22,11 @@ pub goes_both : (a b c : Device) (v w : List ℕ) → GoesOut a b v → GoesOut 
 goes_both a b c v w first second =
     (Appends-trans a.bytes b.bytes c.bytes v w first.0 second.0, none_then_none a.counts b.counts c.counts first.1 second.1)
 
--- what went out is counted
+-- the bytes written are counted
 pub goes_counted : (a b : Device) (w : List ℕ) (sent : ℕ) → WentOut a.bytes b.bytes a.counts b.counts w 0 sent → GoesOut a b w × (sent ≡ saturated (length w))
 goes_counted a b w sent went = ((went.out, went.good), let count = went.count in omega (arith, count))
 
--- cut off behind a text that went out
+-- cut off after a text that was written
 pub goes_then_cut : (a b c : Device) (u v w : List ℕ) (before sent : ℕ) → GoesOut a b u → before ≡ saturated (length u) → IsCutOff b c v w sent → IsCutOff a c (u ++ v) w (saturated (before + sent))
 goes_then_cut a b c u v w before sent first count cut =
     let is = cut.sent_is in
@@ -39,7 +39,7 @@ goes_then_cut a b c u v w before sent first count cut =
       stops = none_then_stops cut.why a.counts b.counts c.counts first.1 cut.stops;
     }
 
--- cut off in a front of the text
+-- cut off in a prefix of the text
 pub cut_more : (a b : Device) (u v w : List ℕ) (sent : ℕ) → IsCutOff a b u v sent → IsCutOff a b u (v ++ w) sent
 cut_more a b u v w sent cut =
     let short = cut.short in
@@ -52,13 +52,13 @@ cut_more a b u v w sent cut =
       stops = cut.stops;
     }
 
--- printed behind a text that went out
+-- printed after a text that was written
 pub prints_behind : (a b c : Device) (v w : List ℕ) (before : ℕ) (meant : ExitStatus) (ended : RunOutcome) → GoesOut a b v → before ≡ saturated (length v) → Prints b c w meant ended → PrintsAfter v a c w meant (ended_after before ended)
 prints_behind a b c v w before meant (Status status) first count (out, is) = (goes_both a b c v w first out, is)
 prints_behind a b c v w before meant (OutputFailed sent) first count cut =
     subst (λ (u : List ℕ). IsCutOff a c u w (saturated (before + sent))) (append-nil v) (goes_then_cut a b c v [] w before sent first count cut)
 
--- cut off inside the text behind one that went out, as the writer tells it
+-- cut off after a text that was written, as the writer reports it
 pub goes_then_stops : (a b c : Device) (v w : List ℕ) (before : ℕ) (fault : WriteFault) → WentOut a.bytes b.bytes a.counts b.counts v 0 before → Stops b.bytes c.bytes b.counts c.counts w before fault → IsCutOff a c v w fault.sent
 goes_then_stops a b c v w before fault first stops =
     let count = first.count in
@@ -82,7 +82,7 @@ lines_both n (x ∷ xs) ys =
       plus : (n k : ℕ) → (n + 1) + k ≡ n + suc k
       plus n k = omega arith
 
--- the lines up to the event x, which stands at i
+-- the lines up to the event x at index i
 pub lines_to : (events : List Event) (x : Event) (i n : ℕ) → i < length events → x ≡ get_or events i x
     → lines_from n (take (i + 1) events) ≡ lines_from n (take i events) ++ event_lines (saturated (n + i)) x
 lines_to events x i n inside is =
@@ -91,11 +91,11 @@ lines_to events x i n inside is =
     ∙ ap (λ (t : List ℕ). lines_from n (take i events) ++ t) (append-nil (event_lines (saturated (n + length (take i events))) x))
     ∙ ap (λ (k : ℕ). lines_from n (take i events) ++ event_lines (saturated (n + k)) x) (length-take-le i events (omega (arith, inside)))
 
--- the lines of all events, from those of the first ones on
+-- the lines of all events, split after the first i
 pub lines_on : (events : List Event) (i n : ℕ) → lines_from n events ≡ lines_from n (take i events) ++ lines_from (n + length (take i events)) (drop i events)
 lines_on events i n = ap (λ (es : List Event). lines_from n es) (sym (take-append-drop i events)) ∙ lines_both n (take i events) (drop i events)
 
--- the events up to the one at i, that one, and those behind it
+-- the events before index i, the event at i, and those after it
 pub events_at : (events : List Event) (x : Event) (i : ℕ) → i < length events → x ≡ get_or events i x → events ≡ take i events ++ x ∷ drop (i + 1) events
 events_at events x i inside is =
     sym (take-append-drop i events) ∙ ap (λ (es : List Event). take i events ++ es) (drop_more events i x inside ∙ ap (λ (y : Event). y ∷ drop (i + 1) events) (sym is))

@@ -1,4 +1,4 @@
--- What `convert` does: the events of a stream are written again.
+-- The effect of `convert`: the events of a stream are written again.
 use Rattle.std.specs.Prelude.{◌≡◌, ℕ, ◌⊎◌, Option, None, Some, List, [], ◌∷◌, ◌++◌, Result, Ok, Err}
 use Rattle.mes_msg.specs.Event.{Event}
 use Rattle.mes_stream.specs.Lines.{fault_text}
@@ -14,13 +14,13 @@ use Rattle.mesosev_stream.specs.declared.exit_status.ExitStatus.{ExitStatus}
 use Rattle.mesosev_stream.specs.declared.exit_status.ExitStatus.TheVariants as exit
 use Rattle.mesosev_stream.specs.declared.limits.TheConstants.{MAX_READS}
 
--- the bytes w are the events, which are good, as plain RecordIO, or in chunks of a size
+-- the bytes w are the events as plain RecordIO, or in chunks of that size
 abbrev pub IsConverted : ℕ → Option ℕ → List Event → List ℕ → Type 0
 IsConverted limit None events w = IsPlainOf limit events w
 IsConverted limit (Some most) events w = IsStreamOf limit most events w
 
--- The events were written, and nothing was told. Or one of them is not good, or memory was refused, and nothing was written, or
--- the writer stopped behind a part of them: that was told.
+-- The events were written, and nothing was printed to `err`. Or encoding or writing failed, and the
+-- error was printed.
 abbrev pub Sends : ℕ → Option ℕ → List Event → Device → Device → Device → Device → ExitStatus → Type 0
 Sends limit most events out written err reported status =
     ((w : List ℕ) × IsConverted limit most events w × WroteAll {W = Device} (λ d. d.bytes) (λ d. d.counts) out written w
@@ -28,14 +28,13 @@ Sends limit most events out written err reported status =
     ⊎ ((fault : SendFault) × StopsSending {W = Device} (λ d. d.bytes) (λ d. d.counts) (IsConverted limit most events) limit events out written fault
     × Tells err reported (send_text fault ++ 10 ∷ []) × (status ≡ exit.Fault))
 
--- what became of the events that were read: sent, where the stream was read to its end; else the fault was told, and nothing
--- was written
+-- the effect of the events read: written, if the stream ended; otherwise its error was printed
 abbrev pub SendsRead : ℕ → Option ℕ → List Event → Result Report Stop → Device → Device → Device → Device → ExitStatus → Type 0
 SendsRead limit most events (Ok report) out written err reported status = Sends limit most events out written err reported status
 SendsRead limit most events (Err stop) out written err reported status =
     (written ≡ out) × Tells err reported (fault_text stop.fault stop.used ++ 10 ∷ []) × (status ≡ exit.Fault)
 
--- the bytes w were taken from the input and read as the events up to the outcome, and that became of them
+-- the bytes w were read as these events with this result, and `SendsRead` holds of them
 abbrev pub Converts : Framing → ℕ → Option ℕ → Device → Device → Device → Device → Device → Device → ExitStatus → Type 0
 Converts framing limit most input rest out written err reported status =
     (w : List ℕ) × (events : List Event) × (outcome : Result Report Stop) × ReadsInput framing limit MAX_READS input rest w events outcome

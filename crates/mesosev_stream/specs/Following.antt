@@ -1,4 +1,4 @@
--- What a follower of a stream came to, read by read.
+-- The state of a follower of a stream, read by read.
 use Rattle.std.specs.Prelude.{◌≡◌, ℕ, ◌+◌, List, [], ◌∷◌, ◌++◌, length, Result, Ok, Err}
 use Rattle.mes_frame.specs.Devices.{Device}
 use Rattle.mes_frame.specs.Written.{Passes, WentOut, Stops}
@@ -28,25 +28,23 @@ use Rattle.mesosev_stream.specs.declared.follower.PrintError.{PrintError as Text
 use Rattle.mesosev_stream.specs.declared.follower.PrintError.TheVariants as why
 use Rattle.mesosev_stream.specs.declared.line_buffer.LineBuffer.{LineBuffer}
 
--- a text behind what the buffer held is on its way: a front of both went out, and the rest is held
+-- of the buffered lines and a text, the first part was written, and the rest is buffered
 abbrev pub HoldsText : LineBuffer → LineBuffer → Device → Device → List ℕ → Type 0
 HoldsText before after old new text =
     Passes old.bytes new.bytes old.counts new.counts (before.held.items ++ text) after.held.items before.sent after.sent
 
--- it went out whole, and nothing is held
+-- the buffered lines and the text were written, and nothing is buffered
 abbrev pub SendsText : LineBuffer → LineBuffer → Device → Device → List ℕ → Type 0
 SendsText before after old new text =
     WentOut old.bytes new.bytes old.counts new.counts (before.held.items ++ text) before.sent after.sent × (after.held.items ≡ [])
 
--- what became of the lines of the events, where `Goes` says what becomes of a text: it became of those of all; or memory was refused
--- for those of one, and it became of those before
+-- `Goes` holds of the lines of all events; or of those before an event without memory for its lines
 abbrev pub ShowsFrom : (List ℕ → Type 0) → ℕ → List Event → PrintProgress → Type 0
 ShowsFrom Goes number events (All next) = Goes (lines_from number events) × (next ≡ saturated (number + length events))
 ShowsFrom Goes number events seen.NoMemory =
     (front : List Event) × (event : Event) × (rest : List Event) × (events ≡ front ++ event ∷ rest) × Goes (lines_from number front)
 
--- What became of what is wanted of the events: nothing was printed where they are counted alone. Else their lines went out, or the
--- output failed inside them.
+-- the effect of printing events: none if they are only counted; otherwise written, or cut off
 abbrev pub PrintsEvents : Detail → LineBuffer → LineBuffer → Device → Device → ℕ → List Event → Result PrintProgress WriteFault → Type 0
 PrintsEvents Counts before after old new number events (Ok (All next)) =
     (new ≡ old) × (after ≡ before) × (next ≡ saturated (number + length events))
@@ -64,11 +62,11 @@ pub record IsFresh (d : Follower) (framing : Framing) (limit : ℕ) : Type 0 whe
   pub lines : d.lines.held.items ≡ []
   pub sent : d.lines.sent ≡ 0
 
--- what is wanted of the events was printed, all of it
+-- the events were printed completely
 abbrev pub HasPrinted : Detail → Device → Device → Follower → List Event → Type 0
 HasPrinted detail out printed d events = WentOut out.bytes printed.bytes out.counts printed.counts (printed_from detail 1 events) 0 d.lines.sent
 
--- it has taken the bytes w, and what is wanted of their events was printed
+-- the follower has consumed w, and printed its events
 pub record Followed (detail : Detail) (framing : Framing) (limit : ℕ) (out printed : Device) (d : Follower) (w : List ℕ) : Type 0 where
   pub events : List Event
   pub represents : ReadingRepresents HoldsData Spells d.reading framing limit w events
@@ -78,20 +76,20 @@ pub record Followed (detail : Detail) (framing : Framing) (limit : ℕ) (out pri
   pub lines : d.lines.held.items ≡ []
   pub detail_is : d.detail ≡ detail
 
--- a byte of the bytes w ended the stream, or stops the reading, and what is wanted of their events was printed
+-- a byte of w ended the stream or is an error, and the events before it were printed
 pub record FollowedTo (detail : Detail) (framing : Framing) (limit : ℕ) (out printed : Device) (d : Follower) (w : List ℕ) (stop : ReadingStop) : Type 0 where
   pub events : List Event
   pub ends : ByteEnds framing Spells IsEventRefusal limit w events (reported_as d.reading stop)
   pub shown : HasPrinted detail out printed d events
   pub number : d.number ≡ saturated (1 + length events)
 
--- the bytes w have the events before, and with the piece behind them `last` too
+-- the bytes w have the events `before`, and with the piece after them `last` too
 pub record Brings (framing : Framing) (limit : ℕ) (w piece : List ℕ) (before last : List Event) : Type 0 where
   pub had : GoesIn framing Spells limit w before
   pub has : Spelt framing limit (w ++ piece) (before ++ last)
 
--- Why it wants no more bytes behind this piece: the reading of the stream has stopped; or the output failed in the lines of the events that
--- the piece brought; or memory was refused for those of one, behind the lines of the events before it.
+-- Why the follower stopped after this piece: the stream ended or has an error; the output failed in
+-- the lines of the piece's events; or an allocation for the lines of one of them failed.
 abbrev pub StopsAs : Detail → Framing → ℕ → Device → Device → Follower → List ℕ → List ℕ → FollowStop → Type 0
 StopsAs detail framing limit out printed d w piece (Reading stop) = FollowedTo detail framing limit out printed d (w ++ piece) stop
 StopsAs detail framing limit out printed d w piece (PrintError (why.Output fault)) =
@@ -101,7 +99,7 @@ StopsAs detail framing limit out printed d w piece (PrintError why.NoMemory) =
     (before : List Event) × (last : List Event) × (event : Event) × (more : List Event) × Brings framing limit w piece before (last ++ event ∷ more)
     × (detail ≡ Lines) × HasPrinted Lines out printed d (before ++ last)
 
--- the same from its first byte on, whichever stream it follows
+-- `Followed` from the first byte on, for any stream
 abbrev pub GoesFrom : Follower → Device → Follower → Device → List ℕ → Type 0
 GoesFrom first out d printed w = (framing : Framing) (limit : ℕ) → IsFresh first framing limit → Followed first.detail framing limit out printed d w
 
@@ -109,7 +107,7 @@ abbrev pub StopsFrom : Follower → Device → Follower → Device → List ℕ 
 StopsFrom first out d printed w piece stop =
     (framing : Framing) (limit : ℕ) → IsFresh first framing limit → StopsAs first.detail framing limit out printed d w piece stop
 
--- how the reads ended, where the events were shown so far; else why they were not
+-- how the reads ended if all lines were printed so far, and otherwise the reason why not
 abbrev pub ended_of : ReadsEnd FollowStop → Result (ReadsEnd ReadingStop) TextFaultKind
 ended_of (Stopped (Reading stop)) = Ok (Stopped stop)
 ended_of (Stopped (PrintError why)) = Err why

@@ -1,4 +1,4 @@
--- What is taken from the input, and what becomes of the texts that are printed.
+-- The bytes read from the input, and the texts printed.
 use Rattle.std.specs.Prelude.{◌≡◌, ℕ, ◌+◌, ◌<◌, Bool, true, false, List, [], ◌∷◌, ◌++◌, length, take, Result, Ok, Err}
 use Rattle.std.specs.Io.KnownBytes.{Appends, Consumes}
 use Rattle.mes_frame.specs.Devices.{Device}
@@ -23,12 +23,11 @@ use Rattle.mesosev_stream.specs.declared.exit_status.ExitStatus.TheVariants as e
 use Rattle.mesosev_stream.specs.declared.outcome.RunOutcome.{RunOutcome}
 use Rattle.mesosev_stream.specs.declared.outcome.RunOutcome.TheVariants.{Status, OutputFailed}
 
--- the text went out whole, and no call of the writer failed or took nothing
+-- the text was written completely, and no call failed or wrote 0 bytes
 abbrev pub GoesOut : Device → Device → List ℕ → Type 0
 GoesOut old new text = Appends old.bytes new.bytes text × NoneFails old.counts new.counts
 
--- The front went out whole, and then the writer failed or took nothing, behind n bytes of the text and before its end: so many
--- bytes of both went out.
+-- the first text was written, then n bytes of the second, not all; `sent` counts both
 pub record IsCutOff (old new : Device) (front text : List ℕ) (sent : ℕ) : Type 0 where
   pub n : ℕ
   pub short : n < length text
@@ -37,68 +36,65 @@ pub record IsCutOff (old new : Device) (front text : List ℕ) (sent : ℕ) : Ty
   pub why : WriteFaultKind
   pub stops : StopsWrite why old.counts new.counts
 
--- What became of a text that is printed: it went out whole; or it was cut off, by a call that did what the fault says, and its bytes
--- that went out are counted.
+-- the text was written completely; or it was cut off, as the error describes
 abbrev pub PrintsText : {T : Type 0} → Device → Device → List ℕ → Result T WriteFault → Type 0
 PrintsText old new text (Ok done) = GoesOut old new text
 PrintsText old new text (Err fault) = IsCutOff old new [] text fault.sent × StopsWrite fault.why old.counts new.counts
 
--- the same, where nothing tells which
+-- `PrintsText` with either result
 abbrev pub Tells : Device → Device → List ℕ → Type 0
 Tells old new text = (printed : Result (Unit {0}) WriteFault) × PrintsText old new text printed
 
--- what a run comes to whose last text was printed so: the status that is meant where it went out whole, else that the output failed
+-- the outcome after the last text was printed
 abbrev pub outcome_after : {T : Type 0} → ExitStatus → Result T WriteFault → RunOutcome
 outcome_after meant (Ok done) = Status meant
 outcome_after meant (Err fault) = OutputFailed fault.sent
 
--- The front went out whole, and behind it the text, and the status is the one that was meant. Or the text was cut off, and the
--- bytes of both that went out are counted.
+-- both texts were written, and the status is `meant`; or the second was cut off
 abbrev pub PrintsAfter : List ℕ → Device → Device → List ℕ → ExitStatus → RunOutcome → Type 0
 PrintsAfter front old new text meant (Status status) = GoesOut old new (front ++ text) × (status ≡ meant)
 PrintsAfter front old new text meant (OutputFailed sent) = IsCutOff old new front text sent
 
--- the same of a text with nothing before it
+-- `PrintsAfter` with nothing before the text
 abbrev pub Prints : Device → Device → List ℕ → ExitStatus → RunOutcome → Type 0
 Prints old new text meant ended = PrintsAfter [] old new text meant ended
 
--- the same answer, behind so many bytes that went out before
+-- the outcome with `before` more bytes written earlier
 abbrev pub ended_after : ℕ → RunOutcome → RunOutcome
 ended_after before (Status status) = Status status
 ended_after before (OutputFailed sent) = OutputFailed (saturated (before + sent))
 
--- `write failed after 7`: the line of an output that failed behind so many bytes
+-- `write failed after 7`: an output failed after that number of bytes
 abbrev pub failed_text : ℕ → List ℕ
 failed_text sent = send_text (send.Write (record { sent = sent; why = why.Device }))
 
--- What is told on standard error once all was printed: nothing, but where the output failed the line of that, and it is a fault
--- then. Where the output is closed, so that nobody reads it any more, that line isn't told.
+-- the line of a failed output is printed to standard error, unless the output is closed
 abbrev pub Finishes : Bool → Device → Device → RunOutcome → ExitStatus → Type 0
 Finishes closed err reported (Status answer) status = (reported ≡ err) × (status ≡ answer)
 Finishes true err reported (OutputFailed sent) status = (reported ≡ err) × (status ≡ exit.Fault)
 Finishes false err reported (OutputFailed sent) status = Tells err reported (failed_text sent ++ 10 ∷ []) × (status ≡ exit.Fault)
 
--- the line of a stream that was read: the count of its events and bytes, or its fault
+-- the line of a stream that was read: the number of its events and bytes, or its error
 abbrev pub outcome_line : ℕ → Result Report Stop → List ℕ
 outcome_line events (Ok report) = count_text events report.used
 outcome_line events (Err stop) = fault_text stop.fault stop.used
 
--- the status of a stream that was read: good where it was read to its end
+-- the status of a stream that was read: `Success` if it was read to its end
 abbrev pub outcome_status : Result Report Stop → ExitStatus
 outcome_status (Ok report) = exit.Success
 outcome_status (Err stop) = exit.Fault
 
--- the bytes w were taken from the input, and read as the events up to the outcome
+-- the bytes w were read from the input, with these events and this result
 abbrev pub ReadsInput : Framing → ℕ → ℕ → Device → Device → List ℕ → List Event → Result Report Stop → Type 0
 ReadsInput framing limit reads input rest w events outcome = Consumes input.bytes rest.bytes w
     × EndsReading framing Spells IsEventRefusal limit reads input.counts rest.counts rest.bytes w events outcome
 
--- the bytes w were taken from the input and read as the events up to the outcome, and its line was printed
+-- the bytes w were read from the input, and the line of the result was printed
 abbrev pub Checks : Framing → ℕ → ℕ → Device → Device → Device → Device → RunOutcome → Type 0
 Checks framing limit reads input rest out printed ended =
     (w : List ℕ) × (events : List Event) × (outcome : Result Report Stop) × ReadsInput framing limit reads input rest w events outcome
     × Prints out printed (outcome_line (length events) outcome ++ 10 ∷ []) (outcome_status outcome) ended
 
--- the line that memory was refused before any byte was used
+-- the line for an allocation that failed before any byte was used was printed
 abbrev pub LacksMemory : Device → Device → RunOutcome → Type 0
 LacksMemory out printed ended = Prints out printed (fault_text NoMemory 0 ++ 10 ∷ []) exit.Fault ended

@@ -1,4 +1,4 @@
--- What `show` prints: the lines of each event, and then the line that ends the stream.
+-- The output of `show`: the lines of each event, then the line that ends the stream.
 use Rattle.std.specs.Prelude.{◌≡◌, ℕ, ◌+◌, ◌≤◌, ◌⊎◌, List, [], ◌∷◌, ◌++◌, length, Result}
 use Rattle.std.specs.Io.KnownBytes.{Consumes}
 use Rattle.mes_msg.specs.Events.{Spells}
@@ -21,23 +21,23 @@ use Rattle.mesosev_stream.specs.declared.outcome.RunOutcome.TheVariants.{OutputF
 use Rattle.mesosev_stream.specs.declared.follower.Detail.{Detail}
 use Rattle.mesosev_stream.specs.declared.follower.Detail.TheVariants.{Counts, Lines}
 
--- the lines of the events, the first under this number
+-- the lines of the events; the first has this number
 abbrev pub lines_from : ℕ → List Event → List ℕ
 lines_from number [] = []
 lines_from number (event ∷ events) = event_lines (saturated number) event ++ lines_from (number + 1) events
 
--- what is printed of the events, the first under this number: nothing, or their lines
+-- what is printed of the events: nothing, or their lines; the first has this number
 abbrev pub printed_from : Detail → ℕ → List Event → List ℕ
 printed_from Counts number events = []
 printed_from Lines number events = lines_from number events
 
--- a front of the bytes w is the stream so far, or all of it, with the events; behind it stands no more than one read gives
+-- w is a prefix of a stream, or a whole one, with the events, and at most one read's bytes after it
 abbrev pub Spelt : Framing → ℕ → List ℕ → List Event → Type 0
 Spelt framing limit w events =
     (front : List ℕ) × (rest : List ℕ) × (w ≡ front ++ rest) × (length rest ≤ MAX_READ)
     × (GoesIn framing Spells limit front events ⊎ EndsIn framing Spells limit front events)
 
--- the last read gave the end of the bytes w: in front of it they have the events `before`, and with it `last` too
+-- before the last read the bytes have the events `before`, and with it `last` too
 pub record LastEvents (framing : Framing) (limit : ℕ) (w : List ℕ) (before last : List Event) : Type 0 where
   pub front : List ℕ
   pub piece : List ℕ
@@ -45,15 +45,14 @@ pub record LastEvents (framing : Framing) (limit : ℕ) (w : List ℕ) (before l
   pub had : GoesIn framing Spells limit front before
   pub has : Spelt framing limit w (before ++ last)
 
--- the bytes w were taken from the input by reads that each gave some, the last of which brought the events `last`
+-- the bytes w were read by successful reads, the last of which completed the events `last`
 abbrev pub TakesEvents : Framing → ℕ → ℕ → Device → Device → List ℕ → List Event → List Event → Type 0
 TakesEvents framing limit reads input rest w before last = Consumes input.bytes rest.bytes w × LastEvents framing limit w before last
     × SomeReadsMade reads input.counts rest.counts w 0 0
 
--- The bytes w were taken from the input. They were read as the events up to the outcome; the lines of all events went out, and
--- then the outcome's line was printed. Or the output failed in the lines of the events that the last read brought; those of the
--- events before went out. Or memory was refused for the lines of one that the last read brought; those before them went
--- out, and then the line of that was printed.
+-- One of three outcomes: all events and the result of the stream were printed; or the output failed
+-- in the lines of the last read's events; or an allocation for the lines of one of those failed,
+-- and F13 was printed.
 abbrev pub Shows : Framing → ℕ → ℕ → Device → Device → Device → Device → RunOutcome → Type 0
 Shows framing limit reads input rest out printed ended =
     (w : List ℕ) × (events : List Event)
@@ -64,7 +63,7 @@ Shows framing limit reads input rest out printed ended =
     ⊎ ((last : List Event) × (event : Event) × (more : List Event) × TakesEvents framing limit reads input rest w events (last ++ event ∷ more)
     × PrintsAfter (lines_from 1 (events ++ last)) out printed (fault_text NoMemory 0 ++ 10 ∷ []) exit.Fault ended))
 
--- the events were checked, or shown
+-- the events were counted (`Checks`), or printed (`Shows`)
 abbrev pub Follows : Detail → Framing → ℕ → ℕ → Device → Device → Device → Device → RunOutcome → Type 0
 Follows Counts framing limit reads input rest out printed ended = Checks framing limit reads input rest out printed ended
 Follows Lines framing limit reads input rest out printed ended = Shows framing limit reads input rest out printed ended

@@ -1,11 +1,11 @@
-//! How many bytes a chunk that is written has.
+//! The size of the chunks that `convert` writes.
 ghost use Rattle.std.specs.Prelude.{◌≡◌, ◌≤◌};
 ghost use Rattle.std.specs.Option.{SomeIff};
 
 use mes_frame::{MAX_CHUNK, MIN_CHUNK};
 use std::marker::Model;
 
-/// The size of the chunks that are written: `MIN_CHUNK` to `MAX_CHUNK` bytes.
+/// The size of written chunks: `MIN_CHUNK` to `MAX_CHUNK` bytes.
 #[derive(Clone, Copy, Debug, PartialEq, Eq)]
 pub struct ChunkSize {
     bytes: u32,
@@ -25,7 +25,7 @@ impl Model for ChunkSize {
 }
 
 impl ChunkSize {
-    /// A size of so many bytes, if a chunk may have that.
+    /// Returns the size, if it is in this range.
     pub fn new(bytes: u32) -> Option<ChunkSize>
         ensures { SomeIff result ((MIN_CHUNK ≤ bytes) × (bytes ≤ MAX_CHUNK)) bytes }
     {
@@ -36,7 +36,7 @@ impl ChunkSize {
         }
     }
 
-    /// The size as a number of bytes.
+    /// Returns the size in bytes.
     pub fn get(self) -> u32
         ensures value { result ≡ self }
         ensures range { (MIN_CHUNK ≤ result) × (result ≤ MAX_CHUNK) }

@@ -1,4 +1,4 @@
-//! `convert`: the events of a stream, read to its end and written again.
+//! The subcommand `convert`. `follower.rt` has `check` and `show`.
 
 ghost use Rattle.std.specs.Prelude.{◌≡◌, OnOk, IfErr, List, ℕ};
 ghost use Rattle.mes_stream.specs.Sending.{StopsSending, WroteAll};
@@ -14,9 +14,11 @@ use mes_msg::Event;
 use mes_stream::{Framing, SendFault, read_events, write_plain, write_stream};
 use std::alloc::Global;
 
-/// Reads a stream to its end, and writes its events in canonical form: as plain RecordIO, or in chunks of `most` bytes.
-/// Where it has a fault nothing is written, and the fault is told; where standard error fails in that, the status alone tells it.
-/// Answers the status. Holds all events.
+/// Reads a stream to its end, and writes its events in canonical JSON: as plain RecordIO, or in
+/// chunks of `most` bytes. Buffers all events.
+///
+/// On an error in the stream nothing is written to `out`; the error is printed to `err`, and the
+/// status is `Fault`. Errors in writing to `err` are ignored.
 pub fn convert<I: Source, O: Sink, E: Sink>(
     alloc: Global,
     framing: Framing,
@@ -26,6 +28,7 @@ pub fn convert<I: Source, O: Sink, E: Sink>(
     out: &mut O,
     err: &mut E,
 ) -> ExitStatus
+    // The bytes read, the events written, the error printed, and the status.
     ensures { Converts framing limit most
         (device_of I.left I.counts input.old) (device_of I.left I.counts input.new)
         (device_of O.written O.counts out.old) (device_of O.written O.counts out.new)
@@ -42,7 +45,7 @@ pub fn convert<I: Source, O: Sink, E: Sink>(
     }
 }
 
-/// Writes the events, or tells why not. Answers the status.
+/// Writes the events, or prints the error. Returns the status.
 fn send<O: Sink, E: Sink>(
     alloc: Global,
     events: &[Event],

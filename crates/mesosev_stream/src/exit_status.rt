@@ -6,19 +6,19 @@ ghost use Rattle.mesosev_stream.specs.Printing.{outcome_after};
 use crate::outcome::RunOutcome;
 use mes_frame::WriteFault;
 
-/// How the program ends. The program itself gives each status its number.
+/// The exit status of the program. `main.rt` of `mesosev` gives each its number.
 #[derive(Clone, Copy, Debug, PartialEq, Eq)]
 pub enum ExitStatus {
-    /// A good run.
+    /// No error occurred.
     Success,
-    /// A fault was told, or an output failed.
+    /// An error was printed, or an output failed.
     Fault,
-    /// The words name nothing that can be done.
+    /// The arguments are invalid.
     Usage,
 }
 
 impl ExitStatus {
-    /// What a run comes to whose last text was printed so: this status where all of it went out, else that the output failed.
+    /// Returns the outcome after the last text was printed: this status, or the failed output.
     pub fn after(self, printed: Result<(), WriteFault>) -> RunOutcome
         ensures { result ≡ outcome_after self printed }
     {

@@ -1,4 +1,4 @@
-//! `check` and `show`: a stream followed read by read, and what is printed of its events as they come.
+//! The subcommands `check` and `show`: they read a stream, and print its events as they arrive.
 
 ghost use Rattle.std.specs.Prelude.{◌≡◌, ◌≤◌, ◌++◌, ℕ, IfErr, IfOk};
 ghost use Rattle.mes_frame.specs.Written.{Stops};
@@ -16,53 +16,52 @@ use mes_msg::Event;
 use mes_stream::{Consumer, EventReader, Framing, Reading, ReadingStop, ReadsEnd, read_device};
 use std::alloc::Global;
 
-/// What is printed of the events before the line that ends the stream.
+/// What is printed of each event.
 #[derive(Clone, Copy, Debug, PartialEq, Eq)]
 pub enum Detail {
-    /// Nothing: they are counted alone.
+    /// Nothing: the events are only counted.
     Counts,
-    /// The lines of each.
+    /// The lines of each event.
     Lines,
 }
 
-/// Why the lines of events were not printed.
+/// The reason for which the lines of events were not printed.
 #[derive(Clone, Copy, Debug, PartialEq, Eq)]
 pub(crate) enum PrintError {
     /// The output failed.
     Output(WriteFault),
-    /// Memory was refused.
+    /// An allocation failed.
     NoMemory,
 }
 
-/// Of how many of the events what is wanted was printed.
+/// How many of the events were printed.
 #[derive(Clone, Copy, Debug, PartialEq, Eq)]
 pub(crate) enum PrintProgress {
-    /// Of all, and the event behind them has this number.
+    /// All; the next event has this number.
     All(u64),
-    /// Of those before one for whose lines memory was refused.
+    /// Those before an event for whose lines an allocation failed.
     NoMemory,
 }
 
-/// Why a follower wants no more bytes.
+/// The reason for which a follower stopped.
 #[derive(Drop)]
 pub(crate) enum FollowStop {
-    /// The reading of the stream has stopped.
+    /// The stream ended, or has an error.
     Reading(ReadingStop),
     /// The lines of an event were not printed.
     PrintError(PrintError),
 }
 
-/// Follows a stream of events: it prints what is wanted of the events of each read, the first under the number 1, and holds those
-/// of one read at a time.
+/// Decodes a stream and prints the events of each read, numbered from 1. Buffers the events of one
+/// read.
 #[derive(Drop)]
 pub(crate) struct Follower {
     detail: Detail,
     reading: Reading<EventReader>,
     events: Vec<Event>,
-    // The lines of one event. Their memory serves for the next one.
+    // The lines of one event. The memory is reused for the next one.
     text: Vec<u8>,
     lines: LineBuffer,
-    // The number of the next event.
     number: u64,
 }
 
@@ -101,9 +100,12 @@ impl<O: Sink> Consumer<O> for Follower {
     }
 }
 
-/// Reads a stream in at most `max_reads` reads, prints what is wanted of each event before the next read behind the one that ends its
-/// record, and then how many events there were, or the first fault. Behind a failed output no more is read. Holds the events of one
-/// read at a time, and at most `MAX_LINE_BUFFER` bytes of their lines, which go out together; where memory for those is refused, fewer.
+/// Decodes `input`, prints the events of each read before the next one, as `detail` says, then a
+/// summary line or the first error. Reads at most `max_reads` times, and stops reading once a write
+/// fails.
+///
+/// Buffers the events of one read and at most `MAX_LINE_BUFFER` bytes of output. If that buffer
+/// cannot be allocated, the lines are written directly.
 pub fn follow<I: Source, O: Sink>(
     alloc: Global,
     detail: Detail,
@@ -114,6 +116,7 @@ pub fn follow<I: Source, O: Sink>(
     out: &mut O,
 ) -> RunOutcome
     requires { max_reads ≤ MAX_READS }
+    // The bytes read, the lines printed and the outcome.
     ensures { Follows detail framing limit max_reads (device_of I.left I.counts input.old)
         (device_of I.left I.counts input.new)
         (device_of O.written O.counts out.old) (device_of O.written O.counts out.new) result }
@@ -138,7 +141,7 @@ pub fn follow<I: Source, O: Sink>(
     }
 }
 
-/// How the reads ended, where the events were shown so far; else why they were not.
+/// Returns how the reads ended if all lines were printed so far, and otherwise the reason why not.
 fn ended(end: ReadsEnd<FollowStop>) -> Result<ReadsEnd<ReadingStop>, PrintError>
     ensures { result ≡ ended_of end }
 {
@@ -151,7 +154,7 @@ fn ended(end: ReadsEnd<FollowStop>) -> Result<ReadsEnd<ReadingStop>, PrintError>
     }
 }
 
-/// Prints what is wanted of the events, the first under this number.
+/// Prints the events as `detail` says; the first has the number `first`.
 fn print_events<O: Sink>(
     detail: Detail,
     events: &[Event],
@@ -170,7 +173,7 @@ fn print_events<O: Sink>(
     }
 }
 
-/// Prints the lines of the events, the first under this number.
+/// Prints the lines of the events; the first has the number `first`.
 fn show_events<O: Sink>(
     events: &[Event],
     first: u64,
@@ -196,7 +199,7 @@ fn show_events<O: Sink>(
     }
 }
 
-/// Holds the lines of the events, the first under this number.
+/// Buffers the lines of the events; the first has the number `first`.
 fn hold_events<O: Sink>(
     events: &[Event],
     first: u64,

@@ -1,6 +1,15 @@
 #![tactic(auto)]
-//! What the subcommands that read a stream of events do, over devices: `check` and `show` follow it, `convert` writes its events
-//! again, and each prints what became of it and answers how that ended.
+//! The subcommands `check`, `show` and `convert` of `mesosev`, over any devices.
+//!
+//! [`follow`] prints the events of a stream (`show`) or counts them (`check`). [`convert`] decodes
+//! a whole stream and encodes its events again. The contracts state the bytes read, the bytes
+//! printed and the outcome, also if an output fails or no memory is left.
+//!
+//!     let outcome = follow(alloc, Detail::Lines, Framing::Chunked, limit, MAX_READS, input, out);
+//!     let status = finish(outcome, out.is_closed(), err);
+//!
+//! The other subcommands use its printing functions and [`RunOutcome`]: see the crates
+//! `mesosev_log`, `mesosev_serve` and `mesosev_net`. Tests are in the crate `mesosev_stream_tests`.
 
 mod chunk_size;
 mod conversion;

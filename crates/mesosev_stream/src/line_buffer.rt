@@ -1,4 +1,4 @@
-//! What the lines of one read's events are gathered in, so that they go out by one write.
+//! A buffer for the lines of one read's events, so that one call writes them.
 
 ghost use Rattle.std.specs.Prelude.{◌≡◌, ◌≤◌, [], ◌++◌, true, false, length, OnOk, IfOk, IfErr};
 ghost use Rattle.std.specs.Io.KnownBytes.{Appends};
@@ -10,8 +10,8 @@ use crate::limits::MAX_LINE_BUFFER;
 use mes_frame::{Sink, WriteFault, write_all};
 use std::alloc::Global;
 
-/// Lines that are still to go out, at most `MAX_LINE_BUFFER` bytes of them, and how many bytes went out before them. Its memory grows with
-/// the lines; where that is refused, they go out at once.
+/// Buffers at most `MAX_LINE_BUFFER` bytes of lines, and counts the bytes written before. If an
+/// allocation fails, lines are written directly.
 #[derive(Drop)]
 pub(crate) struct LineBuffer {
     held: Vec<u8>,
@@ -19,7 +19,7 @@ pub(crate) struct LineBuffer {
 }
 
 impl LineBuffer {
-    /// No line. Takes no memory.
+    /// Returns an empty buffer. Does not allocate.
     pub(crate) fn new(alloc: Global) -> Self
         ensures held { result.held.items ≡ [] }
         ensures sent { result.sent ≡ 0 }
@@ -30,15 +30,15 @@ impl LineBuffer {
         }
     }
 
-    /// How many bytes went out so far. From 2^64 - 1 on the count stays there.
+    /// Returns the number of bytes written so far. It stays at 2^64 - 1.
     pub(crate) fn sent(&self) -> u64
         ensures { result ≡ self.now.sent }
     {
         self.sent
     }
 
-    /// Holds these lines behind those that are held. Where there is no room, or no memory, those go out first, and these too, alone, if
-    /// they are more than the buffer has room for.
+    /// Appends lines. If they do not fit or an allocation fails, writes the buffered lines first.
+    /// Lines larger than the buffer are written directly.
     pub(crate) fn hold<O: Sink>(&mut self, out: &mut O, lines: &[u8]) -> Result<(), WriteFault>
         ensures ok { OnOk result (Passes (O.written out.old) (O.written out.new) (O.counts out.old)
             (O.counts out.new)
@@ -58,7 +58,7 @@ impl LineBuffer {
         Ok(())
     }
 
-    /// Appends these lines, where they have room and memory: whether they have.
+    /// Appends lines, and returns whether they fit and could be allocated.
     fn append(&mut self, lines: &[u8]) -> bool
         ensures held { result ≡ true → self.new.held.items ≡ self.old.held.items ++ lines.now }
         ensures room { result ≡ true → length self.new.held.items ≤ MAX_LINE_BUFFER }
@@ -71,7 +71,7 @@ impl LineBuffer {
         self.held.extend_from_slice(lines).is_ok()
     }
 
-    /// Writes what is held.
+    /// Writes the buffered lines.
     pub(crate) fn flush<O: Sink>(&mut self, out: &mut O) -> Result<(), WriteFault>
         ensures ok { OnOk result (WentOut (O.written out.old) (O.written out.new) (O.counts out.old)
             (O.counts out.new)
@@ -87,7 +87,7 @@ impl LineBuffer {
     }
 }
 
-/// Writes all of these bytes, behind so many that went out before, and answers how many went out then.
+/// Writes all of these bytes, and returns the total with `before`. An error has that total too.
 fn write_after<O: Sink>(out: &mut O, bytes: &[u8], before: u64) -> Result<u64, WriteFault>
     ensures ok { OnOk result (Appends (O.written out.old) (O.written out.new) bytes.now) }
     ensures ok_counts { OnOk result (NoneFails (O.counts out.old) (O.counts out.new)) }

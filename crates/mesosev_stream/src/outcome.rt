@@ -1,4 +1,4 @@
-//! What a run comes to: an exit status, or where its output failed.
+//! The outcome of a run: an exit status, or a failed output.
 
 ghost use Rattle.std.specs.Prelude.{◌≡◌, ◌∷◌, ◌++◌, []};
 ghost use Rattle.mes_frame.specs.Devices.{device_of};
@@ -9,17 +9,18 @@ use crate::print::print_send_fault;
 use mes_frame::{Sink, WriteFault, WriteFaultKind};
 use mes_stream::SendFault;
 
-/// What a run that prints to an output comes to.
+/// The outcome of a run that prints to an output.
 #[derive(Clone, Copy, Debug, PartialEq, Eq)]
 pub enum RunOutcome {
-    /// All that was printed went out, and this is the exit status.
+    /// Everything was written, and this is the exit status.
     Status(ExitStatus),
-    /// The output failed, or took no byte of some, behind so many bytes. From 2^64 - 1 on the count stays there.
+    /// The output failed, or wrote 0 bytes, after this number of bytes. The number stays at 2^64 -
+    /// 1.
     OutputFailed(u64),
 }
 
 impl RunOutcome {
-    /// The same of what was printed behind so many bytes that went out before.
+    /// Returns the outcome with `before` more bytes written earlier.
     pub fn following(self, before: u64) -> RunOutcome
         ensures { result ≡ ended_after before self }
     {
@@ -30,9 +31,10 @@ impl RunOutcome {
     }
 }
 
-/// Ends a run, and answers its exit status: where its output failed `write failed after N` is told on standard error, and the status is
-/// `Fault`. That isn't told where the output is closed, so that nobody reads it any more.
+/// Returns the exit status of a run. If the output failed, prints `write failed after N` to `err`
+/// and returns `Fault`. Prints nothing if the output is closed, that is, a pipe without a reader.
 pub fn finish<E: Sink>(ended: RunOutcome, closed: bool, err: &mut E) -> ExitStatus
+    // The line printed to `err`, if any, and the status.
     ensures { Finishes closed (device_of E.written E.counts err.old)
         (device_of E.written E.counts err.new) ended result }
 {
@@ -47,7 +49,7 @@ pub fn finish<E: Sink>(ended: RunOutcome, closed: bool, err: &mut E) -> ExitStat
     }
 }
 
-/// Tells that an output failed behind so many bytes. Where standard error fails too, nothing tells that.
+/// Prints that an output failed after `sent` bytes. Errors in writing to `err` are ignored.
 fn tell_failure<E: Sink>(err: &mut E, sent: u64)
     ensures { Tells (device_of E.written E.counts err.old) (device_of E.written E.counts err.new)
         (failed_text sent ++ 10 ∷ []) }

@@ -1,4 +1,4 @@
-//! An output that can lose its reader.
+//! An output whose reader may disappear.
 
 ghost use Rattle.std.specs.Prelude.{◌≡◌, ◌≤◌, false, length, IfOk};
 ghost use Rattle.std.specs.Io.KnownBytes.{WriteAppends};
@@ -9,7 +9,7 @@ use mes_frame::Sink;
 use std::io;
 use std::io::ErrorKind;
 
-/// A writer that remembers whether a call failed as a closed pipe does, which nobody reads any more.
+/// A writer that remembers whether a call failed because the pipe has no reader any more.
 #[derive(Drop)]
 pub struct Output<W> {
     inner: W,
@@ -17,7 +17,7 @@ pub struct Output<W> {
 }
 
 impl<W> Output<W> {
-    /// The output to this writer, which is not closed.
+    /// Returns an open output that writes to `inner`.
     pub fn new(inner: W) -> Self
         ensures inner { result.inner ≡ inner }
         ensures closed { result.closed ≡ false }
@@ -28,7 +28,7 @@ impl<W> Output<W> {
         }
     }
 
-    /// Whether it is closed.
+    /// Returns whether a call failed because the pipe has no reader.
     pub fn is_closed(&self) -> bool
         ensures { result ≡ self.now.closed }
     {
@@ -59,7 +59,7 @@ impl<W: Sink> Sink for Output<W> {
     }
 }
 
-/// Whether this is how a pipe fails whose reader has gone.
+/// Returns whether a pipe without a reader fails like this.
 fn is_closed_pipe(kind: ErrorKind) -> bool
     ensures { result ≡ is_closed kind }
 {

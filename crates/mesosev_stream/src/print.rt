@@ -1,5 +1,5 @@
-//! Texts and lines that are printed. What prints alone answers whether all went out; what knows that a fault was told, or that none was,
-//! answers what the run comes to.
+//! Prints texts and lines. Functions that know the status return a [`RunOutcome`], the others a
+//! `Result`.
 
 ghost use Rattle.std.specs.Prelude.{◌≡◌, ◌≤◌, [], ◌∷◌, ◌++◌, length};
 ghost use Rattle.mes_frame.specs.Devices.{device_of};
@@ -16,9 +16,9 @@ use mes_stream::{
     Fault, MAX_FAULT_LINE, Report, SendFault, Stop, count_line, fault_line, send_line,
 };
 
-/// Prints these bytes.
+/// Prints bytes.
 ///
-/// Errors: the output failed, or took no byte, behind a front of them.
+/// Errors: the output failed, or wrote 0 bytes, before the last of them.
 pub fn print_bytes<O: Sink>(out: &mut O, bytes: &[u8]) -> Result<(), WriteFault>
     ensures { PrintsText (device_of O.written O.counts out.old)
         (device_of O.written O.counts out.new) bytes.now result }
@@ -28,7 +28,7 @@ pub fn print_bytes<O: Sink>(out: &mut O, bytes: &[u8]) -> Result<(), WriteFault>
 
 /// Prints a text.
 ///
-/// Errors: as `print_bytes`.
+/// Errors: like [`print_bytes`].
 pub fn print_text<O: Sink>(out: &mut O, text: &str) -> Result<(), WriteFault>
     ensures { PrintsText (device_of O.written O.counts out.old)
         (device_of O.written O.counts out.new) text.now result }
@@ -36,9 +36,9 @@ pub fn print_text<O: Sink>(out: &mut O, text: &str) -> Result<(), WriteFault>
     print_bytes(out, text.as_bytes())
 }
 
-/// Prints a line and its LF. Takes no memory.
+/// Prints a line and LF. Does not allocate.
 ///
-/// Errors: as `print_bytes`.
+/// Errors: like [`print_bytes`].
 pub fn print_line<O: Sink>(out: &mut O, line: &str) -> Result<(), WriteFault>
     requires { length line.now ≤ MAX_FAULT_LINE }
     ensures { PrintsText (device_of O.written O.counts out.old)
@@ -50,7 +50,7 @@ pub fn print_line<O: Sink>(out: &mut O, line: &str) -> Result<(), WriteFault>
     print_text(out, text.as_str())
 }
 
-/// Prints the line of so many events in so many bytes.
+/// Prints the line with the numbers of events and bytes.
 pub(crate) fn print_count<O: Sink>(out: &mut O, events: u64, used: u64) -> Result<(), WriteFault>
     ensures { PrintsText (device_of O.written O.counts out.old)
         (device_of O.written O.counts out.new)
@@ -61,9 +61,9 @@ pub(crate) fn print_count<O: Sink>(out: &mut O, events: u64, used: u64) -> Resul
     print_line(out, line.as_str())
 }
 
-/// Prints the line of a fault behind so many bytes.
+/// Prints the line of an error after `used` bytes.
 ///
-/// Errors: as `print_bytes`.
+/// Errors: like [`print_bytes`].
 pub fn print_fault<O: Sink>(out: &mut O, fault: &Fault, used: u64) -> Result<(), WriteFault>
     ensures { PrintsText (device_of O.written O.counts out.old)
         (device_of O.written O.counts out.new)
@@ -74,9 +74,9 @@ pub fn print_fault<O: Sink>(out: &mut O, fault: &Fault, used: u64) -> Result<(),
     print_line(out, line.as_str())
 }
 
-/// Prints the line of what stopped the sending of events.
+/// Prints the line of a failed send.
 ///
-/// Errors: as `print_bytes`.
+/// Errors: like [`print_bytes`].
 pub fn print_send_fault<O: Sink>(out: &mut O, fault: &SendFault) -> Result<(), WriteFault>
     ensures { PrintsText (device_of O.written O.counts out.old)
         (device_of O.written O.counts out.new)
@@ -87,12 +87,14 @@ pub fn print_send_fault<O: Sink>(out: &mut O, fault: &SendFault) -> Result<(), W
     print_line(out, line.as_str())
 }
 
-/// Tells what a stream came to, behind so many events. The status is `Success` where it was read to its end, else `Fault`.
+/// Prints the result of reading a stream with this number of events. The status is `Success` if it
+/// was read to its end, and `Fault` otherwise.
 pub fn report_outcome<O: Sink>(
     out: &mut O,
     events: u64,
     outcome: &Result<Report, Stop>,
 ) -> RunOutcome
+    // The line printed, and the outcome.
     ensures { Prints (device_of O.written O.counts out.old) (device_of O.written O.counts out.new)
         (outcome_line events outcome.now ++ 10 ∷ []) (outcome_status outcome.now) result }
 {
@@ -102,7 +104,7 @@ pub fn report_outcome<O: Sink>(
     }
 }
 
-/// Tells that memory was refused before any byte was read: F13 after 0. The status is `Fault`.
+/// Prints F13 after 0 bytes: an allocation failed. The status is `Fault`.
 pub fn out_of_memory<O: Sink>(out: &mut O) -> RunOutcome
     ensures { LacksMemory (device_of O.written O.counts out.old)
         (device_of O.written O.counts out.new) result }

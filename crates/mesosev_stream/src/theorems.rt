@@ -1,11 +1,11 @@
-//! The limits that the contracts cite, as a law: a function that does nothing, with the law as its contract.
+//! The law of the limits. The function does nothing; its contract is the law.
 
 ghost use Rattle.std.specs.Prelude.{◌≡◌};
 
 use crate::limits::{MAX_LINE, MAX_LINE_BUFFER, MAX_READS};
 
-/// One run reads its input at most 4,294,967,296 times, and the line that it prints of a fault or of a count
-/// has at most 641 bytes, its LF among them. The lines of events are written by at most 65,536 bytes together.
+/// Proves the limits: at most 4,294,967,296 reads of the input, 641 bytes for a line of an error or
+/// a count with its LF, and 65,536 bytes of buffered output.
 pub fn run_limits()
     ensures reads { MAX_READS ≡ 4294967296 }
     ensures line { MAX_LINE ≡ 641 }

@@ -5,7 +5,7 @@ use Rattle.mesosev_stream.specs.Following.{HoldsText}
 use Rattle.mesosev_stream.specs.Showing.{lines_from}
 use Rattle.mesosev_stream.proofs.follower.hold_events.Given as goal
 
--- the lines of the events so far are held, or went out
+-- the lines of the events so far are buffered or written
 abbrev pub invariant-loop-event : goal.invariant-loop-event
 invariant-loop-event g l =
     (n : ℕ) → l.first ≡ saturated n
