@@ -1,4 +1,4 @@
--- What `relog` does: the entries of a log are written again, as a log of version 2.
+-- The effect of `relog`: the entries of a log are written again, in version 2.
 use Rattle.std.specs.Prelude.{◌≡◌, ℕ, ◌⊎◌, List, [], ◌∷◌, ◌++◌, Result, Ok, Err}
 use Rattle.mes_frame.specs.Devices.{Device}
 use Rattle.mes_msg.specs.declared.entry.Entry.{Entry}
@@ -14,21 +14,21 @@ use Rattle.mesosev_stream.specs.declared.exit_status.ExitStatus.{ExitStatus}
 use Rattle.mesosev_stream.specs.declared.exit_status.ExitStatus.TheVariants as exit
 use Rattle.mesosev_log.specs.Replaying.{ReadsLogInput}
 
--- The log of the entries was written, and nothing was told. Or no record can hold one of them, or memory was refused, and nothing was
--- written, or the writer stopped behind a part of it: that was told.
+-- The log was written, and nothing was printed to `err`. Or encoding or writing failed, and the
+-- error was printed.
 abbrev pub WritesLog : ℕ → List Entry → Device → Device → Device → Device → ExitStatus → Type 0
 WritesLog limit entries out written err reported status =
     ((w : List ℕ) × IsLogOf limit entries w × WroteAll {W = Device} (λ d. d.bytes) (λ d. d.counts) out written w × (reported ≡ err) × (status ≡ exit.Success))
     ⊎ ((fault : SendFault) × StopsLog {W = Device} (λ d. d.bytes) (λ d. d.counts) limit entries out written fault
     × Tells err reported (send_text fault ++ 10 ∷ []) × (status ≡ exit.Fault))
 
--- what became of the entries that were read: written, where the log was read to its end; else the fault was told, and nothing was written
+-- the effect of the entries read: written, if the log ended; otherwise its error was printed
 abbrev pub RelogsRead : ℕ → List Entry → Result Report Stop → Device → Device → Device → Device → ExitStatus → Type 0
 RelogsRead limit entries (Ok report) out written err reported status = WritesLog limit entries out written err reported status
 RelogsRead limit entries (Err stop) out written err reported status =
     (written ≡ out) × Tells err reported (fault_text stop.fault stop.used ++ 10 ∷ []) × (status ≡ exit.Fault)
 
--- the bytes w were taken from the input and read as the entries of a log up to the outcome, and that became of them
+-- the bytes w were read as these entries with this result, and `RelogsRead` holds of them
 abbrev pub Relogs : ℕ → Device → Device → Device → Device → Device → Device → ExitStatus → Type 0
 Relogs limit input rest out written err reported status =
     (w : List ℕ) × (entries : List Entry) × (outcome : Result Report Stop) × ReadsLogInput limit input rest w entries outcome

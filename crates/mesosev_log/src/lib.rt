@@ -1,6 +1,14 @@
 #![tactic(auto)]
-//! What the subcommands that read a session log do, over devices: `replay` prints the report of the session that the log leads to, and
-//! `relog` writes its entries again as a log of version 2.
+//! The subcommands `replay` and `relog` of `mesosev`, over any devices.
+//!
+//! [`replay`] prints the session that a session log leads to. [`relog`] writes the entries of a log
+//! again, in version 2. Both read version 1 and version 2. The contracts state the bytes read, the
+//! bytes printed and the outcome.
+//!
+//!     let outcome = replay(alloc, limit, input, out);
+//!     let status = finish(outcome, out.is_closed(), err);
+//!
+//! `mes_session` has the session itself. The tests run the program: see `tests/`.
 
 mod relogging;
 mod replaying;

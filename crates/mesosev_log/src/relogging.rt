@@ -1,4 +1,4 @@
-//! `relog`: the entries of a log, written again.
+//! The subcommand `relog`.
 
 ghost use Rattle.mes_frame.specs.Devices.{device_of};
 ghost use Rattle.mesosev_log.specs.Relogging.{Relogs, WritesLog};
@@ -9,9 +9,11 @@ use mes_session::{read_log, write_log};
 use mesosev_stream::{ExitStatus, MAX_READS, print_fault, print_send_fault};
 use std::alloc::Global;
 
-/// Reads a session log of either version to its end, and writes its entries as a log of version 2, under the same limit. Where it has a
-/// fault nothing is written, and the fault is told; where standard error fails in that, the status alone tells it. Answers the status.
-/// Holds all entries.
+/// Reads a session log of either version to its end, and writes its entries as a log of version 2
+/// under the same limit. Buffers all entries.
+///
+/// On an error in the log nothing is written to `out`; the error is printed to `err`, and the
+/// status is `Fault`. Errors in writing to `err` are ignored.
 pub fn relog<I: Source, O: Sink, E: Sink>(
     alloc: Global,
     limit: Limit,
@@ -19,6 +21,7 @@ pub fn relog<I: Source, O: Sink, E: Sink>(
     out: &mut O,
     err: &mut E,
 ) -> ExitStatus
+    // The bytes read, the log written, the error printed, and the status.
     ensures { Relogs limit
         (device_of I.left I.counts input.old) (device_of I.left I.counts input.new)
         (device_of O.written O.counts out.old) (device_of O.written O.counts out.new)
@@ -35,7 +38,7 @@ pub fn relog<I: Source, O: Sink, E: Sink>(
     }
 }
 
-/// Writes the log of the entries, or tells why not. Answers the status.
+/// Writes the log of the entries, or prints the error. Returns the status.
 fn send<O: Sink, E: Sink>(
     alloc: Global,
     entries: &[Entry],

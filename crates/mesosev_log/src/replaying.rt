@@ -1,4 +1,4 @@
-//! `replay`: the session that a log leads to.
+//! The subcommand `replay`.
 
 ghost use Rattle.std.specs.Prelude.{◌⊎◌, [], ◌∷◌, ◌++◌};
 ghost use Rattle.mes_frame.specs.Devices.{device_of};
@@ -15,14 +15,16 @@ use mesosev_stream::{
 };
 use std::alloc::Global;
 
-/// Reads a session log of either version to its end, and prints the report of the session that it leads to. Where the log has a fault,
-/// or a call in it is refused, or memory is, that is told in its one line, and the status is `Fault`. Holds all entries.
+/// Reads a session log of either version to its end, and prints the report of its session. Buffers
+/// all entries. If the log has an error, a call in it is refused, or an allocation fails, prints
+/// one line with that; the status is `Fault`.
 pub fn replay<I: Source, O: Sink>(
     alloc: Global,
     limit: Limit,
     input: &mut I,
     out: &mut O,
 ) -> RunOutcome
+    // The bytes read, the text printed, and the outcome.
     ensures { Replays limit (device_of I.left I.counts input.old)
         (device_of I.left I.counts input.new)
         (device_of O.written O.counts out.old) (device_of O.written O.counts out.new) result }
@@ -34,7 +36,7 @@ pub fn replay<I: Source, O: Sink>(
     }
 }
 
-/// Tells what the entries lead to.
+/// Prints the report of the session, or the refused call.
 fn report_replay<O: Sink>(alloc: Global, entries: &[Entry], out: &mut O) -> RunOutcome
     ensures { ReplaysEntries entries.now (device_of O.written O.counts out.old)
         (device_of O.written O.counts out.new) result }
@@ -45,7 +47,8 @@ fn report_replay<O: Sink>(alloc: Global, entries: &[Entry], out: &mut O) -> RunO
     }
 }
 
-/// Prints the report of a session behind so many entries. The status is `Success`, or `Fault` where memory was refused for it.
+/// Prints the report of a session after this number of entries. The status is `Success`, or `Fault`
+/// if an allocation failed.
 fn report_session<O: Sink>(session: &Session, entries: u64, out: &mut O) -> RunOutcome
     ensures { Prints (device_of O.written O.counts out.old) (device_of O.written O.counts out.new)
         (report_text entries session.now) ExitStatus.Success result
@@ -58,7 +61,7 @@ fn report_session<O: Sink>(session: &Session, entries: u64, out: &mut O) -> RunO
     }
 }
 
-/// Prints the line of a refusal behind so many entries. The status is `Fault`.
+/// Prints the line of a refused call after `before` entries. The status is `Fault`.
 fn report_refusal<O: Sink>(refusal: &Refusal, before: u64, out: &mut O) -> RunOutcome
     ensures { Prints (device_of O.written O.counts out.old) (device_of O.written O.counts out.new)
         (refusal_text refusal.now before ++ 10 ∷ []) ExitStatus.Fault result }
