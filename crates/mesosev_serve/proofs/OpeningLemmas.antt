@@ -1,22 +1,22 @@
--- One event more of those that are given to a stream.
+-- One more of the events that are given to a stream.
 use Rattle.std.proofs.Common.{◌≡◌, ℕ, ◌+◌, ◌<◌, ◌⊎◌, List, ◌++◌, length, take, drop, get_or, refl, sym, ap, ◌∙◌, inl, inr, take-append-drop}
 use Rattle.std.proofs.lemmas.List.Sums.{fold_more}
 use Rattle.mes_msg.specs.Event.{Event}
 use Rattle.mes_double_master.specs.Masters.{MasterState}
 use Rattle.mesosev_serve.specs.Opening.{Streamed, and_given, and_all_given}
 
--- the event at i was given behind those before it
+-- the event at index i was given after those before it
 pub given_more : (s now then : Streamed) (events : List Event) (event : Event) (i : ℕ) → i < length events → event ≡ get_or events i event
     → now ≡ and_all_given s (take i events) → then ≡ and_given now event → then ≡ and_all_given s (take (i + 1) events)
 given_more s now then events event i inside here before next =
     next ∙ ap (λ (t : Streamed). and_given t event) before ∙ ap (λ (e : Event). and_given (and_all_given s (take i events)) e) here
     ∙ sym (fold_more and_given s events i event inside)
 
--- a front of the events leaves the master so
+-- the master's state after a prefix of the events
 abbrev pub LeavesFront : Streamed → List Event → MasterState → Type 0
 LeavesFront s events m = (front : List Event) × (rest : List Event) × (events ≡ front ++ rest) × (m ≡ (and_all_given s front).master)
 
--- memory was refused at the event at i: the master has it, or not
+-- an allocation failed at the event at index i, which the master may have sent
 pub given_front : (s now : Streamed) (events : List Event) (event : Event) (i : ℕ) (m : MasterState) → i < length events → event ≡ get_or events i event
     → now ≡ and_all_given s (take i events) → (m ≡ now.master) ⊎ (m ≡ (and_given now event).master) → LeavesFront s events m
 given_front s now events event i m inside here before (inl is) =

@@ -1,4 +1,4 @@
--- Which events go out on a stream, and why each of them may follow those before it.
+-- Which events are sent on a stream, and why each of them may follow those before it.
 use Rattle.std.proofs.Common.{◌≡◌, ◌⊎◌, inl, inr, ℕ, Bool, true, false, ◌||◌, not, ◌==◌, if◌then◌else◌, List, [], ◌∷◌, ◌++◌, Option, Some, None, is_some, Ok, Err, refl, sym, ap, subst, ◌∙◌, append_assoc, arith}
 use Rattle.std.specs.List.{flat_map, list_any}
 use Rattle.std.specs.Str.{bytes_eq}
@@ -40,11 +40,11 @@ among-left d a b h = list_any-append (same_id d) a b ∙ or_left _ _ h
 among-right : (d : Id) (a b : List Id) → is_among d b ≡ true → is_among d (a ++ b) ≡ true
 among-right d a b h = list_any-append (same_id d) a b ∙ or_right _ _ h
 
--- two identifiers of one text stand among the same
+-- two equal identifiers occur in the same lists
 among-same : (d e : Id) (ids : List Id) → same_id d e ≡ true → is_among d ids ≡ is_among e ids
 among-same d e ids same = ap (λ (v : List ℕ). list_any (λ (y : Id). bytes_eq v y.value) ids) ((bytes_eq-Decides d.value e.value).0 same)
 
--- a new identifier is none of the others
+-- a new identifier differs from the others
 new-apart : (d : Id) (ks ds : List Id) → is_duplicate ks ds ≡ false → is_among d ds ≡ true → is_among d ks ≡ false
 new-apart d ks [] none h = absurd (cc)
 new-apart d ks (x ∷ xs) none h = by (or_cases (same_id d x) (is_among d xs) h) (λ g. new-apart d ks xs both.1 g)
@@ -73,7 +73,7 @@ among-offers : (d : Id) (os : List Offer) → list_any (named d) os ≡ is_among
 among-offers d [] = refl
 among-offers d (o ∷ os) = ap (λ (b : Bool). same_id d o.id || b) (among-offers d os)
 
--- an offer that is put in takes the place of another, or comes last
+-- an offer that is added replaces another, or comes last
 any-put : (p : Offer → Bool) (os : List Offer) (x : Offer) → list_any p (with_offers os (x ∷ [])) ≡ true → (list_any p os ≡ true) ⊎ (p x ≡ true)
 any-put p [] x h = elim (or_cases (p x) false h) [
   | inl g ↦ inr g
@@ -111,13 +111,13 @@ any-with p os (x ∷ news) h = by (any-with p (with_offers os (x ∷ [])) news h
     by (inl g) = put-in (any-put p os x g)
     by (inr g) = inr (or_right (p x) _ g)
 
--- two texts differ where a third is one of them alone
+-- two texts differ if a third equals only one of them
 apart-by : (a b c : List ℕ) → bytes_eq a c ≡ true → bytes_eq b c ≡ false → bytes_eq a b ≡ false
 apart-by a b c same other =
     false_from_ne_true (bytes_eq a b)
     (λ t. both_ways (bytes_eq b c) other (ap (λ (v : List ℕ). bytes_eq v c) (sym ((bytes_eq-Decides a b).0 t)) ∙ same))
 
--- what is left once an offer is gone
+-- the remaining offers once one is removed
 any-without : (d gone : Id) (os : List Offer) → list_any (named d) (without_offer gone.value os) ≡ true → (list_any (named d) os ≡ true) × (same_id d gone ≡ false)
 any-without d gone [] h = absurd (cc)
 any-without d gone (o ∷ os) h = by (same_id gone o.id) refl h (any-without d gone os)
@@ -149,7 +149,7 @@ there-without d gone os h =
 
 -- ---- what a master has once some events went out
 
--- its state was m before the stream, on which these offers were made and rescinded and these updates sent
+-- its state was m before the stream; the offers made and rescinded and the updates sent since
 record Known (m : MasterState) (offered rescinded : List Id) (owing : List (OwedKey × TaskStatus)) (now : MasterState) : Type 0 where
   pub offered_is : now.offered ≡ m.offered ++ offered
   pub owing_is : now.owing ≡ m.owing ++ owing
@@ -166,11 +166,11 @@ moved m now o p r q w v e f g k =
     (subst (λ (x : List (OwedKey × TaskStatus)). Known m o r x now) g k))
 
 module _ {X : Type 0} (f : Event → List X) (front : List Event) (e : Event) where
-  -- one event more
+  -- one more event
   brings : flat_map f front ++ f e ≡ flat_map f (front ++ e ∷ [])
   brings = flat_map_more f [] front e
 
-  -- one that brings nothing
+  -- one that adds nothing
   brings-none : f e ≡ [] → flat_map f front ≡ flat_map f (front ++ e ∷ [])
   brings-none none = sym (append-nil (flat_map f front)) ∙ ap (λ (l : List X). flat_map f front ++ l) (sym none) ∙ brings
 
@@ -228,7 +228,7 @@ module _ (m : MasterState) (o r : List Id) (w : List (OwedKey × TaskStatus)) (n
 
 -- ---- one event that is given
 
--- it is skipped, or it goes out, which it may, and the master is so then
+-- the event is skipped; or it is sent, which it may be, and the master's state is then `t`
 data Step (s t : Streamed) (e : Event) (May : Type 0) (Later : MasterState → Type 0) : Type 0 where
   skipped : t ≡ s → Step s t e May Later
   sent : t.events ≡ s.events ++ e ∷ [] → May → Later t.master → Step s t e May Later
@@ -298,7 +298,7 @@ module _ (m : MasterState) (front : List Event) (s : Streamed) (k : Stands m fro
       by None = sent refl tt (told-known m _ _ _ s.master k status)
       by (Some key) = owing key (has_update s.master.owing key) refl
 
-  -- one that goes out as it is
+  -- an event that is sent unchanged
   other-step : (e : Event) → offers_by e ≡ [] → rescinds_by e ≡ [] → owing_by e ≡ [] → Stands m (front ++ e ∷ []) s.master
   other-step e a b c = moved m s.master _ _ _ _ _ _ (brings-none offers_by front e a) (brings-none rescinds_by front e b) (brings-none owing_by front e c) k
 
@@ -315,7 +315,7 @@ module _ (m : MasterState) (front : List Event) (s : Streamed) (k : Stands m fro
 
 -- ---- several that are given
 
--- what goes out of them
+-- the events of them that are sent
 record GoOut (m : MasterState) (front given : List Event) (s end : Streamed) : Type 0 where
   pub rest : List Event
   pub events : end.events ≡ s.events ++ rest
@@ -361,7 +361,7 @@ subscribed-one m (uuid ∷ uuids) given e =
     }) in
     record { rest = r.rest; begins = r.events; some = r.some; follow = r.follow }
 
--- an answer of 200 is that to a SUBSCRIBE
+-- only SUBSCRIBE has status 200
 pub opens-one : (m : MasterState) (call : Call) (stream : Option (List ℕ)) (given : List Event) → (handled m call stream).status ≡ 200
     → (is_subscribe call ≡ true) × IsOneStream m given (and_all_given (opening (handled m call stream)) given).events
 opens-one m call stream given e = by _ (is_subscribe call) m.stream e
@@ -375,7 +375,7 @@ opens-one m call stream given e = by _ (is_subscribe call) m.stream e
 
 -- ---- the stream of a reply
 
--- what is served, where the answer was 200 or not
+-- the response, for status 200 or another
 abbrev served : MasterAnswer → List Event → Bool → Service
 served answer given b = if b then streamed answer.master.stream (and_all_given (opening answer) given) else record { reply = Status answer.status; master = answer.master }
 

@@ -1,4 +1,4 @@
--- A stream written: its head, and behind it its records in chunks.
+-- A written stream: its head, then its records in chunks.
 use Rattle.std.proofs.Common.{◌≡◌, ℕ, ◌^◌, ◌<◌, ◌≤◌, List, ◌++◌, Result, Ok, Err, length, take, refl, subst}
 use Rattle.std.specs.Io.KnownBytes.{Appends}
 use Rattle.mes_msg.specs.Event.{Event}
@@ -29,14 +29,14 @@ stopped a b w f stops = record { out = front_of a.bytes b.bytes w f.sent stops.p
 
 -- ---- what a write says
 
--- a front of w went out
+-- a prefix of w was written
 front_stops : (a b : Device) (w : List ℕ) (f : WriteFault) → (f.sent < length w) × Appends a.bytes b.bytes (take f.sent w)
     → StopsWrite f.why a.counts b.counts → CallsFor (length w) a.counts b.counts → (g : WriteFault) × Stops a.bytes b.bytes a.counts b.counts w 0 g
 front_stops a b w f (short, out) why calls =
     let g : WriteFault = record f { sent = up 0 f.sent } in
     (g, part_stops a.bytes b.bytes a.counts b.counts w 0 g (record { n = f.sent; short = short; out = out; sent_is = refl }) why calls)
 
--- a front went out, behind the bytes v
+-- a prefix was written after the bytes v
 behind_stops : (a b c : Device) (v w : List ℕ) (some : ℕ) (f : WriteFault) → WentOut a.bytes b.bytes a.counts b.counts v 0 some
     → WroteFront b.bytes c.bytes w f.sent → StopsWrite f.why b.counts c.counts → CallsFor (length w) b.counts c.counts
     → (g : WriteFault) × Stops a.bytes c.bytes a.counts c.counts (v ++ w) 0 g
@@ -47,7 +47,7 @@ behind_stops a b c v w some f first front why calls =
 
 -- ---- the head of a stream, and its chunks
 
--- the writer stopped in the head
+-- the writer failed in the head
 pub head_stops : (T : Type 0) (most : ℕ) (id records : List ℕ) (a b : Device) (f : WriteFault) → 1 ≤ most
     → (f.sent < length (ok_text id)) × Appends a.bytes b.bytes (take f.sent (ok_text id)) → StopsWrite f.why a.counts b.counts
     → CallsFor (length (ok_text id)) a.counts b.counts → WritesRecords {T = T} most id records a b (Err unsent.Write)
@@ -56,7 +56,7 @@ head_stops T most id records a b f some out why calls =
     let head = front_stops a b (ok_text id) f out why calls in
     (framed.0, framed.1, (head.0, stopped a b (ok_text id ++ framed.0) head.0 (stops_long a.bytes b.bytes a.counts b.counts (ok_text id) framed.0 0 head.0 head.1)))
 
--- the head went out, and the chunks did, or not
+-- the head was written, and the chunks too, or not
 module _ (most : ℕ) (id records : List ℕ) (a b c : Device) (out : Appends a.bytes b.bytes (ok_text id)) (good : NoneFails a.counts b.counts) (calls : CallsFor (length (ok_text id)) a.counts b.counts) where
   head : WentOut a.bytes b.bytes a.counts b.counts (ok_text id) 0 (up 0 (length (ok_text id)))
   head = part_out a.bytes b.bytes a.counts b.counts (ok_text id) 0 (up 0 (length (ok_text id))) out good refl calls

@@ -1,4 +1,4 @@
--- What the client of a connection asks.
+-- The content of a client's request.
 use Rattle.std.specs.Prelude.{◌≡◌, ℕ, List, Option}
 use Rattle.mes_frame.specs.declared.counts.Counts.{Counts}
 use Rattle.mes_msg.specs.Calls.{call}
@@ -8,13 +8,13 @@ use Rattle.mes_double_http.specs.Requests.{IsWholeCall, RefusesCall}
 use Rattle.mesosev_serve.specs.declared.request.ParsedRequest.{ParsedRequest}
 use Rattle.mesosev_serve.specs.declared.request.ParsedRequest.TheVariants.{NoRequest, NoCall, Calls}
 
--- The body of a request asks it: it spells the call, or none.
+-- the body of a request is the call, or not a call
 abbrev pub IsAskedBy : Option (List ℕ) → List ℕ → ParsedRequest → Type 0
 IsAskedBy stream body (NoRequest fault) = ⊥
 IsAskedBy stream body (NoCall fault) = IsFaultOf call body fault
 IsAskedBy stream body (Calls named c) = (named ≡ stream) × IsTextOf call body c
 
--- What was taken of a reader asks it: there is no request, or one of no call, or one of a call.
+-- the bytes read are no request, a request without a call, or one with a call
 abbrev pub IsAsked : List ℕ → Counts → Counts → ParsedRequest → Type 0
 IsAsked taken old new (NoRequest fault) = RefusesCall fault taken old new
 IsAsked taken old new asked = (stream : Option (List ℕ)) × (body : List ℕ) × IsWholeCall taken stream body × AllGive old new × IsAskedBy stream body asked

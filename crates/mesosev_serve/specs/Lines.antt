@@ -1,4 +1,4 @@
--- The lines that are printed of a connection.
+-- The printed lines of a connection.
 use Rattle.std.specs.Prelude.{◌≡◌, ℕ, Bool, true, false, List, ◌++◌, length, Result, Ok, Err, codes, decimal}
 use Rattle.mes_msg.specs.Call.{Call}
 use Rattle.mes_msg.specs.Call.TheVariants as of
@@ -27,39 +27,38 @@ call_name (of.Suppress framework) = codes "SUPPRESS"
 call_name (of.Shutdown framework body) = codes "SHUTDOWN"
 call_name (of.Message framework body) = codes "MESSAGE"
 
--- `-` where no call was asked
+-- the name of the call's type, or `-` without a call
 abbrev pub asked_name : ParsedRequest → List ℕ
 asked_name (Calls stream c) = call_name c
 asked_name _ = codes "-"
 
--- the status that is answered, or `-`
+-- the status of the response, or `-`
 abbrev pub reply_name : Reply → List ℕ
 reply_name Nothing = codes "-"
 reply_name (Status code) = decimal code
 reply_name (Stream id events) = codes "200"
 
--- `202 REVIVE`, `404 -`
 abbrev pub served_line : List ℕ → List ℕ → List ℕ
 served_line status name = status ++ codes " " ++ name ++ codes "\n"
 
 abbrev pub write_failed_line : List ℕ
 write_failed_line = codes "net write failed\n"
 
--- a reply that can't be encoded or written has one more line; where memory was refused, nothing was answered
+-- one more line if the response could not be encoded or written; no status if memory ran out
 abbrev pub served_lines : {T : Type 0} → Reply → ParsedRequest → Result T SendError → List ℕ
 served_lines reply asked (Ok done) = served_line (reply_name reply) (asked_name asked)
 served_lines reply asked (Err unsent.NoMemory) = served_line (codes "-") (asked_name asked)
 served_lines reply asked (Err unsent.Encode) = served_line (reply_name reply) (asked_name asked) ++ write_failed_line
 served_lines reply asked (Err unsent.Write) = served_line (reply_name reply) (asked_name asked) ++ write_failed_line
 
--- whether all that was to be answered went out: nothing was, where memory was refused
+-- whether the whole response was written; true if an allocation failed, so that none was due
 abbrev pub is_answered : {T : Type 0} → Result T SendError → Bool
 is_answered (Ok done) = true
 is_answered (Err unsent.NoMemory) = true
 is_answered (Err unsent.Encode) = false
 is_answered (Err unsent.Write) = false
 
--- The text was printed, and its bytes are counted; what was to be answered went out, or not. Or the output stopped in the text.
+-- the lines were printed, and their bytes and the result returned; or the output failed
 abbrev pub Reports : List ℕ → Bool → Device → Device → Result Served WriteFault → Type 0
 Reports text answered old new (Ok served) = Wrote old new text × (served.answered ≡ answered) × (served.printed ≡ length text)
 Reports text answered old new (Err fault) = Stopped old new text fault

@@ -1,4 +1,4 @@
--- One stream, by its events alone: which events go out, and which event may follow those before it.
+-- One stream: which events are sent, and which event may follow those before it.
 use Rattle.std.specs.Prelude.{◌≡◌, ◌⊎◌, Bool, true, false, List, [], ◌∷◌, ◌++◌, Option, Some, None}
 use Rattle.std.specs.List.{flat_map, list_any}
 use Rattle.mes_model.specs.Id.{Id}
@@ -12,7 +12,7 @@ use Rattle.mes_double_master.specs.Sending.{offer_ids, is_duplicate}
 use Rattle.mesosev_serve.specs.declared.response.Reply.{Reply}
 use Rattle.mesosev_serve.specs.declared.response.Reply.TheVariants.{Stream}
 
--- `part` has some events of `whole`, in the same order. Each event of `whole` is used at most once.
+-- `part` has some events of `whole` in the same order, each at most once
 abbrev pub IsSublist : List Event → List Event → Type 0
 IsSublist part [] = part ≡ []
 IsSublist part (e ∷ whole) = IsSublist part whole ⊎ ((rest : List Event) × (part ≡ e ∷ rest) × IsSublist rest whole)
@@ -55,14 +55,14 @@ rescind_of id = event.Rescind (record { offer_id = id })
 abbrev pub is_among : Id → List Id → Bool
 is_among d ids = list_any (same_id d) ids
 
--- no update before it requires the same acknowledgement
+-- no earlier update requires the same acknowledgement
 abbrev pub IsNewUpdate : List (OwedKey × TaskStatus) → Option OwedKey → Type 0
 IsNewUpdate owing None = Unit {0}
 IsNewUpdate owing (Some key) = has_update owing key ≡ false
 
--- An event may follow the events `front` on a stream of a master that was in the state m before the stream. There is no second
--- SUBSCRIBED. An offer has a new identifier: the master never made an offer with it, neither on this stream nor before. A RESCIND names an
--- offer that was made on this stream and that no RESCIND named yet. An UPDATE that requires an acknowledgement is new in the same way.
+-- The event may follow `front` on a stream of a master with the state m before it: no second
+-- SUBSCRIBED; offers are new; a RESCIND names an offer of this stream, not rescinded yet; an UPDATE
+-- that requires an acknowledgement is new.
 abbrev pub MayFollow : MasterState → List Event → Event → Type 0
 MayFollow m front (event.Subscribed body) = ⊥
 MayFollow m front (event.Offers offers) = is_duplicate (m.offered ++ offered_in front) (offer_ids offers) ≡ false
@@ -77,14 +77,14 @@ AllFollow m front (e ∷ events) = MayFollow m front e × AllFollow m (front ++ 
 
 -- ---- the whole stream
 
--- The stream begins with SUBSCRIBED. The other events are some of the given events, in their order, each at most once.
+-- the stream is SUBSCRIBED, then some of the given events in order, each at most once
 pub record IsOneStream (m : MasterState) (given events : List Event) : Type 0 where
   pub rest : List Event
   pub begins : events ≡ subscribed_event m.framework ∷ rest
   pub some : IsSublist rest given
   pub follow : AllFollow m [] rest
 
--- the same of a reply; one that has no stream meets it
+-- `IsOneStream` for the stream of a response; true without a stream
 abbrev pub IsStreamReply : MasterState → List Event → Reply → Type 0
 IsStreamReply m given (Stream id events) = IsOneStream m given events
 IsStreamReply m given _ = Unit {0}

@@ -1,11 +1,11 @@
--- The stream that a SUBSCRIBE opens: which of the events that are given go out on it.
+-- The stream that a SUBSCRIBE opens: which of the given events are sent.
 use Rattle.std.specs.Prelude.{List, [], ◌∷◌, ◌++◌, fold, Ok, Err}
 use Rattle.mes_msg.specs.Event.{Event}
 use Rattle.mes_msg.specs.Event.TheVariants as event
 use Rattle.mes_double_master.specs.Masters.{MasterState, MasterAnswer}
 use Rattle.mes_double_master.specs.Sending.{Sends, offers_sent, rescind_sent, update_sent}
 
--- the events of a stream so far, and the master then
+-- the events of a stream so far, and the state of the master
 pub record Streamed : Type 0 where
   pub events : List Event
   pub master : MasterState
@@ -13,12 +13,12 @@ pub record Streamed : Type 0 where
 abbrev pub so_far : List Event → MasterState → Streamed
 so_far events m = record { events = events; master = m }
 
--- what the master sends is the next event; what it refuses is skipped
+-- an event that the master sends is appended; a refused one is skipped
 abbrev pub and_sent : Streamed → Sends → Streamed
 and_sent s (Ok sent) = so_far (s.events ++ sent.0 ∷ []) sent.1
 and_sent s (Err why) = s
 
--- OFFERS, RESCIND and UPDATE go through the master, a SUBSCRIBED is skipped, and any other event goes as it is
+-- OFFERS, RESCIND, UPDATE go through the master, SUBSCRIBED is skipped, any other is appended
 abbrev pub and_given : Streamed → Event → Streamed
 and_given s (event.Subscribed body) = s
 and_given s (event.Offers offers) = and_sent s (offers_sent s.master offers)
@@ -26,10 +26,10 @@ and_given s (event.Rescind body) = and_sent s (rescind_sent s.master body.offer_
 and_given s (event.Update body) = and_sent s (update_sent s.master body.status)
 and_given s given = so_far (s.events ++ given ∷ []) s.master
 
--- the same of several, in order
+-- `and_given` for several events, in order
 abbrev pub and_all_given : Streamed → List Event → Streamed
 and_all_given s given = fold and_given s given
 
--- the events of the answer come first
+-- a stream begins with the events of the master's answer
 abbrev pub opening : MasterAnswer → Streamed
 opening answer = so_far answer.events answer.master

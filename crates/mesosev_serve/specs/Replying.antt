@@ -1,4 +1,4 @@
--- What a connection is answered, and what that makes of the master.
+-- The response to a request, and its effect on the test master.
 use Rattle.std.specs.Prelude.{◌≡◌, ℕ, ◌⊎◌, ◌==◌, if◌then◌else◌, List, ◌++◌, Option, None, Some}
 use Rattle.mes_msg.specs.Event.{Event}
 use Rattle.mes_double_http.specs.declared.fault.HeadFault.{HeadFault}
@@ -13,8 +13,7 @@ use Rattle.mesosev_serve.specs.declared.request.ParsedRequest.TheVariants.{NoReq
 use Rattle.mesosev_serve.specs.declared.response.Reply.{Reply}
 use Rattle.mesosev_serve.specs.declared.response.Reply.TheVariants.{Nothing, Status, Stream}
 
--- A request that was refused: 404 to another target, 405 to another method, nothing where the reader failed or ended in the body, or
--- memory was refused; else 400.
+-- an invalid request: 404, 405 or 400; no response if the reader or an allocation failed
 abbrev pub reply_to_fault : HeadFault → Reply
 reply_to_fault fault.WrongPath = Status 404
 reply_to_fault fault.WrongMethod = Status 405
@@ -23,40 +22,38 @@ reply_to_fault fault.ShortBody = Nothing
 reply_to_fault fault.NoMemory = Nothing
 reply_to_fault _ = Status 400
 
--- a body that is no call
+-- a body that is not a call
 abbrev pub reply_to_text : RecordFault → Reply
 reply_to_text unread.NoMemory = Nothing
 reply_to_text _ = Status 400
 
--- what is answered, and the master then
+-- the response, and the state of the master after it
 pub record Service : Type 0 where
   pub reply : Reply
   pub master : MasterState
 
--- this is answered, and the master is so
+-- the response and the state are these
 abbrev pub IsService : Service → Reply → MasterState → Type 0
 IsService s reply later = (reply ≡ s.reply) × (later ≡ s.master)
 
--- the events go out on this stream
+-- the response with these events on this stream
 abbrev pub streamed : Option (List ℕ) → Streamed → Service
 streamed None s = record { reply = Nothing; master = s.master }
 streamed (Some id) s = record { reply = Stream id s.events; master = s.master }
 
--- Where the master answers 200, its stream has its events and then those that are given; else its status is answered, and its events
--- are dropped.
+-- status 200: the master's events, then the given ones; any other status: no events
 abbrev pub service : MasterAnswer → List Event → Service
 service answer given =
     if answer.status == 200 then streamed answer.master.stream (and_all_given (opening answer) given)
     else record { reply = Status answer.status; master = answer.master }
 
--- Memory was refused before there was a reply: the master is as it was, or, where it answers 200, as a front of the events leaves it.
+-- an allocation failed first: the master is unchanged, or has sent a prefix of the given events
 abbrev pub Lacks : MasterState → MasterAnswer → List Event → MasterState → Type 0
 Lacks before answer given later =
     (later ≡ before)
     ⊎ ((answer.status ≡ 200) × ((front : List Event) × (rest : List Event) × (given ≡ front ++ rest) × (later ≡ (and_all_given (opening answer) front).master)))
 
--- What was asked has this reply, with these events for a stream, and leaves this master. Where memory was refused there is none, but
--- only in the place of an answer that needs memory.
+-- the response to a request, and the master's state; none if an allocation that is needed failed
 abbrev pub Replies : MasterState → List Event → ParsedRequest → Reply → MasterState → Type 0
 Replies before given (NoRequest fault) reply later = (reply ≡ reply_to_fault fault) × (later ≡ before)
 Replies before given (NoCall fault) reply later = (reply ≡ reply_to_text fault) × (later ≡ before)

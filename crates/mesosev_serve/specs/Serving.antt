@@ -1,4 +1,4 @@
--- One connection served: what is asked, what is answered, and what is printed of it.
+-- One served connection: the request, the response, and the printed lines.
 use Rattle.std.specs.Prelude.{ℕ, List, Result}
 use Rattle.std.specs.Io.KnownBytes.{Consumes}
 use Rattle.mes_msg.specs.Event.{Event}
@@ -15,19 +15,19 @@ use Rattle.mesosev_serve.specs.declared.response.Reply.{Reply}
 use Rattle.mesosev_serve.specs.declared.connection.Served.{Served}
 use Rattle.mesosev_serve.specs.declared.response_writer.SendError.{SendError}
 
--- These devices and masters are those before and after a connection that was given these events for a stream in chunks of `most` bytes.
+-- the devices and the master's states before and after one connection with these events
 pub record ServesOne (before : MasterState) (given : List Event) (most : ℕ) (input rest writer written out reported : Device) (later : MasterState) (served : Result Served WriteFault) : Type 0 where
-  -- a request was taken, and nothing behind it
+  -- a request was read, and nothing after it
   pub taken : List ℕ
   pub consumes : Consumes input.bytes rest.bytes taken
   pub asked : ParsedRequest
   pub asks : IsAsked taken input.counts rest.counts asked
-  -- it was answered, which left the master so
+  -- the response, and the master's state after it
   pub reply : Reply
   pub replies : Replies before given asked reply later
-  -- a stream has SUBSCRIBED and then some of the given events, in their order, each at most once
+  -- a stream has SUBSCRIBED, then some of the given events in order, each at most once
   pub one : IsStreamReply before given reply
   pub sent : Result (Unit {0}) SendError
   pub writes : Writes most reply writer written sent
-  -- and that was printed
+  -- the lines were printed
   pub reports : Reports (served_lines reply asked sent) (is_answered sent) out reported served

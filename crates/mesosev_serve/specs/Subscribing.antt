@@ -1,4 +1,4 @@
--- A stream of events subscribed to: the SUBSCRIBE is sent, the head of its answer is read, and the events behind that are shown.
+-- Subscribing: SUBSCRIBE is sent, the head of the response is read, and its events are printed.
 use Rattle.std.specs.Prelude.{◌≡◌, ℕ, ◌⊎◌, List, ◌++◌, length, None, Result, Ok, Err, codes}
 use Rattle.std.specs.Io.KnownBytes.{Consumes}
 use Rattle.mes_msg.specs.Call.{Call}
@@ -20,15 +20,15 @@ use Rattle.mes_session.specs.Made.{subscribe_call}
 use Rattle.mesosev_serve.specs.Lines.{write_failed_line}
 use Rattle.mes_stream.specs.declared.stream_reader.Framing.TheVariants.{Chunked}
 
--- the SUBSCRIBE of a session that has heard nothing, so that it knows no framework
+-- the SUBSCRIBE of a new session, without a framework id
 abbrev pub first_subscribe : FrameworkInfo → Call
 first_subscribe info = subscribe_call None info
 
--- its request went out whole, which names no stream
+-- its request, without a stream id, was written completely
 abbrev pub SentSubscribe : FrameworkInfo → List ℕ → Device → Device → Type 0
 SentSubscribe info host old new = WroteCall (λ (d : Device). d.bytes) (λ (d : Device). d.counts) host None (first_subscribe info) old new
 
--- No body can hold it, or memory was refused, and nothing was written. Or the writer stopped in it.
+-- it could not be encoded and nothing was written, or the writer failed in it
 abbrev pub StopsSubscribe : FrameworkInfo → List ℕ → Device → Device → SendFault → Type 0
 StopsSubscribe info host old new fault = StopsCall (λ (d : Device). d.bytes) (λ (d : Device). d.counts) host None (first_subscribe info) old new fault
 
@@ -36,25 +36,24 @@ abbrev pub SendsSubscribe : {T : Type 0} → FrameworkInfo → List ℕ → Devi
 SendsSubscribe info host old new (Ok done) = SentSubscribe info host old new
 SendsSubscribe info host old new (Err fault) = StopsSubscribe info host old new fault
 
--- `refused H4 Status 403`
 abbrev pub refused_line : HeadFault → List ℕ
 refused_line f = codes "refused " ++ head_fault_text f ++ codes "\n"
 
--- A head was taken, and nothing behind it. It opens a stream: it came a byte by each read, and what stands behind it was shown as a
--- chunked stream, where the bytes and the reads of the head are not counted. Or it is refused, which was told, and no more was taken.
+-- A head was read. If it opens a stream, the bytes after it were printed as `Shows` states; the
+-- reads of the head are not counted. If not, it was printed, and nothing more was read.
 abbrev pub ShowsAnswer : ℕ → Device → Device → Device → Device → RunOutcome → Type 0
 ShowsAnswer reads input rest out reported ended =
     (taken : List ℕ) × (following : Device) × Consumes input.bytes following.bytes taken
     × (((id : List ℕ) × OpensStream taken id × GaveEach (length taken) input.counts following.counts × Shows Chunked DEFAULT_RECORD_LIMIT reads following rest out reported ended)
     ⊎ ((fault : HeadFault) × Refuses BreaksStream fault taken input.counts following.counts × (rest ≡ following) × Prints out reported (refused_line fault) exit.Fault ended))
 
--- what is told of a SUBSCRIBE that did not go out
+-- the printed line for a SUBSCRIBE that was not sent
 abbrev pub ReportsUnsent : SendFault → Device → Device → RunOutcome → Type 0
 ReportsUnsent send.NoMemory out reported ended = LacksMemory out reported ended
 ReportsUnsent (send.Encode index why) out reported ended = Prints out reported write_failed_line exit.Fault ended
 ReportsUnsent (send.Write fault) out reported ended = Prints out reported write_failed_line exit.Fault ended
 
--- It went out, and what came as its answer was shown. Or it did not, which was told, and nothing was read.
+-- SUBSCRIBE was sent and the response printed; or it was not, and nothing was read
 abbrev pub SubscribesOver : FrameworkInfo → List ℕ → ℕ → Device → Device → Device → Device → Device → Device → RunOutcome → Type 0
 SubscribesOver info host reads input rest writer written out reported ended =
     (SentSubscribe info host writer written × ShowsAnswer reads input rest out reported ended)

@@ -1,4 +1,4 @@
--- What is written of a reply.
+-- The bytes of a response.
 use Rattle.std.specs.Prelude.{◌≡◌, ℕ, List, [], ◌++◌, Result, Ok, Err}
 use Rattle.mes_frame.specs.Devices.{Device}
 use Rattle.mes_frame.specs.Frames.{IsFrames}
@@ -14,44 +14,44 @@ use Rattle.mesosev_serve.specs.declared.response.Reply.TheVariants.{Nothing, Sta
 use Rattle.mesosev_serve.specs.declared.response_writer.SendError.{SendError}
 use Rattle.mesosev_serve.specs.declared.response_writer.SendError.TheVariants as unsent
 
--- w went out whole
+-- w was written completely
 abbrev pub Wrote : Device → Device → List ℕ → Type 0
 Wrote old new w = WroteAll (λ (d : Device). d.bytes) (λ (d : Device). d.counts) old new w
 
--- exactly the first `sent` bytes of w went out, not all of them, and just one call did what the fault says
+-- exactly the first `sent` bytes of w were written, not all; one call failed as the error states
 abbrev pub Stopped : Device → Device → List ℕ → WriteFault → Type 0
 Stopped old new w fault = WroteSome (λ (d : Device). d.bytes) (λ (d : Device). d.counts) old new w fault
 
--- w is the reply: nothing, the head of a status, or the head of a stream and behind it its events in chunks of `most` bytes
+-- w is the response: nothing, a status, or the head of a stream and its events in chunks
 abbrev pub IsReplyText : ℕ → Reply → List ℕ → Type 0
 IsReplyText most Nothing w = w ≡ []
 IsReplyText most (Status code) w = w ≡ status_text code
 IsReplyText most (Stream id events) w = (body : List ℕ) × IsStreamOf DEFAULT_RECORD_LIMIT most events body × (w ≡ ok_text id ++ body)
 
--- an event of its stream has no record
+-- an event of the stream cannot be encoded
 abbrev pub IsUnwritable : Reply → Type 0
 IsUnwritable (Stream id events) = (index : ℕ) × (why : EncodeFaultKind) × IsFirstBad DEFAULT_RECORD_LIMIT events index why
 IsUnwritable _ = ⊥
 
--- it takes memory to write it
+-- writing the response allocates
 abbrev pub TakesMemory : Reply → Type 0
 TakesMemory (Stream id events) = Unit {0}
 TakesMemory _ = ⊥
 
--- why it did not go out, where its events were not sent
+-- the error for a stream whose events were not encoded or written
 abbrev pub unsent_of : SendFault → SendError
 unsent_of send.NoMemory = unsent.NoMemory
 unsent_of (send.Encode index why) = unsent.Encode
 unsent_of (send.Write fault) = unsent.Write
 
--- The reply went out. Or memory was refused, or an event has no record, and nothing was written. Or the writer stopped in it.
+-- the response was written; or encoding it failed and nothing was written; or the writer failed
 abbrev pub Writes : {T : Type 0} → ℕ → Reply → Device → Device → Result T SendError → Type 0
 Writes most reply old new (Ok done) = (w : List ℕ) × IsReplyText most reply w × Wrote old new w
 Writes most reply old new (Err unsent.NoMemory) = TakesMemory reply × (new ≡ old)
 Writes most reply old new (Err unsent.Encode) = IsUnwritable reply × (new ≡ old)
 Writes most reply old new (Err unsent.Write) = (w : List ℕ) × IsReplyText most reply w × ((fault : WriteFault) × Stopped old new w fault)
 
--- the same of records that are a stream's, in chunks behind its head: they went out, or the writer stopped
+-- the head and the records in chunks were written, or the writer failed
 abbrev pub WritesRecords : {T : Type 0} → ℕ → List ℕ → List ℕ → Device → Device → Result T SendError → Type 0
 WritesRecords most id records old new (Ok done) = (body : List ℕ) × IsFrames records most body × Wrote old new (ok_text id ++ body)
 WritesRecords most id records old new (Err unsent.Write) = (body : List ℕ) × IsFrames records most body × ((fault : WriteFault) × Stopped old new (ok_text id ++ body) fault)

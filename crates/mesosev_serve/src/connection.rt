@@ -1,4 +1,4 @@
-//! What became of a connection, as it is told.
+//! The result of a served connection, and its printed lines.
 
 ghost use Rattle.std.specs.Prelude.{◌≡◌};
 ghost use Rattle.mes_frame.specs.Devices.{device_of};
@@ -10,18 +10,18 @@ use crate::response::Reply;
 use crate::response_writer::SendError;
 use mes_frame::{Sink, WriteFault, write_all};
 
-/// A connection that was served, and its lines printed.
+/// A connection that was served, and whose lines were printed.
 #[derive(Clone, Copy, Debug, PartialEq, Eq)]
 pub struct Served {
-    /// Whether what it was to be answered went out whole, which may be nothing, as where memory was refused. Not where the line
-    /// `net write failed` was printed: an event of its stream has no record, and nothing was written; or the writer failed or took no
-    /// byte of some.
+    /// Whether the whole response was written; also true if no response was due, for example
+    /// because an allocation failed. False if `net write failed` was printed: an event could not be
+    /// encoded and nothing was written, or the writer failed or wrote 0 bytes.
     pub answered: bool,
-    /// The bytes of its lines, all of which were printed.
+    /// The number of bytes of the printed lines.
     pub printed: u64,
 }
 
-/// Prints the lines of a connection, and answers what became of it.
+/// Prints the lines of a connection, and returns its result.
 pub(crate) fn report_served<O: Sink>(
     out: &mut O,
     reply: &Reply<'_>,
@@ -39,7 +39,7 @@ pub(crate) fn report_served<O: Sink>(
     })
 }
 
-/// Whether all that was to be answered went out.
+/// Returns whether the whole response was written.
 fn is_answered(sent: &Result<(), SendError>) -> bool
     ensures { result ≡ is_answered sent.now }
 {

@@ -1,4 +1,4 @@
-//! The events of a stream that opens: those that are given, as far as the master sends them.
+//! The events of a new stream: the given ones that the test master sends.
 
 ghost use Rattle.std.specs.Prelude.{◌≡◌, ◌≢◌, ◌⊎◌, [], ◌∷◌, ◌++◌, List, OnOk, OnErr, MatchResult};
 ghost use Rattle.mes_msg.specs.Event.{Event as EventValue};
@@ -10,8 +10,9 @@ use mes_double_master::{Master, MasterRefusal};
 use mes_json::NoMemory;
 use mes_msg::Event;
 
-/// Appends the events that go out of those that are given: OFFERS, RESCIND and UPDATE go through the master, where one that it
-/// refuses is skipped, a SUBSCRIBED is skipped, and any other goes as it is.
+/// Appends the given events that are sent. OFFERS, RESCIND and UPDATE go through the master, which
+/// may refuse them. Refused events and SUBSCRIBED are skipped, and all others are appended
+/// unchanged.
 pub(crate) fn send_all<'a>(
     master: &mut Master,
     given: &'a [Event],
@@ -29,7 +30,7 @@ pub(crate) fn send_all<'a>(
     Ok(())
 }
 
-/// The same of one event. Refused memory, the master has sent it or not.
+/// Like [`send_all`], for one event. If an allocation fails, the master may have sent it or not.
 fn send<'a>(master: &mut Master, given: &'a Event, sent: &mut Outgoing<'a>) -> Result<(), NoMemory>
     ensures ok { OnOk result (so_far sent.new master.new
         ≡ and_given (so_far sent.old master.old) given.now) }

@@ -1,5 +1,14 @@
 #![tactic(auto)]
-//! The two ends of a connection over any devices: one to a test master, served; and a stream of events, subscribed to and shown.
+//! One HTTP connection between a scheduler and a test master, over any devices.
+//!
+//! [`serve_one`] is the master's end: it reads a call, writes the response, and prints a line.
+//! [`subscribe_over`] is the scheduler's end: it sends SUBSCRIBE, and prints the events of the
+//! stream. The contracts state the bytes read, written and printed, also if a device fails.
+//!
+//!     let served = serve_one(alloc, &mut master, &events, chunk_size, reader, writer, out)?;
+//!
+//! `mesosev_net` has the sockets, `mes_double_master` the test master. Tests are in the crate
+//! `mesosev_serve_tests`.
 
 mod connection;
 mod handshake;

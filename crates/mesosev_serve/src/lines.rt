@@ -1,4 +1,4 @@
-//! The lines that are printed of a connection.
+//! The printed lines of a connection.
 
 ghost use Rattle.std.specs.Prelude.{◌≡◌, ◌≤◌, ◌++◌, length, codes};
 ghost use Rattle.mesosev_serve.specs.Lines.{served_line, served_lines};
@@ -9,14 +9,14 @@ use crate::response_writer::SendError;
 use arrayvec::ArrayString;
 use itoa::Buffer;
 
-/// The room for the lines of a connection, in bytes.
+/// The capacity for the lines of a connection, in bytes.
 pub(crate) const MAX_LINE_BUFFER: usize = 64;
 
-/// The line of what could not be encoded or written, and its LF.
+/// The printed line if a request or response could not be encoded or written, with LF.
 pub const WRITE_FAILED: &str = "net write failed\n";
 
-/// The lines of a connection: the status that was answered and the type of the call, each `-` if there was none; and one more where
-/// the reply could not be encoded or written.
+/// Returns the lines of a connection: the status and the type of the call, each `-` if there is
+/// none. A second line is added if the response could not be encoded or written.
 pub(crate) fn served_lines(
     reply: &Reply<'_>,
     asked: &ParsedRequest,
@@ -35,7 +35,7 @@ pub(crate) fn served_lines(
     }
 }
 
-/// The line of a connection, and behind it these.
+/// Returns the line of a connection, followed by `more`.
 fn served_line(status: &str, name: &str, more: &str) -> ArrayString<MAX_LINE_BUFFER>
     requires status { length status.now ≤ 5 }
     requires name { length name.now ≤ 11 }

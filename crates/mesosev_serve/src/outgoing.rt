@@ -1,4 +1,4 @@
-//! The events of a stream that goes out.
+//! The events of a stream to be written.
 
 ghost use Rattle.std.specs.Prelude.{◌≡◌, [], ◌∷◌, ◌++◌, map, IfOk, OnOk};
 
@@ -8,8 +8,8 @@ use mes_stream::event_refs;
 use std::alloc::Global;
 use std::marker::Model;
 
-/// Events in order: the master's own, and behind them those of the given ones that go out, which are borrowed. A contract sees the
-/// list of them.
+/// The events of a stream in order: the master's own, then references to the given events that are
+/// sent. In contracts its value is the list of events.
 #[derive(Drop)]
 pub(crate) struct Outgoing<'a> {
     own: Vec<Event>,
@@ -30,7 +30,7 @@ impl<'a> Model for Outgoing<'a> {
 }
 
 impl<'a> Outgoing<'a> {
-    /// The master's own events. Takes no memory.
+    /// Returns a list of the master's own events. Does not allocate.
     pub(crate) fn new(alloc: Global, own: Vec<Event>) -> Outgoing<'a>
         ensures { result ≡ own.items }
     {
@@ -40,7 +40,7 @@ impl<'a> Outgoing<'a> {
         }
     }
 
-    /// Appends an event that was given.
+    /// Appends a given event.
     pub(crate) fn push(&mut self, event: &'a Event) -> Result<(), NoMemory>
         ensures { OnOk result (self.new ≡ self.old ++ event.now ∷ []) }
     {
@@ -48,7 +48,7 @@ impl<'a> Outgoing<'a> {
         Ok(())
     }
 
-    /// All of them, borrowed one by one.
+    /// Returns a reference to each event.
     pub(crate) fn all(&self, alloc: Global) -> Result<Vec<&Event>, NoMemory>
         ensures { IfOk result (λ all. map (λ event. event.now) all.items ≡ self.now) }
     {

@@ -1,4 +1,4 @@
-//! What the client of a connection asks.
+//! The call that a client sends.
 
 ghost use Rattle.std.specs.Prelude.{◌≡◌, ◌≤◌, ℕ, List, length};
 ghost use Rattle.std.specs.Io.KnownBytes.{Consumes};
@@ -10,19 +10,19 @@ use mes_frame::Source;
 use mes_msg::{Call, RecordFault};
 use std::alloc::Global;
 
-/// What the client of a connection asks.
+/// The content of a client's request.
 #[derive(Drop)]
 pub(crate) enum ParsedRequest {
-    /// Nothing: no request came, or one that was refused.
+    /// No request was received, or it is invalid.
     NoRequest(HeadFault),
-    /// Nothing: the body of its request is no call.
+    /// The body is not a call.
     NoCall(RecordFault),
-    /// A call, on the stream that the request names, if any.
+    /// A call, and the stream id of the request, if it has one.
     Calls(Option<StreamId>, Call),
 }
 
 impl ParsedRequest {
-    /// The name of the call's type, or `-`.
+    /// Returns the name of the call's type, or `-`.
     pub(crate) fn name(&self) -> &'static str
         ensures name { result.now ≡ asked_name self.now }
         ensures bound { length result.now ≤ 11 }
@@ -34,7 +34,7 @@ impl ParsedRequest {
     }
 }
 
-/// Takes a request, and reads its call.
+/// Reads a request and decodes its call.
 pub(crate) fn ask<R: Source>(alloc: Global, reader: &mut R) -> ParsedRequest
     ensures { (taken : List ℕ) × Consumes (R.left reader.old) (R.left reader.new) taken
         × IsAsked taken (R.counts reader.old) (R.counts reader.new) result }
@@ -45,7 +45,7 @@ pub(crate) fn ask<R: Source>(alloc: Global, reader: &mut R) -> ParsedRequest
     }
 }
 
-/// What a request asks.
+/// Decodes the call of a request.
 fn parse_request(alloc: Global, request: Request) -> ParsedRequest
     ensures { IsAskedBy request.stream request.body.items result }
 {
@@ -55,7 +55,7 @@ fn parse_request(alloc: Global, request: Request) -> ParsedRequest
     }
 }
 
-/// The name of the call's type (scheduler.proto, `Call.Type`).
+/// Returns the name of the call's type (scheduler.proto, `Call.Type`).
 fn call_name(call: &Call) -> &'static str
     ensures name { result.now ≡ call_name call.now }
     ensures bound { length result.now ≤ 11 }

@@ -1,4 +1,4 @@
-//! What a connection is answered to what was asked, and what that makes of the master.
+//! The response to a request, and its effect on the test master.
 
 ghost use Rattle.std.specs.Prelude.{◌≡◌, ◌++◌, List as list, option_copied, IfOk, OnErr};
 ghost use Rattle.mes_msg.specs.Event.{Event as EventValue};
@@ -18,7 +18,8 @@ use mes_json::NoMemory;
 use mes_msg::{Call, Event, RecordFault};
 use std::alloc::Global;
 
-/// What is answered to what was asked, with these events for a stream. Refused memory, nothing is answered.
+/// Returns the response to a request. `given` are the events for a stream. If an allocation fails,
+/// there is no response.
 pub(crate) fn reply_to<'a>(
     alloc: Global,
     master: &mut Master,
@@ -39,7 +40,7 @@ pub(crate) fn reply_to<'a>(
     }
 }
 
-/// What is answered where no request came, or one that was refused.
+/// Returns the response to an invalid request, or to none.
 fn reply_to_fault<'a>(fault: HeadFault) -> Reply<'a>
     ensures { result ≡ reply_to_fault fault }
 {
@@ -51,7 +52,7 @@ fn reply_to_fault<'a>(fault: HeadFault) -> Reply<'a>
     }
 }
 
-/// What is answered to a body that is no call.
+/// Returns the response to a body that is not a call.
 fn reply_to_text<'a>(fault: &RecordFault) -> Reply<'a>
     ensures { result ≡ reply_to_text fault.now }
 {
@@ -61,7 +62,7 @@ fn reply_to_text<'a>(fault: &RecordFault) -> Reply<'a>
     }
 }
 
-/// What is answered to a call that names this stream, or none.
+/// Returns the response to a call with this stream id, or none.
 fn reply_to_call<'a>(
     alloc: Global,
     master: &mut Master,
@@ -83,7 +84,7 @@ fn reply_to_call<'a>(
     open_stream(alloc, master, given, answer.events)
 }
 
-/// The stream that a master with these first events opens.
+/// Returns the stream that a master opens, with its first events.
 fn open_stream<'a>(
     alloc: Global,
     master: &mut Master,

@@ -1,4 +1,4 @@
-//! What a connection is answered.
+//! The response to a request.
 
 ghost use Rattle.std.specs.Prelude.{◌≡◌, ◌≤◌, length};
 ghost use Rattle.mesosev_serve.specs.Lines.{reply_name};
@@ -8,19 +8,19 @@ use http::StatusCode;
 use itoa::Buffer;
 use mes_double_http::StreamId;
 
-/// What a connection is answered.
+/// The response to a request.
 #[derive(Drop)]
 pub(crate) enum Reply<'a> {
-    /// Nothing: it is closed.
+    /// None: the connection is closed.
     Nothing,
-    /// This status, and no body.
+    /// A status without a body.
     Status(StatusCode),
-    /// Status 200, and the stream of this id with these events.
+    /// Status 200, and the stream with this id and these events.
     Stream(StreamId, Outgoing<'a>),
 }
 
 impl<'a> Reply<'a> {
-    /// The status, written into the buffer, or `-`.
+    /// Returns the status, formatted in the buffer, or `-`.
     pub(crate) fn name<'b>(&self, digits: &'b mut Buffer) -> &'b str
         ensures name { result.now ≡ reply_name self.now }
         ensures bound { length result.now ≤ 5 }

@@ -1,4 +1,4 @@
-//! A reply written.
+//! Writes a response.
 
 ghost use Rattle.std.specs.Prelude.{◌≤◌};
 ghost use Rattle.mes_frame.specs.Devices.{device_of};
@@ -15,14 +15,14 @@ use mes_stream::encode_each;
 use mesosev_stream::ChunkSize;
 use std::alloc::Global;
 
-/// Why a reply did not go out whole.
+/// The reason for which a response was not written completely.
 #[derive(Clone, Copy, Debug, PartialEq, Eq)]
 pub(crate) enum SendError {
-    /// Memory was refused, and nothing was written.
+    /// An allocation failed, and nothing was written.
     NoMemory,
-    /// An event of its stream has no record, and nothing was written.
+    /// An event of the stream could not be encoded, and nothing was written.
     Encode,
-    /// The writer stopped.
+    /// The writer failed, or wrote 0 bytes.
     Write,
 }
 
@@ -52,7 +52,8 @@ impl From<SendFault> for SendError {
     }
 }
 
-/// Writes a reply: a stream in chunks of `most` bytes, all of whose events are encoded before the first byte is written.
+/// Writes a response; a stream is written in chunks of `most` bytes. All its events are encoded
+/// before the first byte is written.
 pub(crate) fn write_reply<W: Sink>(
     alloc: Global,
     reply: &Reply<'_>,
@@ -69,7 +70,7 @@ pub(crate) fn write_reply<W: Sink>(
     }
 }
 
-/// Writes a reply that is a status alone.
+/// Writes a status without a body.
 fn write_head<W: Sink>(code: StatusCode, writer: &mut W) -> Result<(), SendError>
     ensures { Writes 1 (reply.Status code) (device_of W.written W.counts writer.old)
         (device_of W.written W.counts writer.new) result }
@@ -78,7 +79,7 @@ fn write_head<W: Sink>(code: StatusCode, writer: &mut W) -> Result<(), SendError
     Ok(())
 }
 
-/// Writes a reply that is a stream.
+/// Writes a stream.
 fn write_stream<W: Sink>(
     alloc: Global,
     id: &StreamId,
@@ -96,7 +97,7 @@ fn write_stream<W: Sink>(
     write_records(id, records.as_slice(), most.get(), writer)
 }
 
-/// Writes the head of a stream, and behind it the records in chunks.
+/// Writes the head of a stream, then the records in chunks.
 fn write_records<W: Sink>(
     id: &StreamId,
     records: &[u8],

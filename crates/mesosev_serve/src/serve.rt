@@ -1,4 +1,4 @@
-//! One connection to a test master, served.
+//! The master's end of a connection. `subscribing.rt` has the scheduler's end.
 
 ghost use Rattle.mes_frame.specs.Devices.{device_of};
 ghost use Rattle.mesosev_serve.specs.Serving.{ServesOne};
@@ -13,15 +13,20 @@ use mes_msg::Event;
 use mesosev_stream::ChunkSize;
 use std::alloc::Global;
 
-/// Serves one connection: takes a request, answers it, and prints the line of it.
+/// Serves one connection: reads a request, writes the response, and prints its line.
 ///
-/// A request that names another target is answered 404, one of another method 405, one whose reader fails or ends in its body nothing,
-/// any other that is refused, or whose body is no call, 400; else the master's answer to its call counts. Where that is 200, the stream
-/// is written in chunks of `most` bytes: SUBSCRIBED, and then these events, OFFERS, RESCIND and UPDATE through the master;
-/// one that it refuses and a SUBSCRIBED are skipped. So each event goes out at most once, in order, and no RESCIND is repeated
-/// (`serve_laws`). All are encoded before the first byte is written. The events of any other answer
-/// are dropped, since its stream has closed. Refused memory before its first byte, nothing is answered. Errors: the line was not
-/// printed, or not whole.
+/// - Another path: 404. Another method: 405.
+/// - A reader that fails or ends inside the body: no response.
+/// - Any other invalid request, or a body that is not a call: 400.
+/// - A call: the status of the test master. If that is 200, the stream follows.
+///
+/// A stream is written in chunks of `most` bytes: SUBSCRIBED, then `events`. OFFERS, RESCIND and
+/// UPDATE go through the master. Events that it refuses and SUBSCRIBED are skipped. Each event is
+/// sent at most once, in order, and no RESCIND is repeated (`serve_laws`). All events are encoded
+/// before the first byte is written.
+///
+/// If an allocation fails before that, there is no response. Errors: the line was not printed
+/// completely.
 pub fn serve_one<R: Source, W: Sink, O: Sink>(
     alloc: Global,
     master: &mut Master,
@@ -31,6 +36,7 @@ pub fn serve_one<R: Source, W: Sink, O: Sink>(
     writer: &mut W,
     out: &mut O,
 ) -> Result<Served, WriteFault>
+    // The bytes read, written and printed, the master's new state, and the result.
     ensures { ServesOne master.old events.now most (device_of R.left R.counts reader.old)
         (device_of R.left R.counts reader.new)
         (device_of W.written W.counts writer.old) (device_of W.written W.counts writer.new)

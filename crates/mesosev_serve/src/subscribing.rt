@@ -1,4 +1,4 @@
-//! A stream of events subscribed to, and shown as it comes.
+//! The scheduler's end of a connection: subscribes, and prints the events of the stream.
 
 ghost use Rattle.std.specs.Prelude.{◌≡◌, ◌≤◌, length, All, IfOk};
 ghost use Rattle.mes_frame.specs.Devices.{device_of};
@@ -21,15 +21,19 @@ use mesosev_stream::{
 };
 use std::alloc::Global;
 
-/// The room for the line of a head that is refused, in bytes.
+/// The capacity for the line of a refused head, in bytes.
 const MAX_REFUSED_LINE: usize = 40;
 
-/// Subscribes a framework with a master that is known by this host, of 1 to `MAX_HOST` visible ASCII characters, and shows the events
-/// of the stream that it opens: the SUBSCRIBE of a session that has heard nothing is written, the head of the answer is read, and of what
-/// comes behind it in at most `max_reads` reads, which are at most `MAX_READS`, the lines of each event are printed before the next
-/// read, and then how many events there were in how many bytes of the body, or the first fault. A head that opens no stream is told,
-/// `refused H4 Status 403`, and then nothing behind it is read. Where the SUBSCRIBE can't be encoded or written `net write failed` is
-/// told, and nothing is read. Holds the events of one read at a time.
+/// Sends SUBSCRIBE to a master, and prints the events of the stream as they arrive. `host` has 1 to
+/// `MAX_HOST` visible ASCII characters.
+///
+/// It reads the head of the response, then the body in at most `max_reads` reads (`MAX_READS` or
+/// fewer). The last line has the numbers of events and bytes of the body, or the first error.
+/// Buffers the events of one read.
+///
+/// A head that opens no stream is printed, for example `refused H4 Status 403`, and nothing after
+/// it is read. If the SUBSCRIBE cannot be encoded or written, it prints `net write failed` and
+/// reads nothing.
 pub fn subscribe_over<R: Source, W: Sink, O: Sink>(
     alloc: Global,
     info: &FrameworkInfo,
@@ -43,6 +47,7 @@ pub fn subscribe_over<R: Source, W: Sink, O: Sink>(
     requires greatest { length host.now ≤ MAX_HOST }
     requires visible { All IsVisible host.now }
     requires reads { max_reads ≤ MAX_READS }
+    // The bytes written, read and printed, and the outcome.
     ensures { SubscribesOver info.now host.now max_reads (device_of R.left R.counts reader.old)
         (device_of R.left R.counts reader.new)
         (device_of W.written W.counts writer.old) (device_of W.written W.counts writer.new)
@@ -54,7 +59,8 @@ pub fn subscribe_over<R: Source, W: Sink, O: Sink>(
     }
 }
 
-/// Writes the SUBSCRIBE of a session that has heard nothing, as a request to this host, of 1 to `MAX_HOST` visible ASCII characters.
+/// Writes the SUBSCRIBE of a new session as a request to `host`, which has 1 to `MAX_HOST` visible
+/// ASCII characters.
 pub fn send_subscribe<W: Sink>(
     alloc: Global,
     info: &FrameworkInfo,
@@ -64,6 +70,7 @@ pub fn send_subscribe<W: Sink>(
     requires least { 1 ≤ length host.now }
     requires greatest { length host.now ≤ MAX_HOST }
     requires visible { All IsVisible host.now }
+    // On success: the whole request was written. Each error, and when.
     ensures { SendsSubscribe info.now host.now (device_of W.written W.counts writer.old)
         (device_of W.written W.counts writer.new) result }
 {
@@ -73,8 +80,9 @@ pub fn send_subscribe<W: Sink>(
     }
 }
 
-/// Reads the answer to a SUBSCRIBE: the head of a stream, a byte by each read, and behind it the stream in at most `max_reads` reads,
-/// which are at most `MAX_READS`, whose events are shown as they come; a head that opens none is told.
+/// Reads the response to a SUBSCRIBE, and prints the events of its stream as they arrive. The head
+/// is read one byte at a time, the body in at most `max_reads` reads (`MAX_READS` or fewer). A head
+/// that opens no stream is printed.
 pub fn show_answer<R: Source, O: Sink>(
     alloc: Global,
     reader: &mut R,
@@ -82,6 +90,7 @@ pub fn show_answer<R: Source, O: Sink>(
     out: &mut O,
 ) -> RunOutcome
     requires { max_reads ≤ MAX_READS }
+    // The bytes read and printed, and the outcome.
     ensures { ShowsAnswer max_reads (device_of R.left R.counts reader.old)
         (device_of R.left R.counts reader.new)
         (device_of O.written O.counts out.old) (device_of O.written O.counts out.new) result }
@@ -92,7 +101,7 @@ pub fn show_answer<R: Source, O: Sink>(
     }
 }
 
-/// Shows the events of a stream behind its head, in at most `max_reads` reads.
+/// Prints the events of a stream after its head, in at most `max_reads` reads.
 fn show_stream<R: Source, O: Sink>(
     alloc: Global,
     reader: &mut R,
@@ -115,7 +124,8 @@ fn show_stream<R: Source, O: Sink>(
     )
 }
 
-/// Tells that a SUBSCRIBE did not go out: `net write failed`, or F13 after 0 where memory was refused. The status is `Fault`.
+/// Prints that a SUBSCRIBE was not sent: `net write failed`, or F13 after 0 bytes if an allocation
+/// failed. The status is `Fault`.
 pub fn report_unsent<O: Sink>(out: &mut O, fault: &SendFault) -> RunOutcome
     ensures { ReportsUnsent fault.now (device_of O.written O.counts out.old)
         (device_of O.written O.counts out.new) result }
@@ -128,7 +138,7 @@ pub fn report_unsent<O: Sink>(out: &mut O, fault: &SendFault) -> RunOutcome
     }
 }
 
-/// Tells of a head that was refused. The status is `Fault`.
+/// Prints a refused head. The status is `Fault`.
 fn report_refused<O: Sink>(out: &mut O, fault: &HeadFault) -> RunOutcome
     ensures { Prints (device_of O.written O.counts out.old) (device_of O.written O.counts out.new)
         (refused_line fault.now) ExitStatus.Fault result }
@@ -142,7 +152,7 @@ fn report_refused<O: Sink>(out: &mut O, fault: &HeadFault) -> RunOutcome
     ExitStatus::Fault.after(print_text(out, line.as_str()))
 }
 
-/// The SUBSCRIBE of a session that has heard nothing.
+/// Returns the SUBSCRIBE of a new session.
 fn first_subscribe(alloc: Global, info: &FrameworkInfo) -> Result<Call, NoMemory>
     ensures { IfOk result (λ call. call ≡ first_subscribe info.now) }
 {

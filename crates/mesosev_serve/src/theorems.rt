@@ -1,4 +1,4 @@
-//! Laws of the definition of a served connection: a function that does nothing, with the laws as its contract.
+//! Laws of a served connection. The function does nothing; its contract has the laws.
 ghost use Rattle.std.specs.Prelude.{◌≡◌, ◌∷◌, ◌++◌, ℕ, true, List, Option as option, IsSome};
 ghost use Rattle.mes_model.specs.Id.{Id};
 ghost use Rattle.mes_msg.specs.Call.{Call};
@@ -7,9 +7,12 @@ ghost use Rattle.mes_double_master.specs.Masters.{MasterState, is_subscribe, han
 ghost use Rattle.mesosev_serve.specs.OneStream.{IsOneStream, rescind_of};
 ghost use Rattle.mesosev_serve.specs.Opening.{and_all_given, opening};
 
-/// If a master answers 200, a stream is current, so there is one for its events. Only a SUBSCRIBE is answered 200. Its stream has
-/// SUBSCRIBED and then some of the given events, in their order, each at most once. On that stream no offer is made twice and none that
-/// the master made before, a RESCIND names an offer of the stream, and no two RESCINDs name the same offer (`IsOneStream`).
+/// Proves the laws of a served connection.
+///
+/// - A master answers only SUBSCRIBE with 200, and then has a current stream.
+/// - The stream has SUBSCRIBED and then some of the given events, in order, each at most once.
+/// - No offer of the stream was made before.
+/// - A RESCIND names an offer of the stream, and no two name the same one (`IsOneStream`).
 pub fn serve_laws()
     ensures stream { (m : MasterState) (call : Call) (given : option (List ℕ))
         → (handled m call given).status ≡ 200
