@@ -1,4 +1,4 @@
--- The events that were read, and what became of them.
+-- The events read, and their effect.
 use Rattle.std.proofs.Common.{◌≡◌, ◌∙◌, ◌++◌, ap, ℕ, List, [], ◌∷◌, Result, Ok, Err, refl, subst, sym}
 use Rattle.std.specs.Prelude.{MatchResult}
 use Rattle.std.specs.Io.KnownBytes.{Consumes}
@@ -16,7 +16,7 @@ use Rattle.mes_stream.specs.declared.fault.Report.{Report}
 use Rattle.mes_stream.specs.declared.fault.Stop.{Stop}
 
 module _ (Does : List Event → Type 0) (input rest out printed : Device) (ended : RunOutcome) (old new : List Event) (r : Result Report Stop) where
-  -- the input was read, and its events stand in the list
+  -- the input was read, and its events are in the list
   abbrev pub Reads : Type 0
   Reads = (w : List ℕ) × (more : List Event) × Consumes input.bytes rest.bytes w × (new ≡ old ++ more)
       × EndsPlain DEFAULT_RECORD_LIMIT MAX_READS input.counts rest.counts rest.bytes w more r

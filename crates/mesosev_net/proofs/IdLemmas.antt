@@ -1,4 +1,4 @@
--- The ids of streams, one after the other.
+-- Consecutive stream ids.
 use Rattle.std.proofs.Common.{◌≡◌, ◌∙◌, ap, arith, ℕ, List, [], ◌∷◌, ◌++◌, ◌+◌, refl, suc}
 use Rattle.uuid.specs.Text.{by_index}
 

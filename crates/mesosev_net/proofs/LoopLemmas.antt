@@ -1,4 +1,4 @@
--- What some socket gave, shown.
+-- The bytes of some socket, printed.
 use Rattle.std.proofs.Common.{◌≡◌, ◌∙◌, ◌⊎◌, ap, inl, inr, refl, Bool, true, false, ℕ, List, Result, subst}
 use Rattle.mes_msg.specs.Event.{Event}
 use Rattle.mes_frame.specs.Devices.{Device}
@@ -36,7 +36,7 @@ subscribed_some info plain host to reads most input rest writer written out prin
 pub same_framework : (info : FrameworkInfo) (user name u n : List ℕ) → info ≡ plain_framework u n → u ≡ user → n ≡ name → info ≡ plain_framework user name
 same_framework info user name u n is a b = is ∙ ap (λ (x : List ℕ). plain_framework x n) a ∙ ap (plain_framework user) b
 
--- the connection was served so far
+-- the connection was served
 looped : (first : List ℕ) (most : ℕ) (given : List Event) (before : MasterState) (input rest writer written out dropped : Device) (later : MasterState) (r : Result Served WriteFault)
     (whole : Bool) → before ≡ new_master test_framework (ids_from first 1) → is_whole r ≡ whole
     → ServesOne before given most input rest writer written out dropped later r → ServesLoop first most given whole
@@ -50,7 +50,7 @@ looped first most given before input rest writer written out dropped later r who
   is = is;
 }
 
--- a master that answered all, and what was shown of that; or there was no memory for it
+-- the whole response was written and printed, or an allocation failed
 pub answered : (first : List ℕ) (most : ℕ) (given : List Event) (before : MasterState) (input rest writer written out dropped : Device) (later : MasterState) (r : Result Served WriteFault)
     (reported printed : Device) (ended : RunOutcome) → before ≡ new_master test_framework (ids_from first 1) → is_whole r ≡ true
     → ServesOne before given most input rest writer written out dropped later r → ShowsSome reported printed ended ⊎ LacksMemory reported printed ended
@@ -59,7 +59,7 @@ answered first most given before input rest writer written out dropped later r r
     inl (looped first most given before input rest writer written out dropped later r true same is serves, shows)
 answered first most given before input rest writer written out dropped later r reported printed ended same is serves (inr lacks) = inr (inr lacks)
 
--- it was not answered, which was told
+-- there is no response, which was printed
 pub unanswered : (first : List ℕ) (most : ℕ) (given : List Event) (before : MasterState) (input rest writer written out dropped : Device) (later : MasterState) (r : Result Served WriteFault)
     (reported printed : Device) (ended : RunOutcome) → before ≡ new_master test_framework (ids_from first 1) → is_whole r ≡ false
     → ServesOne before given most input rest writer written out dropped later r → Prints reported printed write_failed_line exit.Fault ended ⊎ LacksMemory reported printed ended
@@ -70,7 +70,7 @@ unanswered first most given before input rest writer written out dropped later r
 
 -- ---- the SUBSCRIBE
 
--- it went out, and was answered
+-- it was sent, and there was a response
 pub sent_some : (info : FrameworkInfo) (host : List ℕ) (writer written : Device) (first : List ℕ) (most : ℕ) (given : List Event) (reported printed : Device) (ended : RunOutcome)
     → info ≡ loopback_framework → host ≡ loopback_host → SentSubscribe info host writer written → AnswersLoop first most given reported printed ended
     → LoopsEvents first most given reported printed ended
@@ -84,7 +84,7 @@ sent_some info host writer written first most given reported printed ended same 
       answers,
     )
 
--- it did not, which was told
+-- it was not sent, which was printed
 pub stopped_some : (info : FrameworkInfo) (host : List ℕ) (writer written : Device) (first : List ℕ) (most : ℕ) (given : List Event) (fault : SendFault) (reported printed : Device) (ended : RunOutcome)
     → info ≡ loopback_framework → host ≡ loopback_host → StopsSubscribe info host writer written fault → ReportsUnsent fault reported printed ended
     → LoopsEvents first most given reported printed ended

@@ -1,4 +1,4 @@
--- The events that a test master is given, and the frameworks.
+-- The events given to a test master, and the frameworks.
 use Rattle.std.specs.Prelude.{◌≡◌, ℕ, List, [], ◌∷◌, ◌++◌, Option, None, Result, MatchResult, codes}
 use Rattle.mes_msg.specs.Event.{Event}
 use Rattle.mes_frame.specs.Devices.{Device}
@@ -14,19 +14,18 @@ use Rattle.mes_stream.specs.declared.fault.Report.{Report}
 use Rattle.mes_stream.specs.declared.fault.Stop.{Stop}
 use Rattle.mes_stream.specs.declared.stream_reader.Framing.TheVariants.{Plain}
 
--- The input was read as plain RecordIO, under the usual limit. Of its events this was done; or its first fault was printed, and
--- nothing else.
+-- the input was read as plain RecordIO, and `Does` holds of its events; or its error was printed
 abbrev pub Given : (List Event → Type 0) → Device → Device → Device → Device → RunOutcome → Type 0
 Given Does input rest out printed ended =
     (w : List ℕ) × (events : List Event) × (outcome : Result Report Stop)
     × ReadsInput Plain DEFAULT_RECORD_LIMIT MAX_READS input rest w events outcome
     × MatchResult outcome (λ report. Does events) (λ stop. Prints out printed (fault_text stop.fault stop.used ++ 10 ∷ []) exit.Fault ended)
 
--- the framework of a test master
+-- the framework id of a test master
 abbrev pub test_framework : Id
 test_framework = record { value = codes "F1" }
 
--- a framework of this user and name, with nothing else
+-- a framework with only this user and name
 abbrev pub plain_framework : List ℕ → List ℕ → FrameworkInfo
 plain_framework user name = record {
   user = user;

@@ -1,4 +1,4 @@
--- Both ends of a connection in one process.
+-- The effect of `loopback`: both ends of a connection in one process.
 use Rattle.std.specs.Prelude.{◌≡◌, ◌⊎◌, ℕ, Bool, true, false, List, Result, Ok, Err, codes}
 use Rattle.std.specs.Int.{to_be_bytes, w128}
 use Rattle.mes_msg.specs.Event.{Event}
@@ -21,35 +21,35 @@ use Rattle.mesosev_serve.specs.Lines.{write_failed_line}
 use Rattle.mesosev_serve.specs.Subscribing.{SentSubscribe, StopsSubscribe, ShowsAnswer, ReportsUnsent}
 use Rattle.mesosev_serve.specs.declared.connection.Served.{Served}
 
--- the id of its stream
+-- the id of the stream
 abbrev pub loopback_stream : List ℕ
 loopback_stream = to_be_bytes w128 LOOPBACK_STREAM
 
--- the framework that subscribes, and the host that its request names
+-- the subscribing framework, and the host in its request
 abbrev pub loopback_framework : FrameworkInfo
 loopback_framework = plain_framework (codes "root") (codes "loopback")
 
 abbrev pub loopback_host : List ℕ
 loopback_host = codes "127.0.0.1"
 
--- its SUBSCRIBE went out whole over some socket
+-- SUBSCRIBE was written completely to some socket
 pub record SendsSome : Type 0 where
   pub writer : Device
   pub written : Device
   pub sends : SentSubscribe loopback_framework loopback_host writer written
 
--- it did not, for this reason
+-- SUBSCRIBE was not written, for this reason
 pub record StopsSome (fault : SendFault) : Type 0 where
   pub writer : Device
   pub written : Device
   pub stops : StopsSubscribe loopback_framework loopback_host writer written fault
 
--- whether all was answered
+-- whether the whole response was written
 abbrev pub is_whole : Result Served WriteFault → Bool
 is_whole (Ok served) = served.answered
 is_whole (Err fault) = false
 
--- A new test master served a connection, whose lines were dropped, and all was answered, or not.
+-- a new test master served a connection without printing, and the response was whole or not
 pub record ServesLoop (first : List ℕ) (most : ℕ) (given : List Event) (whole : Bool) : Type 0 where
   pub out : Device
   pub dropped : Device
@@ -58,22 +58,21 @@ pub record ServesLoop (first : List ℕ) (most : ℕ) (given : List Event) (whol
   pub serves : ServesSome most (new_master test_framework (ids_from first 1)) given out dropped later served
   pub is : is_whole served ≡ whole
 
--- what some socket gave was shown as an answer to a SUBSCRIBE
+-- the bytes of some socket were printed as a response to SUBSCRIBE
 pub record ShowsSome (out printed : Device) (ended : RunOutcome) : Type 0 where
   pub input : Device
   pub rest : Device
   pub shows : ShowsAnswer MAX_READS input rest out printed ended
 
--- The SUBSCRIBE was answered, and the answer was shown. Or it was not, since the stream can't be encoded, or memory was refused; one line
--- tells that.
+-- the response was printed; or there was none (encoding or an allocation failed), and one line
 abbrev pub AnswersLoop : List ℕ → ℕ → List Event → Device → Device → RunOutcome → Type 0
 AnswersLoop first most given out printed ended =
     (ServesLoop first most given true × ShowsSome out printed ended)
     ⊎ (ServesLoop first most given false × Prints out printed write_failed_line exit.Fault ended)
     ⊎ LacksMemory out printed ended
 
--- The events went from a test master to a scheduler that subscribed, in chunks of `most` bytes, and were shown there. Or the SUBSCRIBE was
--- not sent, or sockets could not be had, or memory was refused; one line tells that.
+-- The events were sent in chunks of `most` bytes and printed; or one line, because SUBSCRIBE was
+-- not sent, a socket failed or an allocation failed.
 abbrev pub LoopsEvents : List ℕ → ℕ → List Event → Device → Device → RunOutcome → Type 0
 LoopsEvents first most given out printed ended =
     (SendsSome × AnswersLoop first most given out printed ended)
@@ -81,6 +80,6 @@ LoopsEvents first most given out printed ended =
     ⊎ ((line : List ℕ) × IsNetLine line × ReportsNet line out printed ended)
     ⊎ LacksMemory out printed ended
 
--- the input was read, and its events went from one end to the other
+-- the input was read, and its events were sent from one end to the other
 unfoldable pub Loops : ℕ → Device → Device → Device → Device → RunOutcome → Type 0
 Loops most input rest out printed ended = Given (λ events. LoopsEvents loopback_stream most events out printed ended) input rest out printed ended

@@ -1,4 +1,4 @@
--- A test master that serves one connection after the other.
+-- A test master that serves connections one after the other.
 use Rattle.std.specs.Prelude.{◌≡◌, ◌⊎◌, ℕ, ◌+◌, ◌<◌, zero, suc, List, Result, Ok, Err}
 use Rattle.mes_msg.specs.Event.{Event}
 use Rattle.mes_frame.specs.Devices.{Device}
@@ -25,33 +25,33 @@ pub record ServesSome (most : ℕ) (before : MasterState) (given : List Event) (
   pub written : Device
   pub serves : ServesOne before given most input rest writer written out printed later served
 
--- The next connection was served, and so many bytes were printed of it. Or none could be taken, which was told, or the output failed.
+-- the next connection was served, with that many bytes printed; or accepting or printing failed
 abbrev pub ServesNext : MasterState → List Event → Device → Device → MasterState → Result ℕ RunOutcome → Type 0
 ServesNext before given out printed later (Ok bytes) = (served : Served) × ServesSome STREAM_CHUNK before given out printed later (Ok served) × (bytes ≡ served.printed)
 ServesNext before given out printed later (Err ended) =
     (ReportsNet accept_failed out printed ended × (later ≡ before))
     ⊎ ((fault : WriteFault) × ServesSome STREAM_CHUNK before given out printed later (Err fault) × (ended ≡ OutputFailed fault.sent))
 
--- so many connections were served, one after the other, which leaves the master so, and so many bytes were printed of them
+-- that many connections were served, with this state of the master and number of printed bytes
 unfoldable pub Turned : ℕ → MasterState → List Event → Device → Device → MasterState → ℕ → Type 0
 Turned zero before given out printed later bytes = (later ≡ before) × (printed ≡ out) × (bytes ≡ 0)
 Turned (suc n) before given out printed later bytes =
     (between : MasterState) × (reported : Device) × (sum : ℕ) × (more : ℕ) × Turned n before given out reported between sum
     × ServesNext between given reported printed later (Ok more) × (bytes ≡ saturated (sum + more))
 
--- all of so many were served; or one of them was not, which ended it behind what was printed of those before
+-- all connections were served; or one failed, after what was printed for those before
 abbrev pub ServesTurns : MasterState → List Event → ℕ → Device → Device → RunOutcome → Type 0
 ServesTurns before given count out printed ended =
     ((later : MasterState) × (bytes : ℕ) × Turned count before given out printed later bytes × (ended ≡ Status exit.Success))
     ⊎ ((n : ℕ) × (between : MasterState) × (reported : Device) × (sum : ℕ) × (later : MasterState) × (last : RunOutcome) × (n < count)
     × Turned n before given out reported between sum × ServesNext between given reported printed later (Err last) × (ended ≡ ended_after sum last))
 
--- a test master with these ids and events for its streams
+-- a test master with these ids, and these events for its streams, was served
 abbrev pub ServesEvents : List ℕ → ℕ → List Event → Device → Device → RunOutcome → Type 0
 ServesEvents first count given out printed ended =
     LacksMemory out printed ended ⊎ ReportsNet bind_failed out printed ended
     ⊎ ServesTurns (new_master test_framework (ids_from first count)) given count out printed ended
 
--- the input was read, and of its events a test master was served
+-- the input was read, and a test master with its events was served
 unfoldable pub Serves : List ℕ → ℕ → Device → Device → Device → Device → RunOutcome → Type 0
 Serves first count input rest out printed ended = Given (λ events. ServesEvents first count events out printed ended) input rest out printed ended

@@ -1,12 +1,12 @@
--- The ids of the streams of a test master.
+-- The stream ids of a test master.
 use Rattle.std.specs.Prelude.{ℕ, ◌+◌, ◌%◌, ◌^◌, List}
 use Rattle.std.specs.Int.{from_be_bytes, to_be_bytes, w128}
 use Rattle.uuid.specs.Text.{by_index}
 
--- the id that comes so many behind the first, as numbers of 128 bits that wrap around
+-- the id at that distance from the first, as 128-bit numbers that wrap around
 abbrev pub id_at : List ℕ → ℕ → List ℕ
 id_at first i = to_be_bytes w128 ((from_be_bytes w128 first + i) % 2 ^ 128)
 
--- the first id, and those that count up from it: so many
+-- that many consecutive ids
 abbrev pub ids_from : List ℕ → ℕ → List (List ℕ)
 ids_from first count = by_index count (id_at first)

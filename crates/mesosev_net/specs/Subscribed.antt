@@ -1,4 +1,4 @@
--- A scheduler that subscribes to a master over a socket.
+-- The effect of `subscribe`: a scheduler subscribes to a master over a socket.
 use Rattle.std.specs.Prelude.{◌⊎◌, ℕ, List}
 use Rattle.mes_frame.specs.Devices.{Device}
 use Rattle.mes_model.specs.declared.framework_info.FrameworkInfo.{FrameworkInfo}
@@ -8,7 +8,7 @@ use Rattle.mesosev_stream.specs.Printing.{LacksMemory}
 use Rattle.mesosev_stream.specs.declared.outcome.RunOutcome.{RunOutcome}
 use Rattle.mesosev_serve.specs.Subscribing.{SubscribesOver}
 
--- the framework was subscribed over some socket, and what came was shown
+-- the framework was subscribed over some socket, and what arrived was printed
 pub record SubscribesSome (info : FrameworkInfo) (host : List ℕ) (reads : ℕ) (out printed : Device) (ended : RunOutcome) : Type 0 where
   pub input : Device
   pub rest : Device
@@ -16,7 +16,7 @@ pub record SubscribesSome (info : FrameworkInfo) (host : List ℕ) (reads : ℕ)
   pub written : Device
   pub subscribes : SubscribesOver info host reads input rest writer written out printed ended
 
--- the same of a framework of this user and name; or the host could not be reached, or memory was refused, which was told
+-- the framework with this user and name was; or connecting or an allocation failed, and one line
 unfoldable pub Subscribes : List ℕ → List ℕ → List ℕ → ℕ → Device → Device → RunOutcome → Type 0
 Subscribes host user name reads out printed ended =
     LacksMemory out printed ended ⊎ ReportsNet connect_failed out printed ended

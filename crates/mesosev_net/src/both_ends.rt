@@ -1,4 +1,4 @@
-//! Both ends of a connection in one process.
+//! The subcommand `loopback`: both ends of a connection in one process.
 
 ghost use Rattle.std.specs.Prelude.{◌≡◌, ◌⊎◌};
 ghost use Rattle.mes_frame.specs.Devices.{device_of};
@@ -23,23 +23,26 @@ use std::mem;
 use std::net::{Net, TcpListener, TcpStream};
 use uuid::Uuid;
 
-/// The user of the framework that subscribes.
+/// The user of the subscribing framework.
 const USER: &str = "root";
 
-/// The name of the framework that subscribes.
+/// The name of the subscribing framework.
 const NAME: &str = "loopback";
 
-/// The host that its request names.
+/// The host in its request.
 const HOST: &str = "127.0.0.1";
 
-/// The id of the stream, as a number: 00000000-0000-4000-8000-000000000001.
+/// The id of the stream as a number: 00000000-0000-4000-8000-000000000001.
 pub const LOOPBACK_STREAM: u128 = 0x4000_8000_0000_0000_0001;
 
-/// Reads events from the input as plain RecordIO, and then lets a test master of the framework `F1` send them, in chunks of so many bytes,
-/// to a scheduler in the same process, over a socket, and shows what comes there, as `subscribe_over` does. The scheduler subscribes as
-/// user `root` and name `loopback`. Tells the first fault of the input; that the stream can't be encoded, or the SUBSCRIBE not be sent,
-/// `net write failed`; or why there is no connection; with the status `Fault`. Holds all events, and their stream as it is sent. The
-/// memory of the events and of the master is left to the end of the process: to give it back piece by piece took a tenth of the time.
+/// Reads events as plain RecordIO, sends them over a socket from a test master to a scheduler in
+/// the same process, and prints what arrives. The stream has chunks of `most` bytes. The scheduler
+/// has the user `root` and the name `loopback`, and prints like `subscribe_over`.
+///
+/// Prints one line with the status `Fault` for an error of the input, a failed connection, or a
+/// stream or SUBSCRIBE that cannot be encoded or sent (`net write failed`). Buffers all events and
+/// their encoded stream. Does not free the events and the master, because that took a tenth of the
+/// run time.
 pub fn loopback<R, I: Source, O: Sink>(
     rt: &R,
     most: ChunkSize,
@@ -48,6 +51,7 @@ pub fn loopback<R, I: Source, O: Sink>(
 ) -> RunOutcome
 where
     R: AllocGlobal + Net<Listener = TcpListener, Stream = TcpStream>,
+    // The bytes read from `input`, the text printed, and the outcome.
     ensures { Loops most (device_of I.left I.counts input.old) (device_of I.left I.counts input.new)
         (device_of O.written O.counts out.old) (device_of O.written O.counts out.new) result }
 {
@@ -64,7 +68,7 @@ where
     }
 }
 
-/// Lets a test master send these events to a scheduler, and shows what comes there.
+/// Sends the events from a test master to a scheduler, and prints what arrives.
 fn loop_events<R, O: Sink>(
     rt: &R,
     stream: Uuid,
@@ -91,7 +95,7 @@ where
     }
 }
 
-/// Lets a test master answer the SUBSCRIBE that was sent, and shows its answer.
+/// Lets a test master respond to the SUBSCRIBE that was sent, and prints the response.
 fn answer<O: Sink>(
     alloc: Global,
     stream: Uuid,
@@ -118,7 +122,7 @@ fn answer<O: Sink>(
         &mut written,
         &mut dropped,
     );
-    // Its memory is left to the end of the process, as that of the events is.
+    // Not freed, like the events.
     mem::forget(master);
     if is_whole(&served) {
         let asked = reader.counts();
@@ -129,7 +133,7 @@ fn answer<O: Sink>(
     }
 }
 
-/// Whether all was answered.
+/// Returns whether the whole response was written.
 fn is_whole(served: &Result<Served, WriteFault>) -> bool
     ensures { result ≡ is_whole served.now }
 {
@@ -139,7 +143,8 @@ fn is_whole(served: &Result<Served, WriteFault>) -> bool
     }
 }
 
-/// Shows the answer, which the other end writes in turn. Where the request came whole and there is none, memory was refused, which is told.
+/// Prints the response, while the server writes it. A complete request without a response means
+/// that an allocation failed, which is printed.
 fn show<O: Sink>(
     alloc: Global,
     pair: &Pair,
@@ -155,17 +160,17 @@ fn show<O: Sink>(
     if bytes.is_empty() && was_asked {
         return out_of_memory(out);
     }
-    // What is written is to go out at once, not to wait for what comes behind it.
+    // Without this the kernel delays small writes.
     let _ = pair.server.set_nodelay(true);
     let turns = InterleavedReader::new(&pair.client, &pair.server, bytes);
-    // All that was written is taken by one call of the socket.
+    // This capacity lets one call read everything written.
     match BufReader::with_capacity(alloc, MAX_UNREAD, turns) {
         Ok(reader) => show_from(alloc, &mut FromStd::new(reader), out),
         Err(_) => out_of_memory(out),
     }
 }
 
-/// Shows the answer that this reader gives.
+/// Prints the response from this reader.
 fn show_from<S: Source, O: Sink>(alloc: Global, reader: &mut S, out: &mut O) -> RunOutcome
     ensures { ShowsSome (device_of O.written O.counts out.old)
         (device_of O.written O.counts out.new) result }
@@ -173,7 +178,7 @@ fn show_from<S: Source, O: Sink>(alloc: Global, reader: &mut S, out: &mut O) -> 
     show_answer(alloc, reader, MAX_READS, out)
 }
 
-/// Tells why there is no answer: it could not be encoded, or there was no memory to hold it.
+/// Prints why there is no response: it could not be encoded, or an allocation failed.
 fn report_unanswered<O: Sink>(out: &mut O, refusals: u64) -> RunOutcome
     ensures { Prints (device_of O.written O.counts out.old) (device_of O.written O.counts out.new)
         write_failed_line ExitStatus.Fault result

@@ -1,4 +1,4 @@
-//! The frameworks of a test master and of a scheduler.
+//! The frameworks of the test master and of the scheduler.
 
 ghost use Rattle.std.specs.Prelude.{◌≡◌, IfOk, codes};
 ghost use Rattle.mesosev_net.specs.Given.{plain_framework, test_framework};
@@ -8,10 +8,10 @@ use mes_model::{FrameworkInfo, Id};
 use mes_model_schema::List;
 use std::alloc::Global;
 
-/// The framework of a test master.
+/// The framework id of the test master.
 const FRAMEWORK: &str = "F1";
 
-/// The id of the framework of a test master: `F1`.
+/// Returns the framework id of the test master: `F1`.
 pub(crate) fn framework_id(alloc: Global) -> Result<Id, NoMemory>
     ensures { IfOk result (λ id. id ≡ test_framework) }
 {
@@ -19,7 +19,7 @@ pub(crate) fn framework_id(alloc: Global) -> Result<Id, NoMemory>
     Ok(Id { value })
 }
 
-/// A framework of this user and name, with nothing else.
+/// Returns a framework with only this user and name.
 pub(crate) fn framework_info(
     alloc: Global,
     user: &str,

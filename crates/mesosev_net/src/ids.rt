@@ -1,4 +1,4 @@
-//! The ids of the streams of a test master.
+//! The stream ids of a test master.
 
 ghost use Rattle.std.specs.Prelude.{◌≡◌, IfOk};
 ghost use Rattle.mesosev_net.specs.StreamIds.{ids_from};
@@ -7,7 +7,7 @@ use mes_json::NoMemory;
 use std::alloc::Global;
 use uuid::Uuid;
 
-/// So many ids: the first, and those that count up from it by one, as numbers of 128 bits that wrap around.
+/// Returns `count` consecutive ids, as 128-bit numbers that wrap around.
 pub(crate) fn stream_ids(alloc: Global, first: Uuid, count: u16) -> Result<Vec<Uuid>, NoMemory>
     ensures { IfOk result (λ ids. ids.items ≡ ids_from first count) }
 {

@@ -1,4 +1,4 @@
-//! The client's end of a connection whose other end writes in turn with its reads, in one thread.
+//! The client's end of a connection whose server writes between the client's reads, in one thread.
 
 ghost use Rattle.std.specs.Prelude.{◌≡◌, IfOk, OnOk, OnErr};
 ghost use Rattle.std.specs.Io.{ReadsAtMost};
@@ -9,18 +9,19 @@ use std::io::{ErrorKind, Read, Write};
 use std::marker::Model;
 use std::net::TcpStream;
 
-/// The most bytes that are written and not yet read.
+/// The largest number of bytes that are written and not yet read.
 pub const MAX_UNREAD: usize = 4_096;
 
-/// A reader of what comes to the client. Before each read the other end writes of what is pending, up to `MAX_UNREAD` bytes that are
-/// unread; so a read never waits for what nobody writes. A reader of that many bytes a call takes them all by one.
+/// Reads at the client. Before each read the server writes pending bytes, until `MAX_UNREAD` are
+/// unread, so that a read never blocks forever. A reader with a buffer of that size gets all of
+/// them in one call.
 #[derive(Drop)]
 pub(crate) struct InterleavedReader<'a> {
     client: &'a TcpStream,
     server: &'a TcpStream,
-    // What the other end has not written yet.
+    // The bytes that the server has not written yet.
     pending: &'a [u8],
-    // How many bytes it wrote that were not read yet.
+    // The number of bytes written and not yet read.
     unread: usize,
 }
 
@@ -37,7 +38,7 @@ impl<'a> Model for InterleavedReader<'a> {
 }
 
 impl<'a> InterleavedReader<'a> {
-    /// The client's end, where the other end has all of these bytes to write.
+    /// Returns the client's end of a connection whose server writes `pending`.
     pub(crate) fn new(
         client: &'a TcpStream,
         server: &'a TcpStream,
@@ -53,7 +54,7 @@ impl<'a> InterleavedReader<'a> {
         }
     }
 
-    // Lets the other end write. Errors: it failed, or took no byte of some.
+    // Lets the server write. Errors: a write failed, or wrote 0 bytes.
     fn write_pending(&mut self) -> io::Result<()>
         ensures ok { OnOk result (Writes self.old self.new) }
         ensures err { OnErr result (self.new ≡ self.old) }
@@ -73,7 +74,7 @@ impl<'a> InterleavedReader<'a> {
         Ok(())
     }
 
-    // Takes of what the other end wrote, once that has written what it may: nothing where all of it is taken. Errors: either end failed.
+    // Reads what the server wrote: nothing once everything was read. Errors: either end failed.
     fn take(&mut self, buffer: &mut [u8]) -> io::Result<usize>
         ensures bound { ReadsAtMost result buffer.new }
         ensures taken { IfOk result (λ count. Takes count self.old self.new) }

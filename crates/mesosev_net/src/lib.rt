@@ -1,6 +1,15 @@
 #![tactic(auto)]
-//! The two ends of a connection over sockets of this host: a test master that serves one connection after the other, a scheduler that
-//! subscribes to a master, and both in one process. Each socket is closed where its connection ends.
+//! The subcommands `serve`, `subscribe` and `loopback` of `mesosev`, over TCP sockets.
+//!
+//! [`serve`] is a test master that serves connections one after the other. [`subscribe`] is a
+//! scheduler that prints the events of a master. [`loopback`] is both in one process. Each socket
+//! is closed when its connection ends.
+//!
+//!     let outcome = serve(rt, port, count, stream_id, input, out);
+//!     let status = finish(outcome, out.is_closed(), err);
+//!
+//! `mesosev_serve` has one connection over any devices, and its tests are in the crate
+//! `mesosev_serve_tests`. The tests of the sockets run the program: see `tests/net.py`.
 
 mod both_ends;
 mod framework;

@@ -1,10 +1,10 @@
-//! The lines of a socket that could not be had.
+//! The printed lines for a socket that could not be opened.
 
-/// An address could not be listened on.
+/// The address could not be bound.
 pub(crate) const BIND_FAILED: &str = "net bind failed\n";
 
-/// No connection could be taken.
+/// No connection could be accepted.
 pub(crate) const ACCEPT_FAILED: &str = "net accept failed\n";
 
-/// The peer could not be reached.
+/// The peer could not be connected to.
 pub(crate) const CONNECT_FAILED: &str = "net connect failed\n";

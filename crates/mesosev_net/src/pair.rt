@@ -1,4 +1,4 @@
-//! Two sockets of one connection.
+//! The two sockets of one connection.
 
 ghost use Rattle.std.specs.Prelude.{IfErr};
 ghost use Rattle.mesosev_net.specs.NetLines.{IsNetLine};
@@ -11,13 +11,13 @@ use std::net::{Net, SocketAddr, TcpListener, TcpStream};
 pub(crate) struct Pair {
     /// The end that connected.
     pub client: TcpStream,
-    /// The end that was taken.
+    /// The end that was accepted.
     pub server: TcpStream,
 }
 
-/// Connects this process to itself, on a port of 127.0.0.1 that is free.
+/// Connects this process to itself, on a free port of 127.0.0.1.
 ///
-/// Errors: the line of what failed.
+/// Errors: the line to print.
 pub(crate) fn connected_pair<R>(rt: &R) -> Result<Pair, &'static str>
 where
     R: Net<Listener = TcpListener, Stream = TcpStream>,

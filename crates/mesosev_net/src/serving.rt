@@ -1,4 +1,4 @@
-//! A test master that serves one connection after the other.
+//! The subcommand `serve`: a test master that serves connections one after the other.
 
 ghost use Rattle.std.specs.Prelude.{◌≡◌, IfOk};
 ghost use Rattle.mes_frame.specs.Devices.{device_of};
@@ -24,20 +24,23 @@ use std::io::Read;
 use std::net::{Net, SocketAddr, TcpListener, TcpStream};
 use uuid::Uuid;
 
-/// The bytes of each chunk of a stream.
+/// The size of the chunks of a stream, in bytes.
 pub const STREAM_CHUNK: u32 = 4_096;
 
-/// The most bytes of a request that are passed over by one read.
+/// The largest number of unread bytes of a request that one read discards.
 const UNREAD_READ: usize = 4_096;
 
-/// The most reads that pass over a request: 16 MiB.
+/// The largest number of such reads: 16 MiB in all.
 const UNREAD_READS: u32 = 4_096;
 
-/// Reads events from the input as plain RecordIO, and then serves a test master of the framework `F1` on this port of 127.0.0.1 for so many
-/// connections, one after the other; its streams have this id and those that count up from it, and these events, in chunks of
-/// `STREAM_CHUNK` bytes. Of each connection a line is printed, as `serve_one` does. A connection is closed before the next one is taken,
-/// whatever became of it, and what its client does ends nothing. Tells the first fault of the input, or why there is no connection, with the
-/// status `Fault`. Holds all events, and those that a stream sends.
+/// Reads events as plain RecordIO, then serves `count` connections on a port of 127.0.0.1, one
+/// after the other, as a test master of the framework `F1`. Its streams have consecutive ids from
+/// `stream`, and the events in chunks of `STREAM_CHUNK` bytes. Prints the lines of each connection
+/// like `serve_one`.
+///
+/// A connection is closed before the next is accepted; no client can end the run. Prints an error
+/// of the input, or of the socket, with the status `Fault`. Buffers all events, and the encoded
+/// stream of one connection.
 pub fn serve<R, I: Source, O: Sink>(
     rt: &R,
     port: u16,
@@ -48,6 +51,7 @@ pub fn serve<R, I: Source, O: Sink>(
 ) -> RunOutcome
 where
     R: AllocGlobal + Net<Listener = TcpListener, Stream = TcpStream>,
+    // The bytes read from `input`, the lines printed, and the outcome.
     ensures { Serves stream count (device_of I.left I.counts input.old)
         (device_of I.left I.counts input.new)
         (device_of O.written O.counts out.old) (device_of O.written O.counts out.new) result }
@@ -60,7 +64,7 @@ where
     }
 }
 
-/// Serves a test master of these events on this port.
+/// Serves a test master with these events on this port.
 fn serve_events<R, O: Sink>(
     rt: &R,
     port: u16,
@@ -84,7 +88,7 @@ where
     }
 }
 
-/// A test master whose streams have this id and those that count up from it, so many.
+/// Returns a test master with `count` consecutive stream ids from `stream`.
 pub(crate) fn test_master(alloc: Global, stream: Uuid, count: u16) -> Result<Master, NoMemory>
     ensures { IfOk result (λ master. master ≡ new_master test_framework (ids_from stream count)) }
 {
@@ -93,7 +97,7 @@ pub(crate) fn test_master(alloc: Global, stream: Uuid, count: u16) -> Result<Mas
     Ok(Master::new(alloc, framework, ids))
 }
 
-/// Serves so many connections, one after the other.
+/// Serves `count` connections, one after the other.
 fn serve_turns<O: Sink>(
     alloc: Global,
     listener: &TcpListener,
@@ -115,9 +119,9 @@ fn serve_turns<O: Sink>(
     RunOutcome::Status(ExitStatus::Success)
 }
 
-/// Takes the next connection, serves it, and closes it. Answers how many bytes were printed of it.
+/// Accepts the next connection, serves it, and closes it. Returns the number of bytes printed.
 ///
-/// Errors: no connection could be taken, which was told; or the output failed.
+/// Errors: no connection could be accepted, which was printed; or the output failed.
 fn serve_next<O: Sink>(
     alloc: Global,
     listener: &TcpListener,
@@ -149,8 +153,8 @@ fn serve_next<O: Sink>(
     }
 }
 
-/// Takes what came of a request behind what was read of it, as far as it is there. A socket that is closed with unread bytes is reset, and
-/// its client may lose the answer. Never waits.
+/// Discards the unread bytes of a request that have arrived. Closing a socket with unread bytes
+/// resets it, and the client may lose the response. Never blocks.
 fn pass_over_unread(stream: &TcpStream) {
     if stream.set_nonblocking(true).is_err() {
         return;
@@ -165,7 +169,7 @@ fn pass_over_unread(stream: &TcpStream) {
     }
 }
 
-/// The size of the chunks of a stream.
+/// Returns the size of the chunks of a stream.
 fn stream_chunk() -> ChunkSize
     ensures { result ≡ STREAM_CHUNK }
 {

@@ -1,4 +1,4 @@
-//! A scheduler that subscribes to a master.
+//! The subcommand `subscribe`: a scheduler that subscribes to a master.
 
 ghost use Rattle.mes_frame.specs.Devices.{device_of};
 ghost use Rattle.mesosev_net.specs.Subscribed.{Subscribes};
@@ -13,9 +13,9 @@ use mesosev_stream::{ExitStatus, RunOutcome, out_of_memory, print_text};
 use std::alloc::AllocGlobal;
 use std::net::{Net, TcpListener, TcpStream};
 
-/// Connects to the host, subscribes a framework of this user and name there, and shows the events of the stream that comes as its answer, in
-/// at most so many reads behind its head, as `subscribe_over` does. Tells where the host could not be reached, with the status
-/// `Fault`.
+/// Connects to `to`, subscribes a framework with this user and name, and prints the events of the
+/// stream like `subscribe_over`. Reads the body in at most `reads` reads. Prints a line with the
+/// status `Fault` if it cannot connect.
 pub fn subscribe<R, O: Sink>(
     rt: &R,
     to: &Host,
@@ -26,6 +26,7 @@ pub fn subscribe<R, O: Sink>(
 ) -> RunOutcome
 where
     R: AllocGlobal + Net<Listener = TcpListener, Stream = TcpStream>,
+    // The text printed, and the outcome.
     ensures { Subscribes to.now user.now name.now reads (device_of O.written O.counts out.old)
         (device_of O.written O.counts out.new) result }
 {
