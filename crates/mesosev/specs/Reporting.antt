@@ -1,4 +1,4 @@
--- What is told where words name no options.
+-- The text printed for arguments without options to perform.
 use Rattle.std.specs.Prelude.{◌≡◌, ◌≢◌, ℕ, ◌⊎◌, List, [], ◌∷◌, ◌++◌, codes}
 use Rattle.clap.specs.Words.{kind_of}
 use Rattle.clap.specs.declared.error.Error.{Error}
@@ -10,21 +10,21 @@ use Rattle.mesosev_stream.specs.declared.outcome.RunOutcome.{RunOutcome}
 use Rattle.mesosev_args.specs.declared.args.WordsFault.{WordsFault}
 use Rattle.mesosev_args.specs.declared.args.WordsFault.TheVariants.{Clap, BadValue, NoMemory}
 
--- the error is a mistake in the words, and no request for help
+-- the error is a usage error, not a request for help or the version
 abbrev pub IsMistake : Error → Type 0
 IsMistake error = (kind_of error ≢ DisplayHelp) × (kind_of error ≢ DisplayVersion)
 
--- an error of clap was told: a mistake on standard error as bad words, help on standard output as a good run
+-- a usage error was printed to standard error, or help to standard output
 abbrev pub ReportsError : Error → Device → Device → Device → Device → RunOutcome → Type 0
 ReportsError error out printed err reported ended =
     (text : List ℕ) × ((IsMistake error × Prints err reported text exit.Usage ended × (printed ≡ out))
     ⊎ (¬ (IsMistake error) × Prints out printed text exit.Success ended × (reported ≡ err)))
 
--- the line of an option without a value in its range
+-- the line for an option without a value in its range
 abbrev pub bad_value_line : List ℕ → List ℕ
 bad_value_line option = codes "bad value --" ++ (option ++ 10 ∷ [])
 
--- why the words name no options, told
+-- the reason for which there are no options was printed
 abbrev pub Reports : WordsFault → Device → Device → Device → Device → RunOutcome → Type 0
 Reports (Clap error) out printed err reported ended =
     ReportsError error out printed err reported ended ⊎ (LacksMemory out printed ended × (reported ≡ err))
@@ -32,6 +32,6 @@ Reports (BadValue option) out printed err reported ended =
     (Prints err reported (bad_value_line option.now) exit.Usage ended × (printed ≡ out)) ⊎ (LacksMemory out printed ended × (reported ≡ err))
 Reports NoMemory out printed err reported ended = LacksMemory out printed ended × (reported ≡ err)
 
--- the line where a word is no text
+-- the line for an argument that is not UTF-8
 abbrev pub not_text_line : List ℕ
 not_text_line = codes "error: a word is not UTF-8" ++ 10 ∷ []

@@ -1,4 +1,4 @@
--- What the command does with its words, its input and its outputs.
+-- The effect of the command: its arguments, its input and its outputs.
 use Rattle.std.specs.Prelude.{◌≡◌, ◌⊎◌, ℕ, Bool, List, []}
 use Rattle.clap.specs.Words.{Text, IsAmong, fault_of, kind_of}
 use Rattle.clap.specs.declared.error.Error.{Error}
@@ -22,13 +22,13 @@ use Rattle.mesosev.specs.Reporting.{ReportsError, bad_value_line}
 use Rattle.mesosev_args.specs.declared.args.Options.{Options}
 use Rattle.mesosev_args.specs.declared.args.Options.TheVariants.{Check, Show, Convert, Replay, Relog, Serve, Subscribe, Loopback}
 
--- the number of an exit status: 0 for a good run, 1 for a fault, 2 for bad words
+-- the number of an exit status: 0 without an error, 1 for an error, 2 for a usage error
 abbrev pub status_number : ExitStatus → ℕ
 status_number exit.Success = 0
 status_number exit.Fault = 1
 status_number exit.Usage = 2
 
--- what the options name was done; all but `convert` and `relog` leave standard error as it was
+-- the options were performed; only `convert` and `relog` write to standard error
 abbrev pub Performs : Options → Device → Device → Device → Device → Device → Device → RunOutcome → Type 0
 Performs (Check framing limit) input rest out printed err reported ended = Checks framing limit MAX_READS input rest out printed ended × (reported ≡ err)
 Performs (Show framing limit) input rest out printed err reported ended = Shows framing limit MAX_READS input rest out printed ended × (reported ≡ err)
@@ -42,13 +42,14 @@ Performs (Subscribe to user name reads) input rest out printed err reported ende
     Subscribes to user name reads out printed ended × (rest ≡ input) × (reported ≡ err)
 Performs (Loopback most) input rest out printed err reported ended = Loops most input rest out printed ended × (reported ≡ err)
 
--- it was, or memory was refused
+-- the options were performed, or an allocation failed
 abbrev pub PerformsSaid : Options → Device → Device → Device → Device → Device → Device → RunOutcome → Type 0
 PerformsSaid options input rest out printed err reported ended =
     Performs options input rest out printed err reported ended ⊎ (LacksMemory out printed ended × (reported ≡ err))
 
--- What became of the words: the options that they name were performed; or clap's error for them was told; or they name no
--- options, which was told with the option that lacks a value; or memory was refused. What isn't named stays as it was.
+-- The options of the arguments were performed; or clap's error was printed; or an option has no
+-- value in its range, which was printed; or an allocation failed. Devices that a case does not
+-- mention are unchanged.
 abbrev pub Runs : List Text → Device → Device → Device → Device → Device → Device → RunOutcome → Type 0
 Runs words input rest out printed err reported ended =
     ((options : Options) × (fault_of command_app words ≡ []) × NameOptions words options × IsInRange options
@@ -59,10 +60,10 @@ Runs words input rest out printed err reported ended =
     × Prints err reported (bad_value_line option) exit.Usage ended × (printed ≡ out) × (rest ≡ input))
     ⊎ (LacksMemory out printed ended × (reported ≡ err) × (rest ≡ input))
 
--- what was done leaves standard error as it was
+-- standard error is unchanged
 abbrev pub LeavesError : (RunOutcome → Type 0) → Device → Device → RunOutcome → Type 0
 LeavesError Does err reported ended = Does ended × (reported ≡ err)
 
--- That was done, and told on standard error up to there; and then an output that failed was told behind it, where it is not closed.
+-- `Does` holds up to some state of standard error; then the line of a failed output follows there
 abbrev pub Ends : (Device → RunOutcome → Type 0) → Bool → Device → ExitStatus → Type 0
 Ends Does closed last status = (reported : Device) × (ended : RunOutcome) × Does reported ended × Finishes closed reported last ended status

@@ -1,4 +1,6 @@
-//! `mesosev` reads and writes the event stream of the Apache Mesos v1 scheduler API.
+//! The program `mesosev`: decodes, prints and encodes event streams of the Apache Mesos v1
+//! scheduler API. `run.rt` has the command over any devices, the crates `mesosev_*` its
+//! subcommands.
 #![tactic(auto)]
 
 mod run;
@@ -15,14 +17,14 @@ use std::fs::File;
 use std::io::{BufReader, ErrorKind};
 use std::process::ExitCode;
 
-/// How many bytes standard input is read ahead.
+/// The size of the input buffer, in bytes.
 const READ_AHEAD: usize = 16_384;
 
 fn main(rt: HostRuntime) -> ExitCode {
     exit_code(run_process(&rt))
 }
 
-/// The number that the process ends with, which no other place gives: 0 for a good run, 1 for a fault, 2 for bad words.
+/// Returns the exit status as a number: 0 without an error, 1 for an error, 2 for a usage error.
 fn exit_code(status: ExitStatus) -> ExitCode
     ensures { exit_status result ≡ status_number status }
 {
@@ -33,7 +35,7 @@ fn exit_code(status: ExitStatus) -> ExitCode
     })
 }
 
-/// Runs the command with the words and the streams of the process.
+/// Runs the command with the arguments and the standard streams of the process.
 fn run_process(rt: &HostRuntime) -> ExitStatus {
     let _places = [take_place(rt), take_place(rt), take_place(rt)];
     let mut out = Output::new(FromStd::new(rt.stdout()));
@@ -58,8 +60,9 @@ fn run_process(rt: &HostRuntime) -> ExitStatus {
     run(rt, words.as_slice(), &mut input, &mut out, &mut err)
 }
 
-/// Takes the place of a standard stream that is closed, if one is; else a socket would take it, and what is printed would go to its peer.
-/// There stands a folder then, which can be neither read nor written, so that such a stream fails as before.
+/// Opens `/` if a standard stream is closed, so that the file gets its number. Otherwise a socket
+/// could get that number, and the output would go to its peer. A directory can be neither read nor
+/// written, so that the stream still fails.
 fn take_place(rt: &HostRuntime) -> Option<File> {
     File::open(rt, "/").ok()
 }

@@ -1,4 +1,4 @@
-//! The command: its words, its input, and what it prints.
+//! The command over any devices: arguments, input and outputs.
 
 ghost use Rattle.mes_frame.specs.Devices.{device_of};
 ghost use Rattle.std.specs.Prelude.{◌≡◌, codes, ◌⊎◌, false, map};
@@ -27,12 +27,16 @@ use std::alloc::{AllocGlobal, Global};
 use std::convert::AsStr;
 use std::net::{Net, TcpListener, TcpStream};
 
-/// What is told where a word is not UTF-8.
+/// The message for an argument that is not UTF-8.
 const NOT_TEXT: &str = "error: a word is not UTF-8\n";
 
-/// Runs the command and answers its exit status: `Success` for a good run, `Fault` for a fault that was told in a line, or where an
-/// output failed, `Usage` for bad words. The first word is the program's name. An output that failed is told on standard error too,
-/// where it is not closed.
+/// Runs the command, and returns its exit status. The first argument is the program's name.
+///
+/// - `Success`: no error.
+/// - `Fault`: an error was printed, or an output failed.
+/// - `Usage`: the arguments are invalid.
+///
+/// A failed output is printed to `err`, unless the output is closed.
 pub fn run<R, W: AsStr, I: Source, O: Sink, E: Sink>(
     rt: &R,
     words: &[W],
@@ -42,13 +46,14 @@ pub fn run<R, W: AsStr, I: Source, O: Sink, E: Sink>(
 ) -> ExitStatus
 where
     R: AllocGlobal + Net<Listener = TcpListener, Stream = TcpStream>,
+    // The effect of the arguments, the line of a failed output, and the status.
     ensures runs { Ends (Runs (map W.text words.now)
         (device_of I.left I.counts input.old) (device_of I.left I.counts input.new)
         (output_of O.written O.counts out.old) (output_of O.written O.counts out.new)
         (device_of E.written E.counts err.old))
         out.new.closed (device_of E.written E.counts err.new) result }
 
-    // Words that name options plainly: they are performed, unless memory was refused.
+    // Arguments in the plain form: their options are performed, unless an allocation fails.
     ensures plain { (said : OptionsValue) → SayPlainly (map W.text words.now) said → IsInRange said
         → Ends (PerformsSaid said
         (device_of I.left I.counts input.old) (device_of I.left I.counts input.new)
@@ -56,7 +61,8 @@ where
         (device_of E.written E.counts err.old))
         out.new.closed (device_of E.written E.counts err.new) result }
 
-    // The defaults and the ranges of the options; the other limits that the clauses name are pinned where they stand.
+    // The defaults and ranges of the options. Other limits are stated in the crates that define
+    // them.
     ensures limit { DEFAULT_LIMIT.now ≡ codes "4194304" }
     ensures port { (MIN_PORT ≡ 1) × (MAX_PORT ≡ 65535) }
     ensures count { (MIN_CONNECTIONS ≡ 1) × (MAX_CONNECTIONS ≡ 1000) }
@@ -69,7 +75,7 @@ where
     finish(ended, out.is_closed(), err)
 }
 
-// Does what the words name, or tells why they name nothing.
+// Performs the subcommand, or prints the usage error.
 fn run_args<R, W: AsStr, I: Source, O: Sink, E: Sink>(
     rt: &R,
     words: &[W],
@@ -85,7 +91,7 @@ where
         (device_of E.written E.counts err.old) (device_of E.written E.counts err.new)
         result }
 
-    // Words that name options plainly.
+    // Arguments in the plain form.
     ensures plain { (said : OptionsValue) → SayPlainly (map W.text words.now) said → IsInRange said
         → PerformsSaid said
         (device_of I.left I.counts input.old) (device_of I.left I.counts input.new)
@@ -100,7 +106,7 @@ where
     }
 }
 
-// Does what the words name.
+// Performs the subcommand.
 fn perform<R, I: Source, O: Sink, E: Sink>(
     rt: &R,
     options: &Options,
@@ -146,7 +152,7 @@ where
     }
 }
 
-// Follows the input in as many reads as one run may make.
+// Follows the input with `MAX_READS` reads.
 fn follow_all<I: Source, O: Sink>(
     alloc: Global,
     detail: Detail,
@@ -162,7 +168,7 @@ fn follow_all<I: Source, O: Sink>(
     follow(alloc, detail, framing, limit, MAX_READS, input, out)
 }
 
-/// Tells that memory was refused before any word was read, and answers the exit status.
+/// Prints that an allocation failed before the arguments were parsed, and returns the exit status.
 pub(crate) fn end_without_memory<O: Sink, E: Sink>(out: &mut Output<O>, err: &mut E) -> ExitStatus
     ensures { Ends (LeavesError (LacksMemory (output_of O.written O.counts out.old)
         (output_of O.written O.counts out.new)) (device_of E.written E.counts err.old))
@@ -172,7 +178,7 @@ pub(crate) fn end_without_memory<O: Sink, E: Sink>(out: &mut Output<O>, err: &mu
     finish(ended, out.is_closed(), err)
 }
 
-/// Tells on standard error that a word is no text, before any word is read, and answers the exit status.
+/// Prints to `err` that an argument is not UTF-8, and returns the exit status.
 pub(crate) fn end_without_text<E: Sink>(err: &mut E) -> ExitStatus
     ensures { Ends (λ reported ended. Prints (device_of E.written E.counts err.old) reported
         not_text_line ExitStatus.Usage ended)
@@ -182,7 +188,7 @@ pub(crate) fn end_without_text<E: Sink>(err: &mut E) -> ExitStatus
     finish(ended, false, err)
 }
 
-/// Tells why the words name no options.
+/// Prints the usage error.
 fn tell<O: Sink, E: Sink>(alloc: Global, fault: &WordsFault, out: &mut O, err: &mut E) -> RunOutcome
     ensures { Reports fault.now
         (device_of O.written O.counts out.old) (device_of O.written O.counts out.new)
@@ -199,7 +205,7 @@ fn tell<O: Sink, E: Sink>(alloc: Global, fault: &WordsFault, out: &mut O, err: &
     }
 }
 
-/// Tells an error of clap: help on standard output, a mistake on standard error.
+/// Prints a result of clap: help to `out`, a usage error to `err`.
 fn report_error<O: Sink, E: Sink>(
     alloc: Global,
     error: &clap::Error,
