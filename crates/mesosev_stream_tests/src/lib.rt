@@ -1,5 +1,5 @@
-//! Tests of `check`, `show` and `convert` by the public calls of `mesosev_stream`, over devices in memory that give and take
-//! a few bytes at a time, or fail.
+//! Tests of `check`, `show` and `convert` through the public functions of `mesosev_stream`. The
+//! devices are in memory, and read and write a few bytes at a time, or fail.
 #![tactic(auto)]
 
 #[cfg(test)]

@@ -1,10 +1,10 @@
-//! The output of the command: returns the errors of its writer, and remembers a closed pipe.
+//! Tests that [`Output`] returns the errors of its writer, and remembers a closed pipe.
 use mes_frame::{FromStd, Sink};
 use mesosev_stream::Output;
 use std::io;
 use std::io::{ErrorKind, Write};
 
-// Each write fails with this error.
+// A writer whose calls fail with an error of this kind.
 #[derive(Drop)]
 struct Failing {
     kind: ErrorKind,
@@ -20,7 +20,7 @@ impl Write for Failing {
     }
 }
 
-// Whether an output returns an error of this kind, and is closed or not.
+// Returns whether an output returns an error of this kind, and is closed or not.
 fn hands_on(kind: ErrorKind, closed: bool) -> bool {
     let mut output = Output::new(FromStd::new(Failing { kind }));
     match &output.put(b"x") {

@@ -1,5 +1,4 @@
-//! `check`, `show` and `convert` on devices in memory that read and write a few bytes at a time, or
-//! fail.
+//! Tests of `check`, `show` and `convert` over devices in memory.
 
 use mes_frame::{Limit, MemorySink, MemorySource, MemoryStop};
 use mes_stream::Framing;
@@ -11,20 +10,20 @@ use std::test::Fail;
 // A record of 20 bytes; 23 with its size line.
 const HEARTBEAT: &str = "20\n{\"type\":\"HEARTBEAT\"}";
 
-/// `count` of those records.
+/// Returns `count` of those records.
 fn heartbeats(alloc: Global, count: usize) -> Result<Vec<u8>, Fail> {
     Ok(HEARTBEAT.as_bytes().repeat(alloc, count)?)
 }
 
-/// The text of these bytes, so that a failure prints it.
+/// Returns the bytes as text, so that a failure prints it.
 fn as_text(bytes: &[u8]) -> Option<&str> {
     str::from_utf8(bytes).ok()
 }
 
-/// What `show` prints of it.
+/// The output of `show` for one record.
 const LINES: &str = "1 HEARTBEAT\nevents 1 bytes 23\n";
 
-// The output of `check`.
+// The output of `check` for one record.
 const COUNTS: &str = "events 1 bytes 23\n";
 
 // The largest write in bytes.
