@@ -45,7 +45,7 @@ pub record LastEvents (framing : Framing) (limit : ℕ) (w : List ℕ) (before l
   pub had : GoesIn framing Spells limit front before
   pub has : Spelt framing limit w (before ++ last)
 
--- the bytes w were read by successful reads, the last of which completed the events `last`
+-- the bytes w were read by successful reads, and the last read completed the events `last`
 abbrev pub TakesEvents : Framing → ℕ → ℕ → Device → Device → List ℕ → List Event → List Event → Type 0
 TakesEvents framing limit reads input rest w before last = Consumes input.bytes rest.bytes w × LastEvents framing limit w before last
     × SomeReadsMade reads input.counts rest.counts w 0 0
