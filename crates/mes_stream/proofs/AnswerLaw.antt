@@ -25,7 +25,7 @@ IsAnswer (Stops front byte values fault) events (Err stop) = (events ≡ values)
 abbrev pub Answered : ℕ → List ℕ → List Event → Result Report Stop → Type 0
 Answered limit w events outcome = (reading : StreamReading Event) × ReadsStream Spells IsEventRefusal 0 limit w reading × IsAnswer reading events outcome
 
--- all bytes have the reading of the bytes that were read
+-- the reading of the consumed bytes is a reading of all bytes
 answered_by : (limit reads : ℕ) (old new : Counts) (left w taken : List ℕ) (events : List Event) (outcome : Result Report Stop) → w ≡ taken ++ left → EndsStream limit reads old new (Some left) taken events outcome → IsDecidedByBytes outcome
     → Answered limit w events outcome
 answered_by limit reads old new left w taken events (Ok report) whole (inl (at, made)) decided =

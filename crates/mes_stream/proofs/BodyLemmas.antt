@@ -18,7 +18,6 @@ use Rattle.mes_stream.specs.declared.fault.Fault.{Fault}
 use Rattle.mes_stream.specs.declared.record_body.Body.{Body}
 use Rattle.mes_stream.proofs.PlainLaw.{same_last}
 
--- a prefix of a prefix
 pub take_take : (m n : ℕ) (xs : List ℕ) → m ≤ n → take m (take n xs) ≡ take m xs
 take_take m n xs le = grind (arith, common_steps)
 
@@ -59,7 +58,6 @@ ends_runs_out spells breaks limit b values c h =
       is = (last.0, 1, last.1, inr (refl, subst (λ (y : List ℕ). breaks y refusal.NoMemory) last.2 h.is.2.1));
     }
 
--- a run of data that is not empty
 some_run : (r run : List ℕ) (count : ℕ) → 0 < count → count ≤ length run → r ++ take count run ≢ []
 some_run r run count some within none =
     let len = ap length none in
@@ -67,12 +65,10 @@ some_run r run count some within none =
     let size = length-take-le count run within in
     absurd (omega (arith, some, len, sum, size))
 
--- a saturated count stays
 pub saturated_more : (n : ℕ) → saturated (saturated n + 1) ≡ saturated (n + 1)
 saturated_more n = omega arith
 
 module _ {R E : Type 0} (holds : R → List ℕ → Type 0) (spells : List ℕ → E → Type 0) (ahead : ℕ) where
-  -- one more record
   pub records_more : (limit : ℕ) (b f r : List ℕ) (values : List E) (value : E) → Records spells limit b values → IsRecord f r limit → spells r value
       → Records spells limit (b ++ f) (values ++ value ∷ [])
   records_more limit b f r [] value none is says = (f, [], r, is, says, (rw none (sym (append-nil f))), refl)
@@ -83,11 +79,11 @@ module _ {R E : Type 0} (holds : R → List ℕ → Type 0) (spells : List ℕ �
   pub live_of : (d : Body R) (b : List ℕ) (values : List E) → BodyRepresents holds spells ahead d b values → BodyLive spells (limit_of d.records) b values
   live_of d b values s = record { whole = s.whole; x = s.x; spelt = s.spelt; records = s.records; is = (s.r, begun_of d.records s.x s.r s.state) }
 
-  -- the number of complete records
+  -- `done` is the number of complete records
   pub number_of : (d : Body R) (b : List ℕ) (values : List E) → BodyRepresents holds spells ahead d b values → saturated (d.done + 1) ≡ number_after ahead values
   number_of d b values s = ap (λ (n : ℕ). saturated (n + 1)) s.count ∙ saturated_more (ahead + length values)
 
-  -- p more bytes follow the records
+  -- the bytes after the complete records, with p more
   pub behind_on : (d : Body R) (b p : List ℕ) (values : List E) (s : BodyRepresents holds spells ahead d b values) (Is : List ℕ → Type 0) → Is (s.x ++ p)
       → Following spells (limit_of d.records) Is (b ++ p) values
   behind_on d b p values s Is h = record {
@@ -98,7 +94,7 @@ module _ {R E : Type 0} (holds : R → List ℕ → Type 0) (spells : List ℕ �
     is = h;
   }
 
-  -- the bytes consumed end no record
+  -- the state after bytes that end no record
   pub stands_on : (d new : Body R) (b p r : List ℕ) (values : List E) (s : BodyRepresents holds spells ahead d b values) → new.done ≡ d.done
       → limit_of new.records ≡ limit_of d.records → holds new.reader r → RecordStands new.records (s.x ++ p) r → BodyRepresents holds spells ahead new (b ++ p) values
   stands_on d new b p r values s done limit kept state = record {
@@ -113,7 +109,7 @@ module _ {R E : Type 0} (holds : R → List ℕ → Type 0) (spells : List ℕ �
     limit = rw limit s.limit;
   }
 
-  -- a record with a value ended with a run of data
+  -- the state after a run of data that ends a record with a value
   pub stands_value : (d new : Body R) (b p r : List ℕ) (values : List E) (value : E) (s : BodyRepresents holds spells ahead d b values) → new.done ≡ saturated (d.done + 1)
       → limit_of new.records ≡ limit_of d.records → holds new.reader [] → IsRecord (s.x ++ p) r (limit_of d.records)
       → RecordStands new.records [] [] → spells r value → BodyRepresents holds spells ahead new (b ++ p) (values ++ value ∷ [])
@@ -129,20 +125,20 @@ module _ {R E : Type 0} (holds : R → List ℕ → Type 0) (spells : List ℕ �
     limit = rw limit s.limit;
   }
 
-  -- before the first byte of a run
+  -- before the first byte of a run the bytes are a prefix of a stream
   pub first_live : (d : Body R) (b run : List ℕ) (values : List E) (n : ℕ) → BodyRepresents holds spells ahead d b values → n < 1
       → BodyLive spells (limit_of d.records) (b ++ take n run) values
   first_live d b run values n s first =
       let none : 0 ≡ n = omega arith in
       subst (λ (m : ℕ). BodyLive spells (limit_of d.records) (b ++ take m run) values) none (rw (append-nil b) (live_of d b values s))
 
-  -- the record continues within a size line
+  -- within a size line the bytes are a prefix of a stream
   pub size_live : (d : Body R) (b run r : List ℕ) (values : List E) (n limit : ℕ) (s : BodyRepresents holds spells ahead d b values) → limit ≡ limit_of d.records
       → Begun (s.x ++ take n run) r limit → BodyLive spells limit (b ++ take n run) values
   size_live d b run r values n limit s same begun =
       rw same (behind_on d b (take n run) values s (λ x. (r : List ℕ) × Begun x r (limit_of d.records)) (r, rw same at begun))
 
-  -- the record continues within a run of data
+  -- within a run of data the bytes are a prefix of a stream
   pub data_on : (d : Body R) (b run : List ℕ) (values : List E) (n left : ℕ) (s : BodyRepresents holds spells ahead d b values) → n < left → n ≤ length run
       → DataBegun s.x s.r left (limit_of d.records) → DataBegun (s.x ++ take n run) (s.r ++ take n run) (left - n) (limit_of d.records)
   data_on d b run values n left s inside within begun =
@@ -172,7 +168,7 @@ module _ {R E : Type 0} (holds : R → List ℕ → Type 0) (spells : List ℕ �
       (r, subst (λ (y : List ℕ). IsRecord y r (limit_of d.records)) (ap (λ (y : List ℕ). s.x ++ y) whole ∙ sym (append_assoc s.x (take (count - 1) run) (get_or run (count - 1) 0 ∷ []))) is, h)
 
   module _ (breaks : List ℕ → RecordError → Type 0) where
-    -- that record has no value, or an allocation for it failed
+    -- the record that ends there has no value, or an allocation for it failed
     pub refused_with : (d : Body R) (b run r : List ℕ) (values : List E) (count : ℕ) (why : RecordError) (s : BodyRepresents holds spells ahead d b values) → 0 < count → count ≤ length run
         → r ≢ [] → IsRecord (s.x ++ take count run) r (limit_of d.records) → breaks r why
         → BodyStops spells breaks ahead (limit_of d.records) (b ++ take (count - 1) run) values (slice_index run (count - 1)) (fault_of_record d.done why)
@@ -201,17 +197,16 @@ module _ {R E : Type 0} (holds : R → List ℕ → Type 0) (spells : List ℕ �
     ends_as d mid new b run values count left (Err why) s some within inside begun done limit is state (h, more) =
         rw (more, done, limit) (refused_with d b run (s.r ++ take count run) values count why s some within (some_run s.r run count some within) is h)
 
-  -- the data of a complete record
+  -- the data of a complete record have fewer than 2^64 bytes
   pub whole_fits : (d : Body R) (b x r : List ℕ) (values : List E) → BodyRepresents holds spells ahead d b values → IsRecord x r (limit_of d.records) → length r < 2 ^ 64
   whole_fits d b x r values s is = let within = is.within in let small = s.limit in omega arith
 
--- a run of bytes and the byte after it
 pub run_split : (rest : List ℕ) (m : ℕ) → m < length rest → rest ≡ take m rest ++ get_or rest m 0 ∷ drop (m + 1) rest
 run_split rest m lt =
     sym (take-append-drop (m + 1) rest) ∙ rw (take_more rest m 0 lt) (append_assoc (take m rest) (get_or rest m 0 ∷ []) (drop (m + 1) rest))
 
 module _ {E : Type 0} (framing : Framing) (spells : List ℕ → E → Type 0) (breaks : List ℕ → RecordError → Type 0) (ahead : ℕ) where
-  -- an error is detected in the rest of a piece
+  -- an error in the rest of a piece is an error of the piece
   pub stops_in : (limit : ℕ) (b piece : List ℕ) (values : List E) (fault : Fault) (at used : ℕ) → at ≤ length piece → 0 < used → used ≤ length (drop at piece)
       → GoesIn framing spells limit ((b ++ take at piece) ++ take (used - 1) (drop at piece)) values
       → ByteStopsIn framing spells breaks ahead limit ((b ++ take at piece) ++ take (used - 1) (drop at piece)) values (slice_index (drop at piece) (used - 1)) fault
@@ -242,11 +237,11 @@ ends_into holds spells breaks old new r before after (Ok done) (value, says, is)
 ends_into holds spells breaks old new r before after (Err why) (inl h, same) ready more = (inl (h, more), same)
 ends_into holds spells breaks old new r before after (Err why) (inr (none, has, next), same) ready more = (inr (none, (has.0, (has.1, next, more))), same)
 
--- more of the piece was consumed after its first `at` bytes
+-- the first `at` bytes of a piece, then `used` more of it
 pub piece_on : (b piece : List ℕ) (at used : ℕ) → (b ++ take at piece) ++ take used (drop at piece) ≡ b ++ take (at + used) piece
 piece_on b piece at used = append_assoc b (take at piece) (take used (drop at piece)) ∙ ap (λ (p : List ℕ). b ++ p) (sym (take-add at used piece))
 
--- a record ended there
+-- a result with a value in the rest of a piece is one of the piece
 pub value_on : {E : Type 0} (Represents : List ℕ → List E → Type 0) (b piece : List ℕ) (values more : List E) (value : E) (at used : ℕ)
     → Represents ((b ++ take at piece) ++ take used (drop at piece)) ((values ++ more) ++ value ∷ []) → Represents (b ++ take (at + used) piece) (values ++ (more ++ value ∷ []))
 value_on {E = E} Represents b piece values more value at used s =

@@ -23,7 +23,6 @@ use Rattle.mes_stream.specs.declared.step.Decoded.{Decoded}
 use Rattle.mes_stream.specs.declared.step.Decoded.TheVariants as out
 use Rattle.mes_stream.proofs.BodyLemmas.{live_of, piece_on}
 
--- the whole piece
 pub take_whole : (piece : List ℕ) (used : ℕ) → used ≡ length piece → take used piece ≡ piece
 take_whole piece used all = grind (arith, common_steps)
 
@@ -52,14 +51,14 @@ module _ {R E : Type 0} (holds : R → List ℕ → Type 0) (spells : List ℕ �
   pub chunked_live : (d : ChunkedBody R) (w : List ℕ) (values : List E) → ChunkedRepresents holds spells ahead d w values → Live spells (limit_of d.body.records) w values
   chunked_live d w values s = (s.content, open_of d.chunks w s.content s.chunks, live_of holds spells ahead d.body s.content values s.body)
 
-  -- before the first byte of a piece
+  -- before the first byte of a piece the bytes are a prefix of a stream
   pub first_before : (d : ChunkedBody R) (w rest : List ℕ) (values : List E) (n : ℕ) → ChunkedRepresents holds spells ahead d w values → n < 1
       → Live spells (limit_of d.body.records) (w ++ take n rest) values
   first_before d w rest values n s first =
       let none : 0 ≡ n = omega arith in
       subst (λ (m : ℕ). Live spells (limit_of d.body.records) (w ++ take m rest) values) none (rw (append-nil w) (chunked_live d w values s))
 
-  -- within a run of data
+  -- within a run of data the bytes are a prefix of a stream
   pub run_before : (d : ChunkedBody R) (limit : ℕ) (w run : List ℕ) (values : List E) (n count : ℕ) (s : ChunkedRepresents holds spells ahead d w values) → length run ≡ count → count ≤ remaining_of d.chunks → n ≤ count
       → BodyLive spells limit (s.content ++ take n run) values → Live spells limit (w ++ take n run) values
   run_before d limit w run values n count s len room within live =
@@ -106,7 +105,7 @@ module _ {R E : Type 0} (holds : R → List ℕ → Type 0) (spells : List ℕ �
         run_stops d (limit_of new.body.records) w run values used count fault s len room some within taken
 
 module _ {E : Type 0} (framing : Framing) (Represents : List ℕ → List E → Type 0) (spells : List ℕ → E → Type 0) (breaks : List ℕ → RecordError → Type 0) (ahead limit : ℕ) where
-  -- the same bytes, split differently
+  -- a result holds for any split of the same bytes
   pub says_as : (w v run rest : List ℕ) (values : List E) (used most : ℕ) (answer : Decoded E Fault) → w ++ take used run ≡ v ++ take most rest → w ++ take (used - 1) run ≡ v ++ take (most - 1) rest
       → slice_index run (used - 1) ≡ slice_index rest (most - 1) → SaysIn framing Represents spells breaks ahead limit w values run used answer → SaysIn framing Represents spells breaks ahead limit v values rest most answer
   says_as w v run rest values used most out.More same front last h = subst (λ (y : List ℕ). Represents y values) same h
@@ -120,7 +119,7 @@ module _ {E : Type 0} (framing : Framing) (Represents : List ℕ → List E → 
       subst (λ (y : List ℕ). ByteStopsIn framing spells breaks ahead limit y values (slice_index rest (most - 1)) fault) front
       (subst (λ (c : ℕ). ByteStopsIn framing spells breaks ahead limit (w ++ take (used - 1) run) values c fault) last h)
 
-  -- for one byte
+  -- the result for the first byte of a piece is one of the piece
   pub says_first : (w rest : List ℕ) (values : List E) (answer : Decoded E Fault) → 0 < length rest → SaysIn framing Represents spells breaks ahead limit w values (slice_index rest 0 ∷ []) 1 answer
       → SaysIn framing Represents spells breaks ahead limit w values rest 1 answer
   says_first w [] values answer some h = absurd (omega (arith, some))
@@ -135,14 +134,14 @@ module _ {E : Type 0} (framing : Framing) (Represents : List ℕ → List E → 
   index_drop : (m n : ℕ) (xs : List ℕ) → get_or (drop n xs) m 0 ≡ get_or xs (n + m) 0
   index_drop m n xs = grind (arith, common_steps)
 
-  -- for a longer piece
+  -- the result for a prefix of a piece is one of the piece
   pub says_more : (w rest : List ℕ) (values : List E) (used count : ℕ) (answer : Decoded E Fault) → 0 < used → used ≤ count → SaysIn framing Represents spells breaks ahead limit w values (take count rest) used answer
       → SaysIn framing Represents spells breaks ahead limit w values rest used answer
   says_more w rest values used count answer some within h =
       says_as w w (take count rest) rest values used used answer (ap (λ (y : List ℕ). w ++ y) (take_take used count rest within)) (ap (λ (y : List ℕ). w ++ y) (take_take (used - 1) count rest (omega (arith, within))))
       (index_take (used - 1) count rest (omega (arith, some, within))) h
 
-  -- for the rest of a piece
+  -- the result for the rest of a piece is one of the piece
   pub says_on : (w piece : List ℕ) (values : List E) (at used : ℕ) (answer : Decoded E Fault) → 0 < used → SaysIn framing Represents spells breaks ahead limit (w ++ take at piece) values (drop at piece) used answer
       → SaysIn framing Represents spells breaks ahead limit w values piece (at + used) answer
   says_on w piece values at used answer some h =

@@ -22,7 +22,6 @@ use Rattle.mes_stream.specs.declared.record_error.RecordError.TheVariants as ref
 use Rattle.mes_stream.proofs.BodyLemmas.{live_of, stands_on, data_live, data_next, piece_on}
 use Rattle.mes_stream.proofs.ChunkLemmas.{take_whole}
 
--- nothing was consumed
 pub gathers_none : (s : ChunkState) (w body piece : List ℕ) → ChunkRepresents s w body → Gathers s w body piece 0 [] []
 gathers_none s w body piece represents =
     let same : ChunkRepresents s (w ++ []) (body ++ []) = rw (append-nil w, append-nil body) represents in
@@ -34,7 +33,6 @@ gathers_none s w body piece represents =
       each = λ k none. absurd (omega (arith, none));
     }
 
--- more framing bytes
 pub gathers_framing : (old new : ChunkState) (w body piece run places : List ℕ) (used count : ℕ) → Gathers old w body piece used run places
     → PassesFraming new (w ++ take used piece) (body ++ run) (drop used piece) count → Gathers new w body piece (used + count) run places
 gathers_framing old new w body piece run places used count before (represents, opens) = record {
@@ -49,7 +47,6 @@ gathers_framing old new w body piece run places used count before (represents, o
   each = before.each;
 }
 
--- one more byte of data
 pub gathers_byte : (old new : ChunkState) (w body piece run places : List ℕ) (used : ℕ) → Gathers old w body piece used run places → used < length piece → length places ≡ length run
     → ChunkRepresents new ((w ++ take used piece) ++ slice_index piece used ∷ []) ((body ++ run) ++ slice_index piece used ∷ [])
     → Gathers new w body piece (used + 1) (run ++ slice_index piece used ∷ []) (places ++ used ∷ [])
@@ -101,7 +98,7 @@ places_inside places used each k within =
       | inr late ↦ rw (get_or_push places used 0 k (omega (arith, within, late, len))) (omega arith)
     ]
 
--- the bytes consumed from the state `old` on
+-- the short chunks consumed since the state `old`
 pub record GatheredSoFar (old new : ChunkState) (piece : List ℕ) (most used : ℕ) (run places : List ℕ) : Type 0 where
   pub inside : used ≤ length piece
   pub few : 0 < length run → length run < most
@@ -160,7 +157,7 @@ so_far_byte old mid new piece run places most used before inside room passes =
           gathers_byte mid new w body piece run places used gathered inside same (passes (w ++ take used piece) (body ++ run) (b ∷ []) refl gathered.represents);
     }
 
--- a weaker clause for the same result
+-- a clause about success follows from a stronger one
 pub on_ok : {T F : Type 0} (result : Result T F) (P Q : Type 0) → (P → Q) → OnOk result P → OnOk result Q
 on_ok (Ok done) P Q follows h = follows h
 on_ok (Err why) P Q follows h = h
@@ -175,7 +172,7 @@ passes_on new x r p left true passes short room =
     absurd (omega (arith, spelt, len))
 
 module _ {R E : Type 0} (holds : R → List ℕ → Type 0) (spells : List ℕ → E → Type 0) (ahead : ℕ) where
-  -- after data with which the record continues
+  -- the bytes are a prefix of a stream after data that do not end the record
   pub room_live : (d : Body R) (b p : List ℕ) (values : List E) → BodyRepresents holds spells ahead d b values → length p < remaining_of d.records → BodyLive spells (limit_of d.records) (b ++ p) values
   room_live d b p values s inside =
       subst (λ (y : List ℕ). BodyLive spells (limit_of d.records) (b ++ y) values) (take_whole p (length p) refl)
@@ -193,7 +190,7 @@ module _ {R E : Type 0} (holds : R → List ℕ → Type 0) (spells : List ℕ �
   none_live d b [] values s none = rw (append-nil b) (live_of holds spells ahead d b values s)
   none_live d b (c ∷ p) values s none = absurd (omega (arith, none))
 
-  -- a run of data was consumed, and the record continues
+  -- the state after a run of data that does not end the record
   pub passed : (d new : Body R) (b p : List ℕ) (values : List E) (ended : Bool) (s : BodyRepresents holds spells ahead d b values) → new.done ≡ d.done → limit_of new.records ≡ limit_of d.records
       → RecordPasses new.records s.x s.r p ended → length p < remaining_of d.records → remaining_of new.records + length p ≡ remaining_of d.records → holds new.reader (s.r ++ p) → BodyRepresents holds spells ahead new (b ++ p) values
   passed d new b p values ended s done limit passes short room kept =

@@ -59,7 +59,7 @@ state_of w body at =
     let placed = at_place at.part at.represents at.is in
     (record { phase = placed.phase }, within {Q = PhaseRepresents placed.phase} w body at placed.represents)
 
--- for any bytes after it
+-- the data of a prefix begin the data of the whole
 pub grows : (w body rest : List ℕ) (reading : ChunkReading) → IsOpen w body → ReadsChunks (w ++ rest) reading → (more : List ℕ) × (content_of reading ≡ body ++ more)
 grows w body rest reading at reads =
     let s = state_of w body at in

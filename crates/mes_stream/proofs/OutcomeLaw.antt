@@ -20,7 +20,7 @@ use Rattle.mes_stream.specs.declared.fault.Stop.{Stop}
 use Rattle.mes_stream.specs.declared.stream_reader.Framing.TheVariants.{Plain, Chunked}
 use Rattle.mes_stream.proofs.PlainLaw.{no_rest}
 
--- the error after `used` bytes
+-- decoding stopped with this error after `used` bytes
 record StopsBy (stop : Stop) (fault : Fault) (used : ℕ) : Type 0 where
   fault_is : stop.fault ≡ fault
   count : stop.used ≡ saturated (0 + used)
@@ -28,7 +28,7 @@ record StopsBy (stop : Stop) (fault : Fault) (used : ℕ) : Type 0 where
 same_stop : (s t : Stop) (fault : Fault) (used : ℕ) → StopsBy s fault used → StopsBy t fault used → s ≡ t
 same_stop s t fault used h k = ap₂ (λ (f : Fault) (n : ℕ). let stop : Stop = record { fault = f; used = n } in stop) (h.fault_is ∙ sym k.fault_is) (h.count ∙ sym k.count)
 
--- the bytes consumed, and those left
+-- the consumed bytes, then those left in the device
 whole_of : (w taken left front rest : List ℕ) → w ≡ taken ++ left → taken ≡ front ++ rest → w ≡ front ++ (rest ++ left)
 whole_of w taken left front rest all is = all ∙ ap (λ (y : List ℕ). y ++ left) is ∙ append_assoc front rest left
 

@@ -31,7 +31,7 @@ use Rattle.mes_stream.proofs.StreamLemmas.{goes_of}
 abbrev Any : List ℕ → List Event → Type 0
 Any w events = Unit {0}
 
--- the result of a call with all the bytes after w at once
+-- the result of one call with all bytes after w
 abbrev Reached : ℕ → List ℕ → List Event → List ℕ → ℕ → Option StreamEnd → Type 0
 Reached limit w events all used None = (used ≡ length all) × Live Spells limit (w ++ all) events
 Reached limit w events all used (Some end) = (0 < used) × (used ≤ length all) × SaysIn Chunked Any Spells IsEventRefusal 0 limit w events all used (answer_of end)
@@ -40,7 +40,7 @@ live_at : (s : State EventReader) (limit : ℕ) (w : List ℕ) (events : List Ev
 live_at (state.Going stream) limit w events h = goes_of HoldsData Spells stream Chunked limit w events h
 live_at (state.Ended end) limit w events h = absurd h
 
--- the bytes after the first `at`
+-- a result for the bytes after the first `at` is one for all bytes
 moved : (limit : ℕ) (w : List ℕ) (events : List Event) (all : List ℕ) (at used : ℕ) (end : Option StreamEnd) → at ≤ length all → Reached limit (w ++ take at all) events (drop at all) used end
     → Reached limit w events all (at + used) end
 moved limit w events all at used None within (is, live) = (
@@ -50,7 +50,7 @@ moved limit w events all at used None within (is, live) = (
 moved limit w events all at used (Some end) within (some, inside, says) =
     (omega (arith, some), omega (arith, inside, within, length-drop at all), says_on Chunked Any Spells IsEventRefusal 0 limit w all events at used (answer_of end) some says)
 
--- a call with a prefix of all bytes
+-- a result for a prefix of the bytes is one for all bytes
 front_moved : (limit : ℕ) (w : List ℕ) (events : List Event) (piece rest : List ℕ) (at used : ℕ) (end : Option StreamEnd) → at ≤ length piece
     → Reached limit (w ++ take at piece) events (drop at piece ++ rest) used end → Reached limit w events (piece ++ rest) (at + used) end
 front_moved limit w events piece rest at used end within h =
@@ -76,7 +76,7 @@ drop_whole piece used all = none (drop used piece) (let len = length-drop used p
   none [] is = refl
   none (x ∷ xs) is = absurd (omega (arith, is))
 
--- the outcome as a single call
+-- the outcome of several calls is that of one call
 as_outcome : (limit : ℕ) (w : List ℕ) (events : List Event) (all : List ℕ) (outcome other : DecodeOutcome) → outcome ≡ other → Reached limit w (events ++ other.events) all other.used other.end
     → Reached limit w (events ++ outcome.events) all outcome.used outcome.end
 as_outcome limit w events all outcome other is h = subst (λ (o : DecodeOutcome). Reached limit w (events ++ o.events) all o.used o.end) (sym is) h
@@ -124,7 +124,7 @@ reads_of limit w events used (Some (Failed fault)) (some, within, stops) memory 
   | inr none ↦ absurd (memory (ap (λ (f : Fault). Some (Failed f)) none.0))
 ]
 
--- prefixes of one length
+-- equal prefixes have the same length
 same_take : (w : List ℕ) (m n : ℕ) → m ≤ length w → n ≤ length w → take m w ≡ take n w → m ≡ n
 same_take w m n first second same =
     let len = ap length same in

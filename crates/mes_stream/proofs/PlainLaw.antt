@@ -57,7 +57,7 @@ module _ {E : Type 0} (spells : List ℕ → E → Type 0) (breaks : List ℕ �
       let one : q ≡ r = cc in
       exact.apart r value why not says (subst (λ (y : List ℕ). breaks y why) one h)
 
-  -- a tail has one kind
+  -- a tail has only one kind
   one_tail : (t : List ℕ) (k l : Tail) → IsTail t k → IsTail t l → k ≡ l
   unfolding IsTail
   one_tail t Front Front h g = refl

@@ -25,17 +25,17 @@ up_more n k = omega arith
 up_none : (n : ℕ) → up n 0 ≡ n
 up_none n = omega arith
 
--- a call with a buffer that is not empty
+-- a call with a buffer that is not empty is counted
 asked : (len n : ℕ) → 0 < len → up_if (nat_lt 0 len) n ≡ up n 1
 asked len n full = let test : nat_lt 0 len ≡ true = grind (arith, nat_tests) in rw test refl
 
--- a call that returned bytes
+-- a call that returned bytes is not counted as idle
 moved : (len count n : ℕ) → 0 < count → up_if (nat_lt 0 len && (count == 0)) n ≡ n
 moved len count n some =
     let test : (count == 0) ≡ false = grind (arith, nat_tests) in
     rw test (elim (nat_lt 0 len) as (λ b. up_if (b && false) n ≡ n) [ true ↦ refl | false ↦ refl ])
 
--- a call at the end
+-- a call at the end is counted as idle
 ended_idle : (len n : ℕ) → 0 < len → up_if (nat_lt 0 len && (0 == 0)) n ≡ up n 1
 ended_idle len n full = let test : nat_lt 0 len ≡ true = grind (arith, nat_tests) in rw test refl
 

@@ -73,11 +73,11 @@ module _ {R E : Type 0} (holds : R → List ℕ → Type 0) (spells : List ℕ �
       (ahead : Ahead) (framing : Framing) (limit : ℕ) (v : List ℕ) (before : List E) → ReadingRepresentsAfter holds spells ahead d framing limit v before
       → ReadingTakesAfter holds spells breaks ahead new framing limit v before piece old now result
 
-  -- before the first piece
+  -- no piece appends nothing
   pub gathers_none : (d : Reading R) (start : List E) → Gathers holds spells d start d start []
   gathers_none d start = λ ahead framing limit v before represents. ([], sym (append-nil start), rw (append-nil, append-nil) represents)
 
-  -- the list after one more piece
+  -- one more piece appends its values
   pub gathers_more : {T : Type 0} (first d new : Reading R) (start old now : List E) (w piece : List ℕ) (result : Result T ReadingStop) → Gathers holds spells first start d old w → TakesAll d new piece old now result
       → OnOk result (Gathers holds spells first start new now (w ++ piece))
   gathers_more first d new start old now w piece (Ok done) h fed = λ ahead framing limit v before represents.

@@ -25,7 +25,6 @@ use Rattle.mes_msg.specs.declared.send_fault.EncodeFaultKind.{EncodeFaultKind}
 use Rattle.mes_msg.specs.declared.send_fault.EncodeFaultKind.TheVariants.{TooDeep, TooLarge}
 use Rattle.mes_msg.specs.declared.send_fault.SendFault.TheVariants.{Write}
 
--- the borrowed events
 abbrev pub borrowed : List (Bor Event) → List Event
 borrowed refs = map (λ event. event.now) refs
 
@@ -36,7 +35,7 @@ pub ref_at : (refs : List (Bor Event)) (i : ℕ) (ref : Bor Event) → i < lengt
 ref_at refs i ref inside here =
     ap (λ (event : Bor Event). event.now) here ∙ sym (get_or-map (λ (event : Bor Event). event.now) refs i ref ref.now inside)
 
--- one more event
+-- the records of one more event
 pub plain_of_more : (limit : ℕ) (events : List Event) (i : ℕ) (event : Event) (old new : List ℕ) → i < length events → event ≡ get_or events i event
     → IsPlainOf limit (take i events) old → new ≡ old ++ record_bytes (canonical_text event) → IsGood event limit
     → IsRecord (record_bytes (canonical_text event)) (canonical_text event) limit → Spells (canonical_text event) event → IsPlainOf limit (take (i + 1) events) new

@@ -14,7 +14,6 @@ PassesSize new x r run count = RecordStands new (x ++ take count run) r × ((n :
 cases_le : (m n : ℕ) → m ≤ n + 1 → (m ≤ n) ⊎ (n + 1 ≡ m)
 cases_le m n h = elim (eqb_tells m (n + 1)) [ inl e ↦ inr (sym e.1) | inr e ↦ inl (omega (arith, e.1)) ]
 
--- none were taken
 pub size_first : (s : RecordState) (x r run : List ℕ) → RecordStands s x r → PassesSize s x r run 0
 size_first s x r run represents = (
   rw (append-nil x) represents,
@@ -23,7 +22,6 @@ size_first s x r run represents = (
       subst (λ (m : ℕ). Begun (x ++ take m run) r (limit_of s)) zero (rw (append-nil x) (begun_of s x r represents)),
 )
 
--- one more byte
 pub size_next : (old new : RecordState) (x r run : List ℕ) (count : ℕ) → count < length run → limit_of new ≡ limit_of old
     → RecordStands new ((x ++ take count run) ++ get_or run count 0 ∷ []) r → PassesSize old x r run count → PassesSize new x r run (count + 1)
 size_next old new x r run count inside limit represents (before, begun) =
@@ -38,7 +36,7 @@ size_next old new x r run count inside limit represents (before, begun) =
           ],
     )
 
--- the first byte of a run, and those that follow
+-- the first byte of a size line in a run, and those after it
 pub size_line : (new : RecordState) (x r run : List ℕ) (count : ℕ) → 0 < length run → Begun x r (limit_of new)
     → PassesSize new (x ++ get_or run 0 0 ∷ []) r (drop 1 run) count
     → RecordStands new (x ++ take (1 + count) run) r × ((n : ℕ) → n < 1 + count → Begun (x ++ take n run) r (limit_of new))

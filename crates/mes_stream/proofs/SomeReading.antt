@@ -25,7 +25,6 @@ use Rattle.mes_stream.proofs.BodyLemmas.{records_more}
 use Rattle.mes_stream.proofs.ChunkLemmas.{shows_data}
 use Rattle.mes_stream.proofs.PlainLaw.{same_last}
 
--- all but the last byte
 before_last : (x front rest : List ℕ) (c d : ℕ) → x ++ c ∷ [] ≡ front ++ d ∷ rest → (k : List ℕ) × (x ≡ front ++ k)
 before_last x [] rest c d same = (x, refl)
 before_last [] (a ∷ front) rest c d same =
@@ -62,7 +61,7 @@ module _ {E : Type 0} (spells : List ℕ → E → Type 0) (breaks : List ℕ �
   none_begun : Begun [] [] limit
   none_begun = inl (record { digits = tt; few = omega arith }, refl)
 
-  -- a record ends with the byte
+  -- the effect of a byte that ends a record
   ends : (b : List ℕ) (values : List E) (c : ℕ) (r : List ℕ) (live : BodyLive spells limit b values) → IsRecord (live.x ++ c ∷ []) r limit → Next b values c
   unfolding Next
   ends b values c r live is = elim (decided r) [

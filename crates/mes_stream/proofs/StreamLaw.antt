@@ -17,7 +17,6 @@ use Rattle.mes_stream.specs.declared.fault.Fault.TheVariants.{Frame, EndsInsideC
 use Rattle.mes_stream.proofs.Grows.{content_of, grows}
 use Rattle.mes_stream.proofs.PlainLaw.{one_plain, no_rest, same_last}
 
--- a shorter prefix is the prefix of a longer one
 shorter : (u v rest more : List ℕ) (c d : ℕ) → u ++ c ∷ rest ≡ v ++ d ∷ more → length u < length v → (m : List ℕ) × (v ≡ (u ++ c ∷ []) ++ m)
 shorter u [] rest more c d same less = absurd (omega arith)
 shorter [] (b ∷ v) rest more c d same less = let head : c ≡ b = cc in (v, cc)
@@ -38,7 +37,7 @@ as_long (a ∷ u) (b ∷ v) rest more c d same len =
     let on : u ≡ v = as_long u v rest more c d tail (omega arith) in
     cc
 
--- after a byte of data the data are longer
+-- a prefix that ends with data is not shorter than one with the same data
 not_shorter : (u v rest more body : List ℕ) (c d : ℕ) → u ++ c ∷ rest ≡ v ++ d ∷ more → IsOpen (u ++ c ∷ []) (body ++ c ∷ []) → IsOpen v body → length u < length v → ⊥
 not_shorter u v rest more body c d same begun too less =
     let found = shorter u v rest more c d same less in
@@ -119,7 +118,7 @@ module _ {E : Type 0} (spells : List ℕ → E → Type 0) (breaks : List ℕ �
       (subst (λ (vs : List E). IsMark g.chunks vs f.mark) values (subst (λ (k : ChunkReading). IsMark k f.values f.mark) chunks f.is_mark)) g.is_mark in
       f.is ∙ ap (λ (k : ChunkReading). outer_of k f.values f.mark) chunks ∙ ap₂ (λ (vs : List E) (m : Mark). outer_of g.chunks vs m) values mark ∙ sym g.is
 
-  -- the data with any bytes after them
+  -- the data of the whole input begin with those before the error
   content_on : (w : List ℕ) (reading : StreamReading E) (f : Inner w reading) (k : ChunkReading) → ReadsChunks w k → (more : List ℕ) × (content_of k ≡ f.body ++ f.c ∷ more)
   content_on w reading f k reads =
       let spelt : w ≡ (f.front ++ f.c ∷ []) ++ f.rest = f.spelt ∙ sym (append_assoc f.front (f.c ∷ []) f.rest) in
@@ -238,7 +237,7 @@ module _ {E : Type 0} (spells : List ℕ → E → Type 0) (breaks : List ℕ �
   same_content (Whole front body) (Broken following c other fault) is = absurd is
   same_content (Broken front c body fault) l is = absurd is
 
-  -- if the framing determines both
+  -- two readings are alike if the framing determines both
   outer_alike : (k l : ChunkReading) (values others : List E) (m n : Mark) → IsKin k l → values ≡ others → IsMark k values m → IsMark l others n → IsAlike (outer_of k values m) (outer_of l others n)
   unfolding IsKin IsMark outer_of
   outer_alike (Begins body) (Begins other) values others m n is same h g = same
@@ -302,14 +301,14 @@ module _ {E : Type 0} (spells : List ℕ → E → Type 0) (breaks : List ℕ �
   unfolding IsKin
   alike_front w v body reading other first second reads too = alike w v reading other (Begins body) (Begins body) first second refl reads too
 
--- any other chunking of the same body
+-- another chunking of the same body has the same values
 pub same_chunking : {E : Type 0} (spells : List ℕ → E → Type 0) (limit : ℕ) (w v body : List ℕ) (values : List E) → IsChunked w body → IsChunked v body → IsStream spells limit w values → IsStream spells limit v values
 same_chunking spells limit w v body values first second (other, whole, records) =
     let both : Whole w other ≡ Whole w body = one_reading w (Whole w other) (Whole w body) ([], sym (append-nil w), whole) ([], sym (append-nil w), first) in
     let same : other ≡ body = cc in
     (body, second, rw same at records)
 
--- any other chunking of the same prefix of a body
+-- another chunking of the same prefix of a body has the same values
 pub same_front : {E : Type 0} (spells : List ℕ → E → Type 0) (limit : ℕ) (w v body : List ℕ) (values : List E) → IsOpen w body → IsOpen v body → Live spells limit w values → Live spells limit v values
 same_front spells limit w v body values first second (other, begun, live) =
     let both : Begins other ≡ Begins body = one_reading w (Begins other) (Begins body) begun first in

@@ -11,7 +11,6 @@ use Rattle.mes_stream.specs.declared.stream_reader.StreamReader.TheVariants as r
 use Rattle.mes_stream.proofs.BodyLemmas.{live_of}
 use Rattle.mes_stream.proofs.ChunkLemmas.{chunked_live}
 
--- the same reader with its own body
 pub same_body : {R : Type 0} (d : StreamReader R) → with_body d (body_of d) ≡ d
 same_body (reader.Plain body) = refl
 same_body (reader.Chunked chunked) = refl
@@ -26,7 +25,7 @@ module _ {R E : Type 0} (holds : R → List ℕ → Type 0) (spells : List ℕ �
       let live : GoesIn Chunked spells limit w values = subst (λ (n : ℕ). Live spells n w values) same (chunked_live holds spells ahead chunked w values represents) in
       subst (λ (f : Framing). GoesIn f spells limit w values) (sym is) live
 
--- with nothing before the stream
+-- consumed bytes are a prefix of a stream, with nothing before it
 pub goes_of : {R E : Type 0} (holds : R → List ℕ → Type 0) (spells : List ℕ → E → Type 0) (d : StreamReader R) (framing : Framing) (limit : ℕ) (w : List ℕ) (values : List E)
     → StreamRepresents holds spells 0 d framing limit w values → GoesIn framing spells limit w values
 goes_of holds spells d framing limit w values s = goes_behind holds spells 0 d framing limit w values s

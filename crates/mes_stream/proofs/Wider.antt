@@ -68,7 +68,7 @@ module _ {E : Type 0} (spells : List ℕ → E → Type 0) (breaks wide : List �
   chunked_shows ahead limit w values c ReadsSpent h = h
   chunked_shows ahead limit w values c (BadEntry at) (body, before, following, h) = (body, before, following, body_shows ahead limit body values c (BadEntry at) h)
 
-  -- a byte with an error
+  -- a byte at which an error is detected
   pub stops_wider : (framing : Framing) (ahead limit : ℕ) (w : List ℕ) (values : List E) (c : ℕ) (fault : Fault) → ByteStopsIn framing spells breaks ahead limit w values c fault
       → ByteStopsIn framing spells wide ahead limit w values c fault
   stops_wider Plain ahead limit w values c fault (inl h) = inl (body_shows ahead limit w values c fault h)

@@ -46,7 +46,7 @@ abbrev pub bytes_after : Report → Option (List ℕ) → List ℕ
 bytes_after report None = report.rest.items
 bytes_after report (Some left) = report.rest.items ++ left
 
--- the same result, number of bytes used, and bytes after the end
+-- both ended after the same bytes, with the same bytes after the end; or both have the same error
 abbrev pub IsSameOutcome : Option (List ℕ) → Option (List ℕ) → Result Report Stop → Result Report Stop → Type 0
 IsSameOutcome left more (Ok report) (Ok other) = (report.used ≡ other.used) × (bytes_after report left ≡ bytes_after other more)
 IsSameOutcome left more (Ok report) (Err stop) = ⊥

@@ -16,7 +16,7 @@ IsStream spells limit w values = (body : List ℕ) × IsChunked w body × Record
 abbrev pub Live : {E : Type 0} → (List ℕ → E → Type 0) → ℕ → List ℕ → List E → Type 0
 Live spells limit w values = (body : List ℕ) × IsOpen w body × BodyLive spells limit body values
 
--- the byte c after w is a byte of the body's data, and `Is` holds of the data before it
+-- the byte c after w is data of the chunked body, and `Is` holds of the data before it
 abbrev pub AtData : {E : Type 0} → (List ℕ → List E → Type 0) → List ℕ → List E → ℕ → Type 0
 AtData Is w values c = (body : List ℕ) × IsOpen w body × IsOpen (w ++ c ∷ []) (body ++ c ∷ []) × Is body values
 
@@ -24,7 +24,7 @@ AtData Is w values c = (body : List ℕ) × IsOpen w body × IsOpen (w ++ c ∷ 
 abbrev pub EndsWith : {E : Type 0} → (List ℕ → E → Type 0) → ℕ → List ℕ → List E → ℕ → E → Type 0
 EndsWith spells limit w values c value = AtData (λ body vs. EndsRecord spells limit body vs c (HasValue spells value)) w values c
 
--- the byte c after w is an error: of the framing, of a record, or an early end of the body
+-- an error is detected at the byte c after w: in the framing, in a record, or an early end
 abbrev pub ChunkedShows : {E : Type 0} → (List ℕ → E → Type 0) → (List ℕ → RecordError → Type 0) → ℕ → ℕ → List ℕ → List E → ℕ → Fault → Type 0
 ChunkedShows spells breaks ahead limit w values c (Frame fault) =
     ((body : List ℕ) × ChunkShows w body c fault × BodyLive spells limit body values)
@@ -42,7 +42,7 @@ ChunkedShows spells breaks ahead limit w values c ReadsSpent = ⊥
 ChunkedShows spells breaks ahead limit w values c (BadEntry at_record) =
     AtData (λ body vs. BodyShows spells breaks ahead limit body vs c (BadEntry at_record)) w values c
 
--- the byte c is an error, or an allocation failed at it, if `breaks` permits that for the data
+-- an error is detected at the byte c, or an allocation fails there, as `breaks` permits
 abbrev pub ChunkedStops : {E : Type 0} → (List ℕ → E → Type 0) → (List ℕ → RecordError → Type 0) → ℕ → ℕ → List ℕ → List E → ℕ → Fault → Type 0
 ChunkedStops spells breaks ahead limit w values c fault =
     ChunkedShows spells breaks ahead limit w values c fault ⊎ ((fault ≡ NoMemory) × AtData (λ body vs. RunsOut spells breaks limit body vs c) w values c)

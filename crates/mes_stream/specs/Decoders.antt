@@ -28,7 +28,8 @@ abbrev pub DecoderStateRepresents : {R E : Type 0} → (R → List ℕ → Type 
 DecoderStateRepresents holds spells (state.Going stream) limit w values = StreamRepresents holds spells 0 stream Chunked limit w values
 DecoderStateRepresents holds spells (state.Ended end) limit w values = ⊥
 
--- the decoder has consumed w, a prefix of a stream with the values; false after the end or an error
+-- The decoder has consumed w, a prefix of a stream with the values. False after the end or an
+-- error.
 abbrev pub DecoderRepresents : {R E : Type 0} → (R → List ℕ → Type 0) → (List ℕ → E → Type 0) → RecordDecoder R → ℕ → List ℕ → List E → Type 0
 DecoderRepresents holds spells d limit w values = DecoderStateRepresents holds spells d.state limit w values
 
@@ -50,7 +51,7 @@ EndsBy end (out.Event value) = end ≡ None
 EndsBy end out.End = end ≡ Some Closed
 EndsBy end (out.Fault fault) = end ≡ Some (Failed fault)
 
--- n is at most what may be buffered of the data of the incomplete record
+-- at most n bytes of the data of the incomplete record are buffered
 abbrev pub HoldsInBody : {E : Type 0} → (List ℕ → E → Type 0) → (List ℕ → ℕ) → ℕ → List ℕ → List E → ℕ → Type 0
 HoldsInBody spells room limit b values n = Following spells limit (λ x. (r : List ℕ) × Begun x r limit × (n ≤ room r)) b values
 

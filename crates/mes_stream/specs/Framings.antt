@@ -16,7 +16,7 @@ abbrev pub GoesIn : {E : Type 0} → Framing → (List ℕ → E → Type 0) →
 GoesIn Plain spells limit w values = BodyLive spells limit w values
 GoesIn Chunked spells limit w values = Live spells limit w values
 
--- w is such a prefix, and no record is incomplete
+-- w is a prefix of a stream with these values, and no record is incomplete
 abbrev pub WholeIn : {E : Type 0} → Framing → (List ℕ → E → Type 0) → ℕ → List ℕ → List E → Type 0
 WholeIn Plain spells limit w values = Records spells limit w values
 WholeIn Chunked spells limit w values = (body : List ℕ) × IsOpen w body × Records spells limit body values
@@ -31,7 +31,7 @@ abbrev pub EndsRecordIn : {E : Type 0} → Framing → (List ℕ → E → Type 
 EndsRecordIn Plain spells limit w values c value = EndsRecord spells limit w values c (HasValue spells value)
 EndsRecordIn Chunked spells limit w values c value = EndsWith spells limit w values c value
 
--- the byte c after w is an error, or an allocation failed at it
+-- an error is detected at the byte c after w, or an allocation fails there
 abbrev pub ByteStopsIn : {E : Type 0} → Framing → (List ℕ → E → Type 0) → (List ℕ → RecordError → Type 0) → ℕ → ℕ → List ℕ → List E → ℕ → Fault → Type 0
 ByteStopsIn Plain spells breaks ahead limit w values c fault = BodyStops spells breaks ahead limit w values c fault
 ByteStopsIn Chunked spells breaks ahead limit w values c fault = ChunkedStops spells breaks ahead limit w values c fault

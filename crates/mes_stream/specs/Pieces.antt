@@ -32,7 +32,7 @@ pub record DecodeOutcome : Type 0 where
 abbrev pub decoded : List Event → Option StreamEnd → ℕ → DecodeOutcome
 decoded events end used = record { events = events; end = end; used = used }
 
--- the same outcome with one more call before the others
+-- the outcome of one more call before the others
 abbrev pub after_call : ℕ → List Event → DecodeOutcome → DecodeOutcome
 after_call used events rest = decoded (events ++ rest.events) rest.end (used + rest.used)
 

@@ -5,7 +5,7 @@ use Rattle.mes_stream.specs.declared.record_error.RecordError.TheVariants as ref
 use Rattle.mes_stream.specs.Stream.{BodyLive, BodyShows}
 use Rattle.mes_stream.specs.declared.fault.Fault.{Fault}
 
--- the data of a record have at most one value or one error, and not both
+-- the data of a record have at most one value or one error
 pub record IsExact {E : Type 0} (spells : List ℕ → E → Type 0) (breaks : List ℕ → RecordError → Type 0) : Type 0 where
   pub value : (r : List ℕ) (a b : E) → spells r a → spells r b → a ≡ b
   pub why : (r : List ℕ) (f g : RecordError) → f ≢ refusal.NoMemory → g ≢ refusal.NoMemory → breaks r f → breaks r g → f ≡ g
@@ -16,9 +16,9 @@ abbrev pub IsDecided : {E : Type 0} → (List ℕ → E → Type 0) → (List �
 IsDecided {E} spells breaks = (r : List ℕ) → ((value : E) × spells r value) ⊎ ((why : RecordError) × (why ≢ refusal.NoMemory) × breaks r why)
 
 pub data PlainReading (E : Type 0) : Type 0 where
-  -- records of these values, and perhaps part of one more
+  -- the bytes are records of these values, and perhaps part of one more
   Goes : (values : List E) → PlainReading E
-  -- such bytes `front`, and then the byte at which the error is detected
+  -- the bytes `front` are such records, and an error is detected at the next byte
   Stops : (front : List ℕ) (byte : ℕ) (values : List E) (fault : Fault) → PlainReading E
 
 -- the bytes w have this reading

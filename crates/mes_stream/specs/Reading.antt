@@ -48,19 +48,19 @@ pub record EndsAt {E : Type 0} (framing : Framing) (spells : List ℕ → E → 
   pub ends : EndsIn framing spells limit stream values
   pub last : length rest < MAX_READ
 
--- one of the last 512 bytes of w ended the stream, or the error was detected there
+-- one of the last 512 bytes of w ended the stream, or an error was detected there
 abbrev pub ByteEndsAfter : {E : Type 0} → Framing → (List ℕ → E → Type 0) → (List ℕ → RecordError → Type 0) → Ahead → ℕ → List ℕ → List E → Result Report Stop → Type 0
 ByteEndsAfter framing spells breaks ahead limit w values (Ok report) = EndsAt framing spells ahead limit w values report.used report.rest.items
 ByteEndsAfter framing spells breaks ahead limit w values (Err stop) = StopsAt framing spells breaks ahead limit w values stop.used stop.fault
 
--- the result of the end of the input after w, if every byte was used
+-- the result if the input ends after w
 abbrev pub EndMeans : {E : Type 0} → Framing → (List ℕ → E → Type 0) → Ahead → ℕ → List ℕ → List E → Result Report Stop → Type 0
 EndMeans framing spells ahead limit w values (Ok report) =
     InputEnds {T = Unit {0}} framing spells limit w values (Ok tt) × (report.used ≡ saturated (ahead.bytes + length w)) × (report.rest.items ≡ [])
 EndMeans framing spells ahead limit w values (Err stop) =
     InputEnds {T = Unit {0}} framing spells limit w values (Err stop.fault) × (stop.used ≡ saturated (ahead.bytes + length w))
 
--- the stream continues after w, every byte was used, and `fault` is why no more was read
+-- the stream continues after w, but reading stopped with this error
 abbrev pub BreaksOff : {E : Type 0} → Fault → Framing → (List ℕ → E → Type 0) → Ahead → ℕ → List ℕ → List E → Result Report Stop → Type 0
 BreaksOff fault framing spells ahead limit w values (Ok report) = ⊥
 BreaksOff fault framing spells ahead limit w values (Err stop) =
@@ -77,11 +77,11 @@ EndsReadingAs Byte End Off reads old new last w values outcome =
     ⊎ (Off Read w values outcome × SomeReadsMade reads old new w 1 0)
     ⊎ (Off ReadsSpent w values outcome × ReadsMade reads old new w reads 0 0)
 
--- `ByteEndsAfter` with nothing before the stream
+-- `ByteEndsAfter` for a stream with nothing before it
 abbrev pub ByteEnds : {E : Type 0} → Framing → (List ℕ → E → Type 0) → (List ℕ → RecordError → Type 0) → ℕ → List ℕ → List E → Result Report Stop → Type 0
 ByteEnds framing spells breaks limit w values outcome = ByteEndsAfter framing spells breaks nothing_ahead limit w values outcome
 
--- `EndsReadingAs` with nothing before the stream
+-- `EndsReadingAs` for a stream with nothing before it
 abbrev pub EndsReading : {E : Type 0} → Framing → (List ℕ → E → Type 0) → (List ℕ → RecordError → Type 0) → ℕ → ℕ → Counts → Counts → Option (List ℕ) → List ℕ → List E → Result Report Stop → Type 0
 EndsReading framing spells breaks limit reads old new last w values outcome =
     EndsReadingAs (ByteEnds framing spells breaks limit) (EndMeans framing spells nothing_ahead limit) (λ fault. BreaksOff fault framing spells nothing_ahead limit) reads old new last w values outcome
@@ -94,7 +94,7 @@ EndsPlain limit reads old new last w events outcome = EndsReading Plain Spells I
 abbrev pub EndsStream : ℕ → ℕ → Counts → Counts → Option (List ℕ) → List ℕ → List Event → Result Report Stop → Type 0
 EndsStream limit reads old new last w events outcome = EndsReading Chunked Spells IsEventRefusal limit reads old new last w events outcome
 
--- the reading has consumed w, a prefix with the values, and counted it
+-- the reading has consumed w, a prefix of a stream with the values, and counted its bytes
 abbrev pub ReadingRepresentsAfter : {R E : Type 0} → (R → List ℕ → Type 0) → (List ℕ → E → Type 0) → Ahead → Reading R → Framing → ℕ → List ℕ → List E → Type 0
 ReadingRepresentsAfter holds spells ahead d framing limit w values = StreamRepresents holds spells ahead.records d.stream framing limit w values × (d.used ≡ saturated (ahead.bytes + length w))
 
@@ -127,7 +127,7 @@ ReadingTakesRecord holds spells breaks ahead new framing limit w values piece (O
     × GoesBefore framing spells limit w values piece ended.used
 ReadingTakesRecord holds spells breaks ahead new framing limit w values piece (Err stop) = ByteEndsAfter framing spells breaks ahead limit (w ++ piece) values (reported_as new stop)
 
--- the record ended inside the piece
+-- a record ended inside the piece, if one ended
 abbrev pub EndsWithin : {E T : Type 0} → ℕ → Result (Option (EndedRecord E)) T → Type 0
 EndsWithin len (Ok None) = Unit {0}
 EndsWithin len (Ok (Some ended)) = (0 < ended.used) × (ended.used ≤ len)
@@ -153,7 +153,7 @@ Gathers {E = E} holds spells first start now to w =
     (ahead : Ahead) (framing : Framing) (limit : ℕ) (v : List ℕ) (before : List E) → ReadingRepresentsAfter holds spells ahead first framing limit v before
     → (more : List E) × (to ≡ start ++ more) × ReadingRepresentsAfter holds spells ahead now framing limit (v ++ w) (before ++ more)
 
--- a byte of the piece after w ended the stream or is an error, and nothing is buffered
+-- the stream ended, or an error was detected, in the piece after w; nothing is buffered
 abbrev pub GathersLast : {R E : Type 0} → (R → List ℕ → Type 0) → (List ℕ → E → Type 0) → (List ℕ → RecordError → Type 0) → (R → ℕ) → Reading R → List E → Reading R → List E → List ℕ → List ℕ → ReadingStop → Type 0
 GathersLast {E = E} holds spells breaks kept first start now to w piece stop =
     ((ahead : Ahead) (framing : Framing) (limit : ℕ) (v : List ℕ) (before : List E) → ReadingRepresentsAfter holds spells ahead first framing limit v before

@@ -7,7 +7,7 @@ use Rattle.mes_stream.specs.declared.record_error.RecordError.TheVariants as ref
 use Rattle.mes_stream.specs.declared.fault.Fault.{Fault}
 use Rattle.mes_stream.specs.declared.fault.Fault.TheVariants.{Frame, EndsInsideChunks, EndsInsideRecord, Text, Field, NoMemory, Read, ReadsSpent, BadEntry}
 
--- a count that stays at 2^64 - 1
+-- n, or 2^64 - 1 if n is larger
 abbrev pub saturated : ℕ → ℕ
 saturated n = min n (2 ^ 64 - 1)
 
@@ -18,7 +18,7 @@ Records spells limit b (value ∷ values) =
     (front : List ℕ) × (rest : List ℕ) × (r : List ℕ) × IsRecord front r limit × spells r value × (b ≡ front ++ rest)
     × Records spells limit rest values
 
--- the bytes are such records, followed by an x for which `Is` holds
+-- the bytes are records of the values, followed by an x for which `Is` holds
 pub record Following {E : Type 0} (spells : List ℕ → E → Type 0) (limit : ℕ) (Is : List ℕ → Type 0) (b : List ℕ) (values : List E) : Type 0 where
   pub whole : List ℕ
   pub x : List ℕ
@@ -26,11 +26,11 @@ pub record Following {E : Type 0} (spells : List ℕ → E → Type 0) (limit : 
   pub records : Records spells limit whole values
   pub is : Is x
 
--- the bytes are such records, and perhaps part of one more
+-- the bytes are records of the values, and perhaps part of one more
 abbrev pub BodyLive : {E : Type 0} → (List ℕ → E → Type 0) → ℕ → List ℕ → List E → Type 0
 BodyLive spells limit b values = Following spells limit (λ x. (r : List ℕ) × Begun x r limit) b values
 
--- the bytes are such records, followed by an incomplete one
+-- the bytes are records of the values, followed by an incomplete one
 abbrev pub EndsInside : {E : Type 0} → (List ℕ → E → Type 0) → ℕ → List ℕ → List E → Type 0
 EndsInside spells limit b values = Following spells limit (λ x. (x ≢ []) × ((r : List ℕ) × Begun x r limit)) b values
 
@@ -46,7 +46,7 @@ EndsRecord spells limit b values c Is = Following spells limit (λ x. (r : List 
 abbrev pub HasValue : {E : Type 0} → (List ℕ → E → Type 0) → E → List ℕ → Type 0
 HasValue spells value r = (r ≢ []) × spells r value
 
--- the byte c after b is an error: of a size line, or of the record that it ends
+-- an error is detected at the byte c after b: in a size line, or in the record that it ends
 abbrev pub BodyShows : {E : Type 0} → (List ℕ → E → Type 0) → (List ℕ → RecordError → Type 0) → ℕ → ℕ → List ℕ → List E → ℕ → Fault → Type 0
 BodyShows spells breaks ahead limit b values c (Frame fault) = Following spells limit (λ x. SizeShows x c limit fault) b values
 BodyShows spells breaks ahead limit b values c (Text at_record byte why) =
@@ -72,7 +72,7 @@ MayFail breaks c r left = breaks r refusal.NoMemory ⊎ ((left ≡ 1) × breaks 
 abbrev pub RunsOut : {E : Type 0} → (List ℕ → E → Type 0) → (List ℕ → RecordError → Type 0) → ℕ → List ℕ → List E → ℕ → Type 0
 RunsOut spells breaks limit b values c = InRecordData spells limit b values (MayFail breaks c)
 
--- the byte c is an error, or an allocation failed at it, if `breaks` permits that for the data
+-- an error is detected at the byte c, or an allocation fails there, as `breaks` permits
 abbrev pub BodyStops : {E : Type 0} → (List ℕ → E → Type 0) → (List ℕ → RecordError → Type 0) → ℕ → ℕ → List ℕ → List E → ℕ → Fault → Type 0
 BodyStops spells breaks ahead limit b values c fault =
     BodyShows spells breaks ahead limit b values c fault ⊎ ((fault ≡ NoMemory) × RunsOut spells breaks limit b values c)

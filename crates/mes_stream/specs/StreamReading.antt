@@ -5,11 +5,11 @@ use Rattle.mes_stream.specs.Chunked.{IsStream, Live, ChunkedShows}
 use Rattle.mes_stream.specs.declared.fault.Fault.{Fault}
 
 pub data StreamReading (E : Type 0) : Type 0 where
-  -- a prefix of a stream, with these values
+  -- the bytes are a prefix of a stream, with these values
   Goes : (values : List E) → StreamReading E
   -- `front` is a whole stream of these values
   Ends : (front : List ℕ) (values : List E) → StreamReading E
-  -- `front`, a prefix with these values, and then the byte at which the error is detected
+  -- the bytes `front` are such a prefix, and an error is detected at the next byte
   Stops : (front : List ℕ) (byte : ℕ) (values : List E) (fault : Fault) → StreamReading E
 
 -- the bytes w have this reading

@@ -28,7 +28,7 @@ pub record BodyRepresents {R E : Type 0} (holds : R → List ℕ → Type 0) (sp
   pub count : d.done ≡ saturated (ahead + length values)
   pub limit : limit_of d.records < 2 ^ 64
 
--- the first part of a run has at least one byte, and at most those of the run
+-- what a run begins with has at least one byte, and at most those of the run
 abbrev pub IsWithin : ℕ → Front → Type 0
 IsWithin len (Size count) = (0 < count) × (count ≤ len)
 IsWithin len (Data count last) = (0 < count) × (count ≤ len)

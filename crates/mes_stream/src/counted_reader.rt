@@ -61,6 +61,7 @@ impl<R: RecordReader> Reading<R> {
     /// numbers and byte counts continue from there.
     pub fn following(framing: Framing, records: R, limit: Limit, done: u64, used: u64) -> Reading<R>
         requires { R.holds records [] }
+        // The state before the first byte, after `done` records in `used` bytes.
         ensures { (ahead : Ahead) → done ≡ saturated ahead.records → used ≡ saturated ahead.bytes
             → ReadingRepresentsAfter R.holds R.spells ahead result framing limit [] [] }
     {

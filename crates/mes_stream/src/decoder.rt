@@ -105,8 +105,9 @@ impl<R: RecordReader> RecordDecoder<R> {
             → DecoderRepresents R.holds R.spells self.old limit w values
             → result.out ≡ Decoded.More → Live R.spells limit (w ++ piece.now) values }
 
-        // Any other result: at least one byte was used, until the stream has ended.
+        // An event: at least one byte was used.
         ensures event { (value : R.Value) → result.out ≡ Decoded.Event value → 0 < result.used }
+        // The end or an error: at least one byte was used, if it is the first such result.
         ensures some { (limit : ℕ) (w : List ℕ) (values : List R.Value)
             → DecoderRepresents R.holds R.spells self.old limit w values
             → result.out ≢ Decoded.More → 0 < result.used }

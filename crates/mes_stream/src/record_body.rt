@@ -52,6 +52,7 @@ impl<R: RecordReader> Body<R> {
     /// there.
     pub fn following(reader: R, limit: Limit, done: u64) -> Body<R>
         requires { R.holds reader [] }
+        // The state before the first byte, after `done` records.
         ensures represents { (ahead : ℕ) → done ≡ saturated ahead
             → BodyRepresents R.holds R.spells ahead result [] [] }
         ensures limit { limit_of result.records ≡ limit }
@@ -65,9 +66,11 @@ impl<R: RecordReader> Body<R> {
 
     /// Returns whether no record is incomplete.
     pub fn between(&self) -> bool
+        // If true: the bytes are complete records.
         ensures whole { (ahead : ℕ) (b : List ℕ) (values : List R.Value)
             → BodyRepresents R.holds R.spells ahead self.now b values → result ≡ true
             → Records R.spells (limit_of self.now.records) b values }
+        // If false: the bytes end inside a record.
         ensures inside { (ahead : ℕ) (b : List ℕ) (values : List R.Value)
             → BodyRepresents R.holds R.spells ahead self.now b values → result ≡ false
             → EndsInside R.spells (limit_of self.now.records) b values }
@@ -170,6 +173,7 @@ impl<R: RecordReader> Body<R> {
     /// Returns the number of buffered bytes of the incomplete record.
     pub fn held(&self) -> u64
         ensures count { result ≡ held_by_body R.kept self.now }
+        // The bound: what the reader may buffer of the incomplete record.
         ensures most { (ahead : ℕ) (b : List ℕ) (values : List R.Value)
             → BodyRepresents R.holds R.spells ahead self.now b values
             → HoldsInBody R.spells R.room (limit_of self.now.records) b values result }

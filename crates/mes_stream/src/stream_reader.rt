@@ -53,6 +53,7 @@ impl<R: RecordReader> StreamReader<R> {
     /// there.
     pub fn following(framing: Framing, reader: R, limit: Limit, done: u64) -> StreamReader<R>
         requires { R.holds reader [] }
+        // The state before the first byte, after `done` records.
         ensures represents { (ahead : ℕ) → done ≡ saturated ahead
             → StreamRepresents R.holds R.spells ahead result framing limit [] [] }
     {
@@ -148,6 +149,7 @@ impl<R: RecordReader> StreamReader<R> {
     /// Reports the end of the input. Plain RecordIO: `Ok` between records, F10 inside one. A
     /// chunked stream that has not ended: F6.
     pub fn finish(&self) -> Result<(), Fault>
+        // The result of the end of the input, if `w` are the bytes so far.
         ensures { (ahead : ℕ) (framing : FramingValue) (limit : ℕ) (w : List ℕ)
             (values : List R.Value) → StreamRepresents R.holds R.spells ahead self.now framing limit
             w values
@@ -168,6 +170,7 @@ impl<R: RecordReader> StreamReader<R> {
     /// Returns the number of buffered bytes of an incomplete record: 0 after the end or an error.
     pub fn held(&self) -> u64
         ensures count { result ≡ held_by_stream R.kept self.now }
+        // The bound: what the reader may buffer of the incomplete record.
         ensures most { (ahead : ℕ) (framing : FramingValue) (limit : ℕ) (w : List ℕ)
             (values : List R.Value) → StreamRepresents R.holds R.spells ahead self.now framing limit
             w values

@@ -20,6 +20,5 @@ told_words words (BadValue option) input out printed err reported ended refused 
 told_words words (BadValue option) input out printed err reported ended refused (inr lacks) = inr (inr (inr (lacks.0, lacks.1, refl)))
 told_words words NoMemory input out printed err reported ended refused lacks = inr (inr (inr (lacks.0, lacks.1, refl)))
 
--- the printed text is the line
 pub prints_line : (old new : Device) (text line : List ℕ) (meant : ExitStatus) (ended : RunOutcome) → text ≡ line → Prints old new text meant ended → Prints old new line meant ended
 prints_line old new text line meant ended same prints = subst (λ (t : List ℕ). Prints old new t meant ended) same prints

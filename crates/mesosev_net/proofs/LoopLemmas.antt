@@ -36,7 +36,6 @@ subscribed_some info plain host to reads most input rest writer written out prin
 pub same_framework : (info : FrameworkInfo) (user name u n : List ℕ) → info ≡ plain_framework u n → u ≡ user → n ≡ name → info ≡ plain_framework user name
 same_framework info user name u n is a b = is ∙ ap (λ (x : List ℕ). plain_framework x n) a ∙ ap (plain_framework user) b
 
--- the connection was served
 looped : (first : List ℕ) (most : ℕ) (given : List Event) (before : MasterState) (input rest writer written out dropped : Device) (later : MasterState) (r : Result Served WriteFault)
     (whole : Bool) → before ≡ new_master test_framework (ids_from first 1) → is_whole r ≡ whole
     → ServesOne before given most input rest writer written out dropped later r → ServesLoop first most given whole
@@ -50,7 +49,7 @@ looped first most given before input rest writer written out dropped later r who
   is = is;
 }
 
--- the whole response was written and printed, or an allocation failed
+-- the outcome if the whole response was written
 pub answered : (first : List ℕ) (most : ℕ) (given : List Event) (before : MasterState) (input rest writer written out dropped : Device) (later : MasterState) (r : Result Served WriteFault)
     (reported printed : Device) (ended : RunOutcome) → before ≡ new_master test_framework (ids_from first 1) → is_whole r ≡ true
     → ServesOne before given most input rest writer written out dropped later r → ShowsSome reported printed ended ⊎ LacksMemory reported printed ended
@@ -59,7 +58,7 @@ answered first most given before input rest writer written out dropped later r r
     inl (looped first most given before input rest writer written out dropped later r true same is serves, shows)
 answered first most given before input rest writer written out dropped later r reported printed ended same is serves (inr lacks) = inr (inr lacks)
 
--- there is no response, which was printed
+-- the outcome if it was not
 pub unanswered : (first : List ℕ) (most : ℕ) (given : List Event) (before : MasterState) (input rest writer written out dropped : Device) (later : MasterState) (r : Result Served WriteFault)
     (reported printed : Device) (ended : RunOutcome) → before ≡ new_master test_framework (ids_from first 1) → is_whole r ≡ false
     → ServesOne before given most input rest writer written out dropped later r → Prints reported printed write_failed_line exit.Fault ended ⊎ LacksMemory reported printed ended
@@ -70,7 +69,7 @@ unanswered first most given before input rest writer written out dropped later r
 
 -- ---- the SUBSCRIBE
 
--- it was sent, and there was a response
+-- the outcome if SUBSCRIBE was sent
 pub sent_some : (info : FrameworkInfo) (host : List ℕ) (writer written : Device) (first : List ℕ) (most : ℕ) (given : List Event) (reported printed : Device) (ended : RunOutcome)
     → info ≡ loopback_framework → host ≡ loopback_host → SentSubscribe info host writer written → AnswersLoop first most given reported printed ended
     → LoopsEvents first most given reported printed ended
@@ -84,7 +83,7 @@ sent_some info host writer written first most given reported printed ended same 
       answers,
     )
 
--- it was not sent, which was printed
+-- the outcome if SUBSCRIBE was not sent
 pub stopped_some : (info : FrameworkInfo) (host : List ℕ) (writer written : Device) (first : List ℕ) (most : ℕ) (given : List Event) (fault : SendFault) (reported printed : Device) (ended : RunOutcome)
     → info ≡ loopback_framework → host ≡ loopback_host → StopsSubscribe info host writer written fault → ReportsUnsent fault reported printed ended
     → LoopsEvents first most given reported printed ended

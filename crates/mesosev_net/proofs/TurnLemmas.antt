@@ -46,7 +46,6 @@ one_served n before between later given out reported printed sum more bytes r tu
     (turned_next n before between later given out reported printed sum more bytes turned
     (subst (λ (q : Result ℕ RunOutcome). ServesNext between given reported printed later q) is next) counted)
 
--- a new test master served them
 pub events_served : (first : List ℕ) (count : ℕ) (before : MasterState) (given : List Event) (out printed : Device) (ended : RunOutcome)
     → before ≡ new_master test_framework (ids_from first count) → ServesTurns before given count out printed ended → ServesEvents first count given out printed ended
 events_served first count before given out printed ended same turns =

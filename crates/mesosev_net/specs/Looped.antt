@@ -64,7 +64,7 @@ pub record ShowsSome (out printed : Device) (ended : RunOutcome) : Type 0 where
   pub rest : Device
   pub shows : ShowsAnswer MAX_READS input rest out printed ended
 
--- the response was printed; or there was none (encoding or an allocation failed), and one line
+-- the response was printed, or a line for a response that could not be encoded or allocated
 abbrev pub AnswersLoop : List ℕ → ℕ → List Event → Device → Device → RunOutcome → Type 0
 AnswersLoop first most given out printed ended =
     (ServesLoop first most given true × ShowsSome out printed ended)

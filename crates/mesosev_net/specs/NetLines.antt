@@ -17,7 +17,7 @@ accept_failed = codes "net accept failed\n"
 abbrev pub connect_failed : List ℕ
 connect_failed = codes "net connect failed\n"
 
--- one of the three
+-- one of the three lines
 abbrev pub IsNetLine : List ℕ → Type 0
 IsNetLine line = (line ≡ bind_failed) ⊎ (line ≡ accept_failed) ⊎ (line ≡ connect_failed)
 

@@ -16,7 +16,7 @@ pub record SubscribesSome (info : FrameworkInfo) (host : List ℕ) (reads : ℕ)
   pub written : Device
   pub subscribes : SubscribesOver info host reads input rest writer written out printed ended
 
--- the framework with this user and name was; or connecting or an allocation failed, and one line
+-- `SubscribesSome` for this user and name; or a line if connecting or an allocation failed
 unfoldable pub Subscribes : List ℕ → List ℕ → List ℕ → ℕ → Device → Device → RunOutcome → Type 0
 Subscribes host user name reads out printed ended =
     LacksMemory out printed ended ⊎ ReportsNet connect_failed out printed ended

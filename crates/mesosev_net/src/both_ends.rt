@@ -39,10 +39,10 @@ pub const LOOPBACK_STREAM: u128 = 0x4000_8000_0000_0000_0001;
 /// the same process, and prints what arrives. The stream has chunks of `most` bytes. The scheduler
 /// has the user `root` and the name `loopback`, and prints like `subscribe_over`.
 ///
-/// Prints one line with the status `Fault` for an error of the input, a failed connection, or a
-/// stream or SUBSCRIBE that cannot be encoded or sent (`net write failed`). Buffers all events and
-/// their encoded stream. Does not free the events and the master, because that took a tenth of the
-/// run time.
+/// Prints one line with the status `Fault` for an error of the input, a failed connection or a
+/// failed allocation. If the stream or SUBSCRIBE cannot be encoded or sent, the line is `net write
+/// failed`. Buffers all events and their encoded stream. Does not free the events and the master,
+/// because that took a tenth of the run time.
 pub fn loopback<R, I: Source, O: Sink>(
     rt: &R,
     most: ChunkSize,

@@ -34,7 +34,7 @@ const UNREAD_READ: usize = 4_096;
 const UNREAD_READS: u32 = 4_096;
 
 /// Reads events as plain RecordIO, then serves `count` connections on a port of 127.0.0.1, one
-/// after the other, as a test master of the framework `F1`. Its streams have consecutive ids from
+/// after the other. It is a test master of the framework `F1`. Its streams have consecutive ids from
 /// `stream`, and the events in chunks of `STREAM_CHUNK` bytes. Prints the lines of each connection
 /// like `serve_one`.
 ///

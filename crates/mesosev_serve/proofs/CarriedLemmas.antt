@@ -33,7 +33,7 @@ pub not_carried : (m : MasterState) (call : Call) (b : Bool) → (if b then carr
 not_carried m call true e = not_both (carried_out m call).status (carried_status m call) e
 not_carried m call false e = omega arith
 
--- with status 200 a stream is current
+-- after status 200 the master has a current stream
 pub ok_stream : (m : MasterState) (call : Call) (given : Option (List ℕ)) → (handled m call given).status ≡ 200 → HasStream (handled m call given)
 ok_stream m call given e = by _ (is_subscribe call) m.stream e
   where

@@ -5,7 +5,6 @@ use Rattle.mes_msg.specs.Event.{Event}
 use Rattle.mes_double_master.specs.Masters.{MasterState}
 use Rattle.mesosev_serve.specs.Opening.{Streamed, and_given, and_all_given}
 
--- the event at index i was given after those before it
 pub given_more : (s now then : Streamed) (events : List Event) (event : Event) (i : ℕ) → i < length events → event ≡ get_or events i event
     → now ≡ and_all_given s (take i events) → then ≡ and_given now event → then ≡ and_all_given s (take (i + 1) events)
 given_more s now then events event i inside here before next =

@@ -149,7 +149,7 @@ there-without d gone os h =
 
 -- ---- what a master has once some events went out
 
--- its state was m before the stream; the offers made and rescinded and the updates sent since
+-- the state of a master that was m before a stream with these offers, rescinds and updates
 record Known (m : MasterState) (offered rescinded : List Id) (owing : List (OwedKey × TaskStatus)) (now : MasterState) : Type 0 where
   pub offered_is : now.offered ≡ m.offered ++ offered
   pub owing_is : now.owing ≡ m.owing ++ owing
@@ -166,11 +166,9 @@ moved m now o p r q w v e f g k =
     (subst (λ (x : List (OwedKey × TaskStatus)). Known m o r x now) g k))
 
 module _ {X : Type 0} (f : Event → List X) (front : List Event) (e : Event) where
-  -- one more event
   brings : flat_map f front ++ f e ≡ flat_map f (front ++ e ∷ [])
   brings = flat_map_more f [] front e
 
-  -- one that adds nothing
   brings-none : f e ≡ [] → flat_map f front ≡ flat_map f (front ++ e ∷ [])
   brings-none none = sym (append-nil (flat_map f front)) ∙ ap (λ (l : List X). flat_map f front ++ l) (sym none) ∙ brings
 
@@ -228,7 +226,7 @@ module _ (m : MasterState) (o r : List Id) (w : List (OwedKey × TaskStatus)) (n
 
 -- ---- one event that is given
 
--- the event is skipped; or it is sent, which it may be, and the master's state is then `t`
+-- the given event e is skipped, or it is sent, which `May` permits, and `Later` holds of the master
 data Step (s t : Streamed) (e : Event) (May : Type 0) (Later : MasterState → Type 0) : Type 0 where
   skipped : t ≡ s → Step s t e May Later
   sent : t.events ≡ s.events ++ e ∷ [] → May → Later t.master → Step s t e May Later
@@ -315,7 +313,7 @@ module _ (m : MasterState) (front : List Event) (s : Streamed) (k : Stands m fro
 
 -- ---- several that are given
 
--- the events of them that are sent
+-- the given events that were sent on the stream
 record GoOut (m : MasterState) (front given : List Event) (s end : Streamed) : Type 0 where
   pub rest : List Event
   pub events : end.events ≡ s.events ++ rest
@@ -375,7 +373,7 @@ opens-one m call stream given e = by _ (is_subscribe call) m.stream e
 
 -- ---- the stream of a reply
 
--- the response, for status 200 or another
+-- the response of a master to a call: a stream, or another status
 abbrev served : MasterAnswer → List Event → Bool → Service
 served answer given b = if b then streamed answer.master.stream (and_all_given (opening answer) given) else record { reply = Status answer.status; master = answer.master }
 

@@ -29,14 +29,13 @@ stopped a b w f stops = record { out = front_of a.bytes b.bytes w f.sent stops.p
 
 -- ---- what a write says
 
--- a prefix of w was written
 front_stops : (a b : Device) (w : List ℕ) (f : WriteFault) → (f.sent < length w) × Appends a.bytes b.bytes (take f.sent w)
     → StopsWrite f.why a.counts b.counts → CallsFor (length w) a.counts b.counts → (g : WriteFault) × Stops a.bytes b.bytes a.counts b.counts w 0 g
 front_stops a b w f (short, out) why calls =
     let g : WriteFault = record f { sent = up 0 f.sent } in
     (g, part_stops a.bytes b.bytes a.counts b.counts w 0 g (record { n = f.sent; short = short; out = out; sent_is = refl }) why calls)
 
--- a prefix was written after the bytes v
+-- a write that fails after the bytes v
 behind_stops : (a b c : Device) (v w : List ℕ) (some : ℕ) (f : WriteFault) → WentOut a.bytes b.bytes a.counts b.counts v 0 some
     → WroteFront b.bytes c.bytes w f.sent → StopsWrite f.why b.counts c.counts → CallsFor (length w) b.counts c.counts
     → (g : WriteFault) × Stops a.bytes c.bytes a.counts c.counts (v ++ w) 0 g
@@ -56,7 +55,7 @@ head_stops T most id records a b f some out why calls =
     let head = front_stops a b (ok_text id) f out why calls in
     (framed.0, framed.1, (head.0, stopped a b (ok_text id ++ framed.0) head.0 (stops_long a.bytes b.bytes a.counts b.counts (ok_text id) framed.0 0 head.0 head.1)))
 
--- the head was written, and the chunks too, or not
+-- after the head was written
 module _ (most : ℕ) (id records : List ℕ) (a b c : Device) (out : Appends a.bytes b.bytes (ok_text id)) (good : NoneFails a.counts b.counts) (calls : CallsFor (length (ok_text id)) a.counts b.counts) where
   head : WentOut a.bytes b.bytes a.counts b.counts (ok_text id) 0 (up 0 (length (ok_text id)))
   head = part_out a.bytes b.bytes a.counts b.counts (ok_text id) 0 (up 0 (length (ok_text id))) out good refl calls

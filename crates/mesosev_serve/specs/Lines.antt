@@ -44,7 +44,7 @@ served_line status name = status ++ codes " " ++ name ++ codes "\n"
 abbrev pub write_failed_line : List ℕ
 write_failed_line = codes "net write failed\n"
 
--- one more line if the response could not be encoded or written; no status if memory ran out
+-- the lines of a connection; a second line if the response could not be encoded or written
 abbrev pub served_lines : {T : Type 0} → Reply → ParsedRequest → Result T SendError → List ℕ
 served_lines reply asked (Ok done) = served_line (reply_name reply) (asked_name asked)
 served_lines reply asked (Err unsent.NoMemory) = served_line (codes "-") (asked_name asked)

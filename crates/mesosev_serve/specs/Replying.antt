@@ -22,7 +22,7 @@ reply_to_fault fault.ShortBody = Nothing
 reply_to_fault fault.NoMemory = Nothing
 reply_to_fault _ = Status 400
 
--- a body that is not a call
+-- the response to a body that is not a call
 abbrev pub reply_to_text : RecordFault → Reply
 reply_to_text unread.NoMemory = Nothing
 reply_to_text _ = Status 400
@@ -32,7 +32,7 @@ pub record Service : Type 0 where
   pub reply : Reply
   pub master : MasterState
 
--- the response and the state are these
+-- this is the response, and this the state of the master after it
 abbrev pub IsService : Service → Reply → MasterState → Type 0
 IsService s reply later = (reply ≡ s.reply) × (later ≡ s.master)
 

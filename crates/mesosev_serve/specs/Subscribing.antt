@@ -24,11 +24,11 @@ use Rattle.mes_stream.specs.declared.stream_reader.Framing.TheVariants.{Chunked}
 abbrev pub first_subscribe : FrameworkInfo → Call
 first_subscribe info = subscribe_call None info
 
--- its request, without a stream id, was written completely
+-- the request with SUBSCRIBE, without a stream id, was written completely
 abbrev pub SentSubscribe : FrameworkInfo → List ℕ → Device → Device → Type 0
 SentSubscribe info host old new = WroteCall (λ (d : Device). d.bytes) (λ (d : Device). d.counts) host None (first_subscribe info) old new
 
--- it could not be encoded and nothing was written, or the writer failed in it
+-- SUBSCRIBE could not be encoded, and nothing was written; or the writer failed
 abbrev pub StopsSubscribe : FrameworkInfo → List ℕ → Device → Device → SendFault → Type 0
 StopsSubscribe info host old new fault = StopsCall (λ (d : Device). d.bytes) (λ (d : Device). d.counts) host None (first_subscribe info) old new fault
 

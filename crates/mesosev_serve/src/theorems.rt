@@ -14,13 +14,16 @@ ghost use Rattle.mesosev_serve.specs.Opening.{and_all_given, opening};
 /// - No offer of the stream was made before.
 /// - A RESCIND names an offer of the stream, and no two name the same one (`IsOneStream`).
 pub fn serve_laws()
+    // After status 200 the master has a current stream.
     ensures stream { (m : MasterState) (call : Call) (given : option (List ℕ))
         → (handled m call given).status ≡ 200
         → IsSome (handled m call given).master.stream }
+    // Only SUBSCRIBE has status 200; its stream meets `IsOneStream`.
     ensures opens { (m : MasterState) (call : Call) (stream : option (List ℕ)) (given : List Event)
         → (handled m call stream).status ≡ 200
         → (is_subscribe call ≡ true) × IsOneStream m given
         (and_all_given (opening (handled m call stream)) given).events }
+    // No RESCIND is sent twice.
     ensures once { (m : MasterState) (given front between back : List Event) (id : Id)
         → IsOneStream m given (front ++ (rescind_of id ∷ (between ++ (rescind_of id ∷ back)))) → ⊥ }
 {}

@@ -38,7 +38,6 @@ module _ {W : Type 0} (written : W → Option (List ℕ)) (counts : W → Counts
       → Sends limit most events (device_of written counts old) (device_of written counts new) err reported exit.Fault
   sends_none limit most events old new err reported fault stopped told = inr (fault, stops limit most events old new fault stopped, told, refl)
 
--- the events read were sent
 pub converts : (framing : Framing) (limit : ℕ) (most : Option ℕ) (input rest out written err reported : Device) (status : ExitStatus) (before events : List Event) (outcome : Result Report Stop) → before ≡ []
     → ((w : List ℕ) × (more : List Event) × Consumes input.bytes rest.bytes w × (events ≡ before ++ more)
     × EndsReading framing Spells IsEventRefusal limit MAX_READS input.counts rest.counts rest.bytes w more outcome)

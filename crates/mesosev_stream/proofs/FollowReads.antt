@@ -72,26 +72,25 @@ spelt_of framing limit f w piece values old now (Err (reading_stop.Fault fault))
     let used = s.used in
     (s.front, s.byte ∷ s.rest, s.is, omega (arith, last, whole, used, length-append s.front (s.byte ∷ s.rest)), inl (rw (added, none) s.live))
 
--- nothing was written
 none_out : (a : Device) (sent : ℕ) → sent ≡ 0 → WentOut a.bytes a.bytes a.counts a.counts [] 0 sent
 none_out a sent none = record { out = Appends-nil a.bytes; good = (refl, refl); count = omega (arith, none); calls = (omega arith, omega arith) }
 
 -- Some events were printed; the effect of printing more.
 module _ (events more : List Event) (before after : LineBuffer) (out mid new : Device) (none : before.held.items ≡ []) where
-  -- they are printed too
+  -- the lines of more events were written
   shown_more : (detail : Detail) (next : ℕ) → WentOut out.bytes mid.bytes out.counts mid.counts (printed_from detail 1 events) 0 before.sent → PrintsEvents detail before after mid new (1 + length events) more (Ok (All next))
       → WentOut out.bytes new.bytes out.counts new.counts (printed_from detail 1 (events ++ more)) 0 after.sent × (after.held.items ≡ []) × (next ≡ saturated ((1 + length events) + length more))
   shown_more Counts next shown h = (rw (h.0, h.1) shown, rw h.1 none, h.2)
   shown_more Lines next shown h =
       (rw (lines_both 1 events more) (both_out out.bytes mid.bytes new.bytes out.counts mid.counts new.counts (lines_from 1 events) (lines_from (1 + length events) more) 0 before.sent after.sent shown (rw none at h.0.0)), h.0.1, h.1)
 
-  -- the output failed inside them
+  -- the output failed in the lines of more events
   cut : (detail : Detail) (fault : WriteFault) → WentOut out.bytes mid.bytes out.counts mid.counts (printed_from detail 1 events) 0 before.sent → PrintsEvents detail before after mid new (1 + length events) more (Err fault)
       → (detail ≡ Lines) × IsCutOff out new (lines_from 1 events) (lines_from (1 + length events) more) fault.sent
   cut Counts fault shown h = absurd h
   cut Lines fault shown h = (refl, goes_then_stops out mid new (lines_from 1 events) (lines_from (1 + length events) more) before.sent fault shown (rw none at h))
 
-  -- an allocation failed for one of them
+  -- an allocation failed for one of the lines
   record Lacks : Type 0 where
     front : List Event
     event : Event
@@ -128,12 +127,12 @@ goes_start first out framing limit fresh = record {
   nothing Lines = none_out out first.lines.sent fresh.sent
 
 module _ (first d after : Follower) (out mid printed_out : Device) (w piece : List ℕ) (now : List Event) (before : GoesFrom first out d mid w) where
-  -- the result for one more piece
+  -- a call of the reading that consumed one more piece
   abbrev pub Takes : Result (Unit {0}) ReadingStop → Type 0
   Takes fed = (framing : Framing) (limit : ℕ) (v : List ℕ) (values : List Event) → ReadingRepresents HoldsData Spells d.reading framing limit v values
       → ReadingTakes HoldsData Spells IsEventRefusal after.reading framing limit v values piece d.events.items now fed
 
-  -- the result for its events
+  -- a call that printed the events of the piece
   abbrev pub Shows : Result Amount WriteFault → Type 0
   Shows result = (n : ℕ) → d.number ≡ saturated n → PrintsEvents d.detail d.lines after.lines mid printed_out n now result
 
@@ -201,7 +200,6 @@ outcome_printed Lines framing limit reads input rest out mid late w events outco
     let went = goes_counted out mid (lines_from 1 events) sent shown in
     (w, events, inl (outcome, (consumes, ends), prints_behind out mid late (lines_from 1 events) (outcome_line (length events) outcome ++ 10 ∷ []) sent (outcome_status outcome) ended went.0 went.1 prints))
 
--- a stream has no more events than bytes
 byte_few : (framing : Framing) (limit : ℕ) (w : List ℕ) (events : List Event) (outcome : Result Report Stop) → ByteEnds framing Spells IsEventRefusal limit w events outcome → length events ≤ length w
 byte_few framing limit w events (Ok report) at =
     let fewer = ends_few framing limit at.stream events at.ends in
@@ -222,7 +220,7 @@ module _ (framing : Framing) (limit reads : ℕ) (few : reads ≤ MAX_READS) (in
   abbrev pub HasEnded : ReadsEnd FollowStop → Type 0
   HasEnded end = EndsReads (GoesFrom first out now mid) (StopsFrom first out now mid) reads input.counts rest.counts rest.bytes w end
 
-  -- the stream was read to its end or an error
+  -- the outcome if the reading ended
   pub follows_outcome : (end : ReadsEnd FollowStop) (read : ReadsEnd ReadingStop) (outcome : Result Report Stop) (late : Device) (events : ℕ) (ended : RunOutcome) → HasEnded end → ended_of end ≡ Ok read → Means HoldsData Spells now.reading read outcome
       → events ≡ now.number - 1 → Prints mid late (outcome_line events outcome ++ 10 ∷ []) (outcome_status outcome) ended → Follows first.detail framing limit reads input rest out late (ended_after now.lines.sent ended)
   follows_outcome (Stopped (PrintError reason)) read outcome late events ended ends is means count prints =
@@ -256,7 +254,7 @@ module _ (framing : Framing) (limit reads : ℕ) (few : reads ≤ MAX_READS) (in
       let all = count ∙ counted reads reads now.number w s.events few asked.most asked.bytes fewer s.number in
       outcome_printed first.detail framing limit reads input rest out mid late w s.events outcome now.lines.sent ended consumes (inr (inr (inr (reported framing limit w s.events s.represents, asked)))) s.shown (rw all at prints)
 
-  -- the output failed in the lines of the last events
+  -- the outcome if the output failed in the lines of the last events
   pub follows_cut : (end : ReadsEnd FollowStop) (fault : WriteFault) → HasEnded end → ended_of end ≡ Err (why.Output fault) → Follows first.detail framing limit reads input rest out mid (OutputFailed fault.sent)
   follows_cut (Stopped (PrintError (why.Output reported))) fault (front, piece, at, stops, asked) is =
       let same : reported ≡ fault = cc in
@@ -268,7 +266,7 @@ module _ (framing : Framing) (limit reads : ℕ) (few : reads ≤ MAX_READS) (in
   follows_cut Failed fault ends is = absurd (cc)
   follows_cut Spent fault ends is = absurd (cc)
 
-  -- an allocation failed for the lines of one of them
+  -- the outcome if an allocation failed for the lines of one of them
   pub follows_lacking : (end : ReadsEnd FollowStop) (late : Device) (ended : RunOutcome) → HasEnded end → ended_of end ≡ Err why.NoMemory → Prints mid late (fault_text NoMemory 0 ++ 10 ∷ []) exit.Fault ended
       → Follows first.detail framing limit reads input rest out late (ended_after now.lines.sent ended)
   follows_lacking (Stopped (PrintError why.NoMemory)) late ended (front, piece, at, stops, asked) is prints =

@@ -15,7 +15,6 @@ use Rattle.mesosev_stream.specs.declared.follower.PrintProgress.TheVariants.{All
 use Rattle.mesosev_stream.specs.declared.line_buffer.LineBuffer.{LineBuffer}
 use Rattle.mesosev_stream.proofs.ShowLemmas.{lines_both, lines_to, lines_on}
 
--- nothing more is buffered
 pub holds_none : (b : LineBuffer) (a : Device) → HoldsText b b a a []
 holds_none b a = all_held a.bytes a.counts (b.held.items ++ []) b.held.items b.sent (sym (append-nil b.held.items))
 
@@ -29,7 +28,7 @@ holds_more first mid new a b c events x i n number inside is same before more =
     rw whole (passes_then a.bytes b.bytes c.bytes a.counts b.counts c.counts ((first.held.items ++ lines) ++ text) (mid.held.items ++ text) new.held.items first.sent mid.sent new.sent
     (passes_with a.bytes b.bytes a.counts b.counts (first.held.items ++ lines) mid.held.items text first.sent mid.sent before) (rw same at more))
 
--- the output failed inside them
+-- the output failed in the lines of the event
 pub holds_not : (first mid : LineBuffer) (a b c : Device) (events : List Event) (x : Event) (i n number : ℕ) (fault : WriteFault) → i < length events → x ≡ get_or events i x → number ≡ saturated (n + i)
     → HoldsText first mid a b (lines_from n (take i events)) → Stops b.bytes c.bytes b.counts c.counts (mid.held.items ++ event_lines number x) mid.sent fault
     → Stops a.bytes c.bytes a.counts c.counts (first.held.items ++ lines_from n events) first.sent fault
@@ -59,7 +58,7 @@ pub sends_shown : (first mid new : LineBuffer) (a b c : Device) (n : ℕ) (event
 sends_shown first mid new a b c n events (All next) (holds, is) out none = (sends first mid new a b c (lines_from n events) holds out none, is)
 sends_shown first mid new a b c n events NoMemory (front, event, rest, is, holds) out none = (front, event, rest, is, sends first mid new a b c (lines_from n front) holds out none)
 
--- the output failed inside them
+-- the output failed in the buffered lines
 pub sends_not : (first mid : LineBuffer) (a b c : Device) (n : ℕ) (events : List Event) (shown : PrintProgress) (fault : WriteFault) → ShowsFrom (HoldsText first mid a b) n events shown
     → Stops b.bytes c.bytes b.counts c.counts mid.held.items mid.sent fault → Stops a.bytes c.bytes a.counts c.counts (first.held.items ++ lines_from n events) first.sent fault
 sends_not first mid a b c n events (All next) fault (holds, is) stops =

@@ -22,11 +22,10 @@ pub goes_both : (a b c : Device) (v w : List ℕ) → GoesOut a b v → GoesOut 
 goes_both a b c v w first second =
     (Appends-trans a.bytes b.bytes c.bytes v w first.0 second.0, none_then_none a.counts b.counts c.counts first.1 second.1)
 
--- the bytes written are counted
 pub goes_counted : (a b : Device) (w : List ℕ) (sent : ℕ) → WentOut a.bytes b.bytes a.counts b.counts w 0 sent → GoesOut a b w × (sent ≡ saturated (length w))
 goes_counted a b w sent went = ((went.out, went.good), let count = went.count in omega (arith, count))
 
--- cut off after a text that was written
+-- a text is cut off after one that was written
 pub goes_then_cut : (a b c : Device) (u v w : List ℕ) (before sent : ℕ) → GoesOut a b u → before ≡ saturated (length u) → IsCutOff b c v w sent → IsCutOff a c (u ++ v) w (saturated (before + sent))
 goes_then_cut a b c u v w before sent first count cut =
     let is = cut.sent_is in
@@ -39,7 +38,7 @@ goes_then_cut a b c u v w before sent first count cut =
       stops = none_then_stops cut.why a.counts b.counts c.counts first.1 cut.stops;
     }
 
--- cut off in a prefix of the text
+-- a text that is cut off in a prefix is cut off
 pub cut_more : (a b : Device) (u v w : List ℕ) (sent : ℕ) → IsCutOff a b u v sent → IsCutOff a b u (v ++ w) sent
 cut_more a b u v w sent cut =
     let short = cut.short in
@@ -52,13 +51,13 @@ cut_more a b u v w sent cut =
       stops = cut.stops;
     }
 
--- printed after a text that was written
+-- a text is printed after one that was written
 pub prints_behind : (a b c : Device) (v w : List ℕ) (before : ℕ) (meant : ExitStatus) (ended : RunOutcome) → GoesOut a b v → before ≡ saturated (length v) → Prints b c w meant ended → PrintsAfter v a c w meant (ended_after before ended)
 prints_behind a b c v w before meant (Status status) first count (out, is) = (goes_both a b c v w first out, is)
 prints_behind a b c v w before meant (OutputFailed sent) first count cut =
     subst (λ (u : List ℕ). IsCutOff a c u w (saturated (before + sent))) (append-nil v) (goes_then_cut a b c v [] w before sent first count cut)
 
--- cut off after a text that was written, as the writer reports it
+-- a text is cut off after one that was written, as the writer reports it
 pub goes_then_stops : (a b c : Device) (v w : List ℕ) (before : ℕ) (fault : WriteFault) → WentOut a.bytes b.bytes a.counts b.counts v 0 before → Stops b.bytes c.bytes b.counts c.counts w before fault → IsCutOff a c v w fault.sent
 goes_then_stops a b c v w before fault first stops =
     let count = first.count in

@@ -54,7 +54,7 @@ PrintsEvents Lines before after old new number events (Ok done) = ShowsFrom (Sen
 PrintsEvents Lines before after old new number events (Err fault) =
     Stops old.bytes new.bytes old.counts new.counts (before.held.items ++ lines_from number events) before.sent fault
 
--- before the first byte
+-- the follower has not consumed a byte
 pub record IsFresh (d : Follower) (framing : Framing) (limit : ℕ) : Type 0 where
   pub represents : ReadingRepresents HoldsData Spells d.reading framing limit [] []
   pub number : d.number ≡ 1
@@ -62,7 +62,7 @@ pub record IsFresh (d : Follower) (framing : Framing) (limit : ℕ) : Type 0 whe
   pub lines : d.lines.held.items ≡ []
   pub sent : d.lines.sent ≡ 0
 
--- the events were printed completely
+-- the lines of the events were printed completely
 abbrev pub HasPrinted : Detail → Device → Device → Follower → List Event → Type 0
 HasPrinted detail out printed d events = WentOut out.bytes printed.bytes out.counts printed.counts (printed_from detail 1 events) 0 d.lines.sent
 
@@ -76,7 +76,7 @@ pub record Followed (detail : Detail) (framing : Framing) (limit : ℕ) (out pri
   pub lines : d.lines.held.items ≡ []
   pub detail_is : d.detail ≡ detail
 
--- a byte of w ended the stream or is an error, and the events before it were printed
+-- the stream ended, or an error was detected, in w; the events before that were printed
 pub record FollowedTo (detail : Detail) (framing : Framing) (limit : ℕ) (out printed : Device) (d : Follower) (w : List ℕ) (stop : ReadingStop) : Type 0 where
   pub events : List Event
   pub ends : ByteEnds framing Spells IsEventRefusal limit w events (reported_as d.reading stop)

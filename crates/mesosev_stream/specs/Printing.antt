@@ -41,7 +41,7 @@ abbrev pub PrintsText : {T : Type 0} → Device → Device → List ℕ → Resu
 PrintsText old new text (Ok done) = GoesOut old new text
 PrintsText old new text (Err fault) = IsCutOff old new [] text fault.sent × StopsWrite fault.why old.counts new.counts
 
--- `PrintsText` with either result
+-- `PrintsText` for an output whose errors are ignored
 abbrev pub Tells : Device → Device → List ℕ → Type 0
 Tells old new text = (printed : Result (Unit {0}) WriteFault) × PrintsText old new text printed
 
