@@ -68,7 +68,7 @@ impl<R: RecordReader> ChunkedBody<R> {
         taken
     }
 
-    // Like [`consume`](Self::consume), if the next byte is not data.
+    // Like `consume`, if the next byte is not data.
     fn take_between(&mut self, rest: &[u8]) -> Step<(), PackedFault>
         requires some { 0 < length rest.now }
         requires none { remaining_of self.old.chunks ≡ 0 }

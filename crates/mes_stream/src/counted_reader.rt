@@ -97,8 +97,8 @@ impl<R: RecordReader> Reading<R> {
         self.stream.held()
     }
 
-    /// Decodes one read up to the end of a record. Returns `None` if no record ends in it, and an
-    /// error if the stream ended or has an error. No bytes may be given after that.
+    /// Decodes one read up to the end of a record. Returns `Ok(None)` if no record ends in it.
+    /// Returns `Err` once the stream has ended or has an error; no bytes may be given after that.
     pub fn next(&mut self, piece: &[u8]) -> Result<Option<EndedRecord<R::Value>>, ReadingStop>
         requires { length piece.now ≤ MAX_READ }
         // On success: a record ended, or the whole piece was used. Each error, and when.
@@ -124,8 +124,8 @@ impl<R: RecordReader> Reading<R> {
         }
     }
 
-    /// Decodes one read, and appends the values of the records that end in it. Returns an error if
-    /// the stream ended or has an error.
+    /// Decodes one read, and appends the values of the records that end in it. Returns `Err` once
+    /// the stream has ended or has an error; no bytes may be given after that.
     pub fn feed(&mut self, piece: &[u8], values: &mut Vec<R::Value>) -> Result<(), ReadingStop>
         requires { length piece.now ≤ MAX_READ }
         // On success: the whole piece was used. Each error, and when; the values before it are

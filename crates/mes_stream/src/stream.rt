@@ -83,7 +83,7 @@ pub fn read_events<S: Source>(
     read_records(reader, framing, records, limit, max_reads, events)
 }
 
-// Like [`read_events`], for any reader of records before its first byte.
+// Like `read_events`, for any reader of records before its first byte.
 fn read_records<R: RecordReader, S: Source>(
     reader: &mut S,
     framing: Framing,

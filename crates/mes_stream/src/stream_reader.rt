@@ -204,7 +204,7 @@ impl<R: RecordReader> StreamReader<R> {
         }
     }
 
-    // Decodes a piece like [`next`](Self::next), but does not decode the value of a record that
+    // Decodes a piece like `next`, but does not decode the value of a record that
     // ended.
     fn advance(&mut self, piece: &[u8]) -> Step<(), PackedFault>
         ensures reports { (ahead : ℕ) (framing : FramingValue) (limit : ℕ) (w : List ℕ)
@@ -265,7 +265,7 @@ impl<R: RecordReader> StreamReader<R> {
         }
     }
 
-    // Like [`end_record`](Self::end_record), but appends the value to a list.
+    // Like `end_record`, but appends the value to a list.
     fn end_record_into(&mut self, values: &mut Vec<R::Value>) -> Result<(), RecordError>
         ensures ends { (r : List ℕ) → R.holds (body_of self.old).reader r → length r < 2 ^ 64
             → EndsInto R.holds R.spells R.breaks (body_of self.old) (body_of self.new) r

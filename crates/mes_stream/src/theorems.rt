@@ -139,6 +139,7 @@ pub fn one_answer()
 /// Proves that the result of a decoder does not depend on how the bytes are cut into pieces. The
 /// events, the end or error and the number of bytes used are the same, if no allocation fails.
 pub fn one_decoding()
+    // The same concatenated pieces, the same outcome.
     ensures { (limit : ℕ) (first second : DecoderValue ReaderValue) (pieces others : List (List ℕ))
         (calls more : List (ℕ × Answer EventValue Fault)) (outcome other : DecodeOutcome)
         → DecoderRepresents HoldsData Spells first limit [] []
@@ -153,6 +154,7 @@ pub fn one_decoding()
 /// the end or error, the number of bytes used and the bytes after the end are the same. The
 /// condition: no read and no allocation fails, and the reads suffice.
 pub fn one_stream_outcome()
+    // The same bytes of the device, the same events and result.
     ensures { (limit : ℕ) (w : List ℕ) (events others : List EventValue)
         (outcome other : Result Report Stop) (a : AnswersStream limit w events outcome)
         (b : AnswersStream limit w others other)
@@ -164,6 +166,7 @@ pub fn one_stream_outcome()
 
 /// Like [`one_stream_outcome`], for `read_plain`.
 pub fn one_plain_outcome()
+    // The same bytes of the device, the same events and result.
     ensures { (limit : ℕ) (w : List ℕ) (events others : List EventValue)
         (outcome other : Result Report Stop) (a : AnswersPlain limit w events outcome)
         (b : AnswersPlain limit w others other)

@@ -34,9 +34,9 @@ const UNREAD_READ: usize = 4_096;
 const UNREAD_READS: u32 = 4_096;
 
 /// Reads events as plain RecordIO, then serves `count` connections on a port of 127.0.0.1, one
-/// after the other. It is a test master of the framework `F1`. Its streams have consecutive ids from
-/// `stream`, and the events in chunks of `STREAM_CHUNK` bytes. Prints the lines of each connection
-/// like `serve_one`.
+/// after the other. It is a test master of the framework `F1`. Its streams have consecutive ids
+/// from `stream`, and the events in chunks of `STREAM_CHUNK` bytes. Prints the lines of each
+/// connection like `serve_one`.
 ///
 /// A connection is closed before the next is accepted; no client can end the run. Prints an error
 /// of the input, or of the socket, with the status `Fault`. Buffers all events, and the encoded

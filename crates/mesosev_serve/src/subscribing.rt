@@ -127,6 +127,7 @@ fn show_stream<R: Source, O: Sink>(
 /// Prints that a SUBSCRIBE was not sent: `net write failed`, or F13 after 0 bytes if an allocation
 /// failed. The status is `Fault`.
 pub fn report_unsent<O: Sink>(out: &mut O, fault: &SendFault) -> RunOutcome
+    // The line printed, and the outcome.
     ensures { ReportsUnsent fault.now (device_of O.written O.counts out.old)
         (device_of O.written O.counts out.new) result }
 {

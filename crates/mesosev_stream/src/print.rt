@@ -20,6 +20,7 @@ use mes_stream::{
 ///
 /// Errors: the output failed, or wrote 0 bytes, before the last of them.
 pub fn print_bytes<O: Sink>(out: &mut O, bytes: &[u8]) -> Result<(), WriteFault>
+    // On success: all bytes were written. On an error: exactly those before it.
     ensures { PrintsText (device_of O.written O.counts out.old)
         (device_of O.written O.counts out.new) bytes.now result }
 {
@@ -30,6 +31,7 @@ pub fn print_bytes<O: Sink>(out: &mut O, bytes: &[u8]) -> Result<(), WriteFault>
 ///
 /// Errors: like [`print_bytes`].
 pub fn print_text<O: Sink>(out: &mut O, text: &str) -> Result<(), WriteFault>
+    // On success: the text was written. On an error: exactly the bytes before it.
     ensures { PrintsText (device_of O.written O.counts out.old)
         (device_of O.written O.counts out.new) text.now result }
 {
@@ -41,6 +43,7 @@ pub fn print_text<O: Sink>(out: &mut O, text: &str) -> Result<(), WriteFault>
 /// Errors: like [`print_bytes`].
 pub fn print_line<O: Sink>(out: &mut O, line: &str) -> Result<(), WriteFault>
     requires { length line.now ≤ MAX_FAULT_LINE }
+    // On success: the line and LF were written. On an error: exactly the bytes before it.
     ensures { PrintsText (device_of O.written O.counts out.old)
         (device_of O.written O.counts out.new) (line.now ++ 10 ∷ []) result }
 {
@@ -65,6 +68,7 @@ pub(crate) fn print_count<O: Sink>(out: &mut O, events: u64, used: u64) -> Resul
 ///
 /// Errors: like [`print_bytes`].
 pub fn print_fault<O: Sink>(out: &mut O, fault: &Fault, used: u64) -> Result<(), WriteFault>
+    // On success: the line and LF were written. On an error: exactly the bytes before it.
     ensures { PrintsText (device_of O.written O.counts out.old)
         (device_of O.written O.counts out.new)
         (fault_text fault.now used ++ 10 ∷ []) result }
@@ -78,6 +82,7 @@ pub fn print_fault<O: Sink>(out: &mut O, fault: &Fault, used: u64) -> Result<(),
 ///
 /// Errors: like [`print_bytes`].
 pub fn print_send_fault<O: Sink>(out: &mut O, fault: &SendFault) -> Result<(), WriteFault>
+    // On success: the line and LF were written. On an error: exactly the bytes before it.
     ensures { PrintsText (device_of O.written O.counts out.old)
         (device_of O.written O.counts out.new)
         (send_text fault.now ++ 10 ∷ []) result }
@@ -106,6 +111,7 @@ pub fn report_outcome<O: Sink>(
 
 /// Prints F13 after 0 bytes: an allocation failed. The status is `Fault`.
 pub fn out_of_memory<O: Sink>(out: &mut O) -> RunOutcome
+    // The line printed, and the outcome.
     ensures { LacksMemory (device_of O.written O.counts out.old)
         (device_of O.written O.counts out.new) result }
 {
