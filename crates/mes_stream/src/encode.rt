@@ -15,7 +15,7 @@ use mes_msg_record::canonical_into;
 use std::alloc::Global;
 
 /// Encodes events as consecutive records of their canonical JSON. Errors: the first event that is
-/// too deep or that no record of `limit` bytes can hold; or a failed allocation.
+/// nested too deeply or that no record of `limit` bytes can hold; or a failed allocation.
 pub fn encode_events(alloc: Global, events: &[Event], limit: Limit) -> Result<Vec<u8>, SendFault>
     ensures ok { IfOk result (λ body. IsPlainOf limit events.now body.items) }
     ensures err { IfErr result (IsUnsent limit events.now) }

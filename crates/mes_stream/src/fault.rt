@@ -127,6 +127,6 @@ pub struct Report {
 pub struct Stop {
     /// The error.
     pub fault: Fault,
-    /// The number of bytes used, up to and including the byte at which the error was detected.
+    /// The number of bytes used, including the byte at which an invalid input was detected.
     pub used: u64,
 }

@@ -11,8 +11,8 @@ use mes_json::TextFaultKind;
 use mes_model_schema::{BoxedFault, FieldFault};
 use std::marker::Model;
 
-/// An error in compact form: a path is stored in separate memory. Each step of decoding returns
-/// space for an error, so that it must be small. In contracts its value is the [`Fault`].
+/// An error in compact form. The result of every step has room for one, so a path is stored in
+/// separate memory. In contracts its value is the [`Fault`].
 #[derive(Drop)]
 pub struct PackedFault {
     kind: Kind,

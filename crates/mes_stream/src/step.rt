@@ -10,8 +10,8 @@ use mes_json::NoMemoryAt;
 /// The result of decoding a piece of a stream.
 #[derive(Drop)]
 pub struct Step<V, F = Fault> {
-    /// The number of bytes of the piece used. The last of them is the byte that ended a record or
-    /// the stream, or at which an error was detected.
+    /// The number of bytes of the piece used. A record, the stream or an error ends at the last of
+    /// them.
     pub used: usize,
     /// The meaning of these bytes.
     pub out: Decoded<V, F>,
@@ -26,7 +26,7 @@ pub enum Decoded<V, F = Fault> {
     Event(V),
     /// The last of them ended the stream.
     End,
-    /// An error was detected at the last of them, or an allocation failed there.
+    /// An error was detected, or an allocation failed, at the last of them.
     Fault(F),
 }
 

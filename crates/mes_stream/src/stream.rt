@@ -39,9 +39,8 @@ pub fn read_plain<S: Source>(
     read_events(alloc, reader, Framing::Plain, limit, max_reads, events)
 }
 
-/// Reads a chunked stream to its end, and appends its events to `events`, which keeps those before
-/// an error. Makes at most `max_reads` reads of at most `MAX_READ` bytes each. The report has the
-/// bytes of the last read after the end.
+/// Like [`read_plain`], for a chunked stream, up to the end of its body. The report has the bytes
+/// of the last read after that end.
 pub fn read_stream<S: Source>(
     alloc: Global,
     reader: &mut S,
