@@ -13,11 +13,11 @@
 
 mod batch;
 mod breach;
-mod coverage;
 mod key;
 mod offer_list;
 mod other_tasks;
-mod shared;
+mod range_walk;
+mod shared_pieces;
 mod supply;
 mod task_group;
 mod theorems;

@@ -10,7 +10,7 @@ ghost use Rattle.mes_session_fit.specs.Looking.{Meets};
 
 use crate::batch::Batch;
 use crate::key::same_key;
-use crate::shared::{groups_meet, tasks_meet};
+use crate::shared_pieces::{groups_meet, tasks_meet};
 use crate::task_group::TaskGroup;
 use mes_model::{Resource, ResourceValue, TaskInfo};
 

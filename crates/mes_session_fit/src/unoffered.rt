@@ -6,10 +6,10 @@ ghost use Rattle.mes_session_fit.specs.Fits.{in_range, in_ranges, in_items, piec
 ghost use Rattle.mes_session_fit.specs.Fits.Piece.{point, item as item_piece};
 ghost use Rattle.mes_session_fit.specs.Looking.{Lacks, Reaches};
 
-use crate::coverage::{farther_end, offer_reach, range_reach, resource_reach};
 use crate::key::same_key;
 use crate::offer_list::OfferList;
-use crate::shared::has_item;
+use crate::range_walk::{farther_end, offer_reach, range_reach, resource_reach};
+use crate::shared_pieces::has_item;
 use mes_json::Text;
 use mes_model::{Range, Resource, ResourceValue};
 

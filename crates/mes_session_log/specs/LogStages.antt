@@ -5,8 +5,8 @@ use Rattle.mes_stream.specs.Reading.{ReadingRepresents, ReadingRepresentsAfter, 
 use Rattle.mes_stream.specs.declared.fault.Fault.TheVariants.{NoMemory, Read, ReadsSpent}
 use Rattle.mes_stream.specs.declared.fault.Report.{Report}
 use Rattle.mes_stream.specs.declared.fault.Stop.{Stop}
-use Rattle.mes_stream.specs.declared.device.ReadsEnd.{ReadsEnd}
-use Rattle.mes_stream.specs.declared.device.ReadsEnd.TheVariants.{Stopped, AtEnd, Failed, Spent}
+use Rattle.mes_stream.specs.declared.read_loop.ReadsEnd.{ReadsEnd}
+use Rattle.mes_stream.specs.declared.read_loop.ReadsEnd.TheVariants.{Stopped, AtEnd, Failed, Spent}
 use Rattle.mes_stream.specs.declared.counted_reader.ReadingStop.{ReadingStop}
 use Rattle.mes_stream.specs.declared.stream_reader.Framing.TheVariants.{Plain}
 use Rattle.mes_session_log_entry.specs.Entries.{SpellsFirst, SpellsEntry}

@@ -9,8 +9,8 @@ use Rattle.mes_frame.specs.Counts.{up, up_if}
 use Rattle.mes_frame.specs.declared.counts.Counts.{Counts}
 use Rattle.mes_stream.specs.Reads.{ReadsMade, EndsReads}
 use Rattle.mes_stream.specs.declared.limits.TheConstants.{MAX_READ}
-use Rattle.mes_stream.specs.declared.device.ReadsEnd.{ReadsEnd}
-use Rattle.mes_stream.specs.declared.device.ReadsEnd.TheVariants.{Stopped, AtEnd, Failed, Spent}
+use Rattle.mes_stream.specs.declared.read_loop.ReadsEnd.{ReadsEnd}
+use Rattle.mes_stream.specs.declared.read_loop.ReadsEnd.TheVariants.{Stopped, AtEnd, Failed, Spent}
 
 -- after some reads: `Goes` holds of the bytes w read, and no read failed
 pub record Reads (Goes : List ℕ → Type 0) (first now : Option (List ℕ)) (old new : Counts) (reads : ℕ) : Type 0 where

@@ -20,8 +20,8 @@ use Rattle.mes_stream.specs.declared.counted_reader.EndedRecord.{EndedRecord}
 use Rattle.mes_stream.specs.declared.counted_reader.Reading.{Reading}
 use Rattle.mes_stream.specs.declared.counted_reader.ReadingStop.{ReadingStop}
 use Rattle.mes_stream.specs.declared.counted_reader.ReadingStop.TheVariants as reading_stop
-use Rattle.mes_stream.specs.declared.device.ReadsEnd.{ReadsEnd}
-use Rattle.mes_stream.specs.declared.device.ReadsEnd.TheVariants.{Stopped, AtEnd, Failed, Spent}
+use Rattle.mes_stream.specs.declared.read_loop.ReadsEnd.{ReadsEnd}
+use Rattle.mes_stream.specs.declared.read_loop.ReadsEnd.TheVariants.{Stopped, AtEnd, Failed, Spent}
 use Rattle.mes_stream.specs.declared.stream_reader.Framing.{Framing}
 use Rattle.mes_stream.specs.declared.stream_reader.Framing.TheVariants.{Plain, Chunked}
 

@@ -4,8 +4,8 @@ use Rattle.std.specs.Io.KnownBytes.{IsAtEnd}
 use Rattle.mes_frame.specs.Counts.{up}
 use Rattle.mes_frame.specs.declared.counts.Counts.{Counts}
 use Rattle.mes_stream.specs.declared.limits.TheConstants.{MAX_READ}
-use Rattle.mes_stream.specs.declared.device.ReadsEnd.{ReadsEnd}
-use Rattle.mes_stream.specs.declared.device.ReadsEnd.TheVariants.{Stopped, AtEnd, Failed, Spent}
+use Rattle.mes_stream.specs.declared.read_loop.ReadsEnd.{ReadsEnd}
+use Rattle.mes_stream.specs.declared.read_loop.ReadsEnd.TheVariants.{Stopped, AtEnd, Failed, Spent}
 
 -- `made` reads, at most `reads`, gave w, at most 512 bytes each; some failed or reported the end
 pub record ReadsMade (reads : ℕ) (old new : Counts) (w : List ℕ) (made failed ended : ℕ) : Type 0 where

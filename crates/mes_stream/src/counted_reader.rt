@@ -9,10 +9,10 @@ ghost use Rattle.mes_stream.specs.Stream.{saturated};
 ghost use Rattle.mes_stream.specs.StreamReaders.{KeepsNoneAfterStop};
 ghost use Rattle.mes_stream.specs.declared.stream_reader.Framing.{Framing as FramingValue};
 
-use crate::device::{Consumer, ReadsEnd};
 use crate::fault::{Fault, Report, Stop};
 use crate::limits::{MAX_READ, MAX_REST};
 use crate::packed_fault::PackedFault;
+use crate::read_loop::{Consumer, ReadsEnd};
 use crate::record_reader::RecordReader;
 use crate::step::{Decoded, Step};
 use crate::stream_reader::{Framing, StreamReader};

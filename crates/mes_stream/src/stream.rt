@@ -9,9 +9,9 @@ ghost use Rattle.mes_stream.specs.Refusals.{IsEventRefusal};
 ghost use Rattle.mes_msg.specs.Event.{Event as EventValue};
 
 use crate::counted_reader::Reading;
-use crate::device::read_device;
 use crate::event_reader::EventReader;
 use crate::fault::{Fault, Report, Stop};
+use crate::read_loop::read_device;
 use crate::record_reader::RecordReader;
 use crate::stream_reader::Framing;
 use mes_frame::{Limit, Source};

@@ -1,14 +1,12 @@
 //! The program `mesosev`: decodes, prints and encodes event streams of the Apache Mesos v1
-//! scheduler API. `run.rt` has the command over any devices, the crates `mesosev_*` its
-//! subcommands.
+//! scheduler API. `exit_status.rt` numbers its exit status. `run.rt` has the command over any
+//! devices, the crates `mesosev_*` its subcommands.
 #![tactic(auto)]
 
+mod exit_status;
 mod run;
 
-ghost use Rattle.std.specs.Prelude.{◌≡◌};
-ghost use Rattle.std.specs.Process.{exit_status};
-ghost use Rattle.mesosev.specs.Running.{status_number};
-
+use exit_status::exit_code;
 use mes_frame::FromStd;
 use mesosev_stream::{ExitStatus, Output};
 use run::{end_without_memory, end_without_text, run};
@@ -22,17 +20,6 @@ const READ_AHEAD: usize = 16_384;
 
 fn main(rt: HostRuntime) -> ExitCode {
     exit_code(run_process(&rt))
-}
-
-/// Returns the exit status as a number: 0 without an error, 1 for an error, 2 for a usage error.
-fn exit_code(status: ExitStatus) -> ExitCode
-    ensures { exit_status result ≡ status_number status }
-{
-    ExitCode::from(match status {
-        ExitStatus::Success => 0,
-        ExitStatus::Fault => 1,
-        ExitStatus::Usage => 2,
-    })
 }
 
 /// Runs the command with the arguments and the standard streams of the process.

@@ -17,7 +17,7 @@ mod check;
 mod command;
 mod convert;
 mod loopback;
-mod named;
+mod parsing;
 mod relog;
 mod replay;
 mod serve;
@@ -30,4 +30,4 @@ pub use args::{
     MAX_CONNECTIONS, MAX_PORT, MAX_SUBSCRIBE_READS, MIN_CONNECTIONS, MIN_PORT, MIN_SUBSCRIBE_READS,
     Options, VERSION, WordsFault,
 };
-pub use named::options;
+pub use parsing::options;

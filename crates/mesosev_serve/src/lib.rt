@@ -11,8 +11,8 @@
 //! `mesosev_serve_tests`.
 
 mod connection;
-mod handshake;
 mod lines;
+mod opening_events;
 mod outgoing;
 mod request;
 mod respond;

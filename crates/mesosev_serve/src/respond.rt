@@ -7,7 +7,7 @@ ghost use Rattle.mes_double_master.specs.Memory.{MayWantMemory};
 ghost use Rattle.mesosev_serve.specs.Opening.{so_far, and_all_given};
 ghost use Rattle.mesosev_serve.specs.Replying.{Replies, IsService, Lacks, reply_to_fault, reply_to_text, service, streamed};
 
-use crate::handshake::send_all;
+use crate::opening_events::send_all;
 use crate::outgoing::Outgoing;
 use crate::request::ParsedRequest;
 use crate::response::Reply;

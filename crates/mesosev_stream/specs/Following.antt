@@ -11,8 +11,8 @@ use Rattle.mes_stream.specs.Reading.{ReadingRepresents, ByteEnds, reported_as}
 use Rattle.mes_stream.specs.Refusals.{IsEventRefusal}
 use Rattle.mes_stream.specs.Stream.{saturated}
 use Rattle.mes_stream.specs.declared.counted_reader.ReadingStop.{ReadingStop}
-use Rattle.mes_stream.specs.declared.device.ReadsEnd.{ReadsEnd}
-use Rattle.mes_stream.specs.declared.device.ReadsEnd.TheVariants.{Stopped, AtEnd, Failed, Spent}
+use Rattle.mes_stream.specs.declared.read_loop.ReadsEnd.{ReadsEnd}
+use Rattle.mes_stream.specs.declared.read_loop.ReadsEnd.TheVariants.{Stopped, AtEnd, Failed, Spent}
 use Rattle.mes_stream.specs.declared.stream_reader.Framing.{Framing}
 use Rattle.mesosev_stream.specs.Printing.{IsCutOff}
 use Rattle.mesosev_stream.specs.Showing.{lines_from, printed_from, Spelt}

@@ -1,9 +1,0 @@
-use Rattle.std.proofs.Common.{◌≡◌, length}
-use Rattle.mes_stream.proofs.ReadLemmas.{Reads}
-use Rattle.mes_stream.proofs.device.read_device.Given as goal
-use Rattle.mes_stream.specs.declared.limits.TheConstants.{MAX_READ}
-
-abbrev pub invariant-reads : goal.invariant-reads
-invariant-reads g l =
-    (length l.buffer ≡ MAX_READ)
-    × Reads (g.C.Consumer.goes l.fn.consumer l.fn.to l.consumer l.to) (g.S.Source.left l.fn.source) (g.S.Source.left l.source) (g.S.Source.counts l.fn.source) (g.S.Source.counts l.source) l.counter
