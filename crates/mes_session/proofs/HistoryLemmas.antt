@@ -43,7 +43,7 @@ key-exact k l e =
 pub key-self : (k : OwedKey) → same_key k k ≡ true
 key-self k = rw (name-self k.agent.value, name-self k.task.value, name-self k.uuid) refl
 
--- ---- an entry that removes a key brings nothing of it
+-- ---- an entry that removes a key brings no items of any key
 
 pub hand-idle : (name : List ℕ) (e : Entry) → takes_offer name e ≡ true → offers_of e ≡ []
 hand-idle name (Heard (heard.Subscribed s)) t = refl
@@ -63,7 +63,7 @@ owed-idle key (Heard event) t = absurd (cc)
 owed-idle key (Said call) t = refl
 owed-idle key Broken t = refl
 
--- ---- the stream
+-- ---- the framework, and whether the stream is connected, after one more entry
 
 module _ {E : Type 0} (test : E → Bool) where
   after_last-push : (h : List E) (e : E) → after_last test (h ++ e ∷ []) ≡ (if test e then [] else after_last test h ++ e ∷ [])
@@ -96,7 +96,7 @@ connected-push h e = ap (list_any subscribes) (after_last-push breaks h e) ∙ g
     go true = refl
     go false = list_any-append subscribes (after_last breaks h) (e ∷ []) ∙ tail (list_any subscribes (after_last breaks h)) (subscribes e)
 
--- ---- the state
+-- ---- each history leads to exactly one state, and one more entry changes it by `after`
 
 pub Represents-nil : Represents [] at_first
 Represents-nil = record {

@@ -1,4 +1,4 @@
--- The retained items after one more entry.
+-- Lemmas about the retained items of a history after one more entry.
 use Rattle.std.proofs.Common.{◌≡◌, ℕ, zero, suc, ◌+◌, ◌-◌, ◌≤◌, ◌<◌, Bool, true, false, not, cond, if◌then◌else◌, ◌⊎◌, inl, inr, Option, Some, None, List, [], ◌∷◌, ◌++◌, length, reverse, refl, sym, ◌∙◌, ap, subst, arith, append_assoc, append-nil, length-append, take, drop}
 use Rattle.std.specs.List.{AllPairs, find, position_or_len, filter, fold, prefix_len, take_while, slice_index_or}
 use Rattle.std.specs.Option.{option_or}
@@ -10,7 +10,7 @@ use mathlib.Core.List.{reverse-cons}
 use Rattle.mes_session.specs.Kept.{after_last, brought, since, place_of, IsKept}
 use Rattle.mes_session_state.specs.Keeping.{put}
 
--- ---- numbers that rise from one bound to another
+-- ---- `Up`: the numbers of the elements rise, from `low` to below `high`
 
 module _ {X : Type 0} where
   abbrev pub Up : (X → ℕ) → ℕ → ℕ → List X → Type 0
@@ -40,7 +40,7 @@ module _ {X : Type 0} where
       go true e rest = let same : g x ≡ f x = agree x e in (omega arith, subst (λ (n : ℕ). Up g (n + 1) high (filter p xs)) (sym same) rest)
       go false e rest = Up-low g (f x + 1) low high (filter p xs) (omega arith) rest
 
-  -- ---- as pairs
+  -- ---- `Up` if and only if the numbers of each pair of elements rise
 
   Up-at : (f : X → ℕ) (low high : ℕ) (xs : List X) (i : ℕ) (d : X) → Up f low high xs → i < length xs → low ≤ f (slice_index_or xs i d)
   Up-at f low high [] i d u h = absurd (omega arith)
@@ -67,7 +67,7 @@ module _ {X : Type 0} where
             (λ i j d h k. p (suc i) (suc j) d (omega arith) (omega arith)),
       )
 
--- ---- the first that passes, and its index
+-- ---- the first element that passes a test, and its index
 
 module _ {X : Type 0} (p : X → Bool) where
   none-parts : (xs ys : List X) → find p (xs ++ ys) ≡ None → (find p xs ≡ None) × (find p ys ≡ None)
@@ -127,7 +127,7 @@ module _ {X : Type 0} (p : X → Bool) where
       go false n t = absurd (cc)
   at-none (x ∷ xs) e (suc i) d h t = at-none xs (none-parts (x ∷ []) xs e).1 i d (omega arith) t
 
--- ---- items that are added and removed
+-- ---- the retained items after adding an item, and after removing keys
 
 module _ {K X : Type 0} (same : K → K → Bool) (key : X → K) (exact : (a b : K) → same a b ≡ true → a ≡ b) (self : (a : K) → same a a ≡ true) where
   pub find-put : (k : K) (x : X) (xs : List X) → find (λ y. same k (key y)) (put same key xs x) ≡ cond (same k (key x)) (Some x) (find (λ y. same k (key y)) xs)
@@ -195,7 +195,7 @@ module _ {K X : Type 0} (same : K → K → Bool) (key : X → K) (exact : (a b 
           )
       go false e f rest = (omega (arith, old), subst (λ (m : ℕ). Up (λ (z : X). later (key z)) (m + 1) (n + 1) (put same key ys x)) (sym old) (rest f))
 
-  -- ---- what was brought and not removed, key by key, and the items left of it
+  -- ---- `At`: the retained items, from the items that were brought since each key was last removed
 
   pub record At (run : K → List X) (before : K → ℕ) (n : ℕ) (xs : List X) : Type 0 where
     pub sums : (k : K) → before k + length (run k) ≡ n
@@ -256,14 +256,14 @@ module _ {K X : Type 0} (same : K → K → Bool) (key : X → K) (exact : (a b 
       stays k true e = absurd (cc)
       stays k false e = refl
 
--- ---- a history and one more entry
+-- ---- the retained items of a history and one more entry
 
 module _ {E X K : Type 0} (same : K → K → Bool) (key : X → K) (exact : (a b : K) → same a b ≡ true → a ≡ b) (self : (a : K) → same a a ≡ true)
     (brings : E → List X) (takes : K → E → Bool) (idle : (k : K) (e : E) → takes k e ≡ true → brings e ≡ []) where
   brought-push : (h : List E) (e : E) → brought brings (h ++ e ∷ []) ≡ brought brings h ++ brings e
   brought-push h e = flat_map-append brings h (e ∷ []) ∙ ap (λ (ys : List X). brought brings h ++ ys) (append-nil (brings e))
 
-  -- an entry that removes the key leaves nothing of it, another adds its items
+  -- if the entry removes the key, no earlier items are left; then the entry's items are added
   pub kept-push : (h : List E) (e : E) (k : K) → cond (takes k e) [] (since same key brings takes h k) ++ brings e ≡ since same key brings takes (h ++ e ∷ []) k
   kept-push h e k =
       go (takes k e) refl

@@ -1,4 +1,5 @@
--- A key has a value if and only if an entry brings it and no later entry removes it.
+-- A key has a value after a history if and only if an entry brings it and no later entry removes
+-- it.
 use Rattle.std.proofs.Common.{◌≡◌, ℕ, zero, suc, ◌<◌, Bool, true, false, ◌||◌, cond, ◌⊎◌, inl, inr, ◌↔◌, Option, Some, None, is_some, List, [], ◌∷◌, ◌++◌, length, reverse, slice_get, refl, sym, ◌∙◌, ap, subst, arith, length-append}
 use Rattle.std.specs.List.{find, list_any}
 use Rattle.std.specs.Option.{option_or}

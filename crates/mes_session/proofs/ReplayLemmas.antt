@@ -1,4 +1,5 @@
--- Histories entry by entry: what is legal so far, and where the replay stops.
+-- Lemmas about replaying a history entry by entry: the calls so far are allowed, or the replay
+-- stops.
 use Rattle.std.proofs.Common.{◌≡◌, ℕ, zero, suc, ◌+◌, ◌<◌, ◌≤◌, ◌⊎◌, inl, inr, Some, List, [], ◌∷◌, ◌++◌, length, take, slice_get, refl, sym, ◌∙◌, ap, subst, arith, add-one, get_or}
 use Rattle.mes_msg.specs.Call.{Call}
 use Rattle.mes_msg.specs.declared.entry.Entry.{Entry}
@@ -31,7 +32,7 @@ module _ {X : Type 0} where
   get-is (y ∷ ys) zero x h e = ap Some (sym e)
   get-is (y ∷ ys) (suc i) x h e = get-is ys i x (omega arith) e
 
--- the state after the first entries of a history
+-- h, the first entries of a history, has no refused call and leads to the state s
 pub record EntriesSoFar (h : List Entry) (s : Held) : Type 0 where
   pub legal : IsLegal h
   pub represents : Represents h s

@@ -1,4 +1,4 @@
--- The state and the histories after an entry of each kind.
+-- Lemmas about the state of a session, and its histories, after an entry of each type.
 use Rattle.std.proofs.Common.{Result, Ok, Err, IfOk, IfErr, OnOk, ◌≡◌, ℕ, Bool, true, false, not, inl, inr, Option, Some, None, IfSome, List, [], ◌∷◌, ◌++◌, refl, sym, ◌∙◌, ap, subst, is_some, IsTrue, ◌↔◌}
 use Rattle.std.specs.List.{filter, fold}
 use Rattle.std.specs.Option.{option_or, option_to_list}
@@ -32,7 +32,7 @@ use Rattle.mes_session_calls.specs.Made.{subscribe_call}
 use Rattle.mes_session.specs.Making.{Applied, Made, NotMade}
 use Rattle.mes_session.proofs.HistoryLemmas.{Represents-push}
 
--- ---- a filter that passes all, or none
+-- ---- `filter` with a test that all elements of a list pass, or none
 
 module _ {X : Type 0} where
   filter-all : (xs : List X) → filter (λ x. true) xs ≡ xs
@@ -47,7 +47,7 @@ same_held : (f : Option Id) (c : Bool) {g h : List Offer} {o p : List OwedKey} �
     → (let a : Held = record { framework = f; connected = c; hand = g; owed = o } in let b : Held = record { framework = f; connected = c; hand = h; owed = p } in a ≡ b)
 same_held f c e d = λ i. record { framework = f; connected = c; hand = e i; owed = d i }
 
--- ---- events
+-- ---- the state after an event, or after a disconnect
 
 module _ (s t : Held) (same : s ≡ t) where
   pub subscribed-next : (b : Subscribed) (framework : Id) (hand : List Offer) → framework ≡ b.framework_id → hand ≡ []
@@ -102,7 +102,7 @@ unowing-next s b owes same never = go (owed_key_of b.status) refl
     go None k = unowed-next s b None refl k
     go (Some key) k = let owed : Owes b.status = ap is_some (sym k) in let answered : owes ≡ true = same.1 owed in absurd (cc)
 
--- ---- an event that neither adds nor removes anything
+-- ---- an event that neither adds nor removes anything leaves the state unchanged
 
 untouched : (s : Held) → (let t : Held = record { framework = s.framework; connected = s.connected; hand = filter (λ o. true) s.hand; owed = filter (λ k. true) s.owed } in s ≡ t)
 untouched s = same_held s.framework s.connected (sym (filter-all s.hand)) (sym (filter-all s.owed))
@@ -125,7 +125,7 @@ other-next s name = untouched s
 pub idle_at : (s : Held) (e d : Event) → e ≡ d → s ≡ after s (Heard d) → s ≡ after s (Heard e)
 idle_at s e d is next = next ∙ ap (λ (x : Event). after s (Heard x)) (sym is)
 
--- ---- calls
+-- ---- the state after a call
 
 module _ (s t : Held) (same : s ≡ t) (call : Call) where
   pub naming-next : (hand : List Offer) → acknowledged_by call ≡ None → hand ≡ without_offers (named_by call) s.hand
@@ -179,7 +179,7 @@ idle-next s (of.Suppress f) x y z = untouched s
 idle-next s (of.Shutdown f b) x y z = untouched s
 idle-next s (of.Message f b) x y z = untouched s
 
--- ---- histories
+-- ---- an applied entry or call leads from a history of the old state to one of the new
 
 pub next-represents : (s t : Held) (e : Entry) → t ≡ after s e → StandsNext e s t
 next-represents s t e same h represents = subst (λ (u : Held). Represents (h ++ e ∷ []) u) (sym same) (Represents-push h s e represents)
@@ -209,7 +209,7 @@ subscribe-fits s info NoMemory f = f
 pub subscribe-answers : (s : Held) (info : FrameworkInfo) → Answers s (subscribe_call s.framework info) None
 subscribe-answers s info = subscribe-fits s info
 
--- ---- calls made and not made
+-- ---- the contracts of functions that make a call: call made, or refused
 
 copied-is : {E : Type 0} (P : Call → Type 0) (copied : Result Call E) (call : Call) → copied ≡ Ok call → IfOk copied P → P call
 copied-is {E = E} P copied call e h = let Q : Result Call E → Type 0 = λ r. IfOk r P in subst Q e h

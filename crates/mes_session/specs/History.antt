@@ -20,9 +20,9 @@ use Rattle.mes_session_state.specs.declared.refusal.Refusal.TheVariants.{NoMemor
 use Rattle.mes_session_state.specs.Refusals.{as_reported, IsRefused}
 use Rattle.mes_session.specs.Kept.{after_last, IsKept, IsLeftBy}
 
--- ---- the stream
+-- ---- the framework, and whether the stream is connected
 
--- SUBSCRIBED names the framework
+-- the framework that a SUBSCRIBED names; other entries name none
 abbrev pub subscribed_by : Entry → Option Id
 subscribed_by (Heard (heard.Subscribed s)) = Some s.framework_id
 subscribed_by _ = None
@@ -35,17 +35,17 @@ abbrev pub breaks : Entry → Bool
 breaks Broken = true
 breaks _ = false
 
--- the framework is that of the last SUBSCRIBED
+-- the framework of the last SUBSCRIBED in the history
 abbrev pub framework_after : List Entry → Option Id
 framework_after h = slice_get (filter_map subscribed_by (reverse h)) 0
 
--- connected: a SUBSCRIBED was received since the stream was last disconnected
+-- true if and only if a SUBSCRIBED was received since the stream was last disconnected
 abbrev pub connected_after : List Entry → Bool
 connected_after h = list_any subscribes (after_last breaks h)
 
 -- ---- outstanding offers
 
--- OFFERS brings offers
+-- the offers that an OFFERS brings; other entries bring none
 abbrev pub offers_of : Entry → List Offer
 offers_of (Heard (heard.Offers offers)) = offers
 offers_of _ = []
@@ -63,12 +63,12 @@ IsHand h hand = IsKept bytes_eq name_of offers_of takes_offer h hand
 
 -- ---- unacknowledged updates
 
--- an UPDATE whose status requires an acknowledgement adds its key
+-- the key that an UPDATE adds, if its status requires an acknowledgement
 abbrev pub owed_by : Entry → List OwedKey
 owed_by (Heard (heard.Update u)) = option_to_list (owed_key_of u.status)
 owed_by _ = []
 
--- only an ACKNOWLEDGE removes its key
+-- only an ACKNOWLEDGE removes a key: the one that it names
 abbrev pub is_key : OwedKey → Option OwedKey → Bool
 is_key key None = false
 is_key key (Some k) = same_key k key
@@ -82,7 +82,7 @@ IsOwed h owed = IsKept same_key (λ (key : OwedKey). key) owed_by acknowledges h
 
 -- ---- the state
 
--- the state of a framework with this history
+-- s is the state of a framework after the history h
 pub record Represents (h : List Entry) (s : Held) : Type 0 where
   pub framework : s.framework ≡ framework_after h
   pub connected : s.connected ≡ connected_after h
@@ -93,7 +93,7 @@ pub record Represents (h : List Entry) (s : Held) : Type 0 where
 abbrev pub at_first : Held
 at_first = record { framework = None; connected = false; hand = []; owed = [] }
 
--- the state after one more entry, which first removes items and then adds its own
+-- the state after one more entry: the entry first removes items and then adds its own
 abbrev pub after : Held → Entry → Held
 after s e = record {
   framework = option_or (subscribed_by e) s.framework;
@@ -102,21 +102,21 @@ after s e = record {
   owed = fold (put same_key (λ (key : OwedKey). key)) (filter (λ key. not (acknowledges key e)) s.owed) (owed_by e);
 }
 
--- each history of the old state, with this entry after it, is a history of the new state
+-- if a history leads to the state s, that history and then the entry e lead to the state t
 abbrev pub StandsNext : Entry → Held → Held → Type 0
 StandsNext e s t = (h : List Entry) → Represents h s → Represents (h ++ e ∷ []) t
 
--- an OFFERS at index i brings the offer, and no later entry removes it
+-- an OFFERS at index i of the history brings the offer, and no later entry removes that offer
 abbrev pub IsOfferedBy : List Entry → List ℕ → ℕ → Type 0
 IsOfferedBy h name i = IsLeftBy bytes_eq name_of offers_of takes_offer h name i
 
--- an UPDATE at index i adds the key, and no later ACKNOWLEDGE removes it
+-- an UPDATE at index i of the history adds the key, and no later ACKNOWLEDGE removes that key
 abbrev pub IsOwedBy : List Entry → OwedKey → ℕ → Type 0
 IsOwedBy h key i = IsLeftBy same_key (λ (k : OwedKey). k) owed_by acknowledges h key i
 
 -- ---- refusals
 
--- a call is refused in the state after the history
+-- `call` is refused for `fault` in the state after the history h
 abbrev pub RefusedAfter : List Entry → Call → Refusal → Type 0
 RefusedAfter h call fault = (s : Held) × Represents h s × IsRefused s call fault
 
@@ -124,14 +124,16 @@ RefusedAfter h call fault = (s : Held) × Represents h s × IsRefused s call fau
 abbrev pub IsLegal : List Entry → Type 0
 IsLegal h = (i : ℕ) (call : Call) (fault : Refusal) → slice_get h i ≡ Some (Said call) → RefusedAfter (take i h) call fault → ⊥
 
--- SUBSCRIBED, an OFFERS that is not empty, and an UPDATE that requires an acknowledgement allocate
+-- the event is one that allocates: SUBSCRIBED, an OFFERS that is not empty, or an UPDATE that
+-- requires an acknowledgement
 abbrev pub NeedsMemory : Event → Type 0
 NeedsMemory (heard.Subscribed s) = Unit {0}
 NeedsMemory (heard.Offers offers) = 0 < length offers
 NeedsMemory (heard.Update u) = Owes u.status
 NeedsMemory _ = ⊥
 
--- an entry that is refused: a call with a fault, or an event for which an allocation failed
+-- the entry after the history h is refused: it is a call with a fault, or an event for which an
+-- allocation failed
 abbrev pub IsStopped : List Entry → Entry → Refusal → Type 0
 IsStopped h (Heard event) reported = (reported ≡ NoMemory) × NeedsMemory event
 IsStopped h (Said call) reported = (fault : Refusal) × (reported ≡ as_reported fault) × RefusedAfter h call fault

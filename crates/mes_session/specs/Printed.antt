@@ -8,27 +8,29 @@ use Rattle.mes_session_state.specs.declared.refusal.Refusal.{Refusal}
 use Rattle.mes_session_state.specs.declared.refusal.Refusal.TheVariants.{NotSubscribed, NamedTwice, NoSuchOffer, TwoAgents, WrongAgent, Exceeds, NotOwed, NoMemory}
 use Rattle.mes_session_state.specs.Held.{Held}
 
--- ---- a report
+-- ---- the report of a session
 
--- `entries 3`, with an LF
+-- a line of a report, such as `entries 3`, with its LF
 abbrev pub report_line : List ℕ → List (List ℕ) → List ℕ
 report_line first words = first ++ spaced words ++ codes "\n"
 
--- `hand "O1"`
+-- the line of an outstanding offer, such as `hand "O1"`
 abbrev pub hand_line : Offer → List ℕ
 hand_line offer = report_line (codes "hand") (id_text offer.id ∷ [])
 
--- `owed "A1" "T1" 00010203-0405-0607-0809-0a0b0c0d0e0f`: the agent, the task and the uuid
+-- the line of an unacknowledged update, with its agent, its task and its UUID, such as
+-- `owed "A1" "T1" 00010203-0405-0607-0809-0a0b0c0d0e0f`
 abbrev pub owed_line : OwedKey → List ℕ
 owed_line key = report_line (codes "owed") (id_text key.agent ∷ id_text key.task ∷ uuid_text key.uuid ∷ [])
 
--- the number of entries, the framework or `-`, each outstanding offer, each unacknowledged update
+-- the report: the number of entries, the framework or `-`, each outstanding offer, each
+-- unacknowledged update
 abbrev pub report_text : ℕ → Held → List ℕ
 report_text entries held =
     report_line (codes "entries") (decimal entries ∷ []) ++ report_line (codes "framework") (or_dash id_text held.framework ∷ [])
     ++ flat_map hand_line held.hand ++ flat_map owed_line held.owed
 
--- ---- a refusal
+-- ---- the line of a refusal
 
 -- the number and the name of a refusal
 abbrev pub refusal_title : Refusal → List ℕ
@@ -41,7 +43,7 @@ refusal_title (Exceeds task resource) = codes "S6 Exceeds"
 refusal_title NotOwed = codes "S7 NotOwed"
 refusal_title NoMemory = codes "S8 NoMemory"
 
--- the words for the place in the call
+-- the words for the indices in the call to which the refusal refers
 abbrev pub refusal_place : Refusal → List (List ℕ)
 refusal_place NotSubscribed = []
 refusal_place NamedTwice = []
@@ -52,7 +54,9 @@ refusal_place (Exceeds task resource) = codes "task" ∷ decimal task ∷ codes 
 refusal_place NotOwed = []
 refusal_place NoMemory = []
 
--- `refused S6 Exceeds record 4 task 0 resource 0`, after 3 entries; the number is at most 2^64 - 1
+-- the line of a refusal after `before` entries, with a record number of at most 2^64 - 1;
+-- after 3 entries, for example:
+-- `refused S6 Exceeds record 4 task 0 resource 0`
 abbrev pub refusal_text : Refusal → ℕ → List ℕ
 refusal_text refusal before =
     codes "refused" ++ spaced (refusal_title refusal ∷ codes "record" ∷ decimal (min (before + 1) (2 ^ 64 - 1)) ∷ refusal_place refusal)

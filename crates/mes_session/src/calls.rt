@@ -40,11 +40,12 @@ impl Session {
         tasks: &[TaskInfo],
         filters: Option<&Filters>,
     ) -> Result<Call, Refusal>
-        // On success: the ACCEPT of these arguments; it is applied.
+        // On success the result is the ACCEPT of these arguments, which is applied to the session.
         ensures ok { IfOk result (λ call. Made
             (λ framework. accept_call framework ids.now tasks.now (option_copied filters.entry))
             self.old self.new call) }
-        // Each error: the first reason against the call; the session is unchanged.
+        // Each error is the first reason against the call, or out of memory if there is none; the
+        // session is unchanged.
         ensures err { IfErr result (λ refusal. NotMade
             (λ framework. accept_call framework ids.now tasks.now (option_copied filters.entry))
             self.old self.new refusal) }
@@ -59,11 +60,12 @@ impl Session {
     /// Makes a DECLINE; the offers may be of several agents. Errors: S1 to S3 of [`Refusal`], else
     /// out of memory (S8).
     pub fn decline(&mut self, ids: &[Id], filters: Option<&Filters>) -> Result<Call, Refusal>
-        // On success: the DECLINE of these arguments; it is applied.
+        // On success the result is the DECLINE of these arguments, which is applied to the session.
         ensures ok { IfOk result (λ call. Made
             (λ framework. decline_call framework ids.now (option_copied filters.entry)) self.old
             self.new call) }
-        // Each error: the first reason against the call; the session is unchanged.
+        // Each error is the first reason against the call, or out of memory if there is none; the
+        // session is unchanged.
         ensures err { IfErr result (λ refusal. NotMade
             (λ framework. decline_call framework ids.now (option_copied filters.entry)) self.old
             self.new refusal) }
@@ -77,10 +79,11 @@ impl Session {
 
     /// Makes a REVIVE. Errors: not subscribed (S1), else out of memory (S8).
     pub fn revive(&mut self) -> Result<Call, Refusal>
-        // On success: the REVIVE of the framework; it is applied.
+        // On success the result is the REVIVE of the framework, which is applied to the session.
         ensures ok { IfOk result (λ call. Made (λ framework. Call.Revive framework) self.old
             self.new call) }
-        // Each error: the first reason against the call; the session is unchanged.
+        // Each error is the first reason against the call, or out of memory if there is none; the
+        // session is unchanged.
         ensures err { IfErr result (λ refusal. NotMade (λ framework. Call.Revive framework) self.old
             self.new refusal) }
     {
@@ -94,11 +97,12 @@ impl Session {
     /// Makes a KILL of a task, with its agent if given. Errors: not subscribed (S1), else out of
     /// memory (S8).
     pub fn kill(&mut self, task: &Id, agent: Option<&Id>) -> Result<Call, Refusal>
-        // On success: the KILL of these arguments; it is applied.
+        // On success the result is the KILL of these arguments, which is applied to the session.
         ensures ok { IfOk result (λ call. Made
             (λ framework. kill_call framework task.now (option_copied agent.entry)) self.old
             self.new call) }
-        // Each error: the first reason against the call; the session is unchanged.
+        // Each error is the first reason against the call, or out of memory if there is none; the
+        // session is unchanged.
         ensures err { IfErr result (λ refusal. NotMade
             (λ framework. kill_call framework task.now (option_copied agent.entry)) self.old
             self.new refusal) }
@@ -113,10 +117,11 @@ impl Session {
     /// Makes the ACKNOWLEDGE of an unacknowledged update. Errors: not subscribed (S1), no such
     /// update (S7), else out of memory (S8).
     pub fn acknowledge(&mut self, key: &OwedKey) -> Result<Call, Refusal>
-        // On success: the ACKNOWLEDGE of the key; it is applied.
+        // On success the result is the ACKNOWLEDGE of the key, which is applied to the session.
         ensures ok { IfOk result (λ call. Made (λ framework. acknowledge_call framework key.now)
             self.old self.new call) }
-        // Each error: the first reason against the call; the session is unchanged.
+        // Each error is the first reason against the call, or out of memory if there is none; the
+        // session is unchanged.
         ensures err { IfErr result (λ refusal. NotMade
             (λ framework. acknowledge_call framework key.now) self.old self.new refusal) }
     {
@@ -130,10 +135,11 @@ impl Session {
     /// Makes a RECONCILE of `tasks`, or of all tasks if `tasks` is empty. Repeated tasks are
     /// allowed. Errors: not subscribed (S1), else out of memory (S8).
     pub fn reconcile(&mut self, tasks: &[TaskRef]) -> Result<Call, Refusal>
-        // On success: the RECONCILE of these tasks; it is applied.
+        // On success the result is the RECONCILE of these tasks, which is applied to the session.
         ensures ok { IfOk result (λ call. Made (λ framework. reconcile_call framework tasks.now)
             self.old self.new call) }
-        // Each error: the first reason against the call; the session is unchanged.
+        // Each error is the first reason against the call, or out of memory if there is none; the
+        // session is unchanged.
         ensures err { IfErr result (λ refusal. NotMade
             (λ framework. reconcile_call framework tasks.now) self.old self.new refusal) }
     {
@@ -146,10 +152,11 @@ impl Session {
 
     /// Makes a TEARDOWN. Errors: not subscribed (S1), else out of memory (S8).
     pub fn teardown(&mut self) -> Result<Call, Refusal>
-        // On success: the TEARDOWN of the framework; it is applied.
+        // On success the result is the TEARDOWN of the framework, which is applied to the session.
         ensures ok { IfOk result (λ call. Made (λ framework. Call.Teardown framework) self.old
             self.new call) }
-        // Each error: the first reason against the call; the session is unchanged.
+        // Each error is the first reason against the call, or out of memory if there is none; the
+        // session is unchanged.
         ensures err { IfErr result (λ refusal. NotMade (λ framework. Call.Teardown framework)
             self.old self.new refusal) }
     {
@@ -162,10 +169,11 @@ impl Session {
 
     /// Makes a SUPPRESS. Errors: not subscribed (S1), else out of memory (S8).
     pub fn suppress(&mut self) -> Result<Call, Refusal>
-        // On success: the SUPPRESS of the framework; it is applied.
+        // On success the result is the SUPPRESS of the framework, which is applied to the session.
         ensures ok { IfOk result (λ call. Made (λ framework. Call.Suppress framework) self.old
             self.new call) }
-        // Each error: the first reason against the call; the session is unchanged.
+        // Each error is the first reason against the call, or out of memory if there is none; the
+        // session is unchanged.
         ensures err { IfErr result (λ refusal. NotMade (λ framework. Call.Suppress framework)
             self.old self.new refusal) }
     {
@@ -178,10 +186,12 @@ impl Session {
 
     /// Makes a SHUTDOWN of an executor. Errors: not subscribed (S1), else out of memory (S8).
     pub fn shutdown(&mut self, executor: &Id, agent: &Id) -> Result<Call, Refusal>
-        // On success: the SHUTDOWN of these arguments; it is applied.
+        // On success the result is the SHUTDOWN of these arguments, which is applied to the
+        // session.
         ensures ok { IfOk result (λ call. Made
             (λ framework. shutdown_call framework executor.now agent.now) self.old self.new call) }
-        // Each error: the first reason against the call; the session is unchanged.
+        // Each error is the first reason against the call, or out of memory if there is none; the
+        // session is unchanged.
         ensures err { IfErr result (λ refusal. NotMade
             (λ framework. shutdown_call framework executor.now agent.now) self.old self.new
             refusal) }
@@ -196,11 +206,12 @@ impl Session {
     /// Makes a MESSAGE of bytes to an executor. Errors: not subscribed (S1), else out of memory
     /// (S8).
     pub fn message(&mut self, agent: &Id, executor: &Id, data: &[u8]) -> Result<Call, Refusal>
-        // On success: the MESSAGE of these arguments; it is applied.
+        // On success the result is the MESSAGE of these arguments, which is applied to the session.
         ensures ok { IfOk result (λ call. Made
             (λ framework. message_call framework agent.now executor.now «data».now) self.old
             self.new call) }
-        // Each error: the first reason against the call; the session is unchanged.
+        // Each error is the first reason against the call, or out of memory if there is none; the
+        // session is unchanged.
         ensures err { IfErr result (λ refusal. NotMade
             (λ framework. message_call framework agent.now executor.now «data».now) self.old
             self.new refusal) }

@@ -8,11 +8,12 @@ use arrayvec::ArrayString;
 use itoa::Buffer;
 use mes_session_state::Refusal;
 
-/// The capacity of a refusal's line in bytes: three numbers of 20 digits and the words.
+/// The capacity of a refusal's line in bytes: three numbers of 20 digits each, and the words of the
+/// line.
 pub const MAX_REFUSAL_LINE: usize = 160;
 
-/// Replaces `line` with the line of a refusal after `before` accepted entries. The line has the
-/// number of the refused entry, from 1 to at most 2^64 - 1.
+/// Replaces `line` with the line of a refusal after `before` accepted entries. The line contains
+/// the number of the refused entry, from 1 to at most 2^64 - 1.
 pub fn refusal_line(refusal: &Refusal, before: u64, line: &mut ArrayString<MAX_REFUSAL_LINE>)
     ensures { line.new.bytes ≡ refusal_text refusal.now before }
 {
@@ -40,7 +41,7 @@ fn title(refusal: &Refusal) -> &'static str
     }
 }
 
-/// Appends the place in the call, if the refusal has one.
+/// Appends the indices in the call to which the refusal refers, if it has indices.
 fn push_place(line: &mut ArrayString<MAX_REFUSAL_LINE>, refusal: &Refusal)
     requires { array_string_len line.old + 56 ≤ MAX_REFUSAL_LINE }
     ensures { line.new.bytes ≡ line.old.bytes ++ spaced (refusal_place refusal.now) }
@@ -56,7 +57,7 @@ fn push_place(line: &mut ArrayString<MAX_REFUSAL_LINE>, refusal: &Refusal)
     }
 }
 
-/// Appends a word with its spaces and a number in decimal.
+/// Appends a word, with a space before and after it, and a number in decimal.
 fn push_number(line: &mut ArrayString<MAX_REFUSAL_LINE>, word: &str, number: u64)
     requires { array_string_len line.old + length word.now + 20 ≤ MAX_REFUSAL_LINE }
     ensures text { line.new.bytes ≡ line.old.bytes ++ (word.now ++ decimal number) }

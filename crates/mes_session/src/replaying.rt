@@ -7,10 +7,11 @@ use mes_msg::Entry;
 use mes_session_state::Refusal;
 use std::alloc::Global;
 
-/// Replays a history and returns its session. On error returns the index of the first refused
-/// entry, from 0, and the reason. S8 is the reason at an event for which an allocation fails.
+/// Replays a history and returns the session after it. On error returns the index of the first
+/// refused entry, from 0, and the reason. S8 (out of memory) is the reason at an event for which an
+/// allocation fails.
 pub fn replay(alloc: Global, entries: &[Entry]) -> Result<Session, (usize, Refusal)>
-    // On success: no call is refused, and the session is that of the history.
+    // On success: no call is refused, and the session has the state after the history.
     ensures legal { IfOk result (λ _. IsLegal entries.now) }
     ensures represents { IfOk result (λ session. Represents entries.now session) }
 

@@ -15,9 +15,9 @@ use mes_session_state::{CallCheck, OutstandingOffers, Refusal, UpdateKeys};
 use std::alloc::Global;
 use std::marker::Model;
 
-/// The session of a framework with its master. In contracts its value is `Held`: the framework,
-/// whether the stream is connected, the outstanding offers and the unacknowledged updates. It does
-/// not retain the history.
+/// The session of a framework with its master. In contracts the value is a `Held`: the framework,
+/// whether the stream is connected, the outstanding offers and the keys of the unacknowledged
+/// updates. A session does not retain the history.
 #[derive(Drop)]
 pub struct Session {
     pub(crate) alloc: Global,
@@ -45,7 +45,7 @@ impl Model for Session {
 }
 
 impl Session {
-    /// Returns a session without a history. It allocates from `alloc` later, but not now.
+    /// Returns a session without a history. Does not allocate; later calls allocate from `alloc`.
     pub fn new(alloc: Global) -> Session
         ensures is { result ≡ at_first }
         ensures represents { Represents [] result }
@@ -59,7 +59,8 @@ impl Session {
         }
     }
 
-    /// Returns the framework of the last SUBSCRIBED. Neither this nor another getter allocates.
+    /// Returns the framework of the last SUBSCRIBED. Like all getters of a session, does not
+    /// allocate.
     pub fn framework(&self) -> Option<&Id>
         ensures { option_copied result ≡ self.now.framework }
     {
@@ -87,7 +88,8 @@ impl Session {
         self.hand.get_index(index)
     }
 
-    /// Returns the outstanding offer with this identifier, in a time independent of their number.
+    /// Returns the outstanding offer with the identifier `id`, in a time independent of the number
+    /// of offers.
     pub fn offer(&self, id: &str) -> Option<&Offer>
         ensures { option_copied result ≡ offer_in self.now.hand id.now }
     {
@@ -111,17 +113,17 @@ impl Session {
     /// Applies an event received from the master:
     /// - SUBSCRIBED sets the framework and clears the outstanding offers;
     /// - OFFERS adds its offers; if one identifier occurs twice, the later offer wins;
-    /// - RESCIND removes the offer, if it is outstanding;
-    /// - UPDATE records its key, if its status requires an acknowledgement.
+    /// - RESCIND removes the offer that it names, if that offer is outstanding;
+    /// - UPDATE records the key of its status, if the status requires an acknowledgement.
     ///
     /// Errors: S8 (out of memory); the session is then unchanged. Only SUBSCRIBED, an OFFERS that
     /// is not empty, and an UPDATE that requires an acknowledgement allocate.
     pub fn heard(&mut self, event: &Event) -> Result<(), Refusal>
-        // On success: the state after the event.
+        // On success the session has the state after the event.
         ensures next { OnOk result (self.new ≡ after self.old (Heard event.now)) }
         ensures represents { OnOk result (StandsNext (Heard event.now) self.old self.new) }
 
-        // Each error: an allocation failed for an event that needs one.
+        // Each error is S8 (out of memory), for an event that allocates.
         ensures err { IfErr result (λ refusal. refusal ≡ Refusal.NoMemory) }
         ensures needs { OnErr result (NeedsMemory event.now) }
         ensures same { OnErr result (self.new ≡ self.old) }
@@ -130,14 +132,14 @@ impl Session {
         Ok(())
     }
 
-    /// Applies a call that is sent to the master. ACCEPT and DECLINE remove their offers;
-    /// ACKNOWLEDGE removes its key. Does not allocate. Errors: the first of S1 to S7 that applies,
-    /// never S8; the session is then unchanged.
+    /// Applies a call that is sent to the master. ACCEPT and DECLINE remove the offers that they
+    /// name; ACKNOWLEDGE removes the key that it names. Does not allocate. Errors: the first of the
+    /// reasons S1 to S7 that applies, never S8; the session is then unchanged.
     pub fn said(&mut self, call: &Call) -> Result<(), Refusal>
         // On success: the call is allowed and applied.
         ensures ok { OnOk result (Applied self.old call.now self.new) }
 
-        // Each error: the first reason against the call.
+        // Each error is the first reason against the call.
         ensures err { IfErr result (λ refusal. Answers self.old call.now (Some refusal)) }
         ensures same { OnErr result (self.new ≡ self.old) }
     {
@@ -159,7 +161,7 @@ impl Session {
         self.hand.clear();
     }
 
-    /// Borrows the state to check calls against it.
+    /// Borrows the session's state to check calls against it.
     pub(crate) fn standing(&self) -> CallCheck<'_>
         ensures { result ≡ self.now }
     {
@@ -247,7 +249,7 @@ impl Session {
         }
     }
 
-    /// Applies an entry of a history.
+    /// Applies an entry of a history to the session.
     pub(crate) fn apply_entry(&mut self, entry: &Entry) -> Result<(), Refusal>
         ensures next { OnOk result (self.new ≡ after self.old entry.now) }
         ensures err { IfErr result (λ refusal. IsTurnedAway self.old entry.now refusal) }

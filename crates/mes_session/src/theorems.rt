@@ -14,17 +14,17 @@ use mes_session_state::refusal_laws;
 /// reason. Also proves which offers are outstanding and which updates are unacknowledged.
 pub fn session_laws()
     ensures some { (h : List Entry) → (held : Held) × Represents h held }
-    // A history has at most one state.
+    // A history leads to at most one state.
     ensures one { (h : List Entry) (held other : Held) → Represents h held → Represents h other
         → held ≡ other }
     // After a history, a call has at most one reason to be refused.
     ensures refused { (h : List Entry) (call : Call) (fault other : Refusal)
         → RefusedAfter h call fault → RefusedAfter h call other → fault ≡ other }
-    // An offer is outstanding if and only if an entry brought it and no later entry removed it.
+    // An offer is outstanding if and only if an entry brings it and no later entry removes it.
     ensures hand { (h : List Entry) (held : Held) (name : List ℕ) → Represents h held
         → is_some (offer_in held.hand name) ≡ true ↔ ((i : ℕ) × IsOfferedBy h name i) }
-    // An update is unacknowledged if and only if an entry required it and no later entry
-    // acknowledged it.
+    // An update is unacknowledged if and only if an entry requires its acknowledgement and no later
+    // entry acknowledges it.
     ensures owed { (h : List Entry) (held : Held) (key : OwedKey) → Represents h held
         → is_owed key held.owed ≡ true ↔ ((i : ℕ) × IsOwedBy h key i) }
 {

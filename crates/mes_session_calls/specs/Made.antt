@@ -1,4 +1,5 @@
--- Calls by their arguments (scheduler.proto, `Call`); three more are in `mes_session_state`.
+-- The calls that have given arguments (scheduler.proto, `Call`). ACCEPT, DECLINE and ACKNOWLEDGE
+-- are in `mes_session_state`.
 use Rattle.std.specs.Prelude.{ℕ, List, Option}
 use Rattle.std.specs.Option.{option_or}
 use Rattle.mes_model.specs.Id.{Id}

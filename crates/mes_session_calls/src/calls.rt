@@ -1,4 +1,4 @@
-//! Functions that build each call of scheduler.proto from copies of the arguments. Their only error
+//! Functions that build the calls of scheduler.proto from copies of the arguments. Their only error
 //! is `NoMemory`, if an allocation fails.
 ghost use Rattle.std.specs.Prelude.{◌≡◌, option_copied, IfOk};
 ghost use Rattle.std.specs.Option.{option_or};
@@ -14,7 +14,7 @@ use mes_msg::{
 };
 use std::alloc::Global;
 
-/// Returns one LAUNCH of the tasks, or no operation if there are none.
+/// Returns one LAUNCH of the tasks, or no operation if there are no tasks.
 fn operations(alloc: Global, tasks: &[TaskInfo]) -> Result<List<Operation>, NoMemory>
     ensures { IfOk result (λ operations. operations ≡ operations_of tasks.now) }
 {
@@ -26,7 +26,7 @@ fn operations(alloc: Global, tasks: &[TaskInfo]) -> Result<List<Operation>, NoMe
     Ok(List::new(operations))
 }
 
-/// Returns the framework of a SUBSCRIBE: the known one, or else the id in `info`.
+/// Returns the framework that a SUBSCRIBE names: the known one, or else the id in `info`.
 fn named(alloc: Global, known: Option<&Id>, info: &FrameworkInfo) -> Result<Option<Id>, NoMemory>
     ensures { IfOk result (λ named. named ≡ option_or (option_copied known.entry) info.now.id) }
 {
@@ -37,7 +37,7 @@ fn named(alloc: Global, known: Option<&Id>, info: &FrameworkInfo) -> Result<Opti
 }
 
 /// Returns the SUBSCRIBE of a framework. The call and its `FrameworkInfo` name the known framework;
-/// if none is known, the id in `info`.
+/// if none is known, they name the id in `info`.
 pub fn make_subscribe(
     alloc: Global,
     known: Option<&Id>,
@@ -62,7 +62,7 @@ pub fn make_accept(
     tasks: &[TaskInfo],
     filters: Option<&Filters>,
 ) -> Result<Call, NoMemory>
-    // On success: the ACCEPT of these arguments.
+    // On success the result is the ACCEPT of these arguments.
     ensures { IfOk result (λ call. call
         ≡ accept_call framework.now ids.now tasks.now (option_copied filters.entry)) }
 {
@@ -80,14 +80,14 @@ pub fn make_accept(
     })
 }
 
-/// Returns the DECLINE of these offers.
+/// Returns the DECLINE of the offers `ids`.
 pub fn make_decline(
     alloc: Global,
     framework: &Id,
     ids: &[Id],
     filters: Option<&Filters>,
 ) -> Result<Call, NoMemory>
-    // On success: the DECLINE of these arguments.
+    // On success the result is the DECLINE of these arguments.
     ensures { IfOk result (λ call. call
         ≡ decline_call framework.now ids.now (option_copied filters.entry)) }
 {
@@ -115,7 +115,7 @@ pub fn make_kill(
     task: &Id,
     agent: Option<&Id>,
 ) -> Result<Call, NoMemory>
-    // On success: the KILL of these arguments.
+    // On success the result is the KILL of these arguments.
     ensures { IfOk result (λ call. call
         ≡ kill_call framework.now task.now (option_copied agent.entry)) }
 {
@@ -146,7 +146,7 @@ pub fn make_acknowledge(alloc: Global, framework: &Id, key: &OwedKey) -> Result<
     })
 }
 
-/// Returns the RECONCILE of these tasks, or of all tasks if `tasks` is empty.
+/// Returns the RECONCILE of `tasks`, or of all tasks if `tasks` is empty.
 pub fn make_reconcile(alloc: Global, framework: &Id, tasks: &[TaskRef]) -> Result<Call, NoMemory>
     ensures { IfOk result (λ call. call ≡ reconcile_call framework.now tasks.now) }
 {
@@ -195,7 +195,7 @@ pub fn make_shutdown(
     })
 }
 
-/// Returns the MESSAGE of these bytes to an executor on an agent.
+/// Returns the MESSAGE with the bytes `data` to an executor on an agent.
 pub fn make_message(
     alloc: Global,
     framework: &Id,
@@ -203,7 +203,7 @@ pub fn make_message(
     executor: &Id,
     data: &[u8],
 ) -> Result<Call, NoMemory>
-    // On success: the MESSAGE of these arguments.
+    // On success the result is the MESSAGE of these arguments.
     ensures { IfOk result (λ call. call
         ≡ message_call framework.now agent.now executor.now «data».now) }
 {

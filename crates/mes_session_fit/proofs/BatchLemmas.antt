@@ -21,7 +21,7 @@ use Rattle.mes_session_fit.proofs.FitsLemmas.{or-left, or-right, or-none}
 use Rattle.mes_session_fit.proofs.LaunchedLemmas.{drop-from, drop-place}
 use Rattle.mes_session_fit.proofs.ListLemmas.{or-cases, any-flat_map, any-at, get-at}
 
--- ---- lists
+-- ---- elements of the front and of the rest of a list
 
 module _ {X : Type 0} where
   pub one-more : (test : ℕ → X → Bool) (old new : ℕ → Bool) (xs : List X) (i : ℕ) (x : X) → i < length xs → x ≡ get_or xs i x
@@ -52,7 +52,7 @@ module _ {X : Type 0} where
   cut-following : (xs : List X) (n m : ℕ) → drop n xs ≡ take m (drop n xs) ++ drop (n + m) xs
   cut-following xs n m = sym (take-append-drop m (drop n xs)) ∙ ap (λ (ys : List X). take m (drop n xs) ++ ys) (drop-drop m n xs)
 
--- ---- points
+-- ---- the points of ranges that are added to a batch
 
 pub kept-more : (es : List Ends) (e : Ends) (x : ℕ) → in_ends x es ≡ true → in_ends x (es ++ e ∷ []) ≡ true
 kept-more es e x h = list_any-append (is_between x) es (e ∷ []) ∙ or-left _ _ h
@@ -80,7 +80,7 @@ module _ {G : Type 0} (of : G → List TaskInfo) (os : List G) (at : ℕ) (o : G
       ∙ asked-parts test (drop end (of o)) (launched of (drop (at + 1) os))
       ∙ ap (λ (ts : List TaskInfo). list_any test (asked (drop end ts)) || list_any test (asked (launched of (drop (at + 1) os)))) (sym are)
 
-  -- the points of a batch are in no later task of its group and in no later group
+  -- no point of the batch is in a later task of its group, or in a later group
   free-following : (es : List Ends) (first count : ℕ) → first + count ≤ length (of o)
       → ((x : ℕ) → has_point x (asked (take count (drop first tasks))) ≡ true → in_ends x es ≡ true)
       → Apart (λ x. in_ends x es) (λ x. has_point x (asked (drop (first + count) tasks)))
@@ -124,7 +124,7 @@ module _ {G : Type 0} (of : G → List TaskInfo) (os : List G) (at : ℕ) (o : G
       ∙ ap (λ n. take (end - (t + 1)) (drop (t + 1) tasks) ++ drop n (launched of os)) sum)
       ∙ asked-parts test (take (end - (t + 1)) (drop (t + 1) tasks)) (drop (place of os at end) (launched of os))
 
--- a search for a point ends with the batch, if no later task has it
+-- a search for a point may end with the batch, if no later task has the point
 pub meets-near : (v : ResourceValue) (g : Ranges) (k : Key) (near following all : List Resource) (b : Bool) → v ≡ OfRanges g
     → ((test : Resource → Bool) → list_any test all ≡ (list_any test near || list_any test following)) → Apart (λ x. piece_in (point x) v) (λ x. has_point x following)
     → Meets (λ p. piece_in p v) (λ p. has_piece k p near) b → Meets (λ p. piece_in p v) (λ p. has_piece k p all) b

@@ -16,7 +16,7 @@ use Rattle.mes_session_fit.proofs.FitsLemmas.{or-left, breaks-over, breaks-lost,
 use Rattle.mes_session_fit.proofs.LaunchedLemmas.{take-place, drop-place}
 use Rattle.mes_session_fit.proofs.ListLemmas.{get-at}
 
--- ---- before and after a task
+-- ---- the tasks before and after a task: in other groups, and in its own group
 
 or-skip : (a b : Bool) → a ≡ false → (a || b) ≡ b
 or-skip a b e = rw e refl
@@ -53,7 +53,7 @@ module _ {X : Type 0} (p q r s : X → Bool) (parts : (x : X) → s x ≡ (q x |
   meets-second false e m true n = (n.0, n.1, parts n.0 ∙ ap (λ (b : Bool). b || r n.0) (m n.0 n.1) ∙ n.2)
   meets-second false e m false n = λ x has. parts x ∙ ap (λ (b : Bool). b || r x) (m x has) ∙ n x has
 
--- ---- a resource
+-- ---- one resource, from the results of the three checks
 
 module _ (offers : List Offer) (tasks : List TaskInfo) (i j : ℕ) (t : TaskInfo) (r : Resource) (rs : List Resource) (are : rs ≡ t.resources) (within : j < length t.resources) (is : r ≡ get_or rs j r)
     (is_task : slice_get tasks i ≡ Some t) (ahead : NoneAhead offers tasks i j) where
@@ -82,7 +82,7 @@ module _ (offers : List Offer) (tasks : List TaskInfo) (i j : ℕ) (t : TaskInfo
   answered amounts false e l true m = (λ _. breaks-following offers tasks i j t r is_task is_resource m.0 m.1 m.2, λ _. refl)
   answered amounts false e l false m = (λ f. absurd (cc), λ b. absurd (breaks-not offers tasks i j t r is_task is_resource ahead (enough amounts) l m b))
 
--- ---- a task, a group, all
+-- ---- all resources of a task, all tasks of a group, all groups
 
 pub ahead-of : (offers : List Offer) (tasks : List TaskInfo) (i j : ℕ) → NoneBefore offers tasks i → ((l : ℕ) → l < j → BreaksAt offers tasks i l → ⊥) → NoneAhead offers tasks i j
 ahead-of offers tasks i j before here k l (inl less) b = before k l less b

@@ -1,4 +1,4 @@
--- When tasks fit, and which resource is the first that does not.
+-- Lemmas about tasks that fit their offers, and about the first resource that does not fit.
 use Rattle.std.proofs.Common.{◌≡◌, ℕ, ◌+◌, ◌≤◌, ◌<◌, Bool, true, false, ◌&&◌, ◌||◌, not, ◌⊎◌, inl, inr, Some, List, [], ◌∷◌, ◌++◌, take, drop, slice_get, refl, sym, ◌∙◌, ap, subst, arith}
 use Rattle.std.specs.List.{list_any}
 use Rattle.std.specs.List.Sorted.{IsPermutation}
@@ -17,7 +17,7 @@ use Rattle.mes_session_fit.specs.Fits.{Piece, piece_in, amount_of, amount, piece
 use Rattle.mes_session_fit.proofs.KeyLemmas.{keys_agree-Decides}
 use Rattle.mes_session_fit.proofs.ListLemmas.{or-cases, any-flat_map, sum-flat_map, Found, any-found, any-at, get-take, get-drop}
 
--- ---- truth values
+-- ---- `&&`, `||` and `not`
 
 pub and-both : (a b : Bool) → (a && b) ≡ true → (a ≡ true) × (b ≡ true)
 and-both true true e = (refl, refl)
@@ -51,7 +51,7 @@ not-offered a b e = rw e refl
 pub free : (a b : Bool) → a ≡ true → b ≡ false → (a && not b) ≡ true
 free a b e f = rw (e, f) refl
 
--- ---- keys
+-- ---- the key of a resource
 
 pub of-own : (r : Resource) → is_of (key_of r) r ≡ true
 of-own r = (keys_agree-Decides (key_of r) (key_of r)).1 refl
@@ -62,7 +62,7 @@ of-key k r e = (keys_agree-Decides k (key_of r)).0 e
 pub own-piece : (p : Piece) (r : Resource) → piece_in p r.value ≡ true → piece_of (key_of r) p r ≡ true
 own-piece p r e = and-true _ _ (of-own r) e
 
--- ---- a resource of tasks that passes a test
+-- ---- the task and the index of a resource that passes a test
 
 pub record FoundIn (test : Resource → Bool) (tasks : List TaskInfo) : Type 0 where
   pub task : ℕ
@@ -83,7 +83,7 @@ pub asked-at : (test : Resource → Bool) (tasks : List TaskInfo) (i j : ℕ) (t
 asked-at test tasks i j t r e f passes =
     any-flat_map test (λ t. t.resources) tasks ∙ any-at (λ (t : TaskInfo). list_any test t.resources) tasks i t e (any-at test t.resources j r f passes)
 
--- ---- amounts
+-- ---- a key without resources, or with another type than SCALAR, has the amount 0
 
 pub some-of : (k : Key) (rs : List Resource) → 0 < amount k rs → list_any (is_of k) rs ≡ true
 some-of k [] h = absurd (omega arith)
@@ -115,7 +115,7 @@ no-amount r none (q ∷ rs) =
     ] in
     sum_by-cons (amount_of (key_of r)) q rs ∙ omega (arith, here, no-amount r none rs)
 
--- ---- the rule
+-- ---- tasks fit if and only if each of their resources fits
 
 pub no-breach : (offers : List Offer) (tasks : List TaskInfo) → Fits offers tasks → (i j : ℕ) → BreaksAt offers tasks i j → ⊥
 no-breach offers tasks f i j b = elim b.breaks [
@@ -155,7 +155,7 @@ fits-none offers tasks none = record {
   pieces = λ i t e k p has. all-free offers tasks none i t e k p has (either _);
 }
 
--- ---- the order of the offers
+-- ---- the order of the offers does not matter
 
 pub fits-order : (offers ones : List Offer) (tasks : List TaskInfo) → IsPermutation offers ones → Fits offers tasks → Fits ones tasks
 fits-order offers ones tasks moved f =
@@ -168,7 +168,7 @@ fits-order offers ones tasks moved f =
       pieces = λ i t e k p has. subst (λ (b : Bool). (b && not (has_piece k p (asked (others i tasks)))) ≡ true) (same_pieces k p) (f.pieces i t e k p has);
     }
 
--- ---- the first breach
+-- ---- at most one resource is the first that does not fit
 
 order-cases : (i j k l : ℕ) → ComesBefore i j k l ⊎ (ComesBefore k l i j ⊎ ((i ≡ k) × (j ≡ l)))
 order-cases i j k l = elim (le-or-lt k i) [
@@ -192,14 +192,14 @@ one-first offers tasks i j k l f g = elim (order-cases i j k l) [
   | inr (inr same) ↦ same
 ]
 
--- ---- the other tasks
+-- ---- the other tasks are the tasks before and after index i
 
 others-parts : (test : Resource → Bool) (i : ℕ) (tasks : List TaskInfo) → list_any test (asked (others i tasks)) ≡ (list_any test (asked (take i tasks)) || list_any test (asked (drop (i + 1) tasks)))
 others-parts test i tasks =
     ap (list_any test) (flat_map-append (λ (t : TaskInfo). t.resources) (take i tasks) (drop (i + 1) tasks))
     ∙ list_any-append test (asked (take i tasks)) (asked (drop (i + 1) tasks))
 
--- ---- whether a resource breaks the rule, if no earlier one does
+-- ---- when a resource does not fit, if all earlier resources fit
 
 module _ (offers : List Offer) (tasks : List TaskInfo) (i j : ℕ) (t : TaskInfo) (r : Resource) (is_task : slice_get tasks i ≡ Some t) (is_resource : slice_get t.resources j ≡ Some r) where
   abbrev at : Breaks offers tasks (others i tasks) r → BreaksAt offers tasks i j

@@ -1,4 +1,5 @@
--- The index of a group's task among all tasks, and the tasks before and after it.
+-- Lemmas about the index of a group's task among all tasks, and about the tasks before and after
+-- it.
 use Rattle.std.proofs.Common.{◌≡◌, ℕ, zero, suc, ◌+◌, ◌≤◌, ◌<◌, Some, List, [], ◌∷◌, ◌++◌, length, take, drop, get_or, slice_get, refl, sym, ◌∙◌, ap, add-one, append_assoc, length-append, arith}
 use Rattle.std.specs.List.{flat_map}
 use Rattle.std.proofs.Math.Nat.{suc-add, zero-add}

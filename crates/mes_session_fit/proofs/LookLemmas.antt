@@ -1,4 +1,4 @@
--- Searches in one of several lists, and in a value of one type.
+-- Lemmas about searches: in several lists, and in values of the type RANGES or SET.
 use Rattle.std.proofs.Common.{◌≡◌, ℕ, ◌+◌, ◌≤◌, ◌<◌, Bool, true, false, ◌||◌, ◌⊎◌, inl, inr, Option, Some, None, List, length, take, get_or, max, IfSome, refl, sym, ◌∙◌, ap, arith}
 use Rattle.std.specs.List.{list_any, flat_map}
 use Rattle.std.specs.Str.{bytes_eq}
@@ -25,7 +25,7 @@ or-right false b e = e
 or-none : (a b : Bool) → a ≡ false → b ≡ false → (a || b) ≡ false
 or-none a b e f = rw (e, f) refl
 
--- ---- lists of lists
+-- ---- a search in several lists, list by list
 
 module _ {X Y : Type 0} (p : Y → Bool) (f : X → List Y) (xs : List X) (i : ℕ) (x : X) (within : i < length xs) (is : x ≡ get_or xs i x) (ys : List Y) (part : ys ≡ f x) where
   passes : (b : Bool) → list_any p ys ≡ b → list_any p (f (get_or xs i x)) ≡ b
@@ -44,7 +44,7 @@ module _ {X Y : Type 0} (p : Y → Bool) (f : X → List Y) (xs : List X) (i : �
   pub none-more : list_any p (flat_map f (take i xs)) ≡ false → list_any p ys ≡ false → list_any p (flat_map f (take (i + 1) xs)) ≡ false
   none-more e g = any-more ∙ or-none _ _ e g
 
--- ---- items
+-- ---- a search in the items of a set, item by item
 
 pub item-in : (ns : List (List ℕ)) (i : ℕ) (n : List ℕ) → i < length ns → n ≡ get_or ns i n → in_items n ns ≡ true
 item-in ns i n within is = list_any_at (bytes_eq n) ns i n within ((bytes_eq-Decides n (get_or ns i n)).1 is)
@@ -56,7 +56,7 @@ items-more holds b ns i n within is so_far here m e = elim (or-cases _ _ (sym (l
   | inr now ↦ (let same : m ≡ n = (bytes_eq-Decides m (get_or ns i n)).0 now ∙ sym is in ap holds same ∙ here)
 ]
 
--- ---- values of one type
+-- ---- a search in two values of the same type
 
 pub points-meet : (v w : ResourceValue) (a b : Ranges) (gs hs : List Range) (r : Bool) → v ≡ OfRanges a → w ≡ OfRanges b → gs ≡ a.range → hs ≡ b.range
     → Meets (λ x. in_ranges x gs) (λ x. in_ranges x hs) r → Meets (λ p. piece_in p v) (λ p. piece_in p w) r
@@ -92,7 +92,7 @@ items-lack q v a ns false is_v is_ns h = λ p e. elim p as (λ (p : Piece). piec
   | item n ↦ λ has. h n (ap (in_items n) is_ns ∙ sym (ap (piece_in (item n)) is_v) ∙ has)
 ] e
 
--- ---- how far numbers pass
+-- ---- `Reaches` for two tests that are joined, and for one test that implies another
 
 far-cases : (m n x : ℕ) → x ≤ max m n → (x ≤ m) ⊎ (x ≤ n)
 far-cases m n x h = elim (leb_tells x m) [

@@ -1,4 +1,4 @@
--- The remaining amount while it is taken.
+-- Lemmas about the amount of a key that remains in the offers while tasks take from it.
 use Rattle.std.proofs.Common.{◌≡◌, ℕ, zero, suc, ◌+◌, ◌≤◌, ◌<◌, Some, List, [], ◌∷◌, ◌++◌, length, take, drop, get_or, slice_get, Bool, true, false, not, IsTrue, IsFalse, ◌↔◌, refl, sym, ◌∙◌, ap, add-one, arith}
 use Rattle.std.specs.List.{list_any, flat_map, sum_by}
 use Rattle.std.proofs.lemmas.Option.{slice_get_within}
@@ -77,7 +77,7 @@ parts-more {X = X} g f xs i x h e = omega (arith, sum-more (λ (z : X). sum_by g
 asked-both : (k : Key) (ts us : List TaskInfo) → amount k (asked (ts ++ us)) ≡ amount k (asked ts) + amount k (asked us)
 asked-both k ts us = ap (amount k) (flat_map-append (λ (t : TaskInfo). t.resources) ts us) ∙ sum_by-append (amount_of k) (asked ts) (asked us)
 
--- if no earlier task has the key, its amount is that of this task and the later ones
+-- if no earlier task has the key, all tasks take as much of it as this task and the later ones
 pub amount-from : {G : Type 0} (of : G → List TaskInfo) (os : List G) (at : ℕ) (o : G) → at < length os → o ≡ get_or os at o → (t : ℕ) (tasks : List TaskInfo) → tasks ≡ of o → t ≤ length (of o)
     → (k : Key) → list_any (is_of k) (asked (take (place of os at t) (launched of os))) ≡ false
     → amount k (asked (launched of os)) ≡ amount k (asked (drop t tasks)) + amount k (asked (launched of (drop (at + 1) os)))
@@ -95,7 +95,7 @@ amount-from of os at o within is t tasks are inside k none =
       none-of k (asked (take (place of os at t) (launched of os))) none,
     )
 
--- taking fails if and only if the request exceeds the amount
+-- taking `wanted` fails if and only if it exceeds the available amount
 pub taken-all : (taken : Bool) (has wanted : ℕ) → (IsTrue taken → wanted ≤ has) → (IsFalse taken → has < wanted) → IsTrue (not taken) ↔ has < wanted
 taken-all true has wanted enough short = (λ e. absurd (cc), λ h. absurd (omega (arith, enough refl)))
 taken-all false has wanted enough short = (λ e. short refl, λ h. refl)

@@ -1,4 +1,4 @@
--- Tasks whose points are compared at once with those of all later tasks.
+-- Batches of tasks: their points are compared at once with those of all later tasks.
 use Rattle.std.specs.Prelude.{◌≡◌, ℕ, ◌≤◌, ◌<◌, Bool, true, false, IsTrue, ◌&&◌, nat_le, List, length, drop, get_or, slice_get, Some}
 use Rattle.std.specs.List.{list_any}
 use Rattle.mes_model.specs.Resource.{Resource}
@@ -9,26 +9,26 @@ use Rattle.mes_session_fit.specs.Fits.{piece_in, asked}
 use Rattle.mes_session_fit.specs.Fits.Piece.{point}
 use Rattle.mes_session_fit.specs.Launched.{launched, place}
 
--- the number is between the ends, both included
+-- number x is between the two ends, both included
 abbrev pub is_between : ℕ → Ends → Bool
 is_between x e = nat_le e.first x && nat_le x e.last
 
 abbrev pub in_ends : ℕ → List Ends → Bool
 in_ends x es = list_any (is_between x) es
 
--- a resource of any key has the point
+-- one of the resources, whatever its key, has the point x
 abbrev pub has_point : ℕ → List Resource → Bool
 has_point x rs = list_any (λ r. piece_in (point x) r.value) rs
 
--- no number passes both tests
+-- no number passes both tests p and q
 abbrev pub Apart : (ℕ → Bool) → (ℕ → Bool) → Type 0
 Apart p q = (x : ℕ) → p x ≡ true → q x ≡ false
 
--- no task from index `end` of group `at` on, or of a later group, has a point that passes
+-- no point that passes the test is in a task of group `at` from index `end` on, or in a later group
 abbrev pub FreeFrom : {G : Type 0} → (G → List TaskInfo) → List G → ℕ → ℕ → (ℕ → Bool) → Type 0
 FreeFrom tasks groups at end p = Apart p (λ x. has_point x (asked (drop (place tasks groups at end) (launched tasks groups))))
 
--- a batch of tasks of the group at `at`; if it is apart, no later task has one of its points
+-- batch b has tasks of group `at`; if `b.apart` is true, no task after the batch has a point of it
 pub record IsBatch {G : Type 0} (tasks : G → List TaskInfo) (groups : List G) (at : ℕ) (b : Batch) : Type 0 where
   pub within : (group : G) → group ≡ get_or groups at group → b.end ≤ length (tasks group)
   pub apart : IsTrue b.apart → (group : G) → group ≡ get_or groups at group → (i : ℕ) (t : TaskInfo) → b.first ≤ i → i < b.end → slice_get (tasks group) i ≡ Some t → FreeFrom tasks groups at b.end (λ x. has_point x t.resources)

@@ -1,5 +1,5 @@
--- Whether launched tasks fit their offers (mesos.proto, `Resource`, `Value`, `Offer.Operation`).
--- Resources of one key are compared, of whichever offer or task they are.
+-- When launched tasks fit their offers (mesos.proto, `Resource`, `Value`, `Offer.Operation`).
+-- Resources with equal keys are compared, whatever their offers and tasks.
 use Rattle.std.specs.Prelude.{◌≡◌, ◌⊎◌, ℕ, ◌+◌, ◌<◌, ◌≤◌, Bool, true, false, ◌&&◌, not, if◌then◌else◌, nat_le, List, ◌++◌, take, drop, slice_get, Some}
 use Rattle.std.specs.List.{list_any, flat_map, sum_by}
 use Rattle.std.specs.Str.{bytes_eq}
@@ -13,18 +13,18 @@ use Rattle.mes_session_fit.specs.Keys.{Key, key_of, is_of}
 
 -- ---- what a value contains
 
--- SCALAR: an amount in thousandths
+-- the amount of a SCALAR value in thousandths, or 0 for another type
 abbrev pub thousandths_in : ResourceValue → ℕ
 thousandths_in (Scalar v) = v.value
 thousandths_in (Ranges v) = 0
 thousandths_in (Set v) = 0
 
--- RANGES: its points; SET: its items
+-- a piece of a value: a point (a number in one of the RANGES) or an item (of a SET)
 pub data Piece : Type 0 where
   point : ℕ → Piece
   item : List ℕ → Piece
 
--- both ends of a range are in it; it is empty if its last number is below its first
+-- number x is in a range, both ends included; a range whose last number is below its first is empty
 abbrev pub in_range : ℕ → Range → Bool
 in_range x g = nat_le g.first x && nat_le x g.last
 
@@ -42,7 +42,7 @@ piece_in (item n) (Scalar v) = false
 piece_in (item n) (Ranges v) = false
 piece_in (item n) (Set v) = in_items n v.item
 
--- ---- what resources of a key contain
+-- ---- the amounts and the pieces of the resources that have a key
 
 abbrev pub amount_of : Key → Resource → ℕ
 amount_of k r = if is_of k r then thousandths_in r.value else 0
@@ -56,7 +56,7 @@ piece_of k p r = is_of k r && piece_in p r.value
 abbrev pub has_piece : Key → Piece → List Resource → Bool
 has_piece k p rs = list_any (piece_of k p) rs
 
--- ---- offers and tasks
+-- ---- the resources of offers and of tasks
 
 abbrev pub offered : List Offer → List Resource
 offered offers = flat_map (λ o. o.resources) offers
@@ -68,18 +68,20 @@ asked tasks = flat_map (λ t. t.resources) tasks
 abbrev pub others : ℕ → List TaskInfo → List TaskInfo
 others i tasks = take i tasks ++ drop (i + 1) tasks
 
--- an offer has the piece, and no other task takes it
+-- an offer has piece p of key k, and no other task takes that piece
 abbrev pub is_free : Key → Piece → List Offer → List TaskInfo → Bool
 is_free k p offers rest = has_piece k p (offered offers) && not (has_piece k p (asked rest))
 
--- the tasks take at most the offered amount of each key, and each piece is offered and taken once
+-- tasks fit offers: of each key they take at most the offered amount; each piece that they take is
+-- offered, and only one task takes it
 pub record Fits (offers : List Offer) (tasks : List TaskInfo) : Type 0 where
   pub amounts : (k : Key) → amount k (asked tasks) ≤ amount k (offered offers)
   pub pieces : (i : ℕ) (t : TaskInfo) → slice_get tasks i ≡ Some t → (k : Key) (p : Piece) → has_piece k p t.resources ≡ true → is_free k p offers (others i tasks) ≡ true
 
 -- ---- a resource that does not fit
 
--- too much of its key is taken, or a piece of it is not offered or is another task's too
+-- resource r does not fit: the tasks take too much of its key, or one of its pieces is not offered
+-- or is taken by another task too
 abbrev pub Breaks : List Offer → List TaskInfo → List TaskInfo → Resource → Type 0
 Breaks offers tasks rest r =
     (amount (key_of r) (offered offers) < amount (key_of r) (asked tasks))
@@ -93,15 +95,15 @@ pub record BreaksAt (offers : List Offer) (tasks : List TaskInfo) (i j : ℕ) : 
   pub resource_at : slice_get task.resources j ≡ Some resource
   pub breaks : Breaks offers tasks (others i tasks) resource
 
--- the order of resources: by task, then by position in the task
+-- resource l of task k comes before resource j of task i
 abbrev pub ComesBefore : ℕ → ℕ → ℕ → ℕ → Type 0
 ComesBefore k l i j = (k < i) ⊎ ((k ≡ i) × (l < j))
 
--- every earlier resource fits
+-- every resource before resource j of task i fits
 abbrev pub NoneAhead : List Offer → List TaskInfo → ℕ → ℕ → Type 0
 NoneAhead offers tasks i j = (k l : ℕ) → ComesBefore k l i j → BreaksAt offers tasks k l → ⊥
 
--- every resource of a task before index i fits
+-- every resource of the tasks before index i fits
 abbrev pub NoneBefore : List Offer → List TaskInfo → ℕ → Type 0
 NoneBefore offers tasks i = (k l : ℕ) → k < i → BreaksAt offers tasks k l → ⊥
 

@@ -48,7 +48,7 @@ key_of r = record {
   provider_id = r.provider_id;
 }
 
--- ---- equality of keys as a truth value, by their stored form
+-- ---- equality of keys as a `Bool`, by comparing their encodings
 
 abbrev pub type_number : ValueType → ℕ
 type_number scalar = 0
@@ -105,17 +105,17 @@ key_code =
       provider_id = p.1.1.1.1.1.1.1.1;
     }) (λ _. refl)
 
--- whether two stored values are equal
+-- true if and only if two encodings are equal
 abbrev pub same_stored : Gv → Gv → Bool
 same_stored gnil gnil = true
 same_stored (gnum m) (gnum n) = m == n
 same_stored (gcons a b) (gcons c d) = same_stored a c && same_stored b d
 same_stored _ _ = false
 
--- whether two keys are equal
+-- true if and only if two keys are equal
 unfoldable pub keys_agree : Key → Key → Bool
 keys_agree j k = same_stored (key_code.code j) (key_code.code k)
 
--- whether a resource has a key
+-- true if and only if the resource has the key k
 abbrev pub is_of : Key → Resource → Bool
 is_of k r = keys_agree k (key_of r)

@@ -13,15 +13,15 @@ launched_by (of.Launch tasks) = tasks
 abbrev pub launched : {G : Type 0} → (G → List TaskInfo) → List G → List TaskInfo
 launched tasks groups = flat_map tasks groups
 
--- the index among all tasks of the task at t of the group at g
+-- the index, among all tasks, of task t of group g
 abbrev pub place : {G : Type 0} → (G → List TaskInfo) → List G → ℕ → ℕ → ℕ
 place tasks groups g t = length (launched tasks (take g groups)) + t
 
--- the group at `at` exists, and its task at `task`
+-- group `at` exists, and has a task at index `task`
 pub record IsInRange {G : Type 0} (tasks : G → List TaskInfo) (groups : List G) (at task : ℕ) : Type 0 where
   pub group_within : at < length groups
   pub task_within : (group : G) → group ≡ get_or groups at group → task < length (tasks group)
 
--- a number of tasks as an index, which is at most 2^64 - 1
+-- the reported index of the task at index n: n, but at most 2^64 - 1
 abbrev pub as_index : ℕ → ℕ
 as_index n = min n 18446744073709551615

@@ -6,12 +6,12 @@ use Rattle.mes_session_fit.specs.Keys.{Key}
 use Rattle.mes_session_fit.specs.Fits.{amount, offered}
 use Rattle.mes_session_fit.specs.declared.supply.Supply.{Supply}
 
--- the resources from an index of the first offer on
+-- the resources of all offers, without the first `resource` resources of the first offer
 abbrev pub from : ℕ → List Offer → List Resource
 from resource [] = []
 from resource (o ∷ os) = drop resource o.resources ++ offered os
 
--- the remaining amount
+-- the amount of key k that remains in the offers
 abbrev pub rest : Key → List Offer → Supply → ℕ
 rest k offers s = s.left + amount k (from s.resource (drop s.offer offers))
 

@@ -19,7 +19,7 @@ struct Ends {
     last: u64,
 }
 
-/// The ranges of the tasks of a batch, of all keys.
+/// The ranges in the resources of a batch's tasks, whatever the keys of the resources.
 type Taken = ArrayVec<Ends, RANGES_AT_ONCE>;
 
 /// Consecutive tasks of a group.
@@ -33,7 +33,7 @@ pub(crate) struct Batch {
     pub apart: bool,
 }
 
-/// Adds ranges; returns `false` if some do not fit.
+/// Adds ranges to `taken`; returns `false` if its capacity is too small.
 fn add_ranges(taken: &mut Taken, ranges: &[Range]) -> bool
     ensures kept { (x : ℕ) → in_ends x taken.old.items ≡ true → in_ends x taken.new.items ≡ true }
     ensures added { IsTrue result → (x : ℕ) → in_ranges x ranges.now ≡ true
@@ -75,7 +75,8 @@ fn add_resources(taken: &mut Taken, resources: &[Resource]) -> bool
     true
 }
 
-/// Adds the ranges of tasks up to the first task that does not fit, and returns the number added.
+/// Adds the ranges of consecutive tasks until `taken` is full. Returns the number of tasks of which
+/// all ranges are added.
 fn add_tasks(taken: &mut Taken, tasks: &[TaskInfo]) -> usize
     ensures within { result ≤ length tasks.now }
     ensures added { (x : ℕ) → has_point x (asked (take result tasks.now)) ≡ true
@@ -89,7 +90,7 @@ fn add_tasks(taken: &mut Taken, tasks: &[TaskInfo]) -> usize
     tasks.len()
 }
 
-/// Returns whether a range has none of the points.
+/// Returns whether a range contains none of the points of `taken`.
 fn range_is_apart(taken: &[Ends], range: &Range) -> bool
     ensures { IsTrue result → Apart (λ x. in_ends x taken.now) (λ x. in_range x range.now) }
 {
@@ -156,8 +157,8 @@ fn groups_are_apart<L: TaskGroup>(taken: &[Ends], launches: &[L]) -> bool
     true
 }
 
-/// Returns the batch that begins at a task, as long as fits. A task with too many ranges is a batch
-/// of its own and is not compared.
+/// Returns the longest batch of at most `RANGES_AT_ONCE` ranges that begins at task `first` of
+/// group `at`. A task with more ranges is a batch of its own and is not compared with later tasks.
 fn batch_from<L: TaskGroup>(launches: &[L], at: usize, first: usize) -> Batch
     requires { IsInRange L.tasks launches.now at first }
     ensures first { result.first ≡ first }
@@ -181,7 +182,8 @@ fn batch_from<L: TaskGroup>(launches: &[L], at: usize, first: usize) -> Batch
     Batch { first, end, apart }
 }
 
-/// Returns the batch of a task: `batch` if the task is in it, or else the next one.
+/// Returns the batch that contains a task: `batch` if the task is in it, or else the batch that
+/// begins at the task.
 pub(crate) fn batch_of<L: TaskGroup>(launches: &[L], at: usize, task: usize, batch: Batch) -> Batch
     requires is_index { IsInRange L.tasks launches.now at task }
     requires begun { batch.first ≤ task }

@@ -1,5 +1,5 @@
-//! The first resource that does not fit. The checks are in `supply.rt`, `unoffered.rt` and
-//! `other_tasks.rt`.
+//! Search for the first resource that does not fit the offers. The checks of one resource are in
+//! `supply.rt`, `unoffered.rt` and `other_tasks.rt`.
 ghost use Rattle.std.specs.Prelude.{◌≡◌, ◌+◌, ◌<◌, ◌≤◌, ◌⊎◌, ◌↔◌, ◌++◌, ℕ, take, length, slice_get, get_or, Some, true, IsTrue, IsFalse, IfSome, IfNone};
 ghost use Rattle.std.specs.List.{list_any};
 ghost use Rattle.mes_session_fit.specs.Keys.{key_of, is_of};
@@ -15,7 +15,7 @@ use crate::task_group::TaskGroup;
 use crate::unoffered::is_unoffered;
 use mes_model::{Resource, ResourceValue, TaskInfo};
 
-/// The resource that does not fit the offers.
+/// The first resource that does not fit the offers.
 #[derive(Clone, Copy, Debug, PartialEq, Eq)]
 pub struct Breach {
     /// The index of the task among all launched tasks, from 0.
@@ -24,8 +24,8 @@ pub struct Breach {
     pub resource: usize,
 }
 
-/// Returns whether the tasks take more of the resource's key than the offers have. An earlier
-/// resource of the key was already checked.
+/// Returns whether a scalar resource is the first of its key and the tasks take more of that key
+/// than the offers have. Later resources of the key need no check.
 fn exceeds_first_time<O: OfferList, L: TaskGroup>(
     offers: &O,
     launches: &[L],
@@ -53,7 +53,7 @@ fn exceeds_first_time<O: OfferList, L: TaskGroup>(
     }
 }
 
-/// Returns whether a resource of a task does not fit, if all earlier ones do.
+/// Returns whether a resource of a task does not fit, given that all earlier resources fit.
 fn breaks<O: OfferList, L: TaskGroup>(
     offers: &O,
     near: &mut usize,
@@ -89,7 +89,8 @@ fn breaks<O: OfferList, L: TaskGroup>(
     meets_another(launches, at, index, resource, batch)
 }
 
-/// Returns the first resource of a task that does not fit, if all earlier tasks fit.
+/// Returns the index of the first resource of a task that does not fit, given that all earlier
+/// tasks fit.
 fn breach_of_task<O: OfferList, L: TaskGroup>(
     offers: &O,
     near: &mut usize,
@@ -121,7 +122,8 @@ fn breach_of_task<O: OfferList, L: TaskGroup>(
     None
 }
 
-/// Returns the first task of a group with a resource that does not fit, if all earlier groups fit.
+/// Returns the index of the first task of a group that has a resource that does not fit, and the
+/// index of that resource, given that all earlier groups fit.
 fn breach_of_group<O: OfferList, L: TaskGroup>(
     offers: &O,
     near: &mut usize,

@@ -6,7 +6,7 @@ ghost use Rattle.mes_session_fit.specs.Keys.{key_of, keys_agree, type_of};
 use mes_json::Text;
 use mes_model::{Boxed, Id, Kept, Label, Labels, Reservation, Resource, ResourceValue};
 
-/// The role of a resource without one.
+/// The role of a resource that names no role.
 const ANY_ROLE: &str = "*";
 
 /// Returns whether two resources have one key: they agree in all but value and allocation. The name
@@ -115,7 +115,7 @@ fn same_kept(disk: &Kept, other: &Kept) -> bool
     disk.get().same(other.get())
 }
 
-/// Returns whether two reservations in the older form are equal or both absent.
+/// Returns whether two `reservation` members are equal or both absent.
 fn same_reserved(
     reservation: &Option<Boxed<Reservation>>,
     other: &Option<Boxed<Reservation>>,

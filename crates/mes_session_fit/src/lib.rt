@@ -1,5 +1,6 @@
 #![tactic(auto)]
-//! Whether tasks fit the offers that they are launched on (mesos.proto, `Offer.Operation.Launch`).
+//! Decides whether tasks fit the offers that they are launched on (mesos.proto,
+//! `Offer.Operation.Launch`).
 //!
 //!     let breach = first_breach(&offers.as_slice(), operations);
 //!
@@ -7,9 +8,10 @@
 //! offered, and only one task may take it. The contract promises the first resource that does not
 //! fit.
 //!
-//! `breach` has the search, `key` the key of a resource, and `supply`, `unoffered`, `other_tasks`
-//! the three checks. The crate `mes_session_state` uses it for S6. The tests are in
-//! `mes_session_fit_tests`.
+//! `breach` has the search for that resource, and `supply`, `unoffered` and `other_tasks` the three
+//! checks of a resource. `range_walk`, `shared_pieces` and `batch` are parts of the checks, and
+//! `key` compares keys. The crate `mes_session_state` uses this crate for the refusal S6
+//! (`Exceeds`). The tests are in `mes_session_fit_tests`.
 
 mod batch;
 mod breach;

@@ -4,9 +4,9 @@ ghost use Rattle.mes_model.specs.Offer.{Offer as OfferValue};
 
 use mes_model::Offer;
 
-/// A list of offers: a slice, or the offers of a map that a call names.
+/// A list of offers: a slice, or the outstanding offers that a call names.
 pub trait OfferList {
-    /// The offers.
+    /// The offers of the list, in order.
     ghost offers: { Self → List OfferValue };
 
     /// Returns the number of offers.

@@ -1,4 +1,4 @@
-//! Searches in the tasks before and after a resource's own.
+//! Searches in the tasks before and after the task of a resource.
 ghost use Rattle.std.specs.Prelude.{◌≡◌, ◌+◌, ◌<◌, ◌++◌, drop, take, IsTrue};
 ghost use Rattle.std.specs.List.{list_any};
 ghost use Rattle.mes_session_fit.specs.Keys.{key_of, is_of};
@@ -58,7 +58,8 @@ pub(crate) fn has_key_before<L: TaskGroup>(
     groups_have_key(&launches[..at], key) || tasks_have_key(&tasks[..task], key)
 }
 
-/// Returns whether a later task takes a piece of this resource.
+/// Returns whether a later task takes a piece (a point or an item) that `resource` has, under the
+/// same key.
 fn overlaps_later<L: TaskGroup>(launches: &[L], at: usize, task: usize, resource: &Resource) -> bool
     requires { IsInRange L.tasks launches.now at task }
     ensures { Meets (λ p. piece_in p resource.now.value)
@@ -73,8 +74,8 @@ fn overlaps_later<L: TaskGroup>(launches: &[L], at: usize, task: usize, resource
     tasks_meet(resource, &tasks[task + 1..]) || groups_meet(resource, &launches[at + 1..])
 }
 
-/// Like [`overlaps_later`], but for a task of a batch. If no task after the batch has its points,
-/// only the batch is searched for points.
+/// Like [`overlaps_later`], but for a task of a batch. If no task after the batch has a point of
+/// the batch, points are searched for only in the batch.
 pub(crate) fn meets_another<L: TaskGroup>(
     launches: &[L],
     at: usize,

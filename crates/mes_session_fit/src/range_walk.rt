@@ -1,4 +1,5 @@
-//! How far ranges cover consecutive numbers from a point on. Used by `unoffered.rt`.
+//! Search for the end of the consecutive numbers that ranges cover from a given number on. Used by
+//! `unoffered.rt`.
 ghost use Rattle.std.specs.Prelude.{◌≡◌, ◌≤◌, ℕ, true, false, Some, IfSome};
 ghost use Rattle.mes_session_fit.specs.Keys.{key_of};
 ghost use Rattle.mes_session_fit.specs.Fits.{in_ranges, piece_of, has_piece, offered};
@@ -34,7 +35,7 @@ fn is_far(end: Option<u64>, wanted: u64) -> bool
 }
 
 /// Returns the largest end of the ranges that contain `at`, or the first such end that is at least
-/// `wanted`.
+/// `wanted`. Returns `None` if no range contains `at`.
 pub(crate) fn range_reach(ranges: &[Range], at: u64, wanted: u64) -> Option<u64>
     ensures { Reaches (λ x. in_ranges x ranges.now) at result }
 {
@@ -50,7 +51,7 @@ pub(crate) fn range_reach(ranges: &[Range], at: u64, wanted: u64) -> Option<u64>
     reach
 }
 
-/// Like [`range_reach`], but for a resource of the key.
+/// Like [`range_reach`], but for the ranges of one resource that has the key of `key`.
 fn value_reach(resource: &Resource, key: &Resource, at: u64, wanted: u64) -> Option<u64>
     ensures { Reaches (λ x. piece_of (key_of key.now) (point x) resource.now) at result }
 {
@@ -63,7 +64,7 @@ fn value_reach(resource: &Resource, key: &Resource, at: u64, wanted: u64) -> Opt
     None
 }
 
-/// Like [`range_reach`], but for the resources of the key.
+/// Like [`range_reach`], but for the ranges of all resources that have the key of `key`.
 pub(crate) fn resource_reach(
     resources: &[Resource],
     key: &Resource,
@@ -83,8 +84,8 @@ pub(crate) fn resource_reach(
     reach
 }
 
-/// Like [`range_reach`], but for the offers beside `near`; returns only an end of at least `wanted`
-/// and stores the offer's index in `near`.
+/// Like [`range_reach`], but for the offers within `NEAR_OFFERS` of index `near`. Returns only an
+/// end of at least `wanted`, and then stores the index of its offer in `near`.
 fn last_coverage<O: OfferList>(
     offers: &O,
     near: &mut usize,
@@ -112,7 +113,8 @@ fn last_coverage<O: OfferList>(
     None
 }
 
-/// Like [`range_reach`], but for all offers; stores the index of the offer that reaches `wanted`.
+/// Like [`range_reach`], but for all offers. If an offer reaches `wanted`, stores its index in
+/// `near`.
 fn coverage<O: OfferList>(
     offers: &O,
     near: &mut usize,
@@ -140,8 +142,8 @@ fn coverage<O: OfferList>(
     reach
 }
 
-/// Like [`range_reach`], but for the offers. Those beside `near` are searched first, because
-/// consecutive ranges usually are in consecutive offers.
+/// Like [`range_reach`], but for the offers. Searches the offers next to index `near` first,
+/// because consecutive ranges usually are in consecutive offers.
 pub(crate) fn offer_reach<O: OfferList>(
     offers: &O,
     near: &mut usize,

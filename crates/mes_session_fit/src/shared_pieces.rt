@@ -1,4 +1,4 @@
-//! Pieces that several tasks take. A piece is a point of a range or an item of a set.
+//! Search for pieces that several tasks take. A piece is a point of a range or an item of a set.
 ghost use Rattle.std.specs.Prelude.{◌≡◌, ℕ, List};
 ghost use Rattle.std.specs.List.{list_any};
 ghost use Rattle.mes_session_fit.specs.Keys.{key_of, is_of};
@@ -72,7 +72,7 @@ fn values_meet(value: &ResourceValue, other: &ResourceValue) -> bool
     }
 }
 
-/// Returns whether resources of the same key have a piece of this one.
+/// Returns whether one of `others` has the key of `resource` and a piece in common with it.
 fn resources_meet(resource: &Resource, others: &[Resource]) -> bool
     ensures { Meets (λ p. piece_in p resource.now.value)
         (λ p. has_piece (key_of resource.now) p others.now) result }

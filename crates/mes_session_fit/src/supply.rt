@@ -1,5 +1,5 @@
-//! Comparison of amounts without sums: each requested amount is subtracted from the remaining
-//! offers.
+//! Comparison of amounts without sums: each requested amount is subtracted from the amount that
+//! remains in the offers.
 ghost use Rattle.std.specs.Prelude.{◌≡◌, ◌+◌, ◌<◌, ◌≤◌, ◌↔◌, take, IsTrue, IsFalse, false};
 ghost use Rattle.std.specs.List.{list_any};
 ghost use Rattle.mes_session_fit.specs.Keys.{key_of, is_of};
@@ -12,7 +12,8 @@ use crate::offer_list::OfferList;
 use crate::task_group::TaskGroup;
 use mes_model::{Resource, ResourceValue, TaskInfo};
 
-/// The remaining amount of a key: `left` of the current resource, and all of the later ones.
+/// The amount of a key that remains in the offers: `left` of the current resource, and all of each
+/// later resource.
 #[derive(Drop)]
 struct Supply {
     offer: usize,
@@ -31,7 +32,7 @@ fn amount_under(key: &Resource, resource: &Resource) -> u64
 }
 
 impl Supply {
-    /// Advances by a resource or an offer; returns `false` at the end.
+    /// Advances to the next resource or offer; returns `false` after the last offer.
     fn step<O: OfferList>(&mut self, offers: &O, key: &Resource) -> bool
         requires { self.old.left ≡ 0 }
         ensures same { IsTrue result → rest (key_of key.now) (O.offers offers.now) self.new
@@ -54,7 +55,7 @@ impl Supply {
         true
     }
 
-    /// Takes an amount; returns `false` if less remains.
+    /// Takes the amount `wanted`; returns `false` if less than that remains.
     fn draw<O: OfferList>(&mut self, offers: &O, key: &Resource, wanted: u64) -> bool
         ensures enough { IsTrue result → wanted
             + rest (key_of key.now) (O.offers offers.now) self.new
@@ -131,8 +132,8 @@ impl Supply {
     }
 }
 
-/// Returns whether the tasks take more of the key than the offers have. Earlier tasks have nothing
-/// of it.
+/// Returns whether the tasks take more of the key than the offers have. No task before task `task`
+/// of group `at` has a resource of the key.
 pub(crate) fn exceeds<O: OfferList, L: TaskGroup>(
     offers: &O,
     key: &Resource,

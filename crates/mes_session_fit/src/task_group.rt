@@ -8,10 +8,10 @@ use mes_msg::Operation;
 
 /// Tasks that are launched together: an operation, or a slice of tasks.
 pub trait TaskGroup {
-    /// The tasks.
+    /// The tasks of the group, in order.
     ghost tasks: { Self → List TaskValue };
 
-    /// Borrows the tasks.
+    /// Borrows the tasks of the group.
     fn tasks(&self) -> &[TaskInfo]
         ensures { result.now ≡ tasks self.now };
 }

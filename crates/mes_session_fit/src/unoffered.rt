@@ -13,7 +13,8 @@ use crate::shared_pieces::has_item;
 use mes_json::Text;
 use mes_model::{Range, Resource, ResourceValue};
 
-/// Returns how far the points after `end` are in the ranges or in the resources of the key.
+/// Returns a number of at least `end`. All points after `end` up to that number are in the ranges
+/// or in the resources of the key.
 fn go_on(ranges: &[Range], resources: &[Resource], key: &Resource, end: u64, wanted: u64) -> u64
     ensures on { end ≤ result }
     ensures all { (x : ℕ) → end < x → x ≤ result
@@ -29,8 +30,9 @@ fn go_on(ranges: &[Range], resources: &[Resource], key: &Resource, end: u64, wan
     }
 }
 
-/// Returns how far the offers cover the points from `at` on. The points of earlier ranges and of
-/// the task's earlier resources are known to be offered, so they are skipped.
+/// Returns the end of consecutive points from `at` on that the offers have, or `None` if they lack
+/// `at`. Skips the points of earlier ranges and of the task's earlier resources, because these are
+/// known to be offered.
 fn reach_on<O: OfferList>(
     offers: &O,
     near: &mut usize,
@@ -81,8 +83,8 @@ fn is_range_unoffered<O: OfferList>(
     false
 }
 
-/// Returns whether the offers lack a point of ranges. The task's earlier resources are known to be
-/// offered.
+/// Returns whether the offers lack a point of the ranges. The task's earlier resources are known to
+/// be offered.
 fn are_ranges_unoffered<O: OfferList>(
     offers: &O,
     near: &mut usize,

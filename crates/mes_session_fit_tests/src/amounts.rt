@@ -21,8 +21,8 @@ const SUMS: &str =
 {"name":"cpus","type":"SCALAR","scalar":{"value":1}} -> {"name":"cpus","type":"SCALAR","scalar":{"value":0.9}} // {"name":"cpus","type":"SCALAR","scalar":{"value":0.2}} => 0 0
 "#;
 
-/// Nothing is requested or nothing is offered. A request for 0 fits always; less than a thousandth
-/// is rounded.
+/// Tasks that request nothing, and offers that have nothing. A request for 0 always fits; an amount
+/// below a thousandth is rounded.
 const NOTHING: &str = r#" ->  => fits
 {"name":"cpus","type":"SCALAR","scalar":{"value":1.0}} ->  => fits
  -> {"name":"cpus","type":"SCALAR","scalar":{"value":1.0}} => 0 0
@@ -42,7 +42,8 @@ const LARGE: &str =
 {"name":"cpus","type":"SCALAR","scalar":{"value":1.0}} -> {"name":"cpus","type":"SCALAR","scalar":{"value":1000000000000000}},{"name":"cpus","type":"SCALAR","scalar":{"value":1000000000000000}},{"name":"cpus","type":"SCALAR","scalar":{"value":1000000000000000}},{"name":"cpus","type":"SCALAR","scalar":{"value":1000000000000000}},{"name":"cpus","type":"SCALAR","scalar":{"value":1000000000000000}},{"name":"cpus","type":"SCALAR","scalar":{"value":1000000000000000}},{"name":"cpus","type":"SCALAR","scalar":{"value":1000000000000000}},{"name":"cpus","type":"SCALAR","scalar":{"value":1000000000000000}},{"name":"cpus","type":"SCALAR","scalar":{"value":1000000000000000}},{"name":"cpus","type":"SCALAR","scalar":{"value":1000000000000000}},{"name":"cpus","type":"SCALAR","scalar":{"value":1000000000000000}},{"name":"cpus","type":"SCALAR","scalar":{"value":1000000000000000}},{"name":"cpus","type":"SCALAR","scalar":{"value":1000000000000000}},{"name":"cpus","type":"SCALAR","scalar":{"value":1000000000000000}},{"name":"cpus","type":"SCALAR","scalar":{"value":1000000000000000}},{"name":"cpus","type":"SCALAR","scalar":{"value":1000000000000000}},{"name":"cpus","type":"SCALAR","scalar":{"value":1000000000000000}},{"name":"cpus","type":"SCALAR","scalar":{"value":1000000000000000}},{"name":"cpus","type":"SCALAR","scalar":{"value":1000000000000000}} => 0 0
 "#;
 
-/// The first resource of a key that is short is returned, however small its own amount is.
+/// If the tasks take too much of a key, the first resource of that key is returned, however small
+/// its amount is.
 const ORDER: &str =
     r#"{"name":"cpus","type":"SCALAR","scalar":{"value":1.0}},{"name":"mem","type":"SCALAR","scalar":{"value":1.0}} -> {"name":"cpus","type":"SCALAR","scalar":{"value":0.1}},{"name":"mem","type":"SCALAR","scalar":{"value":2.0}} ; {"name":"cpus","type":"SCALAR","scalar":{"value":2.0}} => 0 0
 {"name":"cpus","type":"SCALAR","scalar":{"value":1.0}},{"name":"mem","type":"SCALAR","scalar":{"value":1.0}} -> {"name":"mem","type":"SCALAR","scalar":{"value":0.1}},{"name":"cpus","type":"SCALAR","scalar":{"value":0.5}} ; {"name":"cpus","type":"SCALAR","scalar":{"value":0.5}},{"name":"mem","type":"SCALAR","scalar":{"value":0.901}} => 0 0

@@ -1,5 +1,5 @@
-//! Tests of the crate `mes_session_fit` through its public functions. Tables of resources state the
-//! result, which was derived by hand from the rule; `support` has the format.
+//! Tests of the crate `mes_session_fit` through its public functions. Each row of a test table has
+//! offers, tasks and the expected result, which was derived by hand; `support` has the format.
 #![tactic(auto)]
 
 #[cfg(test)]

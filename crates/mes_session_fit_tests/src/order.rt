@@ -1,9 +1,10 @@
-//! The first breach: by tasks over all operations, then by resources.
+//! The first resource that does not fit: in the order of the tasks over all operations, then of the
+//! resources of a task.
 
 use crate::support::expect_answers;
 use std::test::Fail;
 
-/// Several resources break the rule.
+/// Rows in which several resources do not fit.
 const FIRST: &str =
     r#"{"name":"cpus","type":"SCALAR","scalar":{"value":1.0}},{"name":"ports","type":"RANGES","ranges":{"range":[{"begin":1,"end":9}]}},{"name":"disks","type":"SET","set":{"item":["a"]}} -> {"name":"cpus","type":"SCALAR","scalar":{"value":2.0}},{"name":"ports","type":"RANGES","ranges":{"range":[{"begin":10,"end":10}]}},{"name":"disks","type":"SET","set":{"item":["b"]}} => 0 0
 {"name":"cpus","type":"SCALAR","scalar":{"value":2.0}},{"name":"ports","type":"RANGES","ranges":{"range":[{"begin":1,"end":9}]}},{"name":"disks","type":"SET","set":{"item":["a"]}} -> {"name":"cpus","type":"SCALAR","scalar":{"value":2.0}},{"name":"ports","type":"RANGES","ranges":{"range":[{"begin":10,"end":10}]}},{"name":"disks","type":"SET","set":{"item":["b"]}} => 0 1

@@ -40,8 +40,8 @@ const ENDS: &str =
 {"name":"ports","type":"RANGES","ranges":{"range":[{"begin":0,"end":18446744073709551615}]}} -> {"name":"ports","type":"RANGES","ranges":{"range":[{"begin":0,"end":18446744073709551615}]}} ; {"name":"ports","type":"RANGES","ranges":{"range":[{"begin":18446744073709551615,"end":18446744073709551615}]}} => 0 0
 "#;
 
-/// Two tasks may not take one point: the first resource with it is returned. Resources of one task
-/// may.
+/// Two tasks may not take the same point: the first resource with that point is returned. Two
+/// resources of one task may have the same point.
 const SHARED: &str =
     r#"{"name":"ports","type":"RANGES","ranges":{"range":[{"begin":1,"end":10}]}} -> {"name":"ports","type":"RANGES","ranges":{"range":[{"begin":1,"end":5}]}},{"name":"ports","type":"RANGES","ranges":{"range":[{"begin":3,"end":7}]}} => fits
 {"name":"ports","type":"RANGES","ranges":{"range":[{"begin":1,"end":10}]}} -> {"name":"ports","type":"RANGES","ranges":{"range":[{"begin":1,"end":5},{"begin":3,"end":7},{"begin":5,"end":5}]}} => fits
@@ -53,7 +53,7 @@ const SHARED: &str =
 {"name":"ports","type":"RANGES","ranges":{"range":[{"begin":1,"end":10}]}} -> {"name":"ports","type":"RANGES","ranges":{"range":[{"begin":1,"end":2}]}},{"name":"ports","type":"RANGES","ranges":{"range":[{"begin":11,"end":11}]}} ; {"name":"ports","type":"RANGES","ranges":{"range":[{"begin":3,"end":4}]}} ; {"name":"ports","type":"RANGES","ranges":{"range":[{"begin":4,"end":4}]}} => 0 1
 "#;
 
-/// Items of sets.
+/// Items of sets: each is offered, and only one task takes it.
 const ITEMS: &str =
     r#"{"name":"disks","type":"SET","set":{"item":["a","b"]}} -> {"name":"disks","type":"SET","set":{"item":["a"]}} ; {"name":"disks","type":"SET","set":{"item":["b"]}} => fits
 {"name":"disks","type":"SET","set":{"item":["a","b"]}} -> {"name":"disks","type":"SET","set":{"item":["a"]}} ; {"name":"disks","type":"SET","set":{"item":["a"]}} => 0 0

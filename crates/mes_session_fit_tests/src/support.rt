@@ -1,8 +1,9 @@
-//! The format of the tables, and their interpreter.
+//! The format of the test tables, and their interpreter.
 //!
-//! A row is `OFFERS -> OPERATIONS => RESULT`. Offers are separated by ` ; `, operations by ` // `,
-//! and the tasks of an operation by ` ; `. Of an offer or a task only the resources are written.
-//! The result is `fits`, or the task and the resource of the first breach.
+//! A row of a test table is `OFFERS -> OPERATIONS => RESULT`. Offers are separated by ` ; `,
+//! operations by ` // `, and the tasks of an operation by ` ; `. Of an offer or a task only the
+//! resources are written. The result is `fits`, or the indices of the task and the resource of the
+//! first breach.
 
 use mes_json::read_tape;
 use mes_model::{List, Offer, Part, PathBuilder, TaskInfo};
@@ -93,7 +94,7 @@ fn answer(alloc: Global, offers: &str, operations: &str) -> Result<String, Fail>
     )
 }
 
-/// Returns the printed result for a row's tasks in two slices, each with half of them.
+/// Returns the printed result for the tasks of a row in two slices, each with half of the tasks.
 fn answer_of_slices(alloc: Global, offers: &str, tasks: &str) -> Result<String, Fail> {
     let offers = offers_of(alloc, offers)?;
     let tasks = tasks_of(alloc, tasks)?;

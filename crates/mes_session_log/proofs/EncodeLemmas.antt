@@ -1,4 +1,4 @@
--- Entries encoded one by one.
+-- Lemmas about the log of entries that are encoded one by one.
 use Rattle.std.proofs.Common.{◌≡◌, ℕ, suc, ◌+◌, ◌-◌, ◌^◌, ◌<◌, ◌≤◌, List, [], ◌∷◌, ◌++◌, length, take, drop, get_or, ap, sym, ◌∙◌, subst, append-nil, append_assoc, arith, length-take-le, refl, inr, Result, Ok, Err}
 use Rattle.std.specs.Prelude.{OnOk}
 use Rattle.std.proofs.Math.Seq.{split_at}
@@ -28,7 +28,7 @@ use Rattle.mes_session_log.specs.Writing.{entry_data, entry_records, log_bytes, 
 use Rattle.mes_session_log_entry.specs.declared.first_reader.FirstRecord.TheVariants as first
 use Rattle.mes_session_log_entry.specs.declared.record_letters.TheConstants.{EVENT, CALL, BROKEN, HEADER}
 
--- ---- one entry
+-- ---- the record of one entry, or the reason for which it does not fit
 
 framed : (letter : ℕ) (text : List ℕ) (limit : ℕ) → length text < 2 ^ 64 - 1 → length text < limit → IsRecord (record_bytes (letter ∷ text)) (letter ∷ text) limit
 framed letter text limit short within = written_is_record (letter ∷ text) limit (omega (arith, short)) (omega (arith, within))
@@ -69,15 +69,15 @@ call_unfit limit said refused.TooDeep h = h
 call_unfit limit said refused.TooLarge h = h
 call_unfit limit said refused.NoMemory h = tt
 
--- a text that does not fit alone does not fit with its letter
+-- a text that does not fit a record alone does not fit with its letter
 pub unfit_alone : {V : Type 0} (k : Kind V) (limit : ℕ) (v : V) (fault : EncodeFault) → IsRefusalOf k v limit fault → IsMessageUnfit k limit v fault
 unfit_alone k limit v refused.TooDeep h = h
 unfit_alone k limit v refused.TooLarge h = (h.0, let more = h.1 in omega (arith, more))
 unfit_alone k limit v refused.NoMemory h = tt
 
--- ---- entry by entry
+-- ---- the log after each entry
 
--- the log of the entries so far
+-- `log` is the log of the entries so far
 pub record LogSoFar (limit : ℕ) (entries : List Entry) (log : List ℕ) : Type 0 where
   pub fit : AllFit limit entries
   pub written : log ≡ log_bytes entries

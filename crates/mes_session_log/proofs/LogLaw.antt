@@ -1,4 +1,4 @@
--- Any bytes are read as a log in exactly one way.
+-- Reading any bytes as a log has exactly one result.
 use Rattle.std.proofs.Common.{◌≡◌, ℕ, ◌+◌, ◌⊎◌, inl, inr, List, [], ◌∷◌, ◌++◌, refl, ap, ap₂, sym, ◌∙◌, subst, append_assoc, append-nil, arith}
 use Rattle.std.proofs.lemmas.List.{append_cancel_left}
 use Rattle.mes_frame.specs.Record.{IsRecord}
@@ -18,7 +18,7 @@ abbrev values_in : {E : Type 0} → PlainReading E → List E
 values_in (Goes values) = values
 values_in (Stops front byte values fault) = values
 
--- ---- a first record
+-- ---- bytes with a complete first record
 
 module _ {E : Type 0} (spells : List ℕ → E → Type 0) (breaks : List ℕ → RecordError → Type 0) (limit : ℕ) where
   abbrev behind_one : List ℕ → E → PlainReading E → PlainReading E
@@ -56,7 +56,7 @@ module _ {E : Type 0} (spells : List ℕ → E → Type 0) (breaks : List ℕ �
   reads_more ahead head content rest value (Stops front byte values fault) framed says (following, is, h) =
       (following, ap (λ (y : List ℕ). head ++ y) is ∙ sym (append_assoc head front (byte ∷ following)), shows_more ahead head content front value values byte fault framed says h)
 
-  -- ---- the first record of a reading
+  -- ---- the first record, from the result of reading it
 
   pub record HasFirst (w : List ℕ) (value : E) : Type 0 where
     pub head : List ℕ
@@ -103,7 +103,7 @@ module _ {E : Type 0} (spells : List ℕ → E → Type 0) (breaks : List ℕ �
         says = f.says;
       }
 
--- ---- whole logs
+-- ---- a whole log is read to its entries
 
 records_live : {E : Type 0} (spells : List ℕ → E → Type 0) (limit : ℕ) (b : List ℕ) (values : List E) → Records spells limit b values → BodyLive spells limit b values
 records_live spells limit b values records = record { whole = b; x = []; spelt = sym (append-nil b); records = records; is = ([], inl (record { digits = tt; few = omega arith }, refl)) }
@@ -123,9 +123,9 @@ whole_goes limit w entries (inr b) = inr (record {
   is = records_live (SpellsEntry (version_of b.first)) limit b.rest b.more b.is;
 })
 
--- ---- logs
+-- ---- the result of reading a log, from those of the first record and of the rest
 
--- the records after the first have exactly one reading
+-- reading the records after the first has at most one result
 abbrev pub Once : ℕ → Type 0
 Once v = (limit : ℕ) (w : List ℕ) (a b : PlainReading Entry) → ReadsPlain (SpellsEntry v) (EntryBreaks v) 1 limit w a → ReadsPlain (SpellsEntry v) (EntryBreaks v) 1 limit w b → a ≡ b
 
@@ -140,7 +140,7 @@ pub some_behind : InSomeWay 1 → InSomeWay 2 → (first : FirstRecord) → InSo
 some_behind one two kind.Header = two
 some_behind one two (kind.Entry entry) = one
 
--- a reading of the first record as one of the log
+-- the result of reading an incomplete first record, as a result of reading the log
 abbrev as_log : PlainReading FirstRecord → PlainReading Entry
 as_log (Goes values) = Goes []
 as_log (Stops front byte values fault) = Stops front byte [] fault
@@ -218,7 +218,7 @@ module _ (first_once : (limit : ℕ) (w : List ℕ) (a b : PlainReading FirstRec
     (entry_some : (first : FirstRecord) → InSomeWay (version_of first))
     (one_record : (limit : ℕ) (w : List ℕ) (a b : RecordReading) → ReadsRecord limit w a → ReadsRecord limit w b → a ≡ b)
     (one_value : (r : List ℕ) (a b : FirstRecord) → SpellsFirst r a → SpellsFirst r b → a ≡ b) where
-  -- bytes in which the first record is complete are not also a reading without it
+  -- bytes with a complete first record have no result of the form for an incomplete first record
   not_both : (limit : ℕ) (w : List ℕ) (a b : PlainReading Entry) → Sooner limit w a → Later limit w b → ⊥
   not_both limit w a b s l =
       let on = first_some 1 limit l.rest in

@@ -1,4 +1,4 @@
--- Reading of a log piece by piece: the first record, and the later records.
+-- Lemmas about reading a log piece by piece: the first record, and the later records.
 use Rattle.std.proofs.Common.{◌≡◌, ℕ, ◌+◌, ◌-◌, ◌<◌, ◌≤◌, List, [], ◌∷◌, ◌++◌, length, take, drop, sym, ◌∙◌, ap, append_assoc, append-nil, arith, refl, length-append, length-take-le, take-append-drop, Option, Some, None, Result, Ok, Err, inl, inr, subst}
 use Rattle.std.proofs.lemmas.List.{take_more}
 use Rattle.std.specs.Prelude.{OnOk, IfErr, slice_index}
@@ -45,13 +45,13 @@ pub one_record : (limit : ℕ) (b : List ℕ) (value : FirstRecord) → Records 
 one_record limit b value (front, rest, content, framed, says, is, none) =
     (content, subst (λ (y : List ℕ). IsRecord y content limit) (sym (is ∙ ap (λ (y : List ℕ). front ++ y) none ∙ append-nil front)) framed, says)
 
--- the data of an entry of version 1 begin as a message
+-- the data of an entry of version 1 begin like an event or a call
 begins_message : (r : List ℕ) (entry : Entry) → SpellsEntry 1 r entry → BeginsMessage r
 begins_message r (Heard heard) (text, is, (t, spelt, reads)) = inl (text, is, text_begins text t spelt)
 begins_message r (Said said) (text, is, (t, spelt, reads)) = inr (text, is, text_begins text t spelt)
 begins_message r Broken is = let one : 1 ≡ 2 = is.0 in absurd (omega (arith, one))
 
--- the first record ends with an entry, for which an allocation may fail
+-- if the first record ends with an entry, an allocation for that entry may fail
 runs_out : (limit : ℕ) (b : List ℕ) (c : ℕ) (entry : Entry) → EndsRecordIn Plain SpellsFirst limit b [] c (kind.Entry entry) → RunsOut SpellsFirst FirstBreaks limit b [] c
 runs_out limit b c entry ends =
     ends_runs_out SpellsFirst FirstBreaks limit b [] c
@@ -87,7 +87,7 @@ first_refused limit w piece before entry used count none some within small count
 
 -- ---- the later records
 
--- the state of reading the later records of a log of version v
+-- the state of the reader of the later records of a log of version v
 abbrev pub AtVersion : (v : ℕ) → Reading (EntryReader v) → ℕ → List ℕ → List Entry → Type 0
 AtVersion v d limit w entries =
     AfterFirst limit w entries (λ version ahead rest more. (version ≡ v) × ReadingRepresentsAfter HoldsEntry (SpellsEntry v) ahead d Plain limit rest more)
@@ -181,7 +181,7 @@ behind_entry limit used head content entry d following framed says counted = rec
 
 -- ---- up to the end of the first record
 
--- the contract of reading a first record
+-- the contract of the reader of a first record
 abbrev pub TakesFirst : Reading FirstReader → Reading FirstReader → List ℕ → Result (Option (EndedRecord FirstRecord)) ReadingStop → Type 0
 TakesFirst d new piece result =
     (ahead : Ahead) (framing : Framing) (limit : ℕ) (w : List ℕ) (values : List FirstRecord) → ReadingRepresentsAfter HoldsFirst SpellsFirst ahead d framing limit w values
@@ -222,7 +222,7 @@ begins_refused d new limit bytes w piece before old now value used some within s
           (subst (λ (v : FirstRecord). EndsRecordIn Plain SpellsFirst limit (w ++ take (used - 1) piece) [] (slice_index piece (used - 1)) v) (sym equal ∙ is) t.2) t.3,
     )
 
--- a first record that ended before uses nothing of the piece
+-- if the first record ended before the piece, it uses nothing of the piece
 pub begins_behind : (s : Stage) (limit : ℕ) (w piece : List ℕ) (before old : List Entry) → RestRepresents s limit w before → StageBegins s limit w before piece old old (Ok (Some 0))
 begins_behind s limit w piece before old h =
     ([], sym (append-nil old), subst (λ (es : List Entry). RestRepresents s limit (w ++ []) es) (sym (append-nil before)) (subst (λ (y : List ℕ). RestRepresents s limit y before) (sym (append-nil w)) h))
@@ -249,7 +249,7 @@ pub takes_stop : (s : Stage) (limit : ℕ) (w piece : List ℕ) (before old now 
     → (more : List Entry) × (now ≡ old ++ more) × LogByteEnds limit (w ++ piece) (before ++ more) (log_reported s stop)
 takes_stop s limit w piece before old now stop h = ([], h.0 ∙ sym (append-nil old), subst (λ (es : List Entry). LogByteEnds limit (w ++ piece) es (log_reported s stop)) (sym (append-nil before)) h.1)
 
--- ---- the end of the reads
+-- ---- the result after the last read
 
 pub first_means : (d : Reading FirstReader) (end : ReadsEnd ReadingStop) (answer : Result Report Stop) → MeansAfter HoldsFirst SpellsFirst nothing_ahead d end answer → StageMeans (stage.First d) end answer
 first_means d (Stopped stop) answer means = means
@@ -300,7 +300,7 @@ two_means d AtEnd answer means = λ limit w entries represents. end_means 2 d an
 two_means d Failed answer means = λ limit w entries represents. breaks_off 2 d answer Read limit w entries means represents
 two_means d Spent answer means = λ limit w entries represents. breaks_off 2 d answer ReadsSpent limit w entries means represents
 
--- ---- the list
+-- ---- the list to which the entries are appended
 
 pub rest_stands : (s : Stage) (limit : ℕ) (w : List ℕ) (entries : List Entry) → RestRepresents s limit w entries → StageRepresents s limit w entries
 rest_stands (stage.First reading) limit w entries h = absurd h
@@ -310,7 +310,7 @@ rest_stands (stage.Two reading) limit w entries h = h
 pub gathers_none : (d : LogReading) (start : List Entry) → LogGathers d start d start []
 gathers_none d start = λ limit represents. ([], sym (append-nil start), represents)
 
--- the contract of consuming a piece
+-- the contract of the function that consumes a piece
 abbrev pub TakesPiece : {T : Type 0} → LogReading → LogReading → List ℕ → List Entry → List Entry → Result T LogStop → Type 0
 TakesPiece d new piece old now result =
     (limit : ℕ) (w : List ℕ) (before : List Entry) → LogRepresents d limit w before → StageTakes new.stage limit w before piece old now result
@@ -331,7 +331,7 @@ gathers_last first d new start old now w piece (Err stop) h fed = λ limit repre
     let more = fed limit w so_far.0 so_far.2 in
     (so_far.0 ++ more.0, more.1 ∙ ap (λ (x : List Entry). x ++ more.0) so_far.1 ∙ append_assoc start so_far.0 more.0, more.2)
 
--- the result of reading, from how the reads ended
+-- the result of reading the log, from how the reads ended
 pub log_through : (first now : LogReading) (start to : List Entry) (limit reads : ℕ) (old new : Counts) (last : Option (List ℕ)) (w : List ℕ) (end : ReadsEnd LogStop) (answer : Result Report Stop)
     → LogRepresents first limit [] [] → EndsReads (LogGathers first start now to) (LogGathersLast first start now to) reads old new last w end → LogMeans now.stage end answer
     → (more : List Entry) × (to ≡ start ++ more) × EndsLog limit reads old new last w more answer

@@ -19,7 +19,7 @@ use Rattle.mes_stream.specs.Sending.{WroteSome}
 use Rattle.mes_session_log.specs.Logs.{IsLog}
 use Rattle.mes_session_log_entry.specs.declared.record_letters.TheConstants.{EVENT, CALL, BROKEN, HEADER}
 
--- the data of an entry: its letter and the canonical text
+-- the data of an entry: its letter and then its canonical text, if it has one
 abbrev pub entry_data : Entry → List ℕ
 entry_data (Heard heard) = EVENT ∷ canonical_of event heard
 entry_data (Said said) = CALL ∷ canonical_of call said
@@ -29,26 +29,27 @@ entry_data Broken = BROKEN ∷ []
 abbrev pub entry_records : List Entry → List ℕ
 entry_records entries = flat_map (λ entry. record_bytes (entry_data entry)) entries
 
--- the log of the entries: the header's record, and theirs
+-- the log of the entries: the record of the header, then the records of the entries
 abbrev pub log_bytes : List Entry → List ℕ
 log_bytes entries = record_bytes (HEADER ∷ []) ++ entry_records entries
 
--- the letter and the text fit no record of the limit: too deep, or too many bytes
+-- the letter and the text of a message do not fit a record of the limit: too deep, or too many
+-- bytes
 abbrev pub IsUnfit : {V : Type 0} → Kind V → ℕ → V → EncodeFaultKind → Type 0
 IsUnfit k limit v TooDeep = MAX_NESTING < depth (k.tree v)
 IsUnfit k limit v TooLarge = NestsFew k v × (limit ≤ length (canonical_of k v))
 
--- a record of the limit can hold them
+-- the letter and the text of a message fit a record of the limit
 abbrev pub IsFit : {V : Type 0} → Kind V → ℕ → V → Type 0
 IsFit k limit v = NestsFew k v × (length (canonical_of k v) < limit)
 
--- a record of the limit can hold the entry
+-- the entry fits a record of the limit
 abbrev pub EntryFits : ℕ → Entry → Type 0
 EntryFits limit (Heard heard) = IsFit event limit heard
 EntryFits limit (Said said) = IsFit call limit said
 EntryFits limit Broken = Unit {0}
 
--- the reason for which no record can
+-- the reason for which the entry does not fit a record of the limit
 abbrev pub EntryUnfit : ℕ → Entry → EncodeFaultKind → Type 0
 EntryUnfit limit (Heard heard) why = IsUnfit event limit heard why
 EntryUnfit limit (Said said) why = IsUnfit call limit said why
@@ -57,7 +58,7 @@ EntryUnfit limit Broken why = ⊥
 abbrev pub AllFit : ℕ → List Entry → Type 0
 AllFit limit entries = All (EntryFits limit) entries
 
--- the entry at this index, from 0, is the first that fits no record of the limit
+-- the entry at the index, from 0, is the first that does not fit a record of the limit
 pub record IsFirstUnfit (limit : ℕ) (entries : List Entry) (index : ℕ) (why : EncodeFaultKind) : Type 0 where
   pub front : List Entry
   pub entry : Entry
@@ -67,7 +68,8 @@ pub record IsFirstUnfit (limit : ℕ) (entries : List Entry) (index : ℕ) (why 
   pub fit : AllFit limit front
   pub unfit : EntryUnfit limit entry why
 
--- w is the log of the entries, which all fit; if the limit is at least 1, it reads back to them
+-- w is the log of the entries, which all fit; if the limit is at least 1, w reads back to the
+-- entries
 pub record IsLogOf (limit : ℕ) (entries : List Entry) (w : List ℕ) : Type 0 where
   pub fit : AllFit limit entries
   pub written : w ≡ log_bytes entries

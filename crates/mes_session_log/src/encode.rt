@@ -17,8 +17,8 @@ use mes_session_log_entry::{BROKEN, CALL, EVENT, HEADER};
 use std::alloc::Global;
 
 /// Returns the log of the entries in version 2: the header, then a record with the letter and the
-/// canonical text of each entry. Errors: the first entry that does not fit the limit, or out of
-/// memory.
+/// canonical text of each entry. Errors: the first entry that does not fit a record of `limit`
+/// bytes, or out of memory.
 pub fn encode_log(alloc: Global, entries: &[Entry], limit: Limit) -> Result<Vec<u8>, SendFault>
     ensures ok { IfOk result (λ log. IsLogOf limit entries.now log.items) }
     ensures err { IfErr result (IsUnwritten limit entries.now) }
@@ -70,7 +70,7 @@ fn put_message<T: Part>(
     ensures err { IfErr result (IsMessageUnfit T.kind limit message.now) }
 {
     let text = canonical_bytes(message, alloc, limit)?;
-    // The record must also hold the letter.
+    // The record contains the letter too.
     if text.len() >= limit.get() as usize {
         return Err(EncodeFault::TooLarge);
     }

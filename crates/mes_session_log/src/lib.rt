@@ -2,9 +2,9 @@
 //! The session log of a framework: the events received, the calls sent and the disconnects, in
 //! order.
 //!
-//! A log is plain RecordIO. The data of a record are a letter and, after it, the JSON text of an
-//! event or a call. The letters are in the crate `mes_session_log_entry`. A log of version 2 begins
-//! with a header.
+//! A log is plain RecordIO. The data of a record are a letter and, for an event or a call, its JSON
+//! text. The letters are in the crate `mes_session_log_entry`. A log of version 2 begins with a
+//! header.
 //!
 //!     let report = read_log(alloc, &mut source, Limit::USUAL, max_reads, &mut entries)?;
 //!     write_log(alloc, &mut sink, entries.as_slice(), Limit::USUAL)?;

@@ -1,4 +1,4 @@
-//! Incremental reading of a session log. The first record determines the version of the others.
+//! Incremental reading of a session log. The first record determines the version of the log.
 
 ghost use Rattle.std.specs.Prelude.{◌≡◌, ◌≤◌, ℕ, List, [], ◌∷◌, ◌++◌, length, IfSome, IfOk, OnOk, OnErr, IfErr};
 ghost use Rattle.mes_frame.specs.Record.{IsRecord};
@@ -28,7 +28,7 @@ pub(crate) enum Stage {
 /// The reason for which reading a log stopped.
 #[derive(Drop)]
 pub(crate) enum LogStop {
-    /// Reading the records stopped.
+    /// Reading the records stopped for this reason.
     Reading(ReadingStop),
     /// The first record is complete, but an allocation for its entry failed.
     NoMemory,
@@ -95,7 +95,7 @@ impl LogReading {
         }
     }
 
-    /// Returns the result for a log whose reads ended in this way.
+    /// Returns the result of reading the log, if the reads ended as `end` states.
     pub(crate) fn outcome(&mut self, end: ReadsEnd<LogStop>) -> Result<Report, Stop>
         ensures { LogMeans self.old.stage end result }
     {
@@ -125,7 +125,7 @@ impl Consumer<Vec<Entry>> for LogReading {
 }
 
 impl Stage {
-    // Consumes the part of a piece after the first record.
+    // Consumes a piece that follows the end of the first record.
     fn feed(&mut self, piece: &[u8], entries: &mut Vec<Entry>) -> Result<(), LogStop>
         requires { length piece.now ≤ MAX_READ }
         ensures { (limit : ℕ) (w : List ℕ) (before : List EntryValue)
@@ -151,7 +151,7 @@ impl Stage {
         }
     }
 
-    // Returns the result for a log whose reads ended in this way.
+    // Returns the result of reading the log, if the reads ended as `end` states.
     fn outcome(&mut self, end: ReadsEnd<ReadingStop>) -> Result<Report, Stop>
         ensures { StageMeans self.old end result }
     {
@@ -163,7 +163,7 @@ impl Stage {
     }
 }
 
-// Converts the result of reading records to that of the log.
+// Converts the result of reading records to a result of reading the log.
 fn of_log(fed: Result<(), ReadingStop>) -> Result<(), LogStop>
     ensures { result ≡ log_answer fed }
 {

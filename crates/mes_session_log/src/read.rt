@@ -21,7 +21,8 @@ use std::alloc::Global;
 /// - bytes after the letter of a disconnect, or a disconnect in version 1;
 /// - a header that is not the first record.
 ///
-/// The place of a fault in a text is counted from after the letter. The header counts as a record.
+/// The place of a fault in a text is counted from the byte after the letter. The header counts as a
+/// record.
 pub fn read_log<S: Source>(
     alloc: Global,
     reader: &mut S,
@@ -30,7 +31,7 @@ pub fn read_log<S: Source>(
     entries: &mut Vec<Entry>,
 ) -> Result<Report, Stop>
     // The bytes `w` were consumed and the entries `more` appended; `EndsLog` states the result for
-    // these.
+    // `w` and `more`.
     ensures { (w : List ℕ) × (more : List EntryValue)
         × Consumes (S.left reader.old) (S.left reader.new) w
         × (entries.new.items ≡ entries.old.items ++ more)

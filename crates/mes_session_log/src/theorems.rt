@@ -10,8 +10,8 @@ use mes_frame::record_reading_is_unique;
 use mes_session_log_entry::{EntryReader, FirstReader, entry_reading_is_unique};
 use mes_stream::plain_reading_is_unique;
 
-/// Proves that any bytes either begin a log of certain entries or have a first faulty byte after
-/// certain entries. Exactly one of these holds, in exactly one way.
+/// Proves that any bytes either begin a log of certain entries, or have a first faulty byte after
+/// certain entries. Exactly one of the two holds, for exactly one list of entries.
 pub fn log_reading_is_unique()
     // Any bytes have a reading.
     ensures some { (limit : ℕ) (w : List ℕ)

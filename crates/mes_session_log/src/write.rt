@@ -21,8 +21,8 @@ pub fn write_log<W: Sink>(
     ensures ok { OnOk result ((w : List ℕ) × IsLogOf limit entries.now w
         × WroteAll W.written W.counts writer.old writer.new w) }
 
-    // Each error: the first entry that does not fit, or out of memory; the writer was not called.
-    // Or the writer stopped after the first `sent` bytes.
+    // Each error: the first entry that does not fit, or out of memory, and the writer was not
+    // called; or the writer stopped after the first `sent` bytes.
     ensures err { IfErr result (StopsLog W.written W.counts limit entries.now writer.old
         writer.new) }
 {

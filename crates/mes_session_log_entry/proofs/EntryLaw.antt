@@ -1,4 +1,5 @@
--- Any data are one entry of a version or have one fault, and likewise for a first record.
+-- Any data of a record either are one entry of a version or have one fault; the same holds for a
+-- first record.
 use Rattle.std.proofs.Common.{◌≡◌, ◌≢◌, ℕ, ◌⊎◌, inl, inr, List, [], ◌∷◌, refl, ap, sym, ◌∙◌, subst, arith}
 use Rattle.std.proofs.lemmas.Bool.{cases_eq}
 use Rattle.mes_model_schema.specs.Kinds.{Kind}
@@ -18,14 +19,14 @@ use Rattle.mes_session_log_entry.specs.declared.first_reader.FirstRecord.{FirstR
 use Rattle.mes_session_log_entry.specs.declared.first_reader.FirstRecord.TheVariants as first
 use Rattle.mes_session_log_entry.specs.declared.record_letters.TheConstants.{EVENT, CALL, BROKEN, HEADER}
 
--- bytes are a text of one value or have one fault, and not both
+-- any bytes either are a text of exactly one value or have exactly one fault
 pub record OneMessage {V : Type 0} (k : Kind V) : Type 0 where
   pub some : (b : List ℕ) → ((v : V) × IsTextOf k b v) ⊎ ((why : RecordFault) × (why ≢ message.NoMemory) × IsFaultOf k b why)
   pub value : (b : List ℕ) (v w : V) → IsTextOf k b v → IsTextOf k b w → v ≡ w
   pub why : (b : List ℕ) (f g : RecordFault) → f ≢ message.NoMemory → g ≢ message.NoMemory → IsFaultOf k b f → IsFaultOf k b g → f ≡ g
   pub apart : (b : List ℕ) (v : V) (f : RecordFault) → f ≢ message.NoMemory → IsTextOf k b v → IsFaultOf k b f → ⊥
 
--- ---- letters
+-- ---- the letter of the data determines what they can be
 
 behind_one : (a b : ℕ) (t u r : List ℕ) → r ≡ a ∷ t → r ≡ b ∷ u → (a ≡ b) × (t ≡ u)
 behind_one a b t u r one two =
@@ -58,7 +59,7 @@ bad_no_break : (version : ℕ) (r : List ℕ) → IsBreak version r → IsBadEnt
 bad_no_break version [] is bad = let none : [] ≡ BROKEN ∷ [] = is.1 in absurd (cc)
 bad_no_break version (letter ∷ text) is bad = bad.1 is
 
--- data after another letter are a disconnect or a bad entry
+-- data that are not empty either are a disconnect or are not
 break_or_not : (version letter : ℕ) (text : List ℕ) → IsBreak version (letter ∷ text) ⊎ (IsBreak version (letter ∷ text) → ⊥)
 break_or_not version letter (next ∷ text) = inr (λ is. let same = (behind_one letter BROKEN (next ∷ text) [] (letter ∷ next ∷ text) refl is.1).1 in absurd (cc))
 break_or_not version letter [] = elim (cases_eq version 2) [
@@ -69,14 +70,14 @@ break_or_not version letter [] = elim (cases_eq version 2) [
   ]
 ]
 
--- ---- faults of messages
+-- ---- faults of the text of a message, and of the letter
 
 pub message_breaks : (version : ℕ) (r : List ℕ) (f : RecordFault) → f ≢ message.NoMemory → IsMessageFault r f → EntryBreaks version r (refusal_of f)
 message_breaks version r (message.Text f) known h = h
 message_breaks version r (message.Field f) known h = h
 message_breaks version r message.NoMemory known h = absurd (known refl)
 
--- the meaning of a fault for the data
+-- what fault `why` says about the data: a fault of the message's text, or a bad letter
 data TextFaultKind (version : ℕ) (r : List ℕ) (why : RecordError) : Type 0 where
   OfMessage : (f : RecordFault) → f ≢ message.NoMemory → IsMessageFault r f → why ≡ refusal_of f → TextFaultKind version r why
   OfLetter : why ≡ refusal.BadEntry → IsBadEntry version r → TextFaultKind version r why
@@ -93,7 +94,7 @@ no_memory_in (message.Field f) known none = absurd (cc)
 no_memory_in message.NoMemory known none = absurd (known refl)
 
 module _ (events : OneMessage event) (calls : OneMessage call) where
-  -- ---- entries
+  -- ---- data as an entry: exactly one value or exactly one fault
 
   pub entry_decided : (version : ℕ) → IsDecided (SpellsEntry version) (EntryBreaks version)
   entry_decided version [] = inr (refusal.BadEntry, λ none. absurd (cc), tt)
@@ -171,7 +172,7 @@ module _ (events : OneMessage event) (calls : OneMessage call) where
     apart = λ r a f known says h. entry_or_why version r a f says (why_of version r f known h);
   }
 
-  -- ---- the first record
+  -- ---- data as a first record: exactly one value or exactly one fault
 
   header_no_entry : (r : List ℕ) (a : Entry) → r ≡ HEADER ∷ [] → SpellsEntry 1 r a → ⊥
   header_no_entry r (Heard a) header (t, is, h) = let same = (behind_one HEADER EVENT [] t r header is).0 in absurd (omega (arith, same))

@@ -1,4 +1,4 @@
--- The data at each position of their reader.
+-- Lemmas about the data that the reader of a letter and a text has consumed, at each position.
 use Rattle.std.proofs.Common.{◌≡◌, ◌≢◌, ℕ, ◌+◌, ◌^◌, ◌<◌, ◌≤◌, inl, inr, List, [], ◌∷◌, ◌++◌, length, take, Result, Ok, Err, refl, ap, sym, ◌∙◌, subst, arith, add-one, Bool, true, false}
 use Rattle.std.specs.Prelude.{◌==◌, IfErr}
 use Rattle.mes_json.specs.Inner.{inner}
@@ -34,7 +34,7 @@ pub text_on : (letter : ℕ) (old new : Lexer) (bytes r : List ℕ) → ((p : Li
 text_on letter old new bytes r lexed memory (text, is, has) =
     (text ++ bytes, ap (λ (x : List ℕ). x ++ bytes) is, record { lexed = lexed text has.lexed; memory = memory })
 
--- a fault of a text is a fault of the data, for an event and for a call
+-- a fault of the text is a fault of the data with the letter, for an event and for a call
 pub event_refused : (r : List ℕ) (text : List ℕ) (why : RecordError) → r ≡ EVENT ∷ text → IsTextRefusal event text why → LetteredBreaks r why
 event_refused r text (refusal.Text f) is h = inl (text, is, h)
 event_refused r text (refusal.Field f) is h = inl (text, is, h)
@@ -57,7 +57,8 @@ pub lexed_refused : {V : Type 0} (k : Kind V) (text : List ℕ) (e : ReadFault) 
 lexed_refused k text (read.Text f) short h begins = exact_fault MAX_NESTING text f short h
 lexed_refused k text read.NoMemory short h begins = begins refl
 
--- an allocation failed at a byte of a text, and the data before it begin as its message
+-- if an allocation failed at a byte of the text, the data before that byte begin like an event or a
+-- call
 abbrev pub StopsText : {T : Type 0} → Lexer → List ℕ → Result T NoMemoryAt → Type 0
 StopsText lexer bytes result =
     (text : List ℕ) → HasLexed lexer text → (IsOutOfMemory lexer → ⊥) → IfErr result (λ refused. Begins MAX_NESTING (text ++ take refused.taken bytes))
@@ -91,7 +92,7 @@ pub alone_more : (lexer : Lexer) (letter : ℕ) (r bytes : List ℕ) → (bytes 
 alone_more lexer letter r [] some h = absurd (some refl)
 alone_more lexer letter r (next ∷ more) some (is, other, has) = (letter, next, more, ap (λ (x : List ℕ). x ++ next ∷ more) is, other, has)
 
--- the buffered text is at most the counted part of the data
+-- the lexer buffers at most `inner r` bytes of the data r
 pub kept_most : (lexer : Lexer) (place : Place) (r : List ℕ) → ((p : List ℕ) → HasLexed lexer p → IsBounded lexer p) → HoldsAt place lexer r → held lexer ≤ inner r
 kept_most lexer place.Start r bound h = let most = (bound [] h.1.lexed).texts in omega (arith, most)
 kept_most lexer place.Event r bound (text, is, has) = let most = (bound text has.lexed).texts in rw is (omega (arith, most))

@@ -1,4 +1,5 @@
--- The data that the reader of a letter and a text has consumed, and their value.
+-- The data that the reader of a letter and a text has consumed, and the value or the fault of the
+-- data.
 use Rattle.std.specs.Prelude.{◌≡◌, ℕ, ◌+◌, ◌⊎◌, List, [], ◌∷◌}
 use Rattle.mes_json.specs.Lexer.{HasLexed, IsOutOfMemory, held}
 use Rattle.mes_json.specs.Place.{Begins}
@@ -25,7 +26,8 @@ pub record HasText (lexer : Lexer) (text : List ℕ) : Type 0 where
   pub lexed : HasLexed lexer text
   pub memory : IsOutOfMemory lexer → ⊥
 
--- no byte; a letter and a text; or another byte, alone or with more after it
+-- the data r at each position: no byte; the letter of an event or a call, and a text; or another
+-- byte, alone or followed by more bytes
 abbrev pub HoldsAt : Place → Lexer → List ℕ → Type 0
 HoldsAt place.Start lexer r = (r ≡ []) × HasText lexer []
 HoldsAt place.Event lexer r = AfterLetter EVENT (HasText lexer) r
@@ -33,32 +35,32 @@ HoldsAt place.Call lexer r = AfterLetter CALL (HasText lexer) r
 HoldsAt (place.Alone letter) lexer r = (r ≡ letter ∷ []) × IsOther letter × HasText lexer []
 HoldsAt place.More lexer r = (letter : ℕ) × (next : ℕ) × (more : List ℕ) × (r ≡ letter ∷ next ∷ more) × IsOther letter × HasText lexer []
 
--- the reader has consumed these bytes of the data
+-- the reader has consumed the bytes r of a record's data
 abbrev pub HoldsLettered : LetteredReader → List ℕ → Type 0
 HoldsLettered reader r = HoldsAt reader.place reader.lexer r
 
--- the number of buffered bytes of texts and numbers: the sum over all fields
+-- the number of bytes of texts and numbers that the reader buffers: the sum over all its fields
 abbrev pub kept_text : LetteredReader → ℕ
 kept_text reader = let record { alloc = alloc; place = now; lexer = lexer } = reader in fixed alloc + fixed now + held lexer
 
--- the data have this value
+-- the data r have this value
 abbrev pub SpellsLettered : List ℕ → Lettered → Type 0
 SpellsLettered r (lettered.Event heard) = AfterLetter EVENT (λ text. Spells text heard) r
 SpellsLettered r (lettered.Call said) = AfterLetter CALL (λ text. IsTextOf call text said) r
 SpellsLettered r (lettered.Alone letter) = (r ≡ letter ∷ []) × IsOther letter
 
--- the data are empty, or more follows a byte that is neither letter
+-- the data are empty, or bytes follow a first byte that is not the letter of an event or a call
 abbrev pub IsBadData : List ℕ → Type 0
 IsBadData r = (r ≡ []) ⊎ ((letter : ℕ) × (next : ℕ) × (more : List ℕ) × (r ≡ letter ∷ next ∷ more) × IsOther letter)
 
--- the fault of the data; an allocation fails only if the data begin as an event or a call
+-- the data r have this fault; an allocation fails only if they begin like an event or a call
 abbrev pub LetteredBreaks : List ℕ → RecordError → Type 0
 LetteredBreaks r (refusal.Text fault) = IsMessageFault r (message.Text fault)
 LetteredBreaks r (refusal.Field fault) = IsMessageFault r (message.Field fault)
 LetteredBreaks r refusal.BadEntry = IsBadData r
 LetteredBreaks r refusal.NoMemory = BeginsMessage r
 
--- the fault of a text; an allocation fails only for bytes that begin a text
+-- the text has this fault; an allocation fails only if the bytes begin some JSON text
 abbrev pub IsTextRefusal : {V : Type 0} → Kind V → List ℕ → RecordError → Type 0
 IsTextRefusal k text (refusal.Text fault) = IsFaultOf k text (message.Text fault)
 IsTextRefusal k text (refusal.Field fault) = IsFaultOf k text (message.Field fault)

@@ -12,7 +12,7 @@ use mes_msg::Entry;
 use mes_stream::{RecordError, RecordReader};
 use std::alloc::Global;
 
-/// The reader of entries of a log of version 1 or 2. Only version 2 has disconnects.
+/// The reader of the entries of a log of version 1 or 2. Only version 2 has disconnects.
 #[derive(Drop)]
 pub struct EntryReader<const VERSION: u8> {
     lettered: LetteredReader,

@@ -1,4 +1,4 @@
-//! Reading of the data of a log's first record, which determines the version.
+//! Reading of the data of a log's first record, which determines the version of the log.
 
 ghost use Rattle.std.specs.Prelude.{◌≡◌, ◌≢◌, ℕ, ◌^◌, ◌<◌, ◌≤◌, List, [], ◌++◌, length, OnOk, IfOk, IfErr};
 ghost use Rattle.mes_json.specs.Inner.{inner};

@@ -17,15 +17,15 @@ use std::alloc::Global;
 
 #[derive(Drop)]
 pub(crate) enum Lettered {
-    /// The letter of an event and its text.
+    /// The letter of an event and then the event's text.
     Event(Event),
-    /// The letter of a call and its text.
+    /// The letter of a call and then the call's text.
     Call(Call),
-    /// One byte that is neither letter.
+    /// A single byte that is neither the letter of an event nor that of a call.
     Alone(u8),
 }
 
-// The position in the data.
+// The position in the data of a record.
 #[derive(Clone, Copy, Debug, PartialEq, Eq)]
 enum Place {
     // Before the first byte.
@@ -34,14 +34,14 @@ enum Place {
     Event,
     // After the letter of a call; the lexer has the text so far.
     Call,
-    // After one byte that is neither letter.
+    // After a single byte that is neither of these two letters.
     Alone(u8),
-    // More than one byte, and the first is neither letter.
+    // After more than one byte, of which the first is neither of these two letters.
     More,
 }
 
-/// The incremental reader of the data of consecutive records. It passes the text to a lexer and
-/// buffers no bytes.
+/// The incremental reader of the data of consecutive records. It passes the text after a letter to
+/// a lexer, and buffers no bytes itself.
 #[derive(Drop)]
 pub(crate) struct LetteredReader {
     alloc: Global,
@@ -62,13 +62,13 @@ impl LetteredReader {
     }
 
     pub(crate) fn push_run(&mut self, bytes: &[u8]) -> Result<(), NoMemoryAt>
-        // On success: the run is consumed.
+        // On success: all of `bytes` is consumed.
         ensures ok { OnOk result ((r : List ℕ) → HoldsLettered self.old r
             → HoldsLettered self.new (r ++ bytes.now)) }
-        // Each error: an allocation failed at byte `taken` of the run.
+        // Each error: an allocation failed at byte `taken` of `bytes`.
         ensures err { IfErr result (λ refused. 0 < length bytes.now
             → refused.taken < length bytes.now) }
-        // The data before that byte begin as an event or a call.
+        // The data before that byte begin like an event or a call.
         ensures before { (r : List ℕ) → HoldsLettered self.old r
             → IfErr result (λ refused. BeginsMessage (r ++ take refused.taken bytes.now)) }
     {
@@ -103,7 +103,7 @@ impl LetteredReader {
         }
     }
 
-    // Consumes a run of the data after the first byte.
+    // Consumes bytes of the data that follow the first byte.
     fn push_after(&mut self, bytes: &[u8]) -> Result<(), NoMemoryAt>
         ensures ok { OnOk result ((r : List ℕ) → r ≢ [] → HoldsLettered self.old r
             → HoldsLettered self.new (r ++ bytes.now)) }
@@ -126,7 +126,7 @@ impl LetteredReader {
         }
     }
 
-    /// Ends the data and returns their value or fault.
+    /// Ends the data of the record and returns their value or their fault.
     pub(crate) fn finish(&mut self) -> Result<Lettered, RecordError>
         ensures ok { (r : List ℕ) → HoldsLettered self.old r → length r < 2 ^ 64
             → IfOk result (SpellsLettered r) }
@@ -155,7 +155,7 @@ impl LetteredReader {
         }
     }
 
-    /// Frees the buffered text.
+    /// Frees the text that the lexer buffers.
     pub(crate) fn release(&mut self)
         ensures { kept_text self.new ≡ 0 }
     {
@@ -173,7 +173,7 @@ impl LetteredReader {
     }
 }
 
-// Returns the position after the first byte.
+// Returns the position after the first byte of the data.
 fn offset_after(letter: u8) -> Place
     ensures { (lexer : LexerValue) → HasText lexer [] → HoldsAt result lexer (letter ∷ []) }
 {

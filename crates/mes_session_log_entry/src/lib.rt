@@ -2,10 +2,10 @@
 //! The entries of a session log, as the data of its records. An entry is a letter and, after some
 //! letters, the JSON text of an event or a call.
 //!
-//! - `letters`: the letters `E` (event), `C` (call), `B` (disconnect) and `2` (header).
-//! - `first_reader`: reads the first record, which determines the version.
+//! - `record_letters`: the letters `E` (event), `C` (call), `B` (disconnect) and `2` (header).
+//! - `first_reader`: reads the first record, which determines the version of the log.
 //! - `entry_reader`: reads the entries of a version.
-//! - `lettered`: the incremental reader that both use.
+//! - `lettered_text`: the incremental reader of a letter and a text, which both readers use.
 //!
 //!     let mut reader = EntryReader::<2>::new(alloc);
 //!

@@ -6,7 +6,7 @@ pub const EVENT: u8 = b'E';
 /// The letter of a call sent. Its JSON text follows.
 pub const CALL: u8 = b'C';
 
-/// The letter of a disconnect, without more bytes. Version 1 does not have it.
+/// The letter of a disconnect. No bytes follow it. Version 1 of the log has no disconnects.
 pub const BROKEN: u8 = b'B';
 
 /// The only byte of the header, the first record of a log of version 2. Version 1 has no header.

@@ -13,8 +13,8 @@ pub fn log_letters()
     ensures header { HEADER ≡ 50 }
 {}
 
-/// Proves that any data are either one entry of a version or have one fault. The same holds for a
-/// first record.
+/// Proves that any data of a record either are exactly one entry of a version or have exactly one
+/// fault. The same holds for a first record.
 pub fn entry_reading_is_unique()
     ensures one { (version : ℕ) → IsExact (SpellsEntry version) (EntryBreaks version) }
     ensures some { (version : ℕ) → IsDecided (SpellsEntry version) (EntryBreaks version) }

@@ -1,4 +1,4 @@
-//! Logs that come in pieces, end early or fail.
+//! Logs that are read in pieces, end early or fail.
 
 use crate::support::{
     BREAK, BROKEN, HEADER_TWICE, Log, READS, VERSION_1, VERSION_2, in_words, reported,
@@ -31,7 +31,7 @@ fn each_front_of_a_log_breaks_off(rt: HostRuntime) -> Result<(), Fail> {
     Ok(())
 }
 
-/// Expects the fault of a read that fails after `count` bytes, for each count.
+/// Expects the fault of a read that fails after `count` bytes, for each `count` up to the length.
 fn expect_failing_reads<A: Abort>(rt: &A, alloc: Global, log: &Log) -> Result<(), Fail> {
     for count in 0..log.bytes.len() + 1 {
         let mut source = MemorySource::failing_after(log.bytes, 1, count);
@@ -93,8 +93,8 @@ fn log_of_one_read(alloc: Global) -> Result<Vec<u8>, Fail> {
     Ok(log)
 }
 
-/// Reads that log from a source that returns up to 512 bytes per read, and expects the result after
-/// `max_reads` reads.
+/// Reads the log of [`log_of_one_read`] from a source that returns up to 512 bytes per read, and
+/// expects the result after `max_reads` reads.
 fn expect_whole_reads<A: Abort>(
     rt: &A,
     alloc: Global,
@@ -111,8 +111,8 @@ fn expect_whole_reads<A: Abort>(
     Ok(())
 }
 
-/// One read returns all 512 bytes, and a second one the end. No contract states that a read asks
-/// for 512 bytes.
+/// The first read returns all 512 bytes, and the second read the end. No contract states that a
+/// read asks for 512 bytes.
 #[test]
 fn a_read_takes_up_to_512_bytes(rt: HostRuntime) -> Result<(), Fail> {
     expect_whole_reads(&rt, rt.alloc(), 2, " ok 512")?;

@@ -1,4 +1,4 @@
-//! Logs that are read: the result of each, and the place of the fault.
+//! Logs that are read: the result of each, and the place of its fault.
 
 use crate::support::{BROKEN, CALLED, SUBSCRIBED, told_of};
 use std::alloc::Global;
@@ -47,7 +47,7 @@ const BAD_ENTRIES: &[Row] = &[
     (b"1\n21\nB1\n2", "B fault F16 BadEntry record 3 after 9"),
 ];
 
-/// Faulty texts: the place is counted from after the letter.
+/// Faulty texts: the place of the fault is counted from the byte after the letter.
 const BAD_TEXTS: &[Row] = &[
     (b"1\nE", " fault F11 Text record 1 byte 0 End after 3"),
     (b"1\nC", " fault F11 Text record 1 byte 0 End after 3"),

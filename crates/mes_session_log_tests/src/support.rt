@@ -7,12 +7,12 @@ use mes_stream::{MAX_FAULT_LINE, Report, Stop, fault_line};
 use std::alloc::Global;
 use std::test::Fail;
 
-/// A log and the results of its prefixes.
+/// A log and the results of reading its prefixes.
 #[derive(Drop)]
 pub(crate) struct Log {
     pub(crate) bytes: &'static [u8],
-    /// The lengths after which no record is incomplete, in ascending order, and the letters of the
-    /// entries up to there.
+    /// The lengths of the prefixes without an incomplete record, in ascending order, each with the
+    /// letters of the entries in that prefix.
     pub(crate) ends: &'static [(usize, &'static str)],
     /// The printed result of the whole log, if a fault is detected at its last byte.
     pub(crate) fault: Option<&'static str>,
@@ -22,36 +22,37 @@ pub(crate) struct Log {
 pub(crate) const SUBSCRIBED: &[u8] =
     b"67\nE{\"type\":\"SUBSCRIBED\",\"subscribed\":{\"framework_id\":{\"value\":\"F1\"}}}";
 
-/// A log of version 1 with that event and the call REVIVE: 70 + 51 bytes.
+/// A log of version 1 with the event of [`SUBSCRIBED`] and the call REVIVE: 70 + 51 bytes.
 pub(crate) const CALLED: &[u8] =
     b"67\nE{\"type\":\"SUBSCRIBED\",\"subscribed\":{\"framework_id\":{\"value\":\"F1\"}}}48\nC{\"type\":\"REVIVE\",\"framework_id\":{\"value\":\"F1\"}}";
 
-/// A log of version 2 with that event, a disconnect, and that call: 3 + 70 + 3 + 51 bytes.
+/// A log of version 2 with the event of [`SUBSCRIBED`], a disconnect, and the call REVIVE: 3 + 70 +
+/// 3 + 51 bytes.
 pub(crate) const BROKEN: &[u8] =
     b"1\n267\nE{\"type\":\"SUBSCRIBED\",\"subscribed\":{\"framework_id\":{\"value\":\"F1\"}}}1\nB48\nC{\"type\":\"REVIVE\",\"framework_id\":{\"value\":\"F1\"}}";
 
-/// The prefixes of the log of version 1.
+/// The prefixes of [`CALLED`], a log of version 1.
 pub(crate) const VERSION_1: Log = Log {
     bytes: CALLED,
     ends: &[(0, ""), (70, "E"), (121, "EC")],
     fault: None,
 };
 
-/// The prefixes of the log of version 2.
+/// The prefixes of [`BROKEN`], a log of version 2.
 pub(crate) const VERSION_2: Log = Log {
     bytes: BROKEN,
     ends: &[(0, ""), (3, ""), (73, "E"), (76, "EB"), (127, "EBC")],
     fault: None,
 };
 
-/// A disconnect after that event, in version 1.
+/// A log of version 1 with a disconnect after the event of [`SUBSCRIBED`], which is a fault.
 pub(crate) const BREAK: Log = Log {
     bytes: b"67\nE{\"type\":\"SUBSCRIBED\",\"subscribed\":{\"framework_id\":{\"value\":\"F1\"}}}1\nB",
     ends: &[(0, ""), (70, "E")],
     fault: Some("E fault F16 BadEntry record 2 after 73"),
 };
 
-/// A header after the header.
+/// A log with a second header after the first, which is a fault.
 pub(crate) const HEADER_TWICE: Log = Log {
     bytes: b"1\n21\n2",
     ends: &[(0, ""), (3, "")],
@@ -73,7 +74,7 @@ impl Log {
         ended
     }
 
-    /// Returns whether no record is incomplete after `bytes` bytes.
+    /// Returns whether the first `bytes` bytes have no incomplete record.
     fn is_whole(&self, bytes: usize) -> bool {
         for (end, _) in self.ends {
             if *end == bytes {
@@ -83,7 +84,7 @@ impl Log {
         false
     }
 
-    /// Returns the printed result of the first `bytes` bytes.
+    /// Returns the printed result of reading the first `bytes` bytes.
     pub(crate) fn front_in_words(&self, alloc: Global, bytes: usize) -> Result<String, Fail> {
         let entries = self.entries_in(bytes);
         if self.is_whole(bytes) {

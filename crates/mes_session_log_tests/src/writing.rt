@@ -36,7 +36,7 @@ fn limit_of(bytes: u32) -> Result<Limit, Fail> {
     }
 }
 
-/// Writes the entries of a log under a limit, and expects these bytes.
+/// Writes the entries of a log under a limit, and expects the given bytes.
 fn expect_written<A: Abort>(
     rt: &A,
     alloc: Global,
@@ -54,7 +54,7 @@ fn expect_written<A: Abort>(
     Ok(())
 }
 
-/// Writes the entries of a log under a limit, and expects that the entry at this index is too
+/// Writes the entries of a log under a limit, and expects that the entry at the given index is too
 /// large.
 fn expect_too_large<A: Abort>(
     rt: &A,
@@ -72,14 +72,14 @@ fn expect_too_large<A: Abort>(
     Ok(())
 }
 
-/// A disconnect and the call REVIVE: its letter and text have 48 bytes.
+/// A disconnect and the call REVIVE, whose letter and text have 48 bytes.
 const BREAK_AND_REVIVE: &[u8] =
     b"1\n21\nB48\nC{\"type\":\"REVIVE\",\"framework_id\":{\"value\":\"F1\"}}";
 
 /// HEARTBEAT, whose letter and text have 21 bytes.
 const HEARTBEAT: &[u8] = b"1\n221\nE{\"type\":\"HEARTBEAT\"}";
 
-/// A log, a limit, and the log that its entries are written as under this limit.
+/// A log, a limit, and the log that is written for its entries under that limit.
 const WRITTEN: &[(&[u8], u32, &[u8])] = &[
     // Without entries only the header is written.
     (b"", 1, b"1\n2"),
@@ -92,7 +92,7 @@ const WRITTEN: &[(&[u8], u32, &[u8])] = &[
     (BROKEN, 67, BROKEN),
 ];
 
-/// A log, a limit, and the index of its first entry that is too large for it.
+/// A log, a limit, and the index of the first entry that is too large for the limit.
 const TOO_LARGE: &[(&[u8], u32, usize)] = &[
     (HEARTBEAT, 1, 0),
     (HEARTBEAT, 20, 0),
@@ -125,7 +125,7 @@ fn a_log_is_written_in_version_2(rt: HostRuntime) -> Result<(), Fail> {
     expect_written(&rt, rt.alloc(), SUBSCRIBED, 67, expected.as_slice())
 }
 
-/// Expects the fault of a writer that stops after these bytes of the log.
+/// Expects the fault of a writer that stops after the given bytes of the log.
 fn expect_stop<A: Abort>(
     rt: &A,
     alloc: Global,
@@ -164,12 +164,12 @@ fn a_writer_that_stops_has_the_bytes_before(rt: HostRuntime) -> Result<(), Fail>
     Ok(())
 }
 
-/// The number of bytes that a writer accepts per call, and of calls that the log of 127 bytes
-/// needs.
+/// The number of bytes that a writer accepts per call, and the number of calls that the log of 127
+/// bytes needs.
 const CALLS: &[(usize, u64)] = &[(512, 1), (127, 1), (126, 2), (64, 2), (1, 127)];
 
-/// Each call passes all remaining bytes to the writer. No contract states this; one bounds the
-/// calls by the bytes of the log.
+/// Each call passes all remaining bytes to the writer. No contract states this; a contract only
+/// bounds the number of calls by the number of bytes of the log.
 #[test]
 fn writes_are_as_few_as_the_writer_allows(rt: HostRuntime) -> Result<(), Fail> {
     let entries = entries_of(rt.alloc(), BROKEN)?;

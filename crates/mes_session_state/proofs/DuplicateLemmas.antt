@@ -1,4 +1,4 @@
--- Duplicate identifiers, one identifier at a time.
+-- Lemmas about duplicates in a list of identifiers, one identifier at a time.
 use Rattle.std.proofs.Common.{◌≡◌, ℕ, ◌+◌, ◌<◌, Bool, true, false, ◌||◌, List, [], ◌∷◌, ◌++◌, length, take, drop, get_or, refl, sym, ◌∙◌, ap, append_assoc, append-nil, take-append-drop}
 use Rattle.std.specs.List.{list_any}
 use Rattle.std.specs.Str.{bytes_eq}
@@ -67,7 +67,7 @@ module _ (xs : List Id) (i : ℕ) (x : Id) (within : i < length xs) (is : x ≡ 
       ap is_duplicated (sym (take-append-drop (i + 1) xs))
       ∙ twice-front (take (i + 1) xs) (drop (i + 1) xs) (ap is_duplicated front ∙ one-again (take i xs) x n)
 
--- ---- tasks
+-- ---- duplicate identifiers of tasks
 
 pub in-tasks : (id : Id) (ts : List TaskInfo) → is_among id (ids_of ts) ≡ list_any (is_task id) ts
 in-tasks id [] = refl

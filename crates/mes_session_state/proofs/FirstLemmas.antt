@@ -1,4 +1,4 @@
--- The first of the faults.
+-- Each reason S1 to S7 is the first that applies, if it applies and no earlier reason does.
 use Rattle.std.proofs.Common.{◌≡◌, ◌⊎◌, inl, inr, ℕ, ◌<◌, arith}
 use Rattle.mes_session_state.specs.declared.refusal.Refusal.{Refusal}
 use Rattle.mes_session_state.specs.declared.refusal.Refusal.TheVariants.{NotSubscribed, NamedTwice, NoSuchOffer, TwoAgents, WrongAgent, Exceeds, NotOwed, NoMemory}

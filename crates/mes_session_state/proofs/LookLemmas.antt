@@ -1,4 +1,4 @@
--- A linear search through a list.
+-- Lemmas about the linear search for the first element of a list that passes a test.
 use Rattle.std.proofs.Common.{◌≡◌, ℕ, zero, suc, ◌+◌, ◌<◌, Bool, true, false, ◌||◌, Some, List, [], ◌∷◌, length, take, get_or, slice_get, refl, sym, ◌∙◌, ap, subst, add-one, true≢false, arith}
 use Rattle.std.specs.List.{list_any}
 use Rattle.mes_session_fit.proofs.ListLemmas.{any-at, get-at, get-of}

@@ -1,4 +1,4 @@
--- The offers of identifiers that are all outstanding.
+-- Lemmas about the offers of identifiers that are all outstanding.
 use Rattle.std.proofs.Common.{◌≡◌, ℕ, zero, suc, ◌+◌, Bool, true, false, not, Option, Some, None, is_some, is_none, option_copied, Bor, List, [], ◌∷◌, length, slice_get, refl, sym, ◌∙◌, ap, true≢false, arith}
 use Rattle.mes_model.specs.Id.{Id}
 use Rattle.mes_model.specs.Offer.{Offer}
@@ -62,7 +62,7 @@ module _ (hand : List Offer) (ids : List Id) (i : ℕ) (d : Id) (there : AreOuts
   pub shown : (o : Bor Offer) → r ≡ Some o → slice_get (offers_named hand ids) i ≡ Some o.now
   shown o e = named-at hand ids i d o.now there at (sym found ∙ ap option_copied e)
 
--- ---- the agent
+-- ---- the agent of the first offer
 
 pub no-agent : (os : List Offer) (agent : Id) → length os ≡ 0 → false ≡ is_agent (agent_of os) agent
 no-agent [] agent e = refl

@@ -1,4 +1,4 @@
--- The refusal of a call, from the results of the searches.
+-- The result of checking a call, from the results of the searches.
 use Rattle.std.proofs.Common.{◌≡◌, ◌⊎◌, inl, inr, ℕ, Bool, true, false, Option, Some, None, List, [], ◌∷◌, ◌++◌, not, refl, sym, ◌∙◌, ap, subst, is_none, unwrap_or, true≢false}
 use Rattle.std.specs.List.{list_any}
 use Rattle.mes_model.specs.Id.{Id}
@@ -30,7 +30,7 @@ use Rattle.mes_session_state.proofs.FirstLemmas.{first-1, first-2, first-3, firs
 missing-is : {X : Type 0} (r : Option X) → r ≡ None → is_none r ≡ true
 missing-is r e = ap is_none e
 
--- a call that is not S1 can only have a fault in what it asks for
+-- if S1 does not apply to a call, the reasons that apply to it are those of the call's parts
 module _ (held : Held) (call : Call) (known : IsForeign held call → ⊥) where
   down : (fault : Refusal) → IsFaulty held call fault → IsFaultyIn held (asked_by call) fault
   down NotSubscribed f = absurd (known f)
@@ -59,7 +59,7 @@ module _ (held : Held) (call : Call) (known : IsForeign held call → ⊥) where
 pub foreign : (held : Held) (call : Call) → IsForeign held call → Answers held call (Some NotSubscribed)
 foreign held call f = (NotSubscribed, refl, first-1 (IsFaulty held call) f)
 
--- ---- what a call asks for
+-- ---- the first reason for given parts of a call
 
 module _ (held : Held) (asked : Asked) where
   abbrev Faulty : Refusal → Type 0
@@ -120,7 +120,7 @@ module _ (held : Held) (asked : Asked) where
             pub told-none : ((k : OwedKey) → asked.acknowledged ≡ Some k → is_owed k held.owed ≡ false → ⊥) → ReportsFirst (IsFaultyIn held asked) None
             told-none owes = none-of Faulty s1 s2 s3 s4 s5 s6 (λ f. owes f.0 f.1 f.2) (λ f. f)
 
--- ---- no tasks are launched
+-- ---- an empty list of tasks fits any offers
 
 no-resource : (offers : List Offer) (i j : ℕ) → BreaksAt offers [] i j → ⊥
 no-resource offers i j b = absurd (not-none b.task (sym b.task_at))
@@ -128,7 +128,7 @@ no-resource offers i j b = absurd (not-none b.task (sym b.task_at))
 pub fits-none : (offers : List Offer) → Fits offers []
 fits-none offers = fits-of offers [] (no-resource offers)
 
--- ---- an acknowledgement, and a call that asks for nothing
+-- ---- the parts of an ACKNOWLEDGE, and of a call without offers, tasks or a key
 
 pub owed-one : (held : Held) (k : OwedKey) → is_owed k held.owed ≡ true → ReportsFirst (IsFaultyIn held (record { named = []; accepted = []; tasks = []; acknowledged = Some k })) None
 owed-one held k h =
@@ -142,7 +142,7 @@ pub nothing-asked : (held : Held) → ReportsFirst (IsFaultyIn held (record { na
 nothing-asked held =
     told-none held (record { named = []; accepted = []; tasks = []; acknowledged = None }) refl refl refl refl refl (fits-none []) (λ l e g. not-none l (sym e))
 
--- ---- from what is asked for to the call
+-- ---- from the parts of a call to the call
 
 module _ (held : Held) (call : Call) (known : IsForeign held call → ⊥) (r : Option Refusal) where
   pub reported : (asked : Asked) → asked ≡ asked_by call → ReportsFirst (IsFaultyIn held asked) r → Answers held call r
@@ -169,7 +169,7 @@ pub one-group : (ts : List TaskInfo) → ts ++ [] ≡ launched launched_by (oper
 one-group [] = refl
 one-group (t ∷ ts) = refl
 
--- ---- S1
+-- ---- when S1 applies
 
 own-strange : (held : Held) (f g : Id) → Some f ≡ Some g → IsOtherFramework held g → IsOtherFramework held f
 own-strange held f g e s = subst (IsOtherFramework held) (sym (ap (λ (o : Option Id). unwrap_or o f) e)) s

@@ -1,4 +1,4 @@
--- A change to the entries is a change to the list of offers.
+-- A change to the entries of the map changes the list of offers in the same way.
 use Rattle.std.proofs.Common.{◌≡◌, ℕ, Bool, true, false, cond, not, ◌||◌, List, [], ◌∷◌, ◌++◌, map, filter, Option, Some, None, String, string_bytes, is_some, unwrap_or, option_copied, Bor, refl, sym, ◌∙◌, ap, ap₂, true≢false}
 use Rattle.std.specs.List.{IsDistinct, AllByRecursion}
 use Rattle.std.specs.Str.{bytes_eq}
@@ -41,7 +41,7 @@ module _ {A : Type 0} where
   abbrev pub same_text : String A → String A → Bool
   same_text a b = bytes_eq (string_bytes a) (string_bytes b)
 
-  -- ---- look-up
+  -- ---- the entry of an identifier has the offer with that identifier
 
   pub looked_up : (name : List ℕ) (es : List (String A × Slot)) → AreSettled es → offer_in (offers_in es) name ≡ option_map (λ (s : Slot). s.offer) (lookup (λ k. bytes_eq name (string_bytes k)) es)
   looked_up name [] h = refl
@@ -57,7 +57,7 @@ module _ {A : Type 0} where
       ∙ sym (looked_up name es h)
       ∙ ap (λ os. offer_in os name) is
 
-  -- ---- insertion
+  -- ---- inserting an entry
 
   offers-cond : (b : Bool) (xs ys : List (String A × Slot)) → offers_in (cond b xs ys) ≡ cond b (offers_in xs) (offers_in ys)
   offers-cond true xs ys = refl
@@ -80,7 +80,7 @@ module _ {A : Type 0} where
         by true t rest = (sym ((bytes_decides (string_bytes k) (string_bytes e.0)).0 t) ∙ own, unmarked, h.2)
         by false t rest = (h.0, h.1, rest)
 
-  -- ---- copies
+  -- ---- appending an entry
 
   pub settled-append : (xs : List (String A × Slot)) (x : String A × Slot) → AreSettled xs → AreSettled (x ∷ []) → AreSettled (xs ++ x ∷ [])
   settled-append [] x h own = own
@@ -90,7 +90,7 @@ module _ {A : Type 0} where
   offers-append [] x = refl
   offers-append (e ∷ es) x = ap (λ os. e.1.offer ∷ os) (offers-append es x)
 
-  -- ---- marking
+  -- ---- marking entries for removal
 
   abbrev pub IsAbsent : List ℕ → List (String A × Slot) → Type 0
   IsAbsent name [] = Unit {0}
@@ -132,7 +132,7 @@ module _ {A : Type 0} where
           (sym (marked-absent name es (absent name e.0 es (sym ((bytes_decides name (string_bytes e.0)).0 t)) d.0)))
       by false t h rest = ap₂ (λ f fs. f ∷ fs) (sym (marked-other name e t)) (rest h)
 
-  -- ---- removal of one
+  -- ---- removing one entry
 
   without-absent : (name : List ℕ) (es : List (String A × Slot)) → AreSettled es → IsAbsent name es → offers_in es ≡ without_offer name (offers_in es)
   without-absent name [] h other = refl
@@ -166,7 +166,7 @@ module _ {A : Type 0} where
       by true rest = h.2
       by false rest = (h.0, h.1, rest)
 
-  -- ---- removal of the marked entries
+  -- ---- removing the entries that are marked
 
   named : (es : List (String A × Slot)) → AreSettled es → AreNamed es
   named [] h = tt

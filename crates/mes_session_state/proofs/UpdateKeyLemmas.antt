@@ -1,4 +1,4 @@
--- Inserting a key into a set of keys is inserting it in order.
+-- Inserting a key into the set of keys gives the list that `with_key` gives.
 use Rattle.std.proofs.Common.{◌≡◌, Bool, true, false, if◌then◌else◌, ◌||◌, List, [], ◌∷◌, ◌++◌, refl, sym, ◌∙◌, ap}
 use Rattle.std.specs.List.{list_any}
 use Rattle.std.specs.Cmp.Lexicographic.{bytes_decides}

@@ -40,14 +40,14 @@ abbrev pub tasks_of : Call → List TaskInfo
 tasks_of (of.Accept framework body) = launched launched_by body.operations
 tasks_of _ = []
 
--- the update that an ACKNOWLEDGE acknowledges
+-- the key of the update that an ACKNOWLEDGE acknowledges
 abbrev pub acknowledged_by : Call → Option OwedKey
 acknowledged_by (of.Acknowledge framework body) = Some (record { agent = body.agent_id; task = body.task_id; uuid = body.uuid })
 acknowledged_by _ = None
 
--- ---- calls by their arguments
+-- ---- the calls that have given arguments
 
--- no operation if there are no tasks
+-- one LAUNCH of the tasks, or no operation if there are no tasks
 abbrev pub operations_of : List TaskInfo → List Operation
 operations_of [] = []
 operations_of (t ∷ ts) = Launch (t ∷ ts) ∷ []

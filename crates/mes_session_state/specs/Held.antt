@@ -8,7 +8,8 @@ use Rattle.mes_model.specs.Offer.{Offer}
 use Rattle.mes_model.specs.OwedKey.{OwedKey}
 use Rattle.mes_session_state.specs.Keeping.{put}
 
--- the framework, whether it is connected, the outstanding offers, the unacknowledged updates
+-- the framework, if known; whether the stream is connected; the outstanding offers (`hand`); the
+-- keys of the unacknowledged updates (`owed`)
 pub record Held : Type 0 where
   pub framework : Option Id
   pub connected : Bool
@@ -21,19 +22,19 @@ pub record Held : Type 0 where
 abbrev pub name_of : Offer → List ℕ
 name_of o = o.id.value
 
--- the offer with this identifier
+-- the outstanding offer with the identifier `name`
 abbrev pub offer_in : List Offer → List ℕ → Option Offer
 offer_in hand name = find (λ o. bytes_eq name (name_of o)) hand
 
--- adds offers in order; an offer with a known identifier replaces the old one in its place
+-- adds offers in order; an offer with the identifier of an earlier offer replaces it in its place
 abbrev pub with_offers : List Offer → List Offer → List Offer
 with_offers hand offers = fold (put bytes_eq name_of) hand offers
 
--- removes the offer with this identifier
+-- removes the offer with the identifier `name`
 abbrev pub without_offer : List ℕ → List Offer → List Offer
 without_offer name hand = filter (λ o. not (bytes_eq name (name_of o))) hand
 
--- whether one of the identifiers is the offer's
+-- true if and only if one of the identifiers is that of the offer
 abbrev pub names : List Id → Offer → Bool
 names ids o = list_any (λ (d : Id). bytes_eq d.value (name_of o)) ids
 

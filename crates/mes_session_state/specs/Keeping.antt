@@ -1,4 +1,5 @@
--- A list with unique keys: an item replaces the one of its key, or is appended.
+-- A list of items with unique keys: adding an item replaces the item of the same key in its place,
+-- or appends.
 use Rattle.std.specs.Prelude.{Bool, if◌then◌else◌, List, [], ◌∷◌}
 
 module _ {K X : Type 0} (same : K → K → Bool) (key : X → K) where

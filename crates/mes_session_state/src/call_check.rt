@@ -1,4 +1,4 @@
-//! The state of a session, and the calls that it refuses. The reasons are in `refusal.rt`.
+//! Checks of calls against the state of a session. The reasons for a refusal are in `refusal.rt`.
 ghost use Rattle.std.specs.Prelude.{◌≡◌, ◌↔◌, [], Option as option, option_copied, IsTrue, IsFalse, IfNone, IsSome};
 ghost use Rattle.mes_model.specs.Id.{Id as IdValue};
 ghost use Rattle.mes_model.specs.declared.filters.Filters.{Filters};
@@ -45,7 +45,8 @@ impl<'a> Model for CallCheck<'a> {
 }
 
 impl<'a> CallCheck<'a> {
-    /// Borrows the parts of a session's state.
+    /// Borrows the parts of a session's state: the framework, if known; whether the stream is
+    /// connected; the outstanding offers; the unacknowledged updates.
     pub fn new(
         framework: Option<&'a Id>,
         connected: bool,
@@ -68,9 +69,10 @@ impl<'a> CallCheck<'a> {
         }
     }
 
-    /// Returns the first of S1 to S7 that applies to the call, or `None`. Does not allocate: S2
-    /// compares the identifiers of the offers pairwise, and those of the tasks. Looking up each
-    /// offer takes a time independent of the number of outstanding offers.
+    /// Returns the first of the reasons S1 to S7 of [`Refusal`] that applies to the call, or
+    /// `None`. Does not allocate: S2 compares the identifiers of the offers pairwise, and those of
+    /// the tasks. Looking up each offer takes a time independent of the number of outstanding
+    /// offers.
     pub fn refusal(&self, call: &Call) -> Option<Refusal>
         ensures { Answers self.now call.now result }
     {
@@ -90,10 +92,10 @@ impl<'a> CallCheck<'a> {
         }
     }
 
-    /// Like [`CallCheck::refusal`], but for an ACCEPT of these offers by the known framework. It
-    /// has one LAUNCH of `tasks`, or no operation if `tasks` is empty.
+    /// Like [`CallCheck::refusal`], but for an ACCEPT of the offers `ids` by the known framework.
+    /// The ACCEPT has one LAUNCH of `tasks`, or no operation if `tasks` is empty.
     pub fn refusal_of_accept(&self, ids: &[Id], tasks: &[TaskInfo]) -> Option<Refusal>
-        // The first reason against this ACCEPT, whatever its filters.
+        // The first reason against this ACCEPT, whatever its `filters` member is.
         ensures answers { (framework : IdValue) (filters : option Filters)
             → IsOwn self.now framework → Answers self.now
             (accept_call framework ids.now tasks.now filters) result }
@@ -105,9 +107,9 @@ impl<'a> CallCheck<'a> {
         self.fault_of_accept(ids, &[tasks])
     }
 
-    /// Like [`CallCheck::refusal`], but for a DECLINE of these offers by the known framework.
+    /// Like [`CallCheck::refusal`], but for a DECLINE of the offers `ids` by the known framework.
     pub fn refusal_of_decline(&self, ids: &[Id]) -> Option<Refusal>
-        // The first reason against this DECLINE, whatever its filters.
+        // The first reason against this DECLINE, whatever its `filters` member is.
         ensures answers { (framework : IdValue) (filters : option Filters)
             → IsOwn self.now framework → Answers self.now (decline_call framework ids.now filters)
             result }
@@ -119,7 +121,8 @@ impl<'a> CallCheck<'a> {
         self.fault_of_decline(ids)
     }
 
-    /// Like [`CallCheck::refusal`], but for the ACKNOWLEDGE of this update by the known framework.
+    /// Like [`CallCheck::refusal`], but for the ACKNOWLEDGE of the update `key` by the known
+    /// framework.
     pub fn refusal_of_acknowledge(&self, key: &OwedKey) -> Option<Refusal>
         // The first reason against this ACKNOWLEDGE.
         ensures answers { (framework : IdValue) → IsOwn self.now framework
@@ -150,7 +153,8 @@ impl<'a> CallCheck<'a> {
         None
     }
 
-    /// Returns whether no SUBSCRIBED was received since the stream was disconnected.
+    /// Returns whether no framework is known, or no SUBSCRIBED was received since the stream was
+    /// last disconnected.
     fn is_disconnected(&self) -> bool
         ensures strange { (framework : IdValue) → IsOwn self.now framework
             → IsTrue result ↔ IsOtherFramework self.now framework }
@@ -159,7 +163,8 @@ impl<'a> CallCheck<'a> {
         !self.connected || self.framework.is_none()
     }
 
-    /// Returns whether a call from this framework is refused for S1.
+    /// Returns whether a call from `framework` is refused for S1: the stream is disconnected, or
+    /// this is not the known framework.
     fn is_other_framework(&self, framework: &Id) -> bool
         ensures { IsTrue result ↔ IsOtherFramework self.now framework.now }
     {
@@ -169,7 +174,8 @@ impl<'a> CallCheck<'a> {
         }
     }
 
-    /// Returns whether a SUBSCRIBE is refused for S1.
+    /// Returns whether a SUBSCRIBE that names `named` is refused for S1: another framework is
+    /// known.
     fn is_other_subscription(&self, named: &Option<Id>) -> bool
         ensures { IsTrue result ↔ IsOtherSubscription self.now named.now }
     {
@@ -197,7 +203,8 @@ impl<'a> CallCheck<'a> {
         }
     }
 
-    /// Returns the first of S2 to S6 that applies to an ACCEPT of these offers with these tasks.
+    /// Returns the first of the reasons S2 to S6 that applies to an ACCEPT of the offers `ids` with
+    /// the tasks of `launches`.
     fn fault_of_accept<L: TaskGroup>(&self, ids: &[Id], launches: &[L]) -> Option<Refusal>
         ensures { ReportsFirst (IsFaultyIn self.now
             (record {
@@ -227,7 +234,7 @@ impl<'a> CallCheck<'a> {
         })
     }
 
-    /// Returns the first of S2 and S3 that applies to a DECLINE of these offers.
+    /// Returns the first of the reasons S2 and S3 that applies to a DECLINE of the offers `ids`.
     fn fault_of_decline(&self, ids: &[Id]) -> Option<Refusal>
         ensures { ReportsFirst (IsFaultyIn self.now
             (record { named = ids.now; accepted = []; tasks = []; acknowledged = None })) result }

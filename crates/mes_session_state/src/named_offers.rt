@@ -29,7 +29,8 @@ pub(crate) fn missing(hand: &OutstandingOffers, ids: &[Id]) -> Option<usize>
     None
 }
 
-/// Returns the offer of one of the identifiers. All of them must be outstanding.
+/// Returns the outstanding offer with the identifier at `index`. All identifiers must be those of
+/// outstanding offers.
 fn offer_at<'a>(hand: &'a OutstandingOffers, ids: &[Id], index: usize) -> &'a Offer
     requires within { index < length ids.now }
     requires there { AreOutstanding hand.now ids.now }
@@ -38,8 +39,8 @@ fn offer_at<'a>(hand: &'a OutstandingOffers, ids: &[Id], index: usize) -> &'a Of
     hand.get(ids[index].value.as_str()).unwrap()
 }
 
-/// The outstanding offers with these identifiers, all present. In contracts its value is their
-/// list.
+/// The outstanding offers with the given identifiers. Each identifier has such an offer. In
+/// contracts the value is the list of the offers.
 #[derive(Drop)]
 pub(crate) struct NamedOffers<'a> {
     hand: &'a OutstandingOffers,
@@ -84,7 +85,7 @@ impl<'a> OfferList for NamedOffers<'a> {
     }
 }
 
-/// Returns whether there are offers and the first is on this agent.
+/// Returns whether there are offers and the first is on the agent `agent`.
 fn are_on(offers: &NamedOffers<'_>, agent: &Id) -> bool
     ensures { result ≡ is_agent (agent_of offers.now) agent.now }
 {
@@ -106,7 +107,7 @@ pub(crate) fn two_agents(offers: &NamedOffers<'_>) -> bool
     false
 }
 
-/// Returns the index of the first task that is not on the agent of the offers.
+/// Returns the index of the first task that is not on the agent of the first offer.
 fn task_on_other_agent(offers: &NamedOffers<'_>, tasks: &[TaskInfo]) -> Option<usize>
     ensures some { IfSome result (IsFirstAt (is_elsewhere offers.now) tasks.now) }
     ensures none { IfNone result (list_any (is_elsewhere offers.now) tasks.now ≡ false) }
@@ -119,7 +120,8 @@ fn task_on_other_agent(offers: &NamedOffers<'_>, tasks: &[TaskInfo]) -> Option<u
     None
 }
 
-/// Returns the index of the first task of the groups that is not on the agent of the offers.
+/// Returns the index, over all groups, of the first task that is not on the agent of the first
+/// offer.
 pub(crate) fn on_other_agent<L: TaskGroup>(
     offers: &NamedOffers<'_>,
     launches: &[L],

@@ -1,4 +1,4 @@
-//! The outstanding offers. Their entries are in `slot.rt`.
+//! The map of the outstanding offers. The entries of the map are in `slot.rt`.
 ghost use Rattle.std.specs.Prelude.{◌≡◌, ◌<◌, ◌↔◌, [], length, slice_get, option_copied, IsTrue, OnOk, OnErr};
 ghost use Rattle.mes_session_state.specs.Held.{offer_in, with_offers, without_offer, without_offers};
 ghost use Rattle.mes_session_state.specs.Slots.{offers_in, AreSettled};
@@ -10,7 +10,8 @@ use mes_model::{Id, Offer};
 use std::alloc::Global;
 use std::marker::Model;
 
-/// The outstanding offers in order, with unique identifiers. In contracts its value is their list.
+/// The outstanding offers in order, with unique identifiers. In contracts the value is the list of
+/// the offers.
 #[derive(Drop)]
 pub struct OutstandingOffers {
     slots: Slots,
@@ -64,7 +65,7 @@ impl OutstandingOffers {
         Some(&slot.offer)
     }
 
-    /// Returns the offer with this identifier, in a time independent of the number of offers.
+    /// Returns the offer with the identifier `id`, in a time independent of the number of offers.
     pub fn get(&self, id: &str) -> Option<&Offer>
         ensures { option_copied result ≡ offer_in self.now id.now }
     {
@@ -72,9 +73,9 @@ impl OutstandingOffers {
         Some(&slot.offer)
     }
 
-    /// Adds copies of offers in order. An offer with the identifier of an earlier one replaces it
-    /// in its place. Errors: `NoMemory` if an allocation fails; nothing is then changed. An empty
-    /// slice does not allocate.
+    /// Adds copies of offers in order. An offer with the identifier of an earlier offer replaces
+    /// that offer in its place. Errors: `NoMemory` if an allocation fails; nothing is then changed.
+    /// An empty slice does not allocate.
     pub fn add(&mut self, alloc: Global, offers: &[Offer]) -> Result<(), NoMemory>
         ensures ok { OnOk result (self.new ≡ with_offers self.old offers.now) }
         ensures err { OnErr result (self.new ≡ self.old) }
@@ -86,7 +87,7 @@ impl OutstandingOffers {
         Ok(())
     }
 
-    /// Removes the offer with this identifier, if present, and retains the order. Does not
+    /// Removes the offer with the identifier `id`, if present, and retains the order. Does not
     /// allocate.
     pub fn remove(&mut self, id: &str)
         ensures { self.new ≡ without_offer id.now self.old }
@@ -96,7 +97,7 @@ impl OutstandingOffers {
         self.slots.shift_remove(id);
     }
 
-    /// Removes the offers with these identifiers, if present, and retains the order. Does not
+    /// Removes the offers with the identifiers `ids`, if present, and retains the order. Does not
     /// allocate. The time is linear in the number of offers plus the number of identifiers.
     pub fn remove_all(&mut self, ids: &[Id])
         ensures { self.new ≡ without_offers ids.now self.old }

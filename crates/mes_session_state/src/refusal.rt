@@ -1,13 +1,14 @@
 //! The reasons for which a session refuses a call.
 use mes_json::NoMemory;
 
-/// The reason for which a session refuses a call. S1 to S7 are checked in this order.
+/// The reason for which a session refuses a call. S1 to S7 are checked in the order of their
+/// numbers.
 #[derive(Clone, Copy, Debug, PartialEq, Eq)]
 pub enum Refusal {
     /// S1: no SUBSCRIBED was received since the stream was disconnected, or the call names another
     /// framework. A SUBSCRIBE is refused only if it names another framework than the known one.
     NotSubscribed,
-    /// S2: an ACCEPT or DECLINE names an offer twice, or an ACCEPT a task.
+    /// S2: an ACCEPT or DECLINE names an offer twice, or an ACCEPT names a task twice.
     NamedTwice,
     /// S3: a named offer is not outstanding.
     NoSuchOffer {
@@ -16,12 +17,14 @@ pub enum Refusal {
     },
     /// S4: the offers of an ACCEPT are on more than one agent.
     TwoAgents,
-    /// S5: a task is to run on another agent than that of the offers, or there are no offers.
+    /// S5: a task is to run on another agent than that of the offers, or an ACCEPT with tasks names
+    /// no offers.
     WrongAgent {
         /// The index of the first such task over all operations, from 0 to at most 2^64 - 1.
         task: usize,
     },
-    /// S6: the tasks take more than the offers have, or two of them take what cannot be shared.
+    /// S6: the tasks take more than the offers have, or two tasks take the same point or item of a
+    /// key.
     Exceeds {
         /// The index of the first such task over all operations, from 0 to at most 2^64 - 1.
         task: usize,

@@ -1,4 +1,5 @@
-//! The entries of the outstanding offers: offers by identifier, each with a mark for removal.
+//! The entries of the map of outstanding offers: each offer under its identifier, with a mark for
+//! removal.
 ghost use Rattle.std.specs.Prelude.{◌≡◌, ◌+◌, ◌<◌, ◌≤◌, not, [], ◌∷◌, map, filter, length, IfOk, OnErr, bytes_eq};
 ghost use Rattle.indexmap.specs.IndexMap.{spare};
 ghost use Rattle.mes_session_state.specs.Keeping.{put};
@@ -11,7 +12,7 @@ use mes_model::{Id, Offer};
 use mes_model_schema::Part;
 use std::alloc::Global;
 
-/// An outstanding offer and its mark.
+/// An outstanding offer and its mark for removal.
 #[derive(Drop)]
 pub(crate) struct Slot {
     pub(crate) offer: Offer,
@@ -19,7 +20,7 @@ pub(crate) struct Slot {
     pub(crate) leaves: bool,
 }
 
-/// The offers in order, by identifier.
+/// The outstanding offers in order, under their identifiers.
 pub(crate) type Slots = IndexMap<String, Slot>;
 
 pub(crate) fn copies(alloc: Global, offers: &[Offer]) -> Result<Vec<(String, Slot)>, NoMemory>

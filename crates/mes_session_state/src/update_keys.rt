@@ -1,4 +1,4 @@
-//! The updates that are not yet acknowledged.
+//! The keys of the updates that are not yet acknowledged.
 ghost use Rattle.std.specs.Prelude.{◌≡◌, ◌↔◌, not, [], length, slice_get, option_copied, IsTrue, OnOk, OnErr, false};
 ghost use Rattle.mes_session_state.specs.Held.{same_key, is_owed, with_key, without_key};
 
@@ -9,8 +9,8 @@ use mes_model_schema::Bytes;
 use std::alloc::Global;
 use std::marker::Model;
 
-/// The keys of unacknowledged updates in order, without duplicates. In contracts its value is their
-/// list.
+/// The keys of unacknowledged updates in order, without duplicates. In contracts the value is the
+/// list of the keys.
 #[derive(Drop)]
 pub struct UpdateKeys {
     keys: IndexSet<OwedKey>,
@@ -65,7 +65,7 @@ impl UpdateKeys {
 
     /// Returns whether the key of this agent, task and UUID is present. The search is linear.
     pub fn has(&self, agent: &Id, task: &Id, uuid: &Bytes) -> bool
-        // Whether the key with this agent, task and UUID is present.
+        // The key with this agent, task and UUID is present, if and only if the result is true.
         ensures { result ≡ is_owed (record { agent = agent.now; task = task.now; uuid = uuid.now })
             self.now }
     {

@@ -30,8 +30,8 @@ M {"type":"SUBSCRIBE","framework_id":{"value":"F9"},"subscribe":{"framework_info
 C {"type":"SUBSCRIBE","framework_id":{"value":"F9"},"subscribe":{"framework_info":{"user":"root","name":"n","id":{"value":"F9"}}}} => ok | - off ;
 "#;
 
-/// Calls of the known framework. A SUBSCRIBE that the session makes names it; one that names
-/// another is refused.
+/// Calls of the known framework. A SUBSCRIBE that the session makes names the known framework; a
+/// SUBSCRIBE that names another is refused.
 const PLAIN: &str =
     r#"E {"type":"SUBSCRIBED","subscribed":{"framework_id":{"value":"F1"}}} => ok | F1 on ;
 E {"type":"OFFERS","offers":{"offers":[{"id":{"value":"O1"},"framework_id":{"value":"F1"},"agent_id":{"value":"A1"},"hostname":"h"}]}} => ok | F1 on O1=h ;
@@ -61,7 +61,8 @@ E {"type":"OFFERS","offers":{"offers":[{"id":{"value":"O1"},"framework_id":{"val
 C {"type":"DECLINE","framework_id":{"value":"F1"},"decline":{"offer_ids":[{"value":"O1"}]}} => ok | F1 on ;
 "#;
 
-/// Tasks on offers: the cpus do not exceed the offers, and no two tasks take one port.
+/// Tasks launched on offers: they take no more cpus than offered, and no two tasks take the same
+/// port.
 const LAUNCHES: &str =
     r#"E {"type":"SUBSCRIBED","subscribed":{"framework_id":{"value":"F1"}}} => ok | F1 on ;
 E {"type":"OFFERS","offers":{"offers":[{"id":{"value":"O1"},"framework_id":{"value":"F1"},"agent_id":{"value":"A1"},"hostname":"h","resources":[{"name":"cpus","type":"SCALAR","scalar":{"value":1.1}}]}]}} => ok | F1 on O1=h ;
@@ -77,7 +78,8 @@ M {"type":"ACCEPT","framework_id":{"value":"F1"},"accept":{"offer_ids":[{"value"
 M {"type":"ACCEPT","framework_id":{"value":"F1"},"accept":{}} => same | F1 on O1=h ;
 "#;
 
-/// Tasks of two operations of one ACCEPT are counted over both; the call has the filters.
+/// Tasks are numbered, and their resources added up, over both operations of one ACCEPT. The calls
+/// that the session makes have their `filters` member.
 const OPERATIONS: &str =
     r#"E {"type":"SUBSCRIBED","subscribed":{"framework_id":{"value":"F1"}}} => ok | F1 on ;
 E {"type":"OFFERS","offers":{"offers":[{"id":{"value":"O1"},"framework_id":{"value":"F1"},"agent_id":{"value":"A1"},"hostname":"h","resources":[{"name":"cpus","type":"SCALAR","scalar":{"value":1.0}}]},{"id":{"value":"O2"},"framework_id":{"value":"F1"},"agent_id":{"value":"A1"},"hostname":"h","resources":[{"name":"cpus","type":"SCALAR","scalar":{"value":0.5}}]}]}} => ok | F1 on O1=h O2=h ;
@@ -99,8 +101,8 @@ E {"type":"OFFERS","offers":{"offers":[{"id":{"value":"O1"},"framework_id":{"val
 M {"type":"DECLINE","framework_id":{"value":"F1"},"decline":{"offer_ids":[{"value":"O2"},{"value":"O1"}]}} => same | F1 on ;
 "#;
 
-/// An update is unacknowledged until its ACKNOWLEDGE, and again if it is resent; one without a UUID
-/// never is.
+/// An update is unacknowledged until its ACKNOWLEDGE, and again if the update is resent. An update
+/// without a UUID never is.
 const ACKNOWLEDGED: &str =
     r#"E {"type":"SUBSCRIBED","subscribed":{"framework_id":{"value":"F1"}}} => ok | F1 on ;
 E {"type":"UPDATE","update":{"status":{"task_id":{"value":"T1"},"state":"TASK_RUNNING","agent_id":{"value":"A1"},"uuid":"AAECAwQFBgcICQoLDA0ODw=="}}} => ok | F1 on ; A1/T1/000102030405060708090a0b0c0d0e0f

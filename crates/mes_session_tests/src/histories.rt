@@ -3,7 +3,8 @@
 use crate::support::{expect_replay, expect_script};
 use std::test::Fail;
 
-/// An offer that is sent again replaces the old one in its place; after a removal it comes last.
+/// An offer with the identifier of an outstanding offer replaces that offer in its place. An offer
+/// that comes again after its removal is the last.
 const HAND: &str =
     r#"E {"type":"SUBSCRIBED","subscribed":{"framework_id":{"value":"F1"}}} => ok | F1 on ;
 E {"type":"OFFERS","offers":{"offers":[{"id":{"value":"O1"},"framework_id":{"value":"F1"},"agent_id":{"value":"A1"},"hostname":"a"},{"id":{"value":"O2"},"framework_id":{"value":"F1"},"agent_id":{"value":"A1"},"hostname":"b"},{"id":{"value":"O1"},"framework_id":{"value":"F1"},"agent_id":{"value":"A1"},"hostname":"c"}]}} => ok | F1 on O1=c O2=b ;
@@ -45,7 +46,7 @@ C {"type":"DECLINE","framework_id":{"value":"F1"},"decline":{"offer_ids":[{"valu
 C {"type":"REVIVE","framework_id":{"value":"F1"}}
 "#;
 
-/// The same history, followed by two refused calls.
+/// The history [`LEGAL`], followed by two refused calls.
 const REFUSED: &str = r#"E {"type":"SUBSCRIBED","subscribed":{"framework_id":{"value":"F1"}}}
 E {"type":"OFFERS","offers":{"offers":[{"id":{"value":"O1"},"framework_id":{"value":"F1"},"agent_id":{"value":"A1"},"hostname":"h"},{"id":{"value":"O2"},"framework_id":{"value":"F1"},"agent_id":{"value":"A1"},"hostname":"g"}]}}
 E {"type":"UPDATE","update":{"status":{"task_id":{"value":"T1"},"state":"TASK_RUNNING","agent_id":{"value":"A1"},"uuid":"AAECAwQFBgcICQoLDA0ODw=="}}}

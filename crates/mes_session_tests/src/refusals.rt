@@ -1,10 +1,10 @@
-//! Refused calls, applied and made. Each reason occurs with all earlier checks passing, and does
-//! not change the state.
+//! Refused calls, applied with `said` or made by the session. Each reason occurs in a call that
+//! passes all earlier checks, and does not change the state.
 
 use crate::support::expect_script;
 use std::test::Fail;
 
-/// The first reason is returned, whatever else is wrong.
+/// The first reason that applies is returned, whatever other reasons apply.
 const REASONS: &str =
     r#"E {"type":"SUBSCRIBED","subscribed":{"framework_id":{"value":"F1"}}} => ok | F1 on ;
 E {"type":"OFFERS","offers":{"offers":[{"id":{"value":"O1"},"framework_id":{"value":"F1"},"agent_id":{"value":"A1"},"hostname":"h","resources":[{"name":"cpus","type":"SCALAR","scalar":{"value":1}}]},{"id":{"value":"O2"},"framework_id":{"value":"F1"},"agent_id":{"value":"A2"},"hostname":"g"},{"id":{"value":"O3"},"framework_id":{"value":"F1"},"agent_id":{"value":"A1"},"hostname":"k"}]}} => ok | F1 on O1=h O2=g O3=k ;

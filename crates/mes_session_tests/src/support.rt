@@ -11,8 +11,8 @@
 //! with its host. After `;` it has the keys of the unacknowledged updates: agent, task, and UUID in
 //! hexadecimal.
 //!
-//! A value that is read is local to a small function, because it makes each later step of its
-//! function more expensive to check.
+//! A decoded value is local to a small function, because it makes each later step of its function
+//! more expensive to check.
 
 use mes_model::{OwedKey, Part, TaskInfo};
 use mes_msg::{
@@ -77,7 +77,8 @@ fn key_of(alloc: Global, body: &Acknowledge) -> Result<OwedKey, Refusal> {
     Ok(OwedKey { agent, task, uuid })
 }
 
-/// Makes an ACKNOWLEDGE with the arguments of another, as do the next functions for their calls.
+/// Makes an ACKNOWLEDGE with the arguments of another one. The next functions do the same for other
+/// calls.
 fn acknowledge(alloc: Global, session: &mut Session, body: &Acknowledge) -> Result<Call, Refusal> {
     let key = key_of(alloc, body)?;
     session.acknowledge(&key)
@@ -112,7 +113,7 @@ fn shutdown(session: &mut Session, body: &Shutdown) -> Result<Call, Refusal> {
     session.shutdown(&body.executor_id, &body.agent_id)
 }
 
-/// Makes a call with the arguments of another.
+/// Makes a call with the arguments of another call.
 fn make(alloc: Global, session: &mut Session, call: &Call) -> Result<Call, Refusal> {
     match call {
         Call::Subscribe { body, .. } => subscribe(session, body),
@@ -138,7 +139,7 @@ fn text_of(alloc: Global, call: &Call) -> Result<String, Fail> {
     }
 }
 
-/// Returns the canonical text, or `same` if it is equal to `text`.
+/// Returns the canonical text of a call, or `same` if it is equal to `text`.
 fn compared(alloc: Global, call: &Call, text: &str) -> Result<String, Fail> {
     let made = text_of(alloc, call)?;
     if made.as_str() == text {
@@ -159,7 +160,7 @@ fn say(alloc: Global, session: &mut Session, text: &str) -> Result<String, Fail>
     answer
 }
 
-/// Makes a call with the arguments of another, and compares it to `text`.
+/// Makes a call with the arguments of another call, and compares its canonical text to `text`.
 fn ask_like(alloc: Global, session: &mut Session, call: &Call, text: &str) -> Result<String, Fail> {
     match make(alloc, session, call) {
         Ok(made) => {
@@ -234,7 +235,7 @@ fn owed_in_words(alloc: Global, session: &Session) -> Result<String, Fail> {
     Ok(text)
 }
 
-/// Returns the framework, or `-`.
+/// Returns the framework's identifier, or `-` if no framework is known.
 fn framework_in_words(session: &Session) -> &str {
     match session.framework() {
         Some(id) => id.value.as_str(),
@@ -242,8 +243,8 @@ fn framework_in_words(session: &Session) -> &str {
     }
 }
 
-/// Returns whether there is no offer after the last, none of an unknown identifier, and no key
-/// after the last.
+/// Returns whether the getters return nothing for an index after the last offer, an unknown
+/// identifier, and an index after the last key.
 fn ends(session: &Session) -> bool {
     session.hand_at(session.hand_len()).is_none()
         && session.owed_at(session.owed_len()).is_none()

@@ -4,7 +4,7 @@ use Rattle.mes_session_fit.specs.Launched.{launched, place}
 use Rattle.mes_session_fit.specs.Batches.{IsBatch}
 use Rattle.mes_session_fit.proofs.breach.breach_of_group.Given as goal
 
--- no task so far has a breach, and the batch began among them
+-- each task so far fits, and the batch does not begin after the current task
 abbrev pub invariant-loop-index : goal.invariant-loop-index
 invariant-loop-index g l = record {
   none : NoneBefore (g.O.OfferList.offers l.offers) (launched g.L.TaskGroup.tasks l.launches) (place g.L.TaskGroup.tasks l.launches l.at l.index);

@@ -3,7 +3,7 @@ use Rattle.mes_session_fit.specs.Fits.{NoneBefore}
 use Rattle.mes_session_fit.specs.Launched.{launched, place, as_index}
 use Rattle.mes_session_fit.proofs.breach.first_breach.Given as goal
 
--- the tasks of the groups so far are counted, and none has a breach
+-- `before` counts the tasks of the groups so far, and each of these tasks fits
 abbrev pub invariant-loop-at : goal.invariant-loop-at
 invariant-loop-at g l = record {
   counted : l.before ≡ as_index (place g.L.TaskGroup.tasks l.launches l.at 0);

@@ -4,7 +4,8 @@ use Rattle.mes_session_fit.specs.Launched.{launched, place, as_index}
 use Rattle.mes_session_state.specs.Refusals.{is_elsewhere}
 use Rattle.mes_session_state.proofs.named_offers.on_other_agent.Given as goal
 
--- the tasks of the groups so far are counted, and are on the agent
+-- `before` counts the tasks of the groups so far, and these tasks are on the agent of the first
+-- offer
 abbrev pub invariant-loop-at : goal.invariant-loop-at
 invariant-loop-at g l = record {
   counted : l.before ≡ as_index (place g.L.TaskGroup.tasks l.launches l.at 0);

@@ -5,7 +5,8 @@ use Rattle.mes_session_state.specs.Held.{with_offers}
 use Rattle.mes_session_state.specs.Slots.{offers_in, AreSettled}
 use Rattle.mes_session_state.proofs.slot.put_all.Given as goal
 
--- the remaining offers fit the capacity, and adding them gives the result of adding all
+-- the remaining offers fit the capacity; adding them to the current entries gives the same list as
+-- adding all offers to the original entries
 abbrev pub invariant-loop-name : goal.invariant-loop-name
 invariant-loop-name l =
     (goal.iterator-loop-name).can_next l.name-iterator

@@ -3,7 +3,7 @@ use Rattle.mes_session_fit.specs.Keys.{key_of}
 use Rattle.mes_session_fit.specs.Pouring.{rest, steps}
 use Rattle.mes_session_fit.proofs.supply.Supply.draw.Given as goal
 
--- the amount taken so far and the rest are the original amount
+-- the amount taken so far plus the remaining amount is the original amount
 abbrev pub invariant-loop-self : goal.invariant-loop-self
 invariant-loop-self g l =
     let offers = g.O.OfferList.offers l.offers in

@@ -5,7 +5,7 @@ use Rattle.mes_session_fit.specs.Launched.{launched}
 use Rattle.mes_session_fit.specs.Pouring.{rest}
 use Rattle.mes_session_fit.proofs.supply.Supply.take_groups.Given as goal
 
--- the amount that the groups so far took, and the rest
+-- the amount that the groups so far took plus the remaining amount is the original amount
 abbrev pub invariant-loop-group : goal.invariant-loop-group
 invariant-loop-group g l =
     let offers = g.O.OfferList.offers l.offers in

@@ -4,7 +4,7 @@ use Rattle.mes_session_fit.specs.Fits.{amount}
 use Rattle.mes_session_fit.specs.Pouring.{rest}
 use Rattle.mes_session_fit.proofs.supply.Supply.take_resources.Given as goal
 
--- the amount that the resources so far took, and the rest
+-- the amount that the resources so far took plus the remaining amount is the original amount
 abbrev pub invariant-loop-resource : goal.invariant-loop-resource
 invariant-loop-resource g l =
     let offers = g.O.OfferList.offers l.offers in

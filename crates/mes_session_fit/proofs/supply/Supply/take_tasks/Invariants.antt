@@ -4,7 +4,7 @@ use Rattle.mes_session_fit.specs.Fits.{amount, asked}
 use Rattle.mes_session_fit.specs.Pouring.{rest}
 use Rattle.mes_session_fit.proofs.supply.Supply.take_tasks.Given as goal
 
--- the amount that the tasks so far took, and the rest
+-- the amount that the tasks so far took plus the remaining amount is the original amount
 abbrev pub invariant-loop-task : goal.invariant-loop-task
 invariant-loop-task g l =
     let offers = g.O.OfferList.offers l.offers in
