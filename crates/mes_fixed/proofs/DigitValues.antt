@@ -1,4 +1,4 @@
--- The values of digits: of a prefix, of joined digits, of zeros.
+-- The values of decimal digits: of a prefix, of two joined lists of digits, and of zeros.
 use Rattle.std.proofs.Common.{◌≡◌, ℕ, suc, ◌+◌, ◌-◌, ◌*◌, ◌^◌, ◌<◌, ◌≤◌, Bool, false, List, [], ◌∷◌, ◌++◌, length, get_or, take, refl, sym, ◌∙◌, ap, arith, add-one, ◌≢◌, ◌⊎◌}
 use Rattle.std.proofs.Common.{lit<, lit≤}
 use Rattle.std.proofs.Common.{inl, inr, ◌↔◌, IsTrue, drop, zero, subst, length-drop, take-append-drop}
@@ -33,7 +33,7 @@ value_append ds bs = after_append 0 ds ∙ after_split (digits_value 10 ds) bs
 pub value_cons : (d : ℕ) (ds : List ℕ) → digits_value 10 (d ∷ ds) ≡ digit_value d * 10 ^ length ds + digits_value 10 ds
 value_cons d ds = let e = after_split (0 * 10 + digit_value d) ds in omega (arith, e)
 
--- a prefix with its next digit has at most the value of all digits
+-- a prefix with one more digit has at most the value of all digits
 pub value_more_le : (ds : List ℕ) (i : ℕ) → AllDigits 10 ds → i < length ds → digits_value 10 (take i ds) * 10 + (get_or ds i 0 - 48) ≤ digits_value 10 ds
 value_more_le ds i h lt =
     let more = digits_value_more 10 ds i lt in
@@ -74,7 +74,7 @@ nought_or_above d ds h = elim (eqb_tells d 48) [
 abbrev pub EachNought : List ℕ → Type 0
 EachNought ds = (k : ℕ) → k < length ds → get_or ds k 0 ≡ 48
 
--- the value of digits is 0 only if all are zeros
+-- if the value of the digits is 0, each of them is a zero
 nought_value : (ds : List ℕ) → AllDigits 10 ds → EachNought ds → digits_value 10 ds ≡ 0
 nought_value [] a h = refl
 nought_value (d ∷ ds) a h = elim (nought_or_above d ds a.0) [
@@ -99,7 +99,7 @@ above_zero b v h e = elim (eqb_tells v 0) [
   | inr z ↦ omega (arith, z.1)
 ]
 
--- how the dropped digits after the point compare with one half, by the first of them
+-- if the first digit after the point is 5 or more, the fraction is at least one half
 pub cut_half : (ds : List ℕ) (places : ℕ) → AllDigits 10 ds → length ds ≡ places → 0 < places → 53 ≤ get_or ds 0 0 → 10 ^ places ≤ 2 * digits_value 10 ds
 cut_half [] places a e some h = absurd (omega arith)
 cut_half (d ∷ ds) places a e some h =
@@ -126,7 +126,8 @@ cut_below (d ∷ ds) places a le h some = elim (cases_le (length (d ∷ ds)) pla
     cases_le : (m n : ℕ) → m ≤ n → (m < n) ⊎ (m ≡ n)
     cases_le m n h = elim (eqb_tells m n) [ inl e ↦ inr e.1 | inr e ↦ inl (omega (arith, e.1)) ]
 
--- the digits divided by a power of ten: the quotient's digits, and the remainder
+-- a division by 10^cut: the quotient is the value of the first digits, the remainder that of the
+-- last `cut`
 pub divided : (ds : List ℕ) (cut : ℕ) → AllDigits 10 ds → digits_value 10 ds ≡ digits_value 10 (take (length ds - cut) ds) * 10 ^ cut + digits_value 10 (drop (length ds - cut) ds)
 divided ds cut a = elim (eqb_tells (cut - length ds) 0) [
   | inl e ↦

@@ -19,7 +19,7 @@ use Rattle.mes_fixed.proofs.Letters.{digit_is_value}
 use Rattle.mes_fixed.proofs.DigitValues.{value_append, value_cons}
 use Rattle.mes_fixed.proofs.Texts.{Fraction, left_behind, spread, fraction_is, decimal_int, whole_fits}
 
--- ---- the last digit
+-- ---- digits that do not end with a zero, or only with a zero that is the only digit
 
 abbrev ZeroAlone : List ℕ → Type 0
 ZeroAlone ds = (front : List ℕ) → ds ≡ front ++ 48 ∷ [] → front ≡ []
@@ -47,7 +47,7 @@ more_no_zero d (b ∷ ds) some last (c ∷ cs) e = last cs (cc)
 rest_no_zero : (d e : ℕ) (ds : List ℕ) → ZeroAlone (d ∷ e ∷ ds) → NoZero (e ∷ ds)
 rest_no_zero d e ds last front is = let none = last (d ∷ front) (ap (λ (x : List ℕ). d ∷ x) is) in absurd (cc)
 
--- ---- the written text has this form
+-- ---- `text_of` writes a text of the form `WritesUnits`
 
 fraction_no_zero : (k r : ℕ) → 0 < r → r < 10 ^ k → NoZero (fraction_text k r)
 fraction_no_zero zero r some less = absurd (omega arith)
@@ -127,9 +127,9 @@ text_writes places units low high le = record {
     f : Fraction places r ds
     f = fraction_is places r low below
 
--- ---- no other text has it
+-- ---- no other text has the form `WritesUnits`
 
--- digits below a power of ten, scaled to its size, stay below it
+-- the value of digits, padded with zeros to k digits, is below 10^k
 scaled_below : (ds : List ℕ) (k : ℕ) → AllDigits 10 ds → length ds ≤ k → digits_value 10 ds * 10 ^ (k - length ds) < 10 ^ k
 scaled_below ds k digits most =
     let power : 10 ^ length ds * 10 ^ (k - length ds) ≡ 10 ^ k = sym (pow-add 10 (length ds) (k - length ds)) ∙ ap (λ (i : ℕ). 10 ^ i) (omega (arith, most)) in
@@ -226,7 +226,7 @@ fraction_only (suc k) r (d ∷ e ∷ ds) numeral most last counts =
           mul-le-mul_right (10 ^ (k - length (e ∷ ds))) (some_value (e ∷ ds) numeral.1.1 (omega arith) no_zero) in
           omega (arith, one, least, none)
 
--- an int is the text that is written for its value
+-- an int (RFC 8259 section 6) is the decimal text of its value
 int_only : (ds : List ℕ) → IsInt ds → digits_value 10 ds < 2 ^ 64 → decimal (digits_value 10 ds) ≡ ds
 int_only [] is small = absurd is
 int_only (d ∷ ds) (inl h) small = decimal-digits_value (numerals_by_value (AllDigits 10) tells_digits) (d ∷ ds) (digit_is_value d (omega (arith, h.0)) (omega (arith, h.0)), subst (AllDigits 10) (sym h.1) tt) (omega arith) (λ e. ap (λ (x : List ℕ). length (d ∷ x)) h.1) small

@@ -1,4 +1,5 @@
--- The code's state represents the parts that are collected.
+-- The fields of the `Decimal` that the code builds represent the parts that the specification
+-- collects.
 use Rattle.std.proofs.Common.{◌≡◌, ℕ, ◌+◌, ◌-◌, ◌*◌, ◌≤◌, List, [], ◌∷◌, ◌++◌, Option, Some, None, sym, ◌∙◌, ap, subst, arith}
 use Rattle.std.specs.Prelude.{min}
 use Rattle.std.specs.Str.Parse.{digits_value}

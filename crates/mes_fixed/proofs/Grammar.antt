@@ -1,4 +1,4 @@
--- The automaton accepts exactly the texts of the grammar.
+-- The automaton accepts exactly the texts of the grammar of numbers (RFC 8259 section 6).
 use Rattle.std.proofs.Common.{◌≡◌, ℕ, ◌<◌, ◌≤◌, Bool, true, false, List, [], ◌∷◌, ◌++◌, length, Option, Some, None, refl, sym, ◌∙◌, ap, subst, inl, inr, ◌⊎◌, ◌↔◌, arith, if◌then◌else◌}
 use Rattle.std.specs.Option.{option_and_then}
 use Rattle.std.specs.Str.Parse.{AllDigits, IsNumeral}
@@ -15,7 +15,7 @@ use Rattle.mes_fixed.proofs.Letters.{LetterIs, letter_is, digit_is_value}
 use Rattle.mes_fixed.specs.Gathering.{gathered, blank, run}
 use Rattle.mes_fixed.proofs.Reading.{run_step, spelt_run, final_run}
 
--- P, and then Q
+-- the text is a part with the property P, then a part with the property Q
 pub record Then (P Q : List ℕ → Type 0) (text : List ℕ) : Type 0 where
   pub front : List ℕ
   pub back : List ℕ
@@ -39,7 +39,7 @@ IsTail = Then HasFrac IsEnd
 abbrev HasSign : List ℕ → Type 0
 HasSign text = (lowers : Bool) × IsSign lowers text
 
--- the texts that may follow in a state
+-- the texts with which a number can go on after a state of the automaton
 abbrev Following : NumberState → List ℕ → Type 0
 Following AtStart text = IsNumber text
 Following AfterMinus text = Then IsInt IsTail text
@@ -51,7 +51,7 @@ Following AfterExponent text = Then HasSign (IsNumeral 10) text
 Following AfterSign text = IsNumeral 10 text
 Following InExponent text = AllDigits 10 text
 
--- the texts that may follow after the next state
+-- the texts that may follow in the next state, if there is one
 abbrev BehindNext : Option NumberState → List ℕ → Type 0
 BehindNext None text = ⊥
 BehindNext (Some next) text = Following next text
@@ -122,7 +122,8 @@ sign_first lowers c text s n = record { front = c ∷ []; back = text; is = refl
 no_sign : (c : ℕ) (text : List ℕ) → digit_value c < 10 → AllDigits 10 text → Then HasSign (IsNumeral 10) (c ∷ text)
 no_sign c text d h = record { front = []; back = c ∷ text; is = refl; first = (false, inl refl); second = (omega arith, (d, h)) }
 
--- a letter before a text that may follow the next state may follow this state
+-- a byte of the letter l, then a text that may follow in the next state, may follow in the state
+-- `part`
 behind_letter : (part : NumberState) (l : Letter) (c : ℕ) (text : List ℕ) → LetterIs l c → BehindNext (number_next part l) text → Following part (c ∷ text)
 behind_letter AtStart nought c text e h = signed_number false [] (c ∷ text) refl (zero_first c text e h)
 behind_letter AtStart digit c text e h = signed_number false [] (c ∷ text) refl (other_first c text e h)
@@ -189,7 +190,7 @@ ends_from_number text h = ends_run AtStart blank h.0 text (spelt_run text h.0 h.
 pub number_ends : (text : List ℕ) → IsNumber text ↔ Ends AtStart text
 number_ends text = (ends_from_number text, number_from_ends text)
 
--- after a state in which no number may end, a zero ends one
+-- if a number cannot end in the state, one more zero ends it
 pub ended_by_zero : (part : NumberState) → is_final part ≡ false → Ends part (48 ∷ [])
 ended_by_zero AtStart h = (AfterZero, refl, refl)
 ended_by_zero AfterMinus h = (AfterZero, refl, refl)
@@ -201,7 +202,7 @@ ended_by_zero _ h = absurd (cc)
 pub spells_once : (text : List ℕ) (m n : Numeral) → Spells text m → Spells text n → m ≡ n
 spells_once text m n hm hn = let e : Some m ≡ Some n = sym (spelt_run text m hm) ∙ spelt_run text n hn in cc
 
--- the collected parts are the numeral of the text
+-- if the bytes of a text collect to the numeral n, the text spells n
 pub spelt_from_run : (text : List ℕ) (n : Numeral) → run AtStart blank text ≡ Some n → Spells text n
 spelt_from_run text n h =
     let number = number_from_ends text (ends_run AtStart blank n text h) in
@@ -209,7 +210,8 @@ spelt_from_run text n h =
     let same : number.0 ≡ n = cc in
     subst (λ (m : Numeral). Spells text m) same number.1
 
--- for a loop over the text: a byte with no next state, and the end
+-- for a loop over the text: it is no number if a byte has no next state, and `is_final` decides at
+-- its end
 pub no_number : (text : List ℕ) (i : ℕ) (part : NumberState) → (Ends AtStart text ↔ Ends part (drop i text)) → i < length text → number_next part (letter_of (get_or text i 0)) ≡ None → IsTrue false ↔ IsNumber text
 no_number text i part h lt none = (λ e. absurd (cc), λ number. absurd (refused (h.0 (ends_from_number text number))))
   where
@@ -224,7 +226,7 @@ end_number text i part b h le e =
     let at_end : Ends AtStart text ↔ (is_final part ≡ true) = subst (λ (rest : List ℕ). Ends AtStart text ↔ Ends part rest) none h in
     (λ t. number_from_ends text (at_end.1 (sym e ∙ t)), λ number. e ∙ at_end.0 (ends_from_number text number))
 
--- for a loop that also collects the parts
+-- like `no_number` and `end_number`, for a loop that also collects the parts of the number
 pub stuck_run : (text : List ℕ) (i : ℕ) (part : NumberState) (n : Numeral) → run AtStart blank text ≡ run part n (drop i text) → i < length text → number_next part (letter_of (get_or text i 0)) ≡ None → ¬ (IsNumber text)
 stuck_run text i part n h lt none = λ number.
     let step : run part n (get_or text i 0 ∷ drop (suc i) text) ≡ None = ap (option_and_then (λ (p : NumberState). run p (gathered p (get_or text i 0) n) (drop (suc i) text))) none in

@@ -1,4 +1,4 @@
--- The letter of a byte, and the bytes of a letter.
+-- The letter of a byte (its class in the automaton), and the bytes of a letter.
 use Rattle.std.proofs.Common.{◌≡◌, ℕ, ◌<◌, ◌≤◌, ◌⊎◌, ◌==◌, true, inl, inr, arith, Some}
 use Rattle.std.specs.Prelude.{nat_le, ◌&&◌, ◌||◌}
 use Rattle.std.specs.Char.{digit_value}

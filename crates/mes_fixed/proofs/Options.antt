@@ -1,4 +1,4 @@
--- Facts about options.
+-- Lemmas about `Option`: from `SomeIff`, `IfSome` and `IfNone` to their consequences.
 use Rattle.std.proofs.Common.{◌≡◌, Bool, false, ◌↔◌, IsTrue, Option, Some, None, sym, subst}
 use Rattle.std.specs.Prelude.{SomeIff, IfSome, IfNone}
 
@@ -18,7 +18,7 @@ pub if_none_map : {X : Type 0} (o : Option X) (P Q : Type 0) → (P → Q) → I
 if_none_map None P Q f h = f h
 if_none_map (Some x) P Q f h = tt
 
--- a fact whose test is false does not hold
+-- if a test decides P and is false, P does not hold
 pub refuted : (b : Bool) (P : Type 0) → (IsTrue b ↔ P) → b ≡ false → P → ⊥
 refuted b P h e p = let t = h.1 p in cc
 

@@ -1,4 +1,4 @@
--- Numbers of digits, or of digits with a point and digits after it.
+-- The fast path: the values of texts of digits, and of digits with a point and digits after it.
 use Rattle.std.proofs.Common.{◌≡◌, ℕ, suc, ◌+◌, ◌-◌, ◌*◌, ◌^◌, ◌<◌, ◌≤◌, ◌==◌, false, List, [], ◌∷◌, ◌++◌, length, get_or, take, drop, refl, sym, ◌∙◌, ap, subst, arith, add-one, ℤ, length-append, length-drop, take-append-drop}
 use Rattle.std.specs.Char.{digit_value}
 use Rattle.std.specs.Str.Parse.{AllDigits, IsNumeral, digits_value, digits_value_after}
@@ -18,7 +18,7 @@ pub after_append : (n : ℕ) (ds es : List ℕ) → digits_value_after 10 n (ds 
 after_append n [] es = refl
 after_append n (d ∷ ds) es = after_append (n * 10 + digit_value d) ds es
 
--- digits, and their value v appended to n
+-- ds are decimal digits, and v is the value of the digits of n with ds appended
 pub record Digits (n : ℕ) (ds : List ℕ) (v : ℕ) : Type 0 where
   pub all : AllDigits 10 ds
   pub value : v ≡ digits_value_after 10 n ds
@@ -37,7 +37,7 @@ frac_is : (ds : List ℕ) → IsNumeral 10 ds → IsFrac ds (46 ∷ ds)
 frac_is [] n = absurd (omega (arith, n.0))
 frac_is (d ∷ ds) n = (refl, n.1)
 
--- digits on both sides of a point have the value `units`
+-- the number with the given digits on both sides of a point is `units` units of 10^-places
 pub plain_gives : (places units : ℕ) (whole ds : List ℕ) → places ≤ 6 → IsInt whole → IsNumeral 10 ds → length ds ≤ places → length whole + suc (length ds) ≤ MAX_NUMBER_TEXT → units ≡ digits_value 10 (whole ++ ds) * 10 ^ (places - length ds) → units ≤ MAX_UNITS → Reads (GivesUnits places) (whole ++ (46 ∷ ds)) units
 plain_gives places units whole ds high int numeral short room is le =
     let len : length (whole ++ (46 ∷ ds)) ≡ length whole + suc (length ds) = length-append whole (46 ∷ ds) in
@@ -89,7 +89,7 @@ digits_give v whole int room is fits =
       };
     }
 
--- a text with a point at offset `at`, and the digits on both sides of it
+-- a text of digits with a point at offset `at` is a number of `units` units of 10^-places
 pub units_plain : (places at v w units : ℕ) (text whole rest : List ℕ) → places ≤ 6 → length text ≤ MAX_NUMBER_TEXT → at < length text → get_or text at 0 ≡ 46
     → whole ≡ take at text → rest ≡ drop at text → IsInt whole → v ≡ digits_value_after 10 0 whole
     → false ≡ (length (take (length rest - 1) (drop 1 rest)) == 0) → length (take (length rest - 1) (drop 1 rest)) ≤ places

@@ -1,4 +1,4 @@
--- The parts of a number's text, collected along the automaton.
+-- The run of the automaton over a text that spells a numeral collects the parts of that numeral.
 use Rattle.std.proofs.Common.{◌≡◌, ℕ, Bool, true, false, List, [], ◌∷◌, ◌++◌, Some, refl, sym, ◌∙◌, ap, append_assoc, inl, inr, arith}
 use Rattle.std.specs.Option.{option_and_then}
 use Rattle.std.specs.Str.Parse.{AllDigits, IsNumeral}
@@ -92,7 +92,7 @@ int_run part negative n frac exp z g i f x = int_by n.whole i
         ∙ over_whole ds (frac ++ exp) (made negative (d ∷ []) [] false []) h.2
         ∙ frac_run InWhole n.fraction frac n.lowers n.power exp (made negative (d ∷ ds) [] false []) refl refl refl refl refl refl f x
 
--- the collected parts of a text are those of its numeral
+-- the bytes of a text that spells the numeral n collect to n
 pub spelt_run : (text : List ℕ) (n : Numeral) → Spells text n → run AtStart blank text ≡ Some n
 spelt_run text n h = ap (run AtStart blank) h.is ∙ sign_by n.negative h.is_minus
   where

@@ -1,4 +1,4 @@
--- The value of a text, from the parts that the code collects.
+-- The results of `Fixed::read`, `read_u64` and `read_i32`, from the parts that the code collects.
 use Rattle.std.proofs.Common.{◌≡◌, ℕ, suc, ◌+◌, ◌-◌, ◌*◌, ◌^◌, ◌<◌, ◌≤◌, ◌≢◌, inl, inr, Bool, true, false, List, [], ◌∷◌, ◌++◌, length, sym, ◌∙◌, ap, subst, arith, lit<, lit≤, ℤ, pos, negsuc, ◌+ℤ◌, ◌-ℤ◌, ◌↔◌, Ok, Err, Result, length-append}
 use Rattle.std.specs.Prelude.{min, IfOk, IfErr, FitsSigned, IfSome, IfNone, Option, Some, None}
 use Rattle.std.specs.Option.{ok_or}
@@ -19,7 +19,7 @@ use Rattle.mes_fixed.proofs.Grammar.{spells_once}
 use Rattle.mes_fixed.proofs.DigitValues.{digits_append}
 use Rattle.mes_fixed.proofs.Scales.{shift_is, base_is, nearest_iff, whole_iff, half_capped, whole_capped, AreFew, FAR, half_up_once, half_up_some, cases_le}
 
--- ---- the digits of a number's text
+-- ---- the digits of int and frac: all are decimal, and they are no more than the text's bytes
 
 int_digits : (whole : List ℕ) → IsInt whole → AllDigits 10 whole
 int_digits [] h = absurd h
@@ -49,7 +49,7 @@ few_digits text n places h short le =
     let power : 10 ^ length (n.whole ++ n.fraction) ≤ 10 ^ 64 = pow-le-pow_right {n = 10} (lit< tt) len64 in
     record { few = omega (arith, below, power); following = omega (arith, len, length-append n.whole n.fraction); short = le }
 
--- ---- the collected parts have the value of the numeral
+-- ---- the collected parts of a text have the value of its numeral
 
 multiplied_is : (n : Numeral) (d : Decimal) (places : ℕ) → IsDecimal n d → multiplied d places ≡ mantissa n * 10 ^ (raise n.lowers (min 100 (digits_value 10 n.power)) places - lower n.lowers (min 100 (digits_value 10 n.power)) (length n.fraction))
 multiplied_is n d places h = let v = ap (digits_value 10) h.digits in let x = h.exponent in let f = h.fraction_digits in let l = h.lowers in cc
@@ -57,7 +57,7 @@ multiplied_is n d places h = let v = ap (digits_value 10) h.digits in let x = h.
 divisor_is : (n : Numeral) (d : Decimal) (places : ℕ) → IsDecimal n d → divisor d places ≡ 10 ^ (lower n.lowers (min 100 (digits_value 10 n.power)) (length n.fraction) - raise n.lowers (min 100 (digits_value 10 n.power)) places)
 divisor_is n d places h = let x = h.exponent in let f = h.fraction_digits in let l = h.lowers in cc
 
--- the facts that relate a numeral to the parts that represent it
+-- the `Decimal` d represents the numeral n, and n has the digit counts of a text of 64 bytes
 pub record Stand (n : Numeral) (d : Decimal) (places : ℕ) : Type 0 where
   pub few : AreFew (mantissa n) (length n.fraction) places
   pub kept : IsDecimal n d
@@ -92,7 +92,7 @@ wholes_iff n d v h lt =
       λ r. subst N (sym shift) (whole.1 (cap.1 (sym m ∙ r ∙ w))),
     )
 
--- ---- a text has one result
+-- ---- a text has at most one value
 
 pub one_answer : {X : Type 0} (Gives : Numeral → X → Type 0) (Lacks : Numeral → Type 0) → ((n : Numeral) (a b : X) → Gives n a → Gives n b → a ≡ b) → ((n : Numeral) (a : X) → Gives n a → Lacks n → ⊥) → (text : List ℕ) (r : Result X NumFault) → IfOk r (Reads Gives text) → IfErr r (Refuses Lacks text) → (k : X) → Reads Gives text k → r ≡ Ok k
 one_answer {X} Gives Lacks once never text (Ok x) ok err k h =
@@ -266,9 +266,9 @@ signed_outside text d v h whole fits outside = (
   ),
 )
 
--- ---- an option as a result
+-- ---- results that the code makes from an `Option`
 
--- the value if the option is some, and `Range` if it is none
+-- `ok_or` makes `Some` a success, and `None` the error `Range`
 pub given_ok : {X : Type 0} (Gives : Numeral → X → Type 0) (text : List ℕ) (o : Option X) (r : Result X NumFault) → r ≡ ok_or o Range → IfSome o (Reads Gives text) → IfOk r (Reads Gives text)
 given_ok {X} Gives text None r e h = let Q : Result X NumFault → Type 0 = λ x. IfOk x (Reads Gives text) in subst Q (sym e) tt
 given_ok {X} Gives text (Some x) r e h = let Q : Result X NumFault → Type 0 = λ y. IfOk y (Reads Gives text) in subst Q (sym e) h

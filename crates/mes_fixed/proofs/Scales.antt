@@ -9,7 +9,8 @@ use Rattle.std.proofs.Math.Nat.{pow-suc, pow-le-pow_right, mul-le-mul_right}
 use Rattle.mes_fixed.specs.Value.{HalfUp, Nearest, Whole, signed}
 use Rattle.mes_fixed.specs.Decimal.{raise, lower}
 
--- e + places, for an exponent of magnitude x and f digits after the point
+-- the code's exponents of 10 differ by e + places; x is the magnitude of the exponent, f the number
+-- of digits after the point
 pub shift_is : (lowers : Bool) (x f places : ℕ) → ((signed lowers x -ℤ pos f) +ℤ pos places) ≡ (pos (raise lowers x places) -ℤ pos (lower lowers x f))
 shift_is true x f places = omega (arith, ints)
 shift_is false x f places = omega (arith, ints)
@@ -68,7 +69,7 @@ half_up_zero m w n h g = elim (eqb_tells n 0) [
 zero_half_up : (m w n : ℕ) → 2 * m < w → n ≡ 0 → HalfUp m w n
 zero_half_up m w n h e = subst (HalfUp m w) (sym e) (half_up_below m w 0 m (omega arith) h)
 
--- ---- the definitions, in the powers of ten that multiply and divide
+-- ---- `Nearest` and `Whole`, for m multiplied by one power of ten and divided by another
 
 pub cases_le : (a b : ℕ) → (a ≤ b) ⊎ (b < a)
 cases_le a b = elim (eqb_tells (a - b) 0) [ inl e ↦ inl (omega (arith, e.1)) | inr e ↦ inr (omega (arith, e.1)) ]
@@ -116,13 +117,13 @@ whole_iff m up down v = elim (cases_le down up) [
       )
 ]
 
--- ---- exponents above the cap
+-- ---- exponents above the cap of 100
 
--- a bound above the limits of all types
+-- a bound above the largest values of all types
 abbrev pub FAR : ℕ
 FAR = 10 ^ 20
 
--- with twenty zeros or more appended, only zero stays below FAR
+-- with twenty or more zeros appended, only 0 stays below FAR
 zero_from_far : (m k n : ℕ) → n ≡ m * 10 ^ k → 20 ≤ k → n < FAR → m ≡ 0
 zero_from_far m k n e h lt = elim (eqb_tells m 0) [
   | inl z ↦ z.1
@@ -140,7 +141,8 @@ half_small m len k h lt =
     let power : 10 ^ suc len ≤ 10 ^ k = pow-le-pow_right {n = 10} (lit< tt) lt in
     omega (arith, power, pow-suc 10 len)
 
--- the bounds on m and f that a text of at most 64 bytes has
+-- bounds that hold in a text of at most 64 bytes: m is its digits' value, f counts those after the
+-- point
 pub record AreFew (m f places : ℕ) : Type 0 where
   pub few : m < 10 ^ 64
   pub following : f ≤ 64

@@ -1,4 +1,4 @@
--- Digits scaled by powers of ten: an integer, and the remainder that is dropped.
+-- Digits scaled by powers of ten and truncated: the integer, and the dropped remainder.
 use Rattle.std.proofs.Common.{◌≡◌, ℕ, ◌+◌, ◌-◌, ◌*◌, ◌^◌, ◌<◌, ◌≤◌, ◌⊎◌, inl, inr, List, length, take, drop, refl, sym, ◌∙◌, ap, subst, arith, lit<}
 use Rattle.std.specs.Str.Parse.{AllDigits, digits_value}
 use Rattle.std.proofs.Math.Nat.{one-le-pow, mul-le-mul_left, mul-le-mul_right}
@@ -61,7 +61,7 @@ digits_taken ds kept i a e = subst (AllDigits 10) (sym e) (digits_take ds i a)
 pub digits_dropped : (ds kept : List ℕ) (i : ℕ) → AllDigits 10 ds → kept ≡ drop i ds → AllDigits 10 kept
 digits_dropped ds kept i a e = subst (AllDigits 10) (sym e) (digits_drop ds i a)
 
--- ---- rounded values and exact integers
+-- ---- the results of `rounded` and `whole`, from the truncated number
 
 pub cut_rounded : (m w : ℕ) (s : Scaled) → IsCut m w s → (s.cut ≡ Nothing) ⊎ (s.cut ≡ BelowHalf) → HalfUp m w s.whole
 cut_rounded m w s h e = half_up_below m w s.whole h.rest h.is (elim e [

@@ -1,4 +1,4 @@
--- The text of a fixed-point number is read back to the number.
+-- `Fixed::write` writes `text_of`, and reading that text returns the number again.
 use Rattle.std.proofs.Common.{◌≡◌, ℕ, zero, suc, ◌+◌, ◌-◌, ◌*◌, ◌^◌, ◌<◌, ◌≤◌, ◌≢◌, inl, inr, false, ◌==◌, List, [], ◌∷◌, ◌++◌, length, get_or, refl, sym, ◌∙◌, ap, subst, arith, lit<, ℤ, append_assoc, length-append}
 use Rattle.std.specs.Prelude.{◌/◌, ◌%◌, decimal}
 use Rattle.std.specs.Char.{digit_value}
@@ -21,7 +21,7 @@ use Rattle.mes_fixed.proofs.PlainNumbers.{plain_gives}
 use Rattle.mes_fixed.proofs.DigitValues.{value_append, value_cons}
 use Rattle.mes_fixed.proofs.Scales.{shift_is, nearest_iff, one_half_up, power_none}
 
--- one more digit of a fraction, if more digits follow
+-- a loop that writes a fraction writes one more digit, if the rest is not 0
 pub fraction_step : (k rest scale : ℕ) (old new all : List ℕ) → old ++ fraction_text (suc k) rest ≡ all → scale ≡ 10 ^ k → new ≡ old ++ (48 + rest / scale) ∷ [] → rest % scale ≢ 0 → new ++ fraction_text k (rest % scale) ≡ all
 fraction_step k rest scale old new all h s n left = elim (eqb_tells (rest % 10 ^ k) 0) [
   | inl e ↦ absurd (left (ap (λ (w : ℕ). rest % w) s ∙ e.1))
@@ -33,7 +33,7 @@ fraction_step k rest scale old new all h s n left = elim (eqb_tells (rest % 10 ^
       ∙ h
 ]
 
--- digits that write r units of 10^-k
+-- the digits ds are a fraction of r units of 10^-k
 pub record Fraction (k r : ℕ) (ds : List ℕ) : Type 0 where
   pub numeral : IsNumeral 10 ds
   pub short : length ds ≤ k
@@ -108,7 +108,7 @@ fraction_is (suc k) r h lt = elim (eqb_tells (r % 10 ^ k) 0) [
     below : r % 10 ^ k < 10 ^ k
     below = mod_below r (10 ^ k) (one-le-pow k 10 (lit< tt))
 
--- ---- read back
+-- ---- the written text is read back
 
 pub decimal_int : (q : ℕ) → q < 2 ^ 64 → IsInt (decimal q)
 decimal_int q h = elim (eqb_tells q 0) [
@@ -168,7 +168,7 @@ pow_above places scale e = let one = one-le-pow places 10 (lit< tt) in omega (ar
 pub rest_below_power : (places scale units : ℕ) → scale ≡ 10 ^ places → units % scale < 10 ^ places
 rest_below_power places scale units e = subst (λ (w : ℕ). units % w < 10 ^ places) (sym e) (mod_below units (10 ^ places) (one-le-pow places 10 (lit< tt)))
 
--- the pieces are written consecutively
+-- the integer part, the point and the fraction, written consecutively, are `text_of`
 pub text_is : (places units scale : ℕ) (cleared front whole pointed all : List ℕ) → scale ≡ 10 ^ places → cleared ≡ [] → front ≡ cleared ++ whole → whole ≡ decimal (units / scale) → pointed ≡ front ++ 46 ∷ [] → all ≡ pointed ++ fraction_text places (units % scale) → all ≡ text_of places units
 text_is places units scale cleared front whole pointed all s c f w p a =
     let begun : front ≡ decimal (units / 10 ^ places) = f ∙ ap (λ (x : List ℕ). x ++ whole) c ∙ w ∙ ap (λ (k : ℕ). decimal (units / k)) s in

@@ -1,4 +1,4 @@
--- The automaton of numbers (RFC 8259 section 6), as a table over classes of bytes.
+-- The automaton of JSON numbers (RFC 8259 section 6): the next state for each class of bytes.
 use Rattle.std.specs.Prelude.{◌≡◌, ℕ, Bool, true, false, List, [], ◌∷◌, Option, Some, None, if◌then◌else◌, ◌==◌, nat_le, ◌&&◌, ◌||◌}
 use Rattle.mes_fixed.specs.declared.automaton.NumberState.{NumberState}
 use Rattle.mes_fixed.specs.declared.automaton.NumberState.TheVariants.{AtStart, AfterMinus, AfterZero, InWhole, AfterPoint, InFraction, AfterExponent, AfterSign, InExponent}
@@ -17,7 +17,7 @@ letter_of c =
     else (if c == 45 then dash
     else neither)))))
 
--- the next state, if a number can continue with the letter
+-- the state after a letter, or None if no number can go on with that letter
 abbrev pub number_next : NumberState → Letter → Option NumberState
 number_next AtStart nought = Some AfterZero
 number_next AtStart digit = Some InWhole
@@ -53,7 +53,7 @@ number_next InExponent nought = Some InExponent
 number_next InExponent digit = Some InExponent
 number_next InExponent _ = None
 
--- a number may end in this state
+-- a number may end in the state
 abbrev pub is_final : NumberState → Bool
 is_final AfterZero = true
 is_final InWhole = true
@@ -61,7 +61,7 @@ is_final InFraction = true
 is_final InExponent = true
 is_final _ = false
 
--- the automaton accepts the bytes from this state
+-- the automaton, started in the state, accepts the bytes
 abbrev pub Ends : NumberState → List ℕ → Type 0
 Ends part [] = is_final part ≡ true
 Ends part (c ∷ rest) = (next : NumberState) × (number_next part (letter_of c) ≡ Some next) × Ends next rest

@@ -1,9 +1,10 @@
--- The text of a fixed-point number, without an algorithm.
+-- The form of a fixed-point number's text, stated without an algorithm.
 use Rattle.std.specs.Prelude.{◌≡◌, ℕ, ◌-◌, ◌*◌, ◌^◌, ◌≤◌, List, [], ◌∷◌, ◌++◌, length}
 use Rattle.std.specs.Str.Parse.{IsNumeral, digits_value}
 use Rattle.mes_fixed.specs.Number.{IsInt}
 
--- the text is `units` units of 10^-places: int "." 1*DIGIT, with no needless trailing zero
+-- the text has the form int "." 1*DIGIT without needless trailing zeros, and is `units` units of
+-- 10^-places
 pub record WritesUnits (places units : ℕ) (text : List ℕ) : Type 0 where
   pub whole : List ℕ
   pub fraction : List ℕ

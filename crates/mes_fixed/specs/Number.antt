@@ -50,7 +50,7 @@ abbrev pub IsExp : Bool → List ℕ → List ℕ → Type 0
 IsExp lowers [] text = (lowers ≡ false) × (text ≡ [])
 IsExp lowers (d ∷ ds) text = IsPower lowers (d ∷ ds) text
 
--- number = [ minus ] int [ frac ] [ exp ]
+-- number = [ minus ] int [ frac ] [ exp ]; n has the parts of the text
 pub record Spells (text : List ℕ) (n : Numeral) : Type 0 where
   pub minus : List ℕ
   pub frac : List ℕ

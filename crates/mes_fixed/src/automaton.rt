@@ -1,30 +1,30 @@
 //! The automaton of JSON numbers (RFC 8259 section 6), for readers that take one byte at a time.
-//! `decimal` runs it over a text.
+//! `decimal` runs the automaton over a text.
 ghost use Rattle.std.specs.Prelude.{◌≡◌, ◌↔◌, IsTrue, IfSome};
 ghost use Rattle.mes_fixed.specs.Automaton.{letter_of, number_next, is_final};
 ghost use Rattle.mes_fixed.specs.Gathering.{IsExponentDigit};
 ghost use Rattle.mes_fixed.specs.Number.{IsNumber};
 
-/// The part of a number that has been read last.
+/// The state of the automaton: the part of a number that the last byte belongs to.
 #[derive(Clone, Copy, Debug, PartialEq, Eq)]
 pub enum NumberState {
-    /// Nothing yet.
+    /// No byte has been read.
     AtStart,
-    /// The minus sign.
+    /// The last byte is the minus sign.
     AfterMinus,
-    /// An integer part that is a single zero.
+    /// The last byte is a zero, which is the whole integer part.
     AfterZero,
-    /// Digits of an integer part that begins with 1 to 9.
+    /// The last byte is a digit of an integer part that begins with 1 to 9.
     InWhole,
-    /// The decimal point.
+    /// The last byte is the decimal point.
     AfterPoint,
-    /// Digits after the decimal point.
+    /// The last byte is a digit after the decimal point.
     InFraction,
-    /// The `e` or `E`.
+    /// The last byte is the `e` or `E`.
     AfterExponent,
-    /// The sign of the exponent.
+    /// The last byte is the sign of the exponent.
     AfterSign,
-    /// Digits of the exponent.
+    /// The last byte is a digit of the exponent.
     InExponent,
 }
 

@@ -13,13 +13,13 @@ use arrayvec::ArrayVec;
 /// The parts of a number's text.
 #[derive(Drop)]
 pub struct Decimal {
-    /// Whether the number has a minus sign.
+    /// True if the number has a minus sign.
     pub negative: bool,
     /// The digits before and after the point, joined.
     pub digits: ArrayVec<u8, { MAX_NUMBER_TEXT }>,
     /// The number of digits after the point.
     pub fraction_digits: usize,
-    /// Whether the exponent has a minus sign.
+    /// True if the exponent has a minus sign.
     pub lowers: bool,
     /// The magnitude of the exponent, capped at `MAX_EXPONENT`.
     pub exponent: usize,
@@ -78,7 +78,7 @@ impl Decimal {
         }
     }
 
-    /// Adds one byte, which led to `state`.
+    /// Adds `byte` to the parts. The byte led to `state`.
     #[inline(always)]
     fn gather(&mut self, state: NumberState, byte: u8)
         requires room { length self.old.digits.items < MAX_NUMBER_TEXT }
@@ -164,7 +164,7 @@ impl Decimal {
     }
 
     /// Rounds the magnitude times 10^`places` to the nearest integer, halves up. Returns `None` if
-    /// that is 2^64 or more.
+    /// the rounded integer is 2^64 or more.
     pub fn rounded(&self, places: usize) -> Option<u64>
         requires digits { AllDigits 10 self.now.digits.items }
         requires places { places ≤ 6 }

@@ -3,7 +3,7 @@ ghost use Rattle.std.specs.Prelude.{◌≡◌, ℕ, ◌+◌, ◌*◌, ◌^◌, �
 ghost use Rattle.std.specs.Str.Parse.{AllDigits, digits_value};
 ghost use Rattle.mes_fixed.specs.Cut.{CutIs};
 
-/// How a dropped fraction compares with one half.
+/// The comparison of a dropped fraction with one half.
 #[derive(Clone, Copy, Debug, PartialEq, Eq)]
 pub enum Cut {
     Nothing,
@@ -48,8 +48,8 @@ pub fn are_zeros(digits: &[u8]) -> bool
     digits.iter().all(|digit| *digit == b'0')
 }
 
-/// Compares a fraction of `places` digits with one half. `dropped` are its last digits; the others
-/// are zeros.
+/// Compares a fraction of `places` digits with one half. `dropped` are the last digits of the
+/// fraction; the others are zeros.
 pub fn cut_of(dropped: &[u8], places: usize) -> Cut
     requires digits { AllDigits 10 dropped.now }
     requires some { 0 < places }

@@ -1,5 +1,5 @@
-//! The fast path for digits with or without a fraction, and with neither sign nor exponent. Any
-//! other text is left to `Decimal`, which also reports all errors.
+//! The fast path for numbers without a sign and an exponent: digits, perhaps with a point and
+//! digits after it. Any other text is left to `Decimal`, which also reports all errors.
 ghost use Rattle.std.specs.Prelude.{◌≡◌, ◌≤◌, ◌<◌, ◌^◌, length, slice_index, IsTrue, IfSome};
 ghost use Rattle.std.specs.Str.Parse.{AllDigits, digits_value_after};
 ghost use Rattle.mes_fixed.specs.declared.limits.TheConstants.{MAX_NUMBER_TEXT, MAX_UNITS};
@@ -10,7 +10,7 @@ use crate::digits::with_zeros;
 use crate::limits::MAX_NUMBER_TEXT;
 
 /// Reads digits, a point and at most `places` digits as units of 10^-`places`. Returns `None` for
-/// any other text, and from 2^64 on.
+/// any other text, and if the units are 2^64 or more.
 #[inline(always)]
 pub fn plain_units(text: &[u8], places: usize) -> Option<u64>
     requires { places ≤ 6 }
@@ -30,7 +30,7 @@ pub fn plain_units(text: &[u8], places: usize) -> Option<u64>
     with_zeros(value, places - fraction.len())
 }
 
-/// Reads digits only. Returns `None` for any other text, and from 2^64 on.
+/// Reads digits only. Returns `None` for any other text, and if the value is 2^64 or more.
 #[inline(always)]
 pub fn plain_whole(text: &[u8]) -> Option<u64>
     ensures { IfSome result (λ value. Reads GivesWhole text.now value) }
@@ -41,7 +41,7 @@ pub fn plain_whole(text: &[u8]) -> Option<u64>
     with_digits(0, text)
 }
 
-/// Returns the offset of the first point.
+/// Returns the offset of the first decimal point.
 #[inline(always)]
 fn point_in(text: &[u8]) -> Option<usize>
     ensures { IfSome result (λ at. (at < length text.now) × (slice_index text.now at ≡ 46)) }
@@ -66,8 +66,8 @@ fn may_be_int(digits: &[u8]) -> bool
     }
 }
 
-/// Appends digits to the decimal number `value`. Returns `None` at any other byte, and from 2^64
-/// on.
+/// Appends digits to the decimal number `value`. Returns `None` if a byte is no digit, and if the
+/// value is 2^64 or more.
 #[inline(always)]
 fn with_digits(value: u64, digits: &[u8]) -> Option<u64>
     ensures digits { IfSome result (λ more. AllDigits 10 digits.now

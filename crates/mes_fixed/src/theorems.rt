@@ -1,4 +1,4 @@
-//! Facts about all texts, stated as contracts of functions that do nothing.
+//! Facts about all texts of numbers, stated as contracts of functions that do nothing.
 ghost use Rattle.std.specs.Prelude.{◌≡◌, ◌↔◌, ◌^◌, ◌≤◌, ℕ, List};
 ghost use Rattle.mes_fixed.specs.Automaton.{Ends};
 ghost use Rattle.mes_fixed.specs.FixedText.{WritesUnits};
@@ -16,7 +16,7 @@ pub fn automaton_reads_numbers()
 /// Proves that exactly one text writes a number of units without needless zeros, and that
 /// [`Fixed::write`](crate::Fixed::write) writes that text.
 pub fn fixed_text()
-    // For 1 to 6 places and at most MAX_UNITS units: the written text is the only one.
+    // For 1 to 6 places and at most MAX_UNITS units: the written text is the only text of the form.
     ensures { (places units : ℕ) → 1 ≤ places → places ≤ 6 → units ≤ MAX_UNITS
         → (text : List ℕ) → (text ≡ text_of places units) ↔ WritesUnits places units text }
 {}

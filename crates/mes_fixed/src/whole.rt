@@ -43,7 +43,7 @@ pub fn read_i32(text: &[u8]) -> Result<i32, NumFault>
     with_sign(decimal.negative, size).ok_or(NumFault::Range)
 }
 
-/// Applies the sign to `size`, if the result has 32 bits.
+/// Applies the sign to the magnitude `size`. Returns `None` if the result exceeds 32 bits.
 fn with_sign(negative: bool, size: u64) -> Option<i32>
     ensures { SomeIff result (FitsSigned w32 (signed negative size)) (signed negative size) }
 {

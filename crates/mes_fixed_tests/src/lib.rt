@@ -1,4 +1,4 @@
-//! Tests of numbers by the public calls of `mes_fixed`: rows of exact arithmetic and of RFC 8259.
+//! Tests of the public calls of `mes_fixed`, with values from exact arithmetic and from RFC 8259.
 #![tactic(auto)]
 
 #[cfg(test)]

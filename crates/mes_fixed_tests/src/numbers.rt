@@ -149,8 +149,8 @@ fn readings_agree_with_exact_rationals(rt: HostRuntime) -> Result<(), Fail> {
     Ok(())
 }
 
-/// One text a line, with its value as thousandths and as micros (both in units), as `u64` and as
-/// `i32`.
+/// Texts, one a line, each with its value as thousandths and as micros (both in units), as `u64`
+/// and as `i32`.
 const ROWS: &str = "-41937913.69006026773 R R R R
 -49213.8487452 R R R R
 763009903949.693849373964 763009903949694 763009903949693849 R R

@@ -1,5 +1,5 @@
--- Every byte after a part of a chunked body has a result: it continues the part, ends a chunk or
--- the body, or is an error.
+-- Every byte after a part of a chunked body has a result: the byte continues the part, ends a chunk
+-- or the body, or is an error.
 use Rattle.std.proofs.Common.{◌≡◌, ◌≢◌, ℕ, ◌+◌, ◌-◌, ◌*◌, ◌^◌, ◌<◌, ◌≤◌, ◌⊎◌, true, false, List, [], ◌∷◌, ◌++◌, length, refl, ap, sym, ◌∙◌, inl, inr, subst, append_assoc, arith, length-append}
 use Rattle.std.proofs.lemmas.Bool.{cases_eq, cases_lt}
 use Rattle.std.proofs.lemmas.List.{append-nil}
@@ -17,7 +17,7 @@ use Rattle.mes_frame.specs.declared.chunk.ChunkOut.{ChunkOut}
 use Rattle.mes_frame.specs.declared.chunk.ChunkOut.TheVariants as out
 use Rattle.mes_frame.proofs.Chunks.{digit_kept, digit_too_large, size_shows, size_ends, extension_begins, extension_kept, trailer_kept, trailer_ends, body_ends}
 
--- a result for the byte b after a part, and the next phase
+-- for the byte b after the part x with the data d: a result and the next phase
 pub record Answer (x d : List ℕ) (b : ℕ) : Type 0 where
   pub phase : Phase
   pub answer : ChunkOut

@@ -1,4 +1,4 @@
--- A byte at which a fault is detected after a part of a chunked body makes a run fail with that
+-- If a byte after a part of a chunked body shows a fault, the decoder fails at that byte with that
 -- fault.
 use Rattle.std.proofs.Common.{◌≡◌, ℕ, ◌+◌, ◌<◌, ◌⊎◌, true, false, List, [], ◌∷◌, length, refl, ap, sym, inl, inr, subst, arith}
 use Rattle.std.proofs.lemmas.Int.Digits.{digits_value_push}
@@ -15,7 +15,7 @@ use Rattle.mes_frame.specs.declared.chunk.Phase.TheVariants.{Size, Extension, Li
 use Rattle.mes_frame.proofs.ChunkRun.{fail, after}
 use Rattle.mes_frame.proofs.ChunkBytes.{at_large, at_long_size, at_bad_first, at_bad_size, at_long_rest, at_bad_rest, at_bad_line, at_bad_data, at_bad_chunk, at_bare_first, at_bare, at_long_first, at_long, at_long_end, at_bad_end, at_no_end}
 
--- the phase that represents the part fails at the byte b
+-- a phase represents the part x with the data d, and fails at the byte b
 pub record Breaks (x d : List ℕ) (b : ℕ) (fault : FrameFault) : Type 0 where
   pub phase : Phase
   pub represents : PhaseRepresents phase x d

@@ -1,4 +1,4 @@
--- The effect of one byte on a run over a chunked body, in each phase.
+-- The next phase and the result for one byte of a chunked body, in each phase of the decoder.
 use Rattle.std.proofs.Common.{◌≡◌, ℕ, ◌+◌, ◌-◌, ◌*◌, ◌^◌, ◌<◌, ◌≤◌, ◌≢◌, Bool, true, false, refl, ap, subst, arith}
 use Rattle.std.proofs.lemmas.Bool.Decides.{nat_tests}
 use Rattle.std.specs.Char.{digit_value}

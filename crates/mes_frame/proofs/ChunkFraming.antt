@@ -1,4 +1,4 @@
--- Consecutive bytes of the framing of a chunked body.
+-- Consecutive bytes of framing (size lines and CRLFs) in a chunked body, read in one step.
 use Rattle.std.proofs.Common.{◌≡◌, ℕ, ◌+◌, ◌-◌, ◌*◌, ◌^◌, ◌<◌, ◌≤◌, List, [], ◌∷◌, ◌++◌, length, take, get_or, suc, refl, sym, ◌∙◌, ap, subst, append-nil, append_assoc, arith, inl, inr}
 use Rattle.std.proofs.lemmas.List.{take_more}
 use Rattle.std.proofs.lemmas.Bool.{cases_lt}
@@ -37,7 +37,7 @@ framing_next old new w body piece count inside represents (before, opens) =
           ],
     )
 
--- a byte that leads from one phase to another
+-- one more byte of framing, which leads from the phase p to the phase q
 on_to : (p q : Phase) (w body piece : List ℕ) (count b : ℕ) → count < length piece → get_or piece count 0 ≡ b
     → ((x d : List ℕ) → PhaseRepresents p x d → GoesOn q (x ++ b ∷ []) d) → PassesFraming (state_at p) w body piece count → PassesFraming (state_at q) w body piece (count + 1)
 unfolding ChunkRepresents
@@ -73,7 +73,7 @@ pow_more n size digit below small =
     let more : 16 ^ (n + 1) ≡ 16 ^ n * 16 = subst (λ (m : ℕ). 16 ^ m ≡ 16 ^ n * 16) next (pow-suc 16 n) in
     omega (arith, below, small, more)
 
--- the digits from `start` on are a size
+-- the bytes of `piece` from `start` to `at` are hexadecimal digits with the value `size`
 pub record SizeSoFar (piece : List ℕ) (start at size : ℕ) : Type 0 where
   pub following : start ≤ at
   pub inside : at ≤ length piece
@@ -90,7 +90,7 @@ no_digit_yet piece start inside =
       passes = λ w body passes. subst (λ (n : ℕ). PassesFraming (state_at (Size n 0)) w body piece start) none passes;
     }
 
--- at most 14 digits leave room for one more
+-- after at most 14 digits, the value with one more digit fits in 60 bits
 pub digits_fit : (piece : List ℕ) (start at size digit : ℕ) → SizeSoFar piece start at size → at < 15 → digit < 16 → size * 16 + digit < 2 ^ 60
 digits_fit piece start at size digit so_far few small =
     let most : 16 ^ (at - start) ≤ 16 ^ 14 = pow-le-pow_right {n = 16} (omega arith) {i = at - start} {j = 14} (omega arith) in

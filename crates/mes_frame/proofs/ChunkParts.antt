@@ -1,5 +1,5 @@
--- From a part of a chunked body to the whole body: a result for the part is a result for the body.
--- The body of a state is open.
+-- From the last part of a chunked body to the bytes with the chunks before it: a result for the
+-- part is a result for these bytes. The bytes that a state represents are an open body.
 use Rattle.std.proofs.Common.{◌≡◌, ℕ, ◌-◌, ◌≤◌, List, [], ◌∷◌, ◌++◌, length, take, refl, ap, sym, ◌∙◌, inl, inr, append_assoc, arith, length-append}
 use Rattle.std.proofs.lemmas.Grind.{common_steps, flat_map-append}
 use Rattle.std.proofs.lemmas.List.{append-nil, flat_map_more}
@@ -13,7 +13,7 @@ use Rattle.mes_frame.specs.declared.chunk.ChunkOut as out
 use Rattle.mes_frame.specs.declared.chunk.ChunkState.{ChunkState}
 use Rattle.mes_frame.proofs.Chunks.{all_push, all_append}
 
--- the same chunks, with more bytes after them
+-- more bytes after the last part leave the chunks before it as they are
 pub following : {P Q : List ℕ → List ℕ → Type 0} (w body p q : List ℕ) (at : After P w body) → Q (at.part ++ p) (at.represents ++ q) → After Q (w ++ p) (body ++ q)
 following w body p q at is = record {
   chunks = at.chunks;
@@ -81,7 +81,7 @@ whole_of old w body b at whole =
     ap (λ (y : List ℕ). y ++ b ∷ []) at.spelt ∙ append_assoc (chunks_bytes at.chunks) at.part (b ∷ []) in
     rw (spelt, at.content) (prepend at.chunks (at.part ++ b ∷ []) at.represents at.each whole)
 
--- the result of a step after the part holds after the whole
+-- the result for a byte after the last part is also the result after w, all bytes so far
 pub lift : (old new : Phase) (w body : List ℕ) (b : ℕ) (answer : out.ChunkOut) (at : After (PhaseRepresents old) w body) → PhaseSteps new at.part at.represents b answer → ChunkSteps (record { phase = new }) w body b answer
 unfolding ChunkRepresents
 lift old new w body b out.TheVariants.Quiet at steps = goes_on old new w body b at steps
@@ -132,7 +132,7 @@ run_at End x d p represents fits = nothing_more IsPart x d p fits (part_of End x
 run_at Closed x d p represents fits = absurd represents
 run_at (Failed fault) x d p represents fits = absurd represents
 
--- every prefix of a run of data leaves an open body
+-- every prefix of the skipped data leaves an open body
 pub fronts_of : (s : ChunkState) (w body p : List ℕ) (k count : ℕ) → count ≤ remaining_of s → length p ≡ count → k ≤ count → ChunkRepresents s w body → IsOpen (w ++ take k p) (body ++ take k p)
 unfolding ChunkRepresents
 fronts_of s w body p k count room len front represents =
@@ -151,7 +151,7 @@ no_room End other = refl
 no_room Closed other = refl
 no_room (Failed fault) other = refl
 
--- outside the data, no data byte comes next
+-- in every phase but `Data`, no data byte comes next
 pub no_room_of : (s : ChunkState) → ((left : ℕ) → s.phase ≡ Data left → ⊥) → remaining_of s ≡ 0
 no_room_of s other = no_room s.phase other
 

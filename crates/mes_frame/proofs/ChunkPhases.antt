@@ -1,5 +1,5 @@
--- Every open part of a chunked body is represented by a phase, and a run over the part ends in that
--- phase.
+-- Every open part of a chunked body is represented by a phase, and the decoder is in that phase
+-- after the part.
 use Rattle.std.proofs.Common.{◌≡◌, ℕ, ◌+◌, Bool, true, false, List, [], ◌∷◌, ◌++◌, length, refl, ap, sym, ◌∙◌, inl, inr, subst, arith}
 use Rattle.std.proofs.lemmas.List.{append-nil}
 use Rattle.std.specs.Str.Parse.{digits_value}
@@ -75,7 +75,7 @@ place_reaches End x d (l, ts, part) = end_reaches l ts x d part
 place_reaches Closed x d represents = absurd represents
 place_reaches (Failed fault) x d represents = absurd represents
 
--- a phase represents the part
+-- a phase represents the part x with the data d
 pub record AtPlace (x d : List ℕ) : Type 0 where
   pub phase : Phase
   pub represents : PhaseRepresents phase x d

@@ -1,5 +1,6 @@
--- The decoder of chunked bodies as a function on lists. `run` is the outcome at the end of the
--- bytes; `Goes` is a run from one phase to another over bytes with data.
+-- The decoder of chunked bodies as a function on lists. `run` is the outcome after all bytes.
+-- `Goes` relates two phases, the bytes that lead from one to the other, and the data in these
+-- bytes.
 use Rattle.std.proofs.Common.{◌≡◌, ℕ, ◌+◌, ◌-◌, ◌*◌, ◌^◌, Bool, true, false, cond, nat_lt, nat_le, ◌==◌, ◌&&◌, ◌||◌, not, List, [], ◌∷◌, ◌++◌, refl, ap, ap₂, sym, ◌∙◌, subst, append_assoc}
 use Rattle.std.proofs.lemmas.List.{append-nil}
 use Rattle.std.specs.Char.{digit_value}
@@ -55,7 +56,7 @@ after (Failed fault) b = fail fault
 
 pub data Outcome : Type 0 where
   Represents : (phase : Phase) (body : List ℕ) → Outcome
-  -- `over` are the bytes after the end
+  -- the body ended or failed (`how`), and the bytes `over` follow
   Ended : (how : ChunkOut) (body over : List ℕ) → Outcome
 
 go : (Phase → List ℕ → Outcome) → Phase → ChunkOut → List ℕ → ℕ → List ℕ → Outcome
@@ -64,7 +65,7 @@ go next p out.Byte body b w = next p (body ++ b ∷ [])
 go next p out.Closed body b w = Ended out.Closed body w
 go next p (out.Fault f) body b w = Ended (out.Fault f) body w
 
--- the outcome of the bytes from a phase on, after the data `body`
+-- the outcome of reading the bytes from the phase on, if `body` is the data before them
 pub run : List ℕ → Phase → List ℕ → Outcome
 run [] p body = Represents p body
 run (b ∷ w) p body = go (run w) (after p b).0 (after p b).1 body b w

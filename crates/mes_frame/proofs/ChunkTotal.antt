@@ -1,5 +1,5 @@
--- Every byte after an open chunked body has a result, so every list of bytes has a reading. The
--- bytes that a state represents have not ended.
+-- Every byte after an open chunked body has a result, so every list of bytes has a decoded result.
+-- A state that represents bytes has returned no end and no fault.
 use Rattle.std.proofs.Common.{◌≡◌, ℕ, None, List, [], ◌∷◌, ◌++◌, refl, subst, append_assoc, arith}
 use Rattle.std.proofs.lemmas.List.{append-nil}
 use Rattle.mes_frame.specs.ChunkReading.{ChunkReading, Begins, Whole, Broken, ReadsChunks}
@@ -29,7 +29,7 @@ Read w = (reading : ChunkReading) × ReadsChunks w reading
 seam : (w rest : List ℕ) (b : ℕ) → Read ((w ++ b ∷ []) ++ rest) → Read (w ++ b ∷ rest)
 seam w rest b read = subst Read (append_assoc w (b ∷ []) rest) read
 
--- from the result for the byte b to all bytes, if the bytes after b have a reading
+-- if b and the bytes after b have results, the bytes from b on have a decoded result
 read_next : (w body rest : List ℕ) (b : ℕ) (s : ChunkState) (answer : ChunkOut) → ChunkSteps s w body b answer → ((more : List ℕ) → ChunkRepresents s (w ++ b ∷ []) more → Read ((w ++ b ∷ []) ++ rest)) → Read (w ++ b ∷ rest)
 unfolding Read
 read_next w body rest b s out.Quiet steps read = seam w rest b (read body steps)

@@ -1,4 +1,4 @@
--- Bodies in pieces, and the bytes written for them piece by piece.
+-- A body that is cut into pieces, and the chunks written for the pieces one by one.
 use Rattle.std.proofs.Common.{◌≡◌, ℕ, zero, suc, ◌<◌, ◌≤◌, min, true, false, ◌==◌, List, [], ◌∷◌, ◌++◌, Option, Result, Ok, Err, OnOk, IfErr, MatchResult, length, take, drop, refl, ap, sym, ◌∙◌, subst, append_assoc, arith, length-drop}
 use Rattle.std.proofs.lemmas.Bool.Decides.{nat_tests}
 use Rattle.std.proofs.lemmas.Grind.{common_steps, flat_map-append}
@@ -27,7 +27,7 @@ some_cut most body some = some_cut_of (length body) most body some (omega arith)
 last : List ℕ
 last = 48 ∷ 13 ∷ 10 ∷ 13 ∷ 10 ∷ []
 
--- `rest` is left of the body; the chunks before it are written or buffered
+-- of `body`, the bytes `rest` are left; the chunks of the bytes before are written or buffered
 pub record Chunking (most : ℕ) (body rest : List ℕ) (before after : Option (List ℕ)) (old new : Counts) (held : List ℕ) (sent : ℕ) : Type 0 where
   pub pieces : List (List ℕ)
   pub front : (qs : List (List ℕ)) → IsCut most rest qs → IsCut most body (pieces ++ qs)
@@ -44,7 +44,7 @@ pub none_left : (rest : List ℕ) → true ≡ (length rest == 0) → rest ≡ [
 none_left [] test = refl
 none_left (c ∷ cs) test = absurd (grind (arith, nat_tests))
 
--- the next piece, and the rest after it
+-- p is the next piece of `rest`, and `more` the bytes after p
 pub record Splits (most : ℕ) (rest p more : List ℕ) : Type 0 where
   pub some : 0 < length p
   pub front : p ≡ take most rest
@@ -74,7 +74,7 @@ goes_on most body rest p more a b c old mid new held kept sent all split so one 
   out = rw (chunks_more so.pieces p) (passes_then _ _ _ _ _ _ _ _ _ _ _ _ (passes_with _ _ _ _ _ _ (piece_bytes p) _ _ so.out) one);
 }
 
--- `front` is a prefix of all bytes to write
+-- `front` is a prefix of the chunked body that is written for `body`
 pub record Framed (most : ℕ) (body front : List ℕ) : Type 0 where
   pub rest : List ℕ
   pub is : IsFrames body most (front ++ rest)
@@ -106,7 +106,7 @@ frames_more most body rest p more a b old new held sent some split so =
       is = record { pieces = so.pieces ++ p ∷ qs.0; cut = so.front (p ∷ qs.0) (cut_more most rest p more qs.0 split qs.1); spelt = spelt };
     }
 
--- the outcome of writing a body in chunks
+-- the outcome of writing `body` in chunks: all bytes were written, or the write stopped
 pub record Ended (most : ℕ) (body : List ℕ) (a b : Option (List ℕ)) (old new : Counts) (r : Result (Unit {0}) WriteFault) : Type 0 where
   pub w : List ℕ
   pub is : IsFrames body most w
@@ -138,7 +138,7 @@ last_stops most body rest a b c old mid new held sent f none so stop = record {
   end = stops_then _ _ _ _ _ _ _ _ _ _ _ (passes_with _ _ _ _ _ _ last _ _ so.out) stop;
 }
 
--- the last chunk, and the buffered bytes with it
+-- writing the last chunk, and the buffered bytes before it, ends the body
 pub flush_ends : (most : ℕ) (body rest : List ℕ) (a b c d : Option (List ℕ)) (old mid late new : Counts) (held kept : List ℕ) (sent some all : ℕ) (r : Result (Unit {0}) WriteFault) → rest ≡ [] → Chunking most body rest a b old mid held sent → Passes b c mid late (held ++ 48 ∷ 13 ∷ 10 ∷ 13 ∷ 10 ∷ []) kept sent some → OnOk r (WentOut c d late new kept some all) → IfErr r (λ f. Stops c d late new kept some f) → Ended most body a d old new r
 unfolding last
 flush_ends most body rest a b c d old mid late new held kept sent some all (Ok x) none so passed out stop =

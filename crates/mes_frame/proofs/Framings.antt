@@ -1,4 +1,4 @@
--- The bytes written for a body are unique, and are read back as that body; likewise for records.
+-- The bytes written for a body or a record are unique, and are read back as that body or record.
 use Rattle.std.proofs.Common.{◌≡◌, ℕ, zero, suc, ◌+◌, ◌/◌, ◌%◌, ◌^◌, ◌<◌, ◌≤◌, Bool, true, false, cond, ◌==◌, List, [], ◌∷◌, ◌++◌, length, take, drop, map, refl, ap, sym, ◌∙◌, arith, take-append-drop}
 use Rattle.std.proofs.lemmas.Fmt.{digits_is_IsNumeral, decimal_is_IsNumeral, length-decimal-le}
 use Rattle.std.proofs.lemmas.List.{append-nil, length-take}
@@ -16,7 +16,7 @@ no_piece most body p none some front =
     let empty : length body ≡ 0 = ap length none in
     omega arith
 
--- the pieces of a body are unique
+-- a body and a chunk size determine the pieces
 one_cut : (most : ℕ) (body : List ℕ) (ps qs : List (List ℕ)) → IsCut most body ps → IsCut most body qs → ps ≡ qs
 one_cut most body [] [] cut other = refl
 one_cut most body [] (q ∷ qs) cut other = absurd (no_piece most body q cut other.0 other.1)
@@ -36,7 +36,7 @@ some_framing body most some =
     let cut = some_cut most body some in
     (flat_map piece_bytes cut.0 ++ (48 ∷ 13 ∷ 10 ∷ 13 ∷ 10 ∷ []), record { pieces = cut.0; cut = cut.1; spelt = refl })
 
--- there are at most 64 digits
+-- each step adds at most one digit, so a size has at most 64 digits
 few_by : (t : Bool) (k g : ℕ) (acc more : List ℕ) → length more ≤ k + length (g ∷ acc) → length (cond t (g ∷ acc) more) ≤ suc k + length acc
 few_by true k g acc more few = omega arith
 few_by false k g acc more few = omega arith

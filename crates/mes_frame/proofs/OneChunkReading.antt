@@ -1,5 +1,5 @@
--- Every list of bytes has at most one reading as a chunked body, which its run determines. The
--- bytes determine the state.
+-- Every list of bytes has at most one decoded result as a chunked body: that of `run`. The bytes
+-- that a state represents determine the state.
 use Rattle.std.proofs.Common.{◌≡◌, ℕ, ◌-◌, List, [], ◌∷◌, ◌++◌, length, take, get_or, refl, ap, ap₂, sym, ◌∙◌, subst, append_assoc, arith}
 use Rattle.std.proofs.lemmas.Grind.{common_steps}
 use Rattle.mes_frame.specs.Chunk.{trailers_bytes, ending, chunks_bytes, data_of, IsChunked}
@@ -18,7 +18,7 @@ use Rattle.mes_frame.proofs.ChunkGoes.{goes_chunks, goes_ending}
 use Rattle.mes_frame.proofs.ChunkPhases.{place_reaches, at_place}
 use Rattle.mes_frame.proofs.ChunkBreaks.{breaks}
 
--- a run over whole chunks and a part ends where a run over the part ends
+-- whole chunks and then a part lead to the same phase as the part alone
 goes_after : (P : List ℕ → List ℕ → Type 0) (p : Phase) (w body : List ℕ) (at : After P w body) → Goes start at.part p at.represents → Goes start w p body
 goes_after P p w body at goes =
     goes_as _ _ w (chunks_bytes at.chunks ++ at.part) body (data_of at.chunks ++ at.represents) at.spelt at.content
@@ -51,7 +51,7 @@ whole_run w over body whole =
     let seam : w ++ over ≡ front ++ 10 ∷ over = ap (λ (y : List ℕ). y ++ over) whole.spelt ∙ simp append_assoc in
     ap (λ (y : List ℕ). run y start []) seam ∙ run_ends _ front body over 10 goes at_end
 
--- the reading of w, by the outcome of a run over w
+-- the decoded result of the bytes w, from the outcome of `run` over w
 reading_of : List ℕ → Outcome → ChunkReading
 reading_of w (Represents phase body) = Begins body
 reading_of w (Ended out.Quiet body over) = Begins body

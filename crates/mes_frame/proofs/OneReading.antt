@@ -1,5 +1,5 @@
--- Every list of bytes has exactly one reading: the end of its digits, and the byte there,
--- determine which.
+-- Every list of bytes has exactly one decoded result as a stream of records. The digits at the
+-- front and the byte after them determine which.
 use Rattle.std.proofs.Common.{◌≡◌, ℕ, ◌-◌, ◌<◌, ◌≤◌, ◌⊎◌, false, cond, nat_lt, nat_le, ◌==◌, ◌&&◌, max, List, [], ◌∷◌, ◌++◌, length, take, drop, refl, ap, sym, ◌∙◌, inl, inr, subst, append_assoc, arith, length-append, take-append-drop}
 use Rattle.std.proofs.lemmas.Bool.{cases_eq, cases_lt, lt-ltb, le-ltb, le-leb, lt-leb, ne_eqb, and_left, and_right}
 use Rattle.std.proofs.lemmas.Grind.{common_steps}
@@ -11,7 +11,7 @@ use Rattle.mes_frame.specs.RecordReading.{RecordReading, ReadsRecord, Begins, Wh
 use Rattle.mes_frame.specs.declared.fault.FrameFault.{FrameFault}
 use Rattle.mes_frame.specs.declared.fault.FrameFault.TheVariants.{BadChunkLine, ChunkLineTooLong, ChunkTooLarge, BadChunkEnd, TrailersTooLong, BadSizeLine, SizeLineTooLong, RecordTooLarge}
 
--- the digits x end before `rest`: at the end, at another byte, or because there are n of them
+-- the digits x stop before `rest`: `rest` is empty or begins with another byte, or x has n digits
 abbrev pub Stops : ℕ → List ℕ → List ℕ → Type 0
 Stops n x [] = Unit {0}
 Stops n x (c ∷ s) = (10 ≤ digit_value c) ⊎ (length x ≡ n)
@@ -23,7 +23,7 @@ stops_tail n c x (d ∷ s) stops = elim stops [ inl h ↦ inl h | inr h ↦ inr 
 goes_on : (n d : ℕ) (s : List ℕ) → Stops n [] (d ∷ s) → digit_value d < 10 → 0 < n → ⊥
 goes_on n d s stops digit some = elim stops [ inl h ↦ omega arith | inr h ↦ omega arith ]
 
--- the digits at the front are unique
+-- a list has only one split into digits at the front (at most n) and the bytes after them
 pub one_split : (n : ℕ) (x y rest other : List ℕ) → AllDigits 10 x → AllDigits 10 y → length x ≤ n → length y ≤ n → Stops n x rest → Stops n y other → x ++ rest ≡ y ++ other → (x ≡ y) × (rest ≡ other)
 one_split n [] [] rest other digits more few less stops ends same = (refl, same)
 one_split n [] (d ∷ y) rest other digits more few less stops ends same =
@@ -37,14 +37,14 @@ one_split n (c ∷ x) (d ∷ y) rest other digits more few less stops ends same 
     let front : x ≡ y = one.0 in
     (cc, one.1)
 
--- the bytes after the LF of the size line x
+-- the decoded result, if the bytes s follow the LF of the size line x
 after_line : ℕ → List ℕ → List ℕ → RecordReading
 after_line limit x s =
     let size = digits_value 10 x in
     cond (nat_lt limit size) (Broken x 10 RecordTooLarge)
     (cond (nat_le size (length s)) (Whole (x ++ 10 ∷ take size s) (take size s)) (Begins s))
 
--- the bytes after the digits x
+-- the decoded result, if the given bytes follow the digits x
 after_digits : ℕ → List ℕ → List ℕ → RecordReading
 after_digits limit x [] = Begins []
 after_digits limit x (c ∷ s) =
@@ -174,7 +174,7 @@ stops_more : (n c : ℕ) (x rest : List ℕ) → 0 < n → Stops (n - 1) x rest 
 stops_more n c x [] some stops = tt
 stops_more n c x (d ∷ s) some stops = elim stops [ inl h ↦ inl h | inr h ↦ inr (omega arith) ]
 
--- the digits at the front exist
+-- every list splits into digits at the front (at most n) and the bytes after them
 split : (n : ℕ) (w : List ℕ) → Split n w
 split n [] = record { x = []; rest = []; digits = tt; few = omega arith; whole = refl; stops = tt }
 split n (c ∷ w) =

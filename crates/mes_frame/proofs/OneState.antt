@@ -1,4 +1,4 @@
--- The limit and the bytes read determine the state.
+-- The limit and the bytes read since the last record determine the state of the decoder of records.
 use Rattle.std.proofs.Common.{◌≡◌, ℕ, List, [], ◌∷◌, length, ap, ap₂, sym, ◌∙◌, inl, subst, arith}
 use Rattle.std.proofs.lemmas.List.{append-nil}
 use Rattle.std.specs.Str.Parse.{digits_value}

@@ -1,4 +1,4 @@
--- Writes in parts: the bytes written, and the counts, of two consecutive writes.
+-- Two consecutive writes as one: the bytes written, and the counts of calls and bytes.
 use Rattle.std.proofs.Common.{◌≡◌, ℕ, true, false, Result, Ok, Err, is_ok, OnOk, OnErr, ◌+◌, ◌<◌, List, [], ◌++◌, Option, length, take, refl, sym, ap, subst, ◌∙◌, arith, append_assoc, length-append}
 use Rattle.std.proofs.KnownBytes.{Appends-nil, Appends-trans}
 use Rattle.std.proofs.lemmas.Grind.{common_steps}
@@ -16,7 +16,7 @@ use Rattle.mes_frame.specs.declared.write.WriteFaultKind.TheVariants.{Device, Ze
 pub calls_more : (n k : ℕ) (old mid new : Counts) → CallsFor n old mid → CallsFor k mid new → CallsFor (n + k) old new
 calls_more n k old mid new first second = (omega arith, omega arith)
 
--- the bound on the calls for n bytes holds for more bytes
+-- the bounds on the calls for n bytes hold for n + k bytes too
 pub calls_short : (n k : ℕ) (old new : Counts) → 0 < n → CallsFor n old new → CallsFor (n + k) old new
 calls_short n k old new some calls = (omega arith, omega arith)
 
@@ -46,7 +46,7 @@ take_behind v w n = take-append-add v w n
 take_before : (v w : List ℕ) (n : ℕ) → n < length v → take n (v ++ w) ≡ take n v
 take_before v w n short = grind (arith, common_steps)
 
--- one part was written, and the next one stopped
+-- v was written and the write of w stopped: together, the write of v and w stopped
 pub stops_behind : (a b c : Option (List ℕ)) (old mid : Counts) (v w : List ℕ) (sent some told-last : ℕ) → WentOut a b old mid v sent some → WrotePart b c w some told-last → WrotePart a c (v ++ w) sent told-last
 stops_behind a b c old mid v w sent some told-last first second =
     let len = length-append v w in
@@ -77,7 +77,7 @@ part_out a b old new w sent all out good count calls = record { out = out; good 
 pub front_of : (a b : Option (List ℕ)) (w : List ℕ) (sent : ℕ) → WrotePart a b w 0 sent → WroteFront a b w sent
 front_of a b w sent part = record { n = part.n; short = part.short; out = part.out; sent_is = let is = part.sent_is in omega arith }
 
--- from a result and its test to the fact about success
+-- if a result is a success, P holds
 pub of_ok : {T E P : Type 0} (r : Result T E) → is_ok r ≡ true → OnOk r P → P
 of_ok (Ok x) test holds = holds
 of_ok (Err e) test holds = absurd (cc)
@@ -96,7 +96,7 @@ all_held a counts w held sent same = record {
 pub none_held : (a b : Option (List ℕ)) (old new : Counts) (w held : List ℕ) (sent all : ℕ) → held ≡ [] → WentOut a b old new w sent all → Passes a b old new w held sent all
 none_held a b old new w held sent all none out = record { front = w; spelt = sym (append-nil w) ∙ ap (λ (s : List ℕ). w ++ s) (sym none); out = out }
 
--- p is buffered after the others
+-- p is buffered after the bytes that are buffered already
 pub passes_with : (a b : Option (List ℕ)) (old new : Counts) (w held p : List ℕ) (sent all : ℕ) → Passes a b old new w held sent all → Passes a b old new (w ++ p) (held ++ p) sent all
 passes_with a b old new w held p sent all first = record {
   front = first.front;
@@ -130,7 +130,7 @@ pub stops_then : (a b c : Option (List ℕ)) (old mid new : Counts) (w held : Li
 stops_then a b c old mid new w held sent some f first second =
     subst (λ (s : List ℕ). Stops a c old new s sent f) (sym first.spelt) (out_stops a b c old mid new first.front held sent some f first.out second)
 
--- a write that stopped also stopped within more bytes
+-- a write of v that stopped is also a write of v and w that stopped
 pub stops_long : (a b : Option (List ℕ)) (old new : Counts) (v w : List ℕ) (sent : ℕ) (f : WriteFault) → Stops a b old new v sent f → Stops a b old new (v ++ w) sent f
 stops_long a b old new v w sent f first =
     let len = length-append v w in

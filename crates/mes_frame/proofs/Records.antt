@@ -1,4 +1,5 @@
--- A record's bytes, extended, and the bytes that a state of the decoder represents.
+-- Prefixes of a record with more bytes after them, and the prefix that a decoder's state
+-- represents.
 use Rattle.std.proofs.Common.{◌≡◌, ℕ, None, ◌+◌, ◌-◌, ◌*◌, ◌^◌, ◌<◌, ◌≤◌, min, List, [], ◌∷◌, ◌++◌, length, take, refl, ap, sym, ◌∙◌, inl, inr, append_assoc, arith, length-append}
 use Rattle.std.proofs.lemmas.Bool.Decides.{nat_tests}
 use Rattle.std.proofs.lemmas.Grind.{common_steps}
@@ -10,7 +11,7 @@ use Rattle.mes_frame.specs.declared.record.Phase.{Phase}
 use Rattle.mes_frame.specs.declared.record.Phase.TheVariants.{Size, Data, Failed}
 use Rattle.mes_frame.specs.declared.record.RecordState.{RecordState}
 
--- the bytes '0' to '9' are the decimal digits
+-- the bytes '0' to '9' are the decimal digits, with values below 10
 pub digit_in_range : (b : ℕ) → 48 ≤ b → b ≤ 57 → digit_value b < 10
 digit_in_range b low high = grind (arith, nat_tests)
 
@@ -29,7 +30,7 @@ digit_kept digits value times digit new b x r kept room decimal times-is digit-i
       empty = kept.empty;
     }
 
--- a run of data that ends before the record
+-- fewer data bytes than are to come leave a record unfinished
 pub data_goes_on : (x r p : List ℕ) (left limit : ℕ) → DataBegun x r left limit → length p < left → DataBegun (x ++ p) (r ++ p) (left - length p) limit
 data_goes_on x r p left limit begun short =
     let len = length-append r p in
@@ -48,7 +49,7 @@ data_some x r left limit begun empty =
     let same : length {A = ℕ} [] ≡ length (begun.size ++ 10 ∷ r) = ap length (sym empty ∙ begun.spelt) in
     omega arith
 
--- in the data, a record has begun
+-- in the phase `Data`, the state represents an unfinished record with its size line
 pub begun_in_data : (s : RecordState) (x r : List ℕ) (left : ℕ) → s.phase ≡ Data left → RecordStands s x r → x ≡ [] → ⊥
 unfolding RecordStands
 begun_in_data s x r left at represents = data_some x r left s.limit (rw at at represents)
@@ -63,7 +64,7 @@ front_at (Size digits value) limit x r p k represents within front = absurd (ome
 front_at (Data left) limit x r p k represents within front = data_front x r p k left limit represents within front
 front_at (Failed fault) limit x r p k represents within front = absurd represents
 
--- every prefix of a run of data leaves an unfinished record
+-- every prefix of the skipped data leaves an unfinished record
 pub front_of : (s : RecordState) (x r p : List ℕ) (k count : ℕ) → count ≤ remaining_of s → length p ≡ count → k < count → RecordStands s x r → Begun (x ++ take k p) (r ++ take k p) (limit_of s)
 unfolding RecordStands
 front_of s x r p k count within len front represents = front_at s.phase s.limit x r p k represents (omega arith) (omega arith)

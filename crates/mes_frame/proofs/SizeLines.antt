@@ -1,15 +1,16 @@
--- The size lines that are written: their digits from the last to the first, at the end of a buffer.
+-- Writing a size line: digits from the last to the first, at the end of a buffer.
 use Rattle.std.proofs.Common.{◌≡◌, ℕ, zero, suc, ◌+◌, ◌-◌, ◌/◌, ◌%◌, ◌^◌, ◌<◌, ◌≤◌, Bool, true, false, cond, List, [], ◌∷◌, ◌++◌, length, take, drop, refl, ap, sym, ◌∙◌, arith, slice_set, length-set, drop-cons, drop_of_length-le, ◌==◌}
 use Rattle.std.proofs.lemmas.Bool.Decides.{nat_tests}
 use Rattle.std.proofs.lemmas.List.{drop-set, drop-set-add, take_rest}
 use Rattle.std.proofs.Math.Nat.{pow-suc, div-lt_iff_lt-mul}
 use Rattle.std.specs.Fmt.{digits, digits_onto, digit_glyph}
 
--- at most k hexadecimal digits of n, before the bytes acc
+-- the hexadecimal digits of n, at most k of them, before the bytes acc
 pub hex_onto : ℕ → ℕ → List ℕ → List ℕ
 hex_onto k n acc = digits_onto k 16 false n acc
 
--- the digits from `start` on are written, and the digits of `rest` are not
+-- the buffer has the last digits of `size` from `start` on; the digits of `rest` are yet to be
+-- written
 pub record LineSoFar (size start rest : ℕ) (buffer : List ℕ) : Type 0 where
   pub within : start ≤ 16
   pub some : 0 < start
@@ -21,7 +22,7 @@ append_by : (t : Bool) (k n g : ℕ) (acc s : List ℕ) → digits_onto k 16 fal
 append_by true k n g acc s more = refl
 append_by false k n g acc s more = more
 
--- the bytes after the digits are unchanged
+-- writing digits leaves the bytes s after them unchanged
 onto_append : (k n : ℕ) (acc s : List ℕ) → digits_onto k 16 false n (acc ++ s) ≡ digits_onto k 16 false n acc ++ s
 onto_append zero n acc s = refl
 onto_append (suc k) n acc s =
@@ -47,7 +48,7 @@ some_left : (n k : ℕ) → n < 16 ^ k → (n ≡ 0 → ⊥) → 0 < k
 some_left n zero small not = absurd (omega arith)
 some_left n (suc k) small not = omega arith
 
--- a digit written at offset k, and the bytes after it
+-- the buffer from offset k on, after a digit was written at k
 digit_before : (k digit g : ℕ) (buffer : List ℕ) → k < length buffer → digit ≡ g → drop k (slice_set buffer k digit) ≡ g ∷ drop (suc k) buffer
 digit_before k digit g buffer within is =
     let next : k + 1 ≡ suc k = omega arith in
@@ -112,7 +113,7 @@ line_ends size (suc k) rest digit buffer so none is =
     let same : suc k - 1 ≡ k = omega arith in
     rw same (ends size k rest digit buffer so none is)
 
--- the digits of a record's size, and the LF after them
+-- the buffer from `start` on is the size line of a record: decimal digits and LF
 pub record_line_is : (size start : ℕ) (old new : List ℕ) → length old ≡ 21 → length new ≡ 21 → drop start new ≡ digits 10 false size ++ drop 20 (slice_set old 20 10) → take (21 - start) (drop start new) ≡ digits 10 false size ++ 10 ∷ []
 record_line_is size start old new len kept is =
     let end : drop 21 old ≡ [] = drop_of_length-le old {i = 21} (omega arith) in

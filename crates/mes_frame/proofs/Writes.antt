@@ -1,4 +1,4 @@
--- The bytes and counts of consecutive calls of a writer.
+-- The bytes and counts of consecutive calls of a device.
 use Rattle.std.proofs.Common.{◌≡◌, ℕ, ◌+◌, ◌-◌, ◌<◌, ◌≤◌, List, Option, Ok, true, false, length, take, drop, take-add, ◌∙◌, ap, arith, nat_lt, ◌==◌, length-drop}
 use Rattle.std.proofs.KnownBytes.{Appends-trans}
 use Rattle.std.proofs.lemmas.Bool.Decides.{nat_tests}

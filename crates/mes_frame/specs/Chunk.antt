@@ -9,7 +9,7 @@ use Rattle.std.specs.List.{AllByRecursion, flat_map}
 use Rattle.std.specs.Str.Parse.{AllDigits, digits_value}
 use Rattle.mes_frame.specs.declared.limits.TheConstants.{MAX_CHUNK_LINE, MAX_TRAILERS}
 
--- chunk-size, and the rest of the line before its CRLF
+-- a chunk's line: chunk-size, and the bytes between it and the CRLF
 pub record Line : Type 0 where
   pub size : List ℕ
   pub extension : List ℕ
@@ -31,7 +31,7 @@ line_bytes l = l.size ++ l.extension
 abbrev pub size_of : Line → ℕ
 size_of l = digits_value 16 l.size
 
--- chunk-size [ chunk-ext ], with a size of 64 bits and at most MAX_CHUNK_LINE bytes
+-- a line chunk-size [ chunk-ext ] of at most MAX_CHUNK_LINE bytes, with a size below 2^64
 pub record IsLine (l : Line) : Type 0 where
   pub some : 0 < length l.size
   pub hex : AllDigits 16 l.size
@@ -39,7 +39,7 @@ pub record IsLine (l : Line) : Type 0 where
   pub extension : IsExtension l.extension
   pub short : length l.size + length l.extension ≤ MAX_CHUNK_LINE
 
--- a chunk with data
+-- a chunk: its line, and its data `bytes`
 pub record Chunk : Type 0 where
   pub line : Line
   pub bytes : List ℕ
@@ -56,14 +56,14 @@ pub record IsChunk (c : Chunk) : Type 0 where
 abbrev pub IsPlain : ℕ → Type 0
 IsPlain b = (b ≢ 13) × (b ≢ 10)
 
--- a trailer line: any bytes but CR and LF, one at least
+-- a trailer line: at least one byte, none of them CR or LF
 abbrev pub IsTrailer : List ℕ → Type 0
 IsTrailer t = (0 < length t) × AllByRecursion IsPlain t
 
 abbrev pub trailer_bytes : List ℕ → List ℕ
 trailer_bytes t = t ++ 13 ∷ 10 ∷ []
 
--- the trailer lines with their CRLFs
+-- the trailer lines, each followed by CRLF
 abbrev pub trailers_bytes : List (List ℕ) → List ℕ
 trailers_bytes ts = flat_map trailer_bytes ts
 

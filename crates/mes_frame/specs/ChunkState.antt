@@ -9,7 +9,7 @@ use Rattle.mes_frame.specs.declared.chunk.Phase.TheVariants.{Size, Extension, Li
 use Rattle.mes_frame.specs.declared.chunk.ChunkOut as out
 use Rattle.mes_frame.specs.declared.chunk.ChunkState.{ChunkState}
 
--- the result of every further byte, after the end or a fault
+-- the result that every further byte has in a phase after the end or a fault
 abbrev pub end_at : Phase → Option out.ChunkOut
 end_at (Size count size) = None
 end_at (Extension count size) = None
@@ -25,7 +25,7 @@ end_at (Failed fault) = Some (out.TheVariants.Fault fault)
 abbrev pub end_of : ChunkState → Option out.ChunkOut
 end_of s = end_at s.phase
 
--- the number of data bytes that come next
+-- in the given phase, the number of data bytes that come next
 abbrev pub remaining_at : Phase → ℕ
 remaining_at (Size count size) = 0
 remaining_at (Extension count size) = 0
@@ -41,7 +41,7 @@ remaining_at (Failed fault) = 0
 abbrev pub remaining_of : ChunkState → ℕ
 remaining_of s = remaining_at s.phase
 
--- a trailer line has begun exactly if it has a byte
+-- the flag `begun` of a trailer line is true if and only if the line has a byte
 abbrev pub IsBegun : Bool → List ℕ → Type 0
 IsBegun false t = t ≡ []
 IsBegun true t = 0 < length t
@@ -70,32 +70,33 @@ ChunkRepresents s w body = After (PhaseRepresents s.phase) w body
 abbrev pub state_at : Phase → ChunkState
 state_at phase = record { phase = phase }
 
--- after w, the first `count` bytes of `piece` are framing; every prefix is an open body
+-- after w, the first `count` bytes of `piece` are framing, and each prefix leaves an open body
 abbrev pub PassesFraming : ChunkState → List ℕ → List ℕ → List ℕ → ℕ → Type 0
 PassesFraming new w body piece count =
     ChunkRepresents new (w ++ take count piece) body × ((n : ℕ) → n ≤ count → IsOpen (w ++ take n piece) body)
 
--- x with the data d is a part in the new phase, or a chunk that ends there
+-- the new phase represents the part x with the data d; or x is a whole chunk, and a next one may
+-- begin
 abbrev pub GoesOn : Phase → List ℕ → List ℕ → Type 0
 GoesOn new x d =
     PhaseRepresents new x d
     ⊎ ((c : Chunk) × IsChunk c × (x ≡ chunk_bytes c) × (d ≡ c.bytes) × PhaseRepresents new [] [])
 
--- the result for the byte b after the part x with the data d, and the new phase
+-- the meaning of the result for the byte b after the part x with the data d, and the new phase
 abbrev pub PhaseSteps : Phase → List ℕ → List ℕ → ℕ → out.ChunkOut → Type 0
 PhaseSteps new x d b out.TheVariants.Quiet = GoesOn new (x ++ b ∷ []) d
 PhaseSteps new x d b out.TheVariants.Byte = PhaseRepresents new (x ++ b ∷ []) (d ++ b ∷ [])
 PhaseSteps new x d b out.TheVariants.Closed = IsChunked (x ++ b ∷ []) d × (d ≡ []) × (end_at new ≡ Some out.TheVariants.Closed)
 PhaseSteps new x d b (out.TheVariants.Fault fault) = PartShows x d b fault × (end_at new ≡ Some (out.TheVariants.Fault fault))
 
--- the result for the byte b after w with the data `body`, and the new state
+-- the meaning of the result for the byte b after w with the data `body`, and the new state
 abbrev pub ChunkSteps : ChunkState → List ℕ → List ℕ → ℕ → out.ChunkOut → Type 0
 ChunkSteps new w body b out.TheVariants.Quiet = ChunkRepresents new (w ++ b ∷ []) body
 ChunkSteps new w body b out.TheVariants.Byte = ChunkRepresents new (w ++ b ∷ []) (body ++ b ∷ [])
 ChunkSteps new w body b out.TheVariants.Closed = IsChunked (w ++ b ∷ []) body × (end_of new ≡ Some out.TheVariants.Closed)
 ChunkSteps new w body b (out.TheVariants.Fault fault) = ChunkShows w body b fault × (end_of new ≡ Some (out.TheVariants.Fault fault))
 
--- a byte is data exactly if `room` was not 0
+-- a byte is data if and only if `room` was not 0 before it
 abbrev pub OutWith : ℕ → out.ChunkOut → Type 0
 OutWith room out.TheVariants.Quiet = room ≡ 0
 OutWith room out.TheVariants.Byte = 0 < room

@@ -2,7 +2,7 @@
 use Rattle.std.specs.Prelude.{ℕ, Option, List}
 use Rattle.mes_frame.specs.declared.counts.Counts.{Counts}
 
--- its bytes (left to read, or written), if it determines them, and its counts
+-- a device's bytes (left to read, or written), if the device determines them, and its counts
 pub record Device : Type 0 where
   pub bytes : Option (List ℕ)
   pub counts : Counts

@@ -3,11 +3,11 @@ use Rattle.std.specs.Prelude.{◌≡◌, ℕ, ◌<◌, List, [], ◌∷◌, ◌+
 use Rattle.std.specs.List.{flat_map}
 use Rattle.std.specs.Fmt.{digits}
 
--- a record, with a size without leading zeros
+-- the bytes of a record: its size in decimal without leading zeros, LF, and the data
 abbrev pub record_bytes : List ℕ → List ℕ
 record_bytes r = decimal (length r) ++ 10 ∷ r
 
--- the body in pieces of `most` bytes and a shorter one for the remainder
+-- the pieces are the body, cut into pieces of `most` bytes and a shorter one for the remainder
 abbrev pub IsCut : ℕ → List ℕ → List (List ℕ) → Type 0
 IsCut most body [] = body ≡ []
 IsCut most body (p ∷ ps) = (0 < length p) × (p ≡ take most body) × IsCut most (drop most body) ps

@@ -7,7 +7,7 @@ use Rattle.mes_frame.specs.declared.memory_sink.MemorySink.{MemorySink}
 use Rattle.mes_frame.specs.declared.memory_sink.MemoryStop.{MemoryStop}
 use Rattle.mes_frame.specs.declared.memory_sink.MemoryStop.TheVariants.{Fails, TakesNone}
 
--- the bytes left to read
+-- the bytes that a reader has left to read
 abbrev pub left_of : MemorySource → Option (List ℕ)
 left_of s = Some s.bytes.now
 
@@ -21,14 +21,15 @@ pub record SourceIs (bytes : List ℕ) (most good : ℕ) (s : MemorySource) : Ty
   pub good_is : s.good ≡ good
   pub counts : reads_of s ≡ no_calls
 
--- a call returns as many bytes as it may, at least one; it fails exactly if no good bytes are left
+-- a call returns as many bytes as it may, at least one, and fails if and only if no good bytes are
+-- left
 abbrev pub SourceGives : {E : Type 0} → MemorySource → MemorySource → ℕ → Result ℕ E → Type 0
 SourceGives old new room (Ok n) =
     (0 < old.good) × (n ≡ min (min (max old.most 1) old.good) (min room (length old.bytes.now)))
     × (new.most ≡ old.most) × (new.good ≡ old.good - n)
 SourceGives old new room (Err e) = (old.good ≡ 0) × (new.most ≡ old.most) × (new.good ≡ old.good)
 
--- the bytes written
+-- the bytes that a writer has written
 abbrev pub written_of : MemorySink → Option (List ℕ)
 written_of s = Some s.bytes.items
 
@@ -43,7 +44,8 @@ pub record SinkIs (most good : ℕ) (stop : MemoryStop) (s : MemorySink) : Type 
   pub stop_is : s.stop ≡ stop
   pub counts : writes_of s ≡ no_calls
 
--- takes as many bytes as it may; fails after the good bytes if `stop` is Fails, or out of memory
+-- a call takes as many bytes as it may; it fails after the good bytes if `stop` is Fails, or out of
+-- memory
 abbrev pub SinkTakes : {E : Type 0} → MemorySink → MemorySink → ℕ → Result ℕ E → Type 0
 SinkTakes old new n (Ok taken) =
     (taken ≡ min (min old.most old.good) n) × (old.good ≡ 0 → old.stop ≡ TakesNone)

@@ -19,7 +19,7 @@ pub record IsSize (x : List ℕ) : Type 0 where
   pub begun : SizeBegun x
   pub some : 0 < length x
 
--- b is a record with the data r, of at most `limit` bytes
+-- b is a record with the data r, and r has at most `limit` bytes
 pub record IsRecord (b r : List ℕ) (limit : ℕ) : Type 0 where
   pub size : List ℕ
   pub is_size : IsSize size
@@ -27,7 +27,7 @@ pub record IsRecord (b r : List ℕ) (limit : ℕ) : Type 0 where
   pub value : digits_value 10 size ≡ length r
   pub within : length r ≤ limit
 
--- x is a size line within the limit and the data r, with `left` bytes to come
+-- x is a size line within the limit and then the data r, of which `left` more bytes are to come
 pub record DataBegun (x r : List ℕ) (left limit : ℕ) : Type 0 where
   pub size : List ℕ
   pub is_size : IsSize size
@@ -40,7 +40,7 @@ pub record DataBegun (x r : List ℕ) (left limit : ℕ) : Type 0 where
 abbrev pub Begun : List ℕ → List ℕ → ℕ → Type 0
 Begun x r limit = (SizeBegun x × (r ≡ [])) ⊎ ((left : ℕ) × DataBegun x r left limit)
 
--- after x, the fault is detected at the byte b
+-- after the size digits x, the fault is detected at the byte b
 abbrev pub SizeShows : List ℕ → ℕ → ℕ → FrameFault → Type 0
 -- F7: neither a digit, nor a LF after a digit
 SizeShows x b limit BadSizeLine = SizeBegun x × (10 ≤ digit_value b) × (b ≡ 10 → x ≡ [])

@@ -19,28 +19,28 @@ pub enum ChunkOut {
     Byte,
     /// The LF that ends the body.
     Closed,
-    /// The byte at which the error is detected.
+    /// The byte at which a fault is detected, or any byte after it.
     Fault(FrameFault),
 }
 
 // The decoder's position in the framing.
 #[derive(Clone, Copy, Debug)]
 enum Phase {
-    // In a chunk's size, after `count` digits with the value `size`.
+    // The position is in a chunk's size, after `count` digits with the value `size`.
     Size { count: u16, size: u64 },
-    // In the rest of a chunk's line, after `count` bytes of the line.
+    // The position is in the rest of a chunk's line, after `count` bytes of the line.
     Extension { count: u16, size: u64 },
-    // After the CR of a chunk's line.
+    // The position is after the CR of a chunk's line.
     LineEnd { size: u64 },
-    // In a chunk's data, with `left` bytes to come and then a CR.
+    // The position is in a chunk's data, with `left` bytes to come and then a CR.
     Data { left: u64 },
-    // After the CR that follows a chunk's data.
+    // The position is after the CR that follows a chunk's data.
     DataEnd,
-    // In the trailer lines, after `used` bytes of them; `begun`: inside a line.
+    // The position is in the trailer lines, after `used` bytes of them; `begun`: inside a line.
     Trailer { used: u16, begun: bool },
-    // After the CR of a trailer line.
+    // The position is after the CR of a trailer line.
     TrailerEnd { used: u16 },
-    // After the CR of the empty line.
+    // The position is after the CR of the empty line that ends the body.
     End,
     Closed,
     Failed(FrameFault),
@@ -65,12 +65,12 @@ impl ChunkState {
     /// Reads one byte and returns its role. A fault is returned at the first byte at which it is
     /// detected.
     pub fn step(&mut self, byte: u8) -> ChunkOut
-        // Given the bytes w so far and their data `body`: what each result means, and when each
+        // Let w be the bytes so far, and `body` their data: what each result means, and when each
         // fault occurs.
         ensures steps { (w body : List ℕ) → ChunkRepresents self.old w body
             → ChunkSteps self.new w body byte result }
 
-        // The byte is data exactly if `room` was not 0.
+        // The byte is data if and only if `room` was not 0 before the step.
         ensures data { OutWith (remaining_of self.old) result }
 
         // After the end or a fault, every step returns the same result and changes nothing.
@@ -86,7 +86,7 @@ impl ChunkState {
     /// anything else, returns 0 and changes nothing.
     #[inline(always)]
     pub fn next_chunk(&mut self, piece: &[u8]) -> usize
-        // The bytes read are framing, without data; every prefix of them is an open body.
+        // The bytes read are framing and no data; every prefix of them leaves an open body.
         ensures passes { (w body : List ℕ) → ChunkRepresents self.old w body
             → PassesFraming self.new w body piece.now result }
         // If any byte was read, the next one is data.
@@ -118,7 +118,7 @@ impl ChunkState {
     /// at most [`ChunkState::room`].
     pub fn pass(&mut self, count: u64)
         requires room { count ≤ remaining_of self.old }
-        // The skipped bytes p are added to the bytes w and to the data.
+        // The skipped bytes p are added to the bytes so far (w) and to their data.
         ensures passes { (w body p : List ℕ) → length p ≡ count → ChunkRepresents self.old w body
             → ChunkRepresents self.new (w ++ p) (body ++ p) }
 
@@ -127,7 +127,7 @@ impl ChunkState {
             → ChunkRepresents self.old w body → IsOpen (w ++ take k p) (body ++ take k p) }
         ensures room { remaining_of self.new + count ≡ remaining_of self.old }
 
-        // The end of the body, or a fault, is unchanged.
+        // The state after the end of the body, or after a fault, is unchanged.
         ensures end { end_of self.new ≡ end_of self.old }
     {
         if let Phase::Data { left } = self.phase {
@@ -261,7 +261,7 @@ fn after_size(count: u16, size: u64, byte: u8) -> (Phase, ChunkOut)
     }
 }
 
-// The next phase at a digit of a chunk's size, in a line with room for one more byte.
+// Returns the phase after a digit of a chunk's size, in a line with room for one more byte.
 fn after_digit(count: u16, size: u64, byte: u8, digit: u8) -> (Phase, ChunkOut)
     requires digit { (digit_value byte ≡ digit) × (digit < 16) }
     requires room { count < MAX_CHUNK_LINE }
@@ -399,7 +399,7 @@ fn after_end_cr(byte: u8) -> (Phase, ChunkOut)
     (Phase::Closed, ChunkOut::Closed)
 }
 
-// The phase and result at a fault, and at every byte after it.
+// Returns the phase and result at a byte with a fault, and at every byte after it.
 fn fail(fault: FrameFault) -> (Phase, ChunkOut)
     ensures phase { result.0 ≡ Phase.Failed fault }
     ensures answer { result.1 ≡ ChunkOut.Fault fault }

@@ -26,8 +26,8 @@ impl ChunkBuffer {
         }
     }
 
-    // Appends `bytes` to the buffer. If they do not fit, writes the buffered bytes first, and then
-    // `bytes` too if they exceed the whole buffer.
+    // Appends `bytes` to the buffer. If the buffer lacks room, writes the buffered bytes first, and
+    // then also `bytes` if they exceed the empty buffer.
     pub(crate) fn hold<W: Sink>(&mut self, writer: &mut W, bytes: &[u8]) -> Result<(), WriteFault>
         ensures ok { OnOk result (Passes (W.written writer.old) (W.written writer.new)
             (W.counts writer.old) (W.counts writer.new)

@@ -4,14 +4,16 @@ ghost use Rattle.mes_frame.specs.Counts.{CountsCall};
 
 use std::io;
 
-/// The numbers of a device's calls, and of those without effect. Each saturates at 2^64 - 1.
+/// Counts of a device's calls, of those that failed, and of those without effect. Each saturates at
+/// 2^64 - 1.
 #[derive(Clone, Copy, Debug, Default, PartialEq, Eq)]
 pub struct Counts {
     /// Calls with a non-empty buffer.
     pub calls: u64,
     /// Calls that failed.
     pub failures: u64,
-    /// Calls that succeeded but moved no byte of a non-empty buffer. For a reader, this is the end.
+    /// Calls that succeeded but moved no byte of a non-empty buffer. For a reader, this means the
+    /// end of the input.
     pub idle: u64,
 }
 

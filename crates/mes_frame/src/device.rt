@@ -12,11 +12,11 @@ pub trait Source {
     /// The bytes that are left to read, if the device determines them.
     ghost left: { Self → Option (List ℕ) };
 
-    /// The counts so far.
+    /// The counts of the calls so far.
     ghost counts: { Self → Counts };
 
     /// Reads bytes to the front of `buffer` and returns their number. 0 for a non-empty buffer
-    /// means the end.
+    /// means the end of the input.
     fn fetch(&mut self, buffer: &mut [u8]) -> io::Result<usize>
         ensures within { IfOk result (λ n. n ≤ length buffer.new) }
         ensures bytes { ReadConsumes (left self.old) (left self.new) result buffer.new }
@@ -29,7 +29,7 @@ pub trait Sink {
     /// The bytes written so far, if the device determines them.
     ghost written: { Self → Option (List ℕ) };
 
-    /// The counts so far.
+    /// The counts of the calls so far.
     ghost counts: { Self → Counts };
 
     /// Writes a prefix of `bytes` and returns its length.

@@ -24,7 +24,7 @@ impl Model for Limit {
     ghost inverse = { λ n. record { bytes = n } };
 }
 
-// The named limits are these numbers.
+// `USUAL` and `LARGEST` have the values of the constants in `limits`.
 const _: () = prove!(
     Limit::USUAL.bytes == DEFAULT_RECORD_LIMIT && Limit::LARGEST.bytes == MAX_RECORD_LIMIT
 );

@@ -45,7 +45,7 @@ pub const MAX_RECORD_LIMIT: u32 = max_record_limit!(number);
 /// of 64 bits.
 pub const MAX_SIZE_DIGITS: u8 = 20;
 
-/// The maximum number of bytes of a chunk's line that is read, without its CRLF.
+/// The maximum length, in bytes, of a chunk's line in a body that is read, without the line's CRLF.
 pub const MAX_CHUNK_LINE: u16 = 256;
 
 /// The maximum number of bytes of all trailer lines with their CRLFs, without the final empty line.

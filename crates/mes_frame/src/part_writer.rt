@@ -1,4 +1,5 @@
-//! Writes that consist of parts, with one count of bytes written. Each part is written by `write`.
+//! Writes that consist of parts, with one count of bytes for all parts. Each part is written by
+//! `write`.
 ghost use Rattle.std.specs.Prelude.{◌≡◌, length, IfOk, OnOk, IfErr};
 ghost use Rattle.std.specs.Io.KnownBytes.{Appends};
 ghost use Rattle.mes_frame.specs.Counts.{up};
@@ -8,7 +9,8 @@ ghost use Rattle.mes_frame.specs.Written.{WrotePart};
 use crate::device::Sink;
 use crate::write::{WriteFault, write_all};
 
-// Writes all of `bytes`, after `sent` bytes of earlier parts. Returns the new count.
+// Writes all of `bytes`, after `sent` bytes of earlier parts. Returns the count of bytes of all
+// parts so far.
 pub(crate) fn write_part<W: Sink>(
     writer: &mut W,
     bytes: &[u8],

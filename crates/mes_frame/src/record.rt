@@ -16,15 +16,15 @@ use crate::limits::MAX_SIZE_DIGITS;
 pub enum RecordOut {
     /// A byte of a size line.
     Quiet,
-    /// The LF of a size line of value 0, which is a whole record without data.
+    /// The LF of a size line with the value 0. The record is whole, without data.
     Empty,
     /// A byte of a record's data; `last`: the record ends with it.
     Byte { last: bool },
-    /// The byte at which the error is detected.
+    /// The byte at which a fault is detected, or any byte after it.
     Fault(FrameFault),
 }
 
-// The decoder's position. A size saturates at 2^32 - 1, which exceeds every limit.
+// The decoder's position in a record. A size saturates at 2^32 - 1, which exceeds every limit.
 #[derive(Clone, Copy, Debug)]
 enum Phase {
     Size { digits: u8, value: u32 },
@@ -59,12 +59,12 @@ impl RecordState {
     /// Reads one byte and returns its role. A fault is returned at the first byte at which it is
     /// detected.
     pub fn step(&mut self, byte: u8) -> RecordOut
-        // Given the bytes x of the current record and its data r: what each result means, and when
-        // each fault occurs.
+        // Let x be the bytes of the current record so far, and r its data so far: what each result
+        // means, and when each fault occurs.
         ensures steps { (x r : List ℕ) → RecordStands self.old x r
             → RecordSteps self.new x r byte result }
 
-        // The byte is data exactly if `room` was not 0.
+        // The byte is data if and only if `room` was not 0 before the step.
         ensures data { (x r : List ℕ) → RecordStands self.old x r
             → OutWith (remaining_of self.old) result }
 
@@ -82,7 +82,7 @@ impl RecordState {
 
     /// Returns whether no byte of the next record has been read. False after a fault.
     pub fn between(&self) -> bool
-        // True exactly if x, the bytes of the current record so far, is empty.
+        // True if and only if x, the bytes of the current record so far, is empty.
         ensures represents { (x r : List ℕ) → RecordStands self.now x r
             → (IsTrue result ↔ (x ≡ [])) }
         ensures failed { IsSome (fault_of self.now) → result ≡ false }
@@ -98,10 +98,10 @@ impl RecordState {
     /// fault.
     pub fn room(&self) -> usize
         ensures value { result ≡ remaining_of self.now }
-        // Not 0: the current record needs exactly `result` more bytes of data.
+        // If the result is not 0, the current record needs exactly that many more bytes of data.
         ensures some { (x r : List ℕ) → RecordStands self.now x r → 0 < result
             → DataBegun x r result (limit_of self.now) }
-        // 0: at most a part of a size line has been read.
+        // If the result is 0, at most a part of a size line has been read.
         ensures none { (x r : List ℕ) → RecordStands self.now x r → result ≡ 0
             → SizeBegun x × (r ≡ []) }
     {
@@ -227,7 +227,7 @@ fn after_data(left: u32) -> (Phase, RecordOut)
     )
 }
 
-// The phase and result at a fault, and at every byte after it.
+// Returns the phase and result at a byte with a fault, and at every byte after it.
 fn fail(fault: FrameFault) -> (Phase, RecordOut)
     ensures phase { result.0 ≡ Phase.Failed fault }
     ensures answer { result.1 ≡ RecordOut.Fault fault }

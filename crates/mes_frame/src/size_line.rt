@@ -1,4 +1,4 @@
-//! Writes size lines, each into the end of a buffer for the longest.
+//! Writes size lines, each at the end of a buffer that has room for the longest one.
 ghost use Rattle.std.specs.Prelude.{◌≡◌, ◌<◌, false, [], ◌∷◌, ◌++◌, decimal};
 ghost use Rattle.std.specs.Fmt.{digits, digit_glyph};
 
@@ -19,7 +19,7 @@ pub(crate) fn record_line(size: u64, buffer: &mut [u8; MAX_RECORD_LINE]) -> &[u8
     &buffer[start..]
 }
 
-// Returns the line of a chunk of `size` bytes, in lower case.
+// Returns the line of a chunk of `size` bytes, with lower-case hexadecimal digits.
 pub(crate) fn chunk_line(size: u64, buffer: &mut [u8; MAX_CHUNK_LINE_WRITTEN]) -> &[u8]
     ensures { result.now ≡ digits 16 false size ++ 13 ∷ 10 ∷ [] }
 {

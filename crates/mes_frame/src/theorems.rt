@@ -1,4 +1,4 @@
-//! Facts about the definitions, stated as contracts of functions that do nothing.
+//! Facts about the definitions of `specs/`, stated as contracts of functions that do nothing.
 ghost use Rattle.std.specs.Prelude.{◌≡◌, ℕ, ◌-◌, ◌^◌, ◌<◌, ◌≤◌, List, length, ◌++◌, None};
 ghost use Rattle.mes_frame.specs.Chunk.{IsChunked};
 ghost use Rattle.mes_frame.specs.ChunkFront.{IsOpen};
@@ -25,19 +25,19 @@ pub fn record_is_unique()
         → f ++ s ≡ g ++ t → (f ≡ g) × (r ≡ q) × (s ≡ t) }
 {}
 
-/// Proves that any bytes have exactly one reading: they are an unfinished record, begin with a
-/// whole one, or have a first fault.
+/// Proves that any bytes have exactly one decoded result as records: they are an unfinished record,
+/// begin with a whole record, or have a first fault.
 pub fn record_reading_is_unique()
-    // There is a reading.
+    // There is a decoded result.
     ensures some { (limit : ℕ) (w : List ℕ)
         → (reading : RecordReading) × ReadsRecord limit w reading }
-    // Any two readings are equal.
+    // Any two decoded results are equal.
     ensures one { (limit : ℕ) (w : List ℕ) (reading other : RecordReading)
         → ReadsRecord limit w reading → ReadsRecord limit w other → reading ≡ other }
 {}
 
-/// Proves that the bytes read since the last record determine a decoder's state, for a given limit.
-/// Such bytes are an unfinished record, and no fault was returned for them.
+/// Proves that the bytes read since the last record determine the state of a decoder of records,
+/// for a given limit. Such bytes are an unfinished record, and no fault was returned for them.
 pub fn record_state_is_unique()
     ensures begun { (s : RecordState) (x r : List ℕ) → RecordStands s x r → Begun x r (limit_of s) }
     ensures sound { (s : RecordState) (x r : List ℕ) → RecordStands s x r → fault_of s ≡ None }
@@ -46,18 +46,18 @@ pub fn record_state_is_unique()
         → limit_of s ≡ limit_of t → (s ≡ t) × (r ≡ q) }
 {}
 
-/// Proves that any bytes have exactly one reading: they are an open chunked body, begin with a
-/// whole one, or have a first fault.
+/// Proves that any bytes have exactly one decoded result as a chunked body: they are an open body,
+/// begin with a whole body, or have a first fault.
 pub fn chunk_reading_is_unique()
-    // There is a reading.
+    // There is a decoded result.
     ensures some { (w : List ℕ) → (reading : ChunkReading) × ReadsChunks w reading }
-    // Any two readings are equal.
+    // Any two decoded results are equal.
     ensures one { (w : List ℕ) (reading other : ChunkReading)
         → ReadsChunks w reading → ReadsChunks w other → reading ≡ other }
 {}
 
-/// Proves that the bytes read determine a decoder's state. Such bytes are an open body, and neither
-/// the end nor a fault was returned for them.
+/// Proves that the bytes read determine the state of a decoder of chunked bodies. Such bytes are an
+/// open body, and neither the end nor a fault was returned for them.
 pub fn chunk_state_is_unique()
     ensures begun { (s : ChunkState) (w body : List ℕ) → ChunkRepresents s w body → IsOpen w body }
     ensures sound { (s : ChunkState) (w body : List ℕ) → ChunkRepresents s w body
@@ -86,8 +86,8 @@ pub fn framing_is_unique()
         → w ≡ v }
 {}
 
-/// Proves that written bytes are read back. Chunks are a body with the same data; a record is one
-/// under every limit that its data do not exceed.
+/// Proves that written bytes are read back: a written chunked body has the same data, and a written
+/// record is a record under every limit that its data do not exceed.
 pub fn written_is_read()
     ensures chunks { (body w : List ℕ) (most : ℕ) → most < 2 ^ 64 → IsFrames body most w
         → IsChunked w body }

@@ -18,7 +18,7 @@ fn first_end(text: &[u8]) -> Option<(usize, ChunkOut)> {
     None
 }
 
-// The room of the reader after these bytes.
+// The number of data bytes that the decoder expects next, after the given bytes.
 fn room_behind(text: &[u8]) -> u64 {
     let mut state = ChunkState::default();
     for byte in text {
@@ -27,7 +27,7 @@ fn room_behind(text: &[u8]) -> u64 {
     state.room()
 }
 
-// Bodies, and what ends each: the bytes consumed by then and the result.
+// Bodies, and for each the number of bytes up to its end or error, and the result there.
 const ENDS: [(&[u8], &str); 22] = [
     (b"0\r\n\r\n", "5 Closed"),
     (b"000\r\n\r\n", "7 Closed"),
@@ -63,7 +63,7 @@ fn bodies_end_and_break_at_their_byte(rt: HostRuntime) -> Result<(), AllocError>
     Ok(())
 }
 
-// Beginnings of bodies, and the number of data bytes that follow.
+// Prefixes of bodies, and the number of data bytes that are expected next.
 const ROOMS: [(&[u8], u64); 5] = [
     (b"14 ;x\r\n", 20),
     (b"aF\t\r\n", 175),
@@ -80,8 +80,8 @@ fn chunks_have_room_for_their_data(rt: HostRuntime) {
     }
 }
 
-// Long bodies in parts, about the limits of lines and trailers; what ends each; the data bytes that
-// follow.
+// Long bodies in parts, near the limits of lines and trailers: the result that ends the body, and
+// the number of data bytes that are expected next.
 const LONG: [(&[&[u8]], &str, u64); 9] = [
     (&[b"1;", &[b'a'; 255]], "257 Fault(ChunkLineTooLong)", 0),
     (&[b"1;", &[b'a'; 254], b"\r\n"], "no end", 1),
@@ -106,7 +106,8 @@ const LONG: [(&[&[u8]], &str, u64); 9] = [
     ),
 ];
 
-// What ends the body of these parts, as text, and the number of data bytes that follow.
+// Returns the result that ends the body of the given parts, as text, and the number of data bytes
+// that are expected next.
 fn end_and_room(alloc: Global, parts: &[&[u8]]) -> Result<(String, u64), AllocError> {
     let body = parts.concat(alloc)?;
     let room = room_behind(&body);
@@ -122,7 +123,7 @@ fn lines_and_trailers_have_a_limit(rt: HostRuntime) -> Result<(), AllocError> {
     Ok(())
 }
 
-// The result of each byte.
+// Returns the result of each byte.
 fn steps<const N: usize>(state: &mut ChunkState, bytes: &[u8; N]) -> [ChunkOut; N] {
     let mut outs = [ChunkOut::Quiet; N];
     for (at, byte) in bytes.iter().enumerate() {
@@ -208,7 +209,7 @@ fn read_pieces(
     Ok(None)
 }
 
-// Each body with its data and its end.
+// Bodies, each with its data and the result that ends it.
 const BODIES: [(&[u8], &[u8], &str); 5] = [
     (
         b"1\r\n2\r\n1\r\n0\r\n1\r\n\n\r\n0\r\n\r\n",
@@ -221,7 +222,7 @@ const BODIES: [(&[u8], &[u8], &str); 5] = [
     (b"3\r\nabcX", b"abc", "7 Fault(BadChunkEnd)"),
 ];
 
-// Returns whether the pieces have exactly these data and this end.
+// Returns whether the pieces are read with the given data and end.
 fn read_as(alloc: Global, pieces: [&[u8]; 2], data: &[u8], end: &str) -> Result<bool, AllocError> {
     let mut body = Vec::new(alloc);
     let ended = read_pieces(&mut body, pieces);

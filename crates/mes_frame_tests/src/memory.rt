@@ -30,7 +30,7 @@ fn a_memory_source_fails_after_the_given_bytes(rt: HostRuntime) {
     assert_eq!(rt; (counts.calls, counts.failures, counts.idle), (3, 2, 0));
 }
 
-// Writes all bytes by this number of calls.
+// Checks that all bytes are written in the given number of calls.
 fn expect_whole<R: Abort>(rt: &R, sink: &mut MemorySink, bytes: &[u8], calls: u64) {
     assert_eq!(rt; write_all(sink, bytes), Ok(()));
     assert_eq!(rt; as_text(sink.bytes()), as_text(bytes));
@@ -42,7 +42,7 @@ fn expect_whole<R: Abort>(rt: &R, sink: &mut MemorySink, bytes: &[u8], calls: u6
     assert_eq!(rt; sink.counts(), counts);
 }
 
-// The writer stops after these of the bytes.
+// Checks that a write stops after the bytes `written`, for the reason `why`.
 fn expect_stop<R: Abort>(
     rt: &R,
     sink: &mut MemorySink,

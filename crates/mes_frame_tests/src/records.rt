@@ -34,7 +34,7 @@ fn a_limit_is_1_byte_to_64_mib(rt: HostRuntime) {
     assert_eq!(rt; Limit::new(1).map_or(0, |limit| limit.get()), 1);
 }
 
-// A limit, bytes, and what ends a record or the stream: the bytes consumed by then and the result.
+// A limit and bytes, and for each the number of bytes up to the end or error, and the result there.
 const ENDS: [(u32, &[u8], &str); 10] = [
     (
         20,

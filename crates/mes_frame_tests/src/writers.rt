@@ -41,7 +41,7 @@ fn records_are_written(rt: HostRuntime) {
     );
 }
 
-/// Checks the result of writing a body in chunks of this size, and the bytes written.
+/// Checks the result of writing a body in chunks of the given size, and the bytes written.
 fn expect_body<R: Abort>(
     rt: &R,
     mut sink: MemorySink,
@@ -104,8 +104,8 @@ fn each_front_of_a_body_is_exact(rt: HostRuntime) {
 
 #[test]
 fn small_chunks_are_gathered(rt: HostRuntime) {
-    // 3,000 chunks of 6 bytes, then the last chunk of 5. The buffer of 8,192 bytes has room for
-    // 1,365 chunks (8,190 bytes). It is written twice, then its rest of 1,625 bytes.
+    // 3,000 chunks of 6 bytes, then the last chunk of 5 bytes. The buffer of 8,192 bytes has room
+    // for 1,365 chunks (8,190 bytes). The full buffer is written twice, then the last 1,625 bytes.
     let body = [b'x'; 3000];
     let mut sink = MemorySink::new(rt.alloc(), usize::MAX);
     assert_eq!(rt; write_chunked(&mut sink, &body, 1), Ok(()));
@@ -123,7 +123,8 @@ fn small_chunks_are_gathered(rt: HostRuntime) {
 
 #[test]
 fn large_chunks_go_out_as_they_stand(rt: HostRuntime) {
-    // A line, data, their CRLF with the next line, data, and their CRLF with the last chunk.
+    // The writes: a line; data; the data's CRLF with the next line; data; the CRLF with the last
+    // chunk.
     let body = [b'x'; 20_000];
     let mut sink = MemorySink::new(rt.alloc(), usize::MAX);
     assert_eq!(rt; write_chunked(&mut sink, &body, 10_000), Ok(()));

@@ -1,4 +1,4 @@
--- The reader after a value in objects and arrays.
+-- The steps of the reader at the byte after a value: a comma, or the end of an object or array.
 use Rattle.std.proofs.Common.{◌≡◌, ℕ, ◌+◌, inl, inr, List, [], ◌∷◌, Option, Some, None, Result, OnOk, IfErr, refl, ap, sym, ◌∙◌, subst, arith}
 use Rattle.mes_json.specs.Tree.{Tree, Members}
 use Rattle.mes_json.specs.Tree.Tree.{object, array}
@@ -128,7 +128,7 @@ pub nothing_follows : (old : Reader) (c : ℕ) → Fits old → old.at ≡ at.Th
 nothing_follows old c fits is_at inside kind =
     refused_after old c m.ByteClass.comma fits is_at kind (λ fs t are_open. no_comma fs t (top_is _ fs _ are_open inside))
 
--- the innermost open one is not an object
+-- the innermost open object or array is not an object
 abbrev pub NoObject : Option Open → Type 0
 NoObject None = Unit {0}
 NoObject (Some Object) = ⊥

@@ -1,4 +1,4 @@
--- Completeness: the machine in an array, around its items.
+-- Completeness: the state machine reads the bytes around and between the items of an array.
 use Rattle.std.proofs.Common.{◌≡◌, ℕ, zero, suc, ◌+◌, ◌<◌, inl, inr, true, false, List, [], ◌∷◌, ◌++◌, length, Some, None, option_and_then, if◌then◌else◌, refl, ap, sym, ◌∙◌, subst, arith, lt-ltb}
 use Rattle.mes_json.specs.Tree.{Tree, Items}
 use Rattle.mes_json.specs.Tree.Tree.{null, boolean, number, string, array, object}
@@ -11,7 +11,7 @@ use Rattle.mes_json.specs.Machine.ReaderState.{value, first_item, after}
 use Rattle.mes_json.proofs.Reach.{Follows, Reaches, Leads, leads, by_byte, then_to, over_spaces}
 use Rattle.mes_json.proofs.TokenReads.{number_starts}
 
--- at the first item, the byte has the effect that it has at a value in the open array
+-- at the first item of an array, the byte has the effect that it has at any value in the array
 abbrev StartsValue : ℕ → Type 0
 StartsValue c = (d : ℕ) (fs : List Frame) → on_first_item d fs (kind_of c) ≡ on_value d (array_frame no_items ∷ fs) (kind_of c)
 
@@ -39,7 +39,7 @@ over_first t d fs room b last h f = λ q g.
     ap (λ (x : List ℕ). ends d (state fs first_item) (x ++ q)) s.2 ∙ ap (option_and_then finish) same
     ∙ sym (ap (λ (x : List ℕ). ends d (state (array_frame no_items ∷ fs) value) (x ++ q)) s.2) ∙ f q g
 
--- the items ts, followed by others
+-- the items ts and then the items `others`
 abbrev pub joined_items : Items → Items → Items
 joined_items no_items others = others
 joined_items (item t ts) others = item t (joined_items ts others)

@@ -1,4 +1,5 @@
--- Soundness: the steps in an array.
+-- Soundness: after a step of the state machine in an array, the bytes so far have the form that the
+-- grammar requires in the new state (`Held`).
 use Rattle.std.proofs.Common.{◌≡◌, ℕ, suc, List, [], ◌∷◌, ◌++◌, Some, refl, ap, sym, ◌∙◌, subst, append_assoc, append-nil}
 use Rattle.mes_json.specs.Tree.{Tree, Items}
 use Rattle.mes_json.specs.Tree.Tree.{array}
@@ -69,7 +70,7 @@ on_first_item_sound d fs comma c next b is h e = none_some e
 on_first_item_sound d fs other c next b is h e = none_some e
 on_first_item_sound d fs (begins x) c next b is h e = on_value_sound d (array_frame no_items ∷ fs) (begins x) c next b is h e
 
--- an array with its items so far, and the last one
+-- the bytes b end in an open array with the items ts and then the item t
 pub record ArrayReady (d : ℕ) (fs : List Frame) (ts : Items) (t : Tree) (room : ℕ) (b : List ℕ) : Type 0 where
   pub outer : List ℕ
   pub items : List ℕ

@@ -20,7 +20,7 @@ blank_kind c (inr (inl e)) = ap kind_of e
 blank_kind c (inr (inr (inl e))) = ap kind_of e
 blank_kind c (inr (inr (inr e))) = ap kind_of e
 
--- white space leaves the machine's state unchanged in this state of the reader
+-- in the reader's state a, white space leaves the state of the state machine unchanged
 abbrev Passes : at.ReaderState → Type 0
 Passes a = (n : List Open) (b : List ℕ) (s : State) (c : ℕ) → IsAt a n s → IsBlank c → step MAX_NESTING (with_read a b s) c ≡ Some (with_read a b s)
 

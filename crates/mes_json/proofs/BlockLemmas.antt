@@ -1,4 +1,4 @@
--- Plain bytes, found in a block by one comparison.
+-- One comparison of a block of bytes finds the plain bytes (`IsPlain`) at the front of the block.
 use Rattle.std.proofs.Common.{◌≡◌, ℕ, ◌+◌, ◌%◌, ◌^◌, ◌≤◌, Bool, true, false, cond, ◌||◌, leb, ltb, eqb, List, [], ◌∷◌, length, map, replicate, take, drop, bit_or, refl, ap, sym, ◌∙◌, arith}
 use Rattle.std.proofs.lemmas.Bool.Decides.{nat_tests}
 use Rattle.std.proofs.lemmas.List.{length-map}
@@ -10,7 +10,7 @@ use Rattle.mes_json.proofs.FrontLemmas.{Marks}
 abbrev lane : Bool → ℕ
 lane b = cond b 255 0
 
--- the four tests of a byte, combined
+-- the mask bit of the byte c: set by four tests if c is not plain
 abbrev pub marked : ℕ → Bool
 marked c = top 7 (bit_or (bit_or (bit_or (lane (ltb c 32)) (lane (leb 128 c))) (lane (eqb c 34))) (lane (eqb c 92)))
 
@@ -66,7 +66,7 @@ marked_is_none c is plain =
 pub plain_marks : Marks IsPlain marked
 plain_marks = record { unmarked = λ c is. plain_tests c (sym (is_marked c) ∙ is); marked = marked_is_none }
 
--- the mask of the block of w bytes at offset `place`
+-- the mask of the block of w bytes at offset `place`, with one bit a byte
 abbrev pub mask_at : ℕ → List ℕ → ℕ → ℕ
 mask_at w bytes place = mask_l (map (top 7) (marked_lanes w (take w (drop place bytes)))) % 2 ^ 64
 

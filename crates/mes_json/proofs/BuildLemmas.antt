@@ -1,4 +1,4 @@
--- One more item, member or node of a tree in construction.
+-- The state of a tree in construction after one more item, member or node.
 use Rattle.std.proofs.Common.{◌≡◌, ℕ, ◌+◌, ◌<◌, List, [], ◌∷◌, ◌++◌, length, take, get_or, map, reverse, Option, Some, None, Result, Ok, Err, OnOk, Vec, Global, refl, ap, sym, ◌∙◌, add-one, take-suc}
 use Rattle.std.proofs.lemmas.List.{map-append, reverse-append}
 use Rattle.mes_json.specs.Tree.{Items, Members}

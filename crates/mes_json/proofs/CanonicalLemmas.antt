@@ -11,7 +11,7 @@ use Rattle.mes_json.specs.Canonical.{escaped_text, quoted_text, canonical, canon
 use Rattle.mes_json.specs.Writable.{IsWritable, AreWritable, AreWritableMembers}
 use Rattle.mes_json.proofs.EscapedLemmas.{spells}
 
--- without white space around it
+-- a text without white space around it has the form `Spaced`
 bare : {It : List ℕ → Type 0} {b : List ℕ} → It b → Spaced It b
 bare {b = b} h = record { before = []; inside = b; after = []; is = sym (append-nil b); spaces_before = tt; has = h; spaces_after = tt }
 

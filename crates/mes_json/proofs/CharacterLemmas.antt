@@ -1,4 +1,4 @@
--- Runs of the machine over characters without an escape.
+-- Runs of the state machine over characters of a string that are written without an escape.
 use Rattle.std.proofs.Common.{◌≡◌, ◌≢◌, ℕ, ◌+◌, ◌-◌, ◌<◌, ◌≤◌, Bool, true, List, [], ◌∷◌, ◌++◌, length, take, drop, get_or, Some, option_and_then, if◌then◌else◌, nat_lt, refl, ap, sym, ◌∙◌, subst, arith, append_assoc, append-nil, lt-ltb, take-suc, add-one}
 use Rattle.std.proofs.Math.Seq.{take-add}
 use Rattle.std.proofs.lemmas.Bool.Decides.{nat_tests}
@@ -14,7 +14,7 @@ use Rattle.mes_json.proofs.RunLemmas.{run_on, run_take}
 use Rattle.mes_json.proofs.StringLemmas.{between_reads, within_reads}
 use Rattle.mes_json.proofs.TakenLemmas.{rest_is}
 
--- a byte of a string that is kept as it is, and the state after it
+-- the byte c leads from one state in a string to another, and is added to the string unchanged
 record Follows (from : mid.Utf8State) (c : ℕ) (to : mid.Utf8State) : Type 0 where
   keeps : (fs : List Frame) (p : m.Purpose) (b : List ℕ) → on_quoted fs p (mid_view from) b c ≡ Some (state fs (m.ReaderState.quoted p (mid_view to) (b ++ c ∷ [])))
 
@@ -41,7 +41,7 @@ plain_stands q h = record { runs = λ fs p b. over_plain MAX_NESTING fs p b q h 
 pub space_stands : (b : List ℕ) → 0 < length b → get_or b 0 0 ≡ 0x20 → StandAlone (take 1 b)
 space_stands b inside is = subst StandAlone (sym (take-suc b 0 0 inside)) (plain_stands (get_or b 0 0 ∷ []) ((omega arith, omega arith, omega arith, omega arith), tt))
 
--- a continuation byte; the second byte of some characters has a narrower range
+-- c is a continuation byte; the second byte of some characters has a narrower range
 abbrev pub GoesOn : ℕ → Type 0
 GoesOn c = (0x80 ≤ c) × (c ≤ 0xBF)
 

@@ -1,4 +1,4 @@
--- Completeness: the machine reads every text of the grammar to its tree.
+-- Completeness: the state machine reads every text of the grammar, and returns its tree.
 use Rattle.std.proofs.Common.{◌≡◌, ℕ, zero, suc, ◌+◌, ◌<◌, inl, inr, List, [], ◌∷◌, ◌++◌, length, Some, None, if◌then◌else◌, refl, ap, sym, ◌∙◌, subst, arith, append_assoc, append-nil, lt-ltb}
 use Rattle.mes_json.specs.Tree.{Tree, Items, Members}
 use Rattle.mes_json.specs.Tree.Tree.{null, boolean, number, string, array, object}
@@ -68,7 +68,7 @@ close_last d fs so k t b e =
     (subst (λ (ms : Members). Leads d (state (frame so k ∷ fs) (after t)) (125 ∷ []) (state fs (after (object ms)))) (sym (joined_none (with_member so k t)))
     (leads d _ _ (125 ∷ []) (by_byte d _ _ 125 refl)))
 
--- values, under the limit d, with `room` levels left
+-- over the bytes of a value, with nesting limit d and `room` more levels allowed
 mutual
   over_tree : (t : Tree) (d : ℕ) (fs : List Frame) (room : ℕ) (b : List ℕ) → length fs + room ≡ d → IsValue t room b → Leads d (state fs value) b (state fs (after t))
   over_tree null d fs room b l h = leads d _ _ b (subst (λ (x : List ℕ). Reaches d (state fs value) x (state fs (after null))) (sym h) (over_null d fs))

@@ -1,4 +1,4 @@
--- The depth with one more item or member.
+-- The nesting depth of a list of items or members with one more item or member.
 use Rattle.std.proofs.Common.{◌≡◌, ℕ, ◌+◌, ◌<◌, max, List, [], ◌∷◌, ◌++◌, length, take, get_or, ap, sym, ◌∙◌, add-one, take-suc, arith}
 use Rattle.mes_json.specs.Tree.{depth, depth_of_items, depth_of_members}
 use Rattle.mes_json.specs.View.{view, items_view, members_view}

@@ -1,4 +1,4 @@
--- Runs of the reader over digits that leave a number in the same state.
+-- Runs of the reader over digits that leave a number in the same state (`KeepsOn`).
 use Rattle.std.proofs.Common.{◌≡◌, ℕ, ◌+◌, ◌-◌, ◌<◌, ◌≤◌, ◌==◌, Bool, true, false, List, [], ◌∷◌, ◌++◌, length, take, drop, get_or, take-suc, add-one, Option, Some, None, option_and_then, refl, ap, sym, ◌∙◌, subst, arith, append_assoc, append-nil, ◌⊎◌, inl, inr}
 use Rattle.std.proofs.lemmas.Bool.Decides.{nat_tests}
 use Rattle.std.specs.List.{AllByRecursion}
@@ -36,7 +36,7 @@ over_digits d fs x b (c ∷ q) keeps h =
     ap (option_and_then (λ (next : State). run d next q)) (ap (on_digits fs x b c) (leads x c keeps h.0)) ∙ over_digits d fs x (b ++ c ∷ []) q keeps h.1
     ∙ ap (λ (n : List ℕ). Some (state fs (m.ReaderState.token (digits x n)))) (append_assoc b (c ∷ []) q)
 
--- the run of the reader, over the bytes from an offset on
+-- the reader's run over the n digits of b from the offset `from` on
 pub digits_taken : (old new : Reader) (x : NumberState) (b : List ℕ) (from n : ℕ) → Fits old → old.at ≡ at.TheVariants.Digits x → KeepsOn x → from ≤ length b
     → n ≤ length (take (length b - from) (drop from b)) → AllByRecursion IsDigit (take n (take (length b - from) (drop from b)))
     → Keeps old (take n (take (length b - from) (drop from b))) (at.TheVariants.Digits x) new → RunsTo old b from (from + n) new
@@ -58,7 +58,7 @@ digit_front_taken old new x b from run n fits is_at continues_number within few 
 digit_front_taken old new x b from run n fits is_at continues_number within few all (inr none) keeps =
     none_kept old new (at.TheVariants.Digits x) b (take (length b - from) (drop from b)) from n none fits is_at within keeps
 
--- the state of a number after one more byte
+-- the state of a number after the bytes q and one more byte c
 over_more : (x : NumberState) (q : List ℕ) (c : ℕ) → part_after x (q ++ c ∷ []) ≡ option_and_then (λ y. number_next y (letter_of c)) (part_after x q)
 over_more x [] c = by (number_next x (letter_of c))
   where

@@ -1,4 +1,4 @@
--- Escapes: the step of the machine over a byte, in terms of the grammar.
+-- Escapes: each step of the state machine over a byte, in terms of the grammar of RFC 8259.
 use Rattle.std.proofs.Common.{◌≡◌, ℕ, ◌+◌, ◌*◌, ◌<◌, ◌≤◌, ◌⊎◌, inl, inr, Bool, true, false, if◌then◌else◌, ◌==◌, nat_le, List, [], ◌∷◌, ◌++◌, refl, ap, ◌∙◌, subst, arith, append_assoc, eqb-true}
 use Rattle.std.proofs.lemmas.Bool.{leb-true}
 use Rattle.std.specs.Char.{IsScalar}
@@ -12,7 +12,7 @@ use Rattle.mes_json.proofs.HeldEscape.{InEscape, Digits1, Digits2, Digits3, IsHi
 use Rattle.mes_json.proofs.HexLemmas.{by_range, by_digit, hex_below, hex4_below, scalar_from}
 pub use Rattle.mes_json.proofs.EscapeReads.{over_char, escape_closes}
 
--- the form of the bytes of an escape, after a move
+-- the form of the bytes of an escape whose last byte had the effect `Move`
 abbrev pub MoveIs : Move → List ℕ → Type 0
 MoveIs (on e) part = InEscape e part
 MoveIs (makes c) part = IsChar part c
@@ -75,7 +75,7 @@ digit_four front part c v x h k =
       };
     }
 
--- ---- soundness
+-- ---- soundness: each byte of an escape leads to bytes of the form `MoveIs`
 by_equal : {A : Type 0} (P : A → Type 0) (c e : ℕ) (x y : A) → (c ≡ e → P x) → P y → P (if c == e then x else y)
 by_equal P c e x y f k = by (c == e) (λ h. f (eqb-true c e h))
   where
@@ -177,7 +177,7 @@ char_scalar b c (short letter h e) = by letter c h
 char_scalar b c (escaped digits h is e) = is
 char_scalar b c (pair first second upper lower h k l m l' m' is e) = scalar_from c (inr (omega arith, omega arith))
 
--- the bounds of the values in a state
+-- upper bounds of the values of two and of three hexadecimal digits
 digits_two : (front part : List ℕ) (v : ℕ) → Digits2 front part v → v < 256
 digits_two front part v h = omega (arith, h.value, hex_below h.c0 h.v0 h.d0, hex_below h.c1 h.v1 h.d1)
 

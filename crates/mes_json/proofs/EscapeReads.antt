@@ -1,4 +1,4 @@
--- Runs of the machine over an escape.
+-- Completeness: runs of the state machine over an escape.
 use Rattle.std.proofs.Common.{◌≡◌, ℕ, ◌+◌, ◌*◌, ◌<◌, ◌≤◌, ◌⊎◌, inl, inr, if◌then◌else◌, ◌==◌, nat_le, List, [], ◌∷◌, ◌++◌, refl, ap, sym, ◌∙◌, subst, arith, encode_utf8}
 use Rattle.std.proofs.lemmas.Bool.Decides.{nat_tests}
 use Rattle.std.proofs.Math.Utf8.{scalar_cases}
@@ -120,7 +120,7 @@ module _ (d : ℕ) (fs : List Frame) (p : Purpose) (w : List ℕ) where
   over_backslash : (q : List ℕ) (last : State) → Reaches d (within_escape backslash) q last → Reaches d (state fs (quoted p between w)) (92 ∷ q) last
   over_backslash q last f = then_to d _ _ _ (92 ∷ []) q (by_byte d _ _ 92 refl) f
 
-  -- from between characters, over a character with or without an escape
+  -- a character, with or without an escape, leads from between characters to between characters
   pub over_char : (b : List ℕ) (c : ℕ) → IsChar b c → Reaches d (state fs (quoted p between w)) b (following c)
   over_char b c (unescaped is l q n e) = over_unescaped d fs p w b c is l q n e
   over_char b c (short letter h e) =
@@ -150,7 +150,8 @@ module _ (d : ℕ) (fs : List Frame) (p : Purpose) (w : List ℕ) where
       by (makes v) h k = (c ∷ [], v, over_makes e c v h)
       by refused h k = absurd k
 
-  -- 0 for each digit, but D and C for the first two of a low surrogate
+  -- the digits that complete an escape: 0 for each, but D and C for the first two of a low
+  -- surrogate
   closes_low3 : (v x : ℕ) → Closes (low3 v x)
   closes_low3 v x = by_move (low3 v x) 48 tt
 

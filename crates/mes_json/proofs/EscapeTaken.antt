@@ -1,4 +1,4 @@
--- Runs of the reader over the bytes of an escape.
+-- Runs of the reader over the bytes of an escape, read one by one.
 use Rattle.std.proofs.Common.{◌≡◌, ℕ, ◌+◌, ◌<◌, List, [], ◌∷◌, length, get_or, Some, Ok, refl, ap, sym, ◌∙◌, subst, append-nil, encode_utf8}
 use Rattle.mes_json.specs.Escape as e
 use Rattle.mes_json.specs.Escape.{escape_step}

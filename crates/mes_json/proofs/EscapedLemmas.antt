@@ -1,4 +1,4 @@
--- The escaped text of a string represents the string: `spells`.
+-- The escaped text of a string represents that string: `spells`.
 use Rattle.std.proofs.Common.{◌≡◌, ◌≢◌, ℕ, ◌+◌, ◌/◌, ◌%◌, ◌<◌, ◌≤◌, ◌⊎◌, inl, inr, Bool, true, false, ◌&&◌, List, [], ◌∷◌, ◌++◌, refl, ap, sym, ◌∙◌, subst, arith, encode_utf8, append_assoc}
 use Rattle.std.proofs.lemmas.List.{append-nil}
 use Rattle.std.proofs.lemmas.Bool.Decides.{nat_tests}
@@ -23,7 +23,7 @@ stays c l q b = grind (arith, nat_tests)
 hex : (v : ℕ) → v < 16 → IsHex (hex_digit v) v
 hex v h = grind (arith, nat_tests)
 
--- a control character with no short form
+-- a control character without a short escape is written as \u00 and two digits
 control : (c : ℕ) → c < 32 → c ≢ 8 → c ≢ 12 → c ≢ 10 → c ≢ 13 → c ≢ 9 → escaped c ≡ 92 ∷ 117 ∷ 48 ∷ 48 ∷ hex_digit (c / 16) ∷ hex_digit (c % 16) ∷ []
 control c h n1 n2 n3 n4 n5 = grind (arith, nat_tests)
 
@@ -104,6 +104,6 @@ all_escaped (c ∷ cs) are =
     some (escaped_text (encode_utf8 c)) (escaped_text (encode_utf8_all cs)) c (encode_utf8_all cs) (char_escaped c h.0) (all_escaped cs h.1)
     (escaped-append (encode_utf8 c) (encode_utf8_all cs)) refl
 
--- the escaped text of a string represents the string
+-- the escaped text of the string s represents s
 pub spells : (s : List ℕ) → IsUtf8 s → IsChars (escaped_text s) s
 spells s is = subst (λ (b : List ℕ). IsChars (escaped_text b) b) is.1.1 (all_escaped is.0 is.1.0)

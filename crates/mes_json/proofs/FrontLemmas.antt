@@ -1,4 +1,4 @@
--- The bytes of a block before the first one that a mask marks.
+-- The bytes at the front of a block, before the first byte whose bit is set in a mask of the block.
 use Rattle.std.proofs.Common.{◌≡◌, ℕ, ◌+◌, ◌*◌, ◌<◌, ◌≤◌, Bool, true, false, cond, not, suc, List, [], ◌∷◌, length, map, take, drop, get_or, refl, ap, subst, sym, ◌∙◌, arith, ◌++◌}
 use Rattle.std.proofs.lemmas.Bool.{not-false}
 use Rattle.std.proofs.lemmas.List.{take-take}
@@ -9,7 +9,7 @@ use Rattle.std.specs.Int.Count.{count_trailing_zeros}
 use Rattle.std.specs.Simd.Lanes.{mask_l}
 use Rattle.std.specs.List.{AllByRecursion, prefix_len}
 
--- a byte is marked exactly if P does not hold
+-- the mask bit of a byte is set if and only if P does not hold for the byte
 pub record Marks (P : ℕ → Type 0) (mark : ℕ → Bool) : Type 0 where
   pub unmarked : (c : ℕ) → mark c ≡ false → P c
   pub marked : (c : ℕ) → mark c ≡ true → P c → ⊥
@@ -24,7 +24,7 @@ none_marked P mark marks (c ∷ xs) none =
     let parts = first_unmarked (mark c) (mask_l (map mark xs)) none in
     (marks.unmarked c parts.0, none_marked P mark marks xs parts.1)
 
--- the number of bytes before the first marked one
+-- the number of bytes before the first one whose mask bit is set
 abbrev pub front : (ℕ → Bool) → List ℕ → ℕ
 front mark xs = prefix_len (λ c. not (mark c)) xs
 
@@ -66,7 +66,7 @@ front_placed P mark marks bytes place w n room is =
           front_stops P mark marks block first (subst P same holds);
     }
 
--- with a mask of 0, P holds for the whole block at offset `place`
+-- if no bit of the mask is set, P holds for every byte of the block at offset `place`
 pub front_whole : (P : ℕ → Type 0) (mark : ℕ → Bool) → Marks P mark → (bytes : List ℕ) (place w mask : ℕ) → mask ≡ mask_l (map mark (take w (drop place bytes))) → mask ≡ 0
     → AllByRecursion P (take w (drop place bytes))
 front_whole P mark marks bytes place w mask is none = none_marked P mark marks (take w (drop place bytes)) (sym is ∙ none)

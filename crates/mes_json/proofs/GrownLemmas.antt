@@ -1,4 +1,4 @@
--- The first n + 1 elements of a list are the first n and one more.
+-- The first n + 1 elements of a list are the first n elements and then the element at index n.
 use Rattle.std.proofs.Common.{◌≡◌, ℕ, ◌+◌, ◌<◌, List, [], ◌∷◌, ◌++◌, length, take, get_or, ap, sym, ◌∙◌, add-one, take-suc}
 use Rattle.mes_json.specs.declared.value.Json.{Json}
 

@@ -1,4 +1,4 @@
--- The form, by the grammar, of the bytes that lead to each state of the machine.
+-- `Held`: the form, by the grammar, of the bytes that lead to each state of the state machine.
 use Rattle.std.proofs.Common.{◌≡◌, ℕ, zero, suc, ◌≤◌, List, [], ◌∷◌, ◌++◌, encode_utf8}
 use Rattle.mes_fixed.specs.Automaton.{Ends}
 use Rattle.mes_fixed.specs.declared.automaton.NumberState.TheVariants.{AtStart}
@@ -16,13 +16,13 @@ use Rattle.mes_json.specs.Machine.Utf8State.{between, within, escape}
 use Rattle.mes_json.proofs.HeldEscape.{InEscape}
 
 -- ---- strings
--- n bytes, the first from least to most, the others from 80 to BF
+-- the list has n bytes, the first from `least` to `most`, the others from 80 to BF
 abbrev pub Fits : ℕ → ℕ → ℕ → List ℕ → Type 0
 Fits zero least most q = q ≡ []
 Fits (suc n) least most [] = ⊥
 Fits (suc n) least most (c ∷ q) = (least ≤ c) × (c ≤ most) × Fits n 0x80 0xBF q
 
--- a part of a character: with any such bytes it is a whole one
+-- the first bytes of a character: with any n bytes that `Fits` allows, they are a whole character
 pub record IsPart (n least most : ℕ) (part : List ℕ) : Type 0 where
   pub some : least ≤ most
   pub whole : (q : List ℕ) → Fits n least most q → (c : ℕ) × IsChar (part ++ q) c × (encode_utf8 c ≡ part ++ q)
@@ -33,7 +33,7 @@ PartOf (within zero least most) part = ⊥
 PartOf (within (suc n) least most) part = IsPart (suc n) least most part
 PartOf (escape e) part = InEscape e part
 
--- the bytes of the part that are already in the text
+-- the bytes of an unfinished character that are in the decoded string already
 abbrev pub kept : Utf8State → List ℕ → List ℕ
 kept between part = part
 kept (within n least most) part = part
@@ -55,7 +55,7 @@ pub record InQuotes (Outside : List ℕ → Type 0) (m : Utf8State) (s : List �
   pub outside : Outside front
   pub in_string : InString m s inside
 
--- ---- objects, by the form of the bytes outside and the nesting that is left there
+-- ---- objects, by the form of the bytes outside of the object and the nesting that is left there
 abbrev pub Before : Members → ℕ → List ℕ → Type 0
 Before no_members room b = b ≡ []
 Before (member k t ms) room b = (front : List ℕ) × (b ≡ front ++ 44 ∷ []) × AreMembers (member k t ms) room front
@@ -99,7 +99,7 @@ pub record InArray (Outside : ℕ → List ℕ → Type 0) (ts : Items) (room : 
   pub before : BeforeItem ts room led
   pub are_spaces : IsSpaces spaces
 
--- the bytes before a value in these open objects and arrays; `room` levels of nesting are left
+-- the bytes before a value in open objects and arrays; `room` more levels of nesting are allowed
 abbrev pub HeldStack : ℕ → List Frame → ℕ → List ℕ → Type 0
 HeldStack d [] room b = (room ≡ d) × IsSpaces b
 HeldStack d (frame ms k ∷ fs) room b = Called (HeldStack d fs) ms k room b
@@ -115,7 +115,7 @@ pub record Valued (Outside : List ℕ → Type 0) (t : Tree) (room : ℕ) (b : L
   pub are_spaces : IsSpaces spaces
 
 -- ---- literals and numbers
--- the bytes so far of a literal or number, by the bytes that complete it
+-- the bytes so far of a literal or number, described by the bytes that complete it
 abbrev pub HeldToken : Token → List ℕ → Type 0
 HeldToken (literal e rest t) b = (room : ℕ) → IsValue t room (b ++ e ∷ rest)
 HeldToken (digits part n) b = (b ≡ n) × ((q : List ℕ) → Ends part q → Ends AtStart (n ++ q))

@@ -1,10 +1,10 @@
--- The form, by the grammar, of the bytes so far of an escape.
+-- The form, by the grammar, of the bytes of an unfinished escape.
 use Rattle.std.proofs.Common.{◌≡◌, ℕ, ◌+◌, ◌*◌, ◌<◌, ◌≤◌, ◌⊎◌, List, [], ◌∷◌, ◌++◌}
 use Rattle.mes_json.specs.Grammar.{IsHex, IsHex4}
 use Rattle.mes_json.specs.Escape.{Escape}
 use Rattle.mes_json.specs.Escape.Escape.{backslash, unit0, unit1, unit2, unit3, high, high_backslash, low0, low1, low2, low3}
 
--- one hexadecimal digit after a prefix, with its value
+-- `part` is `front` and then one hexadecimal digit with the value v
 pub record Digits1 (front part : List ℕ) (v : ℕ) : Type 0 where
   pub c0 : ℕ
   pub is : part ≡ front ++ c0 ∷ []

@@ -1,4 +1,4 @@
--- The bounds on the bytes and nodes of a state, by the bytes that lead to it.
+-- Upper bounds of the text bytes and nodes of a state, by the bytes that lead to the state.
 use Rattle.std.proofs.Common.{◌≡◌, ℕ, ◌+◌, ◌≤◌, Bool, List, [], ◌∷◌, length, Some, if◌then◌else◌, ◌==◌, refl, ap, sym, subst, arith, length-append, eqb-true}
 use Rattle.std.proofs.lemmas.Bool.{cond_both}
 use Rattle.mes_json.specs.Inner.{Stand, following, counts, inner_from, inner}

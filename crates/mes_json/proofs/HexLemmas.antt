@@ -1,4 +1,4 @@
--- Hexadecimal digits, and the tests of their values.
+-- Hexadecimal digits, and the tests for the ranges of their values.
 use Rattle.std.proofs.Common.{◌≡◌, ℕ, ◌-◌, ◌<◌, ◌≤◌, ◌⊎◌, inl, inr, Bool, true, false, ◌&&◌, Some, if◌then◌else◌, nat_le, List, refl, arith}
 use Rattle.std.proofs.lemmas.Bool.{cases_lt}
 use Rattle.std.proofs.lemmas.Bool.Decides.{nat_tests}
@@ -22,7 +22,7 @@ out_of_range l c m e = by (cases_lt c l) (cases_lt m c)
     by (inr h) (inl k) = inr k
     by (inr h) (inr k) = absurd (grind (arith, nat_tests))
 
--- a fact that holds for both branches under their conditions holds for the whole
+-- P holds for a choice by the range of c, if P holds for each branch under the branch's condition
 pub by_range : {A : Type 0} (P : A → Type 0) (l c m : ℕ) (x y : A) → ((l ≤ c) × (c ≤ m) → P x) → ((c < l) ⊎ (m < c) → P y) → P (if nat_le l c && nat_le c m then x else y)
 by_range {A} P l c m x y f g = by (nat_le l c && nat_le c m) (λ e. f (in_range l c m e)) (λ e. g (out_of_range l c m e))
   where

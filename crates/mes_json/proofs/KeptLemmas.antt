@@ -1,4 +1,4 @@
--- Bytes that need no escape, found in a block by one comparison.
+-- One comparison of a block of bytes finds those at the front that need no escape (`IsKept`).
 use Rattle.std.proofs.Common.{◌≡◌, ℕ, ◌+◌, ◌%◌, ◌^◌, ◌≤◌, Bool, true, false, cond, ◌||◌, ltb, eqb, List, [], ◌∷◌, length, map, replicate, take, drop, bit_or, refl, ap, sym, ◌∙◌, arith}
 use Rattle.std.proofs.lemmas.Bool.Decides.{nat_tests}
 use Rattle.std.proofs.lemmas.List.{length-map}
@@ -10,7 +10,7 @@ use Rattle.mes_json.proofs.FrontLemmas.{Marks}
 abbrev lane : Bool → ℕ
 lane b = cond b 255 0
 
--- the three tests of a byte, combined
+-- the mask bit of the byte c: set by three tests if c needs an escape
 abbrev pub marked : ℕ → Bool
 marked c = top 7 (bit_or (bit_or (lane (ltb c 32)) (lane (eqb c 34))) (lane (eqb c 92)))
 
@@ -56,7 +56,7 @@ marked_is_none c is kept =
 pub kept_marks : Marks IsKept marked
 kept_marks = record { unmarked = λ c is. kept_tests c (sym (is_marked c) ∙ is); marked = marked_is_none }
 
--- the mask of the block at offset `place`
+-- the mask of the block at offset `place`, with one bit a byte
 abbrev pub mask_at : List ℕ → ℕ → ℕ
 mask_at bytes place = mask_l (map (top 7) (marked_lanes 16 (take 16 (drop place bytes)))) % 2 ^ 64
 

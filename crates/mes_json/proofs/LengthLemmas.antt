@@ -1,4 +1,4 @@
--- Lengths of canonical texts: of the first n + 1 elements, and of a prefix beside the whole.
+-- Lengths of canonical texts: of n + 1 items or members by that of n, and of n by that of all.
 use Rattle.std.proofs.Common.{◌≡◌, ℕ, zero, suc, ◌+◌, ◌-◌, ◌<◌, ◌≤◌, List, [], ◌∷◌, ◌++◌, Vec, Global, length, take, drop, get_or, ap, sym, ◌∙◌, add-one, take-suc, subst, arith}
 use native.Mathlib.Numerals.{unary_clauses}
 use Rattle.std.proofs.Math.Seq.{take-length}

@@ -1,4 +1,4 @@
--- The lengths of the arrays and objects on a tape.
+-- The stored lengths of arrays and objects on a tape are correct.
 use Rattle.std.proofs.Common.{◌≡◌, ◌≢◌, ℕ, zero, suc, ◌+◌, ◌-◌, List, [], ◌∷◌, ◌++◌, length, drop, map, set, get_or, Option, Some, None, refl, ap, sym, ◌∙◌, subst, arith, append_assoc, length-append}
 use Rattle.std.proofs.lemmas.List.{map-append}
 use Rattle.std.proofs.Math.Seq.{map-set_same, get_or-append_seam, set-append_seam}
@@ -43,7 +43,7 @@ tells_end xs = tells_none End xs refl (λ texts. refl)
 tells_nothing : (x : Node) (xs : List Node) → reported x ≡ None → TellsTruth x xs
 tells_nothing x xs none m is = none_some (sym none ∙ is)
 
--- lists of nodes in which nothing stays open
+-- lists of nodes after which no array or object begun in the list is open
 whole_none : IsWhole []
 whole_none = record { reports = λ ys h. h; passes = λ texts n ts. refl }
 
@@ -68,7 +68,7 @@ leaf_passed End h texts n ts = absurd h
 whole_leaf : (x : Node) → IsLeaf x → IsWhole (x ∷ [])
 whole_leaf x h = record { reports = λ ys more. (tells_leaf x ys h, more); passes = leaf_passed x h }
 
--- the tokens of the contents of an array or object, and of its end
+-- the tokens of the contents of an array or object and of its end, and then the tokens ts
 abbrev closed_tokens : List ℕ → List Node → List Token → List Token
 closed_tokens texts inner ts = tokens_held texts inner ++ Token.ends ∷ ts
 
@@ -79,7 +79,7 @@ closed_is texts inner ts =
 closed_over : (texts : List ℕ) (inner : List Node) (n : ℕ) (ts : List Token) → IsWhole inner → following (suc (suc n)) (closed_tokens texts inner ts) ≡ following (suc n) ts
 closed_over texts inner n ts whole = whole.passes texts (suc n) (Token.ends ∷ ts)
 
--- the stored length of an array or object is correct
+-- n is 0 (unknown), or the correct length of an array or object with the contents `inner`
 abbrev IsClosedBy : ℕ → List Node → Type 0
 IsClosedBy n inner = n ≢ 0 → n ≡ length inner + 1
 

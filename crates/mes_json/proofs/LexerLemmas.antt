@@ -1,4 +1,4 @@
--- The bytes that a lexer represents, after more bytes and at their end.
+-- The bytes that a lexer represents, after more bytes are pushed and when the text is ended.
 use Rattle.std.proofs.Common.{◌≡◌, ℕ, ◌+◌, ◌-◌, ◌^◌, ◌≤◌, min, List, [], ◌∷◌, ◌++◌, length, take, Option, Some, None, option_map, refl, ap, sym, ◌∙◌, subst, arith, length-append, append-nil}
 use Rattle.std.proofs.lemmas.List.{take-append-le, get_or-append-add, get_or_append_left}
 use Rattle.std.proofs.Math.Seq.{take-append-add}
@@ -118,14 +118,14 @@ pub is_bounded : (l : Lexer) (p : List ℕ) → HasLexed l p → IsBounded l p
 unfolding HasLexed held nodes_held
 is_bounded l p h = record { texts = text_kept l.0 l.1 p h; nodes = nodes_kept l.0 l.1 p h }
 
--- some text begins with the bytes that a reader has read
+-- some JSON text begins with the bytes that a reader has read
 pub reading_begins : (n : ℕ) (r : Reader) (p : List ℕ) → IsReading n r p → Begins MAX_NESTING p
 reading_begins n r p h = begins_from_run MAX_NESTING (state_view r) p h.reached
 
 pub front_begins : (n : ℕ) (r : Reader) (p b : List ℕ) (s : State) → IsReading n r p → run MAX_NESTING (state_view r) b ≡ Some s → Begins MAX_NESTING (p ++ b)
 front_begins n r p b s h runs = begins_from_run MAX_NESTING s (p ++ b) (run_on MAX_NESTING start (state_view r) p b h.reached ∙ runs)
 
--- some text begins with a text: itself
+-- a JSON text begins some JSON text: itself
 pub text_begins : (p : List ℕ) (t : Tree) → IsText MAX_NESTING p t → Begins MAX_NESTING p
 text_begins p t h = ([], t, subst (λ (b : List ℕ). IsText MAX_NESTING b t) (sym (append-nil p)) h)
 

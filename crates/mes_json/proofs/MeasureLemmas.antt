@@ -1,5 +1,5 @@
--- A measure of a state of the machine: an amount for each text, and one for each mark. A literal is
--- a mark; an array or an object has two, its first and its last byte.
+-- A measure of a state of the state machine: an amount for each string, name and number, and one
+-- for each mark. A literal is one mark. An array or object has two, for its first and last byte.
 use Rattle.std.proofs.Common.{◌≡◌, ℕ, ◌+◌, List, [], ◌∷◌, arith}
 use Rattle.mes_json.specs.Tree.{Tree, Items, Members}
 use Rattle.mes_json.specs.Tree.Tree.{null, boolean, number, string, array, object}
@@ -41,7 +41,7 @@ of_frames m [] = 0
 of_frames m (frame ms k ∷ fs) = m.mark + of_members m ms + m.text k + of_frames m fs
 of_frames m (array_frame ts ∷ fs) = m.mark + of_items m ts + of_frames m fs
 
--- the number of bytes of an escape that are read but not kept
+-- the number of bytes read of an unfinished escape, which are not in the decoded string
 abbrev pub of_escape : Escape → ℕ
 of_escape backslash = 1
 of_escape unit0 = 2

@@ -1,4 +1,4 @@
--- Steps of the reader over expected tokens.
+-- Steps of the reader's fast path over expected tokens.
 use Rattle.std.proofs.Common.{◌≡◌, ℕ, ◌+◌, ◌<◌, ◌⊎◌, inl, inr, List, [], ◌∷◌, ◌++◌, length, get_or, Some, Ok, refl, ap, ◌∙◌, arith}
 use Rattle.mes_json.specs.Machine.{step}
 use Rattle.mes_json.specs.Reader.{state_view, innermost, outer, Fits, Begins, Puts, Stays, RunsTo}
@@ -34,7 +34,7 @@ pub any_name_begins : (old new : Reader) → Fits old → (old.at ≡ at.TheVari
 any_name_begins old new fits (inl is_at) begins = name_begins old new fits is_at begins
 any_name_begins old new fits (inr is_at) begins = next_name_begins old new fits is_at begins
 
--- the contract of a step over a token
+-- the step from `old` to `new` is that of the state machine at the byte c, and `new` is consistent
 pub record Leads (old : Reader) (c : ℕ) (new : Reader) : Type 0 where
   pub gives : step MAX_NESTING (state_view old) c ≡ Some (state_view new)
   pub fits : Fits new

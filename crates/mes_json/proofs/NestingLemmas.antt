@@ -1,4 +1,4 @@
--- The reader at the first byte of objects and arrays, and at the last byte of empty ones.
+-- Steps of the reader at the first byte of objects and arrays, and at the last byte of empty ones.
 use Rattle.std.proofs.Common.{◌≡◌, ℕ, ◌+◌, ◌-◌, ◌<◌, ◌≤◌, inl, inr, Bool, List, [], ◌∷◌, ◌++◌, length, take, Option, Some, None, Result, Ok, Err, OnOk, IfErr, nat_lt, if◌then◌else◌, refl, ap, sym, ◌∙◌, subst, arith, lt-ltb, length-append}
 use Rattle.std.proofs.lemmas.Bool.Decides.{nat_tests}
 use Rattle.std.proofs.lemmas.Grind.{common_steps}
@@ -112,7 +112,7 @@ has_span : (o : Open) (old : Reader) → HasSpan old.text.items (first_node o)
 has_span Object old = tt
 has_span Array old = tt
 
--- at the limit, the byte would be read with one more level
+-- at the nesting limit, the byte that opens o is refused; under a limit one higher it is read
 too_deep : (o : Open) (old : Reader) (c : ℕ) → Fits old → old.at ≡ at.TheVariants.Value → length old.nesting.items ≡ MAX_NESTING → kind_of c ≡ opening_kind o
     → Refuses MAX_NESTING Depth (state_view old) c
 too_deep o old c fits is_at full kind =

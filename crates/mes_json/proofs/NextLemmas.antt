@@ -1,4 +1,4 @@
--- The next item or member of a cursor.
+-- The next item or member that a cursor returns.
 use Rattle.std.proofs.Common.{◌≡◌, ℕ, ◌+◌, ◌<◌, ◌≤◌, min, true, false, List, [], ◌∷◌, ◌++◌, length, drop, Some, None, refl, ap, sym, subst, ◌∙◌, arith, append_assoc}
 use Rattle.mes_json.specs.Tree.{Tree, Items, Members}
 use Rattle.mes_json.specs.Tree.Tree.{null, boolean, number, string, array, object}
@@ -45,7 +45,7 @@ pub shorter_member : (xs value new : List Token) (k : List ℕ) → as_name xs �
 shorter_member [] value new k named here passed = cc
 shorter_member (x ∷ xs) value new k named here passed = let within = behind_within 0 xs in omega (arith, within, ap length (passed ∙ ap (following 0) here))
 
--- n items were skipped, and these are the others
+-- `rest` is the tokens xs of an array's items without the first n items
 abbrev pub Counted : List Token → List Token → ℕ → Type 0
 Counted xs rest n = (ts : Items) → BeginsItems xs ts → (us : Items) × BeginsItems rest us × (count_of ts ≡ n + count_of us)
 

@@ -1,4 +1,4 @@
--- A number that ends with the byte after it.
+-- The reader ends a number at the byte after the number.
 use Rattle.std.proofs.Common.{◌≡◌, ℕ, true, length, Option, Some, None, Ok, refl, ap, sym, ◌∙◌, subst}
 use Rattle.mes_fixed.specs.Automaton.{letter_of, number_next, is_final}
 use Rattle.mes_fixed.specs.declared.automaton.NumberState.{NumberState}
@@ -31,7 +31,7 @@ number_node old = Number old.start (length old.text.items)
 pub node_is : (old : Reader) (from to : ℕ) → from ≡ old.start → to ≡ length old.text.items → Number from to ≡ number_node old
 node_is old from to begins ends = ap (λ (n : ℕ). Number n to) begins ∙ ap (λ (n : ℕ). Number old.start n) ends
 
--- the byte has the same effect as after the value
+-- the byte after a number has the same effect as after the value of the number
 following_value : (old mid new : Reader) (x : NumberState) (c : ℕ) → MayEnd old x c → Puts old old.nesting.items (number_node old) at.TheVariants.After mid
     → (Fits mid → Leads mid c new) → Leads old c new
 following_value old mid new x c h puts leads =

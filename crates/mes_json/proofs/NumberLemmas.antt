@@ -1,4 +1,4 @@
--- A text that is merely known to be a number is a number: `number_had`.
+-- A list of bytes that is proved to be some number has the parts of a number: `number_had`.
 use Rattle.std.proofs.Common.{◌≡◌, ℕ, Bool, true, false, List, [], ◌∷◌, Option, Some, None, refl, sym, ◌∙◌, subst}
 use Rattle.std.proofs.Math.Logic.{∥∥₁_elim}
 use Rattle.mes_fixed.specs.declared.automaton.NumberState.{NumberState}

@@ -49,7 +49,7 @@ from_value d fs y (c ∷ q) some leads = by (number_next AtStart (letter_of c)) 
 some_taken : (n : ℕ) (xs : List ℕ) → 0 < n → n ≤ length xs → 0 < length (take n xs)
 some_taken n xs some few = simp length-take (omega arith)
 
--- the run of the reader, over the bytes from an offset on
+-- the reader's run over the n bytes of a number in b from the offset `from` on
 pub number_taken : (old new : Reader) (y : NumberState) (b : List ℕ) (from n : ℕ) → Fits old → old.at ≡ at.TheVariants.Value → from ≤ length b
     → n ≤ length (take (length b - from) (drop from b)) → 0 < n → part_after AtStart (take n (take (length b - from) (drop from b))) ≡ Some y
     → Begins old (take n (take (length b - from) (drop from b))) (at.TheVariants.Digits y) new → RunsTo old b from (from + n) new

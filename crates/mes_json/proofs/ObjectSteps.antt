@@ -1,4 +1,5 @@
--- Soundness: the steps in an object.
+-- Soundness: after a step of the state machine in an object, the bytes so far have the form that
+-- the grammar requires in the new state (`Held`).
 use Rattle.std.proofs.Common.{◌≡◌, ℕ, suc, List, [], ◌∷◌, ◌++◌, Some, refl, ap, sym, ◌∙◌, subst, append_assoc, append-nil}
 use Rattle.mes_json.specs.Tree.{Tree, Members}
 use Rattle.mes_json.specs.Tree.Tree.{object}
@@ -93,7 +94,7 @@ on_named_sound d fs ms k comma c next b is h e = none_some e
 on_named_sound d fs ms k other c next b is h e = none_some e
 on_named_sound d fs ms k (begins x) c next b is h e = none_some e
 
--- an object with its members so far, and the last one
+-- the bytes b end in an open object with the members ms and then a member with name k and value t
 pub record Ready (d : ℕ) (fs : List Frame) (ms : Members) (k : List ℕ) (t : Tree) (room : ℕ) (b : List ℕ) : Type 0 where
   pub outer : List ℕ
   pub members : List ℕ

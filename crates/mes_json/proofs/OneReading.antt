@@ -1,4 +1,4 @@
--- Every list of bytes is a text or has a fault.
+-- Every list of bytes is a JSON text of exactly one tree, or has exactly one fault.
 use Rattle.std.proofs.Common.{◌≡◌, ℕ, ◌+◌, ◌<◌, ◌⊎◌, inl, inr, List, [], ◌∷◌, ◌++◌, length, take, Option, Some, None, refl, ap, sym, ◌∙◌, subst, arith, append_assoc, append-nil, length-append}
 use Rattle.std.proofs.Math.Seq.{take-append_seam, get_or-append_seam}
 use Rattle.mes_json.specs.Tree.{Tree}

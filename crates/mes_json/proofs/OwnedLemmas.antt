@@ -1,4 +1,4 @@
--- The bytes and nodes that a reader buffers, by those of its state.
+-- The bytes and nodes that a reader buffers are those of the state that the reader represents.
 use Rattle.std.proofs.Common.{◌≡◌, ℕ, ◌+◌, ◌-◌, ◌≤◌, List, [], ◌∷◌, length, drop, Some, refl, ap, arith, length-drop}
 use Rattle.std.proofs.lemmas.Grind.{common_steps}
 use Rattle.std.specs.List.{AllByRecursion}
@@ -85,7 +85,7 @@ state_holds m r fits =
       view_holds m r.at r.nesting.items (drop r.start r.text.items) (spelled r.text.items r.nodes.items) fits.at,
     )
 
--- the buffer is covered by the spans and the text that is being read
+-- every byte of the buffer is in a node's span or in the string or number that is being read
 all_read : (a : at.ReaderState) (k : ℕ) (b : List ℕ) → k ≤ length b → length b ≤ read_from a k (length b) + of_read bytes a (drop k b)
 all_read at.TheVariants.Value k b h = omega arith
 all_read at.TheVariants.FirstItem k b h = omega arith

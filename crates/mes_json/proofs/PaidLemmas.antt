@@ -1,4 +1,4 @@
--- The bound on the bytes and nodes that each byte adds to a state: the facts that steps share.
+-- Each byte adds at most its cost to the bytes and nodes of a state: lemmas for all steps.
 use Rattle.std.proofs.Common.{◌≡◌, ◌≢◌, ℕ, ◌+◌, ◌≤◌, inl, inr, true, false, ◌||◌, List, [], ◌∷◌, ◌++◌, length, Option, Some, None, ◌==◌, refl, ap, sym, ◌∙◌, arith, eqb-true}
 use Rattle.std.specs.List.{AllByRecursion}
 use Rattle.std.proofs.lemmas.Bool.{cond_both, eqb-false}
@@ -51,12 +51,13 @@ stand_at (after t) = outside
 abbrev pub stand_of : State → Stand
 stand_of (state fs a) = stand_at a
 
--- a literal has no quotation mark, and counts as one mark
+-- the bytes left of a literal have no quotation mark, and the measure counts the literal as one
+-- mark
 abbrev pub IsSoundToken : Measure → Token → Type 0
 IsSoundToken m (literal e rest t) = (e ≢ 34) × AllByRecursion (λ c. c ≢ 34) rest × (of_tree m t ≡ m.mark)
 IsSoundToken m (digits part n) = Unit {0}
 
--- the next byte of a character is above ASCII
+-- the next byte of an unfinished character is above ASCII
 abbrev pub IsSoundMid : Utf8State → Type 0
 IsSoundMid between = Unit {0}
 IsSoundMid (within n least most) = 128 ≤ least
@@ -74,7 +75,7 @@ IsSoundAt m (after t) = Unit {0}
 abbrev pub IsSound : Measure → State → Type 0
 IsSound m (state fs a) = IsSoundAt m a
 
--- the cost of each byte bounds the increase of the measure
+-- `cost` is high enough for m: at each position, a byte's cost covers what the byte can add to m
 pub record Pays (m : Measure) (cost : Stand → ℕ → ℕ) : Type 0 where
   pub none : m.text [] ≤ cost outside 34
   pub one : (c : ℕ) → m.text (c ∷ []) ≤ 1
@@ -84,11 +85,11 @@ pub record Pays (m : Measure) (cost : Stand → ℕ → ℕ) : Type 0 where
   pub in_string : (c : ℕ) → c ≢ 34 → 1 ≤ cost inside c
   pub in_escape : (c : ℕ) → 1 ≤ cost escaped c
 
--- the byte c leads from s to next, and its cost bounds the increase of the measure
+-- the byte c leads from s to `next`, and adds at most the cost of c to the measure
 abbrev pub Paid : Measure → (Stand → ℕ → ℕ) → ℕ → State → State → Type 0
 Paid m cost c s next = (stand_of next ≡ following (stand_of s) c) × (of_state m next ≤ of_state m s + cost (stand_of s) c) × IsSound m next
 
--- a byte that does not begin a string
+-- after a byte outside strings that is not a quotation mark, the next byte is outside strings too
 pub stays : (c : ℕ) → c ≢ 34 → outside ≡ following outside c
 stays c no_quote = cond_both (c == 34) inside outside (λ x. outside ≡ x) (λ e. absurd (no_quote (eqb-true c 34 e))) (λ _. refl)
 
@@ -110,7 +111,7 @@ letter_counts AfterExponent next neither c is e = none_some e
 letter_counts AfterSign next neither c is e = none_some e
 letter_counts InExponent next neither c is e = none_some e
 
--- a byte that continues a number is a byte of a number
+-- a byte with which a number goes on is one of those that `is_of_number` accepts
 pub number_counts : (part next : NumberState) (c : ℕ) → number_next part (letter_of c) ≡ Some next → is_of_number c ≡ true
 number_counts part next c e = letter_counts part next (letter_of c) c (letter_is c) e
 

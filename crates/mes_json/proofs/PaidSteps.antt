@@ -1,4 +1,4 @@
--- The bound on the bytes and nodes that each byte, and a run of bytes, adds to a state.
+-- Each step of the state machine adds at most its cost to the bytes and nodes of a state.
 use Rattle.std.proofs.Common.{◌≡◌, ◌≢◌, ℕ, ◌+◌, ◌≤◌, inl, inr, List, [], ◌∷◌, length, Option, Some, None, option_and_then, ◌==◌, nat_lt, refl, ap, sym, ◌∙◌, subst, arith, eqb-true}
 use Rattle.mes_fixed.specs.Automaton.{letter_of, number_next, is_final}
 use Rattle.mes_fixed.specs.declared.automaton.NumberState.{NumberState}

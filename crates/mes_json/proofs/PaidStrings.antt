@@ -1,4 +1,4 @@
--- The bound on the bytes and nodes that each byte of a string adds to a state.
+-- Each byte of a string adds at most its cost to the bytes and nodes of a state.
 use Rattle.std.proofs.Common.{◌≡◌, ◌≢◌, ℕ, zero, suc, ◌+◌, ◌*◌, ◌-◌, ◌≤◌, ◌<◌, inl, inr, Bool, true, false, ◌&&◌, List, [], ◌∷◌, ◌++◌, length, Option, Some, None, if◌then◌else◌, ◌==◌, nat_lt, nat_le, refl, ap, sym, ◌∙◌, subst, arith, encode_utf8, eqb-true}
 use Rattle.std.proofs.lemmas.Bool.{cond_both, eqb-false}
 use Rattle.std.proofs.lemmas.Bool.Decides.{nat_tests}
@@ -17,7 +17,7 @@ use Rattle.mes_json.proofs.SoundLemmas.{some_is, none_some, pick}
 use Rattle.mes_json.proofs.MeasureLemmas.{Measure, of_frames, of_purpose, of_escape, of_mid}
 use Rattle.mes_json.proofs.PaidLemmas.{stand_in_escape, stand_in, IsSoundMid, Pays, Paid}
 
--- the byte after c is inside the string
+-- the byte after c is inside a string, if c is at the position `place`
 abbrev Goes : Stand → ℕ → Type 0
 Goes place c = inside ≡ following place c
 
@@ -26,7 +26,7 @@ within_string c q b =
     cond_both (c == 34) outside _ (λ x. inside ≡ x) (λ e. absurd (q (eqb-true c 34 e)))
     (λ _. cond_both (c == 92) escaped inside (λ x. inside ≡ x) (λ e. absurd (b (eqb-true c 92 e))) (λ _. refl))
 
--- the effect of a byte of an escape: the next position, and no more bytes made than read
+-- a byte of an escape leads to the right position, and makes no more bytes than were read
 abbrev Leads : Escape → ℕ → Move → Type 0
 Leads e c (on next) = (stand_in_escape next ≡ following (stand_in_escape e) c) × (of_escape next ≤ of_escape e + 1)
 Leads e c (makes v) = (inside ≡ following (stand_in_escape e) c) × (length (encode_utf8 v) ≤ of_escape e + 1)
@@ -136,7 +136,7 @@ escape_costs m cost (low1 h) c pays q = pays.in_string c (q refl)
 escape_costs m cost (low2 h v) c pays q = pays.in_string c (q refl)
 escape_costs m cost (low3 h v) c pays q = pays.in_string c (q refl)
 
--- a byte inside a string after which the next is inside too is no quotation mark
+-- if a byte and the next one are both inside a string, the first is no quotation mark
 no_quote : (c : ℕ) (place next : Stand) → place ≡ inside → (next ≡ outside → ⊥) → next ≡ following place c → c ≢ 34
 no_quote c place next inside_is other goes is = other (goes ∙ ap (λ (x : Stand). following x c) inside_is ∙ ap (following inside) is)
 

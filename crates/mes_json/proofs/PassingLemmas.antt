@@ -1,4 +1,4 @@
--- Skipping a value on a tape.
+-- Skipping a value on a tape leads to the tokens after the value.
 use Rattle.std.proofs.Common.{◌≡◌, ℕ, zero, suc, ◌+◌, ◌-◌, ◌<◌, ◌≤◌, ◌≢◌, List, [], ◌∷◌, ◌++◌, length, take, drop, get_or, refl, ap, sym, ◌∙◌, arith, append_assoc, lit≤, length-drop}
 use Rattle.std.proofs.Math.Nat.{pred-le}
 use Rattle.std.proofs.lemmas.List.{take_all, drop_more, drop_all, drop-map, get_or-map, length-map}
@@ -44,7 +44,7 @@ one_more texts xs i x n now inside is =
     ap (following n) (held_at texts xs i x inside)
     ∙ ap (λ (m : ℕ). by_depth m (drop (i + 1) (tokens_held texts xs)) (following m (drop (i + 1) (tokens_held texts xs)))) (sym is)
 
--- at most as many levels are open as there are nodes
+-- at most as many arrays and objects are open as there are nodes so far
 pub depth_within : (x : Node) (i n now : ℕ) → n ≤ i → now ≡ depth_after n (token_of [] x) → now ≤ i + 1
 depth_within Null i n now h is = omega arith
 depth_within (Bool b) i n now h is = omega arith
@@ -59,13 +59,13 @@ by_some : (n : ℕ) (xs ys : List Token) → n ≢ 0 → by_depth n xs ys ≡ ys
 by_some zero xs ys some = absurd (some refl)
 by_some (suc n) xs ys some = refl
 
--- one more node, after which nothing is open
+-- one more node, after which no array or object is open: the value ends
 pub over_last : (texts : List ℕ) (xs : List Node) (i : ℕ) (x : Node) (n now : ℕ) → i < length xs → now ≡ depth_after n (token_of texts (get_or xs i x)) → now ≡ 0
     → following n (drop i (tokens_held texts xs)) ≡ drop (i + 1) (tokens_held texts xs)
 over_last texts xs i x n now inside is none =
     one_more texts xs i x n now inside is ∙ ap (λ (m : ℕ). by_depth m (drop (i + 1) (tokens_held texts xs)) (following m (drop (i + 1) (tokens_held texts xs)))) none
 
--- one more node, after which something is open
+-- one more node, after which an array or object is open: the value goes on
 pub over_one : (texts : List ℕ) (xs : List Node) (i : ℕ) (x : Node) (n now : ℕ) → i < length xs → now ≡ depth_after n (token_of texts (get_or xs i x)) → now ≢ 0
     → following n (drop i (tokens_held texts xs)) ≡ following now (drop (i + 1) (tokens_held texts xs))
 over_one texts xs i x n now inside is some = one_more texts xs i x n now inside is ∙ by_some now _ _ some

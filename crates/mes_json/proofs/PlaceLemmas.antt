@@ -1,4 +1,4 @@
--- No text continues where the machine stops: the offset of a fault, and its reason.
+-- No JSON text continues at the byte that the state machine refuses: offset and reason of a fault.
 use Rattle.std.proofs.Common.{◌≡◌, ℕ, ◌+◌, ◌<◌, ◌≤◌, List, [], ◌++◌, length, get_or, take, drop, Some, None, option_and_then, refl, ap, sym, ◌∙◌, subst, arith, take-take, take-append-drop}
 use Rattle.std.proofs.Math.Seq.{take-length}
 use Rattle.mes_json.specs.Tree.{Tree}
@@ -88,7 +88,7 @@ same_reason d b n Byte End is at = absurd (omega (arith, is.0, at))
 same_reason d b n Byte Depth is at = absurd (is.1 at.1)
 same_reason d b n Byte Byte is at = refl
 
--- bytes have at most one fault
+-- two faults of the same bytes are equal
 pub one_fault : (d : ℕ) (b : List ℕ) (f g : TextFault) → IsFault d b f → IsFault d b g → f ≡ g
 one_fault d b f g is other =
     let place = same_place d b f g is other in

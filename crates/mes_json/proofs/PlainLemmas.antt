@@ -19,7 +19,7 @@ use Rattle.mes_json.proofs.StringLemmas.{string_ends}
 abbrev pub inside : purpose.Purpose → at.ReaderState
 inside p = at.TheVariants.Quoted p mid.TheVariants.Between
 
--- bytes of a string, between whole characters, that add `made` to the string
+-- read between two characters of a string, the bytes q add the bytes `made` to the decoded string
 abbrev pub Spells : List ℕ → List ℕ → Type 0
 Spells q made = (fs : List Frame) (p : m.Purpose) (b : List ℕ)
     → run MAX_NESTING (state fs (m.ReaderState.quoted p m.Utf8State.between b)) q ≡ Some (state fs (m.ReaderState.quoted p m.Utf8State.between (b ++ made)))

@@ -1,4 +1,4 @@
--- The effect of bytes on a state of the machine.
+-- The effect of several bytes on a state of the state machine.
 use Rattle.std.proofs.Common.{◌≡◌, ℕ, ◌⊎◌, inl, inr, List, [], ◌∷◌, ◌++◌, Some, option_and_then, refl, ap, ◌∙◌, append_assoc}
 use Rattle.mes_json.specs.Grammar.{IsSpace, IsSpaces}
 use Rattle.mes_json.specs.Machine.{State, kind_of, step, run, finish, ends}
@@ -40,7 +40,7 @@ space_kind c (inr (inl e)) = ap kind_of e
 space_kind c (inr (inr (inl e))) = ap kind_of e
 space_kind c (inr (inr (inr e))) = ap kind_of e
 
--- a state that white space leaves unchanged, after several bytes of white space
+-- several bytes of white space leave a state unchanged, if each of them does
 pub over_spaces : (d : ℕ) (s : State) → ((c : ℕ) → kind_of c ≡ blank → step d s c ≡ Some s) → (b : List ℕ) → IsSpaces b → Reaches d s b s
 over_spaces d s same [] h = reach_none d s
 over_spaces d s same (c ∷ b) h = then_to d s s s (c ∷ []) b (by_byte d s s c (same c (space_kind c h.0))) (over_spaces d s same b h.1)

@@ -1,4 +1,4 @@
--- Facts about every state that a run from the start reaches.
+-- Facts about every state that the state machine reaches from the start state.
 use Rattle.std.proofs.Common.{◌≡◌, ℕ, suc, ◌+◌, ◌<◌, ◌≤◌, inl, inr, true, List, [], ◌∷◌, ◌++◌, length, Some, IsUtf8, encode_utf8, sym, ◌∙◌, subst, arith, append-nil}
 use Rattle.std.specs.List.{All}
 use Rattle.std.proofs.lemmas.List.Elements.{All-nil, All-cons}
@@ -32,11 +32,11 @@ chars_utf8 : (b s : List ℕ) → IsChars b s → IsUtf8 s
 chars_utf8 b s (none e f) = subst IsUtf8 (sym f) IsUtf8-nil
 chars_utf8 b s (some first rest c others is are e f) = subst IsUtf8 (sym f) (IsUtf8-append (encode_utf8 c) others (IsUtf8-encode c (char_scalar first c is)) (chars_utf8 rest others are))
 
--- between two characters, the text of a string is UTF-8
+-- between two characters of a string, the decoded string so far is UTF-8
 pub readable : (d : ℕ) (p : List ℕ) (fs : List Frame) (purpose : Purpose) (s : List ℕ) → run d start p ≡ Some (state fs (quoted purpose between s)) → IsUtf8 s
 readable d p fs purpose s e = let q = (held_run d (state fs (quoted purpose between s)) p e).1 in chars_utf8 q.inside s (string_read s q.inside q.in_string)
 
--- in a character, the text is UTF-8 and the kept bytes of the part
+-- in a character, the decoded string so far is UTF-8 and then the first bytes of that character
 pub readable_front : (d : ℕ) (p : List ℕ) (fs : List Frame) (purpose : Purpose) (m : Utf8State) (s : List ℕ) → run d start p ≡ Some (state fs (quoted purpose m s))
     → (front : List ℕ) × (part : List ℕ) × (s ≡ front ++ kept m part) × IsUtf8 front × PartOf m part
 readable_front d p fs purpose m s e =
@@ -44,14 +44,14 @@ readable_front d p fs purpose m s e =
     let h = q.in_string in
     (h.words, h.part, h.text, chars_utf8 h.whole h.words h.chars, h.part_of)
 
--- in an escape, the text is UTF-8, and the escape's value has its bounds
+-- in an escape, the decoded string so far is UTF-8, and the escape's value is within its bounds
 pub readable_escape : (d : ℕ) (p : List ℕ) (fs : List Frame) (purpose : Purpose) (e : Escape) (s : List ℕ) → run d start p ≡ Some (state fs (quoted purpose (escape e) s))
     → IsUtf8 s × HasBounds e
 readable_escape d p fs purpose e s is =
     let h = (held_run d (state fs (quoted purpose (escape e) s)) p is).1.in_string in
     (subst IsUtf8 (sym (h.text ∙ append-nil h.words)) (chars_utf8 h.whole h.words h.chars), escape_bounds e h.part h.part_of)
 
--- a byte of a number is ASCII
+-- a byte with which a number begins or goes on is ASCII
 letter_ascii : (part next : NumberState) (l : Letter) (c : ℕ) → LetterIs l c → number_next part l ≡ Some next → c < 128
 letter_ascii part next nought c is e = omega arith
 letter_ascii part next digit c is e = omega arith
@@ -106,11 +106,11 @@ held_fits d fs (named ms k) b h = let l : length fs < d = in_object d fs ms h.0 
 held_fits d fs (token x) b h = on_stack d fs h.0 h.1.front h.1.outside
 held_fits d fs (after t) b h = on_stack d fs h.0 h.1.front h.1.outside
 
--- the number of frames is at most the limit
+-- at most as many objects and arrays are open as the nesting limit d allows
 pub frames_fit : (d : ℕ) (p : List ℕ) (fs : List Frame) (a : ReaderState) → run d start p ≡ Some (state fs a) → length fs ≤ d
 frames_fit d p fs a e = held_fits d fs a p (held_run d (state fs a) p e)
 
--- at the first item of an array, one more is open than there are frames
+-- at the first item of an array, that array is open too, so the frames are fewer than the limit
 pub room_for_item : (d : ℕ) (p : List ℕ) (fs : List Frame) → run d start p ≡ Some (state fs first_item) → length fs < d
 room_for_item d p fs e = let h = held_run d (state fs first_item) p e in in_array d fs h.0 p h.1
 

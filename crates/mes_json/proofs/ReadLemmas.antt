@@ -1,4 +1,4 @@
--- The bytes of a run that stops or ends.
+-- The error or the tree of bytes over which the state machine stops or ends.
 use Rattle.std.proofs.Common.{◌≡◌, ℕ, ◌<◌, List, length, get_or, take, Option, Some, None, option_map, refl, ap, sym, ◌∙◌, subst}
 use Rattle.mes_json.specs.Tree.{Tree}
 use Rattle.mes_json.specs.Grammar.{IsText}
@@ -64,7 +64,7 @@ pub ended_fault : (b : List ℕ) (s : State) (found : Option (List Token)) → r
     → (let none : Option (List Token) = None in found ≡ none) → IsFault MAX_NESTING b (record { byte = length b; why = End })
 ended_fault b s found reached is none = ended MAX_NESTING b s reached (nothing_finished s found is none)
 
--- a new reader is in the start state
+-- a stop from the state s is a stop from the start state, if s is the start state
 pub stopped_at_start : (s : State) (b : List ℕ) (e : fault.ReadFault) → s ≡ start → StopsIn s b e → StopsIn start b e
 stopped_at_start s b e is stops = subst (λ (x : State). StopsIn x b e) is stops
 

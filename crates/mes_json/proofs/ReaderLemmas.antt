@@ -1,4 +1,4 @@
--- The machine's state, before and after a change of the reader.
+-- The state of the state machine that a reader represents, before and after a change of the reader.
 use Rattle.std.proofs.Common.{◌≡◌, ℕ, ◌+◌, ◌≤◌, List, ◌++◌, length, drop, Some, Result, Ok, Err, OnOk, IfErr, ap, sym, ◌∙◌, subst, arith, length-append}
 use Rattle.std.proofs.lemmas.Grind.{common_steps}
 use Rattle.std.proofs.lemmas.List.{drop-append-le}
@@ -17,14 +17,14 @@ use Rattle.mes_json.specs.declared.reader.Reader.{Reader}
 use Rattle.mes_json.specs.declared.tape.Node.{Node}
 use Rattle.mes_json.proofs.TapeLemmas.{spelled_last, spanned_last, spelled_grows, tape_last, tape_grows}
 
--- the machine's state after the nodes, with a comma or colon that was read
+-- the state of the state machine after the tape's nodes; `due` adds the effect of a comma or colon
 abbrev pub tape_of : Reader → State
 tape_of r = spelled r.text.items r.nodes.items
 
 abbrev pub due : at.ReaderState → Reader → State
 due a r = due_at a (tape_of r)
 
--- the bytes of the text that is being read
+-- the bytes so far of the string or number that is being read
 abbrev pub part : Reader → List ℕ
 part r = drop r.start r.text.items
 
@@ -72,7 +72,7 @@ put_view old new n x a puts =
     ∙ ap (λ (xs : List Node). with_read a (part old) (due_at a (spelled old.text.items xs))) puts.nodes
     ∙ ap (λ (s : State). with_read a (part old) (due_at a s)) (spelled_last old.text.items start old.nodes.items x)
 
--- the contract of a method for its result
+-- the contract of each method that reads a byte c: the effect of c, and a consistent reader
 abbrev pub Owes : {A : Type 0} → Result A PushError → State → ℕ → Reader → Type 0
 Owes result s c new = Gives result s c (state_view new) × OnOk result (Fits new)
 
@@ -135,11 +135,11 @@ begun_view old new b to fits begins =
     (ap (λ (n : ℕ). drop n new.text.items) begins.start ∙ ap (λ (t : List ℕ). drop (length old.text.items) t) begins.text ∙ behind_all old.text.items b)
     ∙ ap (λ (s : State). with_read to b (due_at to s)) (grown old new b fits begins.text begins.nodes)
 
--- the text that is being read grows; the new state of the reader has the same form
+-- if the string or number grows, the reader's new state has the form of its old state
 abbrev pub SameForm : at.ReaderState → at.ReaderState → Type 0
 SameForm from to = (n : List Open) (s : State) → IsAt from n (due_at from s) → IsAt to n (due_at to s)
 
--- the text that is being read begins at the same offset
+-- the string or number that is being read begins at the same offset in both states
 abbrev pub SameText : at.ReaderState → at.ReaderState → Type 0
 SameText from to = (start end last : ℕ) → read_from to start last ≡ read_from from start end
 
@@ -171,7 +171,7 @@ kept old new result c b from to fits is_at same_due same_form same_text leads ok
     (λ (keeps : Keeps old b to new). kept_fits old new b from to fits is_at same_form same_text keeps)
     ok err
 
--- two states with the same state after a byte
+-- if two states have the same step at a byte, a refusal in one is a refusal in the other
 is_refusal_as : (why : TextFaultKind) (d : ℕ) (s t : State) (c : ℕ) → step (d + 1) s c ≡ step (d + 1) t c → IsRefusal d why t c → IsRefusal d why s c
 is_refusal_as End d s t c same h = h
 is_refusal_as Depth d s t c same h = (h.0, same ∙ h.1)

@@ -1,4 +1,4 @@
--- The machine on examples of objects and arrays, computed.
+-- Examples of objects and arrays, each run through the state machine by computation.
 use Rattle.std.proofs.Common.{◌≡◌, ℕ, zero, suc, List, [], ◌∷◌, Some, None, refl}
 use Rattle.mes_json.specs.Tree.Tree.{null, number, string, array, object}
 use Rattle.mes_json.specs.Tree.Items.{no_items, item}
@@ -14,23 +14,23 @@ heartbeat : ends 1 start (123 ∷ 34 ∷ 116 ∷ 121 ∷ 112 ∷ 101 ∷ 34 ∷ 
 unfolding run
 heartbeat = refl
 
--- a repeated name is kept, in order:  {"a":"b","a":{}}
+-- a repeated name is in the tree twice, in order:  {"a":"b","a":{}}
 repeated : ends 2 start (32 ∷ 123 ∷ 34 ∷ 97 ∷ 34 ∷ 58 ∷ 34 ∷ 98 ∷ 34 ∷ 44 ∷ 32 ∷ 34 ∷ 97 ∷ 34 ∷ 9 ∷ 58 ∷ 123 ∷ 125 ∷ 13 ∷ 125 ∷ 10 ∷ [])
     ≡ Some (object (member (97 ∷ []) (string (98 ∷ [])) (member (97 ∷ []) (object no_members) no_members)))
 unfolding run
 repeated = refl
 
--- after {"a": a value is expected, in the object
+-- after {"a": a value is expected, and the object is on the stack
 value_is_due : run 64 start (123 ∷ 34 ∷ 97 ∷ 34 ∷ 58 ∷ []) ≡ Some (state (frame no_members (97 ∷ []) ∷ []) value)
 unfolding run
 value_is_due = refl
 
--- {"a":"b",} stops at the brace
+-- {"a":"b",} is refused at the brace
 comma_then_end : run 64 start (123 ∷ 34 ∷ 97 ∷ 34 ∷ 58 ∷ 34 ∷ 98 ∷ 34 ∷ 44 ∷ 125 ∷ []) ≡ None
 unfolding run
 comma_then_end = refl
 
--- {}x and {}{} stop after the object; a byte order mark stops at its first byte
+-- {}x and {}{} are refused at the byte after the object, a byte order mark at its first byte
 behind_text : run 64 start (123 ∷ 125 ∷ 120 ∷ []) ≡ None
 unfolding run
 behind_text = refl
@@ -43,7 +43,7 @@ mark : run 64 start (0xEF ∷ []) ≡ None
 unfolding run
 mark = refl
 
--- nothing, white space and an open object are no whole text
+-- no bytes, white space alone and an open object are no whole text
 nothing : ends 64 start [] ≡ None
 unfolding run
 nothing = refl
@@ -56,7 +56,7 @@ open_object : ends 64 start (123 ∷ []) ≡ None
 unfolding run
 open_object = refl
 
--- an object in an object needs two levels
+-- an object in an object needs two levels of nesting
 one_level : run 1 start (123 ∷ 34 ∷ 34 ∷ 58 ∷ 123 ∷ []) ≡ None
 unfolding run
 one_level = refl
@@ -71,7 +71,7 @@ null_and_number : ends 64 start (91 ∷ 110 ∷ 117 ∷ 108 ∷ 108 ∷ 44 ∷ 4
 unfolding run
 null_and_number = refl
 
--- [ ] is empty; [1,] stops at its end, [,] at the comma, [} and {] at the second byte
+-- [ ] is empty; refused are [1,] at its end, [,] at the comma, [} and {] at the second byte
 empty_array : ends 1 start (91 ∷ 32 ∷ 93 ∷ []) ≡ Some (array no_items)
 unfolding run
 empty_array = refl
@@ -104,12 +104,12 @@ member_then_bracket : run 64 start (123 ∷ 34 ∷ 34 ∷ 58 ∷ 49 ∷ 93 ∷ [
 unfolding run
 member_then_bracket = refl
 
--- the items stay in order
+-- the items of an array stay in order
 order_of_items : ends 64 start (91 ∷ 49 ∷ 44 ∷ 32 ∷ 50 ∷ 32 ∷ 44 ∷ 51 ∷ 93 ∷ []) ≡ Some (array (item (number (49 ∷ [])) (item (number (50 ∷ [])) (item (number (51 ∷ [])) no_items))))
 unfolding run
 order_of_items = refl
 
--- {"a":[{}]} needs three levels
+-- {"a":[{}]} needs three levels of nesting
 mixed : ends 3 start (123 ∷ 34 ∷ 97 ∷ 34 ∷ 58 ∷ 91 ∷ 123 ∷ 125 ∷ 93 ∷ 125 ∷ []) ≡ Some (object (member (97 ∷ []) (array (item (object no_members) no_items)) no_members))
 unfolding run
 mixed = refl
@@ -118,7 +118,7 @@ mixed_too_deep : run 2 start (123 ∷ 34 ∷ 97 ∷ 34 ∷ 58 ∷ 91 ∷ 123 ∷
 unfolding run
 mixed_too_deep = refl
 
--- as many open arrays as the limit, and one more
+-- n open arrays, for as many as the limit and one more
 opened : ℕ → List ℕ
 opened zero = []
 opened (suc n) = 91 ∷ opened n

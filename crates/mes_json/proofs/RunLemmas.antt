@@ -1,8 +1,8 @@
--- Runs of the machine.
+-- Runs of the state machine over concatenated bytes, and over prefixes.
 use Rattle.std.proofs.Common.{◌≡◌, ℕ, ◌+◌, ◌<◌, List, [], ◌∷◌, ◌++◌, length, get_or, take, Option, Some, None, option_and_then, refl, ap, ◌∙◌, take-suc, add-one}
 use Rattle.mes_json.specs.Machine.{State, step, run}
 
--- a run over two lists of bytes is a run over the second from the end of the first
+-- a run over a ++ b is a run over a, and then a run over b from the state reached
 pub run_append : (d : ℕ) (s : State) (a b : List ℕ) → run d s (a ++ b) ≡ option_and_then (λ next. run d next b) (run d s a)
 unfolding run
 run_append d s [] b = refl

@@ -1,4 +1,4 @@
--- A string is written in runs.
+-- A string is written as sequences of bytes without an escape, and the escapes between them.
 use Rattle.std.proofs.Common.{◌≡◌, ℕ, ◌+◌, ◌-◌, ◌<◌, ◌≤◌, List, [], ◌∷◌, ◌++◌, length, take, drop, get_or, ap, refl, sym, ◌∙◌, subst, append_assoc, add-one, take-suc, length-drop, arith}
 use Rattle.std.proofs.Math.Seq.{take-add}
 use Rattle.std.proofs.lemmas.List.{append-nil, get_or-drop}
@@ -16,7 +16,7 @@ one_more b n inside =
     ap (λ (m : ℕ). escaped_text (take m b)) (add-one n) ∙ ap escaped_text (take-suc b n 0 inside)
     ∙ escaped-append (take n b) (get_or b n 0 ∷ []) ∙ ap (λ (x : List ℕ). escaped_text (take n b) ++ x) (append-nil (escaped (get_or b n 0)))
 
--- a run that needs no escape, from an offset on
+-- n bytes from the offset `place` on that need no escape
 pub kept_further : (b : List ℕ) (place n : ℕ) → place ≤ length b → AllByRecursion IsKept (take n (take (length b - place) (drop place b)))
     → escaped_text (take (place + n) b) ≡ escaped_text (take place b) ++ take n (drop place b)
 kept_further b place n inside kept =

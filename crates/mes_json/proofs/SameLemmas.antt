@@ -1,4 +1,4 @@
--- Lists of values with the same trees: equal length, and equal trees at each index.
+-- Equal lists of values, index by index: equal lengths, and equal trees at each index.
 use Rattle.std.proofs.Common.{◌≡◌, ℕ, zero, suc, ◌+◌, ◌<◌, Bool, true, false, not, IsTrue, ◌↔◌, List, [], ◌∷◌, ◌++◌, length, take, get_or, refl, ap, sym, ◌∙◌, subst, arith}
 use Rattle.std.specs.Str.{bytes_eq}
 use Rattle.std.proofs.lemmas.Slice.Eq.{bytes_eq-Decides}
@@ -110,7 +110,7 @@ then_member_view : (xs : List (List ℕ × Json)) (x : List ℕ × Json) → mem
 then_member_view [] x = refl
 then_member_view (y ∷ xs) x = ap (member y.0 (view y.1)) (then_member_view xs x)
 
--- equal names and equal values, each read at the index with its own default
+-- one more pair of members with equal names and equal values; each list has its own default element
 pub one_more_member : (xs ys : List (List ℕ × Json)) (n : ℕ) (x y u v : List ℕ × Json) → n < length xs → n < length ys
     → members_view (take n xs) ≡ members_view (take n ys) → (get_or xs n x).0 ≡ (get_or ys n y).0 → view (get_or xs n u).1 ≡ view (get_or ys n v).1
     → members_view (take (n + 1) xs) ≡ members_view (take (n + 1) ys)

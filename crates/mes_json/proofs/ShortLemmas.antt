@@ -1,4 +1,4 @@
--- The reader's run over a short string, from its opening quotation mark to the byte after it.
+-- The reader's run over a short string, from the opening quotation mark to the byte after it.
 use Rattle.std.proofs.Common.{◌≡◌, ℕ, ◌+◌, ◌-◌, ◌<◌, ◌≤◌, ◌⊎◌, inl, inr, List, [], length, take, drop, Some, get_or, refl, ap, sym, ◌∙◌, arith, append-nil}
 use Rattle.mes_json.specs.Machine.{State, step}
 use Rattle.mes_json.specs.Tape.{name_due}

@@ -1,4 +1,5 @@
--- Soundness: the bytes that lead to a state have its form. Shared facts, and a value's first byte.
+-- Soundness (`Held`): lemmas for all steps of the state machine, and the step at a value's first
+-- byte.
 use Rattle.std.proofs.Common.{◌≡◌, ℕ, zero, suc, ◌+◌, ◌<◌, ◌⊎◌, inl, inr, Bool, true, false, ◌||◌, List, [], ◌∷◌, ◌++◌, length, Option, Some, None, if◌then◌else◌, ◌==◌, nat_lt, refl, ap, sym, ◌∙◌, subst, arith, append_assoc, ltb-true, eqb-true}
 use Rattle.std.proofs.lemmas.Bool.Decides.{nat_tests}
 use Rattle.mes_fixed.specs.Automaton.{letter_of, number_next}
@@ -28,7 +29,7 @@ pub pick : {A : Type 0} (t : Bool) (o u : Option A) (x : A) → (if t then o els
 pick true o u x e = inl (refl, e)
 pick false o u x e = inr (refl, e)
 
--- the facts about a byte, by its class
+-- which bytes c have the class
 abbrev pub KindIs : ByteClass → ℕ → Type 0
 KindIs blank c = IsSpace c
 KindIs quote c = c ≡ 34

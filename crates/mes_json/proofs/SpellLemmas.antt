@@ -1,4 +1,4 @@
--- One more node on a tape, and one more item or member of the value.
+-- The tokens of a tape after one more node, and of a value after one more item or member.
 use Rattle.std.proofs.Common.{◌≡◌, ℕ, ◌+◌, ◌<◌, List, [], ◌∷◌, ◌++◌, length, drop, take, get_or, refl, ap, sym, ◌∙◌, subst, arith, length-append, append_assoc, append-nil}
 use Rattle.std.proofs.lemmas.List.{map-append}
 use Rattle.std.proofs.lemmas.Grind.{common_steps}

@@ -1,4 +1,5 @@
--- Soundness: a whole step, and a run.
+-- Soundness: after any step of the state machine, and after a run, the bytes so far have the form
+-- that the grammar requires in the new state (`Held`).
 use Rattle.std.proofs.Common.{◌≡◌, ℕ, Bool, true, false, List, [], ◌∷◌, ◌++◌, Option, Some, None, option_and_then, refl, sym, subst, append_assoc, append-nil}
 use Rattle.mes_fixed.specs.Automaton.{is_final}
 use Rattle.mes_json.specs.Tree.{Tree}
@@ -37,7 +38,7 @@ held_on d s last a (c ∷ b) h e = by (step d s c) refl e (λ next is f. held_on
 pub held_run : (d : ℕ) (s : State) (b : List ℕ) → run d start b ≡ Some s → Held d s b
 held_run d s b e = held_on d start s [] b (d, (refl, tt)) e
 
--- outside all objects and arrays, a value with white space around it is a text
+-- a value outside all objects and arrays, with white space around it, is a JSON text
 value_text : (d : ℕ) (b : List ℕ) (t : Tree) → Held d (state [] (after t)) b → IsText d b t
 value_text d b t h = let v = h.1 in
     subst (λ (room : ℕ). IsText room b t) v.outside.0

@@ -60,7 +60,7 @@ is_part r fits utf8 = record {
 pub reached_as : (r : Reader) (a : at.ReaderState) (reached : Reached r) → r.at ≡ a → run MAX_NESTING start reached.0 ≡ Some (with_read a (part r) (due a r))
 reached_as r a reached is_at = reached.1 ∙ ap (λ (t : State). Some t) (view_at r a is_at)
 
--- between two characters, the string so far is UTF-8
+-- between two characters of a name, the bytes of the name so far are UTF-8
 in_name : (s : State) (n : List Open) (b : List ℕ) (p : List ℕ) → AtName (λ _. Unit {0}) n s
     → run MAX_NESTING start p ≡ Some (in_object (λ ms. m.ReaderState.quoted (m.Purpose.for_name ms) m.Utf8State.between b) s) → IsUtf8 b
 in_name s n b p h reached =
@@ -123,7 +123,7 @@ pub string_ends : {A : Type 0} (p : purpose.Purpose) (old new : Reader) (result 
 string_ends purpose.TheVariants.Name old new result c fits reached is_at quote ok err = name_ends old new result c fits reached is_at quote ok err
 string_ends purpose.TheVariants.Value old new result c fits reached is_at quote ok err = text_ends old new result c fits reached is_at quote ok err
 
--- the byte c leads from one state in a string to another and adds bytes, for a name or a value
+-- the byte c leads from the state `from` in a name or string to `to`, and adds the bytes `made`
 abbrev pub Reads : mid.Utf8State → ℕ → List ℕ → mid.Utf8State → Type 0
 Reads from c made to = (fs : List Frame) (p : m.Purpose) (b : List ℕ)
     → on_quoted fs p (mid_view from) b c ≡ Some (state fs (m.ReaderState.quoted p (mid_view to) (b ++ made)))
@@ -154,7 +154,7 @@ string_grows p from to made old new result c fits is_at reads ok err =
     kept old new result c made (at.TheVariants.Quoted p from) (at.TheVariants.Quoted p to) fits is_at (due_in p from to) (form_in p from to) (λ start end last. refl)
     (string_step p from to old.nesting.items c made (part old) (due (at.TheVariants.Quoted p from) old) reads) ok err
 
--- between two characters: any byte but a quotation mark, a backslash and a control character
+-- between two characters, a byte that is no quotation mark, backslash or control character is added
 pub between_reads : (c : ℕ) (next : mid.Utf8State) → c ≢ 34 → 32 ≤ c → c ≢ 92 → lead c ≡ Some (mid_view next) → Reads mid.TheVariants.Between c (c ∷ []) next
 between_reads c next no_quote no_control no_backslash leads =
     let one : (c == 34) ≡ false = grind (arith, nat_tests) in
@@ -179,7 +179,7 @@ pub escape_reads : (x : escape.Escape) (c made : ℕ) → e.Move.makes made ≡ 
     → Reads (mid.TheVariants.Escape x) c (encode_utf8 made) mid.TheVariants.Between
 escape_reads x c made makes = λ fs p b. ap (in_escape fs p b) (sym makes)
 
--- the facts about an escape that is being read
+-- the value of the escape that is being read is within its bounds
 known_at : (p : purpose.Purpose) (x : escape.Escape) (n : List Open) (b : List ℕ) (q : List ℕ) (s : State) → IsAt (at.TheVariants.Quoted p (mid.TheVariants.Escape x)) n s
     → run MAX_NESTING start q ≡ Some (with_read (at.TheVariants.Quoted p (mid.TheVariants.Escape x)) b s) → HasBounds (escape_view x)
 known_at purpose.TheVariants.Name x n b q s h reached =

@@ -1,4 +1,4 @@
--- Completeness: the machine reads a string of the grammar, as a name and as a value.
+-- Completeness: the state machine reads each string of the grammar, as a name and as a value.
 use Rattle.std.proofs.Common.{◌≡◌, ℕ, List, [], ◌∷◌, ◌++◌, refl, ap, sym, ◌∙◌, subst, append_assoc, append-nil, encode_utf8}
 use Rattle.mes_json.specs.Tree.Tree.{string}
 use Rattle.mes_json.specs.Tree.{Members}

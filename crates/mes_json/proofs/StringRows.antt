@@ -1,4 +1,4 @@
--- The machine on examples of strings, computed.
+-- Examples of strings, each run through the state machine by computation.
 use Rattle.std.proofs.Common.{◌≡◌, [], ◌∷◌, Some, None, refl}
 use Rattle.std.specs.Char.{encode_utf8}
 use Rattle.mes_json.specs.Tree.Tree.{string}
@@ -9,7 +9,7 @@ use Rattle.mes_json.specs.Machine.ReaderState.{quoted}
 use Rattle.mes_json.specs.Machine.Utf8State.{within, escape}
 use Rattle.mes_json.specs.Machine.Purpose.{for_value}
 
--- a control character stops, 7F does not
+-- a control character is refused; the byte 7F is not
 control : run 64 start (34 ∷ 31 ∷ []) ≡ None
 unfolding run
 control = refl
@@ -18,8 +18,8 @@ delete : ends 64 start (34 ∷ 127 ∷ 34 ∷ []) ≡ Some (string (127 ∷ []))
 unfolding run
 delete = refl
 
--- C0 stops at once. ED A0 (a surrogate), F4 90 (above 10FFFF), E0 9F and F0 8F (overlong) stop at
--- their second byte. A part of a character stops at the quotation mark.
+-- C0 is refused at once. ED A0 (a surrogate), F4 90 (above 10FFFF), E0 9F and F0 8F (overlong) are
+-- refused at their second byte, an unfinished character at the quotation mark.
 overlong_two : run 64 start (34 ∷ 0xC0 ∷ []) ≡ None
 unfolding run
 overlong_two = refl
@@ -54,12 +54,13 @@ unfolding run encode_utf8
 largest = refl
 
 -- ---- escapes
--- after a backslash the machine is in an escape
+-- after a backslash the state is that of an escape
 in_escape : run 64 start (34 ∷ 92 ∷ []) ≡ Some (state [] (quoted for_value (escape backslash) []))
 unfolding run
 in_escape = refl
 
--- "\uD may begin a surrogate pair or a character; "\uDC could only be a lone low surrogate
+-- "\uD may begin a surrogate pair or a character; "\uDC, a low surrogate that comes first, is
+-- refused
 high_or_low_digit : run 64 start (34 ∷ 92 ∷ 117 ∷ 68 ∷ []) ≡ Some (state [] (quoted for_value (escape (unit1 13)) []))
 unfolding run
 high_or_low_digit = refl
@@ -68,7 +69,7 @@ low_alone : run 64 start (34 ∷ 92 ∷ 117 ∷ 68 ∷ 67 ∷ []) ≡ None
 unfolding run
 low_alone = refl
 
--- after "\uD83D a low surrogate is expected: n stops, and so does \uD83D at its second digit
+-- after "\uD83D a low surrogate is expected: n is refused, and another \uD83D at its second digit
 high_waits : run 64 start (34 ∷ 92 ∷ 117 ∷ 68 ∷ 56 ∷ 51 ∷ 68 ∷ []) ≡ Some (state [] (quoted for_value (escape (high 0xD83D)) []))
 unfolding run
 high_waits = refl
@@ -90,7 +91,7 @@ two_halves : ends 64 start (34 ∷ 92 ∷ 117 ∷ 68 ∷ 56 ∷ 51 ∷ 68 ∷ 92
 unfolding run encode_utf8
 two_halves = refl
 
--- "\u00e9\u00E9" is twice U+00E9
+-- "\u00e9\u00E9" is the character U+00E9, twice
 digits_in_either_case : ends 64 start (34 ∷ 92 ∷ 117 ∷ 48 ∷ 48 ∷ 101 ∷ 57 ∷ 92 ∷ 117 ∷ 48 ∷ 48 ∷ 69 ∷ 57 ∷ 34 ∷ []) ≡ Some (string (0xC3 ∷ 0xA9 ∷ 0xC3 ∷ 0xA9 ∷ []))
 unfolding run encode_utf8
 digits_in_either_case = refl
@@ -100,7 +101,7 @@ nul : ends 64 start (34 ∷ 92 ∷ 117 ∷ 48 ∷ 48 ∷ 48 ∷ 48 ∷ 34 ∷ []
 unfolding run encode_utf8
 nul = refl
 
--- the eight short escapes; \v stops
+-- the eight short escapes; \v is refused
 short_ones : ends 64 start (34 ∷ 92 ∷ 34 ∷ 92 ∷ 92 ∷ 92 ∷ 47 ∷ 92 ∷ 98 ∷ 92 ∷ 102 ∷ 92 ∷ 110 ∷ 92 ∷ 114 ∷ 92 ∷ 116 ∷ 34 ∷ []) ≡ Some (string (34 ∷ 92 ∷ 47 ∷ 8 ∷ 12 ∷ 10 ∷ 13 ∷ 9 ∷ []))
 unfolding run encode_utf8
 short_ones = refl

@@ -1,4 +1,4 @@
--- Runs of the reader over bytes that leave its state as it is.
+-- Runs of the reader over bytes that leave the reader's state unchanged, apart from the text.
 use Rattle.std.proofs.Common.{◌≡◌, ℕ, ◌+◌, ◌-◌, ◌<◌, ◌≤◌, List, [], ◌∷◌, ◌++◌, length, take, drop, get_or, Some, refl, ap, sym, ◌∙◌, subst, arith, append-nil, length-drop}
 use Rattle.std.proofs.lemmas.Grind.{common_steps}
 use Rattle.std.proofs.Math.Seq.{take-add}
@@ -11,7 +11,7 @@ use Rattle.mes_json.specs.declared.reader.Reader.{Reader}
 use Rattle.mes_json.proofs.RunLemmas.{run_on, run_one, run_take}
 use Rattle.mes_json.proofs.ReaderLemmas.{due, part, view_at, form_at, SameText, kept_fits, kept_view}
 
--- after the bytes b of a text, the bytes q leave the state as it is and add `made` to the text
+-- after the bytes b of a string or number, the bytes q leave the reader's state a and add `made`
 abbrev pub Adds : at.ReaderState → List Open → List ℕ → List ℕ → List ℕ → Type 0
 Adds there n b q made = (s : State) → IsAt there n s → run MAX_NESTING (with_read there b s) q ≡ Some (with_read there (b ++ made) s)
 

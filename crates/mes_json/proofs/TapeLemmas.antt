@@ -1,4 +1,4 @@
--- A tape with one more node, and with more bytes of texts.
+-- The state that a tape represents after one more node, and after more bytes of texts.
 use Rattle.std.proofs.Common.{◌≡◌, ℕ, ◌+◌, ◌-◌, ◌≤◌, List, [], ◌∷◌, ◌++◌, length, take, drop, refl, ap, sym, ◌∙◌, subst, arith, length-drop, length-append}
 use Rattle.std.proofs.lemmas.List.{take-append-le, drop-append-le}
 use Rattle.std.specs.List.{AllByRecursion}
@@ -30,7 +30,7 @@ spanned_last (y ∷ xs) x = omega (arith, spanned_last xs x)
 pub tape_last : (texts : List ℕ) (xs : List Node) (x : Node) → IsTape texts xs → HasSpan texts x → Takes (spelled texts xs) x → IsTape texts (xs ++ x ∷ [])
 tape_last texts xs x h has takes = record { spans = spans_last texts xs x h.spans has; placed = placed_last texts start xs x h.placed takes }
 
--- more bytes after the texts leave each span as it is
+-- bytes appended to the buffer of texts leave the text of each span unchanged
 pub span_grows : (texts more : List ℕ) (from to : ℕ) → from ≤ to → to ≤ length texts → span (texts ++ more) from to ≡ span texts from to
 span_grows texts more from to forward inside =
     let start_inside : from ≤ length texts = omega arith in

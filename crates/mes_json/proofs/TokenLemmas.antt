@@ -99,7 +99,7 @@ foreign : (d : ℕ) (fs : List Frame) (x : NumberState) (n : List ℕ) (c : ℕ)
 foreign d fs x n c leads final =
     ap (on_digits fs x n c) leads ∙ ap (λ (b : Bool). if b then on_after fs (number n) (kind_of c) else None) final
 
--- the byte after the number has the same effect as after the value
+-- the byte after a number has the same effect as after the value of the number
 pub number_gives : {A : Type 0} (old new : Reader) (result : Result A PushError) (c : ℕ) (x : NumberState) (next : State) → EndsNumber old new x
     → (let none : Option NumberState = None in number_next x (letter_of c) ≡ none) → is_final x ≡ true → Gives result (state_view new) c next → Gives result (state_view old) c next
 number_gives old new result c x next h leads final gives =
@@ -110,6 +110,6 @@ finish_as : (fs : List Frame) (x : NumberState) (n : List ℕ) → is_final x �
 finish_as [] x n final = sym (ap (λ (b : Bool). finish_number b n) final)
 finish_as (f ∷ fs) x n final = refl
 
--- the tree after the number is the tree at its end
+-- at the end of a number, the tree is the same as after the value of the number
 pub number_finished : (old new : Reader) (x : NumberState) → EndsNumber old new x → is_final x ≡ true → finish (state_view new) ≡ finish (state_view old)
 number_finished old new x h final = ap finish h.following ∙ finish_as h.frames x (part old) final ∙ ap finish (sym h.before)

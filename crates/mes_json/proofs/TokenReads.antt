@@ -1,4 +1,4 @@
--- Completeness: the machine reads literals and numbers.
+-- Completeness: the state machine reads each literal and number of the grammar.
 use Rattle.std.proofs.Common.{◌≡◌, ℕ, inl, inr, Bool, true, false, List, [], ◌∷◌, ◌++◌, Some, None, option_and_then, if◌then◌else◌, ◌==◌, refl, ap, sym, ◌∙◌, subst, arith, append_assoc, append-nil}
 use Rattle.std.proofs.lemmas.Bool.Decides.{nat_tests}
 use Rattle.mes_fixed.specs.Number.{IsNumber}

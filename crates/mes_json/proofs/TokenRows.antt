@@ -1,4 +1,4 @@
--- The machine on examples of numbers and literals, computed.
+-- Examples of numbers and literals, each run through the state machine by computation.
 use Rattle.std.proofs.Common.{◌≡◌, true, false, [], ◌∷◌, Some, None, refl}
 use Rattle.mes_fixed.specs.declared.automaton.NumberState.TheVariants.{InWhole, AfterExponent}
 use Rattle.mes_json.specs.Tree.Tree.{null, boolean, number}
@@ -9,12 +9,12 @@ use Rattle.mes_json.specs.Machine.Frame.{frame}
 use Rattle.mes_json.specs.Machine.ReaderState.{token}
 use Rattle.mes_json.specs.Machine.Token.{digits}
 
--- {"a":1 is in a number, which may end or continue
+-- after {"a":1 the state is that of a number, which may end or continue
 in_number : run 64 start (123 ∷ 34 ∷ 97 ∷ 34 ∷ 58 ∷ 49 ∷ []) ≡ Some (state (frame no_members (97 ∷ []) ∷ []) (token (digits InWhole (49 ∷ []))))
 unfolding run
 in_number = refl
 
--- 01 stops at the 1, and .5 and +1 at their first byte
+-- 01 is refused at the 1, and .5 and +1 at their first byte
 leading_zero : run 64 start (48 ∷ 49 ∷ []) ≡ None
 unfolding run
 leading_zero = refl
@@ -27,7 +27,7 @@ leading_plus : run 64 start (43 ∷ []) ≡ None
 unfolding run
 leading_plus = refl
 
--- 1e, - and 1. are no whole text, and may continue
+-- 1e, - and 1. are no whole text, but are not refused: they may continue
 no_power : ends 64 start (49 ∷ 101 ∷ []) ≡ None
 unfolding run
 no_power = refl
@@ -44,7 +44,7 @@ point_last : ends 64 start (49 ∷ 46 ∷ []) ≡ None
 unfolding run
 point_last = refl
 
--- 1 is a whole text, also before white space; 1x stops at the x
+-- 1 is a whole text, also before white space; 1x is refused at the x
 one_digit : ends 64 start (49 ∷ []) ≡ Some (number (49 ∷ []))
 unfolding run
 one_digit = refl
@@ -57,17 +57,17 @@ letter_behind : run 64 start (49 ∷ 120 ∷ []) ≡ None
 unfolding run
 letter_behind = refl
 
--- 1 2 stops at the 2
+-- 1 2 is refused at the 2
 two_numbers : run 64 start (49 ∷ 32 ∷ 50 ∷ []) ≡ None
 unfolding run
 two_numbers = refl
 
--- -12.50E-07 keeps its text
+-- the text of -12.50E-07 is unchanged
 whole_number : ends 64 start (45 ∷ 49 ∷ 50 ∷ 46 ∷ 53 ∷ 48 ∷ 69 ∷ 45 ∷ 48 ∷ 55 ∷ []) ≡ Some (number (45 ∷ 49 ∷ 50 ∷ 46 ∷ 53 ∷ 48 ∷ 69 ∷ 45 ∷ 48 ∷ 55 ∷ []))
 unfolding run
 whole_number = refl
 
--- literals need no nesting; tru is no whole text; truE, nulL and True stop
+-- literals need no nesting; tru is no whole text; truE, nulL and True are refused
 null_whole : ends 0 start (110 ∷ 117 ∷ 108 ∷ 108 ∷ []) ≡ Some null
 unfolding run
 null_whole = refl

@@ -1,4 +1,5 @@
--- Soundness: the step after a value, and the steps in a literal and in a number.
+-- Soundness: after a step of the state machine in a literal or number, or after a value, the bytes
+-- so far have the form that the grammar requires in the new state (`Held`).
 use Rattle.std.proofs.Common.{◌≡◌, ℕ, inl, inr, true, List, [], ◌∷◌, ◌++◌, Option, Some, None, ◌==◌, refl, ap, sym, ◌∙◌, subst, append_assoc, append-nil, eqb-true}
 use Rattle.mes_fixed.specs.Number.{IsNumber}
 use Rattle.mes_fixed.specs.Automaton.{letter_of, number_next, is_final, Ends}

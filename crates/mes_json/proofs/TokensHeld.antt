@@ -1,4 +1,4 @@
--- The tokens of a state of the machine, and of a tape whose nodes are all allowed.
+-- The tokens of a state of the state machine, and the tokens of a tape whose nodes are all allowed.
 use Rattle.std.proofs.Common.{◌≡◌, ℕ, List, [], ◌∷◌, ◌++◌, refl, ap, sym, ◌∙◌, inl, inr, append_assoc, append-nil}
 use Rattle.mes_json.specs.Tree.{Tree, Items, Members}
 use Rattle.mes_json.specs.Tree.{Tree as tree}
@@ -47,13 +47,13 @@ spelled_from_tokens texts s (x ∷ xs) =
 pub spelled_tokens : (texts : List ℕ) (xs : List Node) → spelled texts xs ≡ fold_tokens start (tokens_held texts xs)
 spelled_tokens texts xs = spelled_from_tokens texts start xs
 
--- the tokens of the open objects and arrays, the innermost first
+-- the tokens of the open objects and arrays, which are given with the innermost first
 abbrev tokens_of_frames : List Frame → List Token
 tokens_of_frames [] = []
 tokens_of_frames (frame ms k ∷ fs) = tokens_of_frames fs ++ (begin_object ∷ tokens_of_members ms ++ name k ∷ [])
 tokens_of_frames (array_frame ts ∷ fs) = tokens_of_frames fs ++ begin_array ∷ tokens_of_items ts
 
--- the tokens of the current part; the text that is being read has none
+-- the tokens of the part that is read; a string, number or literal in progress has none
 abbrev tokens_at : ReaderState → List Token
 tokens_at at.value = []
 tokens_at at.first_item = begin_array ∷ []
@@ -90,7 +90,7 @@ behind_member fs ms k t =
     (tokens_with_member ms k t ∙ sym (append_assoc (tokens_of_members ms) (name k ∷ []) (tokens t)))
     ∙ sym (append_assoc (tokens_of_frames fs) (begin_object ∷ tokens_of_members ms ++ name k ∷ []) (tokens t))
 
--- a comma or a colon changes nothing
+-- a comma or a colon leaves the tokens of a state unchanged
 held_value_due : (s : State) → held (value_due s) ≡ held s
 held_value_due (state fs at.value) = refl
 held_value_due (state fs at.first_item) = append-nil (tokens_of_frames fs ++ begin_array ∷ [])

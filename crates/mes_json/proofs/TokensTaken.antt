@@ -1,4 +1,4 @@
--- If a value is expected, the tokens of a value lead to the state after it.
+-- In a state that expects a value, the tokens of a value lead to the state after that value.
 use Rattle.std.proofs.Common.{◌≡◌, ℕ, List, [], ◌∷◌, ◌++◌, Some, refl, ap, sym, ◌∙◌, append_assoc}
 use Rattle.mes_json.specs.Tree.{Tree, Items, Members}
 use Rattle.mes_json.specs.Tree.{Tree as tree}

@@ -1,4 +1,4 @@
--- The tree of a value on a tape.
+-- The tree that is built from a value on a tape is the tree of the value's tokens.
 use Rattle.std.proofs.Common.{◌≡◌, ℕ, List, [], take, drop, Option, Some, None, option_map, ap, sym, ◌∙◌, subst, append-nil}
 use Rattle.std.proofs.lemmas.List.{map-append, take-append-drop}
 use Rattle.mes_json.specs.Tree.{Tree}

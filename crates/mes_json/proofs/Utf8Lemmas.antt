@@ -1,4 +1,4 @@
--- The machine reads a character of UTF-8 (RFC 3629 section 4) byte by byte.
+-- The state machine reads exactly the characters of UTF-8 (RFC 3629 section 4), byte by byte.
 use Rattle.std.proofs.Common.{◌≡◌, ◌≢◌, ℕ, zero, suc, ◌+◌, ◌-◌, ◌*◌, ◌/◌, ◌<◌, ◌≤◌, ◌⊎◌, inl, inr, Bool, true, false, List, [], ◌∷◌, ◌++◌, Option, Some, None, if◌then◌else◌, ◌==◌, nat_lt, refl, ap, sym, ◌∙◌, subst, arith, encode_utf8, ltb-true, ltb-false, eqb-true, append_assoc}
 use Rattle.std.proofs.lemmas.Bool.Decides.{nat_tests}
 use Rattle.std.specs.Char.{IsScalar}
@@ -35,7 +35,7 @@ pub quoted_next : (fs : List Frame) (p : Purpose) (s : List ℕ) (c n least most
     → on_quoted fs p (within n least most) s c ≡ Some (state fs (quoted p (after_byte n) (s ++ c ∷ [])))
 quoted_next fs p s c n least most l h = grind (arith, nat_tests)
 
--- ---- completeness: the bytes of a character lead to the state after it
+-- ---- completeness: the bytes of a character lead to the state after the character
 module _ (d : ℕ) (fs : List Frame) (p : Purpose) where
   ahead : (s : List ℕ) (c : ℕ) (m : Utf8State) → 32 ≤ c → c ≢ 34 → c ≢ 92 → lead c ≡ Some m
       → Reaches d (state fs (quoted p between s)) (c ∷ []) (state fs (quoted p m (s ++ c ∷ [])))
@@ -107,7 +107,7 @@ module _ (d : ℕ) (fs : List Frame) (p : Purpose) where
   over_unescaped s b c is l q n e =
       subst (λ (u : List ℕ). Reaches d (state fs (quoted p between s)) u (state fs (quoted p between (s ++ encode_utf8 c)))) (sym e) (over_encoded s c (scalar_cases c is) l q n)
 
--- ---- soundness: the bytes that the machine reads as a character are one
+-- ---- soundness: the bytes that the state machine reads as a character are a character
 scalar_in : (c : ℕ) → (c < 0xD800) ⊎ ((0xE000 ≤ c) × (c < 0x11_0000)) → IsScalar c
 scalar_in c h = grind (arith, nat_tests)
 
@@ -164,7 +164,7 @@ four_char a z y x l h low high lz hz ly hy lx hx =
     below (yes e) = let k : z ≤ 0x8F = high e in omega arith
     below (no n) = omega arith
 
--- a state after the first byte of a character, by the byte
+-- m is the state after c, the first byte of a character, by the range of c
 data Leading (c : ℕ) (m : Utf8State) : Type 0 where
   whole : c < 0x80 → m ≡ between → Leading c m
   of_two : 0xC2 ≤ c → c < 0xE0 → m ≡ within 1 0x80 0xBF → Leading c m
@@ -229,7 +229,7 @@ lead_is c m e =
           ]
     ]
 
--- a part with one more byte is a part
+-- the first bytes of a character and one more byte are again the first bytes of a character
 part_two : (a : ℕ) → 0xC2 ≤ a → a < 0xE0 → IsPart 1 0x80 0xBF (a ∷ [])
 part_two a l h = record { some = omega arith; whole = by }
   where
@@ -259,7 +259,7 @@ part_four a least most l h low high from some to = record { some = some; whole =
         four_char a z y x l h (λ e. let k : 0x90 ≤ least = low e in omega arith) (λ e. let k : most ≤ 0x8F = high e in omega arith) (omega arith) (omega arith) f.2.0 f.2.1 f.2.2.0 f.2.2.1
     by (z ∷ y ∷ x ∷ w ∷ q) f = cons_nil f.2.2.2
 
--- after the last byte the bytes are a character, before that a part of one
+-- b is a whole character in the state `between`, and the first bytes of a character in other states
 abbrev pub IsRead : Utf8State → List ℕ → Type 0
 IsRead between b = Char b
 IsRead (within n least most) b = PartOf (within n least most) b

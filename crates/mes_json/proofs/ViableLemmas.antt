@@ -1,4 +1,4 @@
--- Viability: every state of a run can be completed, so some text begins with the bytes of a run.
+-- Viability: every state reached can be completed, so some JSON text begins with the bytes read.
 use Rattle.std.proofs.Common.{◌≡◌, ℕ, zero, suc, ◌+◌, ◌<◌, ◌≤◌, inl, inr, Bool, true, false, List, [], ◌∷◌, ◌++◌, length, Option, Some, None, option_and_then, if◌then◌else◌, nat_lt, refl, ap, sym, ◌∙◌, arith, lt-ltb, ltb-true}
 use Rattle.mes_fixed.specs.Automaton.{is_final}
 use Rattle.mes_fixed.specs.declared.automaton.NumberState.{NumberState}
@@ -32,7 +32,7 @@ Closes d s = (q : List ℕ) × (t : Tree) × (ends d s q ≡ Some t)
 closes_by : (d : ℕ) (s next : State) (b : List ℕ) → Reaches d s b next → Closes d next → Closes d s
 closes_by d s next b f h = (b ++ h.0, h.1, ap (option_and_then finish) (f h.0) ∙ h.2)
 
--- a completion that may follow a value
+-- some bytes complete the state s, and they may follow a value
 abbrev Continues : ℕ → State → Type 0
 Continues d s = (q : List ℕ) × (t : Tree) × Follows q × (ends d s q ≡ Some t)
 
@@ -64,7 +64,7 @@ name_closes : (d : ℕ) (fs : List Frame) (ms : Members) → Closes d (state fs 
 unfolding run
 name_closes d fs ms = closes_by d _ (state fs (named ms [])) (34 ∷ 34 ∷ []) (λ q. refl) (named_closes d fs ms [])
 
--- a number that may not end here may end after a zero
+-- an unfinished number can be completed: it may end at once, or after a zero
 digits_close : (d : ℕ) (fs : List Frame) (part : NumberState) (n : List ℕ) → Closes d (state fs (token (digits part n)))
 digits_close d fs part n = by (is_final part) refl
   where
@@ -105,7 +105,7 @@ closes d (state fs (named ms k)) b h = named_closes d fs ms k
 closes d (state fs (token x)) b h = token_closes d fs x
 closes d (state fs (after t)) b h = after_closes fs d t
 
--- some text begins with the bytes of a run
+-- some JSON text begins with the bytes p, if the state machine reads all of p
 pub begins_from_run : (d : ℕ) (s : State) (p : List ℕ) → run d start p ≡ Some s → Begins d p
 begins_from_run d s p e =
     let c = closes d s p (held_run d s p e) in

@@ -1,4 +1,4 @@
--- The tree of a value, one level at a time.
+-- The tree that a `Json` value represents, one level of nesting at a time.
 use Rattle.std.proofs.Common.{◌≡◌, ℕ, Bool, List, Vec, Global, ap, ◌∙◌, rules}
 use Rattle.mes_json.specs.Tree.{Tree}
 use Rattle.mes_json.specs.Tree.Tree.{null, boolean, number, string, array, object}

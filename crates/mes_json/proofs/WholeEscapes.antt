@@ -54,7 +54,7 @@ unit_makes (c0 ∷ c1 ∷ c2 ∷ c3 ∷ c4 ∷ q) v0 v1 v2 v3 front back long h0
     no_high (inl h) = inl (omega (arith, sum, h))
     no_high (inr h) = inr (omega (arith, sum, h.0))
 
--- the run of the machine over an escape
+-- the state machine's run over the bytes of a whole escape adds the character `made`
 over_made : (fs : List Frame) (p : m.Purpose) (b : List ℕ) (x : e.Move) (q : List ℕ) (made : ℕ) → made_of x q ≡ Some made
     → option_and_then (λ (s : State). run MAX_NESTING s q) (in_escape fs p b x) ≡ Some (state fs (m.ReaderState.quoted p m.Utf8State.between (b ++ encode_utf8 made)))
 unfolding run
@@ -68,7 +68,7 @@ spells_made : (q : List ℕ) (made : ℕ) → made_of (e.Move.on e.Escape.backsl
 unfolding run
 spells_made q made h fs p b = over_made fs p b (e.Move.on e.Escape.backslash) q made h
 
--- the run of the reader, from the backslash on
+-- a backslash at offset `from` and the n bytes after it are the n + 1 bytes from `from` on
 front_is : (b : List ℕ) (from n : ℕ) → from < length b → get_or b from 0 ≡ 92
     → 92 ∷ take n (take (length b - (from + 1)) (drop (from + 1) b)) ≡ take (n + 1) (drop from b)
 front_is b from n more backslash =

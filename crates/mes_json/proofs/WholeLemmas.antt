@@ -1,4 +1,4 @@
--- The reader at the end of the bytes, and its tape.
+-- The reader's result at the end of the bytes: the tape, if the value is whole.
 use Rattle.std.proofs.Common.{◌≡◌, ◌==◌, Bool, true, false, List, [], ◌∷◌, ◌++◌, length, Option, Some, option_map, ap, sym, ◌∙◌, subst, arith}
 use Rattle.std.proofs.lemmas.Grind.{common_steps}
 use Rattle.std.specs.List.{AllByRecursion}

@@ -1,4 +1,4 @@
--- Written bytes stay a prefix of the output; one more item, one more member.
+-- Writing appends to the old output; the output after one more item or member.
 use Rattle.std.proofs.Common.{◌≡◌, ℕ, ◌+◌, ◌-◌, ◌<◌, ◌≤◌, List, [], ◌∷◌, ◌++◌, length, take, drop, get_or, refl, ap, sym, ◌∙◌, subst, append_assoc, arith, Result, Ok, Err, IfOk}
 use Rattle.std.proofs.lemmas.List.{append-nil, take_all, take_rest}
 use Rattle.std.specs.Str.{IsUtf8}
@@ -101,7 +101,7 @@ items_writable [] x n is all one are = tt
 items_writable (y ∷ ys) x n is all one are =
     (subst (λ (z : Json). IsWritable (view z)) is one, subst (λ (zs : List Json). AreWritable (items_view zs)) (others (y ∷ ys) n all) are)
 
--- a and b are the defaults of `get_or` after the end
+-- a and b are the default elements that `get_or` returns beyond the end of xs
 pub members_written : (xs : List (List ℕ × Json)) (a b : List ℕ × Json) (n : ℕ) (start first new : List ℕ) → 1 ≤ length xs
     → length (take (length xs - 1) (drop 1 xs)) ≤ n → first ≡ start ++ member_text (get_or xs 0 a).0 (view (get_or xs 0 b).1)
     → new ≡ first ++ more_members (members_view (take n (take (length xs - 1) (drop 1 xs)))) → new ≡ start ++ canonical_members (members_view xs)

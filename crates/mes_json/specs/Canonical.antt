@@ -7,15 +7,15 @@ use Rattle.mes_json.specs.Tree.Items.{no_items, item}
 use Rattle.mes_json.specs.Tree.Members.{no_members, member}
 use Rattle.mes_json.specs.Grammar.{null_text, boolean_text}
 
--- HEXDIG in lower case
+-- the HEXDIG of a value below 16, in lower case
 abbrev pub hex_digit : ℕ → ℕ
 hex_digit v = if nat_lt v 10 then 48 + v else 87 + v
 
--- a control character as %x5C %x75 %x30 %x30 2HEXDIG
+-- the control character c as %x5C %x75 %x30 %x30 2HEXDIG
 abbrev pub by_digits : ℕ → List ℕ
 by_digits c = 92 ∷ 0x75 ∷ 0x30 ∷ 0x30 ∷ hex_digit (c / 16) ∷ hex_digit (c % 16) ∷ []
 
--- the byte c in a string: a two-byte escape, \u00 and two digits, or the byte itself
+-- the byte c as written in a string: a two-byte escape, \u00 and two digits, or the byte unchanged
 abbrev pub escaped : ℕ → List ℕ
 escaped c =
     if c == 0x22 then 92 ∷ 0x22 ∷ []
@@ -32,7 +32,7 @@ abbrev pub escaped_text : List ℕ → List ℕ
 escaped_text [] = []
 escaped_text (c ∷ s) = escaped c ++ escaped_text s
 
--- a byte of unescaped = %x20-21 / %x23-5B / %x5D-10FFFF, in UTF-8
+-- c needs no escape: a byte of unescaped = %x20-21 / %x23-5B / %x5D-10FFFF, in UTF-8
 abbrev pub IsKept : ℕ → Type 0
 IsKept c = (32 ≤ c) × (c ≢ 34) × (c ≢ 92)
 

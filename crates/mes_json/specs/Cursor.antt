@@ -1,4 +1,4 @@
--- The results of a cursor on a tape, by the tree of the value there.
+-- The results of a cursor on a tape, in terms of the tree of the value at the cursor.
 use Rattle.std.specs.Prelude.{◌≡◌, ℕ, suc, Bool, true, false, List, Option, Some, None, map}
 use Rattle.mes_json.specs.Tree.{Tree, Items, Members}
 use Rattle.mes_json.specs.Tree.Items.{no_items, item}
@@ -8,7 +8,7 @@ use Rattle.mes_json.specs.Tokens.{Token, BeginsWith, BeginsItems, BeginsMembers}
 use Rattle.mes_json.specs.declared.tape.Node.{Node}
 use Rattle.mes_json.specs.declared.tape.Node.TheVariants as node
 
--- the token of a node, with its text from the buffer of texts
+-- the token of a node, whose text is in the buffer of texts
 abbrev pub token_of : List ℕ → Node → Token
 token_of texts node.Null = Token.null
 token_of texts (node.Bool x) = Token.boolean x
@@ -22,7 +22,7 @@ token_of texts node.End = Token.ends
 abbrev pub tokens_held : List ℕ → List Node → List Token
 tokens_held texts xs = map (token_of texts) xs
 
--- ---- the kind of a value
+-- ---- accessors of a tree by its kind, and the number of items
 
 abbrev pub is_null : Tree → Bool
 is_null Tree.null = true
@@ -76,30 +76,30 @@ abbrev pub count_of : Items → ℕ
 count_of no_items = 0
 count_of (item t ts) = suc (count_of ts)
 
--- ---- the results of a cursor
+-- ---- the cursors that `items`, `members` and `next` return
 
--- the result is a cursor at the items, if there are any
+-- for an array, the result is a cursor at its items; for any other value, None
 abbrev pub FindsItems : Option (List Token) → Option Items → Type 0
 FindsItems None None = Unit {0}
 FindsItems None (Some ts) = ⊥
 FindsItems (Some xs) None = ⊥
 FindsItems (Some xs) (Some ts) = BeginsItems xs ts
 
--- the result is a cursor at the members, if there are any
+-- for an object, the result is a cursor at its members; for any other value, None
 abbrev pub FindsMembers : Option (List Token) → Option Members → Type 0
 FindsMembers None None = Unit {0}
 FindsMembers None (Some ms) = ⊥
 FindsMembers (Some xs) None = ⊥
 FindsMembers (Some xs) (Some ms) = BeginsMembers xs ms
 
--- the first item, and the cursor at the others; None at the end
+-- the result is the first item, and `rest` is at the items after it; None if there are no items
 abbrev pub NextItem : Items → Option (List Token) → List Token → Type 0
 NextItem no_items None rest = BeginsItems rest no_items
 NextItem no_items (Some x) rest = ⊥
 NextItem (item t ts) None rest = ⊥
 NextItem (item t ts) (Some x) rest = BeginsWith x t × BeginsItems rest ts
 
--- the first member, and the cursor at the others; None at the end
+-- the result is the first member, and `rest` is at the members after it; None if there are none
 abbrev pub NextMember : Members → Option (List ℕ × List Token) → List Token → Type 0
 NextMember no_members None rest = BeginsMembers rest no_members
 NextMember no_members (Some x) rest = ⊥

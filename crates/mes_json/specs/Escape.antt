@@ -1,8 +1,9 @@
--- The states within an escape (RFC 8259 section 7), one byte at a time. Cited by private clauses
--- only.
+-- The states within an escape (RFC 8259 section 7), and the effect of each byte. Cited by private
+-- clauses only.
 use Rattle.std.specs.Prelude.{ℕ, List, [], ◌∷◌, ◌+◌, ◌-◌, ◌*◌, ◌<◌, ◌≤◌, ◌⊎◌, ◌&&◌, Option, Some, None, if◌then◌else◌, ◌==◌, nat_le}
 
--- the bytes read so far: \, then u and digits with their value; `high` is the first half of a pair
+-- the bytes of the escape so far: \, then u and digits with their value; from `high` on, the escape
+-- of a high surrogate came first
 pub data Escape : Type 0 where
   backslash : Escape
   unit0 : Escape
@@ -39,11 +40,11 @@ short_of c =
     else if c == 0x74 then makes 0x09
     else refused
 
--- after two digits; a low surrogate cannot come first
+-- the effect of the second digit; a low surrogate cannot come first
 abbrev pub two_digits : ℕ → Move
 two_digits v = if nat_le 0xDC v && nat_le v 0xDF then refused else on (unit2 v)
 
--- after four digits
+-- the effect of the fourth digit
 abbrev pub four_digits : ℕ → Move
 four_digits v = if nat_le 0xD800 v && nat_le v 0xDBFF then on (high v) else makes v
 
@@ -63,7 +64,7 @@ escape_step (low1 h) c = by_hex (hex_of c) (λ x. if nat_le 12 x then on (low2 h
 escape_step (low2 h v) c = by_hex (hex_of c) (λ x. on (low3 h (v * 16 + x)))
 escape_step (low3 h v) c = by_hex (hex_of c) (λ x. makes (pair_of h (v * 16 + x)))
 
--- the bounds of the values in each state
+-- the value in each state of an escape is within the state's bounds
 abbrev pub HasBounds : Escape → Type 0
 HasBounds backslash = Unit {0}
 HasBounds unit0 = Unit {0}
@@ -77,7 +78,7 @@ HasBounds (low1 h) = (0xD800 ≤ h) × (h ≤ 0xDBFF)
 HasBounds (low2 h v) = (0xD800 ≤ h) × (h ≤ 0xDBFF) × (0xDC ≤ v) × (v ≤ 0xDF)
 HasBounds (low3 h v) = (0xD800 ≤ h) × (h ≤ 0xDBFF) × (0xDC0 ≤ v) × (v ≤ 0xDFF)
 
--- the character made by a move and the bytes after it, if the last byte ends the escape
+-- the character of an escape that ends with the last of the bytes after the given move
 abbrev pub made_of : Move → List ℕ → Option ℕ
 made_of (on e) [] = None
 made_of (on e) (c ∷ q) = made_of (escape_step e c) q

@@ -1,4 +1,5 @@
--- The state that the code's escape represents. Cited by private clauses only.
+-- The state of an escape (in `specs`) that the code's `Escape` represents. Cited by private clauses
+-- only.
 use Rattle.mes_json.specs.Escape as e
 use Rattle.mes_json.specs.declared.escape.Escape as escape
 use Rattle.mes_json.specs.declared.escape.Move as move

@@ -1,5 +1,5 @@
--- The grammar of a JSON text (RFC 8259 sections 2 to 8), one definition a production. It relates
--- bytes and the tree that they represent, up to a nesting depth.
+-- The grammar of a JSON text (RFC 8259 sections 2 to 8), with one definition for each production. A
+-- definition relates bytes, the tree that they represent, and a limit of the nesting depth.
 use Rattle.std.specs.Prelude.{◌≡◌, ◌≢◌, ℕ, zero, suc, ◌+◌, ◌-◌, ◌*◌, ◌≤◌, ◌⊎◌, Bool, true, false, List, [], ◌∷◌, ◌++◌, encode_utf8}
 use Rattle.std.specs.List.{AllByRecursion}
 use Rattle.std.specs.Char.{IsScalar}
@@ -32,12 +32,12 @@ abbrev pub boolean_text : Bool → List ℕ
 boolean_text true = true_text
 boolean_text false = false_text
 
--- HEXDIG = DIGIT / "A" / "B" / "C" / "D" / "E" / "F", in either case (RFC 5234), with its value
+-- c is a HEXDIG with the value v: DIGIT, or "A" to "F" in either case (RFC 5234)
 abbrev pub IsHex : ℕ → ℕ → Type 0
 IsHex c v =
     ((48 ≤ c) × (c ≤ 57) × (c ≡ v + 48)) ⊎ ((65 ≤ c) × (c ≤ 70) × (c ≡ v + 55)) ⊎ ((97 ≤ c) × (c ≤ 102) × (c ≡ v + 87))
 
--- 4HEXDIG, with its value
+-- 4HEXDIG with the value v
 pub record IsHex4 (b : List ℕ) (v : ℕ) : Type 0 where
   pub c0 : ℕ
   pub c1 : ℕ
@@ -54,7 +54,7 @@ pub record IsHex4 (b : List ℕ) (v : ℕ) : Type 0 where
   pub d3 : IsHex c3 v3
   pub value : v ≡ v0 * 4096 + v1 * 256 + v2 * 16 + v3
 
--- the letter after escape = %x5C, and its character: " \ / b f n r t
+-- the letter after escape = %x5C, and the character that it represents: " \ / b f n r t
 pub data IsShort : ℕ → ℕ → Type 0 where
   quotation_mark : IsShort 0x22 0x22
   reverse_solidus : IsShort 0x5C 0x5C
@@ -76,19 +76,19 @@ pub data IsChar : List ℕ → ℕ → Type 0 where
       → 0xD800 ≤ high → high ≤ 0xDBFF → 0xDC00 ≤ low → low ≤ 0xDFFF
       → c ≡ 0x10000 + (high - 0xD800) * 0x400 + (low - 0xDC00) → b ≡ 92 ∷ 117 ∷ (first ++ 92 ∷ 117 ∷ second) → IsChar b c
 
--- *char, and the characters in UTF-8
+-- *char, and the characters that they represent, in UTF-8
 pub data IsChars : List ℕ → List ℕ → Type 0 where
   none : {b s : List ℕ} → b ≡ [] → s ≡ [] → IsChars b s
   some : {b s : List ℕ} → (first rest : List ℕ) → (c : ℕ) → (others : List ℕ) → IsChar first c → IsChars rest others
       → b ≡ first ++ rest → s ≡ encode_utf8 c ++ others → IsChars b s
 
--- string = quotation-mark *char quotation-mark
+-- string = quotation-mark *char quotation-mark; s is the decoded string
 pub record IsString (s : List ℕ) (b : List ℕ) : Type 0 where
   pub inside : List ℕ
   pub is : b ≡ 34 ∷ (inside ++ 34 ∷ [])
   pub chars : IsChars inside s
 
--- ws It ws
+-- ws It ws: bytes of the form `It`, with white space around them
 pub record Spaced (It : List ℕ → Type 0) (b : List ℕ) : Type 0 where
   pub before : List ℕ
   pub inside : List ℕ
@@ -106,7 +106,7 @@ pub record IsMember (name_is : List ℕ → Type 0) (value_is : List ℕ → Typ
   pub is_name : Spaced name_is name
   pub is_value : Spaced value_is value
 
--- First Rest
+-- First Rest: bytes of the form `First`, then bytes of the form `Rest`
 pub record Then (First Rest : List ℕ → Type 0) (b : List ℕ) : Type 0 where
   pub first : List ℕ
   pub rest : List ℕ
@@ -114,11 +114,11 @@ pub record Then (First Rest : List ℕ → Type 0) (b : List ℕ) : Type 0 where
   pub is_first : First first
   pub is_rest : Rest rest
 
--- the byte c, and Rest
+-- the byte c, then bytes of the form `Rest`
 abbrev pub Led : ℕ → (List ℕ → Type 0) → List ℕ → Type 0
 Led c Rest b = (rest : List ℕ) × (b ≡ c ∷ rest) × Rest rest
 
--- the byte first, Inside, the byte last
+-- the byte `first`, bytes of the form `Inside`, and the byte `last`
 abbrev pub Enclosed : ℕ → (List ℕ → Type 0) → ℕ → List ℕ → Type 0
 Enclosed first Inside last b = (inside : List ℕ) × (b ≡ first ∷ (inside ++ last ∷ [])) × Inside inside
 

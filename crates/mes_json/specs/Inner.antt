@@ -1,7 +1,7 @@
 -- The number of bytes inside the strings and numbers of a text, from one pass over the bytes.
 use Rattle.std.specs.Prelude.{ℕ, ◌+◌, Bool, List, [], ◌∷◌, ◌&&◌, ◌||◌, if◌then◌else◌, ◌==◌, nat_le}
 
--- the position of a byte: outside strings, inside one, or after a backslash inside one
+-- the position of a byte: outside strings, inside a string, or after a backslash inside a string
 pub data Stand : Type 0 where
   outside inside escaped : Stand
 
@@ -15,13 +15,13 @@ following outside c = if c == 34 then inside else outside
 following inside c = if c == 34 then outside else (if c == 92 then escaped else inside)
 following escaped c = inside
 
--- 1 for a byte of a number outside strings, or inside a string up to its closing quotation mark
+-- 1 for a byte of a number, and for a byte inside a string except its closing quotation mark
 abbrev pub counts : Stand → ℕ → ℕ
 counts outside c = if is_of_number c then 1 else 0
 counts inside c = if c == 34 then 0 else 1
 counts escaped c = 1
 
--- the number of bytes that count, if the first one is at this position
+-- the number of bytes that `counts` counts, if the first byte is at the given position
 abbrev pub inner_from : Stand → List ℕ → ℕ
 inner_from place [] = 0
 inner_from place (c ∷ p) = counts place c + inner_from (following place c) p

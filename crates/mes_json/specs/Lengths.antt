@@ -11,7 +11,7 @@ abbrev pub unless_zero : ℕ → Option ℕ
 unless_zero zero = None
 unless_zero (suc n) = Some (suc n)
 
--- the number of nodes after this one in its value, if the node stores the number
+-- the number of nodes after x in the value that x begins, if x stores that number
 abbrev pub reported : Node → Option ℕ
 reported Null = Some 0
 reported (Bool x) = Some 0
@@ -22,21 +22,21 @@ reported (list n) = unless_zero n
 reported (Map n) = unless_zero n
 reported End = Some 0
 
--- the node begins a value that has the first n of the nodes xs
+-- x begins a value that consists of x and the first n nodes of xs
 pub record HasRest (n : ℕ) (x : Node) (xs : List Node) : Type 0 where
   pub inside : n ≤ length xs
   pub ends : (texts : List ℕ) → following 0 (tokens_held texts (x ∷ xs)) ≡ drop n (tokens_held texts xs)
 
--- the length stored in the node is correct
+-- the length stored in the node x is correct, or unknown; xs are the nodes after x
 abbrev pub TellsTruth : Node → List Node → Type 0
 TellsTruth x xs = (n : ℕ) → reported x ≡ Some n → HasRest n x xs
 
--- the length stored in each node is correct
+-- the length stored in each node is correct, or unknown
 abbrev pub TellLengths : List Node → Type 0
 TellLengths [] = Unit {0}
 TellLengths (x ∷ xs) = TellsTruth x xs × TellLengths xs
 
--- the node without its length
+-- the node, with its length replaced by 0 (unknown)
 abbrev pub unreported : Node → Node
 unreported Null = Null
 unreported (Bool x) = Bool x
@@ -47,7 +47,7 @@ unreported (list n) = list 0
 unreported (Map n) = Map 0
 unreported End = End
 
--- the node with this length
+-- the node, with its length replaced by n
 abbrev pub telling : ℕ → Node → Node
 telling n Null = Null
 telling n (Bool x) = Bool x
@@ -69,12 +69,13 @@ IsLeaf (list n) = ⊥
 IsLeaf (Map n) = ⊥
 IsLeaf End = ⊥
 
--- the stored lengths are correct before any nodes, and nothing stays open
+-- nodes with correct stored lengths, after which no array or object begun among them is open
 pub record IsWhole (xs : List Node) : Type 0 where
   pub reports : (ys : List Node) → TellLengths ys → TellLengths (xs ++ ys)
   pub passes : (texts : List ℕ) (n : ℕ) (ts : List Token) → following (suc n) (tokens_held texts xs ++ ts) ≡ following (suc n) ts
 
--- an open array or object begins at `place`, without a length; `Known` holds of the nodes before
+-- the node at `place` begins an open array or object, and stores no length; `Known` holds of the
+-- nodes before that node
 pub record IsBegun (place : ℕ) (Known : List Node → Type 0) (xs : List Node) : Type 0 where
   pub outer : List Node
   pub first : Node
@@ -85,7 +86,8 @@ pub record IsBegun (place : ℕ) (Known : List Node → Type 0) (xs : List Node)
   pub whole : IsWhole inner
   pub before : Known outer
 
--- open arrays and objects begin at these places, innermost first; all stored lengths are correct
+-- arrays and objects that begin at the given indices are open, the innermost first; all stored
+-- lengths are correct
 abbrev pub AreBegun : List ℕ → List Node → Type 0
 AreBegun [] xs = (ys : List Node) → TellLengths ys → TellLengths (xs ++ ys)
 AreBegun (place ∷ places) xs = IsBegun place (AreBegun places) xs

@@ -1,4 +1,4 @@
--- The bytes that a lexer represents, and its results.
+-- The bytes that a lexer represents, and the lexer's results.
 use Rattle.std.specs.Prelude.{◌≡◌, ℕ, ◌-◌, ◌^◌, ◌≤◌, List, length, min, Some, Result, Ok, Err}
 use Rattle.mes_json.specs.Machine.{start, run}
 use Rattle.mes_json.specs.Place.{IsFault}
@@ -17,45 +17,45 @@ use Rattle.mes_json.specs.declared.lexer.Lexer.{Lexer}
 abbrev pub counted : ℕ → ℕ
 counted n = min n (2 ^ 64 - 1)
 
--- the exact fault, with its offset capped at 2^64 - 1
+-- f is the fault `exact`, with the offset capped at 2^64 - 1
 pub record Rounds (exact f : TextFault) : Type 0 where
   pub byte : f.byte ≡ counted exact.byte
   pub why : f.why ≡ exact.why
 
--- the fault of the bytes, with its offset capped at 2^64 - 1
+-- f is the first fault of the bytes b, with the offset capped at 2^64 - 1
 pub record IsCountedFault (d : ℕ) (b : List ℕ) (f : TextFault) : Type 0 where
   pub exact : TextFault
   pub is_fault : IsFault d b exact
   pub rounds : Rounds exact f
 
--- the meaning of an error for the bytes
+-- the meaning of an error that is returned for the bytes b
 abbrev pub IsLexFault : ℕ → List ℕ → fault.ReadFault → Type 0
 IsLexFault d b (fault.TheVariants.Text f) = IsCountedFault d b f
 IsLexFault d b fault.TheVariants.NoMemory = Unit {0}
 
--- the reader has read the bytes
+-- the reader r has read the bytes p; n is their number, capped
 pub record IsReading (n : ℕ) (r : Reader) (p : List ℕ) : Type 0 where
   pub count : n ≡ counted (length p)
   pub fits : Fits r
   pub reached : run MAX_NESTING start p ≡ Some (state_view r)
 
--- no state continues with the byte at the fault's offset
+-- the state machine refuses the byte of p at the offset of the fault f
 pub record IsFaulty (f : TextFault) (p : List ℕ) : Type 0 where
   pub exact : TextFault
   pub stuck : Stuck start p exact
   pub rounds : Rounds exact f
 
--- the bytes bring a lexer to this count and state
+-- a lexer with the given count and state has received the bytes p
 abbrev pub Represents : ℕ → LexerState → List ℕ → Type 0
 Represents n (Reading r) p = IsReading n r p
 Represents n (Faulty f) p = IsFaulty f p
 Represents n OutOfMemory p = Unit {0}
 
--- p is the bytes pushed, in any runs
+-- p is all bytes pushed to the lexer, in runs of any lengths
 unfoldable pub HasLexed : Lexer → List ℕ → Type 0
 HasLexed l p = Represents l.0 l.1 p
 
--- some bytes were pushed
+-- some pushed bytes lead to the given count and state of a lexer
 abbrev pub IsPossible : ℕ × LexerState → Type 0
 IsPossible l = (p : List ℕ) × Represents l.0 l.1 p
 
@@ -64,11 +64,11 @@ HasNoMemory (Reading r) = ⊥
 HasNoMemory (Faulty f) = ⊥
 HasNoMemory OutOfMemory = Unit {0}
 
--- an allocation failed in a push
+-- an allocation failed in a push to the lexer
 unfoldable pub IsOutOfMemory : Lexer → Type 0
 IsOutOfMemory l = HasNoMemory l.1
 
--- an error is returned exactly if an allocation fails now or failed before
+-- the result of a push is an error if and only if an allocation fails now or failed before
 abbrev pub Reports : {A E : Type 0} → Result A E → Lexer → Type 0
 Reports (Ok _) l = IsOutOfMemory l → ⊥
 Reports (Err _) l = IsOutOfMemory l
@@ -91,7 +91,7 @@ held l = text_of l.1
 unfoldable pub nodes_held : Lexer → ℕ
 nodes_held l = nodes_of l.1
 
--- at most the bytes inside strings and numbers are buffered, and at most one node a byte
+-- the lexer buffers at most the bytes of p inside strings and numbers, and at most one node a byte
 pub record IsBounded (l : Lexer) (p : List ℕ) : Type 0 where
   pub texts : held l ≤ inner p
   pub nodes : nodes_held l ≤ length p

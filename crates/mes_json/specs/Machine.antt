@@ -1,4 +1,4 @@
--- The states of a machine that reads JSON one byte at a time. Cited by private clauses only: the
+-- The state machine that reads JSON one byte at a time. Cited by private clauses only: the state
 -- machine is proved to accept exactly the grammar.
 use Rattle.std.specs.Prelude.{ℕ, zero, suc, ◌&&◌, ◌||◌, Bool, true, false, List, [], ◌∷◌, ◌++◌, length, Option, Some, None, option_and_then, if◌then◌else◌, ◌==◌, nat_lt, nat_le, encode_utf8}
 use Rattle.mes_fixed.specs.Automaton.{letter_of, number_next, is_final}
@@ -12,7 +12,8 @@ use Rattle.mes_json.specs.Escape.{Escape, Move, escape_step}
 use Rattle.mes_json.specs.Escape.Escape.{backslash}
 use Rattle.mes_json.specs.Escape.Move.{on, makes, refused}
 
--- a literal: the next byte, those after it, and its value; or a number: its state and bytes so far
+-- in a literal: the next byte, the bytes after it, and the literal's value; in a number: its state
+-- and bytes so far
 pub data Token : Type 0 where
   literal : ℕ → List ℕ → Tree → Token
   digits : NumberState → List ℕ → Token
@@ -22,7 +23,7 @@ pub data ByteClass : Type 0 where
   blank quote opening closing opening_array closing_array colon comma other : ByteClass
   begins : Token → ByteClass
 
--- the class of a byte, by the state of a number that begins with the byte
+-- the class of the byte c; the second argument is the state of a number after c, if c begins one
 abbrev pub kind_unless : ℕ → Option NumberState → ByteClass
 kind_unless c (Some part) = begins (digits part (c ∷ []))
 kind_unless c None =
@@ -48,12 +49,12 @@ pub data Utf8State : Type 0 where
   within : ℕ → ℕ → ℕ → Utf8State
   escape : Escape → Utf8State
 
--- an open object, with its members so far and the name of the next value; or an open array
+-- an open object, with its members so far and the name of the member in progress; or an open array
 pub data Frame : Type 0 where
   frame : Members → List ℕ → Frame
   array_frame : Items → Frame
 
--- the purpose of a string: a name after these members, or a value
+-- a string is a name that follows the given members, or a value
 pub data Purpose : Type 0 where
   for_name : Members → Purpose
   for_value : Purpose
@@ -83,7 +84,7 @@ with_member (member j u ms) k t = member j u (with_member ms k t)
 abbrev pub start : State
 start = state [] value
 
--- the state after the first byte of a character (RFC 3629 section 4)
+-- the state after the first byte of a character (RFC 3629 section 4), if c is such a byte
 abbrev pub lead : ℕ → Option Utf8State
 lead c =
     if nat_lt c 0x80 then Some between
@@ -97,7 +98,7 @@ lead c =
     else if c == 0xF4 then Some (within 3 0x80 0x8F)
     else None
 
--- the state after a further byte of a character, by the number of bytes that were expected
+-- the state after a further byte of a character, if n bytes were expected before that byte
 abbrev pub after_byte : ℕ → Utf8State
 after_byte zero = between
 after_byte (suc zero) = between
@@ -115,7 +116,7 @@ on_value d fs comma = None
 on_value d fs other = None
 on_value d fs (begins x) = Some (state fs (token x))
 
--- at the first item of an array, or its end; an item pushes the array onto the stack
+-- the step at the first item or the end of an array; an item pushes the array onto the stack
 abbrev pub on_first_item : ℕ → List Frame → ByteClass → Option State
 on_first_item d fs blank = Some (state fs first_item)
 on_first_item d fs quote = on_value d (array_frame no_items ∷ fs) quote
@@ -128,7 +129,7 @@ on_first_item d fs comma = None
 on_first_item d fs other = None
 on_first_item d fs (begins x) = on_value d (array_frame no_items ∷ fs) (begins x)
 
--- end-object, if no member and no comma came before
+-- the step at end-object in place of a name: allowed only before the first member
 abbrev pub close_empty : List Frame → Members → Option State
 close_empty fs no_members = Some (state fs (after (object no_members)))
 close_empty fs (member k t ms) = None
@@ -145,7 +146,7 @@ on_name fs ms comma = None
 on_name fs ms other = None
 on_name fs ms (begins x) = None
 
--- after the name of a member; the colon pushes the object onto the stack
+-- the step after the name of a member; the colon pushes the object onto the stack
 abbrev pub on_named : List Frame → Members → List ℕ → ByteClass → Option State
 on_named fs ms k blank = Some (state fs (named ms k))
 on_named fs ms k quote = None
@@ -158,19 +159,19 @@ on_named fs ms k comma = None
 on_named fs ms k other = None
 on_named fs ms k (begins x) = None
 
--- end-object: t is the value of the last member
+-- the step at end-object: t is the value of the last member
 abbrev pub close_object : List Frame → Tree → Option State
 close_object [] t = None
 close_object (frame ms k ∷ fs) t = Some (state fs (after (object (with_member ms k t))))
 close_object (array_frame ts ∷ fs) t = None
 
--- end-array: t is the last item
+-- the step at end-array: t is the last item
 abbrev pub close_array : List Frame → Tree → Option State
 close_array [] t = None
 close_array (frame ms k ∷ fs) t = None
 close_array (array_frame ts ∷ fs) t = Some (state fs (after (array (with_item ts t))))
 
--- value-separator: t is a member's value or an item, and another one follows
+-- the step at value-separator: t is a member's value or an item, and another one follows
 abbrev pub next_of : List Frame → Tree → Option State
 next_of [] t = None
 next_of (frame ms k ∷ fs) t = Some (state fs (name (with_member ms k t)))
@@ -188,12 +189,12 @@ on_after fs t comma = next_of fs t
 on_after fs t other = None
 on_after fs t (begins x) = None
 
--- after a byte of a literal: the bytes that are left, or its end
+-- the state after a byte of a literal, by the bytes of the literal that are left
 abbrev pub due : List ℕ → Tree → ReaderState
 due [] t = after t
 due (e ∷ rest) t = token (literal e rest t)
 
--- in a number: a byte that continues it, or the byte after a whole number
+-- the step in a number: c continues the number, or is the byte after a whole number
 abbrev pub on_digits : List Frame → NumberState → List ℕ → ℕ → Option NumberState → Option State
 on_digits fs part n c (Some next) = Some (state fs (token (digits next (n ++ c ∷ []))))
 on_digits fs part n c None = if is_final part then on_after fs (number n) (kind_of c) else None
@@ -202,17 +203,17 @@ abbrev pub on_token : List Frame → Token → ℕ → Option State
 on_token fs (literal e rest t) c = if c == e then Some (state fs (due rest t)) else None
 on_token fs (digits part n) c = on_digits fs part n c (number_next part (letter_of c))
 
--- at the closing quotation mark of a string
+-- the state after the closing quotation mark of a string
 abbrev pub end_string : List Frame → Purpose → List ℕ → State
 end_string fs (for_name ms) s = state fs (named ms s)
 end_string fs for_value s = state fs (after (string s))
 
--- in a string, after a byte of a character
+-- the step in a string at a byte of a character, by the state after that byte
 abbrev pub in_string : List Frame → Purpose → List ℕ → ℕ → Option Utf8State → Option State
 in_string fs p s c None = None
 in_string fs p s c (Some m) = Some (state fs (quoted p m (s ++ c ∷ [])))
 
--- in a string, after a byte of an escape
+-- the step in a string at a byte of an escape, by the effect of that byte
 abbrev pub in_escape : List Frame → Purpose → List ℕ → Move → Option State
 in_escape fs p s (on e) = Some (state fs (quoted p (escape e) s))
 in_escape fs p s (makes c) = Some (state fs (quoted p between (s ++ encode_utf8 c)))
@@ -228,7 +229,7 @@ on_quoted fs p (within n least most) s c =
     if nat_le least c && nat_le c most then Some (state fs (quoted p (after_byte n) (s ++ c ∷ []))) else None
 on_quoted fs p (escape e) s c = in_escape fs p s (escape_step e c)
 
--- the next state, if there is one; d is the nesting limit
+-- the state after the byte c, or None if c is refused; d is the nesting limit
 abbrev pub step : ℕ → State → ℕ → Option State
 step d (state fs value) c = on_value d fs (kind_of c)
 step d (state fs first_item) c = on_first_item d fs (kind_of c)
@@ -242,12 +243,12 @@ unfoldable pub run : ℕ → State → List ℕ → Option State
 run d s [] = Some s
 run d s (c ∷ q) = option_and_then (λ next. run d next q) (step d s c)
 
--- the tree of a number, if the number may end
+-- the tree of the number n, if the flag says that the number may end
 abbrev pub finish_number : Bool → List ℕ → Option Tree
 finish_number true n = Some (number n)
 finish_number false n = None
 
--- the tree, if the text may end
+-- the tree of the text, if the text may end in the state
 abbrev pub finish : State → Option Tree
 finish (state [] (after t)) = Some t
 finish (state [] (token (digits part n))) = finish_number (is_final part) n
@@ -259,6 +260,6 @@ finish (state [] (named ms k)) = None
 finish (state [] (token (literal e rest t))) = None
 finish (state (f ∷ fs) a) = None
 
--- the tree of the text that the bytes complete
+-- the tree of the text, if the bytes q complete the text from the state s on
 abbrev pub ends : ℕ → State → List ℕ → Option Tree
 ends d s q = option_and_then finish (run d s q)

@@ -1,4 +1,4 @@
--- The state of the machine that a reader represents. Cited by private clauses only.
+-- The state of `Machine` that a reader represents. Cited by private clauses only.
 use Rattle.std.specs.Prelude.{◌≡◌, ◌≢◌, ℕ, ◌+◌, ◌-◌, ◌<◌, ◌≤◌, ◌⊎◌, Bool, true, false, List, [], ◌∷◌, ◌++◌, length, take, drop, Option, Some, None, option_and_then, Result, Ok, Err, slice_get}
 use Rattle.mes_fixed.specs.Automaton.{nought, digit, letter_of, number_next}
 use Rattle.mes_fixed.specs.declared.automaton.NumberState.{NumberState}
@@ -28,7 +28,7 @@ use Rattle.mes_json.specs.declared.push_error.PushError.TheVariants.{Refused, No
 use Rattle.mes_json.specs.declared.reader.Reader.{Reader}
 use Rattle.mes_json.specs.declared.tape.Node as node
 
--- the bytes of a literal that are left
+-- the state of a literal as a token: the bytes of the literal that are left, and its value
 abbrev pub word_view : word.LiteralState → Token
 word_view word.TheVariants.N = literal 0x75 (0x6C ∷ 0x6C ∷ []) null
 word_view word.TheVariants.Nu = literal 0x6C (0x6C ∷ []) null
@@ -46,7 +46,7 @@ said_view (said.TheVariants.More w) = m.ReaderState.token (word_view w)
 said_view said.TheVariants.Null = m.ReaderState.after null
 said_view (said.TheVariants.Bool x) = m.ReaderState.after (boolean x)
 
--- the class of the byte c
+-- the class in `Machine` of the byte c, whose class in the code is given
 abbrev pub kind_view : ℕ → kind.ByteClass → m.ByteClass
 kind_view c kind.TheVariants.Blank = m.ByteClass.blank
 kind_view c kind.TheVariants.Quote = m.ByteClass.quote
@@ -65,7 +65,7 @@ mid_view mid.TheVariants.Between = m.Utf8State.between
 mid_view (mid.TheVariants.Within more least most) = m.Utf8State.within more least most
 mid_view (mid.TheVariants.Escape e) = m.Utf8State.escape (escape_view e)
 
--- the state of the tape, after a comma or colon that was read
+-- the tape's state s, changed by the comma or colon that the reader's state implies
 abbrev pub due_at : at.ReaderState → State → State
 due_at at.TheVariants.Value s = value_due s
 due_at at.TheVariants.FirstItem s = s
@@ -78,7 +78,7 @@ due_at (at.TheVariants.Quoted purpose.TheVariants.Value mid) s = value_due s
 due_at (at.TheVariants.Literal w) s = value_due s
 due_at (at.TheVariants.Digits part) s = value_due s
 
--- the state, with the bytes so far of a string, a literal or a number
+-- the state s, changed by the bytes b read so far of a string, a literal or a number
 abbrev pub with_read : at.ReaderState → List ℕ → State → State
 with_read at.TheVariants.Value b s = s
 with_read at.TheVariants.FirstItem b s = s
@@ -93,11 +93,11 @@ with_read (at.TheVariants.Quoted purpose.TheVariants.Value mid) b s =
 with_read (at.TheVariants.Literal w) b s = valued (m.ReaderState.token (word_view w)) s
 with_read (at.TheVariants.Digits part) b s = valued (m.ReaderState.token (digits part b)) s
 
--- the state that the reader represents
+-- the state of the state machine that the reader represents
 abbrev pub state_view : Reader → State
 state_view r = with_read r.at (drop r.start r.text.items) (due_at r.at (spelled r.text.items r.nodes.items))
 
--- a comma precedes the name
+-- there is a member before the next name, so a comma comes before that name
 abbrev pub IsFull : Members → Type 0
 IsFull no_members = ⊥
 IsFull (member k t ms) = Unit {0}
@@ -108,11 +108,11 @@ opens [] = []
 opens (frame ms k ∷ fs) = opens fs ++ Object ∷ []
 opens (array_frame ts ∷ fs) = opens fs ++ Array ∷ []
 
--- the innermost one
+-- the innermost open object or array
 abbrev pub innermost : List Open → Option Open
 innermost xs = slice_get xs (length xs - 1)
 
--- all but the innermost one
+-- all open objects and arrays but the innermost one
 abbrev pub outer : List Open → List Open
 outer xs = take (length xs - 1) xs
 
@@ -151,7 +151,7 @@ pub record AfterValue (nesting : List Open) (s : State) : Type 0 where
   pub is : s ≡ state frames (m.ReaderState.after tree)
   pub are_open : nesting ≡ opens frames
 
--- the form of the machine's state in each state of the reader
+-- the form of the state s of the state machine, for each state of the reader
 abbrev pub IsAt : at.ReaderState → List Open → State → Type 0
 IsAt at.TheVariants.Value nesting s = AtValue nesting s
 IsAt at.TheVariants.FirstItem nesting s = AtFirstItem nesting s
@@ -164,7 +164,7 @@ IsAt (at.TheVariants.Quoted purpose.TheVariants.Value mid) nesting s = AtValue n
 IsAt (at.TheVariants.Literal w) nesting s = AtValue nesting s
 IsAt (at.TheVariants.Digits part) nesting s = AtValue nesting s
 
--- the offset of the string or number that is read, otherwise the end of the buffer of texts
+-- the offset of the string or number that is being read, otherwise the end of the buffer of texts
 abbrev pub read_from : at.ReaderState → ℕ → ℕ → ℕ
 read_from at.TheVariants.Value first end = end
 read_from at.TheVariants.FirstItem first end = end
@@ -176,28 +176,28 @@ read_from (at.TheVariants.Quoted purpose mid) first end = first
 read_from (at.TheVariants.Literal w) first end = end
 read_from (at.TheVariants.Digits part) first end = first
 
--- the fields are consistent; the spans cover all texts but the one that is read
+-- the reader's fields are consistent; the nodes' spans cover all texts but the one being read
 pub record Fits (r : Reader) : Type 0 where
   pub at : IsAt r.at r.nesting.items (due_at r.at (spelled r.text.items r.nodes.items))
   pub tape : IsTape r.text.items r.nodes.items
   pub start : r.start ≤ length r.text.items
   pub covered : read_from r.at r.start (length r.text.items) ≤ spanned r.nodes.items
 
--- some bytes lead to the state
+-- some bytes lead from the start to the state that the reader represents
 abbrev pub Reached : Reader → Type 0
 Reached r = (p : List ℕ) × (run MAX_NESTING start p ≡ Some (state_view r))
 
--- the reason why the byte c is not read in the state s
+-- the meaning of an error for the byte c, which was not read in the state s
 abbrev pub Stops : PushError → State → ℕ → Type 0
 Stops (Refused why) s c = Refuses MAX_NESTING why s c
 Stops NoMemory s c = Unit {0}
 
--- the byte c leads from the state s to the next one, or the reason why it is not read
+-- on success, the byte c leads from the state s to `next`; on error, `Stops` holds
 abbrev pub Gives : {A : Type 0} → Result A PushError → State → ℕ → State → Type 0
 Gives (Ok _) s c next = step MAX_NESTING s c ≡ Some next
 Gives (Err stop) s c next = Stops stop s c
 
--- bytes before `from` lead to the old state, and bytes before `to` to the new state
+-- if the bytes of b before `from` lead to the reader `old`, those before `to` lead to `new`
 pub record RunsTo (old : Reader) (b : List ℕ) (from to : ℕ) (new : Reader) : Type 0 where
   pub forward : from ≤ to
   pub inside : to ≤ length b
@@ -205,36 +205,36 @@ pub record RunsTo (old : Reader) (b : List ℕ) (from to : ℕ) (new : Reader) :
   pub runs : (s : State) → run MAX_NESTING s (take from b) ≡ Some (state_view old) → run MAX_NESTING s (take to b) ≡ Some (state_view new)
   pub reached : Reached old → Reached new
 
--- a character of one byte that a string has without an escape
+-- c is a character of one byte that stands in a string without an escape
 abbrev pub IsPlain : ℕ → Type 0
 IsPlain c = (32 ≤ c) × (c < 128) × (c ≢ 34) × (c ≢ 92)
 
--- bytes that a string has without an escape, after a whole character, and the state after them
+-- after a whole character of a string, the bytes q are added unchanged and lead to the state `to`
 pub record LeadsTo (q : List ℕ) (to : m.Utf8State) : Type 0 where
   pub runs : (fs : List Frame) (p : m.Purpose) (b : List ℕ) → run MAX_NESTING (state fs (m.ReaderState.quoted p m.Utf8State.between b)) q ≡ Some (state fs (m.ReaderState.quoted p to (b ++ q)))
 
--- whole characters that a string has without an escape
+-- q is whole characters that stand in a string without an escape
 abbrev pub StandAlone : List ℕ → Type 0
 StandAlone q = LeadsTo q m.Utf8State.between
 
--- DIGIT
+-- c is a DIGIT
 abbrev pub IsDigit : ℕ → Type 0
 IsDigit c = (48 ≤ c) × (c ≤ 57)
 
--- the state of a number after the bytes, if all of them continue it
+-- the state of a number after the bytes, or None if one of them does not continue the number
 abbrev pub part_after : NumberState → List ℕ → Option NumberState
 part_after x [] = Some x
 part_after x (c ∷ q) = option_and_then (λ next. part_after next q) (number_next x (letter_of c))
 
--- a byte of ws
+-- c is a byte of ws (white space)
 abbrev pub IsBlank : ℕ → Type 0
 IsBlank c = (c ≡ 0x20) ⊎ ((c ≡ 0x09) ⊎ ((c ≡ 0x0A) ⊎ (c ≡ 0x0D)))
 
--- a DIGIT leaves the number in this state
+-- a DIGIT leaves a number in the state x
 abbrev pub KeepsOn : NumberState → Type 0
 KeepsOn x = (number_next x nought ≡ Some x) × (number_next x digit ≡ Some x)
 
--- one more node, the next state, and the open objects and arrays
+-- `new` is `old` with one more node x, the state `place`, and the given open objects and arrays
 pub record Puts (old : Reader) (nesting : List Open) (x : node.Node) (place : at.ReaderState) (new : Reader) : Type 0 where
   pub at : new.at ≡ place
   pub nodes : new.nodes.items ≡ old.nodes.items ++ x ∷ []
@@ -242,11 +242,11 @@ pub record Puts (old : Reader) (nesting : List Open) (x : node.Node) (place : at
   pub nesting_is : new.nesting.items ≡ nesting
   pub start : new.start ≡ old.start
 
--- the reader after a value that is one more node
+-- the reader r after a value that consists of the node x
 abbrev pub with_value : node.Node → Reader → Reader
 with_value x r = record r { at = at.TheVariants.After; nodes = record { items = r.nodes.items ++ x ∷ []; room = r.nodes.room } }
 
--- the reader in a string, after these bytes of it
+-- the reader r in a string that it has begun, after the bytes q of the string
 abbrev pub within_string : purpose.Purpose → List ℕ → Reader → Reader
 within_string p q r = record r {
   at = at.TheVariants.Quoted p mid.TheVariants.Between;
@@ -254,12 +254,12 @@ within_string p q r = record r {
   text = record { items = r.text.items ++ q; room = r.text.room };
 }
 
--- there is capacity for 16 more bytes of text and one more node
+-- the reader has capacity for 16 more bytes of text and one more node
 pub record HasRoom (r : Reader) : Type 0 where
   pub texts : length r.text.items + 16 ≤ r.text.room
   pub nodes : length r.nodes.items < r.nodes.room
 
--- nothing has changed, except the capacity
+-- `new` is `old`, except for the capacity
 pub record Stays (old new : Reader) : Type 0 where
   pub at : new.at ≡ old.at
   pub text : new.text.items ≡ old.text.items
@@ -267,7 +267,7 @@ pub record Stays (old new : Reader) : Type 0 where
   pub nesting : new.nesting.items ≡ old.nesting.items
   pub start : new.start ≡ old.start
 
--- more bytes of text, and the next state
+-- `new` is `old` with the bytes b added to the string or number, and the state `place`
 pub record Keeps (old : Reader) (b : List ℕ) (place : at.ReaderState) (new : Reader) : Type 0 where
   pub at : new.at ≡ place
   pub text : new.text.items ≡ old.text.items ++ b
@@ -275,7 +275,7 @@ pub record Keeps (old : Reader) (b : List ℕ) (place : at.ReaderState) (new : R
   pub nesting : new.nesting.items ≡ old.nesting.items
   pub start : new.start ≡ old.start
 
--- a text begins with these bytes
+-- `new` is `old` with a string or number begun by the bytes b, and the state `place`
 pub record Begins (old : Reader) (b : List ℕ) (place : at.ReaderState) (new : Reader) : Type 0 where
   pub at : new.at ≡ place
   pub text : new.text.items ≡ old.text.items ++ b
@@ -283,23 +283,23 @@ pub record Begins (old : Reader) (b : List ℕ) (place : at.ReaderState) (new : 
   pub nesting : new.nesting.items ≡ old.nesting.items
   pub start : new.start ≡ length old.text.items
 
--- the reason why an object or an array is not opened
+-- the meaning of an error for an object or array that was not opened
 abbrev pub NotEntered : PushError → List Open → Type 0
 NotEntered (Refused why) nesting = (why ≡ Depth) × (length nesting ≡ MAX_NESTING)
 NotEntered NoMemory nesting = Unit {0}
 
--- an object or an array is opened, or the reason why not
+-- on success, an object or array is opened; on error, `NotEntered` holds
 abbrev pub Enters : {A : Type 0} → Result A PushError → Reader → Open → node.Node → at.ReaderState → Reader → Type 0
 Enters (Ok _) old open_one x place new = (length old.nesting.items < MAX_NESTING) × Puts old (old.nesting.items ++ open_one ∷ []) x place new
 Enters (Err stop) old open_one x place new = NotEntered stop old.nesting.items
 
--- whether the tree is whole; if so, the tape has exactly this tree
+-- true: there is a tree, and the tape has exactly this tree; false: the bytes are no whole text
 abbrev pub EndsWhole : Bool → Option Tree → Reader → Type 0
 EndsWhole true found r =
     (t : Tree) × (found ≡ Some t) × (spelled r.text.items r.nodes.items ≡ state [] (m.ReaderState.after t)) × IsTape r.text.items r.nodes.items
 EndsWhole false found r = found ≡ None
 
--- the node of the string that is read
+-- the node of the name or string that is being read
 abbrev pub string_node : purpose.Purpose → Reader → node.Node
 string_node purpose.TheVariants.Name r = node.TheVariants.Name r.start (length r.text.items)
 string_node purpose.TheVariants.Value r = node.TheVariants.Text r.start (length r.text.items)

@@ -4,13 +4,13 @@ use Rattle.mes_json.specs.declared.fault.TextFaultKind.{TextFaultKind}
 use Rattle.mes_json.specs.declared.fault.TextFaultKind.TheVariants.{End, Depth, Byte}
 use Rattle.mes_json.specs.Machine.{State, step}
 
--- with one more level there is a next state (Depth), or none either (Byte)
+-- with a limit one higher, there is a next state (Depth) or none (Byte)
 abbrev pub IsRefusal : ℕ → TextFaultKind → State → ℕ → Type 0
 IsRefusal d End s c = ⊥
 IsRefusal d Depth s c = (next : State) × (step (d + 1) s c ≡ Some next)
 IsRefusal d Byte s c = step (d + 1) s c ≡ None
 
--- with the limit d there is no next state, for this reason
+-- with the nesting limit d, the state s has no next state at the byte c, for the reason `why`
 pub record Refuses (d : ℕ) (why : TextFaultKind) (s : State) (c : ℕ) : Type 0 where
   pub stuck : step d s c ≡ None
   pub reason : IsRefusal d why s c

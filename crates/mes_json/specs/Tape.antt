@@ -1,5 +1,5 @@
--- The state of the machine that a tape represents: the state after its nodes, with their texts from
--- the buffer. Cited by private clauses only.
+-- The state of `Machine` that a tape represents: the state after all nodes of the tape, with their
+-- texts from the buffer. Cited by private clauses only.
 use Rattle.std.specs.Prelude.{◌≡◌, ℕ, ◌+◌, ◌-◌, ◌≤◌, ◌⊎◌, List, [], ◌∷◌, length, take, drop}
 use Rattle.std.specs.List.{AllByRecursion}
 use Rattle.std.specs.Str.{IsUtf8}
@@ -15,17 +15,17 @@ use Rattle.mes_json.specs.Machine.State.{state}
 use Rattle.mes_json.specs.declared.tape.Node.{Node}
 use Rattle.mes_json.specs.declared.tape.Node.TheVariants.{Null, Bool, Number, Text, Name, List as list, Map, End}
 
--- the bytes between two offsets
+-- the bytes of the buffer of texts between two offsets
 abbrev pub span : List ℕ → ℕ → ℕ → List ℕ
 span texts from to = take (to - from) (drop from texts)
 
--- the value is an item of the innermost array, and a comma follows
+-- the state after the value t and a comma, if t is an item of the innermost array
 abbrev pub item_joined : List Frame → Tree → State
 item_joined [] t = state [] (after t)
 item_joined (frame ms k ∷ fs) t = state (frame ms k ∷ fs) (after t)
 item_joined (array_frame ts ∷ fs) t = state (array_frame (with_item ts t) ∷ fs) value
 
--- a value may follow: the open object or array is pushed onto the stack
+-- the state in which a next value is read: the open object or array is pushed onto the stack
 abbrev pub value_due : State → State
 value_due (state fs value) = state fs value
 value_due (state fs first_item) = state (array_frame no_items ∷ fs) value
@@ -35,13 +35,13 @@ value_due (state fs (named ms k)) = state (frame ms k ∷ fs) value
 value_due (state fs (token x)) = state fs (token x)
 value_due (state fs (after t)) = item_joined fs t
 
--- the value ends its member
+-- the state after the value t and a comma, if t is a member's value
 abbrev pub member_joined : List Frame → Tree → State
 member_joined [] t = state [] (after t)
 member_joined (frame ms k ∷ fs) t = state fs (name (with_member ms k t))
 member_joined (array_frame ts ∷ fs) t = state (array_frame ts ∷ fs) (after t)
 
--- after a member's value, a name may follow
+-- the state in which a next name is read, if a member's value has ended
 abbrev pub name_due : State → State
 name_due (state fs value) = state fs value
 name_due (state fs first_item) = state fs first_item
@@ -51,7 +51,7 @@ name_due (state fs (named ms k)) = state fs (named ms k)
 name_due (state fs (token x)) = state fs (token x)
 name_due (state fs (after t)) = member_joined fs t
 
--- if a value is expected, the state is replaced
+-- the state, replaced by a if it is one that expects a value
 abbrev pub valued : ReaderState → State → State
 valued a (state fs value) = state fs a
 valued a (state fs first_item) = state fs first_item
@@ -61,7 +61,7 @@ valued a (state fs (named ms k)) = state fs (named ms k)
 valued a (state fs (token x)) = state fs (token x)
 valued a (state fs (after t)) = state fs (after t)
 
--- if a name is expected, the state is replaced
+-- the state, replaced by f of the members so far if it is one that expects a name
 abbrev pub in_object : (Members → ReaderState) → State → State
 in_object f (state fs value) = state fs value
 in_object f (state fs first_item) = state fs first_item
@@ -71,13 +71,13 @@ in_object f (state fs (named ms k)) = state fs (named ms k)
 in_object f (state fs (token x)) = state fs (token x)
 in_object f (state fs (after t)) = state fs (after t)
 
--- the value is the last one of the innermost object or array, which ends
+-- the state after the end of the innermost object or array, whose last value is t
 abbrev pub ended_after : List Frame → Tree → State
 ended_after [] t = state [] (after t)
 ended_after (frame ms k ∷ fs) t = state fs (after (object (with_member ms k t)))
 ended_after (array_frame ts ∷ fs) t = state fs (after (array (with_item ts t)))
 
--- the innermost object or array ends
+-- the state after the end of the innermost object or array
 abbrev pub ended : State → State
 ended (state fs value) = state fs value
 ended (state fs first_item) = state fs (after (array no_items))
@@ -87,7 +87,7 @@ ended (state fs (named ms k)) = state fs (named ms k)
 ended (state fs (token x)) = state fs (token x)
 ended (state fs (after t)) = ended_after fs t
 
--- the state after one more node
+-- the state s after one more node of the tape
 abbrev pub apply : List ℕ → Node → State → State
 apply texts Null s = valued (after null) (value_due s)
 apply texts (Bool x) s = valued (after (boolean x)) (value_due s)
@@ -98,7 +98,7 @@ apply texts (list n) s = valued first_item (value_due s)
 apply texts (Map n) s = valued (name no_members) (value_due s)
 apply texts End s = ended s
 
--- the state after the nodes
+-- the state s after more nodes of the tape
 abbrev pub spelled_from : List ℕ → State → List Node → State
 spelled_from texts s [] = s
 spelled_from texts s (x ∷ xs) = spelled_from texts (apply texts x s) xs
@@ -106,13 +106,13 @@ spelled_from texts s (x ∷ xs) = spelled_from texts (apply texts x s) xs
 abbrev pub spelled : List ℕ → List Node → State
 spelled texts xs = spelled_from texts start xs
 
--- the span is within the buffer, and its text is UTF-8
+-- the offsets are within the buffer of texts, and the text between them is UTF-8
 pub record IsSpan (texts : List ℕ) (from to : ℕ) : Type 0 where
   pub forward : from ≤ to
   pub inside : to ≤ length texts
   pub utf8 : IsUtf8 (span texts from to)
 
--- the text of the span is a number
+-- the text between the offsets is a number
 pub record IsNumberSpan (texts : List ℕ) (from to : ℕ) : Type 0 where
   pub span_is : IsSpan texts from to
   pub number_is : IsNumber (span texts from to)
@@ -132,7 +132,7 @@ abbrev pub spanned : List Node → ℕ
 spanned [] = 0
 spanned (x ∷ xs) = span_length x + spanned xs
 
--- the text of a node is valid
+-- the text of a node, if it has one, is valid
 abbrev pub HasSpan : List ℕ → Node → Type 0
 HasSpan texts Null = Unit {0}
 HasSpan texts (Bool x) = Unit {0}
@@ -149,12 +149,12 @@ TakesValue s = (fs : List Frame) × (value_due s ≡ state fs value)
 abbrev pub TakesName : State → Type 0
 TakesName s = (fs : List Frame) × (ms : Members) × (name_due s ≡ state fs (name ms))
 
--- the first item of an array is expected, or an item is whole
+-- an array may end in the state: its first item is expected, or an item has ended
 abbrev pub EndsItems : State → Type 0
 EndsItems s =
     ((fs : List Frame) × (s ≡ state fs first_item)) ⊎ ((ts : Items) × (fs : List Frame) × (t : Tree) × (s ≡ state (array_frame ts ∷ fs) (after t)))
 
--- the node is allowed in the state
+-- the node may come next in the state s
 abbrev pub Takes : State → Node → Type 0
 Takes s Null = TakesValue s
 Takes s (Bool x) = TakesValue s
@@ -169,7 +169,7 @@ abbrev pub ArePlaced : List ℕ → State → List Node → Type 0
 ArePlaced texts s [] = Unit {0}
 ArePlaced texts s (x ∷ xs) = Takes s x × ArePlaced texts (apply texts x s) xs
 
--- the texts are valid, and each node is allowed in its state
+-- the texts of the nodes are valid, and each node is allowed in the state before it
 pub record IsTape (texts : List ℕ) (xs : List Node) : Type 0 where
   pub spans : AllByRecursion (HasSpan texts) xs
   pub placed : ArePlaced texts start xs

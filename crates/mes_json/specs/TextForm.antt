@@ -1,4 +1,4 @@
--- The bytes of a text, in either storage.
+-- The bytes of a `Text`, stored inline or in a `String`.
 use Rattle.std.specs.Prelude.{ℕ, List, string_bytes}
 use Rattle.mes_json.specs.declared.text.Form.{Form}
 use Rattle.mes_json.specs.declared.text.Form.TheVariants.{Short, Long}

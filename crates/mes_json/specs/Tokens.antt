@@ -33,19 +33,19 @@ abbrev mutual
   tokens_of_members no_members = []
   tokens_of_members (member m t ms) = name m ∷ tokens t ++ tokens_of_members ms
 
--- the tokens begin with the value t
+-- the tokens xs begin with those of the value t
 abbrev pub BeginsWith : List Token → Tree → Type 0
 BeginsWith xs t = (rest : List Token) × (xs ≡ tokens t ++ rest)
 
--- the tokens begin with these items, and the end of their array
+-- the tokens xs begin with those of the items ts and of the end of their array
 abbrev pub BeginsItems : List Token → Items → Type 0
 BeginsItems xs ts = (rest : List Token) × (xs ≡ tokens_of_items ts ++ ends ∷ rest)
 
--- the tokens begin with these members, and the end of their object
+-- the tokens xs begin with those of the members ms and of the end of their object
 abbrev pub BeginsMembers : List Token → Members → Type 0
 BeginsMembers xs ms = (rest : List Token) × (xs ≡ tokens_of_members ms ++ ends ∷ rest)
 
--- ---- the code of a token
+-- ---- tokens encoded as numbers and lists of numbers
 
 abbrev token_to_pair : Token → ℕ × List ℕ
 token_to_pair null = (0, [])

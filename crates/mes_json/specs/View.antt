@@ -1,4 +1,4 @@
--- The tree that a JSON value represents.
+-- The tree that a `Json` value represents.
 use Rattle.std.specs.Prelude.{ℕ, List, [], ◌∷◌, map}
 use Rattle.mes_json.specs.Tree.{Tree, Items, Members}
 use Rattle.mes_json.specs.Tree.Tree.{null, boolean, number, string, array, object}
@@ -7,17 +7,17 @@ use Rattle.mes_json.specs.Tree.Members.{no_members, member}
 use Rattle.mes_json.specs.declared.value.Json.{Json, fold-Json}
 use Rattle.mes_json.specs.declared.value.Json.TheOpen.{Json-F}
 
--- items in order
+-- the trees as items, in the same order
 abbrev pub items_of : List Tree → Items
 items_of [] = no_items
 items_of (t ∷ ts) = item t (items_of ts)
 
--- members in order
+-- the names and trees as members, in the same order
 abbrev pub members_of : List (List ℕ × Tree) → Members
 members_of [] = no_members
 members_of (m ∷ ms) = member m.0 m.1 (members_of ms)
 
--- one level, with the values inside replaced by their trees
+-- the tree of one level of a value, in which the values inside are replaced by their trees
 abbrev pub view_step : Json-F Tree → Tree
 view_step Json-F.Null = null
 view_step (Json-F.Bool x) = boolean x

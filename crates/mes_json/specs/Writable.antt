@@ -26,11 +26,11 @@ abbrev mutual
   AreWritableMembers no_members = Unit {0}
   AreWritableMembers (member name t ms) = IsUtf8 name × IsWritable t × AreWritableMembers ms
 
--- the old bytes are a prefix of the new ones
+-- the bytes `old` are a prefix of the bytes `new`
 pub record Extends (old new : List ℕ) : Type 0 where
   pub rest : List ℕ
   pub is : new ≡ old ++ rest
 
--- the text of a member
+-- the canonical text of a member with the given name and value
 abbrev pub member_text : List ℕ → Tree → List ℕ
 member_text name t = quoted_text name ++ 58 ∷ canonical t

@@ -19,7 +19,7 @@ pub(crate) enum ByteClass {
     Comma,
     /// The first byte of a literal.
     Literal(LiteralState),
-    /// The first byte of a number, with the number's state after it.
+    /// The first byte of a number, with the state of the number after that byte.
     Digits(NumberState),
     Other,
 }

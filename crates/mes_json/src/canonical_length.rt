@@ -10,8 +10,8 @@ use crate::value::Json;
 use crate::write_string::escaped_length;
 
 /// Returns the length in bytes of the canonical text that [`crate::write_text`] writes, or `None`
-/// above `most`. Stops as soon as the length exceeds `most`. Does not allocate. Recurses as deep as
-/// the value nests.
+/// if the length exceeds `most`. Stops as soon as the length exceeds `most`. Does not allocate.
+/// Recurses as deep as the value nests.
 pub fn text_length(json: &Json, most: usize) -> Option<usize>
     ensures some { IfSome result (λ n. (n ≡ length (canonical (view json.now))) × n ≤ most) }
     ensures none { IfNone result (most < length (canonical (view json.now))) }
@@ -20,8 +20,8 @@ pub fn text_length(json: &Json, most: usize) -> Option<usize>
     Some(most - room)
 }
 
-// Each of these functions returns what is left of `room` after a text, or `None` if the text is
-// longer.
+// Each of these functions returns `room` less the length of a text, or `None` if the text is longer
+// than `room`.
 
 #[cycle(length)]
 #[tactic(auto, using(crate::proofs::LengthLemmas::object_length))]

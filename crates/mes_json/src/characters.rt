@@ -1,5 +1,5 @@
-//! Scans the characters of a string that are written without an escape. Those of one byte are in
-//! `plain_scan`.
+//! Scans the characters of a string that are written without an escape. Characters of one byte are
+//! scanned in `plain_scan`.
 ghost use Rattle.std.specs.Prelude.{◌↔◌, ◌≤◌, IsTrue, length, take, slice_index};
 ghost use Rattle.mes_json.specs.Reader.{StandAlone};
 
@@ -22,7 +22,8 @@ pub(crate) fn character_run(bytes: &[u8]) -> usize
     further(bytes, plain)
 }
 
-/// Continues from offset `from`, after such characters. Not inlined, since most strings end there.
+/// Continues from offset `from`, after characters without an escape. Not inlined, since most
+/// strings end at that offset.
 #[inline(never)]
 fn further(bytes: &[u8], from: usize) -> usize
     requires inside { from ≤ length bytes.now }

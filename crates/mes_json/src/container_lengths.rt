@@ -5,7 +5,8 @@ ghost use Rattle.mes_json.specs.Lengths.{reported, telling};
 use crate::tape::Node;
 
 impl Node {
-    /// Returns how many more nodes the value of this node has, if the node stores that.
+    /// Returns the number of nodes after the node in the value that the node begins, if the node
+    /// stores that number.
     #[inline(always)]
     pub(crate) fn reported(self) -> Option<usize>
         ensures { result ≡ reported self }
@@ -22,7 +23,7 @@ impl Node {
         }
     }
 
-    /// Stores in the first node of an array or object how many more nodes there are.
+    /// Stores in the first node of an array or object how many more nodes the array or object has.
     #[inline(always)]
     pub(crate) fn tell(&mut self, reported: u32)
         ensures { self.new ≡ telling reported self.old }
@@ -35,7 +36,7 @@ impl Node {
     }
 }
 
-/// Converts a length to 32 bits, or to 0 if it does not fit.
+/// Converts a length to 32 bits, or to 0 (unknown) if the length exceeds 32 bits.
 #[inline(always)]
 pub(crate) fn kept_length(length: usize) -> u32
     ensures { result ≢ 0 → result ≡ length }

@@ -17,7 +17,7 @@ use crate::value_kind::ValueKind;
 use std::marker::Model;
 use std::mem;
 
-/// A value on a tape. In contracts it is the list of tokens from the value on.
+/// A value on a tape. In contracts it is the list of the tape's tokens from the value on.
 #[derive(Drop)]
 pub struct Element<'a> {
     texts: &'a [u8],
@@ -73,7 +73,7 @@ impl<'a> Element<'a> {
             Node::Text { .. } => ValueKind::Text,
             Node::List { .. } => ValueKind::List,
             Node::Map { .. } => ValueKind::Map,
-            // No value begins with these.
+            // No value begins with a name or an end.
             Node::Name { .. } | Node::End => ValueKind::Null,
         }
     }
@@ -88,7 +88,7 @@ impl<'a> Element<'a> {
         }
     }
 
-    /// Returns the boolean, or `None` for any other kind.
+    /// Returns the boolean, or `None` for any other kind of value.
     pub fn as_bool(&self) -> Option<bool>
         ensures { (t : Tree) → BeginsWith self.now t → result ≡ as_bool t }
     {
@@ -98,7 +98,7 @@ impl<'a> Element<'a> {
         }
     }
 
-    /// Returns the text of the number as written, or `None` for any other kind.
+    /// Returns the text of the number as written, or `None` for any other kind of value.
     pub fn as_number(&self) -> Option<&'a str>
         ensures { (t : Tree) → BeginsWith self.now t
             → option_map (λ n. n.now) result ≡ as_number t }
@@ -109,7 +109,7 @@ impl<'a> Element<'a> {
         }
     }
 
-    /// Returns the string with its escapes decoded, or `None` for any other kind.
+    /// Returns the string with its escapes decoded, or `None` for any other kind of value.
     pub fn as_text(&self) -> Option<&'a str>
         ensures { (t : Tree) → BeginsWith self.now t → option_map (λ s. s.now) result ≡ as_text t }
     {
@@ -119,7 +119,7 @@ impl<'a> Element<'a> {
         }
     }
 
-    /// Returns the items of the array, or `None` for any other kind.
+    /// Returns the items of the array, or `None` for any other kind of value.
     pub fn items(&self) -> Option<Items<'a>>
         ensures { (t : Tree) → BeginsWith self.now t → FindsItems result (as_items t) }
     {
@@ -131,7 +131,7 @@ impl<'a> Element<'a> {
         }
     }
 
-    /// Returns the members of the object, or `None` for any other kind.
+    /// Returns the members of the object, or `None` for any other kind of value.
     pub fn members(&self) -> Option<Members<'a>>
         ensures { (t : Tree) → BeginsWith self.now t → FindsMembers result (as_members t) }
     {
@@ -143,7 +143,7 @@ impl<'a> Element<'a> {
         }
     }
 
-    /// Returns whether an array, an object or the tape ends here.
+    /// Returns whether an array, an object or the tape ends at the cursor.
     fn is_end(&self) -> bool
         ensures { result ≡ is_end self.now }
     {
@@ -153,7 +153,7 @@ impl<'a> Element<'a> {
         }
     }
 
-    /// Returns the name of the member that begins here, if one does.
+    /// Returns the name of the member that begins at the cursor, if one does.
     fn name(&self) -> Option<&'a str>
         ensures { option_map (λ n. n.now) result ≡ as_name self.now }
     {
@@ -185,7 +185,8 @@ impl<'a> Element<'a> {
     }
 }
 
-/// The items of an array, in order. In contracts this is the list of tokens from the next item on.
+/// The items of an array, in order. In contracts this is the list of the tape's tokens from the
+/// next item on.
 #[derive(Drop)]
 pub struct Items<'a> {
     next: Element<'a>,
@@ -203,7 +204,8 @@ impl<'a> Model for Items<'a> {
 }
 
 impl<'a> Items<'a> {
-    /// Returns the next item, or `None` at the end. Takes constant time on a tape that was read.
+    /// Returns the next item, or `None` at the end of the array. Takes constant time on a tape that
+    /// was read from a text.
     pub fn next(&mut self) -> Option<Element<'a>>
         ensures item { (ts : items) → BeginsItems self.old ts → NextItem ts result self.new }
         ensures shorter { OnSome result (length self.new < length self.old) }
@@ -232,8 +234,8 @@ impl<'a> Items<'a> {
     }
 }
 
-/// The members of an object, in order, with repeated names. In contracts this is the list of tokens
-/// from the next member on.
+/// The members of an object, in order, with repeated names. In contracts this is the list of the
+/// tape's tokens from the next member on.
 #[derive(Drop)]
 pub struct Members<'a> {
     next: Element<'a>,
@@ -251,8 +253,8 @@ impl<'a> Model for Members<'a> {
 }
 
 impl<'a> Members<'a> {
-    /// Returns the next member's name and value, or `None` at the end. Takes constant time on a
-    /// tape that was read.
+    /// Returns the next member's name and value, or `None` at the end of the object. Takes constant
+    /// time on a tape that was read from a text.
     pub fn next(&mut self) -> Option<(&'a str, Element<'a>)>
         ensures member { (ms : members) → BeginsMembers self.old ms
             → NextMember ms (option_map (λ m. (m.0.now, m.1)) result) self.new }

@@ -7,7 +7,7 @@ ghost use Rattle.mes_fixed.specs.declared.automaton.NumberState.TheVariants.{AtS
 
 use mes_fixed::automaton::{NumberState, next_state};
 
-/// Returns whether a digit leaves the number in the same state (RFC 8259 section 6).
+/// Returns whether a digit leaves a number in the state `part` (RFC 8259 section 6).
 pub(crate) fn continues_number(part: NumberState) -> bool
     ensures { IsTrue result ↔ KeepsOn part }
 {
@@ -25,7 +25,7 @@ fn is_digit(byte: u8) -> bool
     byte >= b'0' && byte <= b'9'
 }
 
-/// Returns the number of digits at the front.
+/// Returns the number of digits at the front of `bytes`.
 pub(crate) fn digit_run(bytes: &[u8]) -> usize
     ensures inside { result ≤ length bytes.now }
     ensures digits { AllByRecursion IsDigit (take result bytes.now) }
@@ -39,8 +39,8 @@ pub(crate) fn digit_run(bytes: &[u8]) -> usize
     bytes.len()
 }
 
-/// Returns the length of the longest prefix that some number begins with, and the number's state
-/// after it.
+/// Returns the length of the longest prefix that some number begins with, and the state of the
+/// number after that prefix.
 pub(crate) fn number_run(bytes: &[u8]) -> (usize, NumberState)
     ensures inside { result.0 ≤ length bytes.now }
     ensures leads { part_after AtStart (take result.0 bytes.now) ≡ Some result.1 }

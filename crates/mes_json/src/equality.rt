@@ -6,8 +6,8 @@ use crate::text::Text;
 use crate::value::Json;
 
 impl Json {
-    /// Returns whether both values are the same tree: equal order of items and members, with
-    /// repeated names, and numbers with the same text. Recurses as deep as the values nest.
+    /// Returns whether both values are the same tree: items and members in the same order, repeated
+    /// names included, and numbers with the same text. Recurses as deep as the values nest.
     #[cycle(same)]
     pub fn same(&self, other: &Json) -> bool
         ensures { IsTrue result ↔ (view self.now ≡ view other.now) }

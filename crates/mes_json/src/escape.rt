@@ -14,7 +14,7 @@ pub(crate) enum Escape {
     Unit0,
     /// `\u` and one digit, with its value.
     Unit1(u8),
-    /// `\u` and two digits, with their value; not those of a low surrogate.
+    /// `\u` and two digits, with their value; not the first two digits of a low surrogate.
     Unit2(u8),
     /// `\u` and three digits, with their value.
     Unit3(u16),
@@ -26,9 +26,11 @@ pub(crate) enum Escape {
     Low0(u16),
     /// The escape of a high surrogate, `\u` and the digit D.
     Low1(u16),
-    /// The escape of a high surrogate, `\u` and two digits of a low one, with their value.
+    /// The escape of a high surrogate, `\u` and two digits of a low surrogate, with the digits'
+    /// value.
     Low2 { high: u16, value: u8 },
-    /// The escape of a high surrogate, `\u` and three digits of a low one, with their value.
+    /// The escape of a high surrogate, `\u` and three digits of a low surrogate, with the digits'
+    /// value.
     Low3 { high: u16, value: u16 },
 }
 
@@ -69,7 +71,7 @@ fn short(byte: u8) -> Move
     }
 }
 
-/// Returns the effect of the second digit, for the value of both.
+/// Returns the effect of the second digit; `value` is that of both digits.
 fn two_digits(value: u8) -> Move
     ensures { move_view result ≡ two_digits value }
 {
@@ -79,7 +81,7 @@ fn two_digits(value: u8) -> Move
     }
 }
 
-/// Returns the effect of the fourth digit, for the value of all.
+/// Returns the effect of the fourth digit; `value` is that of all four digits.
 fn four_digits(value: u16) -> Move
     requires { (value < 0xDC00) ⊎ (0xE000 ≤ value) }
     ensures { move_view result ≡ four_digits value }
@@ -100,8 +102,9 @@ fn pair(high: u16, low: u16) -> char
     unsafe { char::from_u32_unchecked(code) }
 }
 
-/// Returns the character of a whole escape at the front of `bytes`, which follow the backslash, and
-/// the number of bytes used. Accepts one letter, or `u` and four digits that are no surrogate.
+/// Returns the character of a whole escape at the front of `bytes`, and the number of bytes used.
+/// The bytes follow the backslash. Accepts one letter, or `u` and four digits that are no
+/// surrogate.
 #[inline(always)]
 pub(crate) fn whole_escape(bytes: &[u8]) -> Option<(char, usize)>
     ensures inside { IfSome result (λ e. e.1 ≤ length bytes.now) }

@@ -1,4 +1,4 @@
-//! The errors of reading.
+//! The errors of reading a JSON text.
 ghost use Rattle.std.specs.Prelude.{◌≡◌};
 ghost use Rattle.mes_json.specs.declared.fault.ReadFault.TheVariants.{NoMemory as no_memory};
 
@@ -11,7 +11,7 @@ pub enum TextFaultKind {
     End,
     /// The byte opens an array or an object above the limit `MAX_NESTING`.
     Depth,
-    /// No JSON text has this byte at this offset.
+    /// No JSON text continues with the byte at the offset.
     Byte,
 }
 
@@ -20,7 +20,7 @@ pub enum TextFaultKind {
 pub struct TextFault {
     /// The offset of the error: the length of the longest prefix that some JSON text begins with.
     pub byte: u64,
-    /// The reason why no JSON text continues there.
+    /// The reason why no JSON text continues at the offset.
     pub why: TextFaultKind,
 }
 

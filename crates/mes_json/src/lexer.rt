@@ -1,6 +1,6 @@
 #![tactic(auto, unfolding(crate::specs::Lexer::HasLexed, crate::specs::Lexer::IsOutOfMemory, crate::specs::Lexer::held))]
-//! Reads JSON texts that arrive in pieces. Whole texts are read in `read`; the state machine is in
-//! `reader`.
+//! Reads JSON texts that arrive in pieces. Whole texts are read in `whole_text`; the state machine
+//! is in `reader`.
 ghost use Rattle.std.specs.Prelude.{◌≡◌, ◌≢◌, ◌<◌, ℕ, List, [], ◌∷◌, ◌++◌, length, take, Err, IfOk, IfErr, MatchResult};
 ghost use Rattle.mes_json.specs.Tree.{Tree};
 ghost use Rattle.mes_json.specs.Grammar.{IsText};
@@ -24,23 +24,23 @@ use crate::value::Json;
 use std::alloc::Global;
 use std::marker::Model;
 
-/// The progress of a lexer.
+/// The state of a lexer after the bytes pushed so far.
 #[derive(Drop)]
 enum LexerState {
-    /// Some text begins with the bytes.
+    /// Some JSON text begins with the bytes pushed.
     Reading(Reader),
-    /// No text begins with the bytes.
+    /// No JSON text begins with the bytes pushed.
     Faulty(TextFault),
     OutOfMemory,
 }
 
 /// A reader of one JSON text (RFC 8259 section 2) whose bytes arrive one at a time or in runs.
-/// Results are those of [`crate::read_text`]. In contracts `HasLexed` relates it to the bytes
+/// Results are those of [`crate::read_text`]. In contracts `HasLexed` relates a lexer to the bytes
 /// pushed.
 #[derive(Drop)]
 pub struct Lexer {
     alloc: Global,
-    /// The number of bytes before an error, saturating at 2^64 - 1.
+    /// The number of bytes pushed before an error, saturating at 2^64 - 1.
     count: u64,
     state: LexerState,
 }
@@ -63,8 +63,8 @@ impl LexerState {
 }
 
 impl LexerState {
-    /// Returns the tape of the value that the `count` bytes represent, or their error. The state
-    /// must be reset afterwards.
+    /// Returns the tape of the value that the `count` bytes pushed represent, or their error. The
+    /// state must be reset afterwards.
     #[inline(always)]
     fn take(&mut self, alloc: Global, count: u64) -> Result<Tape, ReadFault>
         requires { IsPossible (count, self.old) }
@@ -201,8 +201,8 @@ impl Lexer {
         // On error: `taken` is the offset of the first byte not pushed.
         ensures taken { IfErr result (λ refused. 0 < length bytes.now
             → refused.taken < length bytes.now) }
-        // On the first error: the bytes before `taken` were pushed, and some text begins with all
-        // bytes so far.
+        // On the first error: the bytes of the run before `taken` were pushed, and some text begins
+        // with all bytes pushed so far.
         ensures before { (p : List ℕ) → HasLexed self.old p → (IsOutOfMemory self.old → ⊥)
             → IfErr result (λ refused. Begins MAX_NESTING (p ++ take refused.taken bytes.now)) }
         ensures again { IsOutOfMemory self.old → IfErr result (λ refused. refused.taken ≡ 0) }
@@ -248,9 +248,9 @@ impl Lexer {
         }
     }
 
-    /// Ends the text. Returns its tree, or its first error.
+    /// Ends the text. Returns the tree of the text, or the first error of its bytes.
     pub fn finish(self) -> Result<Json, ReadFault>
-        // On success: the bytes are a JSON text of this value.
+        // On success: the bytes pushed are a JSON text of the value returned.
         ensures read { (p : List ℕ) → HasLexed self p
             → IfOk result (λ json. IsText MAX_NESTING p (view json)) }
         // Every JSON text is read, unless an allocation fails.
@@ -273,7 +273,7 @@ impl Lexer {
         Ok(tape.root().to_json(alloc)?)
     }
 
-    /// Ends the text. Returns its tape, or its first error.
+    /// Ends the text. Returns the tape of the text, or the first error of its bytes.
     pub fn end(mut self) -> Result<Tape, ReadFault>
         // On success: the bytes are a JSON text of the value that has the tape's tokens.
         ensures read { (p : List ℕ) → HasLexed self p

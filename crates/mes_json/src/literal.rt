@@ -28,7 +28,7 @@ pub(crate) enum LiteralStep {
 }
 
 impl LiteralState {
-    /// Returns the effect of the next byte, or `None` if the literal has another byte there.
+    /// Returns the effect of `byte`, or `None` if the literal continues with another byte.
     pub(crate) fn next(self, byte: u8) -> Option<LiteralStep>
         ensures { (fs : List Frame) → on_token fs (word_view self) byte
             ≡ option_map (λ said. state fs (said_view said)) result }

@@ -31,7 +31,8 @@ impl Reader {
         place
     }
 
-    /// Reads the expected token at `from`, if it is present, and a member that begins after it.
+    /// Reads the token that is expected at `from`, if it is present, and a member that begins after
+    /// that token.
     #[inline(always)]
     fn take_token(&mut self, bytes: &[u8], from: usize) -> usize
         requires inside { from < length bytes.now }
@@ -47,7 +48,7 @@ impl Reader {
         self.take_member(bytes, following)
     }
 
-    /// Reads a string, the first byte of an object, or a number.
+    /// Reads a string, the first byte of an object, or a number, if one is present at `from`.
     #[inline(always)]
     fn take_value(&mut self, bytes: &[u8], from: usize) -> usize
         requires at { self.old.at ≡ ReaderState.Value }
@@ -80,8 +81,8 @@ impl Reader {
         }
     }
 
-    /// Reads a name at `from`, if one is expected and present, its colon, and a string after the
-    /// colon.
+    /// Reads a name at `from`, if a name is expected and present, the colon after the name, and a
+    /// string after the colon.
     #[inline(always)]
     fn take_member(&mut self, bytes: &[u8], from: usize) -> usize
         requires inside { from ≤ length bytes.now }
@@ -99,7 +100,7 @@ impl Reader {
         }
     }
 
-    /// Reads a name from its opening quotation mark at `from`, and its colon.
+    /// Reads a name from its opening quotation mark at `from` on, and the colon after the name.
     #[inline(always)]
     fn take_name(&mut self, bytes: &[u8], from: usize) -> usize
         requires at { (self.old.at ≡ ReaderState.FirstName) ⊎ (self.old.at ≡ ReaderState.Name) }
@@ -178,8 +179,8 @@ impl Reader {
         self.take_string(Purpose::Value, bytes, from + 1)
     }
 
-    /// Reads the byte after a value, if it is a comma, or ends the innermost object or array and no
-    /// allocation fails.
+    /// Reads the byte after a value, if that byte is a comma, or if it ends the innermost object or
+    /// array and no allocation fails.
     #[inline(always)]
     fn enter_following(&mut self, byte: u8) -> bool
         requires at { self.old.at ≡ ReaderState.After }
@@ -205,8 +206,8 @@ impl Reader {
     }
 }
 
-// The effects of single bytes that cannot be an error. Without memory for a node, they change
-// nothing.
+// Steps over single bytes that cannot be an error. If the allocation of a node fails, a step
+// changes nothing.
 impl Reader {
     #[inline(always)]
     fn begin_text(&mut self)

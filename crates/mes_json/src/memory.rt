@@ -9,7 +9,7 @@ pub struct NoMemory;
 /// An allocation failed at a byte of a run.
 #[derive(Debug, Clone, Copy, PartialEq, Eq)]
 pub struct NoMemoryAt {
-    /// The number of bytes of the run that were pushed before it.
+    /// The number of bytes of the run that were pushed before that byte.
     pub taken: usize,
 }
 

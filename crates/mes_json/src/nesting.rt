@@ -1,4 +1,4 @@
-//! The objects and arrays around a reader's position.
+//! The open objects and arrays around the position of a reader.
 
 use std::alloc::Global;
 use std::default::MadeWith;

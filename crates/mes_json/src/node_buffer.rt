@@ -1,4 +1,4 @@
-//! The list of nodes of a tape that is being written. The buffer of its texts is in `texts`.
+//! The list of nodes of a tape that is being written. The tape's texts are in `text_buffer`.
 ghost use Rattle.std.specs.Prelude.{◌≡◌, ℕ, ◌+◌, ◌-◌, ◌<◌, ◌≤◌, List, [], ◌∷◌, ◌++◌, true, None, length, OnOk, OnErr};
 ghost use Rattle.std.specs.List.{AllByRecursion};
 ghost use Rattle.mes_json.specs.Tape.{HasSpan};
@@ -15,7 +15,7 @@ use std::marker::Model;
 use std::mem;
 
 /// The nodes of a value, in order. Each array and object stores its length once its end is
-/// appended. In contracts this is the nodes without those lengths, and the capacity.
+/// appended. In contracts this is the nodes with all lengths replaced by 0, and the capacity.
 #[derive(Drop)]
 pub(crate) struct Nodes {
     nodes: Vec<Node>,
@@ -61,7 +61,7 @@ impl Nodes {
         self.begins.clear();
     }
 
-    /// Returns the nodes with their lengths, and leaves none.
+    /// Returns the nodes with their lengths, and leaves an empty list.
     pub(crate) fn take(&mut self, alloc: Global) -> Vec<Node>
         ensures held { (texts : List ℕ)
             → tokens_held texts result.items ≡ tokens_held texts self.old.items }
@@ -74,8 +74,8 @@ impl Nodes {
         mem::replace(&mut self.nodes, Vec::new(alloc))
     }
 
-    /// Appends a node. Only the growth is out of line, so that each inlined append is a few
-    /// instructions.
+    /// Appends a node. Only the growth of the list is a separate function, so that each inlined
+    /// append is a few instructions.
     #[inline(always)]
     pub(crate) fn put(&mut self, node: Node) -> Result<(), NoMemory>
         requires { unreported node ≡ node }
@@ -179,8 +179,8 @@ impl Nodes {
         self.nodes.push_reserved(node);
     }
 
-    /// Appends the last node of the innermost array or object, and stores the length in its first
-    /// node.
+    /// Appends the last node of the innermost array or object, and stores the length in the first
+    /// node of that array or object.
     #[inline(always)]
     fn end(&mut self)
         requires { length self.old.items < self.old.room }

@@ -16,8 +16,8 @@ use crate::tape::{Node, text_span};
 use mes_fixed::automaton::{NumberState, may_end};
 
 impl Reader {
-    /// Reads a number, as far as it reaches in `bytes`, and a comma or the end of the innermost
-    /// object or array after it.
+    /// Reads a number, as far as the number reaches in `bytes`, and a comma or the end of the
+    /// innermost object or array after the number.
     pub(crate) fn take_number(&mut self, bytes: &[u8], from: usize) -> usize
         requires at { self.old.at ≡ ReaderState.Value }
         requires inside { from < length bytes.now }
@@ -33,8 +33,8 @@ impl Reader {
         self.take_following_number(part, bytes, from + count)
     }
 
-    /// Begins a number with its first `count` bytes. Returns false, without a change, if there are
-    /// none or an allocation fails.
+    /// Begins a number with the first `count` of `bytes`. Returns false, without a change, if
+    /// `count` is 0 or an allocation fails.
     #[inline(always)]
     fn begin_digits(&mut self, bytes: &[u8], count: usize, part: NumberState) -> bool
         requires { count ≤ length bytes.now }
@@ -115,8 +115,8 @@ impl Reader {
         true
     }
 
-    /// Appends the nodes of the last value, and of the end, of the innermost object or array.
-    /// Returns false if an allocation fails.
+    /// Appends the node of the last value of the innermost object or array, and the node of the
+    /// end. Returns false if an allocation fails.
     #[inline(always)]
     fn close_following(&mut self, node: Node) -> bool
         requires { unreported node ≡ node }

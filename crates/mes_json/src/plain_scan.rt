@@ -1,5 +1,5 @@
-//! Scans the plain characters of a string: ASCII without an escape. All characters are in
-//! `characters`.
+//! Scans the plain characters of a string: ASCII without an escape. Characters of all lengths are
+//! scanned in `characters`.
 ghost use Rattle.std.specs.Prelude.{◌≡◌, ◌↔◌, ◌+◌, ◌<◌, ◌≤◌, IsTrue, length, take, drop, slice_index};
 ghost use Rattle.std.specs.List.{AllByRecursion};
 ghost use Rattle.mes_json.specs.Reader.{IsPlain};
@@ -12,7 +12,8 @@ pub(crate) const BLOCK: usize = 16;
 /// The number of bytes compared in one step when fewer than a block are left.
 const HALF: usize = 8;
 
-/// Returns the number of plain characters at the front. Most strings end in the first block.
+/// Returns the number of plain characters at the front of `bytes`. Most strings end in the first
+/// block.
 pub(crate) fn plain_run(bytes: &[u8]) -> usize
     ensures inside { result ≤ length bytes.now }
     ensures plain { AllByRecursion IsPlain (take result bytes.now) }

@@ -1,4 +1,4 @@
-//! The error of one byte.
+//! The error of pushing one byte to the reader.
 ghost use Rattle.std.specs.Prelude.{◌≡◌};
 ghost use Rattle.mes_json.specs.declared.push_error.PushError.TheVariants.{NoMemory as no_memory};
 

@@ -19,7 +19,8 @@ pub(crate) struct RunStop {
 }
 
 impl Reader {
-    /// Reads all bytes, as `take_bytes` does. The offset of a fault counts from the first of them.
+    /// Reads all of `bytes`, as `take_bytes` does. The offset of a fault counts from the start of
+    /// `bytes`.
     pub(crate) fn take_all(&mut self, bytes: &[u8]) -> Result<(), ReadFault>
         requires fits { Fits self.old }
         requires reached { Reached self.old }
@@ -34,9 +35,9 @@ impl Reader {
         }
     }
 
-    /// Reads the bytes in order, and runs of plain bytes in one step. If the allocation for a run
-    /// fails, the run is read byte by byte, so that an error belongs to one byte. After an error
-    /// the reader must not be used.
+    /// Reads the bytes in order, and runs of plain bytes in one step. If an allocation fails in a
+    /// run of plain bytes, that run is read byte by byte, so that the error belongs to one byte.
+    /// After an error the reader must not be used.
     pub(crate) fn take_bytes(&mut self, bytes: &[u8]) -> Result<(), RunStop>
         requires fits { Fits self.old }
         requires reached { Reached self.old }

@@ -34,7 +34,7 @@ pub(crate) struct Reader {
     pub(crate) at: ReaderState,
     /// The open objects and arrays, the innermost last.
     pub(crate) nesting: ArrayVec<Open, MAX_NESTING, Global>,
-    /// The offset in `text` of the string or number that is read.
+    /// The offset in `text` of the string or number that is being read.
     pub(crate) start: usize,
     /// The texts of the strings and numbers, concatenated.
     pub(crate) text: Texts,
@@ -87,9 +87,9 @@ impl Reader {
         }
     }
 
-    /// Reads the bytes after `place`, whose byte was read last: a run that needs no check byte by
-    /// byte, and the expected tokens after it. Stops before bytes for which an allocation fails.
-    /// Returns the offset after the bytes read.
+    /// Reads the bytes after offset `place`, whose byte was read last. Reads first a run of bytes
+    /// that need no check byte by byte, then the expected tokens after that run. Stops before bytes
+    /// for which an allocation fails. Returns the offset after the bytes read.
     #[inline(always)]
     pub(crate) fn take_run(&mut self, bytes: &[u8], place: usize) -> usize
         requires inside { place < length bytes.now }
@@ -101,8 +101,8 @@ impl Reader {
         self.take_members(bytes, end)
     }
 
-    /// Reads the run after `place`: characters of a string with the closing quotation mark and a
-    /// name's colon, digits of a number, or white space.
+    /// Reads a run of bytes after `place`: characters of a string with the closing quotation mark
+    /// and a name's colon, digits of a number, or white space.
     #[inline(always)]
     fn take_alike(&mut self, bytes: &[u8], place: usize) -> usize
         requires inside { place < length bytes.now }
@@ -157,7 +157,7 @@ impl Reader {
         }
     }
 
-    /// Reads the characters of a string from `from` on that have no escape.
+    /// Reads the characters of a string from `from` on that are written without an escape.
     #[inline(always)]
     fn take_characters(&mut self, purpose: Purpose, bytes: &[u8], from: usize) -> usize
         requires at { self.old.at ≡ ReaderState.Quoted purpose Utf8State.Between }
@@ -246,7 +246,7 @@ impl Reader {
         place
     }
 
-    /// Reads the colon at `from`, if one is expected and present.
+    /// Reads the colon at `from`, if a colon is expected and present.
     #[inline(always)]
     fn take_colon(&mut self, bytes: &[u8], from: usize) -> usize
         requires inside { from ≤ length bytes.now }
@@ -269,7 +269,7 @@ impl Reader {
         self.text.len() as u64
     }
 
-    /// Returns the tape, if the bytes are a whole value. Afterwards the reader must be reset.
+    /// Returns the tape, if the bytes read are a whole value. Afterwards the reader must be reset.
     #[inline(always)]
     pub(crate) fn take_tape(&mut self, alloc: Global) -> Result<Option<Tape>, NoMemory>
         requires fits { Fits self.old }
@@ -309,7 +309,7 @@ impl Reader {
         self.nodes.restart(nodes);
     }
 
-    /// Ends an open number. Returns whether the text may end here.
+    /// Ends an open number. Returns whether the text may end after the bytes read.
     fn ends(&mut self) -> Result<bool, NoMemory>
         requires fits { Fits self.old }
         requires reached { Reached self.old }
@@ -326,7 +326,7 @@ impl Reader {
     }
 }
 
-// One method for each state, which reads the next byte.
+// One method for each state of the reader. Each reads the next byte.
 impl Reader {
     #[inline(always)]
     fn value(&mut self, byte: u8) -> Result<(), PushError>
@@ -552,7 +552,7 @@ impl Reader {
     }
 }
 
-// The open objects and arrays.
+// Methods for the open objects and arrays.
 impl Reader {
     #[inline(always)]
     pub(crate) fn innermost(&self) -> Option<Open>
@@ -584,7 +584,7 @@ impl Reader {
     }
 }
 
-// Changes of the tape.
+// Methods that change the tape.
 impl Reader {
     /// Begins the text of a string or a number.
     #[inline(always)]
@@ -648,7 +648,7 @@ impl Reader {
         Ok(())
     }
 
-    /// Appends a byte to the string or number.
+    /// Appends a byte to the string or number that is being read.
     #[inline(always)]
     fn keep(&mut self, byte: u8, at: ReaderState) -> Result<(), PushError>
         ensures ok { OnOk result (Keeps self.old (byte ∷ []) at self.new) }
@@ -659,7 +659,7 @@ impl Reader {
         Ok(())
     }
 
-    /// Appends a character to the string.
+    /// Appends a character to the string that is being read.
     #[inline(always)]
     fn keep_character(&mut self, character: char, at: ReaderState) -> Result<(), PushError>
         ensures ok { OnOk result (Keeps self.old (encode_utf8 character) at self.new) }

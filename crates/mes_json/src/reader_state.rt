@@ -4,7 +4,7 @@ use crate::literal::LiteralState;
 use crate::utf8::Utf8State;
 use mes_fixed::automaton::NumberState;
 
-/// The purpose of a string.
+/// The purpose of a string: a member's name, or a value.
 #[derive(Clone, Copy)]
 pub(crate) enum Purpose {
     /// A member's name.
@@ -16,18 +16,18 @@ pub(crate) enum Purpose {
 #[derive(Clone, Copy)]
 pub(crate) enum ReaderState {
     Value,
-    /// An array's first item, or its end.
+    /// Expected: the first item of an array, or the end of the array.
     FirstItem,
-    /// An object's first name, or its end.
+    /// Expected: the first name in an object, or the end of the object.
     FirstName,
-    /// The name after a comma.
+    /// Expected: the name after a comma.
     Name,
     Colon,
-    /// The byte after a value.
+    /// Expected: the byte after a value.
     After,
-    /// The rest of a string.
+    /// Expected: the rest of a string.
     Quoted(Purpose, Utf8State),
     Literal(LiteralState),
-    /// The rest of a number.
+    /// Expected: the rest of a number, or the byte after the number.
     Digits(NumberState),
 }

@@ -9,9 +9,10 @@ use crate::reader_state::{Purpose, ReaderState};
 use crate::tape::{Node, text_span};
 
 impl Reader {
-    /// Returns the number of characters of a short string that continues at `from`. All are plain,
-    /// and the block at `from` includes the closing quotation mark. Returns `None` for any other
-    /// string, or without capacity for a block and a node.
+    /// Returns the number of characters of a short string that continues at `from`. In a short
+    /// string all characters are plain, and the block at `from` includes the closing quotation
+    /// mark. Returns `None` for any other string, or if there is no capacity for a block and a
+    /// node.
     #[inline(always)]
     pub(crate) fn short_run(&self, bytes: &[u8], from: usize) -> Option<usize>
         requires { from ≤ length bytes.now }

@@ -7,7 +7,7 @@ ghost use Rattle.mes_json.specs.declared.tape.Node.TheVariants.{End};
 
 use crate::tape::Node;
 
-/// Returns the first node, or an end if there is none.
+/// Returns the first node, or `Node::End` if there is no node.
 pub(crate) fn first(nodes: &[Node]) -> Node
     ensures { result ≡ slice_index_or nodes.now 0 End }
 {
@@ -41,7 +41,7 @@ fn nodes_of_value(nodes: &[Node]) -> usize
     }
 }
 
-/// Like `nodes_of_value`, but counts to the node after which nothing is open.
+/// Like `nodes_of_value`, but counts up to the node after which no array or object is open.
 fn count_nodes(nodes: &[Node]) -> usize
     ensures following { (texts : List ℕ)
         → following 0 (tokens_held texts nodes.now) ≡ drop result (tokens_held texts nodes.now) }
@@ -57,7 +57,7 @@ fn count_nodes(nodes: &[Node]) -> usize
     nodes.len()
 }
 
-/// Returns the number of arrays and objects open after the node, if `depth` are open before it.
+/// Returns the number of arrays and objects open after `node`, if `depth` are open before it.
 fn depth_after(depth: usize, node: Node) -> usize
     requires { depth < usize.MAX }
     ensures { (texts : List ℕ) → result ≡ depth_after depth (token_of texts node) }

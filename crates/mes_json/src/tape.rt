@@ -16,8 +16,8 @@ use std::alloc::Global;
 use std::marker::Model;
 use std::{mem, str};
 
-/// A node of the tape, of `NODE_SIZE` bytes. `from` and `to` are the offsets of its text in the
-/// buffer of texts.
+/// A node of the tape, of `NODE_SIZE` bytes. `from` and `to` are the offsets of the node's text in
+/// the buffer of texts.
 #[derive(Clone, Copy)]
 pub(crate) enum Node {
     Null,
@@ -27,10 +27,10 @@ pub(crate) enum Node {
     Text { from: u32, to: u32 },
     /// The name of the member whose value follows.
     Name { from: u32, to: u32 },
-    /// The first node of an array, with the number of nodes after it through its end, or 0 if
+    /// The first node of an array, with the number of nodes of the array after this one, or 0 if
     /// unknown.
     List { length: u32 },
-    /// The first node of an object, with the number of nodes after it through its end, or 0 if
+    /// The first node of an object, with the number of nodes of the object after this one, or 0 if
     /// unknown.
     Map { length: u32 },
     /// The last node of the innermost array or object.
@@ -41,7 +41,7 @@ pub(crate) const NODE_SIZE: usize = mem::size_of::<Node>();
 
 const _: () = prove!(NODE_SIZE == 12);
 
-/// A whole JSON value in two buffers instead of a tree. In contracts it is its list of tokens.
+/// A whole JSON value in two buffers instead of a tree. In contracts a tape is its list of tokens.
 #[derive(Drop)]
 pub struct Tape {
     /// The texts of the strings and numbers, concatenated.

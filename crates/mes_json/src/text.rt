@@ -8,8 +8,8 @@ use std::alloc::Global;
 use std::hash::{Hash, Hasher};
 use std::marker::Model;
 
-/// A text in well-formed UTF-8 (RFC 3629). With at most `MAX_INLINE_TEXT` bytes, as most names and
-/// roles have, it is read and copied without an allocation. In contracts it is its bytes.
+/// A text in well-formed UTF-8 (RFC 3629). A text of at most `MAX_INLINE_TEXT` bytes, as most names
+/// and roles are, is read and copied without an allocation. In contracts a text is its bytes.
 #[derive(Debug, Drop)]
 pub struct Text {
     form: Form,
@@ -18,9 +18,9 @@ pub struct Text {
 /// The storage of a text.
 #[derive(Debug, Drop)]
 enum Form {
-    /// Inline.
+    /// The text is stored inline.
     Short(ArrayString<MAX_INLINE_TEXT>),
-    /// In memory of its own.
+    /// The text is stored in a `String`.
     Long(String),
 }
 

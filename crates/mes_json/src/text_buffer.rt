@@ -1,5 +1,5 @@
-//! The buffer of a tape's texts: the contents of strings and numbers, concatenated. The nodes are
-//! in `nodes`.
+//! The buffer of a tape's texts: the contents of strings and numbers, concatenated. The nodes of
+//! the tape are in `node_buffer`.
 ghost use Rattle.std.specs.Prelude.{◌≡◌, ◌+◌, ◌⊎◌, ◌≤◌, [], ◌∷◌, ◌++◌, true, length, take, OnOk, OnErr};
 ghost use Rattle.mes_json.specs.Texts.{IsNone};
 
@@ -44,7 +44,7 @@ impl Texts {
         self.bytes.len()
     }
 
-    /// Returns the length with `count` more bytes, which are within the capacity.
+    /// Returns the length with `count` more bytes. The result is at most the capacity.
     #[inline(always)]
     pub(crate) fn end_following(&self, count: usize) -> usize
         requires { length self.now.items + count ≤ self.now.room }

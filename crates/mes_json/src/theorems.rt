@@ -14,7 +14,7 @@ use crate::limits::{MAX_INLINE_TEXT, MAX_NESTING, MAX_REUSED_CAPACITY, MAX_TEXTS
 
 /// Proves that bytes are a JSON text of exactly one tree, or have exactly one first error.
 pub fn text_reading_is_unique()
-    // The bytes are a text or have a first error; either is unique.
+    // The bytes are a text or have a first error. The tree and the error are each unique.
     ensures some { (d : ℕ) (b : List ℕ)
         → ((t : Tree) × IsText d b t) ⊎ ((f : Fault) × IsFault d b f) }
     ensures tree { (d : ℕ) (b : List ℕ) (t u : Tree) → IsText d b t → IsText d b u → t ≡ u }

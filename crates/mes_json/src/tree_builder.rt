@@ -36,7 +36,7 @@ pub(crate) fn to_json(alloc: Global, texts: &[u8], nodes: &[Node]) -> Result<Opt
     Ok(building.finish())
 }
 
-/// An open object or array around the innermost one.
+/// An open object or array other than the innermost one.
 #[derive(Drop)]
 enum Outer {
     /// The members so far of an object, and the name of the member whose value is next.
@@ -50,7 +50,7 @@ enum Outer {
 enum Inner {
     /// No node has been added.
     Nothing,
-    /// The value is whole, and nothing is open.
+    /// The value is whole, and no object or array is open.
     Whole(Json),
     /// The members so far of an object, and the name of the next one, if it has been added.
     Object(Vec<(Text, Json)>, Option<Text>),
@@ -66,7 +66,7 @@ struct TreeBuilder {
     inner: Inner,
 }
 
-// The effect of a node in its place; in any other place it has none.
+// The effect of a node where the node is allowed. Elsewhere a node has no effect.
 impl TreeBuilder {
     fn apply(&mut self, alloc: Global, texts: &[u8], node: Node) -> Result<(), NoMemory>
         requires { HasSpan texts.now node }
@@ -126,7 +126,7 @@ impl TreeBuilder {
         }
     }
 
-    /// Opens an object or an array, and pushes the one around it onto the stack.
+    /// Opens an object or an array. Pushes the one that was innermost onto the stack.
     fn open(&mut self, alloc: Global, opened: Inner) -> Result<(), NoMemory>
         ensures { OnOk result ((a : at) → Opens opened a
             → building_view self.new ≡ valued a (value_due (building_view self.old))) }
@@ -137,8 +137,8 @@ impl TreeBuilder {
                 Some(name) => self.outer.push(Outer::Object(members, name))?,
                 None => self.inner = Inner::Object(members, None),
             },
-            // Nothing is open around it. The list is already empty; a new one states this without
-            // an invariant.
+            // No object or array is open, so the list is empty already. A new list states this
+            // without an invariant.
             Inner::Nothing => self.outer = Vec::new(alloc),
             Inner::Whole(json) => self.inner = Inner::Whole(json),
         }
@@ -172,7 +172,7 @@ impl TreeBuilder {
         }
     }
 
-    /// Adds the value of the closed object or array to the one around it, which becomes the
+    /// Adds the value of the closed object or array to the one around it. That one becomes the
     /// innermost.
     fn close(&mut self, json: Json) -> Result<(), NoMemory>
         ensures { OnOk result (building_view self.new

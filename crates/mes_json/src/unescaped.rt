@@ -1,4 +1,4 @@
-//! Scans the bytes of a text that a JSON string has without an escape.
+//! Scans the bytes of a text that need no escape in a JSON string.
 ghost use Rattle.std.specs.Prelude.{◌≡◌, ◌↔◌, ◌+◌, ◌<◌, ◌≤◌, IsTrue, length, take, drop, slice_index};
 ghost use Rattle.std.specs.List.{AllByRecursion};
 ghost use Rattle.mes_json.specs.Canonical.{IsKept};
@@ -7,8 +7,8 @@ use crate::plain_scan::BLOCK;
 use crate::write_string::is_escaped;
 use std::simd::prelude::*;
 
-/// Returns the number of bytes at the front that need no escape: all but control characters, `"`
-/// and `\` (RFC 8259 section 7).
+/// Returns the number of bytes at the front of `bytes` that need no escape: all but control
+/// characters, `"` and `\` (RFC 8259 section 7).
 pub(crate) fn kept_run(bytes: &[u8]) -> usize
     ensures inside { result ≤ length bytes.now }
     ensures kept { AllByRecursion IsKept (take result bytes.now) }

@@ -9,9 +9,9 @@ use crate::escape::Escape;
 /// The part of a character that has been read.
 #[derive(Clone, Copy)]
 pub(crate) enum Utf8State {
-    /// Nothing: a character may begin.
+    /// No byte of a character: the next byte begins a character or an escape, or ends the string.
     Between,
-    /// A part: `more` bytes are expected, the next one from `least` to `most`.
+    /// A part of a character: `more` bytes are expected, the next byte from `least` to `most`.
     Within { more: u8, least: u8, most: u8 },
     /// A part of an escape.
     Escape(Escape),
@@ -19,7 +19,7 @@ pub(crate) enum Utf8State {
 
 impl Utf8State {
     /// Returns the state after the first byte of a character, or `None` if no character begins with
-    /// it.
+    /// `byte`.
     #[inline(always)]
     pub(crate) fn lead(byte: u8) -> Option<Utf8State>
         ensures { option_map mid_view result ≡ lead byte }
@@ -38,7 +38,8 @@ impl Utf8State {
         Some(Utf8State::Within { more, least, most })
     }
 
-    /// Returns the state after a further byte of a character; `more` bytes were expected before it.
+    /// Returns the state after a further byte of a character, if `more` bytes were expected before
+    /// that byte.
     #[inline(always)]
     pub(crate) fn after(more: u8) -> Utf8State
         ensures { mid_view result ≡ after_byte more }

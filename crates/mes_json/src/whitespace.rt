@@ -11,7 +11,7 @@ fn is_blank(byte: u8) -> bool
     byte <= b' ' && (byte == b' ' || byte == b'\n' || byte == b'\r' || byte == b'\t')
 }
 
-/// Returns the number of white space bytes at the front.
+/// Returns the number of white space bytes at the front of `bytes`.
 pub(crate) fn blank_run(bytes: &[u8]) -> usize
     ensures inside { result ≤ length bytes.now }
     ensures blank { AllByRecursion IsBlank (take result bytes.now) }

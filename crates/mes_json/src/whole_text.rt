@@ -16,7 +16,7 @@ use std::alloc::Global;
 /// Reads `bytes` as one JSON text (RFC 8259 section 2) with at most `MAX_NESTING` levels of arrays
 /// and objects. An escaped lone surrogate, ill-formed UTF-8 and a byte order mark are errors.
 pub fn read_text(alloc: Global, bytes: &[u8]) -> Result<Json, ReadFault>
-    // On success: the bytes are a JSON text of this value.
+    // On success: the bytes are a JSON text of the value returned.
     ensures read { IfOk result (λ json. IsText MAX_NESTING bytes.now (view json)) }
     // Every JSON text is read, unless an allocation fails.
     ensures only { (t : Tree) → IsText MAX_NESTING bytes.now t

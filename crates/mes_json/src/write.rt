@@ -1,5 +1,5 @@
-//! Writes the canonical text of a value. Strings are in `write_string`; `length` computes the
-//! length alone.
+//! Writes the canonical text of a value. Strings are in `write_string`; `canonical_length` computes
+//! the length alone.
 ghost use Rattle.std.specs.Prelude.{◌≡◌, ℕ, ◌≤◌, ◌++◌, IfOk, IfErr, OnOk};
 ghost use Rattle.std.specs.Str.{IsUtf8};
 ghost use Rattle.mes_json.specs.Tree.{depth};

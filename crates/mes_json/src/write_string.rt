@@ -1,4 +1,4 @@
-//! Writes strings.
+//! Writes JSON strings.
 ghost use Rattle.std.specs.Prelude.{◌≡◌, ◌<◌, [], ◌∷◌, ◌++◌, ◌==◌, ◌||◌, length, nat_lt, IsTrue, IfSome, IfNone, IfOk, IfErr};
 ghost use Rattle.std.specs.Str.{IsUtf8};
 ghost use Rattle.mes_json.specs.Canonical.{hex_digit, by_digits, escaped, escaped_text, quoted_text};
@@ -43,7 +43,7 @@ fn write_between_marks(bytes: &[u8], out: &mut Vec<u8>) -> Result<(), NoMemory>
     append(b"\"", out)
 }
 
-/// Appends the bytes of a text, with escapes; bytes without an escape are appended in runs.
+/// Appends the bytes of a text, with escapes. Bytes that need no escape are appended in runs.
 fn write_escaped(bytes: &[u8], out: &mut Vec<u8>) -> Result<(), NoMemory>
     ensures written { IfOk result (λ _. out.new.items ≡ out.old.items ++ escaped_text bytes.now) }
     ensures front { Extends out.old.items out.new.items }

@@ -30,12 +30,12 @@ fn calls(element: &Element<'_>) -> [bool; 6] {
     ]
 }
 
-/// Returns which accessor must, for the kind in this word.
+/// Returns which accessor must return a value, for the kind of value that `word` names.
 fn call_of(word: &str) -> [bool; 6] {
     ["null", "truth", "number", "text", "list", "map"].map(|kind| kind == word)
 }
 
-/// Returns the text of a value, or an empty one.
+/// Returns the text of a boolean, a number or a string, or an empty text for any other value.
 fn given<'a>(element: &Element<'a>) -> &'a str {
     match element.as_bool() {
         Some(true) => "true",
@@ -44,7 +44,7 @@ fn given<'a>(element: &Element<'a>) -> &'a str {
     }
 }
 
-/// Returns whether the value has this content.
+/// Returns whether the value has the content `shown`.
 fn shows(element: &Element<'_>, shown: &ShownValue) -> bool {
     let (word, text) = *shown;
     word_of(element.kind()) == word && calls(element) == call_of(word) && given(element) == text
@@ -154,7 +154,7 @@ const COUNTED: [(&[u8], usize); 4] = [
     (b"[1, 2, 3, 4, 5]", 4),
 ];
 
-/// Returns the number of items counted up to four and up to zero, and whether a first one is left
+/// Returns the number of items counted up to four and up to zero, and whether a first item is left
 /// afterwards.
 fn counts(mut items: Items<'_>) -> (usize, usize, bool) {
     (items.count(4), items.count(0), items.next().is_some())

@@ -1,11 +1,11 @@
-//! Bytes that are not a JSON text, with the offset and reason of the error. Every state of the
-//! reader meets a byte that it refuses, and the end.
+//! Bytes that are not a JSON text, with the offset and reason of the error. In every state of the
+//! reader, a byte is refused and the bytes end too early.
 
 use mes_json::{MAX_NESTING, ReadFault, TextFault, TextFaultKind, read_text};
 use std::process::Abort;
 use std::test::Fail;
 
-// Checks that each text has a byte at this offset that is an error.
+// Checks that in each text the byte at the given offset is an error.
 fn expect_bytes<R: Abort + AllocGlobal>(rt: &R, faults: &[(&[u8], u64)]) {
     for (bytes, byte) in faults {
         let fault = TextFault {
@@ -145,7 +145,7 @@ const CHARACTERS_BYTES: [(&[u8], u64); 30] = [
     (b"\"\xc1", 1),
     (b"\"\xf5", 1),
     (b"\"\xff", 1),
-    // The second byte.
+    // The second byte of a character.
     (b"\"\xc2\x7f", 2),
     (b"\"\xc2\xc0", 2),
     (b"\"\xdf\"", 2),
@@ -159,14 +159,14 @@ const CHARACTERS_BYTES: [(&[u8], u64); 30] = [
     (b"\"\xf1\x7f", 2),
     (b"\"\xf4\x90", 2),
     (b"\"\xf4\x7f", 2),
-    // The third and the fourth.
+    // The third and the fourth byte of a character.
     (b"\"\xe0\xa0\x7f", 3),
     (b"\"\xed\x9f\xc0", 3),
     (b"\"\xf0\x90\x7f", 3),
     (b"\"\xf4\x8f\xc0", 3),
     (b"\"\xf0\x90\x80\x7f", 4),
     (b"\"\xf4\x8f\xbf\xc0", 4),
-    // After the string.
+    // A byte after the end of the string.
     (b"\"a\"b", 3),
     (b"\"a\"\"", 3),
 ];
@@ -210,7 +210,7 @@ const ESCAPES_BYTES: [(&[u8], u64); 24] = [
     // A lone low surrogate: detected at its second digit.
     (b"\"\\udc00", 4),
     (b"\"\\uDF", 4),
-    // No low surrogate follows.
+    // A high surrogate without a low surrogate after it.
     (b"\"\\ud800x", 7),
     (b"\"\\ud800\"", 7),
     (b"\"\\udbff\\n", 8),
@@ -296,7 +296,7 @@ fn an_array_has_commas_between_its_items(rt: HostRuntime) {
     expect_bytes(&rt, &ARRAYS_BYTES);
 }
 
-// Returns `front`, repeated, followed by the bytes.
+// Returns `front`, repeated, followed by the given bytes.
 fn nested<R: Abort + AllocGlobal>(
     rt: &R,
     front: &[u8],

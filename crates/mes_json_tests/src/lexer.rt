@@ -1,5 +1,5 @@
-//! Texts in pieces are read like whole ones: every prefix of each, byte by byte and in every cut
-//! into two runs.
+//! Texts in pieces have the same results as whole texts: every prefix of each text is read byte by
+//! byte, and in every cut into two runs.
 
 use mes_json::{Json, Lexer, MAX_NESTING, ReadFault, TextFault, TextFaultKind, read_text};
 use std::alloc::Global;
@@ -62,14 +62,15 @@ fn is_same_by_cuts(alloc: Global, text: &[u8], whole: &Result<Json, ReadFault>) 
     alike
 }
 
-/// Returns whether the text has the same result as a whole, byte by byte, and in every cut into two
-/// runs.
+/// Returns whether the text has the same result read as a whole, byte by byte, and in every cut
+/// into two runs.
 fn is_read_alike(alloc: Global, text: &[u8]) -> bool {
     let whole = read_text(alloc, text);
     is_same_by_bytes(alloc, text, &whole) && is_same_by_cuts(alloc, text, &whole)
 }
 
-/// Checks that every prefix of the text has the same result in all of these ways.
+/// Checks that every prefix of the text has the same result as a whole, byte by byte, and in every
+/// cut into two runs.
 pub(crate) fn expect_same<R: Abort + AllocGlobal>(rt: &R, text: &[u8]) {
     for end in 0..text.len() + 1 {
         assert!(rt;
@@ -120,7 +121,7 @@ fn deep_pieces_are_read_as_the_whole(rt: HostRuntime) -> Result<(), Fail> {
     Ok(())
 }
 
-/// Bytes, and the number of text bytes buffered after them: decoded characters of strings and
+/// Bytes, and the number of bytes buffered after they are pushed: decoded characters of strings and
 /// names, and bytes of numbers. An escape counts after its last byte; after an error nothing is
 /// buffered.
 const HELD: [(&[u8], u64); 22] = [

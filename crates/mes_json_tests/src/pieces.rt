@@ -57,7 +57,7 @@ fn is_same(alloc: Global, text: &[u8], seed: u64, whole: &Result<Json, ReadFault
     same(&read_by_any_runs(alloc, text, seed), whole)
 }
 
-/// Returns whether the text has the same result as a whole and in a hundred choices of runs.
+/// Returns whether the text has the same result as a whole and in a hundred cuts into runs.
 fn is_same_by_any_runs(alloc: Global, text: &[u8]) -> bool {
     let whole = read_text(alloc, text);
     let mut alike = true;

@@ -1,4 +1,5 @@
-//! Strings of about the length of a block, with each kind of end, and white space between tokens.
+//! Strings of about the length of a block, with each kind of byte after the plain characters, and
+//! white space between tokens.
 
 use crate::values::is_same;
 use mes_json::{Json, ReadFault, Text, TextFault, TextFaultKind, read_text};
@@ -30,7 +31,7 @@ fn are_joined(bytes: &[u8], parts: &[&[u8]]) -> bool {
     rest.is_empty()
 }
 
-/// Returns whether the bytes are a text of the string of these characters.
+/// Returns whether the bytes are a JSON text of the string with the given characters.
 fn spells(alloc: Global, bytes: &[u8], characters: &[&[u8]]) -> bool {
     match &read_text(alloc, bytes) {
         Ok(Json::Text(text)) => are_joined(text.as_str().as_bytes(), characters),
@@ -38,7 +39,7 @@ fn spells(alloc: Global, bytes: &[u8], characters: &[&[u8]]) -> bool {
     }
 }
 
-/// Returns whether the concatenated parts are a text of the string of these characters.
+/// Returns whether the concatenated parts are a JSON text of the string with the given characters.
 pub(crate) fn are_spelled(
     alloc: Global,
     parts: &[&[u8]],
@@ -85,7 +86,7 @@ fn each_end_of_a_run_is_read(rt: HostRuntime) -> Result<(), Fail> {
     Ok(())
 }
 
-/// Returns whether the parts are an object whose first member has this name and this string.
+/// Returns whether the parts are an object whose first member has the given name and string.
 fn begins_with(
     alloc: Global,
     parts: &[&[u8]],
@@ -156,7 +157,7 @@ fn each_end_of_a_run_is_read_in_a_member(rt: HostRuntime) -> Result<(), Fail> {
     Ok(())
 }
 
-/// Returns whether the byte at this offset is an error.
+/// Returns whether the byte at offset `byte` is an error.
 fn is_refused(alloc: Global, bytes: &[u8], byte: u64) -> bool {
     let fault = TextFault {
         byte,
@@ -210,7 +211,7 @@ fn spaced(alloc: Global, blank: &[u8]) -> Result<Vec<u8>, Fail> {
     Ok(bytes)
 }
 
-/// Returns whether the tokens with `blank` around each have the same value as without.
+/// Returns whether the tokens with `blank` around each have the same value as without `blank`.
 fn is_read_close(alloc: Global, blank: &[u8]) -> Result<bool, Fail> {
     let wide = spaced(alloc, blank)?;
     let close = spaced(alloc, b"")?;

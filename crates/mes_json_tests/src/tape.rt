@@ -110,7 +110,7 @@ fn a_lexer_reads_on_in_the_memory_of_a_tape(rt: HostRuntime) -> Result<(), Fail>
     Ok(())
 }
 
-/// Returns the tape of an array whose memory exceeds the limit of reuse.
+/// Returns the tape of an array whose memory exceeds `MAX_REUSED_CAPACITY`.
 fn long_tape(alloc: Global) -> Result<Tape, Fail> {
     let mut text = Vec::new(alloc);
     text.push(b'[')?;

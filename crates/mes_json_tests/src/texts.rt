@@ -7,8 +7,8 @@ use std::alloc::Global;
 use std::process::Abort;
 use std::test::Fail;
 
-/// Returns whether the value has this kind and content: its boolean, digits or characters, or its
-/// number of items or members.
+/// Returns whether the value has the given kind and content: a boolean, the digits or characters,
+/// or the number of items or members.
 fn is_told(json: &Json, kind: &str, what: &str) -> bool {
     match json {
         Json::Null => kind == "null",
@@ -52,7 +52,7 @@ const ORDERED: &[u8] = br#" {"a" : {"b":"c"} , "a":"d", "0":[ ] } "#;
 
 const SPACED: &[u8] = b"\t{ \"a\"\n:\r{ } , \"b\" : \"\" }\n";
 
-// Paths into a text, and the value at each.
+// Paths into a text, and the kind and content of the value at each path.
 const IN_LISTED: &str = "- => list 8
 0 => null
 1 => truth true
@@ -78,7 +78,7 @@ const IN_SPACED: &str = "- => map 2
 1 => text
 ";
 
-/// Returns whether the value at a path in the text is the given one.
+/// Returns whether the value at a path in the text has the given kind and content.
 fn is_at(alloc: Global, text: &[u8], places: &str, kind: &str, what: &str) -> bool {
     match &read_text(alloc, text) {
         Ok(json) => value_at(json, places).is_some_and(|value| is_told(value, kind, what)),
@@ -86,7 +86,7 @@ fn is_at(alloc: Global, text: &[u8], places: &str, kind: &str, what: &str) -> bo
     }
 }
 
-/// Checks each row: a path into the text, and the value there.
+/// Checks each line of `rows`: a path into the text, and the kind and content of the value there.
 fn expect_values<R: Abort + AllocGlobal>(rt: &R, text: &[u8], rows: &str) -> Result<(), Fail> {
     for row in rows.lines() {
         let (places, reported) = row.split_once(" => ").ok_or("places and a value")?;
@@ -121,7 +121,7 @@ const NAMES: [(&[u8], &str, usize, &str); 9] = [
     (ORDERED, "-", 2, "0"),
     (LISTED, "7.1", 0, "b"),
     (SPACED, "-", 1, "b"),
-    // A name with escapes has the characters that they represent.
+    // A name has the characters that its escapes represent.
     (br#"{"\u0061\/":"","a/":""}"#, "-", 0, "a/"),
     (br#"{"\u0061\/":"","a/":""}"#, "-", 1, "a/"),
 ];
@@ -168,7 +168,7 @@ const AROUND: [(&[u8], &[u8], &str); 4] = [
     (b"{\"a\":", b"}", "0"),
 ];
 
-/// Returns whether the number keeps its text, with these bytes before and after.
+/// Returns whether the number keeps its text between the bytes `front` and `end`.
 fn is_kept(alloc: Global, digits: &str, front: &[u8], end: &[u8], places: &str) -> bool {
     match &[front, digits.as_bytes(), end].concat(alloc) {
         Ok(text) => is_at(alloc, text, places, "number", digits),
@@ -203,7 +203,7 @@ const ESCAPES: [(&[u8], &str); 12] = [
     (br#""\uDbFf\uDfFf!""#, "\u{10ffff}!"),
 ];
 
-// The first and last character of each row of RFC 3629 section 4.
+// The first and last character of each line of the table in RFC 3629 section 4.
 const CHARACTERS: &str =
     "\u{20}\u{7f}\u{80}\u{7ff}\u{800}\u{fff}\u{1000}\u{cfff}\u{d000}\u{d7ff}\u{e000}\u{ffff}\u{10000}\u{3ffff}\u{40000}\u{fffff}\u{100000}\u{10ffff}";
 
@@ -232,8 +232,8 @@ fn times(alloc: Global, count: usize, bytes: &[u8]) -> Result<Vec<u8>, Fail> {
 
 #[test]
 fn long_texts_are_read(rt: HostRuntime) -> Result<(), Fail> {
-    // Longer than the initial capacity of any buffer, with a character of two bytes and an escape
-    // in the middle.
+    // The text is longer than the initial capacity of any buffer, with a character of two bytes and
+    // an escape in the middle.
     let expected = times(rt.alloc(), 1000, "plain text, \u{e9}\n".as_bytes())?;
     let written = times(rt.alloc(), 1000, "plain text, \u{e9}\\n".as_bytes())?;
     let parts = [b"\"", written.as_slice(), b"\""];
@@ -267,7 +267,8 @@ fn texts_are_read_as_deep_as_the_limit(rt: HostRuntime) -> Result<(), Fail> {
     Ok(())
 }
 
-/// Returns whether a text of the characters, and its copy, have them.
+/// Returns whether a text made of the characters, and a copy of that text, have the same
+/// characters.
 fn is_kept_as_text(alloc: Global, characters: &str) -> Result<bool, Fail> {
     let text = Text::of(alloc, characters)?;
     let copy = text.copy(alloc)?;

@@ -18,7 +18,7 @@ fn is_number(alloc: Global, digits: &str) -> Result<bool, Fail> {
     }
 }
 
-/// Returns whether the digits are not a number, and are returned.
+/// Returns whether the digits are refused as a number, and the text is returned.
 fn is_given_back(alloc: Global, digits: &str) -> Result<bool, Fail> {
     match &NumText::new(String::from_str(alloc, digits)?) {
         Ok(_) => Ok(false),
@@ -42,7 +42,7 @@ fn number(alloc: Global, digits: &str) -> Result<NumText, Fail> {
     Ok(number.ok_or("a number")?)
 }
 
-/// Returns whether a copy of the number is equal, with these digits.
+/// Returns whether a copy of the number equals the number, and has the text `digits`.
 fn is_copied(alloc: Global, number: &NumText, digits: &str) -> Result<bool, Fail> {
     let copy = number.copy(alloc)?;
     Ok(copy == *number && copy.as_str() == digits)
@@ -55,7 +55,7 @@ fn a_number_is_copied(rt: HostRuntime) -> Result<(), Fail> {
     Ok(())
 }
 
-// Canonical texts of different values, and their nesting depths.
+// Canonical texts of different values, and the nesting depths of the values.
 const VALUES: [(&str, u64); 24] = [
     ("null", 0),
     ("false", 0),
@@ -77,15 +77,15 @@ const VALUES: [(&str, u64); 24] = [
     ("{\"a\":null,\"a\":null}", 1),
     ("{\"a\":null,\"b\":null}", 1),
     ("{\"b\":null,\"a\":null}", 1),
-    // These differ in one place each.
+    // The next values differ in one place each.
     (r#"{"list":[null,true,1,"a\n"],"b":[false],"b":{}}"#, 2),
     (r#"{"list":[null,true,1.0,"a\n"],"b":[false],"b":{}}"#, 2),
     (r#"{"list":[null,true,1,"a\n"],"B":[false],"b":{}}"#, 2),
     (r#"{"list":[null,true,1,"a\n"],"b":[true],"b":{}}"#, 2),
 ];
 
-/// Returns whether `text_length` returns `length` at that limit and at the highest, and `None` at
-/// every limit below.
+/// Returns whether `text_length` returns `length` at the limit `length` and at the highest limit,
+/// and `None` at every limit below `length`.
 fn is_long(json: &Json, length: usize) -> bool {
     for most in 0..length {
         if text_length(json, most).is_some() {
@@ -95,14 +95,15 @@ fn is_long(json: &Json, length: usize) -> bool {
     text_length(json, length) == Some(length) && text_length(json, usize::MAX) == Some(length)
 }
 
-/// Returns whether the canonical text is `wanted`, and its length is reported.
+/// Returns whether the canonical text is `wanted`, and `text_length` returns the length of that
+/// text.
 fn is_written(alloc: Global, json: &Json, wanted: &[u8]) -> Result<bool, Fail> {
     let out = written(alloc, json)?;
     Ok(out.as_slice() == wanted && is_long(json, wanted.len()))
 }
 
-/// Returns whether the value nests to `depth`, and `text` is its canonical text, with its length
-/// reported.
+/// Returns whether the value nests to `depth`, and `text` is the value's canonical text, whose
+/// length `text_length` returns.
 fn is_deep(alloc: Global, text: &str, depth: u64) -> Result<bool, Fail> {
     let json = read_text(alloc, text.as_bytes())?;
     Ok(json.depth() == depth && is_written(alloc, &json, text.as_bytes())?)
@@ -163,7 +164,7 @@ fn a_value_is_the_same_as_itself_alone(rt: HostRuntime) -> Result<(), Fail> {
     Ok(())
 }
 
-/// Appends a value, `null` and a string.
+/// Appends the canonical texts of a value, of `null` and of a string.
 fn write_after(json: &Json, out: &mut Vec<u8>) -> Result<(), Fail> {
     write_text(json, out)?;
     write_text(&Json::Null, out)?;
@@ -171,7 +172,7 @@ fn write_after(json: &Json, out: &mut Vec<u8>) -> Result<(), Fail> {
     Ok(())
 }
 
-/// Appends the value of the bytes, `null` and a string.
+/// Appends the canonical texts of the value of the bytes, of `null` and of a string.
 fn write_read(alloc: Global, bytes: &[u8], out: &mut Vec<u8>) -> Result<(), Fail> {
     let json = read_text(alloc, bytes)?;
     let answer = write_after(&json, out);

@@ -16,7 +16,7 @@ use crate::value::Json;
 use std::alloc::Global;
 use std::marker::Model;
 
-/// The kind of a text on the tape.
+/// What a text on the tape is: a number, a string or a name.
 #[derive(Clone, Copy)]
 enum Form {
     Number,
@@ -55,7 +55,7 @@ impl Tape {
     }
 }
 
-/// A tape in construction. In contracts it is its list of tokens.
+/// A tape in construction. In contracts it is the list of the tape's tokens.
 #[derive(Drop)]
 struct Spelling {
     texts: Texts,

@@ -1,4 +1,4 @@
--- The text is a number exactly if the automaton accepts the remaining bytes from the current state.
+-- The text is a number if and only if the automaton accepts the remaining bytes from `state`.
 use Rattle.std.proofs.Common.{◌↔◌, drop}
 use Rattle.mes_fixed.specs.declared.automaton.NumberState.TheVariants.{AtStart}
 use Rattle.mes_fixed.specs.Automaton.{Ends}

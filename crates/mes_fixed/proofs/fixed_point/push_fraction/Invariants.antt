@@ -1,4 +1,4 @@
--- The digits written so far, and those of the remaining units, are all digits of the fraction.
+-- The digits written so far, then the digits of the remaining units, are the whole fraction.
 use Rattle.std.proofs.Common.{◌≡◌, ◌+◌, ◌^◌, ◌<◌, ◌≤◌, ◌++◌, length}
 use Rattle.mes_fixed.specs.Text.{fraction_text}
 use Rattle.mes_fixed.proofs.fixed_point.push_fraction.Given as goal

@@ -2,7 +2,7 @@ use Rattle.std.proofs.Common.{length}
 use Rattle.mes_frame.proofs.Chunking.{Chunking}
 use Rattle.mes_frame.proofs.chunk_writer.write_chunked.Given as goal
 
--- the chunks before `rest` are written or buffered
+-- the chunks of the body before `rest` are written or buffered
 abbrev pub invariant-loop-rest : goal.invariant-loop-rest
 invariant-loop-rest g l = Chunking l.fn.most l.fn.body l.rest (g.W.Sink.written l.fn.writer) (g.W.Sink.written l.writer) (g.W.Sink.counts l.fn.writer) (g.W.Sink.counts l.writer) l.buffer.held.items l.buffer.sent
 

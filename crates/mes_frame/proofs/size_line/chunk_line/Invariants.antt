@@ -1,7 +1,7 @@
 use Rattle.mes_frame.proofs.SizeLines.{LineSoFar}
 use Rattle.mes_frame.proofs.size_line.chunk_line.Given as goal
 
--- the digits from `start` on are written
+-- the buffer has the last digits of the size, from `start` on
 abbrev pub invariant-loop-rest : goal.invariant-loop-rest
 invariant-loop-rest l = LineSoFar l.size l.start l.rest l.buffer
 

@@ -9,9 +9,9 @@ use Rattle.mes_json.proofs.ViewLemmas.{is_null, is_boolean, is_number, is_string
 use Rattle.mes_json.proofs.WriteLemmas.{extended, extends_then, ok_map, between, item_written, item_writable, member_written, member_writable, items_written, items_writable, members_written, members_writable, tree_written, tree_writable, always, after_colon, extends_itself, no_items_written, no_items_writable, no_members_written, no_members_writable}
 use Rattle.mes_json.proofs.write.+write.Goals as goal
 
--- Every `ensures` has a proof here, though `search` finds most of them: it is slow on these goals.
+-- Every `ensures` has a proof here. `search` finds most of them, but is slow on these goals.
 
--- ---- write_value
+-- ---- the contract of `write_value`
 pub write_value-returns-in-Null : goal.write_value-returns-in-Null
 write_value-returns-in-Null t c = record {
   written = tree_written c.append.result _ null _ _ (is_null _ c.in-Null.is) c.append.ensures.written;
@@ -112,7 +112,7 @@ write_value-returns-in_ok-write_members-in-Map-clause-writable t c =
 pub write_value-returns-in_ok-write_members-in-Map-clause-front : goal.write_value-returns-in_ok-write_members-in-Map-clause-front
 write_value-returns-in_ok-write_members-in-Map-clause-front t c = extends_then _ _ _ (extends_then _ _ _ c.append-in-Map.ensures.front c.write_members.ensures.front) c.append-in-Map-2.ensures.front
 
--- ---- write_items
+-- ---- the contract of `write_items`
 pub write_items-returns-in_err-write_value : goal.write_items-returns-in_err-write_value
 write_items-returns-in_err-write_value t c = record {
   written = IfOk-from_err c.from_residual.result _ c.from_residual.ensures.0;
@@ -156,7 +156,7 @@ write_items-returns-after-loop-item t c = record {
   front = extends_then _ _ _ c.write_value.ensures.front (extended _ _ _ c.loop-item.invariant.0);
 }
 
--- ---- write_members
+-- ---- the contract of `write_members`
 pub write_members-returns-in_err-write_member : goal.write_members-returns-in_err-write_member
 write_members-returns-in_err-write_member t c = record {
   written = IfOk-from_err c.from_residual.result _ c.from_residual.ensures.0;
@@ -200,7 +200,7 @@ write_members-returns-after-loop-name t c = record {
   front = extends_then _ _ _ c.write_member.ensures.front (extended _ _ _ c.loop-name.invariant.0);
 }
 
--- ---- write_member
+-- ---- the contract of `write_member`
 pub write_member-returns-in_err-write_quoted : goal.write_member-returns-in_err-write_quoted
 write_member-returns-in_err-write_quoted t c = record {
   written = IfOk-from_err c.from_residual.result _ c.from_residual.ensures.0;

@@ -3,7 +3,7 @@ use Rattle.mes_json.specs.Canonical.{escaped_text, IsKept}
 use Rattle.mes_json.specs.Writable.{Extends}
 use Rattle.mes_json.proofs.write_string.write_escaped.Given as goal
 
--- the escaped text so far is written, and the next byte needs an escape
+-- the escaped text before `place` is written, and the byte at `place` needs an escape
 abbrev pub invariant-loop-place : goal.invariant-loop-place
 invariant-loop-place l =
     (l.place ≤ length l.bytes) × (l.out.items ≡ l.fn.out.items ++ escaped_text (take l.place l.bytes)) × Extends l.fn.out.items l.out.items

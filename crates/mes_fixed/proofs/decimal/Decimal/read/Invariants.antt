@@ -1,4 +1,4 @@
--- The parts collected so far, continued over the remaining bytes, are those of the whole text.
+-- The parts collected so far, continued over the remaining bytes, are the parts of the whole text.
 use Rattle.std.proofs.Common.{◌≡◌, ◌≤◌, length, drop}
 use Rattle.mes_fixed.specs.declared.automaton.NumberState.TheVariants.{AtStart}
 use Rattle.mes_fixed.specs.Number.{Numeral}

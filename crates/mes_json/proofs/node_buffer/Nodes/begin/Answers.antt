@@ -5,7 +5,7 @@ use Rattle.mes_json.proofs.LengthsLemmas.{begun_none, begun_open}
 use Rattle.mes_json.proofs.node_buffer.Nodes.begin.Goals as goal
 use Rattle.mes_json.proofs.node_buffer.Nodes.begin.Goals.{then-is_full, else-is_full}
 
--- the recorded indices, with or without the outer ones
+-- the recorded indices are those of open arrays and objects, also if the outer ones were dropped
 before : (c : goal.After-push_reserved) → AreBegun (reverse c.if-is_full.self-inside.begins.items) c.if-is_full.self-inside.nodes.items
 before c = elim c.if-is_full.branch [
   | then-is_full w ↦ rw w.self-inside-is (rw w.clear.ensures (begun_none (reverse c.self.inside.begins.items) c.self.inside.nodes.items c.self.invariant))
